@@ -1,4 +1,5 @@
 mod Ended
+mod Outlasting
 mod Groups
 mod Texts
 mod Unrun

@@ -1,7 +1,8 @@
 //! Does a task, and prints its outcome.
 ghost use Rattle.std.specs.Prelude.{◌≡◌, false};
 ghost use Rattle.sqlite.specs.Held.{state};
-ghost use Rattle.cli_act.specs.Acting.{Acts};
+ghost use Rattle.cli_act.specs.Acting.{Acts, CommitsTask};
+ghost use Rattle.store_tables.specs.Within.{LeavesOrCommits};
 
 use crate::doing::do_task;
 use crate::telling::tell;
@@ -13,7 +14,8 @@ use std::io::Write;
 /// Does a task on a database, and prints its outcome on standard output and standard error.
 ///
 /// It returns the connection, outside of any transaction, and the exit status: 0 done, 1 a fault of
-/// the rows was found, 2 refused, 3 failed.
+/// the rows was found, 2 refused, 3 failed. A power cut at any moment leaves what it could leave
+/// before, or all that the task does.
 pub fn act<S: Alter + Drop, O: Write, E: Write>(
     alloc: Global,
     conn: Connection<S>,
@@ -25,6 +27,8 @@ pub fn act<S: Alter + Drop, O: Write, E: Write>(
     ensures acts { Acts (state S.Store) task.now conn result.0
         (O.contents out.old) (O.contents out.new) (E.contents err.old) (E.contents err.new)
         result.1 }
+    ensures outlasts { LeavesOrCommits (state S.Store conn) (state S.Store result.0)
+        (CommitsTask task.now (state S.Store conn)) }
     ensures ended { result.0.in_transaction ≡ false }
 {
     let (conn, outcome) = do_task(alloc, conn, task);

@@ -14,11 +14,11 @@ use Rattle.room_store.proofs.Outlasting.{idle, leaves_whole}
 use Rattle.store_schema.specs.declared.fault.OpenFault.{OpenFault}
 use Rattle.room_store.specs.Kept.{IsShut, IsSound, Keeps}
 use Rattle.cli_serve.specs.Lines.{TellsFaults, TellsFirst, TellsPort}
-use Rattle.cli_serve.specs.Staying as staying
+use Rattle.cli_serve.specs.Staying.{PassesUntil}
 use Rattle.cli_serve.specs.Visits.{IsEnd, IsServedVisit, Visit, moment_of, requests_of}
 use Rattle.cli_serve.specs.Visits.{unanswered_of}
 use Rattle.cli_serve.specs.declared.fault.ServingFault.{ServingFault}
-use Rattle.cli_serve.specs.Hosts.{IsServed, LeavesRequests, LeavesShut, TellsEnd}
+use Rattle.cli_serve.specs.Hosts.{ServesRoom, LeavesRequests, LeavesShut, TellsEnd}
 use Rattle.cli_serve.specs.Hosts.{end_status}
 use Rattle.cli_serve.specs.Places.{AsksFor, Place}
 
@@ -37,7 +37,7 @@ leaves_requests old new visits outlasts lasts now sound is_open room keeps =
     lasts room keeps
 
 -- what a store served, in terms of its content
-pub served : (port count : ℕ) (told told' : List ℤ → Type 0) (old new : State)
+unfoldable pub served : (port count : ℕ) (told told' : List ℤ → Type 0) (old new : State)
     (out out' err mid err' : Option (List ℕ)) (status : ℕ)
     (visits : List Visit) (end : Result (Unit {0}) ServingFault)
     → length visits ≤ count → All IsServedVisit visits
@@ -50,7 +50,7 @@ pub served : (port count : ℕ) (told told' : List ℤ → Type 0) (old new : St
     → TellsFirst port (length visits) out out' → TellsFaults (length visits) err mid end
     → TellsEnd end mid err' → Lasts old → Lasts new
     → Outlasts old (unanswered_of visits) (requests_of visits) new
-    → IsServed port count told told' old new out out' err err' status
+    → ServesRoom port count told told' old new out out' err err' status
 served port count told told' old new out out' err mid err' status visits end few each moments
     trusted sound run says shut is tells first connections last lasted lasts outlasts =
     record {
@@ -74,7 +74,7 @@ served port count told told' old new out out' err mid err' status visits end few
 -- a desk that ended the service is shut
 module _ {D : Type 0} (d : Ghosts D) (visits : ℕ) (old new : D) (s : State)
     (shut : d.shut new → IsShut s) where
-  pub left_shut : (end : Result (Unit {0}) ServingFault) → staying.Outlasts d visits old new end
+  pub left_shut : (end : Result (Unit {0}) ServingFault) → PassesUntil d visits old new end
       → LeavesShut end s
   left_shut (Ok done) is = tt
   left_shut (Err ServingFault.Memory) is = tt

@@ -10,11 +10,11 @@ use Rattle.room_machine.specs.Desk.{DeskLaws}
 use Rattle.room_machine.specs.Run.{Asking, Event}
 use Rattle.room_http.specs.Message.{Message}
 use Rattle.room_http.specs.Serve.{Connects, IsNext, Next, next_asking, next_exchange, seen}
-use Rattle.room_http.specs.Stream.{Exchange, IsExchange, IsOpen, Runs}
+use Rattle.room_http.specs.Stream.{DeskRuns, Exchange, IsExchange, IsOpen}
 use Rattle.cli_serve.specs.Visits.{AsksDesk, Attends, IsServedVisit, Receives, ReceivesAll, Visit}
 use Rattle.cli_serve.specs.Visits.{asking_by, moment_of, requests_of, unanswered_of, visit_events}
 use Rattle.cli_serve.specs.Visits.{visit_unanswered}
-use Rattle.room_http.proofs.Runs.{Runs-then}
+use Rattle.room_http.proofs.Runs.{done-then, nothing-done}
 
 -- what comes next is an exchange, if anything comes
 next_each : (left : List ℕ) (n : ℕ) (next : Next) → IsNext left n next
@@ -55,24 +55,21 @@ exchange_is x given = given.is
 module _ {D : Type 0} (d : Ghosts D) (laws : DeskLaws d.Outlasts) where
   -- the same requests, however they are listed
   pub alike : (old new : D) (asked asked' : List Asking) (events events' : List Event)
-      → asked ≡ asked' → events ≡ events' → d.Outlasts old asked events new
-      → d.Outlasts old asked' events' new
-  alike old new asked asked' events events' a e outlasts =
-      subst (λ (es : List Event). d.Outlasts old asked' es new) e
-      (subst (λ (us : List Asking). d.Outlasts old us events new) a outlasts)
+      → asked ≡ asked' → events ≡ events' → DeskRuns d old asked events new
+      → DeskRuns d old asked' events' new
+  alike old new asked asked' events events' a e did =
+      subst (λ (es : List Event). DeskRuns d old asked' es new) e
+      (subst (λ (us : List Asking). DeskRuns d old us events new) a did)
 
   -- no connection came
   unfoldable pub nobody : (count : ℕ) (told : List ℤ → Type 0) (desk : D)
       → Receives d count told told desk desk
   nobody count told desk = record {
-    trusted = λ t. t;
-    sound = λ t s. s;
     visits = [];
     few = omega arith;
     each = All-nil IsServedVisit;
     moments = λ before is. subst told (sym (append-nil before)) is;
-    run = λ t s room is. (room, refl, is);
-    outlasts = laws.itself desk;
+    did = nothing-done d laws desk;
   }
 
   -- more connections might have come
@@ -80,14 +77,11 @@ module _ {D : Type 0} (d : Ghosts D) (laws : DeskLaws d.Outlasts) where
       → less ≤ count
       → Receives d less told told' old new → Receives d count told told' old new
   fewer less count told told' old new h given = record {
-    trusted = given.trusted;
-    sound = given.sound;
     visits = given.visits;
     few = let few = given.few in omega arith;
     each = given.each;
     moments = given.moments;
-    run = given.run;
-    outlasts = given.outlasts;
+    did = given.did;
   }
 
   -- some connections came, and then others
@@ -95,8 +89,6 @@ module _ {D : Type 0} (d : Ghosts D) (laws : DeskLaws d.Outlasts) where
       → Receives d some told told' old mid → Receives d more told' told'' mid new
       → Receives d (some + more) told told'' old new
   others some more told told' told'' old mid new first then = record {
-    trusted = λ t. first.trusted (then.trusted t);
-    sound = λ t s. then.sound t (first.sound (then.trusted t) s);
     visits = first.visits ++ then.visits;
     few = let a = first.few in let b = then.few in
         omega (arith, length-append first.visits then.visits);
@@ -108,17 +100,11 @@ module _ {D : Type 0} (d : Ghosts D) (laws : DeskLaws d.Outlasts) where
         append_assoc before one two
         ∙ ap (λ t. before ++ t) (sym (map-append moment_of first.visits then.visits)) in
         subst told'' all (then.moments (before ++ one) (first.moments before is));
-    run = λ t s.
-        subst (λ (events : List Event). Runs (d.content old) events (d.content new))
-        (sym (flat_map-append visit_events first.visits then.visits))
-        (Runs-then (d.content old) (d.content mid) (d.content new) (requests_of first.visits)
-        (requests_of then.visits) (first.run (then.trusted t) s)
-        (then.run t (first.sound (then.trusted t) s)));
-    outlasts =
+    did =
         alike old new _ _ _ _ (sym (flat_map-append visit_unanswered first.visits then.visits))
         (sym (flat_map-append visit_events first.visits then.visits))
-        (laws.on old mid new (unanswered_of first.visits) (unanswered_of then.visits)
-        (requests_of first.visits) (requests_of then.visits) first.outlasts then.outlasts);
+        (done-then d laws old mid new (unanswered_of first.visits) (unanswered_of then.visits)
+        (requests_of first.visits) (requests_of then.visits) first.did then.did);
   }
 
   -- the same as exactly none
@@ -138,10 +124,9 @@ module _ {D : Type 0} (d : Ghosts D) (laws : DeskLaws d.Outlasts) where
 
   -- one connection was served
   pub attends : {z : ℤ} {left sent left_then sent_then : Option (List ℕ)} (moment : ℤ) (old new : D)
-      → z ≡ moment → (d.trusted new → d.trusted old) → (d.trusted new → d.sound old → d.sound new)
-      → Connects d z (seen left sent old) (seen left_then sent_then new)
+      → z ≡ moment → Connects d z (seen left sent old) (seen left_then sent_then new)
       → Attends d moment old new
-  attends {z} moment old new same trusted sound connects =
+  attends {z} moment old new same connects =
       let next = next_exchange connects.next in
       let all = connects.exchanges ++ next in
       let visit : Visit = record {
@@ -150,8 +135,6 @@ module _ {D : Type 0} (d : Ghosts D) (laws : DeskLaws d.Outlasts) where
         failed = next_failed connects.next;
       } in
       record {
-        trusted = trusted;
-        sound = sound;
         visit = visit;
         same_moment = same;
         is = record {
@@ -163,20 +146,16 @@ module _ {D : Type 0} (d : Ghosts D) (laws : DeskLaws d.Outlasts) where
           fails =
               next_fails connects.rest (length connects.exchanges) connects.next connects.is_next;
         };
-        run = connects.run;
-        outlasts = alike old new _ _ _ _ (next_unanswered z connects.next) refl connects.outlasts;
+        did = alike old new _ _ _ _ (next_unanswered z connects.next) refl connects.did;
       }
 
   -- a connection was lost, and the desk wasn't asked
   pub lost : (moment : ℤ) (desk : D) → Attends d moment desk desk
   lost moment desk = record {
-    trusted = λ t. t;
-    sound = λ t s. s;
     visit = record { moment = moment; exchanges = []; failed = None };
     same_moment = refl;
     is = record { each = All-nil IsExchange; few = omega arith; fails = tt };
-    run = λ t s room is. (room, refl, is);
-    outlasts = laws.itself desk;
+    did = nothing-done d laws desk;
   }
 
   -- and the clock read its moment
@@ -184,19 +163,14 @@ module _ {D : Type 0} (d : Ghosts D) (laws : DeskLaws d.Outlasts) where
       → ((before : List ℤ) → told before → told' (before ++ moment ∷ []))
       → Attends d moment old new → Receives d 1 told told' old new
   one moment told told' old new tells a = record {
-    trusted = a.trusted;
-    sound = a.sound;
     visits = a.visit ∷ [];
     few = omega arith;
     each = All-from_recursion IsServedVisit (a.visit ∷ []) (a.is, tt);
     moments = λ before is.
         subst (λ (z : ℤ). told' (before ++ z ∷ [])) (sym a.same_moment) (tells before is);
-    run = λ t s.
-        subst (λ (events : List Event). Runs (d.content old) events (d.content new))
-        (sym (append-nil (visit_events a.visit))) (a.run t s);
-    outlasts =
+    did =
         alike old new _ _ _ _ (sym (append-nil (visit_unanswered a.visit)))
-        (sym (append-nil (visit_events a.visit))) a.outlasts;
+        (sym (append-nil (visit_events a.visit))) a.did;
   }
 
   -- the same as exactly one

@@ -8,8 +8,9 @@ use Rattle.cli_outcome.specs.Written.{WritesSome}
 use Rattle.room_machine.specs.declared.desk.Desk.{Ghosts}
 use Rattle.room_machine.specs.Desk.{Agrees, DeskLaws}
 use Rattle.room_rows.specs.Content.{Content}
+use Rattle.room_http.specs.Stream.{DeskRuns}
 use Rattle.cli_serve.specs.Lines.{TellsEach, Writing, listening_line}
-use Rattle.cli_serve.specs.Staying.{Lasts, Outlasts, Passes, Rests, Served, ServedAt, TellsShut}
+use Rattle.cli_serve.specs.Staying.{Passes, PassesEach, PassesUntil, Served, ServedAt, TellsShut}
 use Rattle.cli_serve.specs.Visits.{IsEnd, IsServedVisit, Receives, ReceivesAll}
 use Rattle.cli_serve.specs.declared.fault.ServingFault.{ServingFault}
 use Rattle.cli_serve.proofs.Receiving.{fewer, nobody, others}
@@ -17,18 +18,15 @@ use Rattle.cli_serve.proofs.Told.{told_of}
 
 module _ {D : Type 0} (d : Ghosts D) (laws : DeskLaws d.Outlasts) where
   -- the desk was asked, and no connection came
-  pub asked : (told : List ℤ → Type 0) (old new : D) → Rests d old new
+  pub asked : (told : List ℤ → Type 0) (old new : D) → DeskRuns d old [] [] new
       → ReceivesAll d 0 told told old new
   asked told old new rests = (
     record {
-      trusted = rests.trusted;
-      sound = rests.sound;
       visits = [];
       few = omega arith;
       each = All-nil IsServedVisit;
       moments = λ before is. subst told (sym (append-nil before)) is;
-      run = rests.run;
-      outlasts = rests.outlasts;
+      did = rests;
     },
     refl,
   )
@@ -36,7 +34,8 @@ module _ {D : Type 0} (d : Ghosts D) (laws : DeskLaws d.Outlasts) where
   -- asking leaves what is kept
   pub rests : (old new : D) → (d.trusted new → d.trusted old)
       → (d.trusted new → (room : Content) → d.content old room → d.content new room)
-      → (d.trusted new → d.sound old → d.sound new) → d.Outlasts old [] [] new → Rests d old new
+      → (d.trusted new → d.sound old → d.sound new) → d.Outlasts old [] [] new
+      → DeskRuns d old [] [] new
   rests old new trusted kept sound outlasts = record {
     trusted = trusted;
     sound = sound;
@@ -51,16 +50,16 @@ module _ {D : Type 0} (d : Ghosts D) (laws : DeskLaws d.Outlasts) where
   tells old new false is = inl is
 
   -- one connection more
-  pub stays_on : (n : ℕ) (old mid new : D) (shut : Bool) → Lasts d n old mid
-      → Passes d mid new shut → shut ≡ false → Lasts d (n + 1) old new
+  pub stays_on : (n : ℕ) (old mid new : D) (shut : Bool) → PassesEach d n old mid
+      → Passes d mid new shut → shut ≡ false → PassesEach d (n + 1) old new
   stays_on n old mid new shut before leaves is =
       let here = subst (λ (b : Bool). Passes d mid new b) is leaves in
-      subst (λ (k : ℕ). Lasts d k old new) (sym (add-one n)) (mid, before, here)
+      subst (λ (k : ℕ). PassesEach d k old new) (sym (add-one n)) (mid, before, here)
 
   -- no connection came, nothing was printed of one, and this was the end
   pub unserved : (port count : ℕ) (told : List ℤ → Type 0) (desk : D) (fault : ServingFault)
       (out out' err : Option (List ℕ)) → WritesSome out out' (listening_line port)
-      → IsEnd count (Err fault) 0 → Outlasts d 0 desk desk (Err fault)
+      → IsEnd count (Err fault) 0 → PassesUntil d 0 desk desk (Err fault)
       → ServedAt d port count told told desk desk out out' err err (Err fault)
   unfolding nobody
   unserved port count told desk fault out out' err wrote says stays = record {
@@ -74,15 +73,15 @@ module _ {D : Type 0} (d : Ghosts D) (laws : DeskLaws d.Outlasts) where
   }
 
   module _ (number count : ℕ) (told told' : List ℤ → Type 0) (old mid : D)
-      (first : ReceivesAll d number told told' old mid) (stays : Lasts d number old mid)
+      (first : ReceivesAll d number told told' old mid) (stays : PassesEach d number old mid)
       (err err' : Option (List ℕ)) where
     -- as many came as were to come
     came : number ≡ count → ReceivesAll d count told told' old mid
     came is = subst (λ (n : ℕ). ReceivesAll d n told told' old mid) is first
 
-    stays_all : (visits : ℕ) → number ≡ count → visits ≡ count → Lasts d visits old mid
+    stays_all : (visits : ℕ) → number ≡ count → visits ≡ count → PassesEach d visits old mid
     stays_all visits is all =
-        subst (λ (n : ℕ). Lasts d n old mid) (is ∙ sym all) stays
+        subst (λ (n : ℕ). PassesEach d n old mid) (is ∙ sym all) stays
 
     lines_all : (Tells : Writing) (visits : ℕ) → number ≡ count → visits ≡ count
         → TellsEach Tells number err err' → TellsEach Tells visits err err'
@@ -122,9 +121,9 @@ module _ {D : Type 0} (d : Ghosts D) (laws : DeskLaws d.Outlasts) where
         let none = end.2.few in
         let visits : length all.visits ≡ number =
         omega (arith, length-append first.0.visits end.2.visits, first.1, none) in
-        let here : Lasts d (length all.visits) old new =
-        subst (λ (n : ℕ). Lasts d n old new) (sym visits)
-        (subst (λ (desk : D). Lasts d number old desk) (sym end.1) stays) in
+        let here : PassesEach d (length all.visits) old new =
+        subst (λ (n : ℕ). PassesEach d n old new) (sym visits)
+        (subst (λ (desk : D). PassesEach d number old desk) (sym end.1) stays) in
         let net : Served d count told told'' old new err err' (Err ServingFault.Net) = record {
           receives = fewer d laws (number + 0) count told told'' old new (omega (arith, more)) all;
           end_says = inl (omega (arith, visits, more));

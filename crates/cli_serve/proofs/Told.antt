@@ -6,7 +6,7 @@ use Rattle.std.specs.Fmt.{WritesInCalls}
 use Rattle.std.specs.Io.KnownBytes.{Appends}
 use Rattle.cli_outcome.specs.Written.{WritesSome}
 use Rattle.cli_serve.specs.Lines.{MayTell, TellsEach, Writing}
-use Rattle.cli_serve.specs.Staying.{Lasts}
+use Rattle.cli_serve.specs.Staying.{PassesEach}
 use Rattle.cli_serve.specs.Visits.{ReceivesAll}
 use Rattle.room_machine.specs.declared.desk.Desk.{Ghosts}
 
@@ -37,6 +37,6 @@ told_of Tells n visits old new is told =
 pub record IsServing {D : Type 0} (d : Ghosts D) (number : ℕ) (clock clock' : List ℤ → Type 0)
     (desk desk' : D) (told : Bool) (err err' : Option (List ℕ)) : Type 0 where
   pub received : ReceivesAll d number clock clock' desk desk'
-  pub stays : Lasts d number desk desk'
+  pub stays : PassesEach d number desk desk'
   pub whole : IsTrue told → TellsEach Appends number err err'
   pub some : TellsEach WritesSome number err err'

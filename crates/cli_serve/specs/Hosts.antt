@@ -73,14 +73,6 @@ pub record TellsAll (visits : ℕ) (end : Result (Unit {0}) ServingFault)
   pub connections : TellsFaults visits old mid end
   pub last : TellsEnd end mid new
 
--- The database was not opened as a room: no port was asked for, and nothing was served.
-pub record IsTurnedDown (asked asked' : List Place → Type 0) (old new : State)
-    (out out' err err' : Option (List ℕ)) (status : ℕ) : Type 0 where
-  pub why : OpenFault
-  pub opens : Opens old new (Err why)
-  pub told : TurnsDown (why_not_opened why) out out' err err' status
-  pub asked_none : AsksFor asked asked' []
-
 -- From a sound room over an open connection, where the disk has returned what was written: whatever
 -- a power cut leaves is a sound room, the one after all requests that were answered. Where a fault,
 -- or the power cut itself, has shut the connection, it may be the room after one request more, one
@@ -91,12 +83,22 @@ LeavesRequests old visits new = HasCleanDisk new → IsSound old → IsTrue old.
     → (next : Content) × Run room (requests_of visits) next
     × Leaves (unanswered_of visits) new next
 
+-- The database was not opened as a room: no port was asked for, and nothing was served.
+pub record IsTurnedDown (asked asked' : List Place → Type 0) (old new : State)
+    (out out' err err' : Option (List ℕ)) (status : ℕ) : Type 0 where
+  pub why : OpenFault
+  pub opens : Opens old new (Err why)
+  pub told : TurnsDown (why_not_opened why) out out' err err' status
+  pub outlasts : Outlasts old [] [] new
+  pub leaves : LeavesRequests old [] new
+  pub asked_none : AsksFor asked asked' []
+
 -- The requests of at most `count` connections were served, each at the moment that the clock read
 -- for it. All is done, or there was a fault, and what the fault says of the connections holds. The
 -- port was printed before the first of them, and faults of these connections as they came. As long
 -- as the connection to the database is open, a power cut leaves what is seen. Whether it is open or
 -- not, a power cut leaves all requests that were answered, and at most one that wasn't, as a whole.
-pub record IsServed (port count : ℕ) (told told' : List ℤ → Type 0) (old new : State)
+pub record ServesRoom (port count : ℕ) (told told' : List ℤ → Type 0) (old new : State)
     (out out' err err' : Option (List ℕ)) (status : ℕ) : Type 0 where
   pub visits : List Visit
   pub few : length visits ≤ count
@@ -115,15 +117,19 @@ pub record IsServed (port count : ℕ) (told told' : List ℤ → Type 0) (old n
   pub faults : TellsAll (length visits) end err err'
 
 module _ {S : Type 0} (shown : Held S → State) where
-  -- The room was opened, this port of this machine alone was asked for, and it served.
+  -- The room was opened, this port of this machine alone was asked for, and it served. From before
+  -- it was opened on, a power cut leaves what was answered.
   pub record IsHosted (port count : ℕ) (asked asked' : List Place → Type 0)
       (told told' : List ℤ → Type 0) (old new : Held S) (out out' err err' : Option (List ℕ))
       (status : ℕ) : Type 0 where
     pub mid : Held S
     pub opens : Opens (shown old) (shown mid) (Ok tt)
     pub asked_one : AsksFor asked asked' (local_place port ∷ [])
-    pub served : IsServed port count told told' (shown mid) (shown new) out out' err err'
+    pub served : ServesRoom port count told told' (shown mid) (shown new) out out' err err'
         status
+    pub outlasts : Outlasts (shown old) (unanswered_of served.visits)
+        (requests_of served.visits) (shown new)
+    pub leaves : LeavesRequests (shown old) served.visits (shown new)
 
   abbrev pub Hosts : ℕ → ℕ → (List Place → Type 0) → (List Place → Type 0)
       → (List ℤ → Type 0) → (List ℤ → Type 0) → Held S → Held S → Option (List ℕ)

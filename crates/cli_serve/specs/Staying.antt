@@ -3,17 +3,10 @@ use Rattle.std.specs.Prelude.{◌≡◌, ◌⊎◌, ℕ, ℤ, ◌+◌, Bool, tru
 use Rattle.std.specs.Prelude.{Option, Result, Err}
 use Rattle.room_machine.specs.declared.desk.Desk.{Ghosts}
 use Rattle.room_rows.specs.Keep.{one_more}
-use Rattle.room_http.specs.Stream.{Runs}
+use Rattle.room_http.specs.Stream.{DeskRuns}
 use Rattle.cli_serve.specs.Lines.{TellsFaults, TellsFirst}
 use Rattle.cli_serve.specs.Visits.{Attends, IsEnd, Receives}
 use Rattle.cli_serve.specs.declared.fault.ServingFault.{ServingFault}
-
--- nothing was done at a desk
-pub record Rests {D : Type 0} (d : Ghosts D) (old new : D) : Type 0 where
-  pub trusted : d.trusted new → d.trusted old
-  pub sound : d.trusted new → d.sound old → d.sound new
-  pub run : d.trusted new → d.sound old → Runs (d.content old) [] (d.content new)
-  pub outlasts : d.Outlasts old [] [] new
 
 -- The desk was asked whether it is shut. Where it isn't said to be, it isn't, or it couldn't find
 -- out, which is a fault of its own.
@@ -27,20 +20,20 @@ pub record Passes {D : Type 0} (d : Ghosts D) (old new : D) (shut : Bool) : Type
   pub moment : ℤ
   pub mid : D
   pub attends : Attends d moment old mid
-  pub rests : Rests d mid new
+  pub rests : DeskRuns d mid [] [] new
   pub tells : TellsShut d mid new shut
 
 -- this many connections, one after another, none of which left a desk that said it was shut
-abbrev pub Lasts : {D : Type 0} → Ghosts D → ℕ → D → D → Type 0
-Lasts d zero old new = new ≡ old
-Lasts {D} d (suc n) old new = (mid : D) × Lasts d n old mid × Passes d mid new false
+abbrev pub PassesEach : {D : Type 0} → Ghosts D → ℕ → D → D → Type 0
+PassesEach d zero old new = new ≡ old
+PassesEach {D} d (suc n) old new = (mid : D) × PassesEach d n old mid × Passes d mid new false
 
 -- Of the connections that were served, only the last may have left the desk shut, and then this was
 -- the end.
-abbrev pub Outlasts : {D : Type 0} → Ghosts D → ℕ → D → D → Result (Unit {0}) ServingFault → Type 0
-Outlasts {D} d visits old new (Err ServingFault.Desk) = (before : ℕ) × (visits ≡ before + 1)
-    × ((mid : D) × Lasts d before old mid × Passes d mid new true)
-Outlasts d visits old new end = Lasts d visits old new
+abbrev pub PassesUntil : {D : Type 0} → Ghosts D → ℕ → D → D → Result (Unit {0}) ServingFault → Type 0
+PassesUntil {D} d visits old new (Err ServingFault.Desk) = (before : ℕ) × (visits ≡ before + 1)
+    × ((mid : D) × PassesEach d before old mid × Passes d mid new true)
+PassesUntil d visits old new end = PassesEach d visits old new
 
 -- At most `count` connections were received, and what the end says of them and of the desk holds.
 -- What was printed of faults is about these connections alone.
@@ -49,7 +42,7 @@ pub record Served {D : Type 0} (d : Ghosts D) (count : ℕ) (told told' : List �
     : Type 0 where
   pub receives : Receives d count told told' old new
   pub end_says : IsEnd count end (length receives.visits)
-  pub stays : Outlasts d (length receives.visits) old new end
+  pub stays : PassesUntil d (length receives.visits) old new end
   pub faults : TellsFaults (length receives.visits) err err' end
 
 -- The same with what was printed of the port before the first of them.

@@ -6,7 +6,7 @@ use Rattle.room_machine.specs.declared.desk.Desk.{Ghosts}
 use Rattle.room_machine.specs.Run.{Asking, Event}
 use Rattle.room_http.specs.Limits.{max_messages}
 use Rattle.room_http.specs.Message.{IsMessage, Message, asked}
-use Rattle.room_http.specs.Stream.{Exchange, IsExchange, IsRequest, Runs, asking_at, events_by}
+use Rattle.room_http.specs.Stream.{DeskRuns, Exchange, IsExchange, IsRequest, asking_at, events_by}
 use Rattle.cli_serve.specs.declared.fault.ServingFault.{ServingFault}
 
 -- a connection as the desk sees it: its moment, its messages with their replies, and the message
@@ -52,31 +52,22 @@ moment_of visit = visit.moment
 
 -- One connection was served by the desk at this moment.
 pub record Attends {D : Type 0} (d : Ghosts D) (moment : ℤ) (old new : D) : Type 0 where
-  pub trusted : d.trusted new → d.trusted old
-  pub sound : d.trusted new → d.sound old → d.sound new
   pub visit : Visit
   pub same_moment : visit.moment ≡ moment
   pub is : IsServedVisit visit
-  pub run : d.trusted new → d.sound old
-      → Runs (d.content old) (visit_events visit) (d.content new)
-  pub outlasts : d.Outlasts old (visit_unanswered visit) (visit_events visit) new
+  pub did : DeskRuns d old (visit_unanswered visit) (visit_events visit) new
 
 -- From one state of a desk to a later one, what it did is a run over the requests of at most
--- `count` connections, one after another. This is said of a desk that was sound before and is
--- trusted afterwards. What outlasts them is said of any desk. The moments of the connections are
--- readings of a clock, one for each, in order. `told` says what the readings may have been before,
--- and `told'` what they may be afterwards.
+-- `count` connections, one after another. The moments of the connections are readings of a clock,
+-- one for each, in order. `told` says what the readings may have been before, and `told'` what they
+-- may be afterwards.
 pub record Receives {D : Type 0} (d : Ghosts D) (count : ℕ) (told told' : List ℤ → Type 0)
     (old new : D) : Type 0 where
-  pub trusted : d.trusted new → d.trusted old
-  pub sound : d.trusted new → d.sound old → d.sound new
   pub visits : List Visit
   pub few : length visits ≤ count
   pub each : All IsServedVisit visits
   pub moments : (before : List ℤ) → told before → told' (before ++ map moment_of visits)
-  pub run : d.trusted new → d.sound old
-      → Runs (d.content old) (requests_of visits) (d.content new)
-  pub outlasts : d.Outlasts old (unanswered_of visits) (requests_of visits) new
+  pub did : DeskRuns d old (unanswered_of visits) (requests_of visits) new
 
 -- exactly this many connections, of which those that were lost had no message
 abbrev pub ReceivesAll : {D : Type 0} → Ghosts D → ℕ → (List ℤ → Type 0) → (List ℤ → Type 0)

@@ -12,7 +12,7 @@ mod serving;
 mod telling;
 
 pub use fault::ServingFault;
-pub use hosting::host;
+pub use hosting::{Service, host};
 pub use moment::{Moments, Seconds};
 pub use ports::{NetPorts, Ports};
-pub use serving::serve_on;
+pub use serving::{Listening, serve_on};

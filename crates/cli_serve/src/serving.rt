@@ -1,9 +1,10 @@
 //! Connections one after another.
-ghost use Rattle.std.specs.Prelude.{◌≡◌, ◌+◌, ℤ, IfErr, IfOk, IsTrue, OnOk};
+ghost use Rattle.std.specs.Prelude.{◌≡◌, ◌+◌, ℤ, [], IfErr, IfOk, IsTrue, OnOk};
 ghost use Rattle.std.specs.Io.KnownBytes.{Appends};
 ghost use Rattle.cli_outcome.specs.Written.{WritesSome};
+ghost use Rattle.room_http.specs.Stream.{DeskRuns};
 ghost use Rattle.cli_serve.specs.Lines.{MayTell, TellsPort};
-ghost use Rattle.cli_serve.specs.Staying.{Passes, Rests, Served, ServedAt, TellsShut};
+ghost use Rattle.cli_serve.specs.Staying.{Passes, Served, ServedAt, TellsShut};
 ghost use Rattle.cli_serve.specs.Visits.{Attends, Receives, ReceivesAll};
 
 use crate::accepting::accepted;
@@ -17,11 +18,19 @@ use std::alloc::Global;
 use std::io::Write;
 use std::net::{TcpListener, TcpStream};
 
+/// Where connections are accepted, and how many.
+#[derive(Drop)]
+pub struct Listening<'a> {
+    pub listener: &'a TcpListener,
+    /// The port of the listener.
+    pub port: u16,
+    pub count: u32,
+}
+
 /// Serves `count` connections of the listener, one after another. First it prints on `out` that it
-/// listens on `port`, which has to be the port of the listener. The clock is read once for each
-/// connection, when it is accepted: this is the moment of its requests. A fault of a connection is
-/// printed on `err`, and the next one is served. A connection that is lost before it is accepted
-/// counts as one whose reading failed.
+/// listens on `port`. The clock is read once for each connection, when it is accepted: this is the
+/// moment of its requests. A fault of a connection is printed on `err`, and the next one is served.
+/// A connection that is lost before it is accepted counts as one whose reading failed.
 ///
 /// After each connection the desk is asked whether it is shut. While it isn't, or couldn't find
 /// out, the next connection is accepted, whatever fault it had.
@@ -33,22 +42,22 @@ pub fn serve_on<D: Desk, M: Moments, O: Write, E: Write>(
     alloc: Global,
     desk: &mut D,
     clock: &mut M,
-    listener: &TcpListener,
-    port: u16,
-    count: u32,
+    listening: &Listening<'_>,
     out: &mut O,
     err: &mut E,
 ) -> Result<(), ServingFault>
-    ensures served { ServedAt D.Desk port count (M.told clock.old) (M.told clock.new)
+    ensures served { ServedAt D.Desk listening.now.port listening.now.count
+        (M.told clock.old) (M.told clock.new)
         desk.old desk.new (O.contents out.old) (O.contents out.new)
         (E.contents err.old) (E.contents err.new) result }
-    ensures told { OnOk result (TellsPort port (O.contents out.old) (O.contents out.new)) }
+    ensures told { OnOk result
+        (TellsPort listening.now.port (O.contents out.old) (O.contents out.new)) }
 {
     let Ok(routes) = Routes::new(alloc) else {
         return Err(ServingFault::Memory);
     };
-    if tell_port(out, port) {
-        serve_each(alloc, &routes, desk, clock, listener, count, err)
+    if tell_port(out, listening.port) {
+        serve_each(&routes, desk, clock, listening, err)
     } else {
         Err(ServingFault::File)
     }
@@ -57,20 +66,18 @@ pub fn serve_on<D: Desk, M: Moments, O: Write, E: Write>(
 // Serves `count` connections, and prints the fault of each that has one. One that leaves the desk
 // shut is the last. If a fault couldn't be printed, this is the error once all are served.
 fn serve_each<D: Desk, M: Moments, E: Write>(
-    alloc: Global,
     routes: &Routes,
     desk: &mut D,
     clock: &mut M,
-    listener: &TcpListener,
-    count: u32,
+    listening: &Listening<'_>,
     err: &mut E,
 ) -> Result<(), ServingFault>
-    ensures { Served D.Desk count (M.told clock.old) (M.told clock.new) desk.old desk.new
+    ensures { Served D.Desk listening.now.count (M.told clock.old) (M.told clock.new) desk.old desk.new
         (E.contents err.old) (E.contents err.new) result }
 {
     let mut told = true;
-    'connections: for number in 0..count {
-        let left = match pass(alloc, routes, desk, clock, listener) {
+    'connections: for number in 0..listening.count {
+        let left = match pass(routes, desk, clock, listening.listener) {
             Ok(left) => left,
             Err(fault) => return Err(fault),
         };
@@ -108,7 +115,6 @@ struct Left {
 
 // Accepts and serves one connection, and asks the desk whether it is shut.
 fn pass<D: Desk, M: Moments>(
-    alloc: Global,
     routes: &Routes,
     desk: &mut D,
     clock: &mut M,
@@ -120,19 +126,15 @@ fn pass<D: Desk, M: Moments>(
     ensures fault { IfErr result (λ fault. (fault ≡ ServingFault.Net) × (desk.new ≡ desk.old)
         × Receives D.Desk 0 (M.told clock.old) (M.told clock.new) desk.old desk.new) }
 {
-    match serve_next(alloc, routes, desk, clock, listener) {
-        Ok(lost) => {
-            let shut = says_shut(desk);
-            Ok(Left { lost, shut })
-        }
-        Err(fault) => Err(fault),
-    }
+    let lost = serve_next(routes, desk, clock, listener)?;
+    let shut = says_shut(desk);
+    Ok(Left { lost, shut })
 }
 
 // Whether the desk says that it is shut. Where it couldn't find out, it is asked again after the
 // next connection.
 fn says_shut<D: Desk>(desk: &mut D) -> bool
-    ensures rests { Rests D.Desk desk.old desk.new }
+    ensures rests { DeskRuns D.Desk desk.old [] [] desk.new }
     ensures tells { TellsShut D.Desk desk.old desk.new result }
 {
     match desk.is_shut() {
@@ -143,7 +145,6 @@ fn says_shut<D: Desk>(desk: &mut D) -> bool
 
 // Accepts and serves one connection, and answers what fault ended it, if one did.
 fn serve_next<D: Desk, M: Moments>(
-    alloc: Global,
     routes: &Routes,
     desk: &mut D,
     clock: &mut M,
@@ -156,7 +157,7 @@ fn serve_next<D: Desk, M: Moments>(
         × Receives D.Desk 0 (M.told clock.old) (M.told clock.new) desk.old desk.new) }
 {
     match accepted(listener) {
-        Ok(Some(stream)) => Ok(serve_stream(alloc, routes, desk, clock.next(), &stream)),
+        Ok(Some(stream)) => Ok(serve_stream(routes, desk, clock.next(), &stream)),
         Ok(None) => {
             // one that is lost has its moment too
             clock.next();
@@ -168,7 +169,6 @@ fn serve_next<D: Desk, M: Moments>(
 
 // Serves one connection, and answers what fault ended it, if one did.
 fn serve_stream<D: Desk>(
-    alloc: Global,
     routes: &Routes,
     desk: &mut D,
     moment: i64,
@@ -178,7 +178,7 @@ fn serve_stream<D: Desk>(
 {
     let mut reader = stream;
     let mut writer = stream;
-    match serve(alloc, routes, desk, moment, &mut reader, &mut writer) {
+    match serve(routes, desk, moment, &mut reader, &mut writer) {
         Ok(_) => None,
         Err(fault) => Some(fault.cause),
     }

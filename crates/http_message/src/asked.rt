@@ -22,7 +22,6 @@ use std::alloc::{AllocError, Global};
 /// message that fails, or that memory ran out.
 #[tactic(auto, unfolding(crate::specs::Asked::request_of))]
 pub fn request_of(
-    alloc: Global,
     routes: &Routes,
     head: &Head,
     body: &[u8],
@@ -32,7 +31,7 @@ pub fn request_of(
     let verb = method_of(head.method.as_slice())?;
     match parts_of(head.target.as_slice()) {
         None => Err(Failure::Fault(HttpFault::BadTarget)),
-        Some(parts) => asked_by(alloc, routes, verb, parts, head.fields.as_slice(), body),
+        Some(parts) => asked_by(routes, verb, parts, head.fields.as_slice(), body),
     }
 }
 
@@ -48,7 +47,6 @@ fn method_of(method: &[u8]) -> Result<Verb, Failure<HttpFault>>
 
 // The caller and the request, for a method, and a target's path and query.
 fn asked_by(
-    alloc: Global,
     routes: &Routes,
     verb: Verb,
     parts: (&str, &str),
@@ -58,6 +56,7 @@ fn asked_by(
     ensures { Gives result
         (asked_by verb parts.entry.0.now parts.entry.1.now fields.now body.now) }
 {
+    let alloc = routes.alloc();
     let (word, action) = asked_action(routes, verb, parts.0)?;
     let names = target_path(alloc, word, parts.0)?;
     let mask = asked_mask(action, parts.1)?;
@@ -161,14 +160,14 @@ fn request_in(
 fn put_in(alloc: Global, path: Path, body: &[u8]) -> Result<Request, Failure<HttpFault>>
     ensures { Gives result (request_in Action.Write path [] body.now) }
 {
-    let bytes = copied(alloc, body)?;
+    let bytes = Bytes::from_slice(alloc, body)?;
     Ok(Request::Put(path, bytes))
 }
 
 fn append_in(alloc: Global, path: Path, body: &[u8]) -> Result<Request, Failure<HttpFault>>
     ensures { Gives result (request_in Action.Append path [] body.now) }
 {
-    let bytes = copied(alloc, body)?;
+    let bytes = Bytes::from_slice(alloc, body)?;
     Ok(Request::Append(path, bytes))
 }
 
@@ -196,13 +195,6 @@ fn set_owners_in(alloc: Global, path: Path, body: &[u8]) -> Result<Request, Fail
 {
     let owners = asked_owners(alloc, body)?;
     Ok(Request::SetOwners(path, owners))
-}
-
-// The bytes of a body.
-fn copied(alloc: Global, body: &[u8]) -> Result<Bytes, AllocError>
-    ensures { IfOk result (λ bytes. bytes ≡ body.now) }
-{
-    Ok(Bytes::from_vec(Vec::from_slice(alloc, body)?))
 }
 
 // The list of a list text.

@@ -1,5 +1,5 @@
 //! The form of a reply's text.
-ghost use Rattle.std.specs.Prelude.{◌≡◌, ◌<◌, ◌++◌, None, Some, length, IfOk, OnOk};
+ghost use Rattle.std.specs.Prelude.{◌≡◌, ◌<◌, ◌++◌, length, IfOk, OnOk};
 ghost use Rattle.std.specs.Option.{option_map};
 ghost use Rattle.http_message.specs.Form.{body_bytes, close_line, field_if, field_line, first_line};
 ghost use Rattle.http_message.specs.Form.{head_form, json_text_form, length_line, phrase_of};
@@ -9,74 +9,57 @@ use http::StatusCode;
 use std::alloc::{AllocError, Global};
 
 // No head of a reply is longer.
-const HEAD_ROOM: usize = 192;
+pub(crate) const HEAD_ROOM: usize = 192;
 
-// The text of a reply, from its parts.
+// What stands in a reply beside its status, each where there is one: the type of its body, the
+// methods that are allowed, and the body.
+#[derive(Drop)]
+pub(crate) struct Parts<'a> {
+    pub kind: Option<&'a [u8]>,
+    pub allow: Option<&'a [u8]>,
+    pub body: Option<&'a [u8]>,
+}
+
+// The text of a reply.
 #[tactic(auto, unfolding(crate::specs::Form::reply_form))]
 pub(crate) fn print_reply(
     alloc: Global,
     status: StatusCode,
-    kind: Option<&[u8]>,
-    allow: Option<&[u8]>,
-    body: Option<&[u8]>,
+    parts: &Parts<'_>,
     close: bool,
 ) -> Result<Vec<u8>, AllocError>
     ensures { IfOk result (λ text. text.items
         ≡ reply_form status
-        (option_map (λ k. k.now) kind.entry)
-        (option_map (λ a. a.now) allow.entry)
-        (option_map (λ b. b.now) body.entry)
+        (option_map (λ k. k.now) parts.now.kind)
+        (option_map (λ a. a.now) parts.now.allow)
+        (option_map (λ b. b.now) parts.now.body)
         close) }
 {
-    let mut text = head_text(alloc, room_for(body), status, kind, allow, body, close)?;
-    push_body(&mut text, body)?;
+    let mut text = print_head(alloc, status, parts, close, room_for(parts.body))?;
+    push_body(&mut text, parts.body)?;
     Ok(text)
 }
 
-// The text of a reply up to its body, which follows elsewhere.
+// The text of a reply up to its body, with room for that many bytes.
 pub(crate) fn print_head(
     alloc: Global,
     status: StatusCode,
-    kind: &[u8],
-    body: &[u8],
+    parts: &Parts<'_>,
     close: bool,
-) -> Result<Vec<u8>, AllocError>
-    ensures { IfOk result (λ text. text.items
-        ≡ head_form status (Some kind.now) None (Some body.now) close) }
-{
-    head_text(
-        alloc,
-        HEAD_ROOM,
-        status,
-        Some(kind),
-        None,
-        Some(body),
-        close,
-    )
-}
-
-// The head, with room for that many bytes.
-fn head_text(
-    alloc: Global,
     room: usize,
-    status: StatusCode,
-    kind: Option<&[u8]>,
-    allow: Option<&[u8]>,
-    body: Option<&[u8]>,
-    close: bool,
 ) -> Result<Vec<u8>, AllocError>
     ensures { IfOk result (λ text. text.items
         ≡ head_form status
-        (option_map (λ k. k.now) kind.entry)
-        (option_map (λ a. a.now) allow.entry)
-        (option_map (λ b. b.now) body.entry)
+        (option_map (λ k. k.now) parts.now.kind)
+        (option_map (λ a. a.now) parts.now.allow)
+        (option_map (λ b. b.now) parts.now.body)
         close) }
 {
     let mut text = Vec::with_capacity(alloc, room)?;
     push_status(&mut text, status)?;
-    push_if(&mut text, b"Content-Type", kind)?;
-    push_if(&mut text, b"Allow", allow)?;
-    push_length(alloc, &mut text, body)?;
+    push_if(&mut text, b"Content-Type", parts.kind)?;
+    push_if(&mut text, b"Allow", parts.allow)?;
+    push_length(alloc, &mut text, parts.body)?;
     push_close(&mut text, close)?;
     text.extend_from_slice(b"\r\n")?;
     Ok(text)
@@ -187,12 +170,10 @@ pub(crate) fn print_json(
 ) -> Result<Vec<u8>, AllocError>
     ensures { IfOk result (λ text. text.items ≡ json_text_form status body.items close) }
 {
-    print_reply(
-        alloc,
-        status,
-        Some(b"application/json"),
-        None,
-        Some(body.as_slice()),
-        close,
-    )
+    let parts = Parts {
+        kind: Some(b"application/json"),
+        allow: None,
+        body: Some(body.as_slice()),
+    };
+    print_reply(alloc, status, &parts, close)
 }

@@ -1,7 +1,7 @@
 //! The text of a reply.
-ghost use Rattle.std.specs.Prelude.{◌≡◌, IfOk, option_map};
+ghost use Rattle.std.specs.Prelude.{◌≡◌, IfOk, None, option_map};
 ghost use Rattle.room_ace.specs.Lists.{list_text};
-ghost use Rattle.http_message.specs.Form.{json_form};
+ghost use Rattle.http_message.specs.Form.{json_form, reply_form};
 ghost use Rattle.http_message.specs.Bodies.{attr_data, denied_data, bad_text, line_data};
 ghost use Rattle.http_message.specs.Bodies.{names_data, refused_data, rulings_data, why_data};
 ghost use Rattle.http_message.specs.Reply.{allow_form, bytes_form, fault_text, octets, plain_text};
@@ -11,7 +11,7 @@ use crate::data::{
     push_attr, push_denied, push_line, push_names, push_refused, push_why, rulings_value, started,
 };
 use crate::fault::HttpFault;
-use crate::form::{print_json, print_reply};
+use crate::form::{Parts, print_json, print_reply};
 use crate::words::{bad_path, bad_text};
 use http::StatusCode;
 use room_ace::{Entry, LineFault, ListFlags, Mask, ObjKind, Owners, print_list};
@@ -36,8 +36,8 @@ pub fn reply_bytes(alloc: Global, reply: &Reply, close: bool) -> Result<Vec<u8>,
         Reply::Lists(flags, entries) => list_reply(alloc, *flags, entries.as_slice(), close),
         Reply::Attr(kind, owners) => attr_reply(alloc, *kind, owners, close),
         Reply::Rulings(rulings) => rulings_reply(alloc, rulings.as_slice(), close),
-        Reply::Made => print_reply(alloc, StatusCode::CREATED, None, None, Some(&[]), close),
-        Reply::Done => print_reply(alloc, StatusCode::NO_CONTENT, None, None, None, close),
+        Reply::Made => print_plain(alloc, StatusCode::CREATED, Some(&[]), close),
+        Reply::Done => print_plain(alloc, StatusCode::NO_CONTENT, None, close),
         Reply::Denied {
             at,
             bits,
@@ -49,10 +49,38 @@ pub fn reply_bytes(alloc: Global, reply: &Reply, close: bool) -> Result<Vec<u8>,
 }
 
 // A reply of bytes of a type.
-fn print_bytes(alloc: Global, kind: &[u8], body: &[u8], close: bool) -> Result<Vec<u8>, AllocError>
+fn print_bytes<'a>(
+    alloc: Global,
+    kind: &'a [u8],
+    body: &'a [u8],
+    close: bool,
+) -> Result<Vec<u8>, AllocError>
     ensures { IfOk result (λ text. text.items ≡ bytes_form kind.now body.now close) }
 {
-    print_reply(alloc, StatusCode::OK, Some(kind), None, Some(body), close)
+    let parts = Parts {
+        kind: Some(kind),
+        allow: None,
+        body: Some(body),
+    };
+    print_reply(alloc, StatusCode::OK, &parts, close)
+}
+
+// A reply whose body, if it has one, has no type.
+fn print_plain(
+    alloc: Global,
+    status: StatusCode,
+    body: Option<&[u8]>,
+    close: bool,
+) -> Result<Vec<u8>, AllocError>
+    ensures { IfOk result (λ text. text.items
+        ≡ reply_form status None None (option_map (λ b. b.now) body.entry) close) }
+{
+    let parts = Parts {
+        kind: None,
+        allow: None,
+        body,
+    };
+    print_reply(alloc, status, &parts, close)
 }
 
 // A reply of a document's bytes.
@@ -184,14 +212,12 @@ pub fn fault_bytes(alloc: Global, fault: HttpFault, close: bool) -> Result<Vec<u
 fn print_allow(alloc: Global, allow: &[u8], close: bool) -> Result<Vec<u8>, AllocError>
     ensures { IfOk result (λ text. text.items ≡ allow_form allow.now close) }
 {
-    print_reply(
-        alloc,
-        StatusCode::METHOD_NOT_ALLOWED,
-        None,
-        Some(allow),
-        Some(&[]),
-        close,
-    )
+    let parts = Parts {
+        kind: None,
+        allow: Some(allow),
+        body: Some(&[]),
+    };
+    print_reply(alloc, StatusCode::METHOD_NOT_ALLOWED, &parts, close)
 }
 
 /// A reply of a status that says why.

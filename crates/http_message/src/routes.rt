@@ -9,9 +9,11 @@ use matchit::{InsertError, Router};
 use std::alloc::{AllocError, Global};
 use std::marker::Model;
 
-/// The routes of every word, made once for many messages. A contract sees the rows of the table.
+/// The routes of every word, made once for many messages, and where memory for these is taken. A
+/// contract sees the rows of the table.
 #[derive(Drop)]
 pub struct Routes {
+    alloc: Global,
     router: Router<Word>,
 }
 
@@ -42,7 +44,12 @@ impl Routes {
     pub fn new(alloc: Global) -> Result<Routes, AllocError> {
         let mut router = Router::new(alloc);
         add_words(alloc, &mut router, &WORDS)?;
-        Ok(Routes { router })
+        Ok(Routes { alloc, router })
+    }
+
+    /// Where memory for messages is taken.
+    pub fn alloc(&self) -> Global {
+        self.alloc
     }
 
     /// The word of the route that the path has, if it has one.

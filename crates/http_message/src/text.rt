@@ -2,7 +2,7 @@
 ghost use Rattle.std.specs.Prelude.{◌≡◌, ◌++◌, IfOk};
 ghost use Rattle.http_message.specs.Reply.{bytes_form, octets, reply_text};
 
-use crate::form::print_head;
+use crate::form::{HEAD_ROOM, Parts, print_head};
 use crate::reply::{bytes_reply, reply_bytes};
 use http::StatusCode;
 use room_machine::Reply;
@@ -87,11 +87,10 @@ fn document_text(alloc: Global, bytes: Bytes, close: bool) -> Result<ReplyText, 
 fn document_front(alloc: Global, bytes: &[u8], close: bool) -> Result<Vec<u8>, AllocError>
     ensures { IfOk result (λ front. front.items ++ bytes.now ≡ bytes_form octets bytes.now close) }
 {
-    print_head(
-        alloc,
-        StatusCode::OK,
-        b"application/octet-stream",
-        bytes,
-        close,
-    )
+    let parts = Parts {
+        kind: Some(b"application/octet-stream"),
+        allow: None,
+        body: Some(bytes),
+    };
+    print_head(alloc, StatusCode::OK, &parts, close, HEAD_ROOM)
 }

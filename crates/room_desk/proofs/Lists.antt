@@ -7,9 +7,11 @@ pub mod SameHeld
 pub mod SetHeld
 pub mod SetMeaning
 pub mod SetSpread
+pub mod HandedDown
 pub mod SetWell
 pub mod SettingCalls
 pub mod SetEffect
 pub mod SetRequest
 pub mod ResetWay
 pub mod SetReset
+pub mod ResetClosed

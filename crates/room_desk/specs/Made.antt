@@ -1,68 +1,27 @@
 -- How an object is made, and what answers a request that changes an object.
-use Rattle.std.specs.Prelude.{
-  ◌≡◌,
-  ℕ,
-  ◌<◌,
-  false,
-  List,
-  [],
-  length,
-  Option,
-  Some,
-  None,
-  unwrap_or,
-  IsTrue,
-}
+use Rattle.std.specs.Prelude.{◌≡◌, ℕ, ◌<◌, List, length, Option, Some, None, IsTrue}
 use Rattle.room_entry.specs.declared.object.ObjKind.{ObjKind}
 use Rattle.room_entry.specs.declared.parties.Caller.{Caller}
-use Rattle.room_entry.specs.declared.parties.Owners.{Owners}
-use Rattle.room_rows.specs.HeldList.{Held}
 use Rattle.room_rows.specs.declared.node.NewNode.{NewNode}
 use Rattle.room_rows.specs.declared.node.Node.{Node}
-use Rattle.room_rows.specs.Held.{full_of}
 use Rattle.room_rows.specs.Keep.{Adds}
 use Rattle.room_rows.specs.Paths.{is_object_name}
 use Rattle.room_rows.specs.Rows.{Rows}
-use Rattle.room_rows.specs.Pass.{pass}
 use Rattle.room_judge.specs.declared.asker.Asker.{Asker}
 use Rattle.room_machine.specs.declared.reply.Reply.{Reply}
 use Rattle.room_machine.specs.declared.reply.Reply.TheVariants.{Made}
+use Rattle.room_machine.specs.Changed.{new_child}
 use Rattle.room_machine.specs.Plan.{Item}
 use Rattle.room_machine.specs.Site.{last_name}
 use Rattle.room_judge.specs.Judged.{IsJudged}
 
--- ---- a new object, as it is stored
+-- ---- a new object
 
 -- The path has a last name, which is this one, and it is an object name.
 pub record IsNameOf (path : List (List ℕ)) (name : List ℕ) : Type 0 where
   pub some : 0 < length path
   pub last : name ≡ last_name path
   pub sound : IsTrue (is_object_name name)
-
--- It stores what its parent passes, whether it is linked or not.
-abbrev pub passed_held : ObjKind → Held → Held
-passed_held kind parent = record {
-  flags =
-      record { auto = parent.flags.auto; protect = false };
-  own = [];
-  inh =
-      pass kind (full_of parent);
-}
-
--- owned by the caller, or as the parent is where the caller has no name
-abbrev pub owners_under : Option (List ℕ) → Owners → Owners
-owners_under user parent = record { owner = unwrap_or user parent.owner; group = parent.group }
-
-abbrev pub new_child : Caller → ObjKind → Node → List ℕ → List ℕ → NewNode
-new_child caller kind parent name bytes = record {
-  parent = Some parent.id;
-  name = name;
-  kind = kind;
-  owners = owners_under caller.user parent.owners;
-  dacl = passed_held kind parent.dacl;
-  sacl = passed_held kind parent.sacl;
-  bytes = bytes;
-}
 
 -- it gets some number
 abbrev pub IsMade : NewNode → Rows → Rows → Type 0

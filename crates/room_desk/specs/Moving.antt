@@ -54,6 +54,7 @@ use Rattle.room_machine.specs.declared.reply.Reason.TheVariants.{Exists, Loop}
 use Rattle.room_machine.specs.declared.request.Request.TheVariants.{Move}
 use Rattle.room_machine.specs.Site.{Site, last_name}
 use Rattle.room_machine.specs.Plan.{Item, Check, Deletion, Refusal, right_to_add}
+use Rattle.room_machine.specs.Changed.{MovesTo, Relinks}
 use Rattle.room_machine.specs.Effect.{moved_node}
 use Rattle.room_judge.specs.Spot.{IsPaired, pair_of}
 use Rattle.room_machine.specs.Stored.{stored_site}
@@ -145,11 +146,15 @@ pub record CanGo (target folder : Node) (name : List ℕ) (rows : Rows) : Type 0
   pub steps : ℕ
   pub past : goes_past steps rows.read target.id (Some folder.id) ≡ true
 
--- The records stay as they are where the rows needn't be sound.
+-- On any rows the target stands in the folder, and rows that can't be read stay as they are.
+abbrev pub IsMovedOnly : Node → Node → List ℕ → Rows → Rows → Type 0
+IsMovedOnly target folder name old new =
+    MovesTo folder name target old.read new.read × (new ≡ with_content old new.read)
+
 abbrev pub PlacesAt : Node → Node → List ℕ → Rows → Reply → Rows → Type 0
 PlacesAt target folder name old reply new =
     (reply ≡ Done) × (CanPlace target folder name old → IsPlaced target folder name old new)
-    × (CanGo target folder name old → new.read.audits ≡ old.read.audits)
+    × (CanGo target folder name old → IsMovedOnly target folder name old new)
 
 abbrev pub FailsToPlace : Node → Node → List ℕ → Rows → ℕ → Type 0
 FailsToPlace target folder name old row = CanGo target folder name old → IsUnreadable old row
@@ -182,16 +187,23 @@ pub record HasRenewedLists (which : Which) (old new : Rows) : Type 0 where
       ≡ false → lists node ≡ (held_of which node).inh
   pub law : AllAgree new.read which
 
--- what is rooted stays so, no other row becomes unreadable, and the records stay as they are
+-- what is rooted stays so, and no other row becomes unreadable
 pub record KeepsRoot (id : ℕ) (old new : Rows) : Type 0 where
   pub unreadable : new.unreadable ≡ old.unreadable
-  pub audits : new.read.audits ≡ old.read.audits
   pub rooted : IsRooted id old → IsRooted id new
+
+-- the object is there with this list of the target
+pub record HasListOf (which : Which) (target : Node) (rows : Rows) : Type 0 where
+  pub rises : IsTrue (is_rising (0 ∷ map (λ node. node.id) rows.read.nodes))
+  pub node : Node
+  pub there : node_at rows.read target.id ≡ Some node
+  pub held : held_of which node ≡ held_of which target
 
 pub record Renews (which : Which) (target folder : Node) (old : Rows) (answer : Unit {0})
     (new : Rows) : Type 0 where
   pub renewed : CanRenew which target folder old → HasRenewedLists which old new
   pub keeps : IsRooted target.id old → KeepsRoot target.id old new
+  pub relinks : HasListOf which target old → Relinks which folder target old.read new.read
 
 -- The object stores these entries, which are carried down, unless it did already.
 abbrev pub TakesPassed : Which → Node → List Ace → Rows → Unit {0} → Rows → Type 0

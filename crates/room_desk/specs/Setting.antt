@@ -33,7 +33,7 @@ use Rattle.room_rows.specs.HeldList.{Held}
 use Rattle.room_rows.specs.declared.node.Node.{Node}
 use Rattle.room_rows.specs.Content.{Content, node_at, parent_of}
 use Rattle.room_rows.specs.Held.{held_of, full_of, with_held}
-use Rattle.room_rows.specs.Keep.{Changes, IsDamaged}
+use Rattle.room_rows.specs.Keep.{Changes, IsDamaged, with_content}
 use Rattle.room_rows.specs.Meaning.{kept_node, meaning}
 use Rattle.room_rows.specs.Rows.{Rows, AreRows}
 use Rattle.room_rows.specs.Pass.{pass}
@@ -48,6 +48,7 @@ use Rattle.room_machine.specs.declared.reply.Reason.TheVariants.{BadList, NoSuch
 use Rattle.room_machine.specs.declared.reply.Reply.{Reply}
 use Rattle.room_machine.specs.declared.reply.Reply.TheVariants.{Done, Refused}
 use Rattle.room_machine.specs.declared.request.Request.TheVariants.{SetList}
+use Rattle.room_machine.specs.Changed.{SetsList, passing_parent, stored_held, stored_inh}
 use Rattle.room_machine.specs.Effect.{set_list}
 use Rattle.room_machine.specs.Site.{Site}
 
@@ -68,16 +69,6 @@ entries_marked inherited entries = filter (λ entry. if inherited then entry.fla
 
 -- ---- the list as it is stored
 
--- the parent, where a list of these flags takes entries from it
-abbrev pub passing_parent : Which → ListFlags → Option Node → Option Node
-passing_parent which flags None = None
-passing_parent which flags (Some above) = if not flags.protect && (held_of which above).flags.auto
-    then Some above else None
-
-abbrev pub stored_inh : Which → Sent → ObjKind → Option Node → List Ace
-stored_inh which sent kind parent = option_map_or
-    (λ above. pass kind (full_of (held_of which above))) parent (inherited_of sent.entries)
-
 -- what is stored of the list above and of the sent entries
 abbrev pub IsNewInh : Which → Sent → Node → Option Node → List Ace → Type 0
 IsNewInh which sent node above entries =
@@ -96,16 +87,6 @@ list_of flags own inh = record { flags = flags; own = own; inh = inh }
 -- the sent list with these inherited entries
 abbrev pub held_with : Sent → List Ace → Held
 held_with sent inh = list_of sent.flags (own_of sent.entries) inh
-
--- The sent flags and own entries. A linked list inherits what the parent's stored list passes, and
--- any other the sent entries with INHERITED.
-abbrev pub stored_held : Which → Sent → ObjKind → Option Node → Held
-stored_held which sent kind parent = record {
-  flags = sent.flags;
-  own = own_of sent.entries;
-  inh =
-      stored_inh which sent kind (passing_parent which sent.flags parent);
-}
 
 -- ---- stored
 
@@ -142,10 +123,15 @@ pub record IsSetWell (which : Which) (sent : Sent) (node : Node) (old new : Rows
       (option_map (kept_site old.read) (parent_of old.read node)) (kept_site old.read node)
   pub sound : AreSound new
 
--- The records stay as they are where the object is there.
+-- The object stores the list, and rows that can't be read stay as they are.
+abbrev pub IsSetOnly : Which → Sent → Node → Rows → Rows → Type 0
+IsSetOnly which sent node old new =
+    SetsList old.read which sent node new.read × (new ≡ with_content old new.read)
+
+-- So it is on any rows where the object is there.
 abbrev pub IsSet : Which → Sent → Node → Rows → Rows → Type 0
 IsSet which sent node old new =
-    (node_at old.read node.id ≡ Some node → new.read.audits ≡ old.read.audits)
+    (node_at old.read node.id ≡ Some node → IsSetOnly which sent node old new)
     × (node_at old.read node.id ≡ Some node → fault_in 1 which node.kind sent.entries ≡ None
     → limit_fault sent.entries ≡ None → AreSound old → IsSetWell which sent node old new)
 

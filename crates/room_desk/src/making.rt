@@ -3,15 +3,8 @@ ghost use Rattle.std.specs.Prelude.{◌≡◌, [], ◌∷◌, IfOk, is_some, len
 ghost use Rattle.room_entry.specs.Rights.{append_data, write_data};
 ghost use Rattle.room_rows.specs.Keep.{IsDamaged, IsUnreadable, SetsBody};
 ghost use Rattle.room_judge.specs.Halted.{Serves, Tries, replied};
-ghost use Rattle.room_desk.specs.Made.{
-  IsNameOf,
-  IsJudgedAndDone,
-  IsMade,
-  MakesChild,
-  new_child,
-  owners_under,
-  passed_held,
-};
+ghost use Rattle.room_desk.specs.Made.{IsNameOf, IsJudgedAndDone, IsMade, MakesChild};
+ghost use Rattle.room_machine.specs.Changed.{new_child, owners_under, passed_held};
 ghost use Rattle.room_machine.specs.Plan.{Check, Refusal, no_folder, not_over};
 ghost use Rattle.room_judge.specs.Stored.{found_site};
 ghost use Rattle.room_machine.specs.declared.reply.Reason.TheVariants.{Exists};
@@ -225,15 +218,8 @@ fn child_at(
         owners,
         dacl,
         sacl,
-        bytes: copied(alloc, child.bytes)?,
+        bytes: Bytes::from_slice(alloc, child.bytes.as_slice())?,
     })
-}
-
-// Copies the bytes at once; `clone` copies them one by one.
-fn copied(alloc: Global, bytes: &Bytes) -> Result<Bytes, AllocError>
-    ensures { IfOk result (λ copy. copy ≡ bytes.now) }
-{
-    Ok(Bytes::from_vec(Vec::from_slice(alloc, bytes.as_slice())?))
 }
 
 // The owners of what the caller makes under an object with these owners.

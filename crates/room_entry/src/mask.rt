@@ -74,6 +74,13 @@ impl Mask {
         }
     }
 
+    /// The mask with all bits that one can have.
+    pub fn all() -> Mask
+        ensures { result ≡ all_bits }
+    {
+        Mask { bits: KNOWN_BITS }
+    }
+
     /// The mask with no bit.
     pub fn empty() -> Mask
         ensures { result ≡ [] }

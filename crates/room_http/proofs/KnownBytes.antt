@@ -59,13 +59,10 @@ WritesPart-at u v w text n lt x y =
       omega (arith, len, lt),
     )
 
--- two parts of a text one after the other
-pub both-written : {A E : Type 0} (result : Result A E) (u v w : Option (List ℕ))
-    (front rest text : List ℕ) → front ++ rest ≡ text
-    → Appends u v front → OnOk result (Appends v w rest) → OnOk result (Appends u w text)
-both-written (Ok done) u v w front rest text e x y =
-    subst (λ t. Appends u w t) e (Appends-then u v w front rest x y)
-both-written (Err why) u v w front rest text e x y = tt
+-- what holds anyway holds of an error
+pub err-anyway : {A E P : Type 0} (result : Result A E) → P → OnErr result P
+err-anyway (Ok done) holds = tt
+err-anyway (Err why) holds = holds
 
 pub first-part : (u v : Option (List ℕ)) (front rest text : List ℕ) → front ++ rest ≡ text
     → WritesPart u v front → WritesPart u v text

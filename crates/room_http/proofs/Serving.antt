@@ -8,15 +8,16 @@ use Rattle.std.specs.Io.KnownBytes.{Appends}
 use Rattle.room_machine.specs.declared.desk.Desk.{Ghosts}
 use Rattle.room_machine.specs.Desk.{DeskLaws}
 use Rattle.room_machine.specs.Run.{Asking}
-use Rattle.room_http.proofs.Runs.{Leads-then, Outlasts-then, Runs-none}
+use Rattle.room_http.proofs.Runs.{exchanged-then, nothing-done}
 use Rattle.room_http.specs.declared.ended.Cause.{Cause}
 use Rattle.room_http.specs.declared.ended.Ended.{Ended}
 use Rattle.room_http.specs.declared.ended.ServeFault.{ServeFault}
+use Rattle.room_http.specs.declared.server.Connection.{Connection}
 use Rattle.room_http.specs.declared.server.Halt.{Halt}
 use Rattle.room_http.specs.Limits.{max_messages}
 use Rattle.room_http.specs.Message.{print_message}
 use Rattle.room_http.specs.Stream.{Exchange, IsOpen, exchange_text, bytes_of, texts_of, last_text}
-use Rattle.room_http.specs.Stream.{Last, events_by, last_asking, last_exchange, RunsExchanges}
+use Rattle.room_http.specs.Stream.{DeskRuns, Last, events_by, last_asking, last_exchange}
 use Rattle.room_http.specs.Stream.{EndsStream}
 use Rattle.room_http.specs.Serve.{Snapshot, Blames, FaultsRose, Serves, Stops, Connects, Next}
 use Rattle.room_http.specs.Serve.{next_asking, next_exchange, next_text, IsNext, NextRose}
@@ -36,9 +37,8 @@ Along-begin d laws moment old = record {
   few = omega arith;
   near = omega arith;
   writes = Appends-none old.sent;
-  run = λ _ _. Runs-none (d.content old.desk);
+  did = nothing-done d laws old.desk;
   faults = refl;
-  outlasts = laws.itself old.desk;
 }
 
 -- the bytes of one more exchange
@@ -61,30 +61,19 @@ bytes-last read buf more rest xs whole came =
     ap (λ t. t ++ more) whole ∙ append_assoc (bytes_of xs) buf more
     ∙ ap (λ t. bytes_of xs ++ t) (sym came)
 
--- a connection so far, and what its desk keeps to from then on
+-- a connection so far, and what comes then
 module _ {D : Type 0} (d : Ghosts D) (laws : DeskLaws d.Outlasts) (moment : ℤ) (n : ℕ)
-    (old mid new : Snapshot D) (buf : List ℕ) (a : Along d moment n old mid buf)
-    (trusted : d.trusted new.desk → d.trusted mid.desk)
-    (sound : d.trusted mid.desk → d.sound old.desk → d.sound mid.desk) where
-  run-then : (ys : List Exchange)
-      → (d.trusted new.desk → d.sound mid.desk
-      → RunsExchanges (d.content mid.desk) moment ys (d.content new.desk))
-      → d.trusted new.desk → d.sound old.desk
-      → RunsExchanges (d.content old.desk) moment (a.exchanges ++ ys) (d.content new.desk)
-  run-then ys run t s =
-      Leads-then (d.content old.desk) (d.content mid.desk) (d.content new.desk)
-      moment a.exchanges ys
-      (a.run (trusted t) s) (run t (sound (trusted t) s))
+    (old mid new : Snapshot D) (buf : List ℕ) (a : Along d moment n old mid buf) where
+  did-then : (ys : List Exchange) (asked : List Asking)
+      → DeskRuns d mid.desk asked (events_by moment ys) new.desk
+      → DeskRuns d old.desk asked (events_by moment (a.exchanges ++ ys)) new.desk
+  did-then ys asked then =
+      exchanged-then d laws old.desk mid.desk new.desk moment a.exchanges ys asked a.did then
 
-  outlasts-then : (ys : List Exchange) (asked : List Asking)
-      → d.Outlasts mid.desk asked (events_by moment ys) new.desk
-      → d.Outlasts old.desk asked (events_by moment (a.exchanges ++ ys)) new.desk
-  outlasts-then ys asked then =
-      Outlasts-then d laws old.desk mid.desk new.desk moment a.exchanges ys asked a.outlasts then
-
-  pub Along-then : (after : List ℕ) → TurnsOpen d moment n mid new buf after
-      → Along d moment (n + 1) old new after
-  Along-then after t =
+  pub Along-then : (connection : Connection) → TurnsOpen d moment n mid new buf connection
+      → Along d moment connection.answered old new connection.inbox.buf.items
+  Along-then connection t =
+      let after = connection.inbox.buf.items in
       let xs = a.exchanges in
       let x = t.x in
       let text : List ℕ = exchange_text false x in
@@ -92,7 +81,7 @@ module _ {D : Type 0} (d : Ghosts D) (laws : DeskLaws d.Outlasts) (moment : ℤ)
       flat_map-append (exchange_text false) xs (x ∷ [])
       ∙ ap (λ k. texts_of xs ++ k) (append-nil text) in
       let W : List ℕ → Type 0 = λ k. Appends old.sent new.sent k in
-      record {
+      let along : Along d moment (n + 1) old new after = record {
         read = a.read ++ t.came.0;
         exchanges = xs ++ x ∷ [];
         reads = Consumes-then old.left mid.left new.left a.read t.came.0 a.reads t.came.1;
@@ -108,10 +97,10 @@ module _ {D : Type 0} (d : Ghosts D) (laws : DeskLaws d.Outlasts) (moment : ℤ)
         writes =
             subst W (sym one) (Appends-then old.sent mid.sent new.sent
             (texts_of xs) text a.writes t.writes);
-        run = run-then (x ∷ []) t.run;
+        did = did-then (x ∷ []) [] t.did;
         faults = t.faults ∙ a.faults;
-        outlasts = outlasts-then (x ∷ []) [] t.outlasts;
-      }
+      } in
+      subst (λ k. Along d moment k old new after) (sym t.counts) along
 
   pub Serves-from : (ended : Ended) → TurnsLast d moment n mid new buf ended
       → Serves d moment old new ended
@@ -141,9 +130,8 @@ module _ {D : Type 0} (d : Ghosts D) (laws : DeskLaws d.Outlasts) (moment : ℤ)
             (last_text t.last) a.writes t.writes;
         ended_is = t.is;
         at_end = t.at_end;
-        run = run-then (last_exchange t.last) t.run;
+        did = did-then (last_exchange t.last) (last_asking moment t.last) t.did;
         faults = subst F a.faults t.faults;
-        outlasts = outlasts-then (last_exchange t.last) (last_asking moment t.last) t.outlasts;
       }
 
   pub Stops-from : (stop : Halt) (fault : ServeFault) → fault.answered ≡ n
@@ -174,9 +162,8 @@ module _ {D : Type 0} (d : Ghosts D) (laws : DeskLaws d.Outlasts) (moment : ℤ)
           writes =
               Appends-then old.sent mid.sent new.sent
               (texts_of a.exchanges) t.writes.0 a.writes t.writes.3;
-          run = run-then (next_exchange t.next) t.run;
+          did = did-then (next_exchange t.next) (next_asking moment t.next) t.did;
           faults = subst F a.faults t.faults;
-          outlasts = outlasts-then (next_exchange t.next) (next_asking moment t.next) t.outlasts;
         };
         answered = answered ∙ a.count;
         acted = acted ∙ t.acted;
@@ -244,9 +231,7 @@ pub served-connects : {D : Type 0} (d : Ghosts D) (moment : ℤ)
     (old new : Snapshot D) (ended : Ended)
     → Serves d moment old new ended → Connects d moment old new
 served-connects d moment old new ended s =
-    let L : List Exchange → Type 0 = λ ys. RunsExchanges (d.content old.desk) moment
-    (s.exchanges ++ ys) (d.content new.desk) in
-    let O : List Asking → List Exchange → Type 0 = λ asked ys. d.Outlasts old.desk asked
+    let O : List Asking → List Exchange → Type 0 = λ asked ys. DeskRuns d old.desk asked
     (events_by moment (s.exchanges ++ ys)) new.desk in
     record {
       read = s.read;
@@ -261,9 +246,8 @@ served-connects d moment old new ended s =
       begun = last_text s.last;
       beginning = ([], next-text-of s.last ∙ sym (append-nil (last_text s.last)));
       writes = s.writes;
-      run = λ t q. subst L (next-exchange-of s.last) (s.run t q);
       faults = next-rose-of s.last (d.faults old.desk) (d.faults new.desk) s.faults;
-      outlasts =
+      did =
           subst (λ asked. O asked (next_exchange (next_of s.last))) (next-asking-of moment s.last)
-          (subst (O (last_asking moment s.last)) (next-exchange-of s.last) s.outlasts);
+          (subst (O (last_asking moment s.last)) (next-exchange-of s.last) s.did);
     }

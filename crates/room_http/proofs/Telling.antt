@@ -1,7 +1,7 @@
 -- How one message was answered.
 use Rattle.std.proofs.Common.{◌≡◌, ℕ, ℤ, ◌+◌, ◌-◌, ◌^◌, ◌<◌, ◌≤◌, ◌⊎◌, Bool, true, false, List, []}
 use Rattle.std.proofs.Common.{min, refl, inl, inr, sym, ap, subst, ◌∙◌, arith, Option, Some, None}
-use Rattle.std.proofs.Common.{Result, Ok, Err}
+use Rattle.std.proofs.Common.{Result, Ok, Err, OnOk, OnErr, IfErr}
 use Rattle.std.specs.Io.KnownBytes.{Appends}
 use Rattle.std.proofs.lemmas.Bool.{cases_lt}
 use Rattle.room_machine.specs.declared.desk.Desk.{Ghosts}
@@ -10,15 +10,18 @@ use Rattle.room_machine.specs.Desk.{DeskLaws}
 use Rattle.http_message.specs.declared.fault.HttpFault.{HttpFault}
 use Rattle.room_http.specs.Message.{Asked}
 use Rattle.room_http.specs.Answer.{Stepped, ActedIf, AnswersMessage, Delivers, JoinsText}
-use Rattle.room_http.specs.Answer.{Responds, SendsRefusal, TellsReply, Rose}
+use Rattle.room_http.specs.Answer.{Failed, Responds, SendsRefusal, TellsReply, Rose}
 use Rattle.room_http.specs.declared.told.Answer.{Answer}
 use Rattle.room_http.specs.declared.told.Response.{Response}
 use Rattle.room_http.specs.declared.told.Lost.{Lost}
-use Rattle.room_http.specs.Stream.{Agrees, answer_text, events_at, Runs}
+use Rattle.room_http.specs.Stream.{Agrees, DeskRuns, answer_text, events_at}
+use Rattle.room_http.proofs.Runs.{nothing-done}
 use Rattle.room_http.specs.Text.{store_text}
 use Rattle.room_http.specs.Serve.{BlamesText, BlamesWriter}
-use Rattle.room_http.specs.Turn.{WritesPart}
-use Rattle.room_http.specs.Tell.{Replies, Begun, IsBegun, StopsFault, StopsWithin}
+use Rattle.room_http.specs.Turn.{WritesPart, WritesSome}
+use Rattle.room_http.specs.Tell.{StopsWithin, Tells, TellsText}
+use Rattle.room_http.specs.declared.server.Halt.{Halt}
+use Rattle.room_http.specs.declared.server.Told.{Told}
 use Rattle.room_http.specs.declared.ended.Cause.{Cause}
 use Rattle.room_entry.proofs.Facts.KnownBytes.{Appends-none}
 
@@ -31,9 +34,44 @@ rose-by old new (inr le) e = inr le
 pub rose : (old new : ℕ) → new ≡ min (old + 1) (2 ^ 64 - 1) → Rose old new
 rose old new e = rose-by old new (cases_lt old (2 ^ 64 - 1)) e
 
-nothing-sent : (sent sent' : Option (List ℕ)) → sent' ≡ sent → Appends sent sent' []
+pub nothing-sent : (sent sent' : Option (List ℕ)) → sent' ≡ sent → Appends sent sent' []
 nothing-sent sent sent' e =
     subst (λ (s : Option (List ℕ)). Appends sent s []) (sym e) (Appends-none sent)
+
+-- what holds of an `Ok`, at the arm that found which
+pub at-value : {A E : Type 0} (P : Result A E → Type 0) (result : Result A E) (found value : A)
+    → result ≡ Ok found → found ≡ value → P result → P (Ok value)
+at-value P result found value e f h =
+    subst (λ x. P (Ok x)) f (subst P e h)
+
+-- and the other way round
+pub from-value : {A E : Type 0} (P : Result A E → Type 0) (result : Result A E) (found value : A)
+    → result ≡ Ok found → found ≡ value → P (Ok value) → P result
+from-value P result found value e f h =
+    subst P (sym e) (subst (λ x. P (Ok x)) (sym f) h)
+
+-- a text that is due, and what came of writing it
+pub told-text : (text due : List ℕ) (told : Told) (acted : Bool) (u v : Option (List ℕ))
+    (wrote : Result (Unit {0}) Cause) (result : Result Told Halt) → text ≡ due
+    → OnOk wrote (Appends u v text) → OnErr wrote (WritesPart u v text)
+    → IfErr wrote (λ why. why ≡ Cause.Write) → OnOk wrote (result ≡ Ok told)
+    → IfErr wrote (λ why. result ≡ Err (record { acted = acted; cause = why }))
+    → TellsText due told acted u v result
+told-text text due told acted u v (Ok done) result e all part why ok err =
+    subst (TellsText due told acted u v) (sym ok) (refl, subst (λ t. Appends u v t) e all)
+told-text text due told acted u v (Err cause) result e all part why ok err =
+    subst (TellsText due told acted u v) (sym err)
+    (subst (λ t. WritesPart u v t) e part, why, refl)
+
+Appends-is : (u v : Option (List ℕ)) (a b : List ℕ) → a ≡ b → Appends u v a → Appends u v b
+Appends-is u v a b e w = subst (λ t. Appends u v t) e w
+
+module _ {D : Type 0} (d : Ghosts D) (moment : ℤ) (old new : D) where
+  -- the desk did what the message asks, and this is its reply, or a test refuses the message
+  pub record Replies (asked : Asked) (reply : Option Reply) : Type 0 where
+    pub agrees : Agrees asked reply
+    pub did : DeskRuns d old [] (events_at moment asked reply) new
+    pub faults : d.faults new ≡ d.faults old
 
 module _ {D : Type 0} (d : Ghosts D) (moment : ℤ) (old new : D) where
   -- the desk took the step, and its reply is the text
@@ -61,48 +99,25 @@ module _ {D : Type 0} (d : Ghosts D) (moment : ℤ) (old new : D) where
       → new ≡ old → Replies d moment old new asked None
   replies-refused laws asked fault e same =
       let A : Asked → Type 0 = λ a. Agrees a None in
-      let R : Asked
-      → Type 0 = λ a. Runs (d.content old) (events_at moment a None) (d.content old) in
-      let O : Asked → Type 0 = λ a. d.Outlasts old [] (events_at moment a None) old in
+      let R : Asked → Type 0 = λ a. DeskRuns d old [] (events_at moment a None) old in
       subst (λ (desk : D). Replies d moment old desk asked None) (sym same)
       (record {
         agrees = subst A (sym e) tt;
-        run = λ _ _. subst R (sym e) (λ room is. (room, refl, is));
+        did = subst R (sym e) (nothing-done d laws old);
         faults = refl;
-        outlasts = subst O (sym e) (laws.itself old);
       })
 
   -- of the desk
-  replies-stepped : (asked : Asked) (reply : Reply) → Stepped d moment old new asked reply
+  pub replies-stepped : (asked : Asked) (reply : Reply) → Stepped d moment old new asked reply
       → Replies d moment old new asked (Some reply)
   replies-stepped asked reply s =
       let A : Asked → Type 0 = λ a. Agrees a (Some reply) in
-      let R : Asked → Type 0 = λ a.
-      Runs (d.content old) (events_at moment a (Some reply)) (d.content new) in
-      let O : Asked → Type 0 = λ a. d.Outlasts old [] (events_at moment a (Some reply)) new in
+      let R : Asked → Type 0 = λ a. DeskRuns d old [] (events_at moment a (Some reply)) new in
       record {
         agrees = subst A (sym s.asks) tt;
-        run =
-            λ t q. subst R (sym s.asks)
-            (λ room is. let one = s.step t q room is in (one.0, (one.0, one.1, refl), one.2));
+        did = subst R (sym s.asks) s.did;
         faults = s.faults;
-        outlasts = subst O (sym s.asks) s.outlasts;
       }
-
-  -- memory ran out, before the desk acted or after it
-  pub begun-lost : (close : Bool) (asked : Asked) (sent sent' : Option (List ℕ)) (acted : Bool)
-      → ActedIf d moment old new acted asked → sent' ≡ sent
-      → (begun : Begun) × IsBegun d moment old new close asked sent sent' acted Cause.Memory begun
-  begun-lost close asked sent sent' true a same = (
-    Begun.Telling (Some a.0),
-    (
-      replies-stepped asked a.0 a.1,
-      (([], answer_text close asked (Some a.0), refl, nothing-sent sent sent' same), refl),
-      refl,
-    ),
-  )
-  begun-lost close asked sent sent' false a same =
-      (Begun.Nothing, (nothing-sent sent sent' same, refl, a, refl))
 
   pub refused-tells : DeskLaws d.Outlasts → (close : Bool) (asked : Asked) (text : List ℕ)
       → SendsRefusal d moment old new close asked text
@@ -122,14 +137,35 @@ module _ {D : Type 0} (d : Ghosts D) (moment : ℤ) (old new : D) where
     a.2 ∙ ap (λ (t : Asked). answer_text close t (Some a.0)) (sym a.1.asks),
   )
 
--- what holds of an `Ok`, at the arm that found which
-pub at-value : {A E : Type 0} (P : Result A E → Type 0) (result : Result A E) (found value : A)
-    → result ≡ Ok found → found ≡ value → P result → P (Ok value)
-at-value P result found value e f h =
-    subst (λ x. P (Ok x)) f (subst P e h)
+  -- the whole text of a reply was written
+  pub answers-whole : DeskLaws d.Outlasts → (close : Bool) (asked : Asked)
+      (sent sent' : Option (List ℕ)) (response : Result Response Lost)
+      → Responds d moment old new close asked response
+      → Tells response sent sent' (Ok Told.Answered)
+      → (reply : Option Reply) × Replies d moment old new asked reply
+      × Appends sent sent' (answer_text close asked reply)
+  answers-whole laws close asked sent sent' (Ok (Response.Refused text)) r t =
+      let a = refused-tells laws close asked text.items r in
+      (None, a.0, Appends-is sent sent' text.items _ a.1 t.1)
+  answers-whole laws close asked sent sent' (Ok (Response.Replied text)) r t =
+      let a = replied-tells close asked text r in
+      (Some a.0, a.1, Appends-is sent sent' text _ a.2 t.1)
+  answers-whole laws close asked sent sent' (Ok Response.Fault) r t =
+      absurd (let e = t.0 in cc)
+  answers-whole laws close asked sent sent' (Err lost) r t = absurd t
 
-pub Appends-is : (u v : Option (List ℕ)) (a b : List ℕ) → a ≡ b → Appends u v a → Appends u v b
-Appends-is u v a b e w = subst (λ t. Appends u v t) e w
+  -- and that the desk failed
+  pub fails-whole : (close : Bool) (asked : Asked)
+      (sent sent' : Option (List ℕ)) (response : Result Response Lost)
+      → Responds d moment old new close asked response
+      → Tells response sent sent' (Ok Told.Failed)
+      → Failed d moment old new asked × Appends sent sent' store_text
+  fails-whole close asked sent sent' (Ok (Response.Refused text)) r t =
+      absurd (let e = t.0 in cc)
+  fails-whole close asked sent sent' (Ok (Response.Replied text)) r t =
+      absurd (let e = t.0 in cc)
+  fails-whole close asked sent sent' (Ok Response.Fault) r t = (r, t.1)
+  fails-whole close asked sent sent' (Err lost) r t = absurd t
 
 -- a write failed within the text
 pub within-write : (u v : Option (List ℕ)) (a b : List ℕ) (cause : Cause) → a ≡ b
@@ -141,10 +177,8 @@ within-write u v a b cause e f w =
     (wrote, subst (λ (k : Cause). BlamesText k wrote.0 wrote.1) (sym f) part.1)
 
 -- the same for the text that reports a fault of the desk
-pub within-fault : (u v : Option (List ℕ)) (a : List ℕ) (cause : Cause) → a ≡ store_text
-    → cause ≡ Cause.Write
-    → WritesPart u v a → StopsFault u v cause
-within-fault u v a cause e f w =
-    let part = subst (λ t. WritesPart u v t) e w in
+pub within-fault : (u v : Option (List ℕ)) (cause : Cause) → cause ≡ Cause.Write
+    → WritesPart u v store_text → (wrote : WritesSome u v store_text) × BlamesWriter cause wrote.1
+within-fault u v cause f part =
     let wrote = part.0 in
     (wrote, subst (λ (k : Cause). BlamesWriter k wrote.1) (sym f) part.1)

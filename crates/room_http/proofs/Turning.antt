@@ -3,12 +3,12 @@ use Rattle.std.proofs.Common.{◌≡◌, ℕ, ℤ, ◌+◌, ◌<◌, ◌||◌, �
 use Rattle.std.proofs.Common.{◌++◌, length, drop, refl, sym, ap, subst, ◌∙◌, arith, Option, Some}
 use Rattle.std.proofs.Common.{None, Result, Ok, Err, IfOk, IfErr}
 use Rattle.std.proofs.Common.{◌≢◌}
+use Rattle.std.specs.Prelude.{is_some}
 use Rattle.std.proofs.lemmas.Bool.{eq-eqb, true≢false}
 use Rattle.std.proofs.lemmas.List.{append-nil}
 use Rattle.std.specs.List.{slice_range}
 use Rattle.std.specs.Io.KnownBytes.{Appends, IsAtEnd}
 use Rattle.std.proofs.lemmas.Option.{same_Some, none-some}
-use Rattle.room_rows.specs.Content.{Content}
 use Rattle.room_machine.specs.declared.desk.Desk.{Ghosts}
 use Rattle.room_machine.specs.declared.reply.Reply.{Reply}
 use Rattle.room_machine.specs.Desk.{DeskLaws}
@@ -16,33 +16,51 @@ use Rattle.room_machine.specs.Run.{Event}
 use Rattle.http_message.specs.declared.head.Head.{Head}
 use Rattle.http_message.specs.Asked.{request_of}
 use Rattle.http_message.specs.Close.{asks_close}
-use Rattle.room_http.proofs.Runs.{Runs-none}
+use Rattle.room_http.proofs.Runs.{nothing-done}
 use Rattle.room_http.specs.declared.next.NextMessage.{NextMessage}
 use Rattle.room_http.specs.declared.ended.Ended.{Ended}
 use Rattle.room_http.specs.declared.server.Halt.{Halt}
 use Rattle.room_http.specs.declared.ended.Cause.{Cause}
 use Rattle.room_http.specs.Limits.{max_messages, read_size}
-use Rattle.room_http.specs.Message.{Message, print_message, IsRefusedHead, IsPart, asked, closes}
+use Rattle.room_http.specs.Message.{Asked, Message, print_message, IsRefusedHead, IsPart, asked, closes}
 use Rattle.room_http.specs.Message.{head_of}
-use Rattle.room_http.specs.Text.{store_text, refusal_reply}
-use Rattle.room_http.specs.Stream.{Last, answer_text, events_at, events_by, Runs, RunsExchanges}
+use Rattle.room_http.specs.Text.{refusal_reply}
+use Rattle.room_http.specs.Stream.{DeskRuns, Last, answer_text, events_at, events_by}
 use Rattle.room_http.specs.Stream.{says_close}
 use Rattle.room_http.specs.Spans.{Came}
-use Rattle.room_http.specs.Serve.{Snapshot, Next, BlamesBefore, IsNearHead, seen}
+use Rattle.room_http.specs.Serve.{Snapshot, Next, BlamesBefore, BlamesText, IsNearHead, seen}
 use Rattle.room_http.specs.Turn.{TurnsOpen, TurnsLast, TurnsStop, Turns, WholeNext}
-use Rattle.room_http.specs.Answer.{Failed}
-use Rattle.room_http.specs.Tell.{Replies, Begun, IsBegun, StopsWithin}
+use Rattle.room_http.specs.Answer.{ActedIf, Responds}
+use Rattle.room_http.specs.Tell.{StopsWithin, Tells}
+use Rattle.room_http.specs.declared.server.Connection.{Connection}
+use Rattle.room_http.specs.declared.server.Told.{Told}
+use Rattle.room_http.specs.declared.told.Lost.{Lost}
+use Rattle.room_http.specs.declared.told.Response.{Response}
+use Rattle.room_http.proofs.Telling.{Replies, answers-whole, fails-whole, nothing-sent}
+use Rattle.room_http.proofs.Telling.{refused-tells, replied-tells, replies-stepped, within-fault}
+use Rattle.room_http.proofs.Telling.{within-write}
 use Rattle.room_http.proofs.Near.{near-message, near-rest}
 use Rattle.room_http.proofs.KnownBytes.{Came-none, Came-then, Consumes-none}
 use Rattle.room_http.specs.declared.refusal.Refusal.{Refusal}
 use Rattle.room_entry.proofs.Facts.KnownBytes.{Appends-none}
 
 -- the message asks what its copied head and its body ask
-pub asks-the-same : (buf : List ℕ) (next : NextMessage) (w : WholeNext buf next)
+asks-the-same : (buf : List ℕ) (next : NextMessage) (w : WholeNext buf next)
     → request_of next.head (slice_range buf next.start next.end) ≡ asked w.message
 asks-the-same buf next w =
     ap (λ (h : Head). request_of h (slice_range buf next.start next.end)) w.head
     ∙ ap (λ b. request_of (head_of w.message.head) b) w.body
+
+pub responds-to : {D : Type 0} (d : Ghosts D) (moment : ℤ) (old new : D) (buf : List ℕ)
+    (next : NextMessage) (w : WholeNext buf next) (bytes : List ℕ) (close : Bool)
+    (response : Result Response Lost) → bytes ≡ buf
+    → Responds d moment old new close
+    (request_of next.head (slice_range bytes next.start next.end)) response
+    → Responds d moment old new close (asked w.message) response
+responds-to d moment old new buf next w bytes close response same responds =
+    subst (λ (a : Asked). Responds d moment old new close a response)
+    (ap (λ t. request_of next.head (slice_range t next.start next.end)) same
+    ∙ asks-the-same buf next w) responds
 
 pub closes-the-same : (buf : List ℕ) (next : NextMessage) (w : WholeNext buf next) (n : ℕ)
     (close : Bool)
@@ -65,31 +83,25 @@ not-last n few off =
     omega (arith, ne, few)
 
 -- one exchange of a run
-leads-one : (moment : ℤ) (old new : Content → Type 0) (m : Message) (reply : Option Reply)
-    → Runs old (events_at moment (asked m) reply) new
-    → RunsExchanges old moment (record { message = m; reply = reply } ∷ []) new
-leads-one moment old new m reply run =
-    subst (λ (events : List Event). Runs old events new)
-    (sym (append-nil (events_at moment (asked m) reply))) run
+did-one : {D : Type 0} (d : Ghosts D) (moment : ℤ) (old new : D) (m : Message)
+    (reply : Option Reply) → DeskRuns d old [] (events_at moment (asked m) reply) new
+    → DeskRuns d old [] (events_by moment (record { message = m; reply = reply } ∷ [])) new
+did-one d moment old new m reply did =
+    subst (λ (events : List Event). DeskRuns d old [] events new)
+    (sym (append-nil (events_at moment (asked m) reply))) did
 
-outlasts-one : {D : Type 0} (d : Ghosts D) (moment : ℤ) (old new : D) (m : Message)
-    (reply : Option Reply) → d.Outlasts old [] (events_at moment (asked m) reply) new
-    → d.Outlasts old [] (events_by moment (record { message = m; reply = reply } ∷ [])) new
-outlasts-one d moment old new m reply outlasts =
-    subst (λ (events : List Event). d.Outlasts old [] events new)
-    (sym (append-nil (events_at moment (asked m) reply))) outlasts
-
-pub take-open : {D : Type 0} (d : Ghosts D) (moment : ℤ) (n : ℕ) (old new : Snapshot D)
-    (buf after : List ℕ)
+take-open : {D : Type 0} (d : Ghosts D) (moment : ℤ) (n : ℕ) (old new : Snapshot D)
+    (buf : List ℕ) (connection : Connection)
     (next : NextMessage) (w : WholeNext buf next)
     (reply : Option Reply) → n < max_messages → length buf < next.end + read_size
     → new.left ≡ old.left → says_close w.message n ≡ false
-    → after ≡ drop next.end buf
+    → connection.inbox.buf.items ≡ drop next.end buf → connection.answered ≡ n + 1
     → Replies d moment old.desk new.desk (asked w.message) reply
     → Appends old.sent new.sent (answer_text false (asked w.message) reply)
-    → TurnsOpen d moment n old new buf after
-take-open d moment n old new buf after next w reply few near same stays rest r wrote =
+    → TurnsOpen d moment n old new buf connection
+take-open d moment n old new buf connection next w reply few near same stays rest counts r wrote =
     let m = w.message in
+    let after = connection.inbox.buf.items in
     let L : Option (List ℕ) → Type 0 = λ l. Came old.left l buf (print_message m ++ after) in
     let whole : print_message m ++ after ≡ buf = ap (λ t. print_message m ++ t) rest
     ∙ sym w.whole in
@@ -103,12 +115,12 @@ take-open d moment n old new buf after next w reply few near same stays rest r w
             stays = or-first (closes m) ((n + 1) == max_messages) stays;
           };
       more = not-last n few off;
+      counts = counts;
       came = subst L (sym same) ([], Consumes-none old.left, whole ∙ sym (append-nil buf));
       near = near-rest buf after next.end rest near;
       writes = wrote;
-      run = λ t s. leads-one moment (d.content old.desk) (d.content new.desk) m reply (r.run t s);
+      did = did-one d moment old.desk new.desk m reply r.did;
       faults = r.faults;
-      outlasts = outlasts-one d moment old.desk new.desk m reply r.outlasts;
     }
 
 came-same : (u v : Option (List ℕ)) (buf : List ℕ) → v ≡ u → Came u v buf buf
@@ -116,7 +128,7 @@ came-same u v buf e =
     let L : Option (List ℕ) → Type 0 = λ l. Came u l buf buf in
     subst L (sym e) (Came-none u buf)
 
-pub take-closing : {D : Type 0} (d : Ghosts D) (moment : ℤ) (n : ℕ) (old new : Snapshot D)
+take-closing : {D : Type 0} (d : Ghosts D) (moment : ℤ) (n : ℕ) (old new : Snapshot D)
     (buf : List ℕ)
     (next : NextMessage) (w : WholeNext buf next)
     (reply : Option Reply) → length buf < next.end + read_size → new.left ≡ old.left
@@ -135,129 +147,160 @@ take-closing d moment n old new buf next w reply near same close r wrote =
       near = near-message buf next w near;
       writes = wrote;
       at_end = tt;
-      run = λ t s. leads-one moment (d.content old.desk) (d.content new.desk) m reply (r.run t s);
+      did = did-one d moment old.desk new.desk m reply r.did;
       faults = r.faults;
-      outlasts = outlasts-one d moment old.desk new.desk m reply r.outlasts;
     }
 
 -- a whole reply, whatever it says of the connection
-pub take-answered : {D : Type 0} (d : Ghosts D) (moment : ℤ) (n : ℕ) (old new : Snapshot D)
-    (buf after : List ℕ)
+pub take-answered : {D : Type 0} (d : Ghosts D) → DeskLaws d.Outlasts → (moment : ℤ) (n : ℕ)
+    (old new : Snapshot D) (buf : List ℕ) (connection : Connection)
     (next : NextMessage) (w : WholeNext buf next)
-    (reply : Option Reply) (close : Bool) (ended : Option Ended) → n < max_messages
+    (close : Bool) (ended : Option Ended) (response : Result Response Lost) → n < max_messages
     → length buf < next.end + read_size → new.left ≡ old.left
     → says_close w.message n ≡ close
     → (close ≡ true → ended ≡ Some Ended.Closed)
-    → (close ≡ false → (ended ≡ None) × (after ≡ drop next.end buf))
-    → Replies d moment old.desk new.desk (asked w.message) reply
-    → Appends old.sent new.sent (answer_text close (asked w.message) reply)
-    → Turns d moment n old new buf after (Ok ended)
-take-answered d moment n old new buf after next w reply true ended few near same says closing
-    staying r wrote =
-    subst (λ (e : Option Ended). Turns d moment n old new buf after (Ok e)) (sym (closing refl))
-    (take-closing d moment n old new buf next w reply near same says r wrote)
-take-answered d moment n old new buf after next w reply false ended few near same says closing
-    staying r wrote =
+    → (close ≡ false → (ended ≡ None) × (connection.inbox.buf.items ≡ drop next.end buf))
+    → (close ≡ false → connection.answered ≡ n + 1)
+    → Responds d moment old.desk new.desk close (asked w.message) response
+    → Tells response old.sent new.sent (Ok Told.Answered)
+    → Turns d moment n old new buf connection (Ok ended)
+take-answered d laws moment n old new buf connection next w true ended response few near same says
+    closing staying counts responds tells =
+    let all = answers-whole d moment old.desk new.desk laws true (asked w.message) old.sent
+    new.sent response responds tells in
+    subst (λ (e : Option Ended). Turns d moment n old new buf connection (Ok e))
+    (sym (closing refl))
+    (take-closing d moment n old new buf next w all.0 near same says all.1 all.2)
+take-answered d laws moment n old new buf connection next w false ended response few near same says
+    closing staying counts responds tells =
     let stays = staying refl in
-    subst (λ (e : Option Ended). Turns d moment n old new buf after (Ok e)) (sym stays.0)
-    (take-open d moment n old new buf after next w reply few near same says stays.1 r wrote)
+    let all = answers-whole d moment old.desk new.desk laws false (asked w.message) old.sent
+    new.sent response responds tells in
+    subst (λ (e : Option Ended). Turns d moment n old new buf connection (Ok e)) (sym stays.0)
+    (take-open d moment n old new buf connection next w all.0 few near same says stays.1
+    (counts refl) all.1 all.2)
 
 pub take-failed : {D : Type 0} (d : Ghosts D) (moment : ℤ) (n : ℕ) (old new : Snapshot D)
     (buf : List ℕ)
-    (next : NextMessage) (w : WholeNext buf next)
+    (next : NextMessage) (w : WholeNext buf next) (close : Bool) (response : Result Response Lost)
     → length buf < next.end + read_size → new.left ≡ old.left
-    → Failed d moment old.desk new.desk (asked w.message) → Appends old.sent new.sent store_text
+    → Responds d moment old.desk new.desk close (asked w.message) response
+    → Tells response old.sent new.sent (Ok Told.Failed)
     → TurnsLast d moment n old new buf Ended.Closed
-take-failed d moment n old new buf next w near same f wrote =
+take-failed d moment n old new buf next w close response near same responds tells =
+    let f = fails-whole d moment old.desk new.desk close (asked w.message) old.sent new.sent
+    response responds tells in
     record {
       last = Last.Failed w.message;
       is = refl;
       rest = buf;
       came = came-same old.left new.left buf same;
-      ends = (w.is, f.asks, (drop next.end buf, w.whole));
+      ends = (w.is, f.0.asks, (drop next.end buf, w.whole));
       near = near-message buf next w near;
-      writes = wrote;
+      writes = f.1;
       at_end = tt;
-      run = λ t s room is. (room, refl, f.keeps t s room is);
-      faults = f.faults;
-      outlasts = f.outlasts;
+      did = f.0.did;
+      faults = f.0.faults;
     }
 
-pub take-stop : {D : Type 0} (d : Ghosts D) → DeskLaws d.Outlasts → (moment : ℤ) (n : ℕ)
-    (old new : Snapshot D) (buf : List ℕ) (next : NextMessage) (w : WholeNext buf next)
-    (close : Bool) (stop : Halt) (begun : Begun) → length buf < next.end + read_size
-    → new.left ≡ old.left → says_close w.message n ≡ close
-    → IsBegun d moment old.desk new.desk close (asked w.message) old.sent new.sent
-    stop.acted stop.cause
-    begun
-    → TurnsStop d moment n old new buf stop
-take-stop {D} d laws moment n old new buf next w close stop Begun.Nothing near same e b =
-    record {
-      next = Next.Unknown;
-      rest = buf;
-      came = came-same old.left new.left buf same;
-      is_next = tt;
-      near = tt;
-      writes = ([], [], refl, b.0);
-      acted = b.1;
-      cause = subst (λ (k : Cause). BlamesBefore k buf) (sym b.3) tt;
-      run = λ _ _. subst (λ (desk : D). Runs (d.content old.desk) [] (d.content desk)) (sym b.2)
-          (Runs-none (d.content old.desk));
-      faults = ap d.faults b.2;
-      outlasts = subst (λ (desk : D). d.Outlasts old.desk [] [] desk) (sym b.2)
-          (laws.itself old.desk);
-    }
-take-stop d laws moment n old new buf next w close stop (Begun.Telling reply) near same e b =
-    let m = w.message in
-    record {
-      next = Next.Exchanging (record { message = m; reply = reply }) close;
-      rest = buf;
-      came = came-same old.left new.left buf same;
-      is_next = (record { message = w.is; agrees = b.0.agrees }, e, (drop next.end buf, w.whole));
-      near = near-message buf next w near;
-      writes = b.1.0;
-      acted = b.2;
-      cause = b.1.1;
-      run = λ t s. leads-one moment (d.content old.desk) (d.content new.desk) m reply (b.0.run t s);
-      faults = b.0.faults;
-      outlasts = outlasts-one d moment old.desk new.desk m reply b.0.outlasts;
-    }
-take-stop d laws moment n old new buf next w close stop Begun.Failing near same e b =
-    record {
-      next = Next.Failing w.message;
-      rest = buf;
-      came = came-same old.left new.left buf same;
-      is_next = (w.is, b.0.asks, (drop next.end buf, w.whole));
-      near = near-message buf next w near;
-      writes = b.1.0;
-      acted = b.2;
-      cause = b.1.1;
-      run = λ t s room is. (room, refl, b.0.keeps t s room is);
-      faults = b.0.faults;
-      outlasts = b.0.outlasts;
-    }
+module _ {D : Type 0} (d : Ghosts D) (moment : ℤ) (n : ℕ) (old new : Snapshot D) (buf : List ℕ)
+    (next : NextMessage) (w : WholeNext buf next) (close : Bool) (stop : Halt)
+    (near : length buf < next.end + read_size) (same : new.left ≡ old.left)
+    (says : says_close w.message n ≡ close) where
+  -- the writer failed within a reply, or there was no memory for it
+  stop-telling : (reply : Option Reply)
+      → Replies d moment old.desk new.desk (asked w.message) reply
+      → StopsWithin old.sent new.sent (answer_text close (asked w.message) reply) stop.cause
+      → stop.acted ≡ is_some reply → TurnsStop d moment n old new buf stop
+  stop-telling reply r within acted =
+      let m = w.message in
+      record {
+        next = Next.Exchanging (record { message = m; reply = reply }) close;
+        rest = buf;
+        came = came-same old.left new.left buf same;
+        is_next =
+            (record { message = w.is; agrees = r.agrees }, says, (drop next.end buf, w.whole));
+        near = near-message buf next w near;
+        writes = within.0;
+        acted = acted;
+        cause = within.1;
+        did = did-one d moment old.desk new.desk m reply r.did;
+        faults = r.faults;
+      }
+
+  -- memory ran out, before the desk acted or after it
+  stop-lost : DeskLaws d.Outlasts → (acted : Bool)
+      → ActedIf d moment old.desk new.desk acted (asked w.message) → new.sent ≡ old.sent
+      → stop.cause ≡ Cause.Memory → stop.acted ≡ acted → TurnsStop d moment n old new buf stop
+  stop-lost laws true a wrote why acted =
+      let text = answer_text close (asked w.message) (Some a.0) in
+      stop-telling (Some a.0)
+      (replies-stepped d moment old.desk new.desk (asked w.message) a.0 a.1) (
+        ([], text, refl, nothing-sent old.sent new.sent wrote),
+        subst (λ (k : Cause). BlamesText k [] text) (sym why) refl,
+      ) acted
+  stop-lost laws false a wrote why acted =
+      record {
+        next = Next.Unknown;
+        rest = buf;
+        came = came-same old.left new.left buf same;
+        is_next = tt;
+        near = tt;
+        writes = ([], [], refl, nothing-sent old.sent new.sent wrote);
+        acted = acted;
+        cause = subst (λ (k : Cause). BlamesBefore k buf) (sym why) tt;
+        did = subst (λ (desk : D). DeskRuns d old.desk [] [] desk) (sym a)
+            (nothing-done d laws old.desk);
+        faults = ap d.faults a;
+      }
+
+  pub take-stop : DeskLaws d.Outlasts → (response : Result Response Lost)
+      → Responds d moment old.desk new.desk close (asked w.message) response
+      → Tells response old.sent new.sent (Err stop) → TurnsStop d moment n old new buf stop
+  take-stop laws (Ok (Response.Refused text)) responds t =
+      let a =
+      refused-tells d moment old.desk new.desk laws close (asked w.message) text.items responds in
+      stop-telling None a.0 (within-write _ _ _ _ _ a.1 t.1 t.0) t.2
+  take-stop laws (Ok (Response.Replied text)) responds t =
+      let a = replied-tells d moment old.desk new.desk close (asked w.message) text responds in
+      stop-telling (Some a.0) a.1 (within-write _ _ _ _ _ a.2 t.1 t.0) t.2
+  take-stop laws (Ok Response.Fault) f t =
+      let within = within-fault old.sent new.sent stop.cause t.1 t.0 in
+      record {
+        next = Next.Failing w.message;
+        rest = buf;
+        came = came-same old.left new.left buf same;
+        is_next = (w.is, f.asks, (drop next.end buf, w.whole));
+        near = near-message buf next w near;
+        writes = within.0;
+        acted = t.2;
+        cause = within.1;
+        did = f.did;
+        faults = f.faults;
+      }
+  take-stop laws (Err lost) acted t = stop-lost laws lost.acted acted t.0 t.1 t.2
 
 -- a turn after more bytes came
 pub shift : {D : Type 0} (d : Ghosts D) (moment : ℤ) (n : ℕ) (left mid sent : Option (List ℕ))
     (desk : D) (new : Snapshot D)
-    (buf came after : List ℕ) (result : Result (Option Ended) Halt)
+    (buf came : List ℕ) (connection : Connection) (result : Result (Option Ended) Halt)
     → Came left mid buf came
     → Turns d moment n (seen mid sent desk) new
-    came after result
+    came connection result
     → Turns d moment n (seen left sent desk) new
-    buf after result
-shift d moment n left mid sent desk new buf came after (Ok None) more t = record {
+    buf connection result
+shift d moment n left mid sent desk new buf came connection (Ok None) more t = record {
   x = t.x;
   is_open = t.is_open;
   more = t.more;
-  came = Came-then left mid new.left buf came (print_message t.x.message ++ after) more t.came;
+  counts = t.counts;
+  came = Came-then left mid new.left buf came (print_message t.x.message ++ connection.inbox.buf.items) more t.came;
   near = t.near;
   writes = t.writes;
-  run = t.run;
+  did = t.did;
   faults = t.faults;
-  outlasts = t.outlasts;
 }
-shift d at n left mid sent desk new buf came after (Ok (Some ended)) more t = record {
+shift d at n left mid sent desk new buf came connection (Ok (Some ended)) more t = record {
   last = t.last;
   is = t.is;
   rest = t.rest;
@@ -266,11 +309,10 @@ shift d at n left mid sent desk new buf came after (Ok (Some ended)) more t = re
   near = t.near;
   writes = t.writes;
   at_end = t.at_end;
-  run = t.run;
+  did = t.did;
   faults = t.faults;
-  outlasts = t.outlasts;
 }
-shift d at n left mid sent desk new buf came after (Err stop) more t = record {
+shift d at n left mid sent desk new buf came connection (Err stop) more t = record {
   next = t.next;
   rest = t.rest;
   came = Came-then left mid new.left buf came t.rest more t.came;
@@ -279,24 +321,23 @@ shift d at n left mid sent desk new buf came after (Err stop) more t = record {
   writes = t.writes;
   acted = t.acted;
   cause = t.cause;
-  run = t.run;
+  did = t.did;
   faults = t.faults;
-  outlasts = t.outlasts;
 }
 
 pub turn-refused : {D : Type 0} (d : Ghosts D) → DeskLaws d.Outlasts → (moment : ℤ) (n : ℕ)
     (left mid sent wrote : Option (List ℕ)) (desk : D)
-    (buf came after : List ℕ) (reason : Refusal) (result : Result (Option Ended) Halt)
+    (buf came : List ℕ) (connection : Connection) (reason : Refusal) (result : Result (Option Ended) Halt)
     → Came left mid buf came → IsRefusedHead came reason → IsNearHead came
     → IfOk result (λ ended. (ended ≡ Some Ended.Closed) × Appends sent wrote (refusal_reply reason))
     → IfErr result (λ stop. (stop.acted ≡ false)
     × StopsWithin sent wrote (refusal_reply reason) stop.cause)
     → Turns d moment n (seen left sent desk)
-    (seen mid wrote desk) buf after result
-turn-refused d laws moment n left mid sent wrote desk buf came after reason
+    (seen mid wrote desk) buf connection result
+turn-refused d laws moment n left mid sent wrote desk buf came connection reason
     (Ok None) more is near ok err =
     absurd (none-some _ ok.0)
-turn-refused d laws moment n left mid sent wrote desk buf came after reason
+turn-refused d laws moment n left mid sent wrote desk buf came connection reason
     (Ok (Some ended)) more is near ok err =
     record {
       last = Last.Refused reason;
@@ -307,11 +348,10 @@ turn-refused d laws moment n left mid sent wrote desk buf came after reason
       near = near;
       writes = ok.1;
       at_end = tt;
-      run = λ _ _. Runs-none (d.content desk);
+      did = nothing-done d laws desk;
       faults = refl;
-      outlasts = laws.itself desk;
     }
-turn-refused d laws moment n left mid sent wrote desk buf came after reason
+turn-refused d laws moment n left mid sent wrote desk buf came connection reason
     (Err stop) more is near ok err =
     record {
       next = Next.Refusing reason;
@@ -322,9 +362,8 @@ turn-refused d laws moment n left mid sent wrote desk buf came after reason
       writes = err.1.0;
       acted = err.0;
       cause = err.1.1;
-      run = λ _ _. Runs-none (d.content desk);
+      did = nothing-done d laws desk;
       faults = refl;
-      outlasts = laws.itself desk;
     }
 
 -- the input ended
@@ -342,9 +381,8 @@ turn-clean d laws moment n left mid sent desk buf came more e = record {
   near = tt;
   writes = Appends-none sent;
   at_end = e.0;
-  run = λ _ _. Runs-none (d.content desk);
+  did = nothing-done d laws desk;
   faults = refl;
-  outlasts = laws.itself desk;
 }
 
 pub turn-cut : {D : Type 0} (d : Ghosts D) → DeskLaws d.Outlasts → (moment : ℤ) (n : ℕ)
@@ -361,7 +399,6 @@ turn-cut d laws moment n left mid sent desk buf came more e = record {
   near = tt;
   writes = Appends-none sent;
   at_end = e.0;
-  run = λ _ _. Runs-none (d.content desk);
+  did = nothing-done d laws desk;
   faults = refl;
-  outlasts = laws.itself desk;
 }

@@ -1,11 +1,8 @@
 -- What answering one message does (own).
 use Rattle.std.specs.Prelude.{◌≡◌, ℕ, ℤ, ◌-◌, ◌^◌, ◌<◌, ◌≤◌, ◌⊎◌, Bool, true, false, List, []}
 use Rattle.std.specs.Prelude.{◌∷◌, Result, Ok, Err}
-use Rattle.room_rows.specs.Content.{Content}
 use Rattle.room_machine.specs.declared.desk.Desk.{Ghosts}
-use Rattle.room_machine.specs.declared.desk.DeskFault.{DeskFault}
 use Rattle.room_machine.specs.declared.reply.Reply.{Reply}
-use Rattle.room_machine.specs.Desk.{Steps}
 use Rattle.room_machine.specs.Run.{Event}
 use Rattle.http_message.specs.Asked as message
 use Rattle.http_message.specs.Reply.{reply_text, fault_text}
@@ -14,34 +11,26 @@ use Rattle.room_http.specs.declared.told.Answer.{Answer}
 use Rattle.room_http.specs.declared.told.Response.{Response}
 use Rattle.room_http.specs.declared.told.Lost.{Lost}
 use Rattle.room_http.specs.Message.{Asked}
-use Rattle.room_http.specs.Stream.{IsRequest, asking_at}
-
--- what the desk kept it keeps
-abbrev pub KeepsContent : (Content → Type 0) → (Content → Type 0) → Type 0
-KeepsContent old new = (room : Content) → old room → new room
+use Rattle.room_http.specs.Stream.{DeskRuns, IsRequest, asking_at}
 
 -- the count of faults rose, or is at its end
 abbrev pub Rose : ℕ → ℕ → Type 0
 Rose old new = (old < new) ⊎ (2 ^ 64 - 1 ≤ old)
 
--- of a desk, at a moment, from one state to another: its steps are promised where it is trusted
--- afterwards and was sound before
+-- of a desk, at a moment, from one state to another
 module _ {D : Type 0} (d : Ghosts D) (moment : ℤ) (old new : D) where
   -- the desk took the step that the message asks for, and replied so
   pub record Stepped (asked : Asked) (reply : Reply) : Type 0 where
     pub call : message.UserRequest
     pub asks : asked ≡ Ok call
-    pub step : d.trusted new → d.sound old
-        → Steps {E = DeskFault} (d.content old) call.0 moment call.1 (Ok reply) (d.content new)
+    pub did : DeskRuns d old [] (Event.Asked call.0 moment call.1 reply ∷ []) new
     pub faults : d.faults new ≡ d.faults old
-    pub outlasts : d.Outlasts old [] (Event.Asked call.0 moment call.1 reply ∷ []) new
 
   -- the desk failed at what the message asks, and keeps what it kept
   pub record Failed (asked : Asked) : Type 0 where
     pub asks : IsRequest asked
-    pub keeps : d.trusted new → d.sound old → KeepsContent (d.content old) (d.content new)
+    pub did : DeskRuns d old (asking_at moment asked) [] new
     pub faults : Rose (d.faults old) (d.faults new)
-    pub outlasts : d.Outlasts old (asking_at moment asked) [] new
 
   -- the step was taken where the flag says so, and else the desk is as it was
   abbrev pub ActedIf : Bool → Asked → Type 0

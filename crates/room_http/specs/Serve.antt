@@ -14,7 +14,7 @@ use Rattle.room_http.specs.Text.{refusal_reply, store_text}
 use Rattle.room_http.specs.Answer.{Rose}
 use Rattle.room_http.specs.Stream.{Exchange, IsExchange, exchange_text, Last, IsRequest, says_close}
 use Rattle.room_http.specs.Stream.{StartsWith, asking_at, ended_of, events_by, last_asking}
-use Rattle.room_http.specs.Stream.{last_exchange, last_text, RunsExchanges, OpensStream}
+use Rattle.room_http.specs.Stream.{last_exchange, last_text, DeskRuns, OpensStream}
 use Rattle.room_http.specs.Stream.{Stream, texts_of}
 
 -- one moment: the bytes that the reader has left and that the writer took, where they are known,
@@ -68,12 +68,9 @@ pub record Serves {D : Type 0} (d : Ghosts D) (moment : ℤ) (old new : Snapshot
   pub writes : Appends old.sent new.sent (texts_of exchanges ++ last_text last)
   pub ended_is : ended ≡ ended_of last
   pub at_end : AtEndIf last new.left
-  pub run : d.trusted new.desk → d.sound old.desk
-      → RunsExchanges (d.content old.desk) moment (exchanges ++ last_exchange last)
-      (d.content new.desk)
-  pub faults : FaultsRose last (d.faults old.desk) (d.faults new.desk)
-  pub outlasts : d.Outlasts old.desk (last_asking moment last)
+  pub did : DeskRuns d old.desk (last_asking moment last)
       (events_by moment (exchanges ++ last_exchange last)) new.desk
+  pub faults : FaultsRose last (d.faults old.desk) (d.faults new.desk)
 
 -- ---- a connection, however it ended
 
@@ -168,12 +165,9 @@ pub record Connects {D : Type 0} (d : Ghosts D) (moment : ℤ) (old new : Snapsh
   pub begun : List ℕ
   pub beginning : (back : List ℕ) × (next_text next ≡ begun ++ back)
   pub writes : Appends old.sent new.sent (texts_of exchanges ++ begun)
-  pub run : d.trusted new.desk → d.sound old.desk
-      → RunsExchanges (d.content old.desk) moment (exchanges ++ next_exchange next)
-      (d.content new.desk)
-  pub faults : NextRose next (d.faults old.desk) (d.faults new.desk)
-  pub outlasts : d.Outlasts old.desk (next_asking moment next)
+  pub did : DeskRuns d old.desk (next_asking moment next)
       (events_by moment (exchanges ++ next_exchange next)) new.desk
+  pub faults : NextRose next (d.faults old.desk) (d.faults new.desk)
 
 -- A connection that a fault ended: how many replies went out whole, whether the desk took the step
 -- of the next message, and what failed.

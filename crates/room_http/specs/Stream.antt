@@ -3,6 +3,7 @@ use Rattle.std.specs.Prelude.{◌≡◌, ℕ, ℤ, ◌+◌, ◌<◌, Bool, true,
 use Rattle.std.specs.Prelude.{◌++◌, length, Option, Some, None, Ok, Err, All, ⊤}
 use Rattle.std.specs.List.{flat_map}
 use Rattle.room_rows.specs.Content.{Content}
+use Rattle.room_machine.specs.declared.desk.Desk.{Ghosts}
 use Rattle.room_machine.specs.declared.reply.Reply.{Reply}
 use Rattle.room_machine.specs.Run.{Asking, Event, Run}
 use Rattle.http_message.specs.Reply.{reply_text, fault_text}
@@ -63,9 +64,15 @@ abbrev pub Runs : (Content → Type 0) → List Event → (Content → Type 0) �
 Runs old events new =
     (room : Content) → old room → (next : Content) × Run room events next × new next
 
--- the exchanges are such a run
-abbrev pub RunsExchanges : (Content → Type 0) → ℤ → List Exchange → (Content → Type 0) → Type 0
-RunsExchanges old moment xs new = Runs old (events_by moment xs) new
+-- What a desk did from one state to a later one: a run over these events, if it was sound before and
+-- is trusted afterwards. Of any desk it is said what outlasts them, and what was asked for and got no
+-- answer.
+pub record DeskRuns {D : Type 0} (d : Ghosts D) (old : D) (asked : List Asking)
+    (events : List Event) (new : D) : Type 0 where
+  pub trusted : d.trusted new → d.trusted old
+  pub sound : d.trusted new → d.sound old → d.sound new
+  pub run : d.trusted new → d.sound old → Runs (d.content old) events (d.content new)
+  pub outlasts : d.Outlasts old asked events new
 
 -- ---- the end
 

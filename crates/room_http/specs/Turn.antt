@@ -4,6 +4,7 @@ use Rattle.std.specs.Prelude.{slice_range, Option, Some, None, Result, Ok, Err, 
 use Rattle.std.specs.Io.KnownBytes.{Appends, Consumes, IsAtEnd}
 use Rattle.room_machine.specs.declared.desk.Desk.{Ghosts}
 use Rattle.room_http.specs.declared.ended.Ended.{Ended}
+use Rattle.room_http.specs.declared.server.Connection.{Connection}
 use Rattle.room_http.specs.declared.server.Halt.{Halt}
 use Rattle.room_http.specs.declared.next.NextMessage.{NextMessage}
 use Rattle.room_http.specs.declared.next.Upcoming.{Upcoming}
@@ -12,7 +13,7 @@ use Rattle.room_http.specs.Message.{Message, print_message, IsMessage}
 use Rattle.room_http.specs.Message.{IsRefusedHead, IsPart, head_of}
 use Rattle.room_http.specs.Stream.{Exchange, IsOpen, exchange_text, Last}
 use Rattle.room_http.specs.Stream.{EndsStream, ended_of, events_by, last_asking, last_text}
-use Rattle.room_http.specs.Stream.{last_exchange, RunsExchanges, OpensStream, texts_of}
+use Rattle.room_http.specs.Stream.{last_exchange, DeskRuns, OpensStream, texts_of}
 use Rattle.room_http.specs.Serve.{Snapshot, AtEndIf, FaultsRose, Next, IsNext, next_asking}
 use Rattle.room_http.specs.Serve.{next_exchange, next_text, did_act, Blames, NextRose, IsNearHead}
 use Rattle.room_http.specs.Serve.{NearLast, NearNext}
@@ -56,17 +57,17 @@ ComesNear buf (Upcoming.Whole next) = length buf < next.end + read_size
 module _ {D : Type 0} (d : Ghosts D) (moment : ℤ) (n : ℕ) (old new : Snapshot D) where
   -- ---- a turn, after n messages
 
-  pub record TurnsOpen (buf_old buf_new : List ℕ) : Type 0 where
+  pub record TurnsOpen (buf : List ℕ) (connection : Connection) : Type 0 where
     pub x : Exchange
     pub is_open : IsOpen x
     pub more : n + 1 < max_messages
-    pub came : Came old.left new.left buf_old (print_message x.message ++ buf_new)
-    pub near : length buf_new < read_size
+    pub counts : connection.answered ≡ n + 1
+    pub came :
+        Came old.left new.left buf (print_message x.message ++ connection.inbox.buf.items)
+    pub near : length connection.inbox.buf.items < read_size
     pub writes : Appends old.sent new.sent (exchange_text false x)
-    pub run : d.trusted new.desk → d.sound old.desk
-        → RunsExchanges (d.content old.desk) moment (x ∷ []) (d.content new.desk)
+    pub did : DeskRuns d old.desk [] (events_by moment (x ∷ [])) new.desk
     pub faults : d.faults new.desk ≡ d.faults old.desk
-    pub outlasts : d.Outlasts old.desk [] (events_by moment (x ∷ [])) new.desk
 
   pub record TurnsLast (buf : List ℕ) (ended : Ended) : Type 0 where
     pub last : Last
@@ -77,12 +78,9 @@ module _ {D : Type 0} (d : Ghosts D) (moment : ℤ) (n : ℕ) (old new : Snapsho
     pub near : NearLast last rest
     pub writes : Appends old.sent new.sent (last_text last)
     pub at_end : AtEndIf last new.left
-    pub run : d.trusted new.desk → d.sound old.desk
-        → RunsExchanges (d.content old.desk) moment (last_exchange last) (d.content new.desk)
+    pub did : DeskRuns d old.desk (last_asking moment last)
+        (events_by moment (last_exchange last)) new.desk
     pub faults : FaultsRose last (d.faults old.desk) (d.faults new.desk)
-    pub outlasts : d.Outlasts old.desk (last_asking moment last)
-        (events_by moment (last_exchange last))
-        new.desk
 
   pub record TurnsStop (buf : List ℕ) (stop : Halt) : Type 0 where
     pub next : Next
@@ -93,17 +91,14 @@ module _ {D : Type 0} (d : Ghosts D) (moment : ℤ) (n : ℕ) (old new : Snapsho
     pub writes : WritesSome old.sent new.sent (next_text next)
     pub acted : stop.acted ≡ did_act next
     pub cause : Blames stop.cause next rest writes.0 writes.1
-    pub run : d.trusted new.desk → d.sound old.desk
-        → RunsExchanges (d.content old.desk) moment (next_exchange next) (d.content new.desk)
+    pub did : DeskRuns d old.desk (next_asking moment next)
+        (events_by moment (next_exchange next)) new.desk
     pub faults : NextRose next (d.faults old.desk) (d.faults new.desk)
-    pub outlasts : d.Outlasts old.desk (next_asking moment next)
-        (events_by moment (next_exchange next))
-        new.desk
 
-  abbrev pub Turns : List ℕ → List ℕ → Result (Option Ended) Halt → Type 0
-  Turns buf_old buf_new (Ok None) = TurnsOpen buf_old buf_new
-  Turns buf_old buf_new (Ok (Some ended)) = TurnsLast buf_old ended
-  Turns buf_old buf_new (Err stop) = TurnsStop buf_old stop
+  abbrev pub Turns : List ℕ → Connection → Result (Option Ended) Halt → Type 0
+  Turns buf connection (Ok None) = TurnsOpen buf connection
+  Turns buf connection (Ok (Some ended)) = TurnsLast buf ended
+  Turns buf connection (Err stop) = TurnsStop buf stop
 
   -- ---- a connection so far
 
@@ -116,7 +111,5 @@ module _ {D : Type 0} (d : Ghosts D) (moment : ℤ) (n : ℕ) (old new : Snapsho
     pub few : n < max_messages
     pub near : length buf < read_size
     pub writes : Appends old.sent new.sent (texts_of exchanges)
-    pub run : d.trusted new.desk → d.sound old.desk
-        → RunsExchanges (d.content old.desk) moment exchanges (d.content new.desk)
+    pub did : DeskRuns d old.desk [] (events_by moment exchanges) new.desk
     pub faults : d.faults new.desk ≡ d.faults old.desk
-    pub outlasts : d.Outlasts old.desk [] (events_by moment exchanges) new.desk

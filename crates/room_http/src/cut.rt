@@ -1,5 +1,5 @@
 //! The bytes of a reader, read until a head or a body is whole.
-ghost use Rattle.std.specs.Prelude.{◌≡◌, ◌+◌, ◌<◌, ◌≤◌, length, drop, true, false, Ok, IfErr};
+ghost use Rattle.std.specs.Prelude.{◌≡◌, ◌+◌, ◌<◌, ◌≤◌, [], length, drop, true, false, Ok, IfErr};
 ghost use Rattle.std.specs.Prelude.{IfOk, OnOk, OnErr, max, not, ◌==◌};
 ghost use Rattle.std.specs.List.{filter, position};
 ghost use Rattle.std.specs.Io.KnownBytes.{IsAtEnd};
@@ -15,19 +15,37 @@ use crate::ended::Cause;
 use crate::refusal::Refusal;
 use httparse::spans::{HeaderSpan, RequestSpans, parse_request};
 use httparse::{Error, Status};
+use std::alloc::Global;
 use std::io::Read;
+use std::mem;
 
 const READ_SIZE: usize = 16_384;
 
-pub(crate) const CHUNK_SIZE: usize = 65_536;
+const CHUNK_SIZE: usize = 65_536;
 
 const MAX_HEAD: usize = 16_384;
 
-const MAX_FIELDS: usize = 64;
+pub(crate) const MAX_FIELDS: usize = 64;
+
+// The parts of a head.
+pub(crate) type Spans = [HeaderSpan; MAX_FIELDS];
+
+// What came of a connection and isn't answered yet, with room for the bytes of one read.
+#[derive(Drop)]
+pub(crate) struct Inbox {
+    pub alloc: Global,
+    pub buf: Vec<u8>,
+    pub chunk: [u8; CHUNK_SIZE],
+}
 
 // Reads at most `room` bytes through the chunk, and appends them. Zero bytes come only at the end
 // of the input.
-fn fill<R: Read>(r: &mut R, buf: &mut Vec<u8>, chunk: &mut [u8], room: usize) -> Result<bool, Cause>
+fn read_into<R: Read>(
+    r: &mut R,
+    buf: &mut Vec<u8>,
+    chunk: &mut [u8],
+    room: usize,
+) -> Result<bool, Cause>
     requires some { 0 < room }
     requires within { room ≤ length chunk.old }
     ensures came { IfOk result (λ some. Came
@@ -55,14 +73,101 @@ fn fill<R: Read>(r: &mut R, buf: &mut Vec<u8>, chunk: &mut [u8], room: usize) ->
     }
 }
 
-// Drops `count` bytes from the front.
-pub(crate) fn drop_front(buf: &mut Vec<u8>, count: usize)
-    requires { count ≤ length buf.old.items }
-    ensures { buf.new.items ≡ drop count buf.old.items }
-{
-    let rest = buf.len() - count;
-    buf.rotate_left(count);
-    buf.truncate(rest);
+impl Inbox {
+    // Nothing came yet.
+    pub(crate) fn new(alloc: Global) -> Inbox
+        ensures { result.buf.items ≡ [] }
+    {
+        Inbox {
+            alloc,
+            buf: Vec::new(alloc),
+            chunk: [0; CHUNK_SIZE],
+        }
+    }
+
+    // The same, of this inbox.
+    fn fill<R: Read>(&mut self, r: &mut R, room: usize) -> Result<bool, Cause>
+        requires some { 0 < room }
+        requires within { room ≤ chunk_size }
+        ensures came { IfOk result (λ some. Came
+            (R.remaining r.old) (R.remaining r.new) self.old.buf.items self.new.buf.items) }
+        ensures more { result ≡ Ok true → length self.old.buf.items < length self.new.buf.items }
+        ensures end { result ≡ Ok false
+            → (self.new.buf.items ≡ self.old.buf.items) × IsAtEnd (R.remaining r.new) }
+        ensures size { length self.new.buf.items ≤ length self.old.buf.items + room }
+        ensures lost { IfErr result (Loses (R.remaining r.old) (R.remaining r.new)) }
+        ensures err { OnErr result (self.new.buf.items ≡ self.old.buf.items) }
+    {
+        // Two fields behind one reference can't be lent at once.
+        let mut buf = mem::replace(&mut self.buf, Vec::new(self.alloc));
+        let filled = read_into(r, &mut buf, &mut self.chunk, room);
+        self.buf = buf;
+        filled
+    }
+
+    // Drops `count` bytes from the front.
+    pub(crate) fn drop_front(&mut self, count: usize)
+        requires { count ≤ length self.old.buf.items }
+        ensures { self.new.buf.items ≡ drop count self.old.buf.items }
+    {
+        let rest = self.buf.len() - count;
+        self.buf.rotate_left(count);
+        self.buf.truncate(rest);
+    }
+
+    // Reads until a head is there, none can be, or the input ends.
+    pub(crate) fn read_head<R: Read>(
+        &mut self,
+        r: &mut R,
+        spans: &mut Spans,
+    ) -> Result<HeadRead, Cause>
+        ensures came { OnOk result
+            (Came (R.remaining r.old) (R.remaining r.new) self.old.buf.items self.new.buf.items) }
+        ensures lost { IfErr result
+            (StopsReading (R.remaining r.old) (R.remaining r.new) self.old.buf.items) }
+        ensures head { IfOk result (HeadCame self.new.buf.items spans.new (R.remaining r.new)) }
+        ensures near { length self.old.buf.items < read_size
+            → IfOk result (HeadNear self.new.buf.items) }
+    {
+        'reading: loop {
+            match scan_head(self.buf.as_slice(), spans) {
+                HeadScan::Whole(head) => return Ok(HeadRead::Found(head)),
+                HeadScan::Refused(refusal) => return Ok(HeadRead::NotHead(refusal)),
+                HeadScan::Part => {}
+            }
+            match self.fill(r, READ_SIZE) {
+                Ok(true) => {}
+                Ok(false) => return Ok(HeadRead::Ended),
+                Err(cause) => return Err(cause),
+            }
+        }
+    }
+
+    // Reads until `total` bytes are there, or the input ends.
+    pub(crate) fn read_body<R: Read>(&mut self, r: &mut R, total: usize) -> Result<bool, Cause>
+        ensures came { OnOk result
+            (Came (R.remaining r.old) (R.remaining r.new) self.old.buf.items self.new.buf.items) }
+        ensures lost { IfErr result
+            (StopsBody (R.remaining r.old) (R.remaining r.new) self.old.buf.items total) }
+        ensures near { length self.old.buf.items < total + read_size
+            → length self.new.buf.items < total + read_size }
+        ensures whole { result ≡ Ok true → total ≤ length self.new.buf.items }
+        ensures cut { result ≡ Ok false
+            → (length self.new.buf.items < total) × IsAtEnd (R.remaining r.new) }
+    {
+        // Without this room the buffer grows step by step.
+        let wanting = total.saturating_sub(self.buf.len());
+        let _ = self.buf.reserve(wanting);
+        'reading: while self.buf.len() < total {
+            let room = room_for(total - self.buf.len());
+            match self.fill(r, room) {
+                Ok(true) => {}
+                Ok(false) => return Ok(false),
+                Err(cause) => return Err(cause),
+            }
+        }
+        Ok(true)
+    }
 }
 
 fn is_newline(byte: u8) -> bool
@@ -122,8 +227,7 @@ fn scan_window(window: &[u8], spans: &mut [HeaderSpan]) -> HeadScan
 }
 
 // Parses a head within the limits.
-fn scan_head(buf: &[u8], spans: &mut [HeaderSpan]) -> HeadScan
-    requires { length spans.old ≡ max_fields }
+fn scan_head(buf: &[u8], spans: &mut Spans) -> HeadScan
     ensures { Scans buf.now spans.new result }
 {
     scan_window(&buf[..buf.len().min(MAX_HEAD)], spans)
@@ -137,36 +241,6 @@ pub(crate) enum HeadRead {
     NotHead(Refusal),
 }
 
-// Reads until a head is there, none can be, or the input ends.
-pub(crate) fn read_head<R: Read>(
-    r: &mut R,
-    buf: &mut Vec<u8>,
-    spans: &mut [HeaderSpan],
-    chunk: &mut [u8],
-) -> Result<HeadRead, Cause>
-    requires room { length spans.old ≡ max_fields }
-    requires chunk { length chunk.old ≡ chunk_size }
-    ensures came { OnOk result
-        (Came (R.remaining r.old) (R.remaining r.new) buf.old.items buf.new.items) }
-    ensures lost { IfErr result
-        (StopsReading (R.remaining r.old) (R.remaining r.new) buf.old.items) }
-    ensures head { IfOk result (HeadCame buf.new.items spans.new (R.remaining r.new)) }
-    ensures near { length buf.old.items < read_size → IfOk result (HeadNear buf.new.items) }
-{
-    'reading: loop {
-        match scan_head(buf.as_slice(), spans) {
-            HeadScan::Whole(head) => return Ok(HeadRead::Found(head)),
-            HeadScan::Refused(refusal) => return Ok(HeadRead::NotHead(refusal)),
-            HeadScan::Part => {}
-        }
-        match fill(r, buf, chunk, READ_SIZE) {
-            Ok(true) => {}
-            Ok(false) => return Ok(HeadRead::Ended),
-            Err(cause) => return Err(cause),
-        }
-    }
-}
-
 // How many bytes are read at once where so many are wanting. What comes after a body may come with
 // it, but not more of that than one read for a head takes.
 fn room_for(wanting: usize) -> usize
@@ -175,34 +249,4 @@ fn room_for(wanting: usize) -> usize
     ensures near { result ≤ max read_size wanting }
 {
     wanting.max(READ_SIZE).min(CHUNK_SIZE)
-}
-
-// Reads until `total` bytes are there, or the input ends.
-pub(crate) fn read_body<R: Read>(
-    r: &mut R,
-    buf: &mut Vec<u8>,
-    chunk: &mut [u8],
-    total: usize,
-) -> Result<bool, Cause>
-    requires { length chunk.old ≡ chunk_size }
-    ensures came { OnOk result
-        (Came (R.remaining r.old) (R.remaining r.new) buf.old.items buf.new.items) }
-    ensures lost { IfErr result
-        (StopsBody (R.remaining r.old) (R.remaining r.new) buf.old.items total) }
-    ensures near { length buf.old.items < total + read_size
-        → length buf.new.items < total + read_size }
-    ensures whole { result ≡ Ok true → total ≤ length buf.new.items }
-    ensures cut { result ≡ Ok false
-        → (length buf.new.items < total) × IsAtEnd (R.remaining r.new) }
-{
-    // Without this room the buffer grows step by step.
-    let _ = buf.reserve(total.saturating_sub(buf.len()));
-    'reading: while buf.len() < total {
-        match fill(r, buf, chunk, room_for(total - buf.len())) {
-            Ok(true) => {}
-            Ok(false) => return Ok(false),
-            Err(cause) => return Err(cause),
-        }
-    }
-    Ok(true)
 }

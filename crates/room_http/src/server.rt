@@ -1,29 +1,26 @@
 //! A connection, over any reader, writer and desk.
 ghost use Rattle.std.specs.Prelude.{◌≡◌, ◌<◌, ◌≤◌, ◌+◌, ◌||◌, ◌==◌, ℕ, List, length, drop};
-ghost use Rattle.std.specs.Prelude.{Option, true, false, IfOk, IfErr};
+ghost use Rattle.std.specs.Prelude.{Option, Some, None, Ok, Err, true, false, IfOk, IfErr, OnOk};
 ghost use Rattle.std.specs.Io.KnownBytes.{Appends};
 ghost use Rattle.http_message.specs.Asked.{request_of};
 ghost use Rattle.http_message.specs.Close.{asks_close};
-ghost use Rattle.room_http.specs.Limits.{chunk_size, max_fields, max_messages, read_size};
+ghost use Rattle.room_http.specs.Limits.{max_messages, read_size};
 ghost use Rattle.room_http.specs.Text.{refusal_reply};
 ghost use Rattle.room_http.specs.Serve.{Connects, Serves, Stops, seen};
 ghost use Rattle.room_http.specs.Turn.{Turns, WholeNext};
-ghost use Rattle.room_http.specs.Tell.{StopsWithin, SendsReply};
+ghost use Rattle.room_http.specs.Tell.{StopsWithin, Tells};
 
-use crate::cut::{CHUNK_SIZE, drop_front};
+use crate::cut::Inbox;
 use crate::ended::{Cause, Ended, ServeFault};
-use crate::next::{NextMessage, Upcoming, next_message};
+use crate::next::{NextMessage, Upcoming};
 use crate::refusal::{Refusal, refusal_bytes, store_bytes};
-use crate::respond::respond;
-use crate::told::Response;
+use crate::respond::{Call, respond};
+use crate::told::{Lost, Response};
 use crate::write::{write_reply, write_text};
 use http_message::{Head, Routes, asks_close};
-use httparse::spans::{EMPTY_HEADER_SPAN, HeaderSpan};
 use room_machine::Desk;
 use std::alloc::Global;
 use std::io::{Read, Write};
-
-const MAX_FIELDS: usize = 64;
 
 const MAX_MESSAGES: u64 = 10_000;
 
@@ -43,41 +40,34 @@ pub(crate) enum Told {
     Failed,
 }
 
-// Answers one message, and writes the text.
-fn tell<W: Write, D: Desk>(
-    alloc: Global,
-    routes: &Routes,
-    desk: &mut D,
-    moment: i64,
-    w: &mut W,
-    head: &Head,
-    body: &[u8],
-    close: bool,
-) -> Result<Told, Halt>
-    ensures tells { SendsReply D.Desk moment desk.old desk.new close (request_of head.now body.now)
-        (W.contents w.old) (W.contents w.new) result }
-    ensures trusted { D.trusted desk.new → D.trusted desk.old }
-    ensures sound { D.trusted desk.new → D.sound desk.old → D.sound desk.new }
+// A connection so far: how many of its messages were answered, and what came after them.
+#[derive(Drop)]
+pub(crate) struct Connection {
+    pub answered: u64,
+    pub inbox: Inbox,
+}
+
+// What came of writing this, after the desk took a step or without one.
+fn after_writing(wrote: Result<(), Cause>, told: Told, acted: bool) -> Result<Told, Halt>
+    ensures ok { OnOk wrote (result ≡ Ok told) }
+    ensures err { IfErr wrote (λ why. result ≡ Err (record { acted = acted; cause = why })) }
 {
-    match respond(alloc, routes, desk, moment, head, body, close) {
-        Ok(Response::Refused(text)) => match write_text(w, text.as_slice()) {
-            Ok(()) => Ok(Told::Answered),
-            Err(cause) => Err(Halt {
-                acted: false,
-                cause,
-            }),
-        },
-        Ok(Response::Replied(text)) => match write_reply(w, &text) {
-            Ok(()) => Ok(Told::Answered),
-            Err(cause) => Err(Halt { acted: true, cause }),
-        },
-        Ok(Response::Fault) => match write_text(w, store_bytes()) {
-            Ok(()) => Ok(Told::Failed),
-            Err(cause) => Err(Halt {
-                acted: false,
-                cause,
-            }),
-        },
+    match wrote {
+        Ok(()) => Ok(told),
+        Err(cause) => Err(Halt { acted, cause }),
+    }
+}
+
+// Writes the text of a response.
+fn tell<W: Write>(w: &mut W, response: Result<Response, Lost>) -> Result<Told, Halt>
+    ensures { Tells response (W.contents w.old) (W.contents w.new) result }
+{
+    match response {
+        Ok(Response::Refused(text)) => {
+            after_writing(write_text(w, text.as_slice()), Told::Answered, false)
+        }
+        Ok(Response::Replied(text)) => after_writing(write_reply(w, &text), Told::Answered, true),
+        Ok(Response::Fault) => after_writing(write_text(w, store_bytes()), Told::Failed, false),
         Err(lost) => Err(Halt {
             acted: lost.acted,
             cause: Cause::Memory,
@@ -96,44 +86,45 @@ fn says_close(head: &Head, answered: u64) -> bool
 // Answers the message at the front of the bytes, and drops it from there if the connection stays
 // open.
 fn take_message<W: Write, D: Desk>(
-    alloc: Global,
-    routes: &Routes,
+    call: &Call<'_>,
     desk: &mut D,
-    moment: i64,
     w: &mut W,
-    buf: &mut Vec<u8>,
+    connection: &mut Connection,
     next: NextMessage,
-    answered: u64,
 ) -> Result<Option<Ended>, Halt>
-    requires few { answered < max_messages }
-    requires next { WholeNext buf.old.items next }
-    ensures turn { (left : Option (List ℕ)) → length buf.old.items < next.end + read_size
-        → Turns D.Desk moment answered (seen left (W.contents w.old) desk.old)
-        (seen left (W.contents w.new) desk.new) buf.old.items buf.new.items result }
-    ensures trusted { D.trusted desk.new → D.trusted desk.old }
-    ensures sound { D.trusted desk.new → D.sound desk.old → D.sound desk.new }
+    requires few { connection.old.answered < max_messages }
+    requires next { WholeNext connection.old.inbox.buf.items next }
+    ensures { (left : Option (List ℕ))
+        → length connection.old.inbox.buf.items < next.end + read_size
+        → Turns D.Desk call.now.moment connection.old.answered
+        (seen left (W.contents w.old) desk.old) (seen left (W.contents w.new) desk.new)
+        connection.old.inbox.buf.items connection.new result }
 {
-    let close = says_close(&next.head, answered);
-    let body = &buf[next.start..next.end];
-    let told = match tell(alloc, routes, desk, moment, w, &next.head, body, close) {
+    let close = says_close(&next.head, connection.answered);
+    let body = &connection.inbox.buf[next.start..next.end];
+    let response = respond(call, desk, &next.head, body, close);
+    let told = match tell(w, response) {
         Ok(told) => told,
-        Err(stop) => return Err(stop),
+        Err(halt) => return Err(halt),
     };
     match told {
         Told::Failed => Ok(Some(Ended::Closed)),
-        Told::Answered => Ok(behind_reply(buf, next.end, close)),
+        Told::Answered => Ok(behind_reply(connection, next.end, close)),
     }
 }
 
 // What a whole reply leaves of the connection: its end, or the bytes after the message.
-fn behind_reply(buf: &mut Vec<u8>, end: usize, close: bool) -> Option<Ended>
-    requires { end ≤ length buf.old.items }
+fn behind_reply(connection: &mut Connection, end: usize, close: bool) -> Option<Ended>
+    requires few { connection.old.answered < max_messages }
+    requires within { end ≤ length connection.old.inbox.buf.items }
     ensures closes { close ≡ true → result ≡ Some Ended.Closed }
-    ensures stays { close ≡ false
-        → (result ≡ None) × (buf.new.items ≡ drop end buf.old.items) }
+    ensures stays { close ≡ false → (result ≡ None)
+        × (connection.new.inbox.buf.items ≡ drop end connection.old.inbox.buf.items) }
+    ensures counts { close ≡ false → connection.new.answered ≡ connection.old.answered + 1 }
 {
     if !close {
-        drop_front(buf, end);
+        connection.inbox.drop_front(end);
+        connection.answered += 1;
         return None;
     }
     Some(Ended::Closed)
@@ -163,28 +154,20 @@ fn refuse<W: Write>(alloc: Global, w: &mut W, refusal: Refusal) -> Result<Option
 
 // Reads, answers and writes once.
 fn turn<R: Read, W: Write, D: Desk>(
-    alloc: Global,
-    routes: &Routes,
+    call: &Call<'_>,
     desk: &mut D,
-    moment: i64,
     r: &mut R,
     w: &mut W,
-    buf: &mut Vec<u8>,
-    spans: &mut [HeaderSpan],
-    chunk: &mut [u8],
-    answered: u64,
+    connection: &mut Connection,
 ) -> Result<Option<Ended>, Halt>
-    requires few { answered < max_messages }
-    requires room { length spans.old ≡ max_fields }
-    requires chunk { length chunk.old ≡ chunk_size }
-    ensures turn { length buf.old.items < read_size → Turns D.Desk moment answered
+    requires { connection.old.answered < max_messages }
+    ensures { length connection.old.inbox.buf.items < read_size
+        → Turns D.Desk call.now.moment connection.old.answered
         (seen (R.remaining r.old) (W.contents w.old) desk.old)
         (seen (R.remaining r.new) (W.contents w.new) desk.new)
-        buf.old.items buf.new.items result }
-    ensures trusted { D.trusted desk.new → D.trusted desk.old }
-    ensures sound { D.trusted desk.new → D.sound desk.old → D.sound desk.new }
+        connection.old.inbox.buf.items connection.new result }
 {
-    let next = match next_message(alloc, r, buf, spans, chunk) {
+    let next = match connection.inbox.next_message(r) {
         Ok(next) => next,
         Err(cause) => {
             return Err(Halt {
@@ -194,8 +177,8 @@ fn turn<R: Read, W: Write, D: Desk>(
         }
     };
     match next {
-        Upcoming::Whole(next) => take_message(alloc, routes, desk, moment, w, buf, next, answered),
-        Upcoming::Refused(refusal) => refuse(alloc, w, refusal),
+        Upcoming::Whole(next) => take_message(call, desk, w, connection, next),
+        Upcoming::Refused(refusal) => refuse(connection.inbox.alloc, w, refusal),
         Upcoming::Clean => Ok(Some(Ended::Clean)),
         Upcoming::Cut => Ok(Some(Ended::Cut)),
     }
@@ -205,7 +188,6 @@ fn turn<R: Read, W: Write, D: Desk>(
 /// asked at this moment, in seconds from 1970-01-01 00:00 UTC. The first error of the reader or the
 /// writer, or of memory, is the error, with what was done before.
 pub fn serve<R: Read, W: Write, D: Desk>(
-    alloc: Global,
     routes: &Routes,
     desk: &mut D,
     moment: i64,
@@ -221,29 +203,24 @@ pub fn serve<R: Read, W: Write, D: Desk>(
     ensures stops { IfErr result (Stops D.Desk moment
         (seen (R.remaining r.old) (W.contents w.old) desk.old)
         (seen (R.remaining r.new) (W.contents w.new) desk.new)) }
-    ensures trusted { D.trusted desk.new → D.trusted desk.old }
-    ensures sound { D.trusted desk.new → D.sound desk.old → D.sound desk.new }
 {
-    let mut buf = Vec::new(alloc);
-    let mut spans = [EMPTY_HEADER_SPAN; MAX_FIELDS];
-    let mut chunk = [0; CHUNK_SIZE];
-    for answered in 0..MAX_MESSAGES {
-        let ended = match turn(
-            alloc, routes, desk, moment, r, w, &mut buf, &mut spans, &mut chunk, answered,
-        ) {
-            Ok(ended) => ended,
-            Err(stop) => {
+    let call = Call { routes, moment };
+    let mut connection = Connection {
+        answered: 0,
+        inbox: Inbox::new(routes.alloc()),
+    };
+    'turns: loop {
+        let answered = connection.answered;
+        match turn(&call, desk, r, w, &mut connection) {
+            Ok(None) => {}
+            Ok(Some(ended)) => return Ok(ended),
+            Err(halt) => {
                 return Err(ServeFault {
                     answered,
-                    acted: stop.acted,
-                    cause: stop.cause,
+                    acted: halt.acted,
+                    cause: halt.cause,
                 });
             }
-        };
-        match ended {
-            Some(ended) => return Ok(ended),
-            None => {}
         }
     }
-    unreachable!()
 }

@@ -35,8 +35,6 @@ pub(crate) fn write_reply<W: Write>(w: &mut W, text: &ReplyText) -> Result<(), C
     ensures cause { IfErr result (λ cause. cause ≡ Cause.Write) }
 {
     let (front, rest) = text.parts();
-    match write_text(w, front) {
-        Ok(()) => write_text(w, rest),
-        Err(cause) => Err(cause),
-    }
+    write_text(w, front)?;
+    write_text(w, rest)
 }

@@ -1,6 +1,6 @@
 -- Requests that were judged by the stored lists.
-use Rattle.std.proofs.Common.{◌≡◌, ℕ, Bool, true, false, List, [], ◌∷◌, Option, Some, None, refl}
-use Rattle.std.proofs.Common.{sym, ap, subst, ◌∙◌, inl, inr}
+use Rattle.std.proofs.Common.{◌≡◌, ℕ, Bool, true, false, List, [], ◌∷◌, ◌++◌, Option, Some, None}
+use Rattle.std.proofs.Common.{refl, sym, ap, subst, ◌∙◌, inl, inr}
 use Rattle.std.specs.Prelude.{IsTrue, is_some, ◌||◌, if◌then◌else◌}
 use Rattle.room_entry.specs.declared.parties.Caller.{Caller}
 use Rattle.room_eval.specs.declared.outcome.Verdict.{Verdict}
@@ -8,6 +8,8 @@ use Rattle.room_eval.specs.declared.outcome.Verdict.TheVariants.{Granted, Denied
 use Rattle.room_eval.specs.declared.deletion.DeleteVerdict.{DeleteVerdict}
 use Rattle.room_eval.specs.declared.deletion.DeleteVerdict.TheVariants.{Granted as MayDelete}
 use Rattle.room_eval.specs.declared.deletion.DeleteVerdict.TheVariants.{AtTarget, AtParent}
+use Rattle.room_rows.specs.Content.{Content}
+use Rattle.room_rows.specs.Keep.{with_content}
 use Rattle.room_rows.specs.Rows.{Rows}
 use Rattle.room_machine.specs.declared.reply.Reply.{Reply}
 use Rattle.room_machine.specs.declared.reply.Reply.TheVariants.{Refused}
@@ -18,9 +20,11 @@ use Rattle.room_machine.specs.declared.request.Request.TheVariants.{Remove}
 use Rattle.room_machine.specs.Site.{Site, site_at}
 use Rattle.room_machine.specs.Plan.{Item, Check, Deletion, Refusal}
 use Rattle.room_machine.specs.Judge.{failure, first_failure, of_deletion, of_verdict, or_else}
+use Rattle.room_machine.specs.Judge.{records_of_plan}
 use Rattle.room_judge.specs.declared.asker.Asker.{Asker}
-use Rattle.room_judge.specs.Judged.{IsJudged}
+use Rattle.room_judge.specs.Judged.{IsJudged, with_notes}
 use Rattle.room_machine.specs.Stored.{stored_along, stored_plan}
+use Rattle.room_machine.specs.Changed.{IsChanged}
 use Rattle.room_machine.specs.Closed.{IsShown, only_reads, failure_told}
 use Rattle.room_judge.specs.Closed.{IsClosed}
 
@@ -74,6 +78,7 @@ module _ (asker : Asker) (request : Request) (old : Rows) (reply : Reply) where
         records = ap (λ (r : Rows). r.read.audits) judged.notes;
         unchanged = λ _. judged.notes;
         shown = λ none. absurd (some_none (sym told ∙ none));
+        changed = λ none. absurd (some_none (sym told ∙ none));
       }
     where
       some_none : Some reply ≡ None → ⊥
@@ -95,6 +100,7 @@ module _ (asker : Asker) (request : Request) (old : Rows) (reply : Reply) where
     records = ap (λ (r : Rows). r.read.audits) judged.notes;
     unchanged = λ _. judged.notes;
     shown = λ none. absurd (some_none (sym (ap failure_told refused) ∙ none));
+    changed = λ none. absurd (some_none (sym (ap failure_told refused) ∙ none));
   }
     where
       some_none : Some (Refused path NotEmpty) ≡ None → ⊥
@@ -103,24 +109,31 @@ module _ (asker : Asker) (request : Request) (old : Rows) (reply : Reply) where
   -- none fails, and nothing but records is changed
   pub closed_asked : (new : Rows) → IsJudged asker (stored_plan old.read request) old None new
       → failure_told reply ≡ None → IsShown old asker.caller request reply
-      → IsClosed asker request old reply new
-  closed_asked new judged none shown = record {
+      → IsChanged old asker.caller request old.read → IsClosed asker request old reply new
+  closed_asked new judged none shown still = record {
     judged = inl (sym judged.answers ∙ sym none);
     records = ap (λ (r : Rows). r.read.audits) judged.notes;
     unchanged = λ _. judged.notes;
     shown = λ _. shown;
+    changed = λ _. (old.read, still, judged.notes);
   }
 
-  -- none fails, and what is changed then leaves the records as they are
+  -- none fails, and the content becomes this one, with the records of the plan
   pub closed_done : (mid new : Rows)
       → IsJudged asker (stored_plan old.read request) old None mid → only_reads request ≡ false
-      → failure_told reply ≡ None → new.read.audits ≡ mid.read.audits
-      → IsShown old asker.caller request reply → IsClosed asker request old reply new
-  closed_done mid new judged writes none same shown = record {
+      → failure_told reply ≡ None → (next : Content) → next.audits ≡ old.read.audits
+      → new ≡ with_notes (with_content old next)
+      (records_of_plan asker.caller asker.moment (stored_plan old.read request))
+      → IsShown old asker.caller request reply → IsChanged old asker.caller request next
+      → IsClosed asker request old reply new
+  closed_done mid new judged writes none next same becomes shown changes = record {
     judged = inl (sym judged.answers ∙ sym none);
-    records = same ∙ ap (λ (r : Rows). r.read.audits) judged.notes;
-    unchanged = λ changes. absurd (never (only_reads request) (failure_told reply) writes none changes);
+    records = ap (λ (r : Rows). r.read.audits) becomes
+        ∙ ap (λ audits. audits
+        ++ records_of_plan asker.caller asker.moment (stored_plan old.read request)) same;
+    unchanged = λ asks. absurd (never (only_reads request) (failure_told reply) writes none asks);
     shown = λ _. shown;
+    changed = λ _. (next, changes, becomes);
   }
     where
       never : (asks : Bool) (told : Option Reply) → asks ≡ false → told ≡ None

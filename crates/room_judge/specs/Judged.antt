@@ -28,6 +28,7 @@ use Rattle.room_machine.specs.declared.reply.Reply.{Reply}
 use Rattle.room_machine.specs.declared.reply.Reply.TheVariants.{Refused}
 use Rattle.room_machine.specs.declared.reply.Reason.TheVariants.{NotFolder, NoSuch}
 use Rattle.room_machine.specs.declared.request.Request.{Request}
+use Rattle.room_machine.specs.Closed.{IsResetClosed}
 use Rattle.room_machine.specs.Site.{Site, site_at}
 use Rattle.room_machine.specs.Plan.{Item, Check, Refusal, no_folder, no_document}
 use Rattle.room_machine.specs.Judge.{first_failure, records_of_plan}
@@ -174,12 +175,19 @@ abbrev pub CarriesOut : Asker → Request → Rows → Reply → Rows → Type 0
 CarriesOut asker request old reply new = IsKnown asker old → AreSound old
     → IsStepOfRows asker.caller.user asker.moment request old reply new
 
--- What the operator's reset promises: from sound rows it is that step, and the rows are sound
--- again.
+-- From sound rows the operator's reset is that step, and the rows are sound again.
 pub record IsResetOfRows (path : List (List ℕ)) (which : Which) (sent : Sent) (old : Rows)
     (reply : Reply) (new : Rows) : Type 0 where
   pub reset : Reset (meaning old.read) path which sent reply (meaning new.read)
   pub sound : AreSound new
 
-abbrev pub Resets : List (List ℕ) → Which → Sent → Rows → Reply → Rows → Type 0
-Resets path which sent old reply new = AreSound old → IsResetOfRows path which sent old reply new
+abbrev pub ResetsSound : List (List ℕ) → Which → Sent → Rows → Reply → Rows → Type 0
+ResetsSound path which sent old reply new =
+    AreSound old → IsResetOfRows path which sent old reply new
+
+-- What `reset` promises: from sound rows a step of the operator, and on any rows that the list is
+-- set, or refused.
+pub record Resets (path : List (List ℕ)) (which : Which) (sent : Sent) (old : Rows)
+    (reply : Reply) (new : Rows) : Type 0 where
+  pub step : ResetsSound path which sent old reply new
+  pub closed : IsResetClosed path which sent old reply new

@@ -18,8 +18,8 @@ use Rattle.room_machine.specs.declared.reply.Reply.TheVariants.{Made, Done, Deni
 use Rattle.room_machine.specs.declared.reply.Reason.TheVariants.{Exists}
 use Rattle.room_machine.specs.Site.{Site, parent_at, site_at}
 use Rattle.room_machine.specs.Plan.{Check, Item, Refusal, put_items, target_by, way, where_found}
-use Rattle.room_machine.specs.Stored.{stored_along, stored_from, stored_plan}
-use Rattle.room_machine.specs.Closed.{AtFree, AtStored, IsShown, TellsFailure}
+use Rattle.room_machine.specs.Stored.{AtFree, AtStored, stored_along, stored_from, stored_plan}
+use Rattle.room_machine.specs.Closed.{IsShown, TellsFailure}
 use Rattle.room_machine.specs.Closed.{failure_told}
 use Rattle.room_machine.specs.Judge.{first_failure}
 use Rattle.room_machine.specs.Step.{caller_in}

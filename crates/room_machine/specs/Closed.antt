@@ -1,9 +1,13 @@
 -- What a request does where rows may be damaged: nothing is served, shown or changed that the
--- stored lists don't grant.
+-- stored lists don't grant, and nothing else is changed.
 use Rattle.std.specs.Prelude.{◌≡◌, ℕ, ℤ, ◌⊎◌, ◌||◌, Bool, true, false, List, [], ◌++◌}
 use Rattle.std.specs.Prelude.{Option, Some, None, is_some, IsTrue}
+use Rattle.room_entry.specs.Valid.{first_bad_entry}
+use Rattle.room_entry.specs.declared.fault.EntryFault.{EntryFault}
 use Rattle.room_entry.specs.declared.object.ObjKind.{ObjKind}
+use Rattle.room_entry.specs.declared.object.Which.{Which}
 use Rattle.room_entry.specs.declared.parties.Caller.{Caller}
+use Rattle.room_ace.specs.Sent.{Sent}
 use Rattle.room_rows.specs.declared.node.AuditRow.{AuditRow}
 use Rattle.room_rows.specs.Content.{Content, body_of, with_records}
 use Rattle.room_rows.specs.Held.{held_of}
@@ -12,7 +16,7 @@ use Rattle.room_rows.specs.Rows.{Rows}
 use Rattle.room_machine.specs.declared.reply.Reply.{Reply}
 use Rattle.room_machine.specs.declared.reply.Reply.TheVariants.{Bytes, Names, Lists, Attr, Rulings}
 use Rattle.room_machine.specs.declared.reply.Reply.TheVariants.{Made, Done, Denied, Refused}
-use Rattle.room_machine.specs.declared.reply.Reason.TheVariants.{NotEmpty}
+use Rattle.room_machine.specs.declared.reply.Reason.TheVariants.{BadList, NotEmpty}
 use Rattle.room_machine.specs.declared.request.Request.{Request}
 use Rattle.room_machine.specs.declared.request.Request.TheVariants.{Read, List as ListFolder, Put}
 use Rattle.room_machine.specs.declared.request.Request.TheVariants.{Append, MakeFolder, Remove}
@@ -20,9 +24,10 @@ use Rattle.room_machine.specs.declared.request.Request.TheVariants.{Move, ReadLi
 use Rattle.room_machine.specs.declared.request.Request.TheVariants.{ReadAttr, SetOwners, Can}
 use Rattle.room_machine.specs.Effect.{names_at, rulings}
 use Rattle.room_machine.specs.Judge.{first_failure, records_of_plan}
-use Rattle.room_machine.specs.Site.{Site, front, full_at, parent_at, site_at}
+use Rattle.room_machine.specs.Changed.{IsChanged, SetsList}
+use Rattle.room_machine.specs.Site.{Site, front, full_at, site_at}
 use Rattle.room_machine.specs.Step.{caller_in}
-use Rattle.room_machine.specs.Stored.{stored_along, stored_plan}
+use Rattle.room_machine.specs.Stored.{AtFree, AtStored, stored_along, stored_plan}
 
 -- the denial or the refusal that a reply tells
 abbrev pub failure_told : Reply → Option Reply
@@ -35,16 +40,6 @@ failure_told Made = None
 failure_told Done = None
 failure_told (Denied path bits place entry) = Some (Denied path bits place entry)
 failure_told (Refused path why) = Some (Refused path why)
-
--- the object that the walk along the path finds, with its stored lists
-abbrev pub AtStored : Content → List (List ℕ) → (Site → Type 0) → Type 0
-AtStored rows path P =
-    (target : Site) × (site_at (stored_along rows path) path ≡ Some target) × P target
-
--- the folder of the path's last name, where the walk finds it, and nothing at the path
-abbrev pub AtFree : Content → List (List ℕ) → (Site → Type 0) → Type 0
-AtFree rows path P = (folder : Site) × (parent_at (stored_along rows path) path ≡ Some folder)
-    × (site_at (stored_along rows path) path ≡ None) × P folder
 
 -- Where rows can't be read, more may be refused than the plan says: an object that the walk finds
 -- isn't removed if such a row may be its child.
@@ -77,9 +72,8 @@ only_reads (SetList path which sent) = false
 only_reads (SetOwners path owners) = false
 
 -- What is shown is what the object at the path has. Names are told of the rows where all of them
--- can be read. What is changed is an object that the walk finds, and what is made or moved comes
--- into a folder that it finds. So there is a root, and the plan has the checks of that object and
--- of that folder.
+-- can be read. To be changed, the object has to be found, and the folder of what is made or moved.
+-- So there is a root, and the plan has the checks of that object and of that folder.
 abbrev pub IsShown : Rows → Caller → Request → Reply → Type 0
 IsShown rows caller (Read path) reply = AtStored rows.read path (λ target.
     (bytes : List ℕ) × (reply ≡ Bytes bytes) × (body_of rows.read target.node.id ≡ Some bytes))
@@ -112,8 +106,8 @@ stored_records caller moment rows request =
 -- Whatever the rows are, the request is judged by the lists as they are stored, and each item
 -- before the first that fails has passed: what is served was granted, and a denial names an entry
 -- that is stored. The records of the checks are added. Who asks only changes nothing else, nor does
--- who is refused. What is shown is what the object at the path has, and what is changed is an
--- object that the walk finds.
+-- who is refused. What is shown is what the object at the path has. A change that is served leaves
+-- the rest of the rows as they were, those that can't be read among them.
 pub record IsClosedFor (caller : Caller) (moment : ℤ) (request : Request) (old : Rows)
     (reply : Reply) (new : Rows) : Type 0 where
   pub judged : TellsFailure old request reply
@@ -124,8 +118,29 @@ pub record IsClosedFor (caller : Caller) (moment : ℤ) (request : Request) (old
       → new ≡ with_content old
       (with_records old.read (stored_records caller moment old.read request))
   pub shown : failure_told reply ≡ None → IsShown old caller request reply
+  pub changed : failure_told reply ≡ None → (next : Content) × IsChanged old caller request next
+      × (new ≡ with_content old
+      (with_records next (stored_records caller moment old.read request)))
 
 -- the same for the caller of this name, or without one, with the groups of the rows
 abbrev pub FailsClosed : Option (List ℕ) → ℤ → Request → Rows → Reply → Rows → Type 0
 FailsClosed user moment request old reply new =
     IsClosedFor (caller_in old.read user) moment request old reply new
+
+-- ---- the operator's reset
+
+-- the reply to a list for the object at this path, by its first entry that may not stand there
+abbrev pub listed_reply : List (List ℕ) → Option EntryFault → Reply
+listed_reply path None = Done
+listed_reply path (Some fault) = Refused path (BadList fault.place fault.why)
+
+-- Whatever the rows are, a list is set as by a request, where the walk finds the object and each
+-- entry may stand in its list. Otherwise it is refused, and nothing is changed. No rights are
+-- checked, and no record is left.
+pub record IsResetClosed (path : List (List ℕ)) (which : Which) (sent : Sent) (old : Rows)
+    (reply : Reply) (new : Rows) : Type 0 where
+  pub found : (target : Site) → site_at (stored_along old.read path) path ≡ Some target
+      → reply ≡ listed_reply path (first_bad_entry 1 which target.node.kind sent.entries)
+  pub unchanged : IsTrue (is_some (failure_told reply)) → new ≡ old
+  pub changed : failure_told reply ≡ None → AtStored old.read path (λ target. (next : Content)
+      × SetsList old.read which sent target.node next × (new ≡ with_content old next))

@@ -6,7 +6,7 @@ use Rattle.room_rows.specs.Rows.{Rows}
 use Rattle.room_machine.specs.Closed.{FailsClosed}
 use Rattle.room_machine.specs.declared.reply.Reply.{Reply}
 use Rattle.room_machine.specs.declared.request.Request.{Request}
-use Rattle.room_machine.specs.Run.{Asking, Event}
+use Rattle.room_machine.specs.Run.{Asking, ClosedRun, Event}
 use Rattle.room_machine.specs.Step.{Step}
 
 -- A reply is that of a step from the content before to the content after. A fault leaves the
@@ -24,6 +24,12 @@ abbrev pub Closes : {E : Type 0} → (Rows → Type 0) → Option (List ℕ) →
 Closes old user moment request (Ok reply) new = (rows : Rows) → old rows → (next : Rows)
     × FailsClosed user moment request rows reply next × new next
 Closes old user moment request (Err fault) new = (rows : Rows) → old rows → new rows
+
+-- From the rows that are stored before, sound or not, these events lead to those that are stored
+-- after.
+abbrev pub RunsClosed : (Rows → Type 0) → List Event → (Rows → Type 0) → Type 0
+RunsClosed old events new = (rows : Rows) → old rows → (next : Rows)
+    × ClosedRun rows events next × new next
 
 -- the count of faults after one more answer
 abbrev pub fault_counted : {A E : Type 0} → Result A E → ℕ → ℕ

@@ -7,4 +7,6 @@ pub mod Run
 pub mod Laws
 pub mod Desk
 pub mod Stored
+pub mod Changed
 pub mod Closed
+pub mod Rights

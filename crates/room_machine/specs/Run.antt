@@ -1,10 +1,13 @@
 -- Runs of the room machine.
 use Rattle.std.specs.Prelude.{◌≡◌, ℕ, ℤ, List, [], ◌∷◌, ◌++◌, Option, Result, Ok, Err}
 use Rattle.room_entry.specs.declared.object.Which.{Which}
-use Rattle.room_rows.specs.Content.{Content}
+use Rattle.room_rows.specs.Content.{Content, with_members}
+use Rattle.room_rows.specs.Keep.{with_content}
+use Rattle.room_rows.specs.Rows.{Rows}
 use Rattle.room_ace.specs.Sent.{Sent}
 use Rattle.room_machine.specs.declared.request.Request.{Request}
 use Rattle.room_machine.specs.declared.reply.Reply.{Reply}
+use Rattle.room_machine.specs.Closed.{FailsClosed, IsResetClosed}
 use Rattle.room_machine.specs.Step.{Step, Reset, ReplaceMembers}
 
 -- What happens: a request at a moment, of a user or of a caller without a name, and its reply; or a
@@ -40,7 +43,31 @@ Run content [] after = after ≡ content
 Run content (event ∷ events) after = (mid : Content) × Happens content event mid
     × Run mid events after
 
+-- ---- on any rows
+
+-- What happens where the rows needn't be sound: a request is judged by the lists as they are
+-- stored.
+abbrev pub HappensClosed : Rows → Event → Rows → Type 0
+HappensClosed rows (Asked user moment request reply) next =
+    FailsClosed user moment request rows reply next
+HappensClosed rows (WasReset path which sent reply) next =
+    IsResetClosed path which sent rows reply next
+HappensClosed rows (Replaced pairs) next = next ≡ with_content rows (with_members rows.read pairs)
+
+-- From one set of rows to another by these events, one after the other.
+abbrev pub ClosedRun : Rows → List Event → Rows → Type 0
+ClosedRun rows [] next = next ≡ rows
+ClosedRun rows (event ∷ events) next = (mid : Rows) × HappensClosed rows event mid
+    × ClosedRun mid events next
+
+-- ---- laws
+
 -- Two runs that meet are one run.
 abbrev pub RunsMeet : Type 0
 RunsMeet = (content mid after : Content) (events others : List Event) → Run content events mid
     → Run mid others after → Run content (events ++ others) after
+
+-- The same on any rows.
+abbrev pub ClosedRunsMeet : Type 0
+ClosedRunsMeet = (rows mid next : Rows) (events others : List Event) → ClosedRun rows events mid
+    → ClosedRun mid others next → ClosedRun rows (events ++ others) next

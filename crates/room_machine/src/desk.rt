@@ -20,7 +20,10 @@ pub trait Desk {
     // This is what the desk keeps, as far as it is known.
     ghost content: { Self → Content → Type 0 };
 
-    // These are the rows that the desk has stored, sound or not, as far as they are known.
+    // What the desk has stored are rows of a room, sound or not.
+    ghost formed: { Self → Type 0 };
+
+    // These are the rows that the desk has stored, as far as they are known.
     ghost stored: { Self → Rows → Type 0 };
 
     // What the desk keeps is sound.
@@ -43,7 +46,7 @@ pub trait Desk {
     /// Carries out one request of a caller, who is anonymous without a name, at a moment in seconds
     /// from 1970-01-01 00:00 UTC. A denial or a refusal is a reply. The error is a fault of the
     /// desk, which leaves what is kept as it was. Of damaged rows too, nothing is served, shown or
-    /// changed that the lists that they store don't grant.
+    /// changed that the lists that they store don't grant, and nothing else is changed.
     fn run(
         &mut self,
         alloc: Global,
@@ -80,6 +83,9 @@ pub trait Desk {
 
     // There is a content that the desk keeps.
     ghost keeps: { (desk : Self) → (room : Content) × content desk room };
+
+    // There are rows that the desk has stored, sound or not.
+    ghost holds: { (desk : Self) → formed desk → (rows : Rows) × stored desk rows };
 
     // What outlasts is said of a state and itself, and of states one after the other.
     ghost laws: { DeskLaws Outlasts };

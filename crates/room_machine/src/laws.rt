@@ -1,11 +1,16 @@
 //! Laws of the room machine.
-ghost use Rattle.room_machine.specs.Run.{RunsMeet};
+ghost use Rattle.room_machine.specs.Run.{ClosedRunsMeet, RunsMeet};
 ghost use Rattle.room_machine.specs.Laws.{AnswersNeedRoot, Hides, HidesStored, ReadsOnly};
 ghost use Rattle.room_machine.specs.Laws.{SomeFree};
 
 /// Two runs that meet are one run.
 pub fn two_runs_meet()
     ensures { RunsMeet }
+{}
+
+/// On rows that needn't be sound too.
+pub fn closed_runs_meet()
+    ensures { ClosedRunsMeet }
 {}
 
 /// The reply to a request that only reads depends on what is along its path, on the caller's groups

@@ -30,6 +30,10 @@ abbrev pub TriesClosed : Option (List ℕ) → ℤ → Request → MemKeep → R
 TriesClosed user moment request old reply new = AreRows (rows_in old)
     → FailsClosed user moment request (rows_in old) reply (rows_in new) × AreRows (rows_in new)
 
+-- its rows meet what holds of every keeper's rows, sound or not
+abbrev pub IsFormed : MemKeep → Type 0
+IsFormed keep = AreRows (rows_in keep)
+
 -- the keeper has these rows
 abbrev pub HasRows : MemKeep → Rows → Type 0
 HasRows keep rows = AreRows (rows_in keep) × (rows_in keep ≡ rows)

@@ -2,9 +2,11 @@
 ghost use Rattle.std.specs.Prelude.{◌≡◌, IfOk, ⊤, refl};
 ghost use Rattle.std.specs.Option.{option_copied};
 ghost use Rattle.room_rows.specs.Keep.{one_more};
+ghost use Rattle.room_tree.specs.Memory.{rows_in};
 ghost use Rattle.room_memory.specs.Memory.{
   content_in,
   HasRows,
+  IsFormed,
   IsSoundKeep,
   Tries,
   TriesClosed,
@@ -70,6 +72,8 @@ impl MemDesk {
 impl Desk for MemDesk {
     ghost content = { λ desk room. content_in desk.keep ≡ room };
 
+    ghost formed = { λ desk. IsFormed desk.keep };
+
     ghost stored = { λ desk rows. HasRows desk.keep rows };
 
     ghost sound = { λ desk. IsSoundKeep desk.keep };
@@ -108,6 +112,8 @@ impl Desk for MemDesk {
     }
 
     ghost keeps = { λ desk. (content_in desk.keep, refl) };
+
+    ghost holds = { λ desk formed. (rows_in desk.keep, (formed, refl)) };
 
     ghost laws = { record {
       itself = λ _. tt;

@@ -1,5 +1,6 @@
 //! One answer that was read, with its question.
-ghost use Rattle.std.specs.Prelude.{◌≡◌, IfOk, IfSome};
+ghost use Rattle.std.specs.Prelude.{◌≡◌, ◌||◌, IfOk, IfSome, length, nat_lt};
+ghost use Rattle.room_rows.specs.Held.{full_of};
 
 use room_entry::{Name, Names, ObjKind};
 use room_rows::{Held, Listing, Node, Text};
@@ -169,21 +170,30 @@ impl Known {
 }
 
 /// Whether an object takes so much memory that it isn't remembered.
-pub(crate) fn is_large(node: &Node) -> bool {
+pub(crate) fn is_large(node: &Node) -> bool
+    ensures { result ≡ (nat_lt MOST_ENTRIES (length (full_of node.now.dacl))
+        || nat_lt MOST_ENTRIES (length (full_of node.now.sacl))) }
+{
     has_many(&node.dacl) || has_many(&node.sacl)
 }
 
-fn has_many(list: &Held) -> bool {
+fn has_many(list: &Held) -> bool
+    ensures { result ≡ nat_lt MOST_ENTRIES (length (full_of list.now)) }
+{
     list.full().len() > MOST_ENTRIES
 }
 
 /// Whether a listing takes so much memory that it isn't remembered.
-pub(crate) fn is_long(names: &Listing) -> bool {
+pub(crate) fn is_long(names: &Listing) -> bool
+    ensures { result ≡ nat_lt MOST_NAMES (length names.now) }
+{
     names.as_slice().len() > MOST_NAMES
 }
 
 /// Whether the groups take so much memory that they aren't remembered.
-pub(crate) fn are_many(groups: &Names) -> bool {
+pub(crate) fn are_many(groups: &Names) -> bool
+    ensures { result ≡ nat_lt MOST_GROUPS (length groups.now) }
+{
     groups.as_slice().len() > MOST_GROUPS
 }
 

@@ -22,9 +22,9 @@ use Rattle.room_machine.specs.Stored.{stored_along}
 use Rattle.room_desk.proofs.Sound.Filled.{site_filled}
 use Rattle.room_desk.proofs.Sound.Sites.{fill, sites_filled}
 use Rattle.room_desk.proofs.Sound.SoundParts.{sound_parts}
-use Rattle.room_review.specs.Rights.{grants, last_of, lets_through, may_remove, may_remove_at}
-use Rattle.room_review.specs.Rights.{reaches}
-use Rattle.room_review.specs.Rights.{rights, rights_at}
+use Rattle.room_machine.specs.Rights.{grants, last_of, lets_through, may_remove, may_remove_at}
+use Rattle.room_machine.specs.Rights.{reaches}
+use Rattle.room_machine.specs.Rights.{rights, rights_at}
 use Rattle.room_review.specs.Standing.{granted}
 
 module _ (caller : Caller) where

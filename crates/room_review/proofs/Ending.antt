@@ -21,7 +21,7 @@ use Rattle.room_machine.specs.Site.{Site, site_at}
 use Rattle.room_machine.specs.Stored.{stored_along, stored_from, stored_site}
 use Rattle.room_desk.proofs.Lists.ResetWay.{same_front, same_last}
 use Rattle.room_review.specs.declared.question.Reviewed.TheVariants.{Refused}
-use Rattle.room_review.specs.Rights.{last_of}
+use Rattle.room_machine.specs.Rights.{last_of}
 use Rattle.room_review.specs.Standing.{before_last}
 use Rattle.room_review.specs.Table.{IsRefusal}
 use Rattle.room_review.specs.Telling.{AreOn, ended_at}

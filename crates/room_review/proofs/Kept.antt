@@ -26,7 +26,7 @@ use Rattle.room_machine.specs.Judge.{of_deletion, passes}
 use Rattle.room_machine.specs.Plan.{Deletion}
 use Rattle.room_machine.specs.Site.{Site, full_at}
 use Rattle.room_machine.specs.Stored.{stored_site}
-use Rattle.room_review.specs.Rights.{grants, last_of, lets_through, may_remove, reaches, rights}
+use Rattle.room_machine.specs.Rights.{grants, last_of, lets_through, may_remove, reaches, rights}
 use Rattle.room_review.specs.Standing.{before_last, is_denied, keeps_children, repeats, same_grant}
 use Rattle.room_review.specs.Standing.{standing}
 use Rattle.room_review.specs.declared.standing.Standing.{Standing}

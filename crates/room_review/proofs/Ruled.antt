@@ -1,10 +1,9 @@
 -- What a list says of all rights, entry by entry.
 use Rattle.std.proofs.Common.{ℕ, ◌+◌, ◌<◌, ◌≤◌, ◌≡◌, ◌∷◌, Bool, true, false, cond, not, ◌&&◌, ◌||◌}
 use Rattle.std.proofs.Common.{List, [], length, drop, get_or, refl, sym, ap, ◌∙◌, inl, inr}
-use Rattle.std.specs.Prelude.{◌==◌, filter}
-use Rattle.std.proofs.lemmas.Bool.{and_cases, and_parts, eqb-true, not-false, not-true}
+use Rattle.std.specs.Prelude.{filter}
+use Rattle.std.proofs.lemmas.Bool.{and_cases, and_parts, not-false, not-true}
 use Rattle.std.proofs.lemmas.List.{drop_all}
-use Rattle.std.proofs.lemmas.Map.Views.{any-filter_same}
 use Rattle.room_entry.specs.Ace.{Ace}
 use Rattle.room_entry.specs.BitLaws.{chosen_agree, has-chosen}
 use Rattle.room_entry.specs.Bits.{all_bits, has, shares}
@@ -17,15 +16,9 @@ use Rattle.room_eval.specs.declared.outcome.Ruling.{Ruling}
 use Rattle.room_eval.specs.declared.outcome.Ruling.TheVariants.{Silent}
 use Rattle.room_entry.proofs.Facts.Members.{all_each, each_fails, each_weaker}
 use Rattle.room_entry.proofs.Texts.{at_bit}
+use Rattle.room_machine.proofs.Rights.{has_kept}
 use Rattle.room_eval.proofs.Steps.{drop_here, ruling_head, ruling_passed, ruling_records}
 use Rattle.room_eval.proofs.Steps.{ruling_without}
-
--- what a kept part of a mask has
-has_kept : (test : ℕ → Bool) (mask : List ℕ) (bit : ℕ)
-    → has (filter test mask) bit ≡ (test bit && has mask bit)
-has_kept test mask bit =
-    any-filter_same (λ other. other == bit) test (test bit)
-    (λ other same. ap test (eqb-true other bit same)) mask
 
 -- a bit of one of two masks that share none
 apart : (mask other : List ℕ) (bit : ℕ) → shares mask other ≡ false → has mask bit ≡ true

@@ -24,7 +24,7 @@ use Rattle.room_machine.specs.Stored.{stored_along, stored_from}
 use Rattle.room_review.specs.declared.parties.Party.{Party}
 use Rattle.room_review.specs.Laws.{SaysAlike, StarSpeaksForOthers, is_known_at, stored_above}
 use Rattle.room_review.specs.Laws.{told_at, told_there}
-use Rattle.room_review.specs.Rights.{last_of, reaches}
+use Rattle.room_machine.specs.Rights.{last_of, reaches}
 use Rattle.room_review.specs.Standing.{granted}
 use Rattle.room_review.specs.Table.{Place, named, nameless, other_name, place_below, place_of}
 use Rattle.room_review.specs.Table.{site_of}

@@ -24,7 +24,7 @@ use Rattle.room_machine.specs.Site.{Site, full_at, site_at, sites_along}
 use Rattle.room_machine.specs.Judge.{of_deletion, passes}
 use Rattle.room_machine.specs.Plan.{Deletion}
 use Rattle.room_machine.specs.Step.{caller_in}
-use Rattle.room_review.specs.Rights.{grants, last_of, may_remove, reaches, rights, sites_above}
+use Rattle.room_machine.specs.Rights.{grants, last_of, may_remove, reaches, rights, sites_above}
 use Rattle.room_review.specs.Laws.{IsStranger, StrangersAlike, is_known_at, is_paired}
 use Rattle.room_review.specs.Laws.{is_user_named}
 

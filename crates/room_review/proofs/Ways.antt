@@ -28,9 +28,10 @@ use Rattle.room_machine.specs.Judge.{entry_at, failure, first_failure, of_deleti
 use Rattle.room_machine.specs.Judge.{or_else}
 use Rattle.room_machine.specs.Effect.{effect, rulings}
 use Rattle.room_machine.specs.Step.{caller_in}
+use Rattle.room_machine.proofs.Rights.{folder_is_last}
 use Rattle.room_machine.proofs.Replies.{or_reply, reply_of}
-use Rattle.room_review.specs.Rights.{grants, last_of, lets_through, may_remove, may_remove_at}
-use Rattle.room_review.specs.Rights.{reaches, rights, rights_at, sites_above}
+use Rattle.room_machine.specs.Rights.{grants, last_of, lets_through, may_remove, may_remove_at}
+use Rattle.room_machine.specs.Rights.{reaches, rights, rights_at, sites_above}
 use Rattle.room_review.specs.Laws.{SaysCan, SaysRemove, allowed_in, is_denial, is_rulings}
 use Rattle.room_review.specs.Laws.{passed_rights}
 
@@ -256,17 +257,6 @@ says_can content user moment path target reply after found s =
     (reply_of content user moment (Can path all_bits) reply after s)
 
 -- ---- the reply to `Remove`
-
--- the folder of the path's last name is the last of the objects above
-folder_is_last : (sites : List Site) (name : List ℕ) (names : List (List ℕ)) (target : Site)
-    → site_at sites (name ∷ names) ≡ Some target
-    → last_of (take (length (name ∷ names)) sites) ≡ site_at sites (front (name ∷ names))
-folder_is_last [] name names target found = absurd (let wrong : ⊥ = cc in wrong)
-folder_is_last (site ∷ sites) name [] target found = refl
-folder_is_last (site ∷ []) name (next ∷ names) target found =
-    absurd (let wrong : ⊥ = cc in wrong)
-folder_is_last (site ∷ other ∷ sites) name (next ∷ names) target found =
-    folder_is_last (other ∷ sites) next names target found
 
 -- there is a last one
 has_last : (sites : List Site) (name : List ℕ) (names : List (List ℕ)) (target : Site)

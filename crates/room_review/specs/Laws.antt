@@ -28,7 +28,7 @@ use Rattle.room_machine.specs.Site.{Site, full_at, site_at, sites_along}
 use Rattle.room_machine.specs.Step.{Step, caller_in}
 use Rattle.room_machine.specs.Stored.{stored_along}
 use Rattle.room_review.specs.declared.parties.Party.{Party}
-use Rattle.room_review.specs.Rights.{may_remove_at, reaches_at, rights_at, sites_above}
+use Rattle.room_machine.specs.Rights.{may_remove_at, reaches_at, rights_at, sites_above}
 use Rattle.room_review.specs.Standing.{granted}
 use Rattle.room_review.specs.Table.{AreAll, Place, place_below, place_of, site_of, users_of}
 use Rattle.room_review.specs.Users.{is_listed}

@@ -1,4 +1,3 @@
-pub mod Rights
 pub mod Users
 pub mod Standing
 pub mod Table

@@ -14,7 +14,7 @@ use Rattle.room_eval.specs.Verdict.{ruling_of}
 use Rattle.room_machine.specs.Site.{Site, full_at}
 use Rattle.room_review.specs.declared.parties.Party.{Party}
 use Rattle.room_review.specs.declared.standing.Standing.{Standing}
-use Rattle.room_review.specs.Rights.{last_of, may_remove, reaches, rights}
+use Rattle.room_machine.specs.Rights.{last_of, may_remove, reaches, rights}
 
 -- the objects on a way but for the last
 abbrev pub before_last : List Site → List Site

@@ -19,7 +19,7 @@ use Rattle.room_review.specs.declared.parties.Party.{Party}
 use Rattle.room_review.specs.declared.question.Question.{Question}
 use Rattle.room_review.specs.declared.question.Reviewed.{Reviewed}
 use Rattle.room_review.specs.declared.question.Reviewed.TheVariants.{Table, Refused}
-use Rattle.room_review.specs.Rights.{last_of, may_remove, rights}
+use Rattle.room_machine.specs.Rights.{last_of, may_remove, rights}
 use Rattle.room_review.specs.Standing.{repeats}
 use Rattle.room_review.specs.Users.{AreUsers, is_listed, users_at}
 

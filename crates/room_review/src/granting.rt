@@ -1,10 +1,11 @@
 //! What a list says of all rights, in one pass.
 ghost use Rattle.std.specs.Prelude.{◌≡◌, filter};
 ghost use Rattle.room_entry.specs.Bits.{all_bits};
-ghost use Rattle.room_eval.specs.Verdict.{bears_on, counts, is_allowed, ruling_of};
+ghost use Rattle.room_eval.specs.Verdict.{is_allowed, ruling_of};
 ghost use Rattle.room_review.specs.Standing.{is_denied};
 
-use room_ace::{Caller, Entry, EntryKind, Mask, Owners, matches};
+use room_ace::{Caller, Entry, EntryKind, Mask, Owners};
+use room_eval::bears_on;
 
 /// The rights that a list allows a caller, and those that it denies.
 #[derive(Drop)]
@@ -23,7 +24,7 @@ pub(crate) fn rule_all(entries: &[Entry], caller: &Caller, owners: &Owners) -> R
 {
     let mut allowed = Mask::empty();
     let mut denied = Mask::empty();
-    let mut unruled = all_rights();
+    let mut unruled = Mask::all();
     for (index, entry) in entries.iter().enumerate() {
         if !bears_on(entry, caller, owners, unruled) {
             continue;
@@ -39,25 +40,4 @@ pub(crate) fn rule_all(entries: &[Entry], caller: &Caller, owners: &Owners) -> R
     allowed.is_known();
     denied.is_known();
     Ruled { allowed, denied }
-}
-
-// The mask of all rights.
-fn all_rights() -> Mask
-    ensures { result ≡ all_bits }
-{
-    Mask::from_number(0x1F07FF).unwrap_or(Mask::empty())
-}
-
-// Whether the entry rules one of the bits. Names are compared last, since that takes longest.
-fn bears_on(entry: &Entry, caller: &Caller, owners: &Owners, bits: Mask) -> bool
-    ensures { result ≡ bears_on entry.now caller.now owners.now bits }
-{
-    bits.shares(entry.mask()) && !entry.kind().asks_records() && counts(entry, caller, owners)
-}
-
-// Whether the entry is in force and matches the caller.
-fn counts(entry: &Entry, caller: &Caller, owners: &Owners) -> bool
-    ensures { result ≡ counts entry.now caller.now owners.now }
-{
-    !entry.flags().inherit_only && matches(entry, caller, owners)
 }

@@ -6,7 +6,7 @@ ghost use Rattle.room_entry.specs.Rights.{delete, delete_child, execute, write_d
 ghost use Rattle.room_machine.specs.Site.{Site};
 ghost use Rattle.room_machine.specs.Stored.{stored_site};
 ghost use Rattle.room_rows.specs.Content.{is_folder};
-ghost use Rattle.room_review.specs.Rights.{last_of};
+ghost use Rattle.room_machine.specs.Rights.{last_of};
 ghost use Rattle.room_review.specs.Standing.{before_last, folder_standings, same_answer};
 ghost use Rattle.room_review.specs.Standing.{same_grant, standing, standings};
 

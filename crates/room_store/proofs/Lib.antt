@@ -10,3 +10,4 @@ mod Closing
 mod Recalled
 pub mod Outlasting
 mod Reviewed
+mod FromRoot

@@ -1,6 +1,7 @@
 -- What a crash leaves after some calls.
 use Rattle.std.proofs.Common.{◌≡◌, ◌⊎◌, List, [], ◌∷◌, ◌++◌, Result, Ok, Err}
-use Rattle.std.proofs.Common.{Bool, IsTrue, inl, inr, refl, sym, subst, ◌∙◌}
+use Rattle.std.proofs.Common.{Bool, Option, None, Some, IfSome, IsTrue, inl, inr, refl, sym}
+use Rattle.std.proofs.Common.{subst, ◌∙◌}
 use Rattle.std.proofs.lemmas.Bool.{cases_Bool}
 use Rattle.sqlite_rules.specs.Lists.{Has}
 use Rattle.sqlite.specs.Effect.{Database}
@@ -18,8 +19,8 @@ use Rattle.store_tables.specs.Meaning.{rows_of}
 use Rattle.store_tables.specs.Shown.{IsRoom, room_of}
 use Rattle.store_tables.specs.Within.{LeavesAsBefore}
 use Rattle.room_store.specs.Asks.{Asks}
-use Rattle.room_store.specs.Crash.{HoldsRoom, HoldsRoomAfter, Lasts, Leaves, LeavesWhole}
-use Rattle.room_store.specs.Crash.{LosesNothing, Outlasts, OutlastsOn, Try, all_asked}
+use Rattle.room_store.specs.Crash.{HoldsRoom, HoldsRoomAfter, IsOneMore, Lasts, LeavesAtMost}
+use Rattle.room_store.specs.Crash.{LeavesWhole, LosesNothing, Outlasts, OutlastsOn, Try, all_asked}
 use Rattle.room_store.specs.Crash.{all_happened, left_by}
 use Rattle.room_store.specs.Kept.{IsShut, IsSound, Keeps}
 use Rattle.room_store.specs.Leads.{Leads}
@@ -46,36 +47,52 @@ nothing_lost old new events leads lasts now sound is_open room keeps db left =
     let it = leads.run now sound room keeps in
     (it.0, it.1, seen_is_left new (leads.sound now sound) is_open lasts it.0 it.2 db left)
 
--- ---- what was asked for
+-- ---- the one thing more that may be there
 
-has_front : {X : Type 0} (xs ys : List X) (x : X) → Has xs x → Has (xs ++ ys) x
-has_front [] ys x has = absurd has
-has_front (y ∷ xs) ys x (inl is) = inl is
-has_front (y ∷ xs) ys x (inr has) = inr (has_front xs ys x has)
-
-has_last : {X : Type 0} (xs : List X) (x : X) → Has (xs ++ x ∷ []) x
-has_last [] x = inl refl
-has_last (y ∷ xs) x = inr (has_last xs x)
-
--- a crash leaves no more where more was asked for, and the connection may be shut by now
-more : (old new : State) (before asked : List Asking) (room : Content) (db : Trees)
-    → (IsShut old → IsShut new) → Leaves before old room → old.may_leave db
-    → HoldsRoom room db ⊎ (IsShut new × (happens : Asking) × Has (before ++ asked) happens
-    × HoldsRoomAfter room db happens)
-more old new before asked room db shut leaves left =
+-- a connection that was shut stays so, and a crash leaves what it could leave before
+as_before : (old new : State) (before : Option Asking) (room : Content) (db : Trees)
+    → (IsShut old → IsShut new) → LeavesAtMost before old room → old.may_leave db
+    → HoldsRoom room db
+    ⊎ (IsShut new × (happens : Asking) × (before ≡ Some happens) × HoldsRoomAfter room db happens)
+as_before old new before room db shut leaves left =
     elim (leaves db left) [
       | inl holds ↦ inl holds
-      | inr p ↦ inr (shut p.0, p.1, has_front before asked p.1 p.2, p.3)
+      | inr p ↦ inr (shut p.0, p.1, p.2, p.3)
     ]
 
 -- over a connection that was open, what is left is the room itself
-only : (s : State) (before : List Asking) (room : Content) (db : Trees) → IsTrue s.is_open
-    → Leaves before s room → s.may_leave db → HoldsRoom room db
+only : (s : State) (before : Option Asking) (room : Content) (db : Trees) → IsTrue s.is_open
+    → LeavesAtMost before s room → s.may_leave db → HoldsRoom room db
 only s before room db is_open leaves left =
     elim (leaves db left) [
       | inl holds ↦ holds
       | inr p ↦ absurd (not_shut s is_open p.0)
     ]
+
+-- what may be there after that
+abbrev Left : State → List Asking → State → Option Asking → Content → Type 0
+Left old asked new before room =
+    (after : Option Asking) × IsOneMore old asked new before after × LeavesAtMost after new room
+
+-- over a connection that was open
+left_open : (old new : State) (asked : List Asking) (before after : Option Asking)
+    (room : Content) → IsTrue old.is_open → (IsShut new → IfSome after (Has asked))
+    → LeavesAtMost after new room → Left old asked new before room
+left_open old new asked before after room is_open one leaves = (
+  after,
+  record { same = λ shut. absurd (not_shut old is_open shut); one = λ _. one },
+  leaves,
+)
+
+-- over one that was shut
+left_shut : (old new : State) (asked : List Asking) (before : Option Asking) (room : Content)
+    → IsShut old → (IsShut old → IsShut new) → LeavesAtMost before new room
+    → Left old asked new before room
+left_shut old new asked before room shut stays leaves = (
+  before,
+  record { same = λ _. (stays shut, refl); one = λ is_open. absurd (not_shut old is_open shut) },
+  leaves,
+)
 
 -- ---- one call
 
@@ -117,10 +134,11 @@ module _ (old new : State) {X : Type 0} (Blames : Rows → Type 0)
 
   -- what an answer leaves
   after_answer : (x : X) → Ran old new (Ok x) Blames Becomes → HasCleanDisk new → IsSound old
-      → (before : List Asking) (room : Content) → Leaves before old room
-      → IsSound new → (next : Content) → Keeps new next → Leaves (before ++ []) new next
-  after_answer x ran now sound before room leaves sound' next keeps db left =
+      → (before : Option Asking) (room : Content) → LeavesAtMost before old room
+      → IsSound new → (next : Content) → Keeps new next → Left old [] new before next
+  after_answer x ran now sound before room leaves sound' next keeps =
       let is_open = ran.answers now in
+      left_open old new [] before None next is_open.0 (λ _. tt) (λ db left.
       let good = sound is_open.0 in
       let good' = sound' is_open.1 in
       let is = (ran.lasts now).only db left in
@@ -133,24 +151,30 @@ module _ (old new : State) {X : Type 0} (Blames : Rows → Type 0)
             room_at it.0 it.1.tables it.2)
         | inr c ↦ (let it = c.1 good.0 in room_at it.1.0 it.1.1.room it.1.2)
       ] in
-      inl (new.now, record { tables = tables; sound = good'.1; means = keeps is_open.1 }, is)
+      inl (new.now, record { tables = tables; sound = good'.1; means = keeps is_open.1 }, is))
 
   -- what a fault leaves
   after_fault : (fault : StoreFault) → Ran {X = X} old new (Err fault) Blames Becomes
-      → HasCleanDisk new → IsSound old → (before : List Asking) (room : Content) → Keeps old room
-      → Leaves before old room → Leaves (before ++ asking ∷ []) new room
-  after_fault fault ran now sound before room keeps leaves db left =
-      let shut = still_shut old new (ran.leaves.was_open now) in
-      let was_left : old.may_leave db → HoldsRoom room db ⊎ (IsShut new × (happens : Asking)
-      × Has (before ++ asking ∷ []) happens
-      × HoldsRoomAfter room db happens) =
-      more old new before (asking ∷ []) room db shut leaves in
-      elim (cases_Bool new.is_open) [
-        | inl is ↦ was_left (ran.spared is now db left)
-        | inr is ↦ (elim (ran.crash now db left) [
-          | inl was ↦ was_left was
-          | inr c ↦ inr (is, asking, has_last before asking, after_one room sound keeps db c)
-        ])
+      → HasCleanDisk new → IsSound old → (before : Option Asking) (room : Content)
+      → Keeps old room → LeavesAtMost before old room → Left old (asking ∷ []) new before room
+  after_fault fault ran now sound before room keeps leaves =
+      let stays = still_shut old new (ran.leaves.was_open now) in
+      elim (cases_Bool old.is_open) [
+        | inl was_open ↦
+            left_open old new (asking ∷ []) before (Some asking) room was_open (λ _. inl refl)
+            (λ db left. elim (cases_Bool new.is_open) [
+              | inl is ↦ inl (only old before room db was_open leaves (ran.spared is now db left))
+              | inr is ↦ (elim (ran.crash now db left) [
+                | inl was ↦ inl (only old before room db was_open leaves was)
+                | inr c ↦ inr (is, asking, refl, after_one room sound keeps db c)
+              ])
+            ])
+        | inr shut ↦
+            left_shut old new (asking ∷ []) before room shut stays
+            (λ db left. elim (ran.crash now db left) [
+              | inl was ↦ as_before old new before room db stays leaves was
+              | inr c ↦ absurd (not_shut old c.0 shut)
+            ])
       ]
 
   pub outlasting : (result : Result X StoreFault) → Ran old new result Blames Becomes
@@ -159,39 +183,45 @@ module _ (old new : State) {X : Type 0} (Blames : Rows → Type 0)
     leads = leading old new Blames Becomes (λ x. asking (reply x)) becomes (Ok x) ran;
     leaves = λ now sound room keeps before leaves.
         let leads = leading old new Blames Becomes (λ x. asking (reply x)) becomes (Ok x) ran in
-        let it = leads.run now sound room keeps in (
-          it.0,
-          it.1,
-          it.2,
-          after_answer x ran now sound before room leaves (leads.sound now sound) it.0 it.2,
-        );
+        let it = leads.run now sound room keeps in
+        let left =
+        after_answer x ran now sound before room leaves (leads.sound now sound) it.0 it.2 in
+        (it.0, it.1, it.2, left.0, left.1, left.2);
   }
   outlasting (Err fault) ran = record {
     leads = leading old new Blames Becomes (λ x. asking (reply x)) becomes (Err fault) ran;
     leaves = λ now sound room keeps before leaves.
         let leads = leading old new Blames Becomes (λ x. asking (reply x)) becomes (Err fault) ran
         in
-        let it = leads.run now sound room keeps in (
-          room,
-          refl,
-          subst (Keeps new) it.1 it.2,
-          after_fault fault ran now sound before room keeps leaves,
-        );
+        let it = leads.run now sound room keeps in
+        let left = after_fault fault ran now sound before room keeps leaves in
+        (room, refl, subst (Keeps new) it.1 it.2, left.0, left.1, left.2);
   }
 
--- a call that commits nothing, by which nothing happens
+-- a call that commits nothing
+after_none : (old new : State) → (IsShut old → IsShut new)
+    → ((db : Trees) → new.may_leave db → old.may_leave db) → (before : Option Asking)
+    (room : Content) → LeavesAtMost before old room → Left old [] new before room
+after_none old new stays crash before room leaves =
+    elim (cases_Bool old.is_open) [
+      | inl was_open ↦
+          left_open old new [] before None room was_open (λ _. tt)
+          (λ db left. inl (only old before room db was_open leaves (crash db left)))
+      | inr shut ↦
+          left_shut old new [] before room shut stays
+          (λ db left. as_before old new before room db stays leaves (crash db left))
+    ]
+
+-- the same, by which nothing happens
 pub idle : (old new : State) → Leads old [] new → LeavesAsBefore old new
     → (HasCleanDisk new → IsTrue new.is_open → IsTrue old.is_open) → Outlasts old [] [] new
 idle old new leads crash was_open = record {
   leads = leads;
   leaves = λ now sound room keeps before leaves.
-      let it = leads.run now sound room keeps in (
-        room,
-        refl,
-        subst (Keeps new) it.1 it.2,
-        λ db left. more old new before [] room db (still_shut old new (was_open now)) leaves
-            (crash now db left),
-      );
+      let it = leads.run now sound room keeps in
+      let left =
+      after_none old new (still_shut old new (was_open now)) (crash now) before room leaves in
+      (room, refl, subst (Keeps new) it.1 it.2, left.0, left.1, left.2);
 }
 
 -- a test whether the connection is shut
@@ -218,6 +248,9 @@ all_outlast shown meet first (call ∷ calls) follows =
 pub leaves_whole : (old new : State) (asked : List Asking) (events : List Event)
     → Outlasts old asked events new → LeavesWhole old asked events new
 leaves_whole old new asked events outlasts now sound is_open lasts room keeps =
-    let it = outlasts.leaves now sound room keeps [] (λ db left.
+    let it = outlasts.leaves now sound room keeps None (λ db left.
     inl (seen_is_left old sound is_open lasts room keeps db left)) in
-    (it.0, it.1, it.3)
+    elim (cases_Bool new.is_open) [
+      | inl is ↦ (it.0, it.1, (None, tt, λ db left. inl (only new it.3 it.0 db is it.5 left)))
+      | inr is ↦ (it.0, it.1, (it.3, it.4.one is_open is, it.5))
+    ]

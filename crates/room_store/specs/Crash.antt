@@ -1,5 +1,5 @@
 -- What a crash leaves of a room: what was answered, and of what wasn't, all or nothing.
-use Rattle.std.specs.Prelude.{◌≡◌, ◌⊎◌, List, [], ◌∷◌, ◌++◌, IsTrue}
+use Rattle.std.specs.Prelude.{◌≡◌, ◌⊎◌, List, [], ◌∷◌, ◌++◌, Option, Some, IfSome, IsTrue}
 use Rattle.sqlite_rules.specs.Lists.{Has}
 use Rattle.sqlite.specs.Effect.{Database, IsDatabase}
 use Rattle.sqlite.specs.Held.{Held}
@@ -45,11 +45,23 @@ abbrev pub HoldsRoomAfter : Content → Trees → Asking → Type 0
 HoldsRoomAfter room db happens = (reply : Reply) × (next : Content)
     × Happens room (happens reply) next × HoldsRoom next db
 
--- A crash leaves this room. Or, where a fault has shut the connection, the room after one of these
--- that were asked for and got no answer.
+-- A crash leaves this room. Or, where a fault has shut the connection, the room after this one thing
+-- more, if there is one, which was asked for and got no answer.
+abbrev pub LeavesAtMost : Option Asking → State → Content → Type 0
+LeavesAtMost more s room = (db : Trees) → s.may_leave db → HoldsRoom room db
+    ⊎ (IsShut s × (happens : Asking) × (more ≡ Some happens) × HoldsRoomAfter room db happens)
+
+-- The same of one of these, which is the same one whatever a crash leaves.
 abbrev pub Leaves : List Asking → State → Content → Type 0
-Leaves asked s room = (db : Trees) → s.may_leave db → HoldsRoom room db
-    ⊎ (IsShut s × (happens : Asking) × Has asked happens × HoldsRoomAfter room db happens)
+Leaves asked s room = (more : Option Asking) × IfSome more (Has asked) × LeavesAtMost more s room
+
+-- From one state to a later one these were asked for and got no answer. If this one thing may have
+-- been there before, this one may be there after that: over a connection that was shut it is the
+-- same one, and over one that a fault has shut since then, it is one of these.
+pub record IsOneMore (old : State) (asked : List Asking) (new : State)
+    (before after : Option Asking) : Type 0 where
+  pub same : IsShut old → IsShut new × (after ≡ before)
+  pub one : IsTrue old.is_open → IsShut new → IfSome after (Has asked)
 
 -- From one state to a later one these things happened, and these were asked for and got no answer.
 -- A crash leaves all of the first, and at most one of the others.
@@ -57,8 +69,9 @@ pub record Outlasts (old : State) (asked : List Asking) (events : List Event) (n
     : Type 0 where
   pub leads : Leads old events new
   pub leaves : HasCleanDisk new → IsSound old → (room : Content) → Keeps old room
-      → (before : List Asking) → Leaves before old room
-      → (next : Content) × Run room events next × Keeps new next × Leaves (before ++ asked) new next
+      → (before : Option Asking) → LeavesAtMost before old room
+      → (next : Content) × Run room events next × Keeps new next
+      × (after : Option Asking) × IsOneMore old asked new before after × LeavesAtMost after new next
 
 -- ---- over any list of calls
 

@@ -1,10 +1,12 @@
 -- Calls of a store one after another, and what outlasts them: lemmas, which stand here because the
 -- laws of the store as a desk are proved by them.
-use Rattle.std.proofs.Common.{List, [], ◌++◌, refl, sym, subst}
-use Rattle.std.proofs.lemmas.List.{append_assoc, append-nil}
+use Rattle.std.proofs.Common.{List, [], ◌∷◌, ◌++◌, Option, None, Some, IfSome, inl, inr}
+use Rattle.std.proofs.Common.{refl, sym, subst, ◌∙◌, true≢false}
+use Rattle.std.proofs.lemmas.Bool.{cases_Bool}
+use Rattle.sqlite_rules.specs.Lists.{Has}
 use Rattle.sqlite.specs.State.{State}
 use Rattle.room_machine.specs.Run.{Asking, Event, RunsMeet}
-use Rattle.room_store.specs.Crash.{Leaves, Outlasts}
+use Rattle.room_store.specs.Crash.{IsOneMore, Outlasts}
 use Rattle.room_store.specs.Leads.{Leads}
 
 pub itself : (s : State) → Leads s [] s
@@ -22,6 +24,47 @@ on meet old mid new events others p q = record {
       (two.0, meet room one.0 two.0 events others one.1 two.1, two.2);
 }
 
+-- ---- the one thing more that may be there
+
+has_front : {X : Type 0} (xs ys : List X) (x : X) → Has xs x → Has (xs ++ ys) x
+has_front [] ys x has = absurd has
+has_front (y ∷ xs) ys x (inl is) = inl is
+has_front (y ∷ xs) ys x (inr has) = inr (has_front xs ys x has)
+
+has_back : {X : Type 0} (xs ys : List X) (x : X) → Has ys x → Has (xs ++ ys) x
+has_back [] ys x has = has
+has_back (y ∷ xs) ys x has = inr (has_back xs ys x has)
+
+one_in_front : (asked later : List Asking) (more : Option Asking) → IfSome more (Has asked)
+    → IfSome more (Has (asked ++ later))
+one_in_front asked later None has = tt
+one_in_front asked later (Some happens) has = has_front asked later happens has
+
+one_in_back : (asked later : List Asking) (more : Option Asking) → IfSome more (Has later)
+    → IfSome more (Has (asked ++ later))
+one_in_back asked later None has = tt
+one_in_back asked later (Some happens) has = has_back asked later happens has
+
+more_on : (old mid new : State) (asked later : List Asking) (before between after : Option Asking)
+    → IsOneMore old asked mid before between → IsOneMore mid later new between after
+    → IsOneMore old (asked ++ later) new before after
+more_on old mid new asked later before between after p q = record {
+  same = λ shut.
+      let first = p.same shut in
+      let last = q.same first.0 in
+      (last.0, last.1 ∙ first.1);
+  one = λ is_open shut.
+      elim (cases_Bool mid.is_open) [
+        | inl is ↦ one_in_back asked later after (q.one is shut)
+        | inr is ↦
+            subst (λ (more : Option Asking). IfSome more (Has (asked ++ later)))
+            (sym (q.same is).1)
+            (one_in_front asked later between (p.one is_open is))
+      ];
+}
+
+-- ---- calls
+
 pub together : RunsMeet → (old mid new : State) (asked asked' : List Asking)
     (events events' : List Event) → Outlasts old asked events mid → Outlasts mid asked' events' new
     → Outlasts old (asked ++ asked') (events ++ events') new
@@ -30,13 +73,13 @@ together meet old mid new asked asked' events events' p q = record {
   leaves = λ now sound room keeps before leaves.
       let now' = q.leads.trusted now in
       let one = p.leaves now' sound room keeps before leaves in
-      let two =
-      q.leaves now (p.leads.sound now' sound) one.0 one.2 (before ++ asked) one.3 in (
+      let two = q.leaves now (p.leads.sound now' sound) one.0 one.2 one.3 one.5 in (
         two.0,
         meet room one.0 two.0 events events' one.1 two.1,
         two.2,
-        subst (λ (all : List Asking). Leaves all new two.0) (append_assoc before asked asked')
-            two.3,
+        two.3,
+        more_on old mid new asked asked' before one.3 two.3 one.4 two.4,
+        two.5,
       );
 }
 
@@ -47,6 +90,11 @@ nothing_tried s = record {
     room,
     refl,
     keeps,
-    subst (λ (all : List Asking). Leaves all s room) (sym (append-nil before)) leaves,
+    before,
+    record {
+      same = λ shut. (shut, refl);
+      one = λ is_open shut. absurd (true≢false (sym is_open ∙ shut));
+    },
+    leaves,
   );
 }

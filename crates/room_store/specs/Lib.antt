@@ -10,3 +10,4 @@ pub mod Asks
 pub mod Remembers
 pub mod Failing
 pub mod Reviews
+pub mod FromRoot

@@ -1,9 +1,13 @@
 //! The file of a room: made, found, opened, removed.
-ghost use Rattle.std.specs.Prelude.{◌≡◌, IfOk, false};
+ghost use Rattle.std.specs.Prelude.{◌≡◌, IfOk, false, if◌then◌else◌};
+ghost use Rattle.cli_outcome.specs.declared.fault.Fault.TheVariants.{Database, Memory};
+ghost use Rattle.cli_words.specs.declared.stop.Stop.TheVariants.{Failed};
+ghost use Rattle.store_tables.specs.Seeing.{wants_memory};
 
 use crate::look::test_unopened;
 use cli_outcome::Fault;
 use cli_words::Stop;
+use sqlite::Error;
 use sqlite_std_file::Start;
 use std::fs::{self, OpenOptions};
 use std::io::{self, ErrorKind};
@@ -72,8 +76,18 @@ pub fn connect<S: Start>(rt: &HostRuntime, file: &str, start: S) -> Result<FileC
     let pages = pages_of(rt, path.as_str());
     match open_with(rt, path.as_str(), start, pages) {
         Ok(conn) => Ok(conn),
-        Err((error, _left)) if wants_memory(error) => Err(Stop::Failed(Fault::Memory)),
-        Err(_) => Err(Stop::Failed(Fault::Database)),
+        Err((error, _left)) => Err(stop_of(error)),
+    }
+}
+
+/// What ends the program where a database can't be opened.
+pub fn stop_of(error: Error) -> Stop
+    ensures { result ≡ Failed (if wants_memory error then Memory else Database) }
+{
+    if wants_memory(error) {
+        Stop::Failed(Fault::Memory)
+    } else {
+        Stop::Failed(Fault::Database)
     }
 }
 

@@ -3,7 +3,7 @@ ghost use Rattle.std.specs.Prelude.{◌≡◌, false};
 
 use crate::files::{close, connect, make_file, open, take_away};
 use cli_act::act;
-use cli_serve::{NetPorts, Seconds, host};
+use cli_serve::{NetPorts, Seconds, Service, host};
 use cli_words::{Input, Job, Stop, Task, read_task};
 use sqlite_std_file::Start;
 use std::{fs, io};
@@ -69,18 +69,13 @@ pub fn serve<S: Start>(
     let conn = open(rt, file, start)?;
     let mut out = rt.stdout();
     let mut err = rt.stderr();
-    let mut ports = NetPorts::of(rt);
-    let mut clock = Seconds::of(rt);
-    let (conn, status) = host(
-        rt.alloc(),
-        conn,
-        &mut ports,
-        &mut clock,
+    let mut service = Service {
+        ports: NetPorts::of(rt),
+        clock: Seconds::of(rt),
         port,
         count,
-        &mut out,
-        &mut err,
-    );
+    };
+    let (conn, status) = host(rt.alloc(), conn, &mut service, &mut out, &mut err);
     close(conn);
     Ok(status)
 }

@@ -1,6 +1,6 @@
 //! Lists that were read or printed lately, so that a text that stands in many rows is read once,
 //! and printed once.
-ghost use Rattle.std.specs.Prelude.{◌≡◌, IfOk, IfSome, Some, string_bytes};
+ghost use Rattle.std.specs.Prelude.{◌≡◌, ◌≤◌, IfOk, IfSome, Some, length, string_bytes};
 ghost use Rattle.room_ace.specs.Column.{entries_of};
 ghost use Rattle.store_tables.specs.Printed.{IsPrinted};
 
@@ -21,14 +21,15 @@ struct ReadText {
 }
 
 impl Model for ReadText {
-    ghost use Rattle.std.specs.Prelude.{◌≡◌, List, ℕ, Some};
+    ghost use Rattle.std.specs.Prelude.{◌≡◌, ◌≤◌, List, ℕ, Some, length};
     ghost use Rattle.room_ace.specs.Column.{entries_of};
 
     ghost Value = { List ℕ };
 
     ghost view = { λ r. r.text.items };
 
-    ghost invariant = { λ r. entries_of r.text.items ≡ Some r.entries };
+    ghost invariant = { λ r. (entries_of r.text.items ≡ Some r.entries)
+        × (length r.text.items ≤ 4096) };
 }
 
 impl ReadText {
@@ -52,7 +53,7 @@ struct PrintedText {
 }
 
 impl Model for PrintedText {
-    ghost use Rattle.std.specs.Prelude.{List, string_bytes};
+    ghost use Rattle.std.specs.Prelude.{◌≤◌, List, length, string_bytes};
     ghost use Rattle.room_entry.specs.Ace.{Ace};
     ghost use Rattle.store_tables.specs.Printed.{IsPrinted};
 
@@ -60,12 +61,14 @@ impl Model for PrintedText {
 
     ghost view = { λ p. p.entries };
 
-    ghost invariant = { λ p. IsPrinted p.entries (string_bytes p.text) };
+    ghost invariant = { λ p. IsPrinted p.entries (string_bytes p.text)
+        × (length (string_bytes p.text) ≤ 4096) };
 }
 
 impl PrintedText {
     fn of(alloc: Global, entries: &[Entry], text: &str) -> Result<PrintedText, AllocError>
-        requires { IsPrinted entries.now text.now }
+        requires spelled { IsPrinted entries.now text.now }
+        requires short { length text.now ≤ LONGEST_TEXT }
         ensures { IfOk result (λ printed. printed ≡ entries.now) }
     {
         let text = String::from_str(alloc, text)?;
@@ -89,14 +92,44 @@ impl PrintedText {
     }
 }
 
+// The texts that were read last, at most 64. A contract sees the texts.
+#[derive(Drop)]
+struct ReadTexts {
+    items: Vec<ReadText>,
+    // which is replaced next, once there are as many as there may be
+    next: usize,
+}
+
+impl Model for ReadTexts {
+    ghost use Rattle.std.specs.Prelude.{◌≤◌, List, ℕ, length};
+
+    ghost Value = { List (List ℕ) };
+
+    ghost view = { λ r. r.items.items };
+
+    ghost invariant = { λ r. length r.items.items ≤ 64 };
+}
+
+impl ReadTexts {
+    // Puts the text in, in the place of another one where there are as many as there may be.
+    fn put(&mut self, read: ReadText) -> Result<(), AllocError> {
+        if self.items.len() < MOST_TEXTS {
+            self.items.push(read)?;
+            return Ok(());
+        }
+        let place = self.next % MOST_TEXTS;
+        self.items[place] = read;
+        self.next = place + 1;
+        Ok(())
+    }
+}
+
 /// The lists that were read last, by their texts, and the last two that were printed: what a folder
 /// passes to documents, and what it passes to folders. Equal texts spell equal entries whatever the
 /// rows are, so that nothing makes them wrong.
 #[derive(Drop)]
 pub struct RecentLists {
-    texts: Option<Vec<ReadText>>,
-    // which is replaced next, once there are as many as there may be
-    next: usize,
+    texts: Option<ReadTexts>,
     last: Option<PrintedText>,
     before: Option<PrintedText>,
 }
@@ -106,7 +139,6 @@ impl RecentLists {
     pub fn new() -> RecentLists {
         RecentLists {
             texts: None,
-            next: 0,
             last: None,
             before: None,
         }
@@ -131,7 +163,8 @@ impl RecentLists {
     }
 
     fn keep(&mut self, alloc: Global, entries: &[Entry], text: &str) -> Result<(), AllocError>
-        requires { IsPrinted entries.now text.now }
+        requires spelled { IsPrinted entries.now text.now }
+        requires short { length text.now ≤ LONGEST_TEXT }
     {
         let printed = PrintedText::of(alloc, entries, text)?;
         self.before = self.last.take();
@@ -164,39 +197,37 @@ impl RecentLists {
     {
         match &mut self.texts {
             None => Ok(None),
-            Some(texts) => find_among(texts, text),
+            Some(texts) => find_among(&mut texts.items, text),
         }
     }
 
     fn remember(&mut self, alloc: Global, text: &[u8], entries: &Entries) -> Result<(), AllocError>
-        requires { entries_of text.now ≡ Some entries.now }
+        requires spelled { entries_of text.now ≡ Some entries.now }
+        requires short { length text.now ≤ LONGEST_TEXT }
     {
         let text = Vec::from_slice(alloc, text)?;
         let entries = entries.copy()?;
         self.put(alloc, ReadText { text, entries })
     }
 
-    // Puts the text in, in the place of another one where there are as many as there may be.
     fn put(&mut self, alloc: Global, read: ReadText) -> Result<(), AllocError> {
-        let next = self.next % MOST_TEXTS;
         match &mut self.texts {
             None => {
-                let mut texts = Vec::new(alloc);
-                texts.push(read)?;
+                let mut texts = ReadTexts {
+                    items: Vec::new(alloc),
+                    next: 0,
+                };
+                texts.put(read)?;
                 self.texts = Some(texts);
+                Ok(())
             }
-            Some(texts) if texts.len() < MOST_TEXTS => texts.push(read)?,
-            Some(texts) => {
-                texts[next] = read;
-                self.next = next + 1;
-            }
+            Some(texts) => texts.put(read),
         }
-        Ok(())
     }
 }
 
 fn find_among(texts: &mut [ReadText], text: &[u8]) -> Result<Option<Entries>, AllocError>
-    ensures { IfOk result
+    ensures found { IfOk result
         (λ found. IfSome found (λ entries. entries_of text.now ≡ Some entries)) }
 {
     'texts: for index in 0..texts.len() {

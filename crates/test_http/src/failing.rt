@@ -170,13 +170,22 @@ fn fails_at_each_read_and_write(rt: HostRuntime) -> Result<(), Fail> {
 
 // A desk that answers nothing but faults.
 #[derive(Drop)]
-struct FaultyDesk {
+pub(crate) struct FaultyDesk {
     desk: MemDesk,
     faults: u64,
 }
 
+impl FaultyDesk {
+    pub(crate) fn new(alloc: Global) -> Result<FaultyDesk, Fail> {
+        let desk = MemDesk::new(open_keep(alloc)?);
+        Ok(FaultyDesk { desk, faults: 0 })
+    }
+}
+
 impl Desk for FaultyDesk {
     ghost content = { λ s room. content_in s.desk.keep ≡ room };
+
+    ghost formed = { λ _. ⊤ };
 
     ghost stored = { λ s rows. rows_in s.desk.keep ≡ rows };
 
@@ -207,6 +216,8 @@ impl Desk for FaultyDesk {
 
     ghost keeps = { λ s. (content_in s.desk.keep, refl) };
 
+    ghost holds = { λ s _. (rows_in s.desk.keep, refl) };
+
     ghost laws = { record {
       itself = λ _. tt;
       on = λ _ _ _ _ _ _ _ _ _. tt;
@@ -216,10 +227,7 @@ impl Desk for FaultyDesk {
 #[test]
 fn desk_always_faults(rt: HostRuntime) -> Result<(), Fail> {
     let alloc = rt.alloc();
-    let mut desk = FaultyDesk {
-        desk: MemDesk::new(open_keep(alloc)?),
-        faults: 0,
-    };
+    let mut desk = FaultyDesk::new(alloc)?;
     tells_fault(alloc, &mut desk)
 }
 

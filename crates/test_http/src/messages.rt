@@ -25,7 +25,12 @@ fn fields_of(alloc: Global, name: &[u8], value: &[u8]) -> Result<Fields, AllocEr
 }
 
 // The head of a message that reads, of one field.
-fn head_of(alloc: Global, target: &[u8], name: &[u8], value: &[u8]) -> Result<Head, AllocError> {
+pub(crate) fn head_of(
+    alloc: Global,
+    target: &[u8],
+    name: &[u8],
+    value: &[u8],
+) -> Result<Head, AllocError> {
     let target = bytes_of(alloc, target)?;
     let fields = fields_of(alloc, name, value)?;
     Ok(Head {
@@ -41,7 +46,7 @@ fn asked(
     head: &Head,
 ) -> Result<Result<(Option<Name>, Request), Failure<HttpFault>>, Fail> {
     let routes = Routes::new(alloc)?;
-    Ok(request_of(alloc, &routes, head, b""))
+    Ok(request_of(&routes, head, b""))
 }
 
 // A target that isn't UTF-8 is refused.

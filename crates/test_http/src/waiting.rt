@@ -78,7 +78,7 @@ fn waits(alloc: Global, desk: &mut MemDesk) -> Result<(), Fail> {
         bytes: Vec::new(alloc),
         heard: &heard,
     };
-    let end = serve(alloc, &routes, desk, 1000, &mut mouth, &mut ear);
+    let end = serve(&routes, desk, 1000, &mut mouth, &mut ear);
     if end != Ok(Ended::Clean) {
         return Err(Fail::new(format_args!("{end:?}")));
     }

@@ -1,6 +1,6 @@
 //! The subcommand `serve` on a database in memory.
 use crate::meeting::{DONE, Full, MADE, PUT, gets, listens, same_bytes, sends};
-use cli_serve::{NetPorts, Seconds, host};
+use cli_serve::{NetPorts, Seconds, Service, host};
 use room_ace::{Owners, read_name};
 use room_store::Store;
 use sqlite::{Connection, MemStore};
@@ -94,12 +94,14 @@ fn hosts(
     }
     let mut out = Vec::new(alloc);
     let mut err = Vec::new(alloc);
-    let mut ports = NetPorts::of(net);
     let still = Still;
-    let mut clock = Seconds::of(&still);
-    let (conn, status) = host(
-        alloc, conn, &mut ports, &mut clock, 8780, 2, &mut out, &mut err,
-    );
+    let mut service = Service {
+        ports: NetPorts::of(net),
+        clock: Seconds::of(&still),
+        port: 8780,
+        count: 2,
+    };
+    let (conn, status) = host(alloc, conn, &mut service, &mut out, &mut err);
     same_bytes(out.as_slice(), wanted.out.as_bytes())?;
     same_bytes(err.as_slice(), wanted.err.as_bytes())?;
     if status == wanted.status {
@@ -114,12 +116,14 @@ fn hosts_untold(alloc: Global, conn: Connection<MemStore>, net: &OnePort<'_>) ->
         return Err(Fail::from("in a transaction"));
     }
     let mut err = Vec::new(alloc);
-    let mut ports = NetPorts::of(net);
     let still = Still;
-    let mut clock = Seconds::of(&still);
-    let (_, status) = host(
-        alloc, conn, &mut ports, &mut clock, 8780, 2, &mut Full, &mut err,
-    );
+    let mut service = Service {
+        ports: NetPorts::of(net),
+        clock: Seconds::of(&still),
+        port: 8780,
+        count: 2,
+    };
+    let (_, status) = host(alloc, conn, &mut service, &mut Full, &mut err);
     same_bytes(err.as_slice(), b"fault: file\n")?;
     if status == 3 {
         return Ok(());

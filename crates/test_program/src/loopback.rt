@@ -2,7 +2,8 @@
 ghost use Rattle.std.specs.Prelude.{⊤};
 
 use crate::meeting::{
-    DONE, Full, MADE, PUT, connects, gets, grows_impatient, listens, sends, serves, serves_untold,
+    DONE, Full, MADE, PUT, connects, gets, grows_impatient, listening, listens, sends, serves,
+    serves_untold,
 };
 use cli_serve::{Moments, Seconds, ServingFault, serve_on};
 use room_memory::MemDesk;
@@ -104,9 +105,7 @@ fn a_port_that_cannot_be_told(rt: HostRuntime) -> Result<(), Fail> {
         rt.alloc(),
         &mut desk,
         &mut clock,
-        &listener,
-        8780,
-        1,
+        &listening(&listener, 1),
         &mut Full,
         &mut err,
     );

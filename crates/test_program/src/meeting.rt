@@ -1,5 +1,5 @@
 //! Clients that have sent everything before a connection is accepted, and writers that fail.
-use cli_serve::{Moments, ServingFault, serve_on};
+use cli_serve::{Listening, Moments, ServingFault, serve_on};
 use room_machine::Desk;
 use std::alloc::Global;
 use std::io;
@@ -77,6 +77,15 @@ impl Write for Full {
     }
 }
 
+/// So many connections of the listener, as if it were at port 8780.
+pub fn listening(listener: &TcpListener, count: u32) -> Listening<'_> {
+    Listening {
+        listener,
+        port: 8780,
+        count,
+    }
+}
+
 /// Serves `count` connections. What it prints of them has to be this.
 pub fn serves<D: Desk, M: Moments>(
     alloc: Global,
@@ -88,9 +97,8 @@ pub fn serves<D: Desk, M: Moments>(
 ) -> Result<(), Fail> {
     let mut out = Vec::new(alloc);
     let mut err = Vec::new(alloc);
-    let end = serve_on(
-        alloc, desk, clock, listener, 8780, count, &mut out, &mut err,
-    );
+    let listening = listening(listener, count);
+    let end = serve_on(alloc, desk, clock, &listening, &mut out, &mut err);
     if end != Ok(()) {
         return Err(Fail::from("a fault of the whole"));
     }
@@ -107,9 +115,8 @@ pub fn serves_untold<D: Desk, M: Moments>(
     count: u32,
 ) -> Result<(), ServingFault> {
     let mut out = Vec::new(alloc);
-    serve_on(
-        alloc, desk, clock, listener, 8780, count, &mut out, &mut Full,
-    )
+    let listening = listening(listener, count);
+    serve_on(alloc, desk, clock, &listening, &mut out, &mut Full)
 }
 
 /// From now on a read on a connection that waits soon ends in an error: the connections of a

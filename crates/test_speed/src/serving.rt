@@ -107,7 +107,7 @@ fn serve_all(
     let mut sent = 0;
     for _ in 0..CONNECTIONS {
         let start = Instant::now(rt)?;
-        sent = serve_once(rt.alloc(), routes, desk, bytes, step)?;
+        sent = serve_once(routes, desk, bytes, step)?;
         times.add(rt, start, count)?;
     }
     Ok(sent)
@@ -115,7 +115,6 @@ fn serve_all(
 
 // Serves a connection, and answers how many bytes were sent back.
 fn serve_once(
-    alloc: Global,
     routes: &Routes,
     desk: &mut MemDesk,
     bytes: &[u8],
@@ -123,7 +122,7 @@ fn serve_once(
 ) -> Result<usize, Fail> {
     let mut reader = Pieces::new(bytes, step);
     let mut writer = Counter::new();
-    match ended(alloc, routes, desk, &mut reader, &mut writer) {
+    match ended(routes, desk, &mut reader, &mut writer) {
         "clean" => Ok(writer.taken()),
         other => Err(Fail::new(other)),
     }
@@ -131,13 +130,12 @@ fn serve_once(
 
 // How a connection ended, in a function without a contract.
 fn ended(
-    alloc: Global,
     routes: &Routes,
     desk: &mut MemDesk,
     reader: &mut Pieces<'_>,
     writer: &mut Counter,
 ) -> &'static str {
-    match serve(alloc, routes, desk, 1000, reader, writer) {
+    match serve(routes, desk, 1000, reader, writer) {
         Ok(Ended::Clean) => "clean",
         Ok(Ended::Cut) => "the connection was cut off",
         Ok(Ended::Closed) => "the connection was closed",

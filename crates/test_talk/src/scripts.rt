@@ -72,7 +72,7 @@ fn serve_once<R: Read, W: Write, D: Desk>(
     writer: &mut W,
 ) -> Result<Result<Ended, ServeFault>, Fail> {
     let routes = Routes::new(alloc)?;
-    Ok(serve(alloc, &routes, desk, moment, reader, writer))
+    Ok(serve(&routes, desk, moment, reader, writer))
 }
 
 /// Tests that a connection went as the script says.

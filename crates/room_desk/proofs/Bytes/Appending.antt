@@ -239,9 +239,14 @@ module _ (asker : Asker) (path : List (List ℕ)) (bytes : List ℕ) where
         → SetsBody node.id (before ++ bytes) mid new
         → IsClosed asker (Append path bytes) old Done new
     append_closed before new were few sets =
-        closed_done asker (Append path bytes) old Done mid new (few_judged before were few) refl
-        refl (ap (λ (r : Rows). r.read.audits) (bytes_set (before ++ bytes) new sets))
+        let judged = few_judged before were few in
+        closed_done asker (Append path bytes) old Done mid new judged refl refl
+        (with_body old.read node.id (before ++ bytes)) refl
+        (bytes_set (before ++ bytes) new sets
+        ∙ ap (λ (r : Rows). with_content r (with_body r.read node.id (before ++ bytes)))
+        judged.notes)
         (stored_site path node, reached.found, refl)
+        (stored_site path node, reached.found, (before, were, refl))
 
     on_size : (before : List ℕ) (t : Bool) (new : Rows) (reply : Reply)
         → body_of old.read node.id ≡ Some before → nat_lt 1048576 (length (before ++ bytes)) ≡ t

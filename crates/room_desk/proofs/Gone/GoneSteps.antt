@@ -265,7 +265,9 @@ module _ (asker : Asker) (path : List (List ℕ)) where
             → IsClosed asker (Remove path) old Done new
         removed_closed new removes =
             closed_done asker (Remove path) old Done last new all refl refl
-            (ap (λ (r : Rows). r.read.audits) (removes may))
+            (without_node old.read id) refl
+            (removes may ∙ ap (λ (r : Rows). with_content r (without_node r.read id)) all.notes)
+            (stored_site path target.node, paired.target, refl)
             (stored_site path target.node, paired.target, refl)
 
       -- a child that can't be read

@@ -16,13 +16,14 @@ use Rattle.room_rows.specs.Content.{Content, node_at, parent_of, has_parent, is_
 use Rattle.room_rows.specs.Content.{with_each, with_node}
 use Rattle.room_rows.specs.Held.{held_of, full_of, with_held, is_linked}
 use Rattle.room_rows.specs.Meaning.{kept_held, kept_node, meaning}
-use Rattle.room_rows.proofs.Frames.{Rises, node_at-number, parent_is}
+use Rattle.room_rows.proofs.Frames.{Rises, parent_is}
 use Rattle.room_rows.proofs.InPlace.{keeps_places, node_at-with_each, place-with_held}
 use Rattle.room_rows.proofs.InPlace.{rises-with_each, with_each-with_each, with_node-replaces}
 use Rattle.room_rows.proofs.SamePlace.{IsSamePlace, replaced}
 use Rattle.room_rows.specs.Pass.{pass}
 use Rattle.room_machine.specs.Effect.{kept_by_child, sent_held, set_list}
-use Rattle.room_desk.specs.Setting.{kept_site, stored_held}
+use Rattle.room_desk.specs.Setting.{kept_site}
+use Rattle.room_machine.specs.Changed.{stored_held}
 use Rattle.room_machine.specs.Site.{full_at}
 use Rattle.room_desk.proofs.Lists.Relisted.{relist, kept_relisted}
 use Rattle.room_desk.proofs.Lists.SetHeld.{base, base_here, base_elsewhere, each_same, ends, final}

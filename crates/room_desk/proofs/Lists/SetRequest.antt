@@ -38,14 +38,15 @@ use Rattle.room_desk.specs.Carrying.{IsRooted, IsUnreadableIfHeld}
 use Rattle.room_desk.proofs.Sound.Blamed.{noted_unread}
 use Rattle.room_desk.proofs.Moves.MovingPlan.{along_noted}
 use Rattle.room_desk.proofs.Sound.RootedWays.{rooted_along}
-use Rattle.room_desk.specs.Setting.{Beneath, IsFoundUnder, IsSetOrRefused, IsSetWell, SetUnless}
-use Rattle.room_desk.specs.Setting.{kept_site, reason_of}
+use Rattle.room_desk.specs.Setting.{Beneath, IsFoundUnder, IsSetOnly, IsSetOrRefused, IsSetWell}
+use Rattle.room_desk.specs.Setting.{SetUnless, kept_site, reason_of}
 use Rattle.room_machine.specs.Site.{Site, site_at}
 use Rattle.room_machine.specs.Stored.{stored_along, stored_plan, stored_site, to_stored}
 use Rattle.room_judge.specs.Stored.{found_site}
 use Rattle.room_desk.proofs.Sound.Filled.{fill_item, plan_judged}
 use Rattle.room_judge.proofs.Judging.{fails_first, judged_none, passes_first, refuses}
 use Rattle.room_desk.proofs.Steps.Serving.{CheckAt}
+use Rattle.room_desk.proofs.Lists.HandedDown.{beside, set_noted}
 use Rattle.room_desk.proofs.Lists.SetEffect.{set_effect}
 use Rattle.room_desk.proofs.Sound.Sites.{fill}
 use Rattle.room_desk.proofs.Sound.SoundParts.{sound_noted, sound_parts}
@@ -162,16 +163,21 @@ module _ (asker : Asker) (path : List (List ℕ)) (which : Which) (sent : Sent) 
         → reply ≡ option_map_or (λ why. Refused path why) (reason_of faults) Done
         → SetUnless (reason_of faults) which sent node mid new
         → IsServed asker (SetList path which sent) old reply new
-    on_faults None new reply none said replies becomes = (
-      λ known sound.
-          subst (λ (r : Reply). CarriesOut asker (SetList path which sent) old r new) (sym replies)
-          (set_well new none (becomes.1 there_mid (ap reason_of none) said.few
-          (subst AreSound (sym reached.judged.notes) (sound_noted old _ sound)))) known sound,
-      closed_done asker (SetList path which sent) old reply mid new
-          (by_stored old mid None (all_items None mid None none (judged_none asker mid mid refl)))
-          refl (ap failure_told replies) (becomes.0 there_mid)
-          (stored_site path node, reached.found, replies),
-    )
+    on_faults None new reply none said replies becomes =
+        let judged = by_stored old mid None
+        (all_items None mid None none (judged_none asker mid mid refl)) in
+        let set = set_noted which sent node old new _
+        (subst (λ (r : Rows). IsSetOnly which sent node r new) judged.notes (becomes.0 there_mid))
+        in (
+          λ known sound.
+              subst (λ (r : Reply). CarriesOut asker (SetList path which sent) old r new) (sym replies)
+              (set_well new none (becomes.1 there_mid (ap reason_of none) said.few
+              (subst AreSound (sym reached.judged.notes) (sound_noted old _ sound)))) known sound,
+          closed_done asker (SetList path which sent) old reply mid new judged
+              refl (ap failure_told replies) (beside old new) refl set.1
+              (stored_site path node, reached.found, replies)
+              (stored_site path node, reached.found, set.0),
+        )
     on_faults (Some fault) new reply some said replies becomes =
         let refused = refuses asker path (BadList fault.place fault.why) true [] mid new reply
         replies refl becomes in (

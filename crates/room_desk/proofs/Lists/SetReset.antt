@@ -24,7 +24,7 @@ use Rattle.room_machine.specs.declared.reply.Reply.TheVariants.{Done, Refused}
 use Rattle.room_machine.specs.declared.request.Request.TheVariants.{SetList}
 use Rattle.room_machine.specs.Effect.{effect}
 use Rattle.room_machine.specs.Judge.{first_failure, or_else}
-use Rattle.room_judge.specs.Judged.{Resets}
+use Rattle.room_judge.specs.Judged.{ResetsSound}
 use Rattle.room_machine.specs.Plan.{Item, Check, Deletion, Refusal, bad_list, plan_of, way}
 use Rattle.room_machine.specs.Plan.{where_found}
 use Rattle.room_desk.specs.Carrying.{IsRooted, IsUnreadableIfHeld}
@@ -156,7 +156,7 @@ module _ (old : Rows) (are : AreRows old) (sound : AreSound old) (path : List (L
       (effect (meaning rows) operator 0 (SetList path which sent))) (plan_refuses ∙ is)
 
   module _ (last : Node) (new : Rows) (reply : Reply) where
-    refused_so : answer ≡ Some reply → new ≡ old → Resets path which sent old reply new
+    refused_so : answer ≡ Some reply → new ≡ old → ResetsSound path which sent old reply new
     refused_so is same _ =
         record {
           reset = reset_is (Some reply) is
@@ -172,7 +172,7 @@ module _ (old : Rows) (are : AreRows old) (sound : AreSound old) (path : List (L
         → IsSetOrRefused path which sent last old reply new
         → reply ≡ option_map_or (λ why. Refused path why) (reason_of faults) Done
         → SetUnless (reason_of faults) which sent last old new
-        → Resets path which sent old reply new
+        → ResetsSound path which sent old reply new
     at_target None none there found is said replies becomes _ =
         let well = becomes.1 there (ap reason_of none) said.few sound in
         record {
@@ -190,7 +190,7 @@ module _ (old : Rows) (are : AreRows old) (sound : AreSound old) (path : List (L
         → Comes rows are.numbers operator (items path which sent) folders path
         (stored_along rows path) path answer last rest
         → IsResetAtEnd path which sent last rest old reply new
-        → Resets path which sent old reply new
+        → ResetsSound path which sent old reply new
     at_end zero there came said =
         at_target (first_bad_entry 1 which last.kind sent.entries) refl there came.0 came.1 said
         said.replies said.becomes
@@ -204,7 +204,7 @@ module _ (path : List (List ℕ)) (which : Which) (sent : Sent) (old mid : Rows)
   pub reset_done : (above : Option Node) → above ≡ slice_get front (length front - 1)
       → (new : Rows) (reply : Reply) → AreRows old
       → Beneath above last (IsResetAtEnd path which sent last walk.rest) mid reply new
-      → Resets path which sent old reply new
+      → ResetsSound path which sent old reply new
   reset_done above read new reply are beneath sound =
       let said = beneath (ap (λ (r : Rows). parent_of r.read last) same
       ∙ above_end old are.numbers path walk front last above is chain read) in

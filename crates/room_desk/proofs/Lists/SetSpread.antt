@@ -24,7 +24,7 @@ use Rattle.room_rows.specs.Law.{AllAgree, AllAgreeBut, agrees, agrees_with}
 use Rattle.room_rows.specs.Pass.{pass}
 use Rattle.room_inherit.specs.Spread.{IsLinkedBelow, is_changed, is_linked_within, is_within}
 use Rattle.room_inherit.proofs.Rooted.{rooted_no_loop}
-use Rattle.room_desk.specs.Setting.{stored_held}
+use Rattle.room_machine.specs.Changed.{stored_held}
 use Rattle.room_desk.proofs.Lists.Relisted.{relist, relisted, held_relisted, kind_kept, parent_kept}
 use Rattle.room_desk.proofs.Lists.Relisted.{parent_relisted}
 use Rattle.room_desk.proofs.Lists.SetHeld.{base, base_here, base_elsewhere, mid, mid_is}

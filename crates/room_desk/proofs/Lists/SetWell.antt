@@ -18,10 +18,11 @@ use Rattle.room_entry.specs.declared.object.Which.{Which}
 use Rattle.room_rows.specs.HeldList.{Held}
 use Rattle.room_rows.specs.declared.node.Node.{Node}
 use Rattle.room_rows.specs.Content.{Content, node_at, parent_of, has_parent, is_linked_in}
-use Rattle.room_rows.specs.Content.{with_each}
-use Rattle.room_rows.specs.Held.{held_of, full_of, is_linked}
+use Rattle.room_rows.specs.Content.{with_each, with_node}
+use Rattle.room_rows.specs.Held.{held_of, full_of, is_linked, with_held}
 use Rattle.room_rows.specs.Keep.{with_content}
 use Rattle.room_rows.specs.Rows.{Rows, AreRows}
+use Rattle.room_rows.proofs.InPlace.{with_node-there}
 use Rattle.room_rows.specs.Law.{AllAgree, agrees}
 use Rattle.room_inherit.specs.Laws.{are_valid}
 use Rattle.room_rows.specs.Pass.{pass}
@@ -29,9 +30,11 @@ use Rattle.room_rows.specs.Sound.{AreSound, keeps_law, reaches}
 use Rattle.room_inherit.specs.Spread.{IsSpread, with_lists}
 use Rattle.room_inherit.proofs.Kinship.{with_own}
 use Rattle.room_inherit.proofs.NoFault.{no_fault}
-use Rattle.room_desk.specs.Setting.{IsNewInh, IsSet, IsSetWell, Stores, fault_in, reason_of}
-use Rattle.room_desk.specs.Setting.{held_with, stored_held}
+use Rattle.room_desk.specs.Setting.{IsNewInh, IsSet, IsSetOnly, IsSetWell, Stores, fault_in}
+use Rattle.room_desk.specs.Setting.{held_with, reason_of}
+use Rattle.room_machine.specs.Changed.{HandsDown, stored_held}
 use Rattle.room_desk.specs.Carrying.{GoesDown}
+use Rattle.room_desk.proofs.Lists.HandedDown.{nothing_handed, only_read, spread_handed}
 use Rattle.room_desk.proofs.Lists.Relisted.{held_relisted, one_agrees, relist}
 use Rattle.room_desk.proofs.Lists.SetHeld.{base, base_here, each_same, ends, ends_is, final, links}
 use Rattle.room_desk.proofs.Lists.SetHeld.{mid, other_links, own_held, same_object, set_sound}
@@ -275,16 +278,44 @@ module _ (which : Which) (sent : Sent) (node : Node) (inh : List Ace) (old new :
   stored : held ≡ stored_held which sent node.kind (parent_of old.read node)
   stored = ap (held_with sent) is
 
-  records_stay : Stores which node held old tt new → node_at old.read node.id ≡ Some node
-      → new.read.audits ≡ old.read.audits
-  records_stay (inl stays) there = ap (λ (r : Rows). r.read.audits) stays.1
-  records_stay (inr written) there = on sent.flags.auto (written.goes there)
-      ∙ ap (λ (r : Rows). r.read.audits) (written.writes node there)
-    where
-      on : (t : Bool) → GoesDown t which node.id written.mid new
-          → new.read.audits ≡ written.mid.read.audits
-      on true goes = ap (λ (r : Rows). r.read.audits) goes.1.becomes
-      on false goes = ap (λ (r : Rows). r.read.audits) goes
+  -- the content with the list, before anything is handed down
+  abbrev listed : Held → Content
+  listed list = with_node old.read (with_held which list node)
+
+  hands_down : (list : Held) → held ≡ list → (half : Rows) → half.read ≡ listed held
+      → (t : Bool) → GoesDown t which node.id half new
+      → HandsDown which node.id (listed list) new.read
+  hands_down list same half is true goes =
+      subst (λ (c : Content). HandsDown which node.id c new.read)
+      (is ∙ ap listed same) (spread_handed which node.id goes.0 half new goes.1)
+  hands_down list same half is false goes =
+      subst (λ (c : Content). HandsDown which node.id c new.read)
+      (ap (λ (r : Rows). r.read) goes ∙ is ∙ ap listed same)
+      (nothing_handed which node.id new.read)
+
+  still_unread : (half : Rows) (t : Bool) → GoesDown t which node.id half new
+      → new.unreadable ≡ half.unreadable
+  still_unread half true goes = ap (λ (r : Rows). r.unreadable) goes.1.becomes
+  still_unread half false goes = ap (λ (r : Rows). r.unreadable) goes
+
+  only : Stores which node held old tt new → node_at old.read node.id ≡ Some node
+      → IsSetOnly which sent node old new
+  only (inl stays) there = (
+    hands_down (stored_held which sent node.kind (parent_of old.read node)) stored old
+        (sym (ap (with_node old.read) (ap (λ (h : Held). with_held which h node) stays.0
+        ∙ sym (own_held which node)) ∙ with_node-there old.read are.numbers node there))
+        false stays.1,
+    only_read old new (ap (λ (r : Rows). r.unreadable) stays.1),
+  )
+  only (inr written) there =
+      let writes = written.writes node there in
+      let goes = written.goes there in (
+        hands_down (stored_held which sent node.kind (parent_of old.read node)) stored written.mid
+            (ap (λ (r : Rows). r.read) writes) sent.flags.auto goes,
+        only_read old new
+            (still_unread written.mid sent.flags.auto goes
+            ∙ ap (λ (r : Rows). r.unreadable) writes),
+      )
 
   well : Stores which node held old tt new → node_at old.read node.id ≡ Some node
       → fault_in 1 which node.kind sent.entries ≡ None → limit_fault sent.entries ≡ None
@@ -303,4 +334,4 @@ module _ (which : Which) (sent : Sent) (node : Node) (inh : List Ace) (old new :
           (goes ∙ written.writes node there)
 
   pub well_stored : Stores which node held old tt new → IsSet which sent node old new
-  well_stored stores = (records_stay stores, well stores)
+  well_stored stores = (only stores, well stores)

@@ -19,7 +19,8 @@ use Rattle.room_inherit.specs.Spread.{Holds}
 use Rattle.room_desk.specs.Carrying.{GoesDown, HasLoop, HasLoopFrom, IsCarriedDown, IsCarriedFrom}
 use Rattle.room_desk.specs.Carrying.{IsUnreadableIfHeld}
 use Rattle.room_desk.specs.Setting.{Beneath, IsNewInh, IsSet, IsWrittenDown, Stores, list_of}
-use Rattle.room_desk.specs.Setting.{entries_marked, passing_parent, held_with, stored_inh}
+use Rattle.room_desk.specs.Setting.{entries_marked, held_with}
+use Rattle.room_machine.specs.Changed.{passing_parent, stored_inh}
 use Rattle.room_desk.proofs.Sound.Anchored.{changed_unread}
 use Rattle.room_desk.proofs.Lists.SetWell.{well_stored}
 

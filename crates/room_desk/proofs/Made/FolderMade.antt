@@ -25,7 +25,8 @@ use Rattle.room_judge.specs.Closed.{IsClosed, IsServed}
 use Rattle.room_machine.specs.Stored.{stored_site, stored_along, stored_plan}
 use Rattle.room_judge.specs.Stored.{found_site}
 use Rattle.room_judge.specs.Judged.{IsJudged, CarriesOut}
-use Rattle.room_desk.specs.Made.{Ends, IsMade, IsNameOf, IsJudgedAndDone, new_child}
+use Rattle.room_desk.specs.Made.{Ends, IsMade, IsNameOf, IsJudgedAndDone}
+use Rattle.room_machine.specs.Changed.{new_child}
 use Rattle.room_judge.specs.Spot.{IsSpotted, spot_of}
 use Rattle.room_judge.proofs.Closing.{closed_done, closed_failed}
 use Rattle.room_judge.proofs.Judging.{fails_first, passes_first, refuses}
@@ -34,7 +35,7 @@ use Rattle.room_desk.proofs.Sound.SoundParts.{sound_parts}
 use Rattle.room_desk.proofs.Made.FolderFound.{IsFoundFolder, found_folder}
 use Rattle.room_desk.proofs.Made.FolderPlans.{folder_at, folder_judged, folder_plan, making}
 use Rattle.room_desk.proofs.Made.FolderPlans.{planned_parent}
-use Rattle.room_desk.proofs.Made.NewStep.{made_audits, made_new}
+use Rattle.room_desk.proofs.Made.NewStep.{made_adds, made_new}
 use Rattle.room_desk.proofs.Made.PutMade.{is_none_none}
 use Rattle.room_desk.proofs.Made.ServedItems.{judged_refused}
 use Rattle.room_desk.proofs.Steps.Stepping.{made_step, refused_step}
@@ -179,17 +180,14 @@ module _ (asker : Asker) (path : List (List ℕ)) where
         → IsMade (new_child asker.caller Folder folder.node name []) last new
         → IsClosed asker (MakeFolder path) old Made new
     folder_closed last new judged made =
-        let all = at_stored last None judged in
-        closed_done asker (MakeFolder path) old Made last new
-        (as_stored named.some old last None all) refl refl
-        (made_audits asker.caller Folder folder.node name [] old last new _ found.there found.folds
-        (absent last judged) all.notes made) (
-          found_site path folder,
-          spotted.folder,
-          spotted.child
-              ∙ ap (option_map (stored_site path)) (is_none_none child (no_child last judged)),
-          refl,
-        )
+        let all = as_stored named.some old last None (at_stored last None judged) in
+        let adds = made_adds asker.caller Folder folder.node name (last_name path) [] old last new _
+        found.there found.folds (absent last judged) named.last all.notes made in
+        let nothing = spotted.child
+        ∙ ap (option_map (stored_site path)) (is_none_none child (no_child last judged)) in
+        closed_done asker (MakeFolder path) old Made last new all refl refl adds.next adds.audits
+        adds.becomes (found_site path folder, spotted.folder, nothing, refl)
+        (found_site path folder, spotted.folder, nothing, adds.adds)
 
     made_on : (answer : Option Reply) (last new : Rows) (reply : Reply)
         → IsJudged asker (making path (is_some child) (found_site path folder)) mid answer last

@@ -34,7 +34,7 @@ use Rattle.room_inherit.proofs.Renewing.{map_agree}
 use Rattle.room_inherit.proofs.Valid.{pass_is_valid}
 use Rattle.room_inherit.proofs.Whole.{none_unreadable}
 use Rattle.room_machine.specs.Effect.{new_node}
-use Rattle.room_desk.specs.Made.{new_child, passed_held}
+use Rattle.room_machine.specs.Changed.{new_child, passed_held}
 use Rattle.room_machine.specs.Stored.{stored_site}
 use Rattle.room_desk.proofs.Made.SoundAdded.{above_new, above_old, lists_here, sound_added}
 use Rattle.room_desk.proofs.Sound.SoundParts.{sound_parts}

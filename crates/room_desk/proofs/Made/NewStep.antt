@@ -20,7 +20,8 @@ use Rattle.room_rows.proofs.InPlace.{keeps_places, node_at-with_each}
 use Rattle.room_rows.specs.Sound.{AreSound}
 use Rattle.room_machine.specs.Effect.{new_node}
 use Rattle.room_judge.specs.Judged.{with_notes}
-use Rattle.room_desk.specs.Made.{IsMade, new_child}
+use Rattle.room_desk.specs.Made.{IsMade}
+use Rattle.room_machine.specs.Changed.{AddsNew, new_child}
 use Rattle.room_machine.specs.Step.{IsFree}
 use Rattle.room_machine.specs.Stored.{stored_site}
 use Rattle.room_desk.proofs.Made.NewObject.{added, added_means, added_sound, bodies_then}
@@ -57,14 +58,49 @@ new_audits content id new = on (is_document new.kind)
     on true = refl
     on false = refl
 
--- an object that is made leaves the records as they were
-pub made_audits : (caller : Caller) (kind : ObjKind) (folder : Node) (name bytes : List ℕ)
+-- it comes beside records that were added
+new_noted : (content : Content) (id : ℕ) (new : NewNode) (records : List AuditRow)
+    → with_new (with_records content records) id new
+    ≡ with_records (with_new content id new) records
+new_noted content id new records = on (is_document new.kind)
+  where
+    noted : Content
+    noted = with_records content records
+
+    on : (t : Bool)
+        → cond t (with_body (with_node noted (node_of id new)) id new.bytes)
+        (with_node noted (node_of id new))
+        ≡ with_records (cond t (with_body (with_node content (node_of id new)) id new.bytes)
+        (with_node content (node_of id new))) records
+    on true = refl
+    on false = refl
+
+-- An object is made by this name, and the records come after the others.
+pub record AddsNoted (node : NewNode) (old : Rows) (records : List AuditRow) (new : Rows)
+    : Type 0 where
+  pub next : Content
+  pub audits : next.audits ≡ old.read.audits
+  pub becomes : new ≡ with_notes (with_content old next) records
+  pub adds : AddsNew node old next
+
+noted_adds : (node : NewNode) (old new : Rows) (records : List AuditRow) (id : ℕ)
+    → IsAdded node (with_notes old records) id new → AddsNoted node old records new
+noted_adds node old new records id added = record {
+  next = with_new old.read id node;
+  audits = new_audits old.read id node;
+  becomes = added.becomes
+      ∙ ap (with_content (with_notes old records)) (new_noted old.read id node records);
+  adds = (id, added.from_one, added.is_new, added.is_free, refl);
+}
+
+pub made_adds : (caller : Caller) (kind : ObjKind) (folder : Node) (name last bytes : List ℕ)
     (old mid new : Rows) (records : List AuditRow) → node_at old.read folder.id ≡ Some folder
-    → is_folder folder ≡ true → child_of old.read folder.id name ≡ None
+    → is_folder folder ≡ true → child_of old.read folder.id name ≡ None → name ≡ last
     → mid ≡ with_notes old records
     → IsMade (new_child caller kind folder name bytes) mid new
-    → new.read.audits ≡ mid.read.audits
-made_audits caller kind folder name bytes old mid new records there is_above absent notes made =
+    → AddsNoted (new_child caller kind folder last bytes) old records new
+made_adds caller kind folder name last bytes old mid new records there is_above absent same notes
+    made =
     let node : NewNode = new_child caller kind folder name bytes in
     let can : CanAdd node (with_notes old records) = record {
       parent = folder.id;
@@ -72,9 +108,10 @@ made_audits caller kind folder name bytes old mid new records there is_above abs
       folder = (folder, there, is_above);
       name_is_free = absent;
     } in
-    let adds : IsAdded node mid made.0 new = made.1
-    (subst (λ (r : Rows). CanAdd node r) (sym notes) can) in
-    ap (λ (r : Rows). r.read.audits) adds.becomes ∙ new_audits mid.read made.0 node
+    let here : IsMade node (with_notes old records) new =
+    subst (λ (r : Rows). IsMade node r new) notes made in
+    subst (λ (n : List ℕ). AddsNoted (new_child caller kind folder n bytes) old records new) same
+    (noted_adds node old new records here.0 (here.1 can))
 
 none_mapped : (o : Option Node) (f : Node → Node) → o ≡ None → is_none (option_map f o) ≡ true
 none_mapped o f is = ap (λ p. is_none (option_map f p)) is

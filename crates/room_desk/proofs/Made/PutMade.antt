@@ -29,7 +29,8 @@ use Rattle.room_judge.specs.Closed.{IsClosed, IsServed}
 use Rattle.room_machine.specs.Stored.{stored_site, stored_along, to_stored}
 use Rattle.room_judge.specs.Stored.{found_site}
 use Rattle.room_judge.specs.Judged.{IsJudged, IsReached, CarriesOut}
-use Rattle.room_desk.specs.Made.{Ends, IsMade, IsNameOf, IsJudgedAndDone, new_child}
+use Rattle.room_desk.specs.Made.{Ends, IsMade, IsNameOf, IsJudgedAndDone}
+use Rattle.room_machine.specs.Changed.{new_child}
 use Rattle.room_judge.specs.Spot.{IsSpotted, spot_of}
 use Rattle.room_judge.proofs.Closing.{closed_done, closed_failed}
 use Rattle.room_judge.proofs.Judging.{fails_first, passes_first}
@@ -39,7 +40,7 @@ use Rattle.room_desk.proofs.Sound.SoundParts.{sound_parts, sound_noted}
 use Rattle.room_desk.proofs.Sound.Filled.{target_there}
 use Rattle.room_desk.proofs.Made.FolderFound.{IsFoundFolder, found_folder}
 use Rattle.room_desk.proofs.Made.FolderPlans.{planned_none, planned_parent, put_at, put_judged}
-use Rattle.room_desk.proofs.Made.NewStep.{made_audits, made_new}
+use Rattle.room_desk.proofs.Made.NewStep.{made_adds, made_new}
 use Rattle.room_desk.proofs.Made.ServedItems.{judged_refused}
 use Rattle.room_desk.proofs.Steps.Stepping.{changed_step, made_step, refused_step}
 
@@ -175,8 +176,11 @@ module _ (asker : Asker) (path : List (List ℕ)) (bytes : List ℕ) where
         → SetsBody node.id bytes last new → IsClosed asker (Put path bytes) old Done new
     set_closed last new judged sets =
         closed_done asker (Put path bytes) old Done last new (all_judged last None judged) refl refl
-        (ap (λ (r : Rows). r.read.audits) (bytes_set last new judged sets))
-        (inl (stored_site path node, is, refl))
+        (with_body old.read node.id bytes) refl
+        (bytes_set last new judged sets
+        ∙ ap (λ (r : Rows). with_content r (with_body r.read node.id bytes))
+        (all_judged last None judged).notes)
+        (inl (stored_site path node, is, refl)) (inl (stored_site path node, is, refl))
 
     on_answer : (answer : Option Reply) (last new : Rows) (reply : Reply)
         → IsJudged asker (there_items (stored_site path node)) mid answer last
@@ -321,10 +325,11 @@ module _ (asker : Asker) (path : List (List ℕ)) (bytes : List ℕ) where
         → IsClosed asker (Put path bytes) old Made new
     made_closed last new judged made =
         let all = new_judged last None judged in
-        closed_done asker (Put path bytes) old Made last new all refl refl
-        (made_audits asker.caller Document folder.node name bytes old last new _ found.there
-        found.folds absent all.notes made)
-        (inr (found_site path folder, spotted.folder, spotted.child, refl))
+        let adds = made_adds asker.caller Document folder.node name (last_name path) bytes old last
+        new _ found.there found.folds absent named.last all.notes made in
+        closed_done asker (Put path bytes) old Made last new all refl refl adds.next adds.audits
+        adds.becomes (inr (found_site path folder, spotted.folder, spotted.child, refl))
+        (inr (found_site path folder, spotted.folder, spotted.child, adds.adds))
 
     new_on : (answer : Option Reply) (last new : Rows) (reply : Reply)
         → IsJudged asker (new_items (found_site path folder)) mid answer last

@@ -23,13 +23,16 @@ use Rattle.room_machine.specs.Site.{Site, site_at, sites_along, parent_at, front
 use Rattle.room_machine.specs.Plan.{Item, Deletion, Refusal, plan_of, way, where_found}
 use Rattle.room_machine.specs.Judge.{first_failure, records_of_plan}
 use Rattle.room_machine.specs.Effect.{moved_node, with_site}
-use Rattle.room_machine.specs.Stored.{stored_site, stored_from, stored_along, to_stored}
+use Rattle.room_machine.specs.Stored.{stored_site, stored_from, stored_along, stored_plan}
+use Rattle.room_machine.specs.Stored.{to_stored}
 use Rattle.room_judge.specs.Stored.{found_site}
 use Rattle.room_judge.specs.Spot.{IsPaired, pair_of}
 use Rattle.room_judge.specs.Closed.{IsServed}
 use Rattle.room_judge.proofs.Closing.{closed_done, closed_failed}
 use Rattle.room_judge.specs.Judged.{CarriesOut, FromRoot, IsJudged, IsReached, with_notes}
-use Rattle.room_desk.specs.Moving.{CanGo, CanPlace, FailsToPlace, IsPlaced, at_place, begins}
+use Rattle.room_desk.specs.Moving.{CanGo, CanPlace, FailsToPlace, IsMovedOnly, IsPlaced, at_place}
+use Rattle.room_desk.specs.Moving.{begins}
+use Rattle.room_desk.proofs.Lists.HandedDown.{beside, moved_noted}
 use Rattle.room_desk.proofs.Sound.Filled.{IsTarget, target_there}
 use Rattle.room_judge.proofs.Judging.{failure_of_parts, fails_first, passes_first, passes_on}
 use Rattle.room_judge.proofs.Judging.{refuses}
@@ -296,14 +299,23 @@ module _ (asker : Asker) (path to : List (List ℕ)) (from target : Found) (old 
 
       pub moves : (new : Rows)
           → (CanPlace target.node folder name last → IsPlaced target.node folder name last new)
-          → (CanGo target.node folder name last → new.read.audits ≡ last.read.audits)
+          → (CanGo target.node folder name last → IsMovedOnly target.node folder name last new)
           → IsServed asker (Move path to) old Done new
-      moves new places same = (
-        moves_on new places,
-        closed_done asker (Move path to) old Done last new
-            (move_stored old are asker path to last None judged_all) refl refl (same go_on)
-            (stored_site path target.node, paired.target, (folder_site, folder_is, refl)),
-      )
+      moves new places goes =
+          let judged = move_stored old are asker path to last None judged_all in
+          let records = records_of_plan asker.caller asker.moment
+          (stored_plan old.read (Move path to)) in
+          let moved = moved_noted target.node folder (last_name to) old new records
+          (subst (λ (n : List ℕ). IsMovedOnly target.node folder n (with_notes old records) new)
+          is_last
+          (subst (λ (r : Rows). IsMovedOnly target.node folder name r new) judged.notes
+          (goes go_on))) in (
+            moves_on new places,
+            closed_done asker (Move path to) old Done last new judged refl refl (beside old new)
+                refl moved.1
+                (stored_site path target.node, paired.target, (folder_site, folder_is, refl))
+                (stored_site path target.node, paired.target, (folder_site, folder_is, moved.0)),
+          )
 
 -- ---- in terms of the calls
 

@@ -71,7 +71,11 @@ owners_changed : (asker : Asker) (path : List (List ℕ)) (owners : Owners) (old
 owners_changed asker path owners old mid new node are reached changes = (
   carried,
   closed_done asker (SetOwners path owners) old Done mid new reached.judged refl refl
-      (ap (λ (r : Rows). r.read.audits) new_is) (stored_site path node, reached.found, refl),
+      (with_node old.read (with_owners owners node)) refl
+      (changes node there_mid
+      ∙ ap (λ (r : Rows). with_content r (with_node r.read (with_owners owners node)))
+      reached.judged.notes)
+      (stored_site path node, reached.found, refl) (stored_site path node, reached.found, refl),
 )
   where
     there : node_at old.read node.id ≡ Some node

@@ -1,19 +1,30 @@
 -- The calls that give an object another place.
-use Rattle.std.proofs.Common.{◌≡◌, ℕ, true, false, List, Some, refl, sym, ap, subst, ◌∙◌, inl, inr}
+use Rattle.std.proofs.Common.{◌≡◌, ℕ, ◌==◌, Bool, true, false, cond, List, Some, refl, sym, ap}
+use Rattle.std.proofs.Common.{subst, ◌∙◌, inl, inr}
+use Rattle.std.specs.Option.{option_map}
 use Rattle.room_entry.specs.Ace.{Ace}
 use Rattle.room_entry.specs.declared.object.Which.{Which}
 use Rattle.room_entry.specs.declared.object.Which.TheVariants.{Dacl, Sacl}
 use Rattle.room_rows.specs.declared.node.Node.{Node}
-use Rattle.room_rows.specs.Content.{with_node}
+use Rattle.room_rows.specs.HeldList.{Held}
+use Rattle.room_rows.specs.Content.{Content, node_at, with_node}
 use Rattle.room_rows.specs.Held.{held_of, full_of, is_linked}
 use Rattle.room_rows.specs.Keep.{Changes, IsUnreadable, Places, with_content, with_inh, with_place}
 use Rattle.room_rows.specs.Rows.{Rows}
-use Rattle.room_rows.proofs.InPlace.{place-with_inh}
+use Rattle.room_rows.proofs.Frames.{Rises}
+use Rattle.room_rows.proofs.InPlace.{keeps_places, node_at-with_each, place-with_inh}
+use Rattle.room_rows.proofs.InPlace.{rises-with_each, with_inh-id}
+use Rattle.room_rows.proofs.SamePlace.{IsSamePlace, same_place}
+use Rattle.room_inherit.proofs.Kinship.{with_own}
 use Rattle.room_rows.specs.Pass.{pass}
 use Rattle.room_machine.specs.declared.reply.Reply.TheVariants.{Done}
+use Rattle.room_machine.specs.Changed.{HandsDown, Relinks, inh_in, with_one}
 use Rattle.room_desk.specs.Carrying.{HasLoop, IsCarriedDown, IsRooted}
 use Rattle.room_desk.specs.Moving.{CanGo, CanPlace, CanRenew, FailsToPlace, FailsToRenew}
-use Rattle.room_desk.specs.Moving.{HasRenewedLists, KeepsRoot, PlacesAt, Renews, TakesPassed}
+use Rattle.room_desk.specs.Moving.{HasListOf, HasRenewedLists, KeepsRoot, PlacesAt, Renews}
+use Rattle.room_desk.specs.Moving.{TakesPassed}
+use Rattle.room_desk.proofs.Lists.HandedDown.{nothing_handed, one_stays, only_read, put_one}
+use Rattle.room_desk.proofs.Lists.HandedDown.{spread_handed}
 use Rattle.room_desk.proofs.Sound.Anchored.{changed_unread, here_after, past_up, rises_after}
 use Rattle.room_desk.proofs.Sound.Anchored.{rooted_changed, rooted_spread}
 use Rattle.room_desk.proofs.Placed.PlacedStates.{can_renew, can_renew_sacl, first_state, is_placed}
@@ -27,9 +38,30 @@ pub keeps_all : (id : ℕ) (old new : Rows) → new ≡ old → IsRooted id old 
 keeps_all id old new same rooted =
     record {
       unreadable = ap (λ (r : Rows). r.unreadable) same;
-      audits = ap (λ (r : Rows). r.read.audits) same;
       rooted = λ _. subst (IsRooted id) (sym same) rooted;
     }
+
+-- the object stores already what it stores in the folder
+relinks_still : (which : Which) (target folder : Node) (old new : Rows)
+    → HasListOf which target old → new ≡ old
+    → inh_in which folder target ≡ (held_of which target).inh
+    → Relinks which folder target old.read new.read
+relinks_still which target folder old new has same is =
+    subst (λ (c : Content). HandsDown which target.id c new.read)
+    (ap (λ (r : Rows). r.read) same
+    ∙ sym (one_stays old.read has.rises target.id has.node has.there
+    (with_inh which (inh_in which folder target))
+    (ap (λ (l : List Ace). with_inh which l has.node)
+    (is ∙ ap (λ (h : Held). h.inh) (sym has.held))
+    ∙ with_own which has.node)))
+    (nothing_handed which target.id new.read)
+
+inh_linked : (which : Which) (target folder : Node)
+    → is_linked (held_of which target) (Some (held_of which folder)) ≡ true
+    → inh_in which folder target ≡ pass target.kind (full_of (held_of which folder))
+inh_linked which target folder linked =
+    ap (λ t. cond t (pass target.kind (full_of (held_of which folder)))
+    (held_of which target).inh) linked
 
 pub unlinked_renews : (which : Which) (target folder : Node) (old new : Rows)
     → is_linked (held_of which target) (Some (held_of which folder)) ≡ false → new ≡ old
@@ -39,6 +71,9 @@ unlinked_renews which target folder old new isnt same = record {
       λ can. subst (λ (r : Rows). HasRenewedLists which old r) (sym same)
       (not_linked which target folder old can isnt);
   keeps = keeps_all target.id old new same;
+  relinks = λ has. relinks_still which target folder old new has same
+      (ap (λ t. cond t (pass target.kind (full_of (held_of which folder)))
+      (held_of which target).inh) isnt);
 }
 
 taken : (which : Which) (target folder : Node) (passed : List Ace) (old new : Rows)
@@ -50,6 +85,8 @@ taken which target folder passed old new linked is (inl stays) = record {
       λ can. subst (λ (r : Rows). HasRenewedLists which old r) (sym stays.1)
       (stored_already which target folder old can passed is stays.0);
   keeps = keeps_all target.id old new stays.1;
+  relinks = λ has. relinks_still which target folder old new has stays.1
+      (inh_linked which target folder linked ∙ sym is ∙ stays.0);
 }
 taken which target folder passed old new linked is (inr takes) = record {
   renewed =
@@ -63,9 +100,16 @@ taken which target folder passed old new linked is (inr takes) = record {
       (first.rooted rooted) in
       record {
         unreadable = second.unreadable ∙ first.unreadable;
-        audits = second.audits ∙ first.audits;
         rooted = λ _. second.rooted (first.rooted rooted);
       };
+  relinks = λ has.
+      subst (λ (c : Content). HandsDown which target.id c new.read)
+      (ap (λ (r : Rows). r.read) (takes.1 has.node has.there)
+      ∙ put_one old.read has.rises target.id has.node has.there (with_inh which passed)
+      (with_inh-id which passed)
+      ∙ ap (λ (l : List Ace). with_one target.id (with_inh which l) old.read)
+      (is ∙ sym (inh_linked which target folder linked)))
+      (spread_handed which target.id takes.2.0 takes.0 new takes.2.1);
 }
 
 pub passed_unread : (which : Which) (target : Node) (passed : List Ace) (old mid : Rows) (row : ℕ)
@@ -111,7 +155,6 @@ module _ (target folder : Node) (name : List ℕ) where
   -- the object is at its place, where its parents lead to the root
   pub record IsStill (old mid : Rows) : Type 0 where
     pub unreadable : mid.unreadable ≡ old.unreadable
-    pub audits : mid.read.audits ≡ old.read.audits
     pub rooted : IsRooted target.id mid
 
   abbrev Stays : Rows → Rows → Type 0
@@ -129,7 +172,6 @@ module _ (target folder : Node) (name : List ℕ) where
       places (folder, can.folder_there, can.folder_is) can.is_free target can.target_there in
       record {
         unreadable = ap (λ (r : Rows). r.unreadable) becomes;
-        audits = ap (λ (r : Rows). r.read.audits) becomes;
         rooted = subst (IsRooted target.id) (sym becomes) (record {
           rises =
               rises_after old.read can.are.numbers target
@@ -153,9 +195,78 @@ module _ (target folder : Node) (name : List ℕ) where
       let keeps = renews.keeps before.rooted in
       record {
         unreadable = keeps.unreadable ∙ before.unreadable;
-        audits = keeps.audits ∙ before.audits;
         rooted = keeps.rooted before.rooted;
       }
+
+  -- it stands there
+  is_at : (old mid : Rows) → Places target.id folder.id name old mid → CanGo target folder name old
+      → mid ≡ with_content old (with_node old.read (with_place folder.id name target))
+  is_at old mid places can =
+      places (folder, can.folder_there, can.folder_is) can.is_free target can.target_there
+
+  -- it has both lists at its new place
+  placed_has : (which : Which) (old mid : Rows) → Places target.id folder.id name old mid
+      → CanGo target folder name old → HasListOf which target mid
+  placed_has which old mid places can = record {
+    rises = (placed_stays old mid places can).rooted.rises;
+    node = with_place folder.id name target;
+    there = subst (λ (r : Rows). node_at r.read target.id ≡ Some (with_place folder.id name target))
+        (sym (is_at old mid places can))
+        (here_after old.read can.are.numbers target
+        (with_place folder.id name target) can.target_there refl);
+    held = same which;
+  }
+    where
+      same : (w : Which) → held_of w (with_place folder.id name target) ≡ held_of w target
+      same Dacl = refl
+      same Sacl = refl
+
+  -- the sacl is what it was where the dacl is handed down
+  sacl_after : (old new : Content) (rows : Rows) → HasListOf Sacl target rows → rows.read ≡ old
+      → Relinks Dacl folder target old new → (after : Rows) → after.read ≡ new
+      → HasListOf Sacl target after
+  sacl_after old new rows has is hands after now = record {
+    rises = subst Rises (sym (now ∙ hands.becomes))
+        (rises-with_each one down (keeps_places one down places_down)
+        (rises-with_each old single (keeps_places old single places_single)
+        (subst Rises is has.rises)));
+    node = down (single has.node);
+    there = ap (λ (c : Content). node_at c target.id) (now ∙ hands.becomes)
+        ∙ node_at-with_each one down (keeps_places one down places_down) target.id
+        ∙ ap (option_map down)
+        (node_at-with_each old single (keeps_places old single places_single) target.id
+        ∙ ap (option_map single) (ap (λ (c : Content). node_at c target.id) (sym is) ∙ has.there));
+    held = single_sacl has.node ∙ has.held;
+  }
+    where
+      first : Node → Node
+      first = with_inh Dacl (inh_in Dacl folder target)
+
+      single : Node → Node
+      single n = cond (n.id == target.id) (first n) n
+
+      one : Content
+      one = with_one target.id first old
+
+      down : Node → Node
+      down n = with_inh Dacl (hands.lists n) n
+
+      places_down : (n : Node) → IsSamePlace (down n) n
+      places_down n = place-with_inh Dacl (hands.lists n) n
+
+      places_single : (n : Node) → IsSamePlace (single n) n
+      places_single n = on (n.id == target.id)
+        where
+          on : (t : Bool) → IsSamePlace (cond t (first n) n) n
+          on true = place-with_inh Dacl (inh_in Dacl folder target) n
+          on false = same_place n
+
+      single_sacl : (n : Node) → (single n).sacl ≡ n.sacl
+      single_sacl n = on (n.id == target.id)
+        where
+          on : (t : Bool) → (cond t (first n) n).sacl ≡ n.sacl
+          on true = refl
+          on false = refl
 
   pub unplaced : (old mid : Rows) (row : ℕ) → mid ≡ old → IsUnreadable mid row
       → FailsToPlace target folder name old row
@@ -168,6 +279,9 @@ module _ (target folder : Node) (name : List ℕ) where
         (state old target folder name can (own_dacl old target folder name can)
         (own_sacl old target folder name can)) mid
     pub stays : Stays old mid
+    pub relinks : CanGo target folder name old → Relinks Dacl folder target
+        (with_node old.read (with_place folder.id name target)) mid.read
+    pub sacl : CanGo target folder name old → HasListOf Sacl target mid
 
   renews_dacl : (old mid : Rows) → Places target.id folder.id name old mid
       → CanPlace target folder name old → CanRenew Dacl target folder mid
@@ -193,6 +307,11 @@ module _ (target folder : Node) (name : List ℕ) where
         (first_state old target folder name can mid places)
         (renews.renewed (renews_dacl old mid places can));
     stays = renewed_stays Dacl old mid new (placed_stays old mid places) renews;
+    relinks = λ can.
+        subst (λ (r : Rows). Relinks Dacl folder target r.read new.read) (is_at old mid places can)
+        (renews.relinks (placed_has Dacl old mid places can));
+    sacl = λ can. sacl_after mid.read new.read mid (placed_has Sacl old mid places can) refl
+        (renews.relinks (placed_has Dacl old mid places can)) new refl;
   }
 
   pub second_fails : (old mid : Rows) (row : ℕ) → FirstDone old mid → FailsToRenew target mid row
@@ -208,5 +327,8 @@ module _ (target folder : Node) (name : List ℕ) where
         (subst (λ (r : Rows). HasRenewedLists Sacl r new)
         (mid_is old target folder name can mid new (first.renewed can))
         (renews.renewed (can_renew_sacl old target folder name can mid new (first.renewed can)))),
-    λ can. (renewed_stays Sacl old mid new first.stays renews can).audits,
+    λ can. (
+      (mid.read, first.relinks can, renews.relinks (first.sacl can)),
+      only_read old new (renewed_stays Sacl old mid new first.stays renews can).unreadable,
+    ),
   )

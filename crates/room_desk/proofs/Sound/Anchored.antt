@@ -129,7 +129,6 @@ rooted_changed id old mid change number parent changes rooted =
     changes rooted.node rooted.there in
     record {
       unreadable = ap (λ (r : Rows). r.unreadable) becomes;
-      audits = ap (λ (r : Rows). r.read.audits) becomes;
       rooted = λ _. subst (IsRooted id) (sym becomes) (record {
         rises =
             rises_after old.read rooted.rises rooted.node (change rooted.node) found
@@ -154,7 +153,6 @@ pub rooted_spread : (which : Which) (id row changed : ℕ) (old new : Rows)
     → IsSpread which row old new changed → IsRooted id old → KeepsRoot id old new
 rooted_spread which id row changed old new spread rooted = record {
   unreadable = ap (λ (r : Rows). r.unreadable) spread.becomes;
-  audits = ap (λ (r : Rows). r.read.audits) spread.becomes;
   rooted = λ _. subst (IsRooted id) (sym spread.becomes) (record {
     rises =
         subst (λ (ids : List ℕ). IsTrue (is_rising (0 ∷ ids)))

@@ -30,6 +30,7 @@ use Rattle.room_machine.specs.Plan.{Along, Item, Check, plan_by, plan_of, target
 use Rattle.room_machine.specs.Plan.{no_folder, way}
 use Rattle.room_machine.specs.Judge.{failure, first_failure, or_else}
 use Rattle.room_machine.specs.Effect.{effect, with_site}
+use Rattle.room_machine.specs.Changed.{IsChanged}
 use Rattle.room_machine.specs.Closed.{IsShown, failure_told}
 use Rattle.room_judge.specs.Closed.{IsServed}
 use Rattle.room_machine.specs.Stored.{stored_site, stored_from, stored_along, stored_plan}
@@ -84,8 +85,9 @@ module _ (asker : Asker) (path : List (List ℕ)) (request : Request) (items : S
       → IsReached asker path items old (Ok node) new
       → ((target : Site) → fill target ≡ stored_site path node
       → act (meaning old.read) target ≡ reply) → failure_told reply ≡ None
-      → IsShown old asker.caller request reply → IsServed asker request old reply new
-  served act acts old new node reply are reached replies none shown = (
+      → IsShown old asker.caller request reply → IsChanged old asker.caller request old.read
+      → IsServed asker request old reply new
+  served act acts old new node reply are reached replies none shown still = (
     λ known sound.
         let target = target_there old are (sound_parts old sound) path
         (stored_site path node) reached.found in
@@ -96,7 +98,8 @@ module _ (asker : Asker) (path : List (List ℕ)) (request : Request) (items : S
         target.at
         ∙ ap (λ (r : Reply). (r, meaning old.read)) (replies target.planned target.filled))
         (plan_is old new None are sound reached.judged),
-    closed_asked asker request old reply new (stored_is old new None reached.judged) none shown,
+    closed_asked asker request old reply new (stored_is old new None reached.judged) none shown
+        still,
   )
 
 -- ---- what a target with its stored lists says
@@ -139,7 +142,7 @@ module _ (asker : Asker) (path : List (List ℕ)) where
       (λ content id. refl) old new node (Bytes bytes) are reached
       (λ target filled. ap (λ (s : Site). Bytes (unwrap_or (body_of old.read s.node.id) [])) filled
       ∙ ap (λ (o : Option (List ℕ)). Bytes (unwrap_or o [])) (sym body)) refl
-      (stored_site path node, reached.found, (bytes, refl, sym body))
+      (stored_site path node, reached.found, (bytes, refl, sym body)) refl
 
   -- names are those of the children where all rows can be read
   pub served_names : (old new : Rows) (node : Node) (names : List (List ℕ × ObjKind)) → AreRows old
@@ -150,7 +153,7 @@ module _ (asker : Asker) (path : List (List ℕ)) where
   served_names old new node names are reached listed = (
     λ known sound. (sound_names (listed (none_unreadable old (sound_parts old sound)))).0 known sound,
     closed_asked asker (ListFolder path) old (Names names) new reached.judged refl
-        (stored_site path node, reached.found, (names, refl, listed)),
+        (stored_site path node, reached.found, (names, refl, listed)) refl,
   )
     where
       sound_names : names ≡ map shown (children_of old.read node.id)
@@ -169,7 +172,7 @@ module _ (asker : Asker) (path : List (List ℕ)) where
           (λ n. record { number = refl; parent = refl; name = refl })) node.id)
           ∙ ap (λ (l : List (List ℕ × ObjKind)). Names l)
           (names_kept old.read (children_of old.read node.id) ∙ sym listed)) refl
-          (stored_site path node, reached.found, (names, refl, λ _. listed))
+          (stored_site path node, reached.found, (names, refl, λ _. listed)) refl
 
   pub served_list : (which : Which) (old new : Rows) (node : Node) (reply : Reply) → AreRows old
       → IsReached asker path (λ target. Check target (read_acl ∷ []) ∷ []) old (Ok node) new
@@ -188,7 +191,7 @@ module _ (asker : Asker) (path : List (List ℕ)) where
         stored_site path node,
         reached.found,
         replies ∙ ap (λ l. Lists (held_of which node).flags l) (sym (stored_full which path node)),
-      )
+      ) refl
 
   pub served_attr : (old new : Rows) (node : Node) (reply : Reply) → AreRows old
       → IsReached asker path (λ target. Check target (read_attributes ∷ []) ∷ []) old (Ok node) new
@@ -199,7 +202,7 @@ module _ (asker : Asker) (path : List (List ℕ)) where
       (λ content target. Attr target.node.kind target.node.owners)
       (λ content id. refl) old new node reply are reached
       (λ target filled. ap (λ (s : Site). Attr s.node.kind s.node.owners) filled ∙ sym replies)
-      (ap failure_told replies) (stored_site path node, reached.found, replies)
+      (ap failure_told replies) (stored_site path node, reached.found, replies) refl
 
   pub served_rulings : (mask : List ℕ) (old new : Rows) (node : Node) (reply : Reply) → AreRows old
       → IsReached asker path (λ _. []) old (Ok node) new
@@ -214,7 +217,7 @@ module _ (asker : Asker) (path : List (List ℕ)) where
       (λ (s : Site). Rulings
       (map (λ bit. (bit ∷ [], ruling_of (full_at Dacl s) asker.caller s.node.owners bit)) mask))
       filled ∙ sym replies) (ap failure_told replies)
-      (stored_site path node, reached.found, replies)
+      (stored_site path node, reached.found, replies) refl
 
 -- ---- the same in terms of the calls
 

@@ -1,43 +1,57 @@
-use Rattle.std.proofs.Common.{[], inl, inr}
-use Rattle.sqlite.specs.Held.{state}
+use Rattle.std.proofs.Common.{[], inl, inr, subst, sym}
+use Rattle.sqlite.specs.Held.{Held, state}
+use Rattle.room_store.specs.Crash.{Lasts}
+use Rattle.cli_serve.specs.Hosts.{Hosts}
 use Rattle.cli_serve.specs.Visits.{requests_of, unanswered_of}
-use Rattle.cli_serve.proofs.Hosted.{after, asks_none, leaves_requests, opened}
+use Rattle.cli_serve.proofs.Hosted.{after, asks_none, leaves_requests, left_shut, opened, served}
 use Rattle.cli_serve.proofs.hosting.host.Goals as goal
 
-pub returns-in-Ok-clause-outlasts : goal.returns-in-Ok-clause-outlasts
-returns-in-Ok-clause-outlasts g c =
-    let old = state g.S.Store c.args.conn in
-    let mid = state g.S.Store c.in-Ok.store.conn in
-    let new = state g.S.Store c.host_store.result.0 in
-    let served = c.host_store.ensures.served in
-    let all = after old mid new (unanswered_of served.visits) (requests_of served.visits)
-    (opened old mid _ c.in-Ok.ensures.opened) served.outlasts in (
-      served.visits,
-      all,
-      leaves_requests old new served.visits all c.what_is_committed_lasts.ensures,
-    )
-
-pub returns-in-Ok-clause-hosts : goal.returns-in-Ok-clause-hosts
-returns-in-Ok-clause-hosts g c =
-    inr (record {
+pub returns : goal.returns
+unfolding served
+returns g c =
+    let shown = state g.S.Store in
+    let service = c.args.service.now in
+    let old = shown c.args.conn in
+    let mid = shown c.in-Ok.store.conn in
+    let new = shown c.serve_at-end.new.desk.conn in
+    let at = c.serve_at-end.ensures.served in
+    let r = at.served.receives in
+    let all = after old mid new (unanswered_of r.visits) (requests_of r.visits)
+    (opened old mid _ c.in-Ok.ensures.opened) r.did.outlasts in
+    subst (λ (conn : Held g.row.S.Denot). Hosts shown service.port service.count
+    (g.P.Ports.asked service.ports) (g.P.Ports.asked c.serve_at-end.new.service.ports)
+    (g.M.Moments.told service.clock) (g.M.Moments.told c.serve_at-end.new.service.clock)
+    c.args.conn conn (g.O.Write.contents c.args.out.now)
+    (g.O.Write.contents c.serve_at-end.new.out) (g.E.Write.contents c.args.err.now)
+    (g.E.Write.contents c.tell_end-status.new.err) c.tell_end-status.result)
+    (sym c.into_conn.ensures.same)
+    (inr (record {
       mid = c.in-Ok.store.conn;
       opens = c.in-Ok.ensures.opened;
-      asked_one = c.host_store.ensures.asked;
-      served = c.host_store.ensures.served;
-    })
+      asked_one = c.serve_at-end.ensures.asked;
+      served =
+          served service.port service.count _ _ mid new _ _ _ _ _ c.tell_end-status.result r.visits
+          c.serve_at-end.result r.few r.each r.moments r.did.trusted r.did.sound r.did.run at.served.end_says
+          (left_shut _ _ c.in-Ok.store c.serve_at-end.new.desk new (λ is. is)
+          c.serve_at-end.result at.served.stays)
+          c.tell_end-status.ensures.status c.serve_at-end.ensures.told at.first at.served.faults
+          c.tell_end-status.ensures.told c.what_is_seen_lasts.ensures
+          (subst (λ (conn : Held g.row.S.Denot). Lasts (shown conn)) c.into_conn.ensures.same
+          c.into_conn.ensures.lasts) r.did.outlasts;
+      outlasts = all;
+      leaves = leaves_requests old new r.visits all c.what_is_committed_lasts.ensures;
+    }))
 
-pub returns-in-Err-clause-outlasts : goal.returns-in-Err-clause-outlasts
-returns-in-Err-clause-outlasts g c =
+pub returns-in-Err : goal.returns-in-Err
+returns-in-Err g c =
     let old = state g.S.Store c.args.conn in
     let new = state g.S.Store c.in-Err.conn in
     let all = opened old new _ c.in-Err.ensures.back in
-    ([], all, leaves_requests old new [] all c.what_is_committed_lasts.ensures)
-
-pub returns-in-Err-clause-hosts : goal.returns-in-Err-clause-hosts
-returns-in-Err-clause-hosts g c =
     inl (record {
       why = c.in-Err.fault;
       opens = c.in-Err.ensures.back;
       told = c.tell_opening-status.ensures;
+      outlasts = all;
+      leaves = leaves_requests old new [] all c.what_is_committed_lasts.ensures;
       asked_none = asks_none _;
     })

@@ -10,7 +10,7 @@ use Rattle.cli_serve.proofs.serving.serve_each.Goals.{then-told, else-told}
 pub returns-in-Err : goal.returns-in-Err
 returns-in-Err g c =
     let one = c.connections.invariant in
-    missing g.D.Desk g.met.D.Desk.laws c.connections.number c.args.count _ _ c.args.desk.now
+    missing g.D.Desk g.met.D.Desk.laws c.connections.number c.args.listening.now.count _ _ c.args.desk.now
     c.connections.desk one.received one.stays _ _ _ c.pass.new.desk c.in-Err.fault
     c.connections-test.true one.some c.in-Err.ensures.fault
 
@@ -18,7 +18,7 @@ pub returns-then-left : goal.returns-then-left
 returns-then-left g c =
     let one = c.connections.invariant in
     let n = c.connections.number in
-    left_shut g.D.Desk g.met.D.Desk.laws n c.args.count _ _ c.args.desk.now
+    left_shut g.D.Desk g.met.D.Desk.laws n c.args.listening.now.count _ _ c.args.desk.now
     c.connections.desk one.received one.stays _ _ _ c.pass.new.desk c.in-Ok.left.shut
     c.connections-test.true (told_next WritesSome n _ _ _ one.some c.is_told-whole.ensures.some)
     c.in-Ok.ensures.received c.in-Ok.ensures.leaves c.if-left.true
@@ -63,7 +63,7 @@ connections-init g c = record {
 pub returns-then-told-2 : goal.returns-then-told-2
 returns-then-told-2 g c =
     let one = c.connections.invariant in
-    all_served g.D.Desk g.met.D.Desk.laws c.connections.number c.args.count _ _ c.args.desk.now
+    all_served g.D.Desk g.met.D.Desk.laws c.connections.number c.args.listening.now.count _ _ c.args.desk.now
     c.connections.desk one.received one.stays _ _
     (omega (arith, c.connections.auto.number-end, c.connections-test.false))
     (one.whole c.if-told-2.true)
@@ -71,6 +71,6 @@ returns-then-told-2 g c =
 pub returns-else-told-2 : goal.returns-else-told-2
 returns-else-told-2 g c =
     let one = c.connections.invariant in
-    untold g.D.Desk g.met.D.Desk.laws c.connections.number c.args.count _ _ c.args.desk.now
+    untold g.D.Desk g.met.D.Desk.laws c.connections.number c.args.listening.now.count _ _ c.args.desk.now
     c.connections.desk one.received one.stays _ _
     (omega (arith, c.connections.auto.number-end, c.connections-test.false)) one.some

@@ -6,7 +6,7 @@ use Rattle.cli_serve.proofs.serving.serve_on.Goals as goal
 
 pub returns-in_default-clause-served : goal.returns-in_default-clause-served
 returns-in_default-clause-served g c =
-    unserved g.D.Desk g.met.D.Desk.laws c.args.port c.args.count _ c.args.desk.now
+    unserved g.D.Desk g.met.D.Desk.laws c.args.listening.now.port c.args.listening.now.count _ c.args.desk.now
     ServingFault.Memory _ _ _ (writes_none _ _) refl refl
 
 pub returns-then-tell_port-clause-served : goal.returns-then-tell_port-clause-served
@@ -15,5 +15,5 @@ returns-then-tell_port-clause-served g c =
 
 pub returns-clause-served : goal.returns-clause-served
 returns-clause-served g c =
-    unserved g.D.Desk g.met.D.Desk.laws c.args.port c.args.count _ c.args.desk.now
+    unserved g.D.Desk g.met.D.Desk.laws c.args.listening.now.port c.args.listening.now.count _ c.args.desk.now
     ServingFault.File _ _ _ c.tell_port.ensures.some (inr refl) refl

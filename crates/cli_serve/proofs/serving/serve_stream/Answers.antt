@@ -6,11 +6,9 @@ use Rattle.cli_serve.proofs.serving.serve_stream.Goals as goal
 pub returns-in-Ok : goal.returns-in-Ok
 returns-in-Ok g c =
     attends g.D.Desk g.met.D.Desk.laws c.args.moment c.args.desk.now c.serve.new.desk
-    (to_z-of_z w64 c.args.moment c.ranges.moment)
-    c.serve.ensures.trusted c.serve.ensures.sound c.serve.ensures.connects
+    (to_z-of_z w64 c.args.moment c.ranges.moment) c.serve.ensures.connects
 
 pub returns-in-Err : goal.returns-in-Err
 returns-in-Err g c =
     attends g.D.Desk g.met.D.Desk.laws c.args.moment c.args.desk.now c.serve.new.desk
-    (to_z-of_z w64 c.args.moment c.ranges.moment)
-    c.serve.ensures.trusted c.serve.ensures.sound c.serve.ensures.connects
+    (to_z-of_z w64 c.args.moment c.ranges.moment) c.serve.ensures.connects

@@ -7,7 +7,8 @@ use Rattle.room_judge.specs.Stored.{found_site}
 use Rattle.room_judge.specs.declared.asker.Asker.{Asker}
 use Rattle.room_judge.proofs.Calls.{done, tail_known}
 use Rattle.room_judge.proofs.Halts.{halts_first}
-use Rattle.room_desk.specs.Made.{IsJudgedAndDone, IsMade, new_child}
+use Rattle.room_desk.specs.Made.{IsJudgedAndDone, IsMade}
+use Rattle.room_machine.specs.Changed.{new_child}
 use Rattle.room_desk.proofs.Made.FolderMade.{folder_barred, make_in}
 use Rattle.room_desk.proofs.Made.FolderPlans.{making}
 use Rattle.room_desk.proofs.Made.ServedItems.{spotted_blames}

@@ -11,7 +11,8 @@ use Rattle.room_judge.specs.declared.asker.Asker.{Asker}
 use Rattle.room_judge.proofs.Calls.{done, tail_known}
 use Rattle.room_judge.proofs.Folders.{spotted_child}
 use Rattle.room_judge.proofs.Halts.{halts_first}
-use Rattle.room_desk.specs.Made.{IsJudgedAndDone, IsMade, new_child}
+use Rattle.room_desk.specs.Made.{IsJudgedAndDone, IsMade}
+use Rattle.room_machine.specs.Changed.{new_child}
 use Rattle.room_desk.proofs.Made.PutMade.{put_barred, put_in, put_on}
 use Rattle.room_desk.proofs.Made.ServedItems.{spotted_blames}
 use Rattle.room_desk.proofs.Sound.Blamed.{rootless_damaged}

@@ -6,7 +6,8 @@ use Rattle.room_judge.specs.Halted.{replied}
 use Rattle.room_judge.specs.Stored.{found_site}
 use Rattle.room_judge.specs.declared.asker.Asker.{Asker}
 use Rattle.room_judge.proofs.Calls.{done, tail}
-use Rattle.room_desk.specs.Made.{MakesChild, new_child}
+use Rattle.room_desk.specs.Made.{MakesChild}
+use Rattle.room_machine.specs.Changed.{new_child}
 use Rattle.room_desk.proofs.Made.ServedItems.{added_behind, judged_unread}
 use Rattle.room_desk.proofs.making.put_new.Goals as goal
 

@@ -1,4 +1,4 @@
-use Rattle.std.proofs.Common.{List, ℕ, [], refl, sym, subst, ap, take}
+use Rattle.std.proofs.Common.{List, ℕ, sym, subst, ap, take}
 use Rattle.room_machine.specs.declared.reply.Reply.TheVariants.{Refused}
 use Rattle.room_machine.specs.declared.reply.Reason.TheVariants.{Root}
 use Rattle.room_machine.specs.declared.request.Request.TheVariants.{Remove}

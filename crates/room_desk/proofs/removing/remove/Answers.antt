@@ -1,20 +1,15 @@
 use Rattle.std.proofs.Common.{◌≡◌, ◌∙◌, ℕ, Bool, false, List, [], ◌∷◌, refl, sym, ap, subst, length}
-use Rattle.std.proofs.Common.{take}
 use Rattle.std.specs.Prelude.{◌==◌}
 use Rattle.std.proofs.lemmas.Bool.{false≢true}
 use Rattle.room_rows.specs.Content.{is_empty}
-use Rattle.room_machine.specs.declared.reply.Reply.TheVariants.{Refused}
-use Rattle.room_machine.specs.declared.reply.Reason.TheVariants.{Root}
-use Rattle.room_machine.specs.declared.request.Request.TheVariants.{Remove}
 use Rattle.room_judge.specs.declared.asker.Asker.{Asker}
-use Rattle.room_judge.specs.Closed.{IsServed}
 use Rattle.room_judge.specs.Stored.{found_site}
-use Rattle.room_judge.proofs.Calls.{done, none_done, tail_known}
+use Rattle.room_judge.proofs.Calls.{done, tail_known}
 use Rattle.room_desk.specs.Removed.{RemovesFrom}
 use Rattle.room_desk.proofs.Sound.Blamed.{noted_unread, rootless_damaged}
-use Rattle.room_desk.proofs.Gone.GoneSteps.{no_names, remove_done, remove_halted, root_kept}
+use Rattle.room_desk.proofs.Gone.GoneSteps.{no_names, remove_done, remove_halted}
 use Rattle.room_judge.specs.Halted.{replied}
-use Rattle.room_judge.proofs.Halts.{halts_first, refused_as}
+use Rattle.room_judge.proofs.Halts.{halts_first}
 use Rattle.room_desk.proofs.removing.remove.Goals as goal
 
 some_names : (path names : List (List ℕ)) (t : Bool) → names ≡ path → t ≡ (length names == 0)

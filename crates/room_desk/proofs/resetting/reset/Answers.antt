@@ -3,7 +3,8 @@ use Rattle.std.specs.Prelude.{◌-◌, slice_get}
 use Rattle.room_judge.proofs.Calls.{none_done, tail_known, fails, damaged, done, of_read}
 use Rattle.room_rows.specs.declared.node.Node.{Node}
 use Rattle.room_desk.proofs.Sound.RootedWays.{no_walk}
-use Rattle.room_desk.proofs.Lists.SetReset.{reset_blames, reset_done}
+use Rattle.room_desk.proofs.Lists.ResetClosed.{reset_told}
+use Rattle.room_desk.proofs.Lists.SetReset.{reset_blames}
 use Rattle.room_desk.proofs.Sound.Blamed.{rootless_damaged}
 use Rattle.room_desk.proofs.resetting.reset.Goals as goal
 
@@ -50,6 +51,6 @@ returns g c =
           reset_blames c.args.path.now c.args.which c.args.sent.now old mid c.in_ok-found.found
           front c.in-Some.node both.0 both.1 chain at are h)
           (λ old mid reply new are both said.
-          reset_done c.args.path.now c.args.which c.args.sent.now old mid c.in_ok-found.found front
+          reset_told c.args.path.now c.args.which c.args.sent.now old mid c.in_ok-found.found front
           c.in-Some.node both.0 both.1 chain _ above new reply are said);
     }

@@ -1,11 +1,14 @@
+use Rattle.std.proofs.Common.{◌-◌}
+use Rattle.room_http.specs.Limits.{max_messages}
 use Rattle.room_http.specs.Serve.{seen}
 use Rattle.room_http.specs.Turn.{Along}
 use Rattle.room_http.proofs.server.serve.Given as goal
 
-abbrev pub invariant-loop-answered : goal.invariant-loop-answered
-invariant-loop-answered g l =
-    Along g.D.Desk l.fn.moment l.answered
+abbrev pub invariant-turns : goal.invariant-turns
+invariant-turns g l =
+    Along g.D.Desk l.call.moment l.connection.answered
     (seen (g.R.Read.remaining l.fn.r) (g.W.Write.contents l.fn.w) l.fn.desk)
-    (seen (g.R.Read.remaining l.r) (g.W.Write.contents l.w) l.desk) l.buf.items
-    × (g.D.Desk.trusted l.desk → g.D.Desk.trusted l.fn.desk)
-    × (g.D.Desk.trusted l.desk → g.D.Desk.sound l.fn.desk → g.D.Desk.sound l.desk)
+    (seen (g.R.Read.remaining l.r) (g.W.Write.contents l.w) l.desk) l.connection.inbox.buf.items
+
+abbrev pub decreases-turns : goal.decreases-turns
+decreases-turns g l = max_messages - l.connection.answered

@@ -17,10 +17,10 @@ loop-index-init c =
     record {
       allows =
           found_none is_allowed entries caller owners _ _ c.empty-allowed.ensures
-          c.all_rights-unruled.ensures;
+          c.all-unruled.ensures;
       denies =
           found_none is_denied entries caller owners _ _ c.empty-denied.ensures
-          c.all_rights-unruled.ensures;
+          c.all-unruled.ensures;
     }
 
 pub loop-index-preserved-then-not-bears_on : goal.loop-index-preserved-then-not-bears_on

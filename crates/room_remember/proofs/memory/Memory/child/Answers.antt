@@ -6,4 +6,4 @@ use Rattle.room_remember.proofs.memory.Memory.child.Goals as goal
 pub returns-in-Some : goal.returns-in-Some
 returns-in-Some c =
     recalled c.child.result c.in-Some.known.now (Child c.args.parent c.args.name.now)
-    (Agrees c.args.self.now) c.in-Some.ensures c.child.ensures
+    (Agrees c.args.self.now) (λ rows agreed. c.in-Some.ensures rows agreed.places) c.child.ensures

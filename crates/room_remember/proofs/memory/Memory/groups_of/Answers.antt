@@ -6,4 +6,4 @@ use Rattle.room_remember.proofs.memory.Memory.groups_of.Goals as goal
 pub returns-in-Some : goal.returns-in-Some
 returns-in-Some c =
     recalled c.groups_of.result c.in-Some.known.now (Grouped c.args.user.now)
-    (Agrees c.args.self.now) c.in-Some.ensures c.groups_of.ensures
+    (Agrees c.args.self.now) (λ rows agreed. c.in-Some.ensures rows agreed.places) c.groups_of.ensures

@@ -6,4 +6,4 @@ use Rattle.room_remember.proofs.memory.Memory.root.Goals as goal
 pub returns-in-Some : goal.returns-in-Some
 returns-in-Some c =
     recalled c.root.result c.in-Some.known.now (λ node. Root node)
-    (Agrees c.args.self.now) c.in-Some.ensures c.root.ensures
+    (Agrees c.args.self.now) (λ rows agreed. c.in-Some.ensures rows agreed.places) c.root.ensures

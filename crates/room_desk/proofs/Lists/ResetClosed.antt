@@ -1,0 +1,209 @@
+-- The operator's reset of a list on rows that needn't be sound.
+use Rattle.std.proofs.Common.{◌≡◌, ℕ, zero, suc, List, [], ◌∷◌, ◌++◌, length, Option, Some, None}
+use Rattle.std.proofs.Common.{refl, sym, ap, subst, ◌∙◌, ◌⊎◌, inl, inr, append_assoc}
+use Rattle.std.specs.Prelude.{◌-◌, is_some, slice_get}
+use Rattle.std.specs.Option.{option_map_or}
+use Rattle.std.proofs.lemmas.Bool.{false≢true}
+use Rattle.std.proofs.lemmas.List.{append-nil}
+use Rattle.std.proofs.lemmas.Option.{same_Some}
+use Rattle.room_ace.specs.Sent.{Sent}
+use Rattle.room_entry.specs.Valid.{first_bad_entry}
+use Rattle.room_entry.specs.declared.fault.EntryFault.{EntryFault}
+use Rattle.room_entry.specs.declared.object.ObjKind.{ObjKind}
+use Rattle.room_entry.specs.declared.object.ObjKind.TheVariants.{Document, Folder}
+use Rattle.room_entry.specs.declared.object.Which.{Which}
+use Rattle.room_rows.specs.declared.node.Node.{Node}
+use Rattle.room_rows.specs.declared.node.Walk.{Walk}
+use Rattle.room_rows.specs.Content.{Content, child_of, node_at, parent_of, root_of}
+use Rattle.room_rows.specs.Rows.{Rows, AreRows}
+use Rattle.room_rows.specs.Walk.{behind, walk_from, walk_of}
+use Rattle.room_machine.specs.Closed.{IsResetClosed, failure_told, listed_reply}
+use Rattle.room_machine.specs.declared.reply.Reason.TheVariants.{BadList}
+use Rattle.room_machine.specs.declared.reply.Reply.{Reply}
+use Rattle.room_machine.specs.declared.reply.Reply.TheVariants.{Done, Refused}
+use Rattle.room_machine.specs.Site.{Site, site_at}
+use Rattle.room_machine.specs.Stored.{stored_along, stored_from, stored_site}
+use Rattle.room_judge.specs.Judged.{Resets}
+use Rattle.room_desk.specs.Setting.{Beneath, IsResetAtEnd, IsSetOrRefused, SetUnless, ended_at}
+use Rattle.room_desk.specs.Setting.{reason_of}
+use Rattle.room_desk.proofs.Lists.ResetWay.{same_last}
+use Rattle.room_desk.proofs.Lists.SetReset.{reset_done}
+use Rattle.room_desk.proofs.Sound.RootedWays.{above_end, stands_last}
+
+-- ---- where a walk ends
+
+-- all names are used up at this object, or some are left over
+abbrev EndsAt : List (List ℕ) → List (List ℕ) → List Site → Node → ℕ → Type 0
+EndsAt path names sites last rest =
+    ((rest ≡ zero) × (site_at sites names ≡ Some (stored_site (path ++ names) last)))
+    ⊎ ((more : ℕ) × (rest ≡ suc more) × (site_at sites names ≡ None))
+
+record Ends (path names : List (List ℕ)) (walk : Walk) (sites : List Site) : Type 0 where
+  pub front : List Node
+  pub last : Node
+  pub chain : walk.chain ≡ front ++ last ∷ []
+  pub ends : EndsAt path names sites last walk.rest
+
+ends_from : (rows : Content) (path names : List (List ℕ)) (node : Node)
+    → Ends path names (walk_from rows node names) (stored_from rows path node names)
+ends_from rows path [] node = record {
+  front = [];
+  last = node;
+  chain = refl;
+  ends = inl (refl, ap (λ (p : List (List ℕ)). Some (stored_site p node)) (sym (append-nil path)));
+}
+ends_from rows path (name ∷ names) node =
+    on (child_of rows node.id name) (λ child. ends_from rows (path ++ name ∷ []) names child)
+  where
+    deeper : (child : Node) (sites : List Site) (last : Node) (rest : ℕ)
+        → EndsAt (path ++ name ∷ []) names sites last rest
+        → EndsAt path (name ∷ names) (stored_site path node ∷ sites) last rest
+    deeper child sites last rest (inl here) = inl (
+      here.0,
+      here.1 ∙ ap (λ (p : List (List ℕ)). Some (stored_site p last))
+          (append_assoc path (name ∷ []) names),
+    )
+    deeper child sites last rest (inr over) = inr over
+
+    on : (o : Option Node)
+        → ((child : Node) → Ends (path ++ name ∷ []) names (walk_from rows child names)
+        (stored_from rows (path ++ name ∷ []) child names))
+        → Ends path (name ∷ names)
+        (option_map_or (λ child. behind node (walk_from rows child names)) o
+        (record { chain = node ∷ []; rest = length (name ∷ names) }))
+        (stored_site path node
+        ∷ option_map_or (λ child. stored_from rows (path ++ name ∷ []) child names) o [])
+    on None below = record {
+      front = [];
+      last = node;
+      chain = refl;
+      ends = inr (length names, refl, refl);
+    }
+    on (Some child) below = let end = below child in record {
+      front = node ∷ end.front;
+      last = end.last;
+      chain = ap (λ (l : List Node). node ∷ l) end.chain;
+      ends = deeper child (stored_from rows (path ++ name ∷ []) child names) end.last _ end.ends;
+    }
+
+-- the last of the chain is where the walk by stored lists ends
+ends_along : (rows : Content) (path : List (List ℕ)) (walk : Walk) (front : List Node)
+    (last : Node) → walk ≡ walk_of rows path → walk.chain ≡ front ++ last ∷ []
+    → EndsAt [] path (stored_along rows path) last walk.rest
+ends_along rows path walk front last is chain =
+    subst (λ (n : ℕ). EndsAt [] path (stored_along rows path) last n)
+    (sym (ap (λ (w : Walk). w.rest) is))
+    (on (root_of rows) (sym (ap (λ (w : Walk). w.chain) is) ∙ chain))
+  where
+    on : (o : Option Node)
+        → (option_map_or (λ root. walk_from rows root path) o
+        (record { chain = []; rest = length path })).chain ≡ front ++ last ∷ []
+        → EndsAt [] path (option_map_or (λ root. stored_from rows [] root path) o []) last
+        (option_map_or (λ root. walk_from rows root path) o
+        (record { chain = []; rest = length path })).rest
+    on None none = absurd (no_last front none)
+      where
+        no_last : (l : List Node) → [] ≡ l ++ last ∷ [] → ⊥
+        no_last [] e = cc
+        no_last (x ∷ xs) e = cc
+    on (Some root) same =
+        let end = ends_from rows [] path root in
+        subst (λ (n : Node). EndsAt [] path (stored_from rows [] root path) n
+        (walk_from rows root path).rest)
+        (sym (same_last front end.front last end.last (sym same ∙ end.chain))) end.ends
+
+-- ---- what is answered there
+
+module _ (path : List (List ℕ)) (which : Which) (sent : Sent) (last : Node) (old new : Rows)
+    (reply : Reply) where
+  ended_told : (kind : ObjKind) (rest : ℕ)
+      → failure_told (ended_at path kind rest) ≡ Some (ended_at path kind rest)
+  ended_told Document rest = refl
+  ended_told Folder rest = refl
+
+  none_some : (r failed : Reply) {A : Type 0} → failure_told r ≡ Some failed
+      → failure_told r ≡ None → A
+  none_some r failed some none =
+      absurd (let wrong : ⊥ = (let e = sym some ∙ none in cc) in wrong)
+
+  listed : (faults : Option EntryFault)
+      → option_map_or (λ why. Refused path why) (reason_of faults) Done ≡ listed_reply path faults
+  listed None = refl
+  listed (Some fault) = refl
+
+  at_object : (there : node_at old.read last.id ≡ Some last)
+      → site_at (stored_along old.read path) path ≡ Some (stored_site path last)
+      → IsSetOrRefused path which sent last old reply new
+      → IsResetClosed path which sent old reply new
+  at_object there found said =
+      on (first_bad_entry 1 which last.kind sent.entries) refl said.becomes
+    where
+      replies : reply
+          ≡ listed_reply path (first_bad_entry 1 which last.kind sent.entries)
+      replies = said.replies ∙ listed (first_bad_entry 1 which last.kind sent.entries)
+
+      found_reply : (target : Site) → site_at (stored_along old.read path) path ≡ Some target
+          → reply ≡ listed_reply path (first_bad_entry 1 which target.node.kind sent.entries)
+      found_reply target is =
+          subst (λ (s : Site). reply
+          ≡ listed_reply path (first_bad_entry 1 which s.node.kind sent.entries))
+          (same_Some (stored_site path last) target (sym found ∙ is)) replies
+
+      on : (faults : Option EntryFault)
+          → first_bad_entry 1 which last.kind sent.entries ≡ faults
+          → SetUnless (reason_of (first_bad_entry 1 which last.kind sent.entries)) which sent last
+          old new
+          → IsResetClosed path which sent old reply new
+      on None none becomes =
+          let set = (subst (λ (o : Option EntryFault). SetUnless (reason_of o) which sent last old
+          new) none becomes).0 there in
+          let done : reply ≡ Done = replies ∙ ap (listed_reply path) none in
+          record {
+            found = found_reply;
+            unchanged = λ told. absurd (false≢true
+                (sym (ap (λ (r : Reply). is_some (failure_told r)) done) ∙ told));
+            changed = λ _. (stored_site path last, found, (new.read, set.0, set.1));
+          }
+      on (Some fault) some becomes = record {
+        found = found_reply;
+        unchanged = λ _. subst (λ (o : Option EntryFault). SetUnless (reason_of o) which sent last
+            old new) some becomes;
+        changed = none_some reply (Refused path (BadList fault.place fault.why))
+            (ap failure_told (replies ∙ ap (listed_reply path) some));
+      }
+
+  at_end : (rest : ℕ) → node_at old.read last.id ≡ Some last
+      → EndsAt [] path (stored_along old.read path) last rest
+      → IsResetAtEnd path which sent last rest old reply new
+      → IsResetClosed path which sent old reply new
+  at_end zero there (inl here) said = at_object there here.1 said
+  at_end zero there (inr over) said = absurd (let wrong : ⊥ = (let e = over.1 in cc) in wrong)
+  at_end (suc rest) there (inl here) said =
+      absurd (let wrong : ⊥ = (let e = here.0 in cc) in wrong)
+  at_end (suc rest) there (inr over) said = record {
+    found = λ target is. absurd (let wrong : ⊥ = (let e = sym over.2 ∙ is in cc) in wrong);
+    unchanged = λ _. said.1;
+    changed = none_some reply (ended_at path last.kind (suc rest))
+        (ap failure_told said.0 ∙ ended_told last.kind (suc rest));
+  }
+
+-- ---- in terms of the calls
+
+pub reset_told : (path : List (List ℕ)) (which : Which) (sent : Sent) (old mid : Rows)
+    (walk : Walk) (front : List Node) (last : Node) → walk ≡ walk_of old.read path → mid ≡ old
+    → walk.chain ≡ front ++ last ∷ [] → (above : Option Node)
+    → above ≡ slice_get front (length front - 1) → (new : Rows) (reply : Reply) → AreRows old
+    → Beneath above last (IsResetAtEnd path which sent last walk.rest) mid reply new
+    → Resets path which sent old reply new
+reset_told path which sent old mid walk front last is same chain above read new reply are beneath =
+    let said = beneath (ap (λ (r : Rows). parent_of r.read last) same
+    ∙ above_end old are.numbers path walk front last above is chain read) in
+    record {
+      step = reset_done path which sent old mid walk front last is same chain above read new reply
+          are beneath;
+      closed =
+          at_end path which sent last old new reply walk.rest
+          (stands_last old are.numbers path walk front last is chain)
+          (ends_along old.read path walk front last is chain)
+          (subst (λ (r : Rows). IsResetAtEnd path which sent last walk.rest r reply new) same said);
+    }

@@ -1,0 +1,303 @@
+-- Objects that are put, removed or changed, and what a test finds of the others.
+use Rattle.std.proofs.Common.{ℕ, ◌≡◌, ◌<◌, ◌≤◌, ◌==◌, Bool, true, false, cond, not, ◌&&◌, List, []}
+use Rattle.std.proofs.Common.{◌∷◌, map, filter, Option, Some, None, nat_lt, refl, sym, ap, ◌∙◌}
+use Rattle.std.proofs.Common.{arith, subst, inl, inr}
+use Rattle.std.specs.List.{find, AllByRecursion, list_any}
+use Rattle.std.specs.Option.{option_map_or}
+use Rattle.std.proofs.lemmas.Bool.{not-true, and_parts, and_from, eqb-true, false≢true, ltb-true}
+use Rattle.std.proofs.lemmas.Bool.{lt-ltb, cases_order, eq-eqb, or_parts}
+use Rattle.std.proofs.lemmas.Option.{same_Some}
+use Rattle.room_entry.specs.Pieces.{same_text}
+use Rattle.room_entry.proofs.Alike.{text_itself}
+use Rattle.room_entry.proofs.Texts.{same_text-true}
+use Rattle.room_rows.specs.Content.{body_at, put_node, is_rising, has_parent, same_parent}
+use Rattle.room_rows.specs.Content.{are_names_apart}
+use Rattle.room_rows.specs.Finding.{find_id}
+use Rattle.room_rows.specs.declared.node.Node.{Node}
+use Rattle.room_rows.proofs.Lookups as lookups
+
+-- the numbers rise, from above this one
+abbrev pub RisesFrom : ℕ → List Node → Type 0
+RisesFrom k nodes = is_rising (k ∷ map (λ (n : Node). n.id) nodes) ≡ true
+
+-- each object that has this number fails the test
+abbrev pub Fails : (Node → Bool) → ℕ → List Node → Type 0
+Fails p id nodes = AllByRecursion (λ (n : Node). (n.id == id) ≡ true → p n ≡ false) nodes
+
+each_fails_at : (p : Node → Bool) (id : ℕ) (all nodes : List Node)
+    → ((n : Node) → find_id id all ≡ Some n → p n ≡ false)
+    → AllByRecursion (λ (n : Node). find_id n.id all ≡ Some n) nodes → Fails p id nodes
+each_fails_at p id all [] known each = tt
+each_fails_at p id all (x ∷ xs) known each = (
+  λ is. known x (ap (λ (i : ℕ). find_id i all) (sym (eqb-true x.id id is)) ∙ each.0),
+  each_fails_at p id all xs known each.1,
+)
+
+-- the object that is found by a number is the only one that has it
+pub fails_at : (p : Node → Bool) (id : ℕ) (nodes : List Node) → RisesFrom 0 nodes
+    → ((n : Node) → find_id id nodes ≡ Some n → p n ≡ false) → Fails p id nodes
+fails_at p id nodes rises known =
+    each_fails_at p id nodes nodes known (lookups.each_found 0 nodes rises)
+
+-- ---- an object put
+
+pub find-put : (p : Node → Bool) (new : Node) (nodes : List Node) → p new ≡ false
+    → Fails p new.id nodes → find p (put_node new nodes) ≡ find p nodes
+find-put p new [] fails each = lookups.find_no p new [] fails
+find-put p new (x ∷ xs) fails each =
+    on (nat_lt x.id new.id) (x.id == new.id) refl (find-put p new xs fails each.1)
+  where
+    on : (t u : Bool) → (x.id == new.id) ≡ u → find p (put_node new xs) ≡ find p xs
+        → find p (cond t (x ∷ put_node new xs) (cond u (new ∷ xs) (new ∷ x ∷ xs)))
+        ≡ find p (x ∷ xs)
+    on true u is rest = ap (λ (o : Option Node). cond (p x) (Some x) o) rest
+    on false true is rest =
+        lookups.find_no p new xs fails ∙ sym (lookups.find_no p x xs (each.0 is))
+    on false false is rest = lookups.find_no p new (x ∷ xs) fails
+
+pub filter-put : (p : Node → Bool) (new : Node) (nodes : List Node) → p new ≡ false
+    → Fails p new.id nodes → filter p (put_node new nodes) ≡ filter p nodes
+filter-put p new [] fails each = lookups.keep_no p new [] fails
+filter-put p new (x ∷ xs) fails each =
+    on (nat_lt x.id new.id) (x.id == new.id) refl (filter-put p new xs fails each.1)
+  where
+    on : (t u : Bool) → (x.id == new.id) ≡ u → filter p (put_node new xs) ≡ filter p xs
+        → filter p (cond t (x ∷ put_node new xs) (cond u (new ∷ xs) (new ∷ x ∷ xs)))
+        ≡ filter p (x ∷ xs)
+    on true u is rest = ap (λ (l : List Node). cond (p x) (x ∷ l) l) rest
+    on false true is rest =
+        lookups.keep_no p new xs fails ∙ sym (lookups.keep_no p x xs (each.0 is))
+    on false false is rest = lookups.keep_no p new (x ∷ xs) fails
+
+-- ---- an object removed
+
+pub find-removed : (p : Node → Bool) (id : ℕ) (nodes : List Node) → Fails p id nodes
+    → find p (filter (λ (n : Node). not (n.id == id)) nodes) ≡ find p nodes
+find-removed p id [] each = refl
+find-removed p id (x ∷ xs) each = on (x.id == id) refl (find-removed p id xs each.1)
+  where
+    on : (t : Bool) → (x.id == id) ≡ t
+        → find p (filter (λ (n : Node). not (n.id == id)) xs) ≡ find p xs
+        → find p (cond (not t) (x ∷ filter (λ (n : Node). not (n.id == id)) xs)
+        (filter (λ (n : Node). not (n.id == id)) xs)) ≡ find p (x ∷ xs)
+    on true is rest = rest ∙ sym (lookups.find_no p x xs (each.0 is))
+    on false is rest = ap (λ (o : Option Node). cond (p x) (Some x) o) rest
+
+pub filter-removed : (p : Node → Bool) (id : ℕ) (nodes : List Node) → Fails p id nodes
+    → filter p (filter (λ (n : Node). not (n.id == id)) nodes) ≡ filter p nodes
+filter-removed p id [] each = refl
+filter-removed p id (x ∷ xs) each = on (x.id == id) refl (filter-removed p id xs each.1)
+  where
+    on : (t : Bool) → (x.id == id) ≡ t
+        → filter p (filter (λ (n : Node). not (n.id == id)) xs) ≡ filter p xs
+        → filter p (cond (not t) (x ∷ filter (λ (n : Node). not (n.id == id)) xs)
+        (filter (λ (n : Node). not (n.id == id)) xs)) ≡ filter p (x ∷ xs)
+    on true is rest = rest ∙ sym (lookups.keep_no p x xs (each.0 is))
+    on false is rest = ap (λ (l : List Node). cond (p x) (x ∷ l) l) rest
+
+pub body-removed : (id other : ℕ) → (other ≡ id → ⊥) → (bodies : List (ℕ × List ℕ))
+    → body_at (filter (λ (row : ℕ × List ℕ). not (row.0 == id)) bodies) other
+    ≡ body_at bodies other
+body-removed id other isnt [] = refl
+body-removed id other isnt (row ∷ rows) =
+    on (row.0 == id) refl (row.0 == other) refl (body-removed id other isnt rows)
+  where
+    on : (t : Bool) → (row.0 == id) ≡ t → (u : Bool) → (row.0 == other) ≡ u
+        → body_at (filter (λ (r : ℕ × List ℕ). not (r.0 == id)) rows) other
+        ≡ body_at rows other
+        → body_at (cond (not t) (row ∷ filter (λ (r : ℕ × List ℕ). not (r.0 == id)) rows)
+        (filter (λ (r : ℕ × List ℕ). not (r.0 == id)) rows)) other
+        ≡ cond u (Some row.1) (body_at rows other)
+    on true is true same rest =
+        absurd (isnt (sym (eqb-true row.0 other same) ∙ eqb-true row.0 id is))
+    on true is false same rest = rest
+    on false is u same rest =
+        ap (λ (t : Bool). cond t (Some row.1)
+        (body_at (filter (λ (r : ℕ × List ℕ). not (r.0 == id)) rows) other)) same
+        ∙ ap (λ (o : Option (List ℕ)). cond u (Some row.1) o) rest
+
+-- ---- numbers still rise
+
+pub rises_lower : (k j : ℕ) (nodes : List Node) → k ≤ j → RisesFrom j nodes → RisesFrom k nodes
+rises_lower k j [] below rises = refl
+rises_lower k j (x ∷ xs) below rises =
+    let parts = and_parts (nat_lt j x.id) (is_rising (x.id ∷ map (λ (n : Node). n.id) xs)) rises in
+    let up = ltb-true j x.id parts.0 in
+    and_from _ _ (lt-ltb k x.id (omega (arith, up, below))) parts.1
+
+pub rises-removed : (k : ℕ) (keep : Node → Bool) (nodes : List Node) → RisesFrom k nodes
+    → RisesFrom k (filter keep nodes)
+rises-removed k keep [] rises = refl
+rises-removed k keep (x ∷ xs) rises =
+    let parts = and_parts (nat_lt k x.id) (is_rising (x.id ∷ map (λ (n : Node). n.id) xs)) rises in
+    let up = ltb-true k x.id parts.0 in
+    on (keep x) parts.0 (omega (arith, up)) (rises-removed x.id keep xs parts.1)
+  where
+    on : (t : Bool) → nat_lt k x.id ≡ true → k ≤ x.id → RisesFrom x.id (filter keep xs)
+        → RisesFrom k (cond t (x ∷ filter keep xs) (filter keep xs))
+    on true up below rest = and_from _ _ up rest
+    on false up below rest = rises_lower k x.id (filter keep xs) below rest
+
+pub rises-put : (k : ℕ) (new : Node) (nodes : List Node) → k < new.id → RisesFrom k nodes
+    → RisesFrom k (put_node new nodes)
+rises-put k new [] above rises = and_from _ _ (lt-ltb k new.id above) refl
+rises-put k new (x ∷ xs) above rises =
+    let parts = and_parts (nat_lt k x.id) (is_rising (x.id ∷ map (λ (n : Node). n.id) xs)) rises in
+    on (nat_lt x.id new.id) (x.id == new.id) refl refl parts.0 parts.1
+    (λ up. rises-put x.id new xs up parts.1)
+  where
+    apart : (t : Bool) → nat_lt x.id new.id ≡ false → (x.id == new.id) ≡ false → new.id < x.id
+    apart t less same =
+        elim (cases_order x.id new.id) [
+          | inl e ↦ absurd (false≢true (sym same ∙ eq-eqb x.id new.id e))
+          | inr other ↦ elim other [
+            | inl below ↦ absurd (false≢true (sym less ∙ lt-ltb x.id new.id below))
+            | inr over ↦ over
+          ]
+        ]
+
+    on : (t u : Bool) → nat_lt x.id new.id ≡ t → (x.id == new.id) ≡ u → nat_lt k x.id ≡ true
+        → RisesFrom x.id xs → (x.id < new.id → RisesFrom x.id (put_node new xs))
+        → RisesFrom k (cond t (x ∷ put_node new xs) (cond u (new ∷ xs) (new ∷ x ∷ xs)))
+    on true u less same up rest more = and_from _ _ up (more (ltb-true x.id new.id less))
+    on false true less same up rest more =
+        and_from _ _ (lt-ltb k new.id above)
+        (rises_lower new.id x.id xs (let e = eqb-true x.id new.id same in omega (arith, e)) rest)
+    on false false less same up rest more =
+        and_from _ _ (lt-ltb k new.id above)
+        (and_from _ _ (lt-ltb new.id x.id (apart true less same)) rest)
+
+-- ---- a test that one object passes alone
+
+-- an object that is put passes a test that none passed
+pub find-put_new : (p : Node → Bool) (new : Node) (nodes : List Node) → p new ≡ true
+    → find p nodes ≡ None → find p (put_node new nodes) ≡ Some new
+find-put_new p new [] passes none = lookups.find_yes p new [] passes
+find-put_new p new (x ∷ xs) passes none =
+    let parts = lookups.none_found p x xs none in
+    on (nat_lt x.id new.id) (x.id == new.id) parts.0 (find-put_new p new xs passes parts.1)
+  where
+    on : (t u : Bool) → p x ≡ false → find p (put_node new xs) ≡ Some new
+        → find p (cond t (x ∷ put_node new xs) (cond u (new ∷ xs) (new ∷ x ∷ xs))) ≡ Some new
+    on true u fails rest = lookups.find_no p x (put_node new xs) fails ∙ rest
+    on false true fails rest = lookups.find_yes p new xs passes
+    on false false fails rest = lookups.find_yes p new (x ∷ xs) passes
+
+-- it is below that parent by that name
+abbrev pub is_named : ℕ → List ℕ → Node → Bool
+is_named id name node = has_parent id node && same_text node.name name
+
+same_named : (id : ℕ) (name : List ℕ) (x y : Node) → is_named id name x ≡ true
+    → is_named id name y ≡ true → (same_parent x.parent y.parent && same_text x.name y.name) ≡ true
+same_named id name x y first second =
+    let one = and_parts (has_parent id x) (same_text x.name name) first in
+    let two = and_parts (has_parent id y) (same_text y.name name) second in
+    and_from _ _ (on x.parent y.parent one.0 two.0)
+    (ap (λ n. same_text n y.name) (same_text-true x.name name one.1)
+    ∙ ap (same_text name) (same_text-true y.name name two.1) ∙ text_itself name)
+  where
+    on : (p q : Option ℕ) → option_map_or (λ (i : ℕ). i == id) p false ≡ true
+        → option_map_or (λ (i : ℕ). i == id) q false ≡ true → same_parent p q ≡ true
+    on None q first second = absurd (false≢true first)
+    on (Some i) None first second = absurd (false≢true second)
+    on (Some i) (Some j) first second =
+        eq-eqb i j (eqb-true i id first ∙ sym (eqb-true j id second))
+
+none_named : (id : ℕ) (name : List ℕ) (x : Node) → is_named id name x ≡ true → (nodes : List Node)
+    → list_any (λ (n : Node). same_parent x.parent n.parent && same_text x.name n.name) nodes
+    ≡ false → find (is_named id name) nodes ≡ None
+none_named id name x is [] none = refl
+none_named id name x is (y ∷ ys) none =
+    let parts = or_parts _ _ none in
+    lookups.find_no (is_named id name) y ys (on (is_named id name y) refl parts.0)
+    ∙ none_named id name x is ys parts.1
+  where
+    on : (t : Bool) → is_named id name y ≡ t
+        → (same_parent x.parent y.parent && same_text x.name y.name) ≡ false → t ≡ false
+    on true passes isnt =
+        absurd (false≢true (sym isnt ∙ same_named id name x y is passes))
+    on false fails isnt = refl
+
+-- where names are apart, and the one of that name is dropped, there is none of it
+pub find-dropped : (id : ℕ) (name : List ℕ) (keep : Node → Bool) (target : Node)
+    → keep target ≡ false → (nodes : List Node) → are_names_apart nodes ≡ true
+    → find (is_named id name) nodes ≡ Some target
+    → find (is_named id name) (filter keep nodes) ≡ None
+find-dropped id name keep target drops [] apart found = refl
+find-dropped id name keep target drops (x ∷ xs) apart found =
+    let parts = and_parts _ (are_names_apart xs) apart in
+    on (is_named id name x) refl parts.0 (find-dropped id name keep target drops xs parts.1)
+  where
+    kept_or_not : (t : Bool) → keep x ≡ t → is_named id name x ≡ false
+        → find (is_named id name) (filter keep xs) ≡ None
+        → find (is_named id name) (cond t (x ∷ filter keep xs) (filter keep xs)) ≡ None
+    kept_or_not true stays isnt rest =
+        lookups.find_no (is_named id name) x (filter keep xs) isnt ∙ rest
+    kept_or_not false goes isnt rest = rest
+
+    on : (t : Bool) → is_named id name x ≡ t
+        → not (list_any
+        (λ (n : Node). same_parent x.parent n.parent && same_text x.name n.name) xs) ≡ true
+        → (find (is_named id name) xs ≡ Some target
+        → find (is_named id name) (filter keep xs) ≡ None)
+        → find (is_named id name) (filter keep (x ∷ xs)) ≡ None
+    on true is none rest =
+        ap (find (is_named id name)) (lookups.keep_no keep x xs
+        (ap keep (same_Some x target
+        (sym (lookups.find_yes (is_named id name) x xs is) ∙ found)) ∙ drops))
+        ∙ lookups.find-kept_none (is_named id name) keep xs
+        (none_named id name x is xs (not-true _ none))
+    on false isnt none rest =
+        kept_or_not (keep x) refl isnt
+        (rest (sym (lookups.find_no (is_named id name) x xs isnt) ∙ found))
+
+-- ---- an object that is put in place of another
+
+stands_above : (k : ℕ) (node : Node) (nodes : List Node) → RisesFrom k nodes
+    → lookups.Stands node nodes → k < node.id
+stands_above k node [] rises stands = absurd stands
+stands_above k node (x ∷ xs) rises stands =
+    let parts = and_parts (nat_lt k x.id) (is_rising (x.id ∷ map (λ (n : Node). n.id) xs)) rises in
+    let up = ltb-true k x.id parts.0 in
+    on stands up (λ later. stands_above x.id node xs parts.1 later)
+  where
+    on : lookups.Stands node (x ∷ xs) → k < x.id → (lookups.Stands node xs → x.id < node.id)
+        → k < node.id
+    on (inl it) up more = subst (λ (n : Node). k < n.id) it up
+    on (inr later) up more = let above = more later in omega (arith, up, above)
+
+-- where names are apart, and the one of that name gives way to an object that fails the test, there
+-- is none of it
+pub find-replaced : (k id : ℕ) (name : List ℕ) (new target : Node) → new.id ≡ target.id
+    → is_named id name new ≡ false → (nodes : List Node) → RisesFrom k nodes
+    → are_names_apart nodes ≡ true → find (is_named id name) nodes ≡ Some target
+    → find (is_named id name) (put_node new nodes) ≡ None
+find-replaced k id name new target number fails [] rises apart found =
+    lookups.find_no (is_named id name) new [] fails
+find-replaced k id name new target number fails (x ∷ xs) rises apart found =
+    let parts = and_parts _ (are_names_apart xs) apart in
+    let up = and_parts (nat_lt k x.id) (is_rising (x.id ∷ map (λ (n : Node). n.id) xs)) rises in
+    on (is_named id name x) refl parts.0 up.1
+    (λ later. find-replaced x.id id name new target number fails xs up.1 parts.1 later)
+  where
+    on : (t : Bool) → is_named id name x ≡ t
+        → not (list_any
+        (λ (n : Node). same_parent x.parent n.parent && same_text x.name n.name) xs) ≡ true
+        → RisesFrom x.id xs
+        → (find (is_named id name) xs ≡ Some target
+        → find (is_named id name) (put_node new xs) ≡ None)
+        → find (is_named id name) (put_node new (x ∷ xs)) ≡ None
+    on true is none rises rest =
+        let it : x ≡ target = same_Some x target
+        (sym (lookups.find_yes (is_named id name) x xs is) ∙ found) in
+        ap (find (is_named id name))
+        (lookups.put_same new x xs (ap (λ (n : Node). n.id) it ∙ sym number))
+        ∙ lookups.find_no (is_named id name) new xs fails
+        ∙ none_named id name x is xs (not-true _ none)
+    on false isnt none rises rest =
+        let later = sym (lookups.find_no (is_named id name) x xs isnt) ∙ found in
+        let above = stands_above x.id target xs rises
+        (lookups.stands-found (is_named id name) xs target later) in
+        ap (find (is_named id name))
+        (lookups.put_behind new x xs (omega (arith, above, number)))
+        ∙ lookups.find_no (is_named id name) x (put_node new xs) isnt ∙ rest later

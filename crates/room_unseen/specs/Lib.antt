@@ -1,0 +1,4 @@
+pub mod Outside
+pub mod Tidy
+pub mod Laws
+pub mod Twins
