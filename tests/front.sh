@@ -14,7 +14,8 @@ for_here() { # FILE
   if has_six; then six="s/listen \[::\]:80;/listen [::1]:$front;/; s/listen \[::\]:443 /listen [::1]:$secure /"; fi
   sed -e "s/listen 80;/listen 127.0.0.1:$front;/" -e "s/listen 443 /listen 127.0.0.1:$secure /" \
     -e "$six" -e "s/127.0.0.1:8780/127.0.0.1:$port/" -e "s/127.0.0.1:8779/127.0.0.1:$checker/" \
-    -e "s|/etc/nginx/|$PWD/|; s|/run/rooms-passwords|$PWD/remembered|" \
+    -e "s/127.0.0.1:8778/127.0.0.1:$apache/" \
+    -e "s|/etc/nginx/|$PWD/|; s|/run/rooms-passwords|$PWD/remembered|; s|/run/rooms-full|$PWD/run/rooms-full|" \
     -e "s|/usr/local/share/rooms/page|$here/../contrib/page|" "$1"
 }
 
@@ -39,12 +40,13 @@ start_front() { # NAME [tls]
   front=$((port + 1))
   secure=$((port + 2))
   checker=$((port + 3))
+  apache=$((port + 4))
   base=http://127.0.0.1:$front
   chmod 755 "$work" .
   chmod 644 rooms.htpasswd
   mkdir -p snippets sites-enabled conf.d rooms.d
   rm -f nginx.pid
-  for part in http server host page proxy remember remembered; do
+  for part in http server host page proxy remember remembered directory; do
     for_here "$here/../contrib/nginx-$part.conf" >"snippets/rooms-$part.conf"
   done
   echo "ssl_certificate $PWD/rooms.pem; ssl_certificate_key $PWD/rooms.key;" >snippets/rooms-tls.conf
@@ -57,6 +59,14 @@ start_front() { # NAME [tls]
     skip "$1" "nginx does not start: $(head -c 300 nginx.out error.log 2>/dev/null)"
     return 1
   fi
+}
+
+# nginx takes its files, and its workers of before are gone.
+reload_front() {
+  local before=() one
+  read -r -a before 2>/dev/null <"/proc/$proxy/task/$proxy/children"
+  kill -HUP "$proxy"
+  for one in ${before[@]+"${before[@]}"}; do wait_for "$one"; done
 }
 
 # The Nth block of commands below a heading of operating.md, with its files in this folder.
@@ -87,4 +97,13 @@ ask() { # NAME STATUS BODY USER:PASSWORD TARGET ARGUMENT ..
 # The head of an answer is in $work/head.
 answer() { # USER:PASSWORD TARGET ARGUMENT ..
   curl -s -o "$work/body" -D "$work/head" ${reach[@]+"${reach[@]}"} -u "$1" "${@:3}" "$base$2"
+}
+
+# nginx takes its files: its workers of before are gone, and the command succeeds.
+reloaded() { # COMMAND ..
+  local began=$SECONDS before=() one
+  read -r -a before 2>/dev/null <"/proc/$proxy/task/$proxy/children"
+  kill -HUP "$proxy"
+  for one in ${before[@]+"${before[@]}"}; do wait_for "$one"; done
+  until "$@" || [ $((SECONDS - began)) -ge "$patience" ]; do sleep 0.1; done
 }

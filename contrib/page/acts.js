@@ -2,11 +2,13 @@
 // if something changed, and otherwise null.
 
 import * as api from './api.js';
-import { allBelow, amount, removalQuestion, removeAll } from './below.js';
+import { allBelow, amount, removalQuestion } from './below.js';
 import { element } from './dom.js';
 import { downloadAll, downloadOne } from './download.js';
+import { inTurn } from './inturn.js';
 import { linkTo } from './links.js';
-import { askMove, askPlace } from './move.js';
+import { accepted, askMove, askPlace } from './move.js';
+import { readersWords } from './moved.js';
 import { form, question, showDialog, tell, tellFault, waitFor } from './notice.js';
 import { preview } from './preview.js';
 import { counted, isolated, nameFault, placeWords, sentenceOf } from './words.js';
@@ -21,7 +23,7 @@ export async function makeFolder(folder) {
 
 export async function move(path, kind) {
   const to = await askMove(path, kind);
-  if (!to || to === path) return null;
+  if (!to || to === path || !(await accepted([{ path, kind }], api.parentOf(to)))) return null;
   await waitFor(api.move(path, to));
   tell('good', `${isolated(api.nameOf(path))} is now ${placeWords(to)}.`);
   return { name: api.parentOf(to) === api.parentOf(path) ? api.nameOf(to) : null };
@@ -31,17 +33,16 @@ export async function move(path, kind) {
 export async function moveAll(objects) {
   const place = await askPlace(objects);
   if (!place || place === api.parentOf(objects[0].path)) return null;
-  const faults = [];
-  for (const { path } of objects) {
-    const to = api.join(place, api.nameOf(path));
-    await waitFor(api.move(path, to)).catch((fault) => faults.push([path, fault]));
+  if (!(await accepted(objects, place))) return null;
+  const { done, failed, left, stopped } = await inTurn(objects,
+    ({ path }) => api.move(path, api.join(place, api.nameOf(path))),
+    { title: `Move to ${placeWords(place)}`, verb: 'moved' });
+  if (done > 0) tell('good', `${counted(done, 'object')} moved to ${placeWords(place)}.`);
+  if (stopped) tell('bad', `Stopped. Not moved: ${counted(left.length, 'object')}.`);
+  for (const { object, fault } of failed.slice(0, 3)) {
+    tell('bad', `${isolated(api.nameOf(object.path))} stays here. ${sentenceOf(fault)}`);
   }
-  const moved = objects.length - faults.length;
-  if (moved > 0) tell('good', `${counted(moved, 'object')} moved to ${placeWords(place)}.`);
-  for (const [path, fault] of faults.slice(0, 3)) {
-    tell('bad', `${isolated(api.nameOf(path))} stays here. ${sentenceOf(fault)}`);
-  }
-  const more = faults.length - 3;
+  const more = failed.length - 3 + (stopped ? 0 : left.length);
   if (more > 0) tell('bad', `${counted(more, 'more object')} couldn’t be moved.`);
   return { name: null };
 }
@@ -52,14 +53,17 @@ export async function remove(objects) {
   const { title, text } = removalQuestion(objects, all, unseen);
   const words = objects.length === 1 ? 'Remove it' : 'Remove them';
   if (!(await question(title, text, [['remove', words, 'danger']]))) return null;
-  const { count, fault } = await waitFor(removeAll(all));
-  if (fault) {
-    tellFault(fault);
-    if (count > 0) tell('bad', `${count} of ${all.length} were removed. The rest is still there.`);
-  } else {
-    const what = objects.length === 1 ? isolated(api.nameOf(objects[0].path)) : amount(objects);
-    tell('good', `${what} ${objects.length === 1 ? 'was' : 'were'} removed.`);
-  }
+  const what = objects.length === 1 ? isolated(api.nameOf(objects[0].path)) : amount(objects);
+  // What is in a folder comes before it, so nothing after a fault could be removed either.
+  const { done, failed, stopped } = await inTurn(all, ({ path }) => api.remove(path),
+    { title: `Remove ${what}`, verb: 'removed' }, true);
+  const rest = `${done.toLocaleString('en')} of ${all.length.toLocaleString('en')} were removed. `
+    + 'The rest is still there.';
+  if (stopped) tell('bad', `Stopped. ${rest}`);
+  else if (failed.length > 0) {
+    tellFault(failed[0].fault);
+    if (done > 0) tell('bad', rest);
+  } else tell('good', `${what} ${objects.length === 1 ? 'was' : 'were'} removed.`);
   return { name: null };
 }
 
@@ -76,18 +80,18 @@ export async function look(path) {
 }
 
 // The address of an object. A browser gives the clipboard only to TLS, so otherwise it is shown.
-export async function copyLink(path) {
+export async function copyLink(path, kind) {
   const address = new URL(linkTo(path), location.href).href;
-  try {
-    await navigator.clipboard.writeText(address);
-    tell('good', 'The link was copied. It gives nobody a right.');
-  } catch {
+  const copied = await navigator.clipboard?.writeText(address).then(() => true, () => false);
+  const rights = `It gives nobody a right. ${await waitFor(readersWords(path, kind))}`;
+  if (copied) tell('good', `The link was copied. ${rights}`);
+  else {
     const field = element('input', {
       type: 'text', readonly: true, value: address, 'aria-label': 'Link',
     });
     field.addEventListener('focus', () => field.select());
     await showDialog('The link', (finish) => [
-      element('p', {}, 'Copy it from here. It gives nobody a right.'), field,
+      element('p', {}, `Copy it from here. ${rights}`), field,
       element('div', { class: 'actions' },
         element('button', { type: 'button', onclick: () => finish(null) }, 'Close'))]);
   }

@@ -1,5 +1,7 @@
 // The requests of docs/http.md and their replies, as promises. Nothing here draws the page.
 
+import { untilAnswered } from './again.js';
+
 export const GREATEST_DOCUMENT = 1048576;
 
 // A reply that isn't 2xx. Status 0 is no reply at all. 'body' is the reply's JSON, or null, and
@@ -41,7 +43,7 @@ function jsonOrNull(text) {
   }
 }
 
-async function ask(method, word, path, body, query = '') {
+async function askOnce(method, word, path, body, query = '') {
   const asked = { method, word, path };
   const where = word === 'me' ? 'me' : target(word, path) + query;
   let reply;
@@ -56,35 +58,52 @@ async function ask(method, word, path, body, query = '') {
   return reply;
 }
 
-async function take(reply, form) {
-  try {
-    return await (await reply)[form]();
-  } catch (fault) {
-    throw fault instanceof Refusal ? fault : new Refusal(0, null, null);
-  }
-}
+// What adds to a document would add twice, if only the answer was lost.
+const ask = (method, word, path, body) => (method === 'POST' && word === 'doc'
+  ? askOnce(method, word, path, body) : untilAnswered(() => askOnce(method, word, path, body)));
+
+// Reads, and takes the reply in a form that fetch has. It may be cut off.
+const take = (form, word, path, query) => untilAnswered(async () => {
+  const reply = await askOnce('GET', word, path, undefined, query);
+  return reply[form]().catch(() => { throw new Refusal(0, null, { method: 'GET', word, path }); });
+});
 
 export async function whoAmI() {
   const reply = await ask('GET', 'me', '/');
   return reply.headers.get('Room-User') ?? '';
 }
 
-export const read = (path) => take(ask('GET', 'doc', path), 'blob');
+export const read = (path) => take('blob', 'doc', path);
 export const append = (path, bytes) => ask('POST', 'doc', path, bytes);
-export const list = (path) => take(ask('GET', 'folder', path), 'json');
-export const makeFolder = (path) => ask('POST', 'folder', path);
-export const remove = (path) => ask('DELETE', 'object', path);
-export const move = (path, to) => ask('POST', 'move', path, JSON.stringify({ to }));
-export const readList = (which, path) => take(ask('GET', which, path), 'text');
+export const list = (path) => take('json', 'folder', path);
+
+// What was sent several times may have been done by the first. 'isDone' looks at what the last one
+// got.
+async function onceDone(asked, isDone) {
+  try {
+    await asked;
+  } catch (fault) {
+    if (!fault.repeated || !(await isDone(fault))) throw fault;
+  }
+}
+
+const isGone = (path) => ({ status, body }) => status === 404 && body?.at === path;
+
+export const makeFolder = (path) =>
+  onceDone(ask('POST', 'folder', path), ({ body }) => body?.why === 'exists');
+export const remove = (path) => onceDone(ask('DELETE', 'object', path), isGone(path));
+export const move = (path, to) => onceDone(ask('POST', 'move', path, JSON.stringify({ to })),
+  async (fault) => isGone(path)(fault) && isThere(to));
+export const readList = (which, path) => take('text', which, path);
 export const setList = (which, path, text) => ask('PUT', which, path, text);
-export const readAttributes = (path) => take(ask('GET', 'attr', path), 'json');
+export const readAttributes = (path) => take('json', 'attr', path);
 export const setOwners = (path, owner, group) =>
   ask('PUT', 'attr', path, JSON.stringify({ group, owner }));
 
 // The ruling of each letter: {r: {ruling: 'allowed', place: 2}, w: {ruling: 'silent', place:
 // null}}.
 export async function can(path, letters) {
-  const rulings = await take(ask('GET', 'can', path, undefined, `?${letters}`), 'json');
+  const rulings = await take('json', 'can', path, `?${letters}`);
   return Object.fromEntries(Object.entries(rulings).map(([letter, text]) => {
     const [ruling, place] = text.split(' ');
     return [letter, { ruling, place: place === undefined ? null : Number(place) }];
@@ -103,8 +122,8 @@ export async function isThere(path) {
   }
 }
 
-// A document gets these bytes. XMLHttpRequest, since fetch doesn't report an upload's progress.
-export function put(path, bytes, onProgress = () => {}) {
+// XMLHttpRequest, since fetch doesn't report an upload's progress.
+function putOnce(path, bytes, onProgress) {
   return new Promise((resolve, reject) => {
     const asking = new XMLHttpRequest();
     const asked = { method: 'PUT', word: 'doc', path };
@@ -119,3 +138,7 @@ export function put(path, bytes, onProgress = () => {}) {
     asking.send(bytes);
   });
 }
+
+// A document gets these bytes. Returns whether it was made by that, as far as it is known.
+export const put = (path, bytes, onProgress = () => {}) =>
+  untilAnswered(() => putOnce(path, bytes, onProgress));

@@ -1,14 +1,16 @@
 // The page: who is signed in, which place is open, and what is shown there.
 
 import { copyLink, download, look } from './acts.js';
+import { whenWaiting } from './again.js';
 import * as api from './api.js';
 import { button, element, icon, nameText } from './dom.js';
 import { hasUnsent } from './draft.js';
 import { showFolder } from './folder.js';
 import { linkTo, pathLinks, whereIs } from './links.js';
 import { showList } from './listview.js';
-import { clearNotices, tellFault, waitFor } from './notice.js';
+import { clearNotices, notShown, showWaiting, tellFault, waitFor } from './notice.js';
 import { kindOf, showRights } from './rights.js';
+import { marked } from './signs.js';
 import { isUploading } from './upload.js';
 
 const TABS = [['rights', 'My rights'], ['dacl', 'Who may do what'], ['sacl', 'What is recorded']];
@@ -30,7 +32,7 @@ function objectHead(path, view, kind) {
   ];
   return [
     element('div', { class: 'bar' }, element('h1', {}, icon(kind), name),
-      element('div', { class: 'actions' }, ofDocument, act('Copy link', () => copyLink(path)),
+      element('div', { class: 'actions' }, ofDocument, act('Copy link', () => copyLink(path, kind)),
         element('a', { class: 'button', href: back },
           kind === 'folder' ? 'Open the folder' : 'Back to the folder'))),
     element('nav', { class: 'views', 'aria-label': 'Access' }, links),
@@ -51,7 +53,7 @@ async function show() {
   const look = looks;
   const isCurrent = () => look === looks;
   const { path, view } = whereIs(location.hash);
-  document.title = `${path === '/' ? 'All documents' : api.nameOf(path)} – rooms`;
+  document.title = `${path === '/' ? 'All documents' : marked(api.nameOf(path))} – rooms`;
   document.getElementById('path').replaceChildren(pathLinks(path));
   clearNotices();
   try {
@@ -59,7 +61,7 @@ async function show() {
     else await showFolder(path, main, isCurrent);
   } catch (fault) {
     if (!isCurrent()) return;
-    main.replaceChildren(element('p', { class: 'empty' }, 'This place can’t be shown.'));
+    main.replaceChildren(notShown('This place can’t be shown.', show));
     tellFault(fault);
   }
 }
@@ -89,5 +91,6 @@ document.getElementById('skip').addEventListener('click', (event) => {
   event.preventDefault();
   main.focus();
 });
+whenWaiting(showWaiting);
 showMe();
 show();

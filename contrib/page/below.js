@@ -1,4 +1,4 @@
-// What lies below a folder, as far as it may be seen, and the removal of a whole folder.
+// What lies below a folder, as far as it may be seen, and the question before it is removed.
 
 import * as api from './api.js';
 import { counted, isolated, listed, placeWords } from './words.js';
@@ -44,18 +44,4 @@ export function removalQuestion(objects, all, unseen) {
     title: one ? `Remove the ${first.kind}?` : `Remove ${amount(objects)}?`,
     text: `${gone} will be gone for everybody, and can’t be brought back.${hidden}`,
   };
-}
-
-// Removes them in this order. Stops at the first that can't be removed: {count, fault}.
-export async function removeAll(objects) {
-  let count = 0;
-  for (const { path } of objects) {
-    try {
-      await api.remove(path);
-    } catch (fault) {
-      return { count, fault };
-    }
-    count += 1;
-  }
-  return { count, fault: null };
 }

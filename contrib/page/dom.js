@@ -1,5 +1,7 @@
 // Elements. Whatever comes from the room is set as text or as an attribute's value, never as HTML.
 
+import { piecesOf } from './signs.js';
+
 const SVG = 'http://www.w3.org/2000/svg';
 
 // element('a', {href, onclick, class}, 'text', other, ..). A property of null or false is left out.
@@ -14,8 +16,12 @@ export function element(tag, properties = {}, ...children) {
   return made;
 }
 
-// A name is isolated, so that right-to-left text doesn't turn the text around it.
-export const nameText = (name) => element('bdi', { class: 'name' }, name);
+const UNSEEN = { class: 'sign', title: 'This sign can’t be seen.' };
+
+// A name is isolated, so that right-to-left text doesn't turn the text around it. What can't be
+// seen in it is shown by its number.
+export const nameText = (name) => element('bdi', { class: 'name' },
+  piecesOf(name).map(({ text, code }) => text ?? element('span', UNSEEN, code)));
 
 const SHAPES = {
   folder: 'M2.5 5.5a1 1 0 0 1 1-1h4l2 2h7a1 1 0 0 1 1 1v8a1 1 0 0 1-1 1h-13a1 1 0 0 1-1-1z',
@@ -29,6 +35,7 @@ const SHAPES = {
   check: 'M4 10.5l4 4 8-9',
   cross: 'M5 5l10 10M15 5L5 15',
   dash: 'M5 10h10',
+  more: 'M4.5 10v.01M10 10v.01M15.5 10v.01',
   person: 'M10 10a3.2 3.2 0 1 0 0-6.400 3.2 3.2 0 0 0 0 6.400zM4 17c.5-3.5 3-5 6-5s5.5 1.5 6 5',
 };
 

@@ -4,6 +4,7 @@ import * as api from './api.js';
 import { allBelow } from './below.js';
 import { element } from './dom.js';
 import { tell, waitFor } from './notice.js';
+import { stoppable } from './panel.js';
 import { counted, sentenceOf } from './words.js';
 import { zipOf } from './zip.js';
 
@@ -31,7 +32,11 @@ export async function downloadAll(objects, folder) {
   const unseen = [];
   const files = [];
   const faults = [];
-  for (const { path, kind } of await waitFor(allBelow(objects, unseen))) {
+  const all = await waitFor(allBelow(objects, unseen));
+  const panel = stoppable('Download', all.length);
+  for (const [index, { path, kind }] of all.entries()) {
+    panel.show(index, all.length);
+    if (panel.isStopped()) break;
     // Some systems take a backslash for the end of a folder's name.
     const below = path.slice(folder === '/' ? 1 : folder.length + 1).replaceAll('\\', '_');
     if (kind === 'folder') files.push({ path: `${below}/`, bytes: new Uint8Array() });
@@ -40,6 +45,8 @@ export async function downloadAll(objects, folder) {
       if (bytes) files.push({ path: below, bytes });
     }
   }
+  panel.remove();
+  if (panel.isStopped()) return;
   const left = faults.length + unseen.length;
   const zip = zipOf(files);
   if (!zip) tell('bad', 'These are too many for one download. Select fewer.');

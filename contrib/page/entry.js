@@ -2,7 +2,9 @@
 
 import { element, freshId } from './dom.js';
 import { SPECIAL, isGroup, isName, orderFlags, orderMask } from './list.js';
-import { GROUPS, REACHES, TYPE_WORDS, extentOf, faultWords, reachWords, rightWords, whoWords } from './words.js';
+import {
+  GROUPS, REACHES, TYPE_WORDS, extentOf, faultWords, groupName, reachWords, rightWords, whoWords,
+} from './words.js';
 
 const TYPES = { dacl: ['A', 'D'], sacl: ['U', 'L'] };
 const OUTCOMES = [['F', 'what was refused'], ['S', 'what was granted'], ['SF', 'both'], ['', 'nothing']];
@@ -56,7 +58,7 @@ function whoControl(entry, changed) {
   return element('div', { class: 'who' }, kind, name, hint);
 }
 
-function groupBox(group, entry, changed) {
+function groupBox(group, entry, kind, changed) {
   const box = element('input', { type: 'checkbox' });
   box.addEventListener('change', () => {
     const rest = [...entry.mask].filter((letter) => !(group.letters + group.idle).includes(letter)).join('');
@@ -68,7 +70,7 @@ function groupBox(group, entry, changed) {
     box.checked = extent === 'all';
     box.indeterminate = extent === 'some';
   };
-  return { show, shown: element('label', { class: 'tick' }, box, group.name) };
+  return { show, shown: element('label', { class: 'tick' }, box, groupName(group, kind)) };
 }
 
 function letterBox(letter, entry, kind, changed) {
@@ -89,7 +91,7 @@ function singleRights(entry, kind, changed) {
     boxes.push(...made);
     return element('fieldset', {}, element('legend', {}, legend), made.map((box) => box.shown));
   };
-  const parts = GROUPS.map((group) => part(group.name, group.letters));
+  const parts = GROUPS.map((group) => part(groupName(group, kind), group.letters));
   parts.push(part('Kept, but nothing asks for it', GROUPS.map((group) => group.idle).join('')));
   return { boxes, parts };
 }
@@ -106,7 +108,7 @@ function rightsControl(entry, kind, changed) {
     all();
     changed();
   };
-  const groups = GROUPS.map((group) => groupBox(group, entry, both));
+  const groups = GROUPS.map((group) => groupBox(group, entry, kind, both));
   // On a folder an entry also applies to what lies below.
   const { boxes, parts } = singleRights(entry, kind === 'folder' ? 'both' : kind, both);
   shows.push(...[...groups, ...boxes].map((one) => one.show));
@@ -144,8 +146,9 @@ export function controls(entry, draft, changed) {
   ].filter((cell) => cell !== null);
 }
 
-function groupWords(mask) {
-  const words = GROUPS.map((group) => [group.name, extentOf(group, mask)]).filter(([, extent]) => extent !== 'none')
+function groupWords(mask, kind) {
+  const words = GROUPS.map((group) => [groupName(group, kind), extentOf(group, mask)])
+    .filter(([, extent]) => extent !== 'none')
     .map(([name, extent]) => (extent === 'all' ? name : `${name} in part`));
   return words.join(', ') || 'nothing';
 }
@@ -157,7 +160,8 @@ export function words(entry, draft) {
     ['Type', TYPE_WORDS[entry.type]],
     ['Who', whoWords(entry)],
     draft.which === 'sacl' ? ['Records', outcome] : null,
-    ['Rights', [`${groupWords(entry.mask)} `, element('code', { class: 'letters' }, entry.mask)]],
+    ['Rights', [`${groupWords(entry.mask, draft.kind)} `,
+      element('code', { class: 'letters' }, entry.mask)]],
     draft.kind === 'folder' ? ['Where it counts', reachWords(entry)] : null,
   ].filter((cell) => cell !== null);
 }

@@ -6,7 +6,7 @@ import { closedFolder } from './closed.js';
 import { button, element, icon, nameText } from './dom.js';
 import { acceptDrops } from './drop.js';
 import { linkTo } from './links.js';
-import { tell, tellFault, waitFor } from './notice.js';
+import { notShown, tell, tellFault, waitFor } from './notice.js';
 import { chosenOf, drawRows, newLook } from './rows.js';
 import { treeOfFiles } from './tree.js';
 import { uploadAll } from './upload.js';
@@ -104,10 +104,9 @@ class FolderView {
   constructor(path, box, isCurrent) {
     Object.assign(this, { path, box, isCurrent, look: newLook() });
     this.body = element('div', { class: 'sheet' });
-    const send = async (files, trees, folder) => {
-      await uploadAll(files, trees, folder);
-      if (isCurrent()) await this.refresh();
-    };
+    const send = (files, trees, folder) => uploadAll(files, trees, folder, () => {
+      if (isCurrent()) this.refresh();
+    });
     this.bar = bar(path, send, () => this.doing(() => acts.makeFolder(path)));
     this.tools = tools(this.look, (what) => this.withChosen(what), () => this.draw());
     this.area = element('section', { class: 'folder-view', 'aria-label': 'Folder' },
@@ -126,7 +125,7 @@ class FolderView {
       preview: (child) => this.doing(() => acts.look(path(child))),
       move: (child) => this.doing(() => acts.move(path(child), child.kind)),
       remove: (children) => this.doing(() => acts.remove(this.objects(children))),
-      copy: (child) => this.doing(() => acts.copyLink(path(child))),
+      copy: (child) => this.doing(() => acts.copyLink(path(child), child.kind)),
     };
   }
 
@@ -180,7 +179,7 @@ class FolderView {
     else if (fault.status === 403) this.body.replaceChildren(closedFolder(fault, may));
     else {
       const words = 'What is in this folder can’t be shown.';
-      this.body.replaceChildren(element('p', { class: 'empty' }, words));
+      this.body.replaceChildren(notShown(words, () => this.refresh()));
       tellFault(fault);
     }
   }

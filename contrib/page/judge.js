@@ -10,6 +10,9 @@ export const oneUser = (user) => ({ user });
 export const membersOf = (group) => ({ group });
 export const ANYBODY = {};
 
+// An object that somebody else made in a folder whose group is this one.
+export const ofOthers = (group) => ({ owner: '', group });
+
 // Whether an entry means this caller: true, false, or the name of what that depends on. 'object'
 // has owner and group, which are null where they can't be read.
 export function matchOf(entry, caller, object) {
@@ -52,6 +55,22 @@ export function judge(entries, letter, caller, object) {
   return told(null);
 }
 
+// What a right's ruling is for those who are in no other group: 'A', 'D', or null without any.
+const rulingOf = (entries, letter, caller, object) => inForce(entries, letter)
+  .find((entry) => matchOf(entry, caller, object) === true)?.type ?? null;
+
+export const isGranted = ({ entries, object }, letter, caller) =>
+  rulingOf(entries, letter, caller, object) === 'A';
+
+// Whether they may remove an object, or move it away, by its list and by that of its folder. Both
+// are {entries, object}. Where neither says so, the right to put documents into the folder decides.
+export function mayDelete(target, folder, caller) {
+  const rulings = [rulingOf(target.entries, 'd', caller, target.object),
+    rulingOf(folder.entries, 'D', caller, folder.object)];
+  if (rulings.includes('A')) return true;
+  return !rulings.includes('D') && isGranted(folder, 'w', caller);
+}
+
 function flagsBelow(flags, kind) {
   const has = (flag) => flags.includes(flag);
   const kept = [...flags].filter((flag) => 'SFg'.includes(flag)).join('') + 'I';
@@ -82,6 +101,17 @@ export function afterSending(sent, before, above, kind) {
   const stays = !before.protect && textOf(kept) === textOf(before.entries.filter(isInherited));
   return { entries: stays ? [...own, ...kept] : own, known: stays };
 }
+
+// The full list of an object that is moved into a folder with the list 'above'.
+export function afterMoving(list, above, kind) {
+  if (list.protect || !above.auto) return list.entries;
+  const own = list.entries.filter((entry) => !isInherited(entry));
+  return [...own, ...passedDown(above.entries, kind)];
+}
+
+// What others made in a folder, and what follows its list. Both are {entries, object}.
+export const childOf = ({ entries, object }, kind) =>
+  ({ entries: passedDown(entries, kind), object: ofOthers(object.group) });
 
 // Whether a caller who has this right now still has it by the list 'after', as afterSending gives
 // it.
@@ -120,6 +150,13 @@ export function callersOf(entry, object) {
   if (entry.who === 'GROUP@') return object.group === null ? null : membersOf(object.group);
   if (entry.who === 'ANONYMOUS@') return null;
   return isGroup(entry) ? membersOf(entry.who) : oneUser(entry.who);
+}
+
+// The callers whom the allowing entries mean, each once.
+export function callersIn(entries, object) {
+  const allowing = entries.filter(({ type, mask }) => type === 'A' && mask !== '');
+  const callers = allowing.map((entry) => callersOf(entry, object)).filter((one) => one !== null);
+  return [...new Map(callers.map((one) => [JSON.stringify(one), one])).values()];
 }
 
 // Where a caller on the way down through these folders isn't surely let pass: {path, answer,

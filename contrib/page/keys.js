@@ -27,10 +27,9 @@ function target(control, key, rows) {
   return null;
 }
 
-const SHORTCUTS = { F2: 'move', Delete: 'remove' };
-
-// Up and down keep the column, left and right go through a row; F2 renames, Delete removes.
-export function rove(body) {
+// Up and down keep the column, left and right go through a row. 'shortcuts' are other keys, and
+// what each does with a row.
+export function rove(body, shortcuts) {
   const stop = (control) => {
     for (const one of body.querySelectorAll('[data-act]')) one.tabIndex = one === control ? 0 : -1;
   };
@@ -40,9 +39,8 @@ export function rove(body) {
   });
   body.addEventListener('keydown', (event) => {
     if (event.altKey || event.ctrlKey || event.metaKey || !event.target.dataset.act) return;
-    const shortcut = SHORTCUTS[event.key];
-    const row = event.target.closest('tr');
-    if (shortcut) row.querySelector(`[data-act="${shortcut}"]`).click();
+    const shortcut = shortcuts[event.key];
+    shortcut?.(event.target.closest('tr'));
     const next = target(event.target, event.key, body.rows);
     next?.focus();
     if (shortcut || next) event.preventDefault();

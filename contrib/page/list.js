@@ -1,4 +1,4 @@
-// List texts and entries, by the rules of docs/access-lists.md.
+// List texts and entries, by the rules of docs/access-lists.md and docs/list-text.md.
 
 export const LETTERS = 'rwanNxDtThHdcCoy';
 const FLAGS = 'fdniSFgI';

@@ -4,7 +4,7 @@ import * as api from './api.js';
 import { button, element } from './dom.js';
 import { Draft } from './draft.js';
 import { sendList } from './send.js';
-import { tell, tellFault, waitFor } from './notice.js';
+import { notShown, tell, tellFault, waitFor } from './notice.js';
 import { pickReady } from './pick.js';
 import { drawTable } from './table.js';
 import { tabs } from './tabs.js';
@@ -111,7 +111,9 @@ export async function showList(path, which, kind, box, isCurrent) {
       ...changesBar(draft, both));
   } catch (fault) {
     if (!isCurrent()) return;
-    box.replaceChildren(element('p', { class: 'empty' }, sentenceOf(fault)));
+    const again = () => showList(path, which, kind, box, isCurrent);
+    box.replaceChildren(fault.status === 403 ? element('p', { class: 'empty' }, sentenceOf(fault))
+      : notShown(sentenceOf(fault), again));
     if (fault.status === 401 || fault.status === undefined) tellFault(fault);
   }
 }

@@ -1,8 +1,9 @@
-// Asks where objects are to go, and under which name.
+// Asks where objects are to go and under which name, and shows what that would bring about.
 
 import * as api from './api.js';
 import { button, element, icon, nameText } from './dom.js';
-import { form, waitFor } from './notice.js';
+import { movedWords } from './moved.js';
+import { form, showDialog, waitFor } from './notice.js';
 import { sorted } from './sorting.js';
 import { nameFault, sentenceOf } from './words.js';
 
@@ -48,4 +49,17 @@ export async function askPlace(objects) {
   const given = await form(`Move ${objects.length} objects`, [], 'Move them here',
     chooser(chosen, paths));
   return given && chosen.path;
+}
+
+// Whether these may go into the folder, after a question if more people could then get at them.
+export async function accepted(objects, folder) {
+  const told = await waitFor(movedWords(objects, folder));
+  if (told === null || told.warned.length === 0) return told !== null;
+  const answer = await showDialog(told.title, (finish) => [
+    element('ul', { class: 'warnings', 'aria-label': 'Mind this' },
+      told.warned.map(({ kind, text }) => element('li', { class: kind }, text))),
+    element('div', { class: 'actions' },
+      button('Cancel', () => finish(null), { autofocus: true }),
+      button('Move all the same', () => finish('move'), { class: 'danger' }))]);
+  return answer !== null;
 }

@@ -29,6 +29,24 @@ export function clearNotices() {
   for (const notice of place().querySelectorAll('.notice.bad')) notice.remove();
 }
 
+// In the place of what can't be shown at the moment.
+export const notShown = (words, load) => element('div', { class: 'empty' }, element('p', {}, words),
+  button('Load again', () => {
+    clearNotices();
+    load();
+  }, { class: 'small' }));
+
+// Says that the page waits for the room, as long as it does.
+let waitingNotice = null;
+export function showWaiting(isWaiting) {
+  if (!isWaiting) waitingNotice?.remove();
+  else if (!waitingNotice?.isConnected) {
+    waitingNotice = element('div', { class: 'notice waits', role: 'status' }, icon('dash'),
+      element('p', {}, 'The room doesn’t answer. The page tries again for half a minute.'));
+    place().append(waitingNotice);
+  }
+}
+
 // Shows a dialog. Returns what 'finish' was called with, or null if the dialog was closed.
 export function showDialog(title, build, look = null) {
   return new Promise((resolve) => {

@@ -1,12 +1,10 @@
-// Asks which of the ready-made lists it shall be, and for the name of the group or the user.
+// Asks which of the ready-made lists it shall be, and for the names of its groups or its user.
 
 import { button, element, field } from './dom.js';
 import { isName } from './list.js';
 import { showDialog } from './notice.js';
 import { READY, readyText } from './ready.js';
 import { faultWords } from './words.js';
-
-const EXAMPLE = { group: 'staff', user: 'bob' };
 
 function choices(onPick) {
   const made = READY.map((ready, index) => {
@@ -19,50 +17,67 @@ function choices(onPick) {
     const shown = element('label', { class: 'choice' }, box, title, sentence);
     return { ready, title, sentence, shown };
   });
-  const tell = (names, me) => made.forEach(({ ready, title, sentence }) => {
-    title.textContent = ready.title(names[ready.asks]);
-    sentence.textContent = ready.sentence(names[ready.asks], me);
+  const tell = (me, namesOf) => made.forEach(({ ready, title, sentence }) => {
+    const names = namesOf(ready);
+    title.textContent = ready.title(...names);
+    sentence.textContent = ready.sentence(me, ...names);
   });
   return { tell, shown: element('fieldset', { class: 'choices' },
     element('legend', { class: 'unseen' }, 'Which list'), made.map(({ shown }) => shown)) };
 }
 
+// The fields for the names of a list. 'typed' has what was typed for each example.
+function nameFields(ready, typed, onInput) {
+  const made = ready.asks.map(({ label, example }) => {
+    const input = element('input', {
+      type: 'text', autocomplete: 'off', autocapitalize: 'none', spellcheck: 'false',
+      value: typed.get(example) ?? '',
+    });
+    input.addEventListener('input', () => {
+      typed.set(example, input.value);
+      onInput();
+    });
+    return { input, box: field(label, input) };
+  });
+  // The names, or null where one is none, which is told then.
+  const take = () => {
+    for (const { input, box } of made) {
+      const fits = isName(input.value);
+      input.setAttribute('aria-invalid', String(!fits));
+      box.querySelector('.hint').textContent = fits ? '' : faultWords('A3');
+    }
+    const wrong = made.find(({ input }) => !isName(input.value));
+    wrong?.input.focus();
+    return wrong ? null : made.map(({ input }) => input.value);
+  };
+  return { boxes: made.map(({ box }) => box), take };
+}
+
 // Returns the text of a list, or null.
 export function pickReady(me) {
   return showDialog('Ready-made lists', (finish) => {
-    let ready = READY[0];
-    const names = { ...EXAMPLE };
-    const input = element('input', {
-      type: 'text', autocomplete: 'off', autocapitalize: 'none', spellcheck: 'false',
-    });
-    const box = field('', input);
-    const label = box.querySelector('label');
-    const hint = box.querySelector('.hint');
-    const show = () => {
-      label.textContent = ready.asks === 'group' ? 'Name of the group' : 'Name of the user';
-      tell(names, me);
-    };
-    const { tell, shown } = choices((picked) => {
+    const typed = new Map();
+    const namesOf = ({ asks }) => asks.map(({ example }) =>
+      (isName(typed.get(example) ?? '') ? typed.get(example) : example));
+    const place = element('div', { class: 'names' });
+    let [ready, fields] = [null, null];
+    const { tell, shown } = choices((picked) => pick(picked));
+    const pick = (picked) => {
       ready = picked;
-      show();
-    });
-    input.addEventListener('input', () => {
-      names[ready.asks] = isName(input.value) ? input.value : EXAMPLE[ready.asks];
-      show();
-    });
-    show();
+      fields = nameFields(ready, typed, () => tell(me, namesOf));
+      place.replaceChildren(...fields.boxes);
+    };
+    pick(READY[0]);
+    tell(me, namesOf);
     const take = (event) => {
       event.preventDefault();
-      const fits = isName(input.value);
-      input.setAttribute('aria-invalid', String(!fits));
-      hint.textContent = fits ? '' : faultWords('A3');
-      if (fits) finish(readyText(ready, input.value, me));
-      else input.focus();
+      const names = fields.take();
+      if (names) finish(readyText(ready, me, names));
     };
     return [element('form', { onsubmit: take },
       element('p', {}, 'It takes the place of this list. You see what changes before it is sent.'),
-      shown, box, element('div', { class: 'actions' },
+      shown, place, element('div', { class: 'actions' },
         button('Cancel', () => finish(null)),
         element('button', { type: 'submit', class: 'primary' }, 'Take this list')))];
-  });
+  }, 'ready');
 }

@@ -10,8 +10,11 @@ const IMAGES = {
   avif: 'image/avif', bmp: 'image/bmp', svg: 'image/svg+xml',
 };
 const NONE = 'There is no preview of this document. Download it to look at it.';
+// A browser's viewer of PDF doesn't run in a frame that is shut off from the page, and the page
+// allows no other frame.
+const NO_PDF = 'PDF documents have no preview here. Download it to look at it.';
 
-const none = () => element('p', { class: 'empty' }, NONE);
+const none = (words = NONE) => element('p', { class: 'empty' }, words);
 
 // A picture from a blob runs no script, not even an SVG's.
 function imageOf(bytes, type, name) {
@@ -38,6 +41,7 @@ function textOf(bytes) {
 function contentOf(bytes, name) {
   const ending = name.slice(name.lastIndexOf('.') + 1).toLowerCase();
   if (Object.hasOwn(IMAGES, ending)) return imageOf(bytes, IMAGES[ending], name);
+  if (ending === 'pdf') return none(NO_PDF);
   const text = textOf(bytes);
   if (text === null) return none();
   if (text === '') return element('p', { class: 'empty' }, 'The document is empty.');

@@ -3,7 +3,7 @@
 import * as api from './api.js';
 import { element, icon, button } from './dom.js';
 import { isInherited, isName, printEntry, readListText } from './list.js';
-import { form, tell, tellFault, waitFor } from './notice.js';
+import { form, notShown, tell, tellFault, waitFor } from './notice.js';
 import { faultWords, isolated, placeWords, rightWords, sentenceOf, whoWords } from './words.js';
 
 const ASKED = { folder: 'rxwaDtcCo', document: 'rwatcCo' };
@@ -119,7 +119,9 @@ export async function showRights(path, kind, box, isCurrent) {
         rightsTable(path, kind), api.readAttributes(path).catch(none)]));
       if (isCurrent()) box.replaceChildren(ownersBox(path, attributes, refresh), table);
     } catch (fault) {
-      if (isCurrent()) tellFault(fault);
+      if (!isCurrent()) return;
+      box.replaceChildren(notShown('Your rights can’t be shown.', refresh));
+      tellFault(fault);
     }
   };
   await refresh();

@@ -5,6 +5,8 @@ import * as api from './api.js';
 import { button, element, icon, nameText } from './dom.js';
 import { rove } from './keys.js';
 import { linkTo } from './links.js';
+import { menuButton } from './menu.js';
+import { marked } from './signs.js';
 import { filtered, kindWords, sorted } from './sorting.js';
 
 // What is shown of a folder, and how. 'chosen' has names.
@@ -27,8 +29,8 @@ function nameOf(child, path, acts) {
 
 function pickBox(child, look, changed) {
   const box = element('input', {
-    type: 'checkbox', 'aria-label': `Select: ${child.name}`, checked: look.chosen.has(child.name),
-    'data-act': 'pick',
+    type: 'checkbox', 'aria-label': `Select: ${marked(child.name)}`,
+    checked: look.chosen.has(child.name), 'data-act': 'pick',
   });
   box.addEventListener('change', () => {
     if (box.checked) look.chosen.add(child.name);
@@ -38,26 +40,28 @@ function pickBox(child, look, changed) {
   return box;
 }
 
-function actsOf(child, path, acts) {
-  const act = (key, words, does, look) => button(words, does, {
-    class: `small ${look}`, 'aria-label': `${words}: ${child.name}`, 'data-act': key,
-  });
-  const ofDocument = child.kind === 'folder' ? [] : [
-    act('preview', 'Preview', () => acts.preview(child), 'plain'),
-    act('download', 'Download', () => acts.download([child]), 'plain download'),
-  ];
+// What can be done with an object, by its menu.
+function entriesOf(child, path, acts) {
+  const ofDocument = [{ words: 'Preview', does: () => acts.preview(child) },
+    { words: 'Download', does: () => acts.download([child]) }];
   return [
-    ...ofDocument,
-    act('move', 'Rename or move', () => acts.move(child), 'plain'),
-    act('remove', 'Remove', () => acts.remove([child]), 'plain remove'),
-    button(icon('link'), () => acts.copy(child), {
-      class: 'small plain', title: 'Copy link', 'aria-label': `Copy link: ${child.name}`,
-      'data-act': 'copy',
-    }),
+    ...(child.kind === 'folder' ? [] : ofDocument),
+    { words: 'Rename or move', does: () => acts.move(child) },
+    { words: 'Copy link', does: () => acts.copy(child) },
+    { words: 'Access', href: linkTo(path, 'rights') },
+    { words: 'Remove', does: () => acts.remove([child]), look: 'remove' },
+  ];
+}
+
+function actsOf(child, path, acts) {
+  return [
     element('a', {
-      class: 'small button', href: linkTo(path, 'rights'), 'aria-label': `Access: ${child.name}`,
-      'data-act': 'access',
+      class: 'small button access', href: linkTo(path, 'rights'),
+      'aria-label': `Access: ${marked(child.name)}`, 'data-act': 'access',
     }, 'Access'),
+    menuButton(`Actions: ${marked(child.name)}`, entriesOf(child, path, acts), {
+      class: 'small plain', title: 'Actions', 'data-act': 'menu',
+    }),
   ];
 }
 
@@ -119,7 +123,8 @@ export function drawRows(body, folder, look, acts, onChosen, focusOn = null) {
       heading('kind', 'Kind', look, redraw), element('th', { scope: 'col' },
         element('span', { class: 'unseen' }, 'What can be done')))), rows);
   body.replaceChildren(table);
-  rove(rows);
+  const ofRow = (does) => ({ rowIndex }) => does(shown[rowIndex - 1]);
+  rove(rows, { F2: ofRow(acts.move), Delete: ofRow((child) => acts.remove([child])) });
   onChosen();
   focusOn?.(table)?.focus();
 }

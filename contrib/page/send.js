@@ -24,10 +24,10 @@ export function difference(before, after) {
 
 const warning = ({ kind, text }) => element('li', { class: kind }, text);
 
-const review = (before, after, passage) => showDialog('Send these changes?', (finish) => [
+const review = (before, after, warned) => showDialog('Send these changes?', (finish) => [
   difference(before, after),
-  passage.length === 0 ? ''
-    : element('ul', { class: 'warnings', 'aria-label': 'Mind this' }, passage.map(warning)),
+  warned.length === 0 ? ''
+    : element('ul', { class: 'warnings', 'aria-label': 'Mind this' }, warned.map(warning)),
   element('div', { class: 'actions' },
     button('Cancel', () => finish(null)),
     button('Send', () => finish('send'), { class: 'primary', autofocus: true }))]);
@@ -56,8 +56,8 @@ export async function sendList(draft) {
       if (answer === 'theirs') return 'dropped';
     }
     if (!draft.isChanged) return 'dropped';
-    const { loss, passage } = await waitFor(judged(draft, now));
-    if (!(await review(now, draft.text, passage)) || !(await accepts(loss))) return null;
+    const { loss, warned } = await waitFor(judged(draft, now));
+    if (!(await review(now, draft.text, warned)) || !(await accepts(loss))) return null;
     // The user may take a while to review the changes.
     if (await waitFor(api.readList(draft.which, draft.path)) === now) break;
   }

@@ -1,68 +1,15 @@
 // Documents and whole folders sent into a folder, each with its progress.
 
+import { endsAll, interruptionsSeen, isUnanswered } from './again.js';
 import * as api from './api.js';
-import { button, element, icon, nameText } from './dom.js';
-import { question, tellFault } from './notice.js';
-import { counted, isolated, nameFault, placeWords, sentenceOf, tooLarge } from './words.js';
+import { button } from './dom.js';
+import { documentLine, faultOf, normal, treeLine } from './jobs.js';
+import { question, tell, tellFault } from './notice.js';
+import { newPanel } from './panel.js';
+import { counted, isolated, nameFault, placeWords, sentenceOf } from './words.js';
 
 // The room answers one request after the other, so more at once would not be quicker.
 const AT_ONCE = 3;
-
-// Some systems split an umlaut into a letter and dots. The normalized form is what people type.
-const normal = (name) => name.normalize('NFC');
-
-function newLine(mark, name, words) {
-  const bar = element('progress', { max: '100', value: '0', 'aria-label': `Upload of ${name}` });
-  const state = element('span', { class: 'state' }, words);
-  return { bar, state, line: element('li', {}, icon(mark), nameText(name), bar, state) };
-}
-
-function end({ bar, state, line }, words, look) {
-  bar.remove();
-  state.textContent = words;
-  line.classList.add(look);
-}
-
-// A document of its own: {path, name, file, line} with what is told of it.
-function documentJob(file, folder) {
-  const name = normal(file.name);
-  const shown = newLine('document', name, 'waits');
-  return {
-    path: api.join(folder, name), name, file, line: shown.line,
-    begin: () => { shown.state.textContent = 'is sent'; },
-    progress: (part) => { shown.bar.value = 100 * part; },
-    end: (words, look) => end(shown, words, look),
-  };
-}
-
-// The documents of a whole folder share a line, which counts them. What went wrong is listed below
-// it.
-function folderJobs(tree, folder) {
-  const shown = newLine('folder', normal(tree.name), 'waits');
-  const faults = element('ul', { class: 'faults' });
-  shown.line.append(faults);
-  const count = tree.files.length;
-  let [ended, sent] = [0, 0];
-  const tell = () => {
-    shown.bar.value = (100 * ended) / Math.max(count, 1);
-    shown.state.textContent = `${ended} of ${counted(count, 'document')}`;
-    if (ended < count) return;
-    end(shown, sent === count ? `uploaded, with ${counted(count, 'document')}`
-      : `${sent} of ${counted(count, 'document')} uploaded`, sent === count ? 'good' : 'bad');
-  };
-  const fault = (path, words) => faults.append(element('li', {}, nameText(path), `: ${words}`));
-  const jobs = tree.files.map(({ path, file }) => ({
-    path: api.join(folder, normal(path)), name: normal(path), file,
-    begin: () => {}, progress: () => {},
-    end: (words, look) => {
-      ended += 1;
-      if (look === 'good') sent += 1;
-      else fault(normal(path), words);
-      tell();
-    },
-  }));
-  return { line: shown.line, tell, fault, jobs };
-}
 
 // Questions come one after the other. A whole upload can be answered at once.
 function replacing(count) {
@@ -83,34 +30,6 @@ function replacing(count) {
   };
 }
 
-function faultOf({ name, file }) {
-  if (file.size > api.GREATEST_DOCUMENT) return tooLarge('It');
-  return name.split('/').map(nameFault).find((fault) => fault !== null) ?? null;
-}
-
-async function sendOne(job, mayReplace) {
-  if (await api.isThere(job.path) && !(await mayReplace(job.name))) {
-    job.end('left as it was', 'bad');
-    return;
-  }
-  job.begin();
-  await api.put(job.path, job.file, (sent, whole) => job.progress(whole === 0 ? 1 : sent / whole));
-  job.end('uploaded', 'good');
-}
-
-async function sendInTurn(queue, mayReplace) {
-  for (let job = queue.shift(); job; job = queue.shift()) {
-    const fault = faultOf(job);
-    try {
-      if (fault) job.end(fault, 'bad');
-      else await sendOne(job, mayReplace);
-    } catch (refusal) {
-      job.end(sentenceOf(refusal), 'bad');
-      if (refusal.status === 401) tellFault(refusal);
-    }
-  }
-}
-
 // Why a folder can't be made, or null. One that is there already is taken as it is.
 async function makeOne(path, folder) {
   const fault = path.split('/').map(nameFault).find((one) => one !== null);
@@ -119,54 +38,162 @@ async function makeOne(path, folder) {
     await api.makeFolder(api.join(folder, path));
     return null;
   } catch (refusal) {
+    if (endsAll(refusal)) throw refusal;
     return refusal.body?.why === 'exists' ? null : sentenceOf(refusal);
   }
 }
 
-// Makes the folders of a tree, from the top down. Returns the documents that have a folder now.
-async function makeFolders(tree, folder, { jobs, fault }) {
-  const lacking = [];
-  const isIn = (path, above) => path.startsWith(`${above}/`);
-  for (const path of tree.folders.map(normal)) {
-    if (lacking.some((above) => isIn(path, above))) continue;
-    const why = await makeOne(path, folder);
-    if (why === null) continue;
-    fault(path, why);
-    lacking.push(path);
+// Whether the room has what was sent. Where I may not know that, nothing speaks against it.
+async function isKept({ path, file, made }) {
+  try {
+    if (!(await api.isThere(path))) return false;
+    if (made) return true;
+    const [got, sent] = await Promise.all([api.read(path), file]
+      .map(async (blob) => new Uint8Array(await (await blob).arrayBuffer())));
+    return got.length === sent.length && got.every((byte, at) => byte === sent[at]);
+  } catch (fault) {
+    if (isUnanswered(fault)) throw fault;
+    return true;
   }
-  const left = (job) => lacking.some((above) => isIn(job.name, above));
-  for (const job of jobs.filter(left)) job.end('its folder couldn’t be made', 'bad');
-  return jobs.filter((job) => !left(job));
 }
 
 let running = 0;
 export const isUploading = () => running > 0;
 
-function newSheet(folder) {
-  const rows = element('ul', {});
-  const close = button('Close', () => sheet.remove(), { class: 'small', hidden: true });
-  const title = element('h2', {}, `Upload to ${placeWords(folder)}`);
-  const head = element('div', { class: 'bar' }, title, close);
-  const sheet = element('section', { class: 'uploads', 'aria-label': 'Upload' }, head, rows);
-  document.getElementById('uploads').append(sheet);
-  return { rows, close };
+class Upload {
+  constructor(files, trees, folder) {
+    this.folder = folder;
+    this.lines = [...files.map((file) => documentLine(file, folder)),
+      ...trees.map((tree) => treeLine(tree, folder))];
+    this.jobs = this.lines.flatMap(({ jobs }) => jobs);
+    this.lineOf = new Map(this.lines.flatMap((line) => line.jobs.map((job) => [job, line])));
+    this.mayReplace = replacing(this.jobs.length);
+    this.close = button('Close', () => this.panel.remove(), { class: 'small', hidden: true });
+    this.again = button('Try the failed ones again', () => this.run(),
+      { class: 'small', hidden: true });
+    this.panel = newPanel('Upload', `Upload to ${placeWords(folder)}`, this.again, this.close);
+    this.panel.rows.append(...this.lines.map(({ line }) => line));
+  }
+
+  withState(...states) {
+    return this.jobs.filter(({ state }) => states.includes(state));
+  }
+
+  set(job, changes) {
+    Object.assign(job, changes);
+    this.lineOf.get(job).draw();
+    this.panel.show(this.withState('good', 'bad').length, this.jobs.length);
+  }
+
+  // Makes the folders of a tree, from the top down. What is in one that can't be made isn't sent.
+  async makeFolders({ tree, jobs, faults, draw }) {
+    faults.length = 0;
+    const isIn = (path, above) => path.startsWith(`${above}/`);
+    for (const name of tree.folders.map(normal)) {
+      if (faults.some((above) => isIn(name, above.name))) continue;
+      const words = await makeOne(name, this.folder);
+      if (words !== null) faults.push({ name, words });
+    }
+    const lacks = ({ name, state }) =>
+      state === 'waits' && faults.some((above) => isIn(name, above.name));
+    for (const job of jobs.filter(lacks)) {
+      this.set(job, { state: 'bad', words: 'its folder couldn’t be made', again: true });
+    }
+    draw();
+  }
+
+  async sendOne(job) {
+    const fault = faultOf(job);
+    if (fault) return this.set(job, { state: 'bad', words: fault });
+    job.allowed ||= !(await api.isThere(job.path)) || await this.mayReplace(job.name);
+    if (!job.allowed) return this.set(job, { state: 'bad', words: 'left as it was' });
+    this.set(job, { state: 'runs' });
+    const made = await api.put(job.path, job.file, (sent, whole) =>
+      this.set(job, { part: whole === 0 ? 1 : sent / whole }));
+    return this.set(job, { state: 'good', made });
+  }
+
+  cut(queue) {
+    this.isCut = true;
+    for (const job of queue.splice(0)) {
+      this.set(job, { state: 'bad', words: 'not sent', again: true });
+    }
+  }
+
+  async sendInTurn(queue) {
+    for (let job = queue.shift(); job; job = queue.shift()) {
+      try {
+        await this.sendOne(job);
+      } catch (refusal) {
+        this.set(job, { state: 'bad', words: sentenceOf(refusal), again: true });
+        if (refusal.status === 401) tellFault(refusal);
+        if (endsAll(refusal)) this.cut(queue);
+      }
+    }
+  }
+
+  // An interrupted room may have been set back to an earlier copy, without what it had taken.
+  async lookAgain() {
+    const lost = [];
+    try {
+      for (const job of this.withState('good')) if (!(await isKept(job))) lost.push(job);
+    } catch {
+      return; // It doesn't answer once more: this is looked at after the next try.
+    }
+    this.interrupted = false;
+    for (const job of lost) {
+      this.set(job, { state: 'bad', again: true, part: 0,
+        words: 'it was uploaded, but the room doesn’t have it any more' });
+    }
+    if (lost.length > 0) {
+      const gone = counted(lost.length, 'document');
+      const are = lost.length === 1 ? 'is' : 'are';
+      tell('bad', `The room was interrupted during the upload, and ${gone} that it had taken ${are} `
+        + 'gone. It was probably set back to an earlier copy: ask the administrator what else is '
+        + 'gone, and try the failed ones again.');
+    }
+  }
+
+  // Sends what wasn't sent yet, or failed and may be tried again.
+  async run() {
+    running += 1;
+    this.again.hidden = this.close.hidden = true;
+    for (const job of this.withState('bad').filter(({ again }) => again)) {
+      this.set(job, { state: 'waits', words: '', part: 0, again: false });
+    }
+    const seen = interruptionsSeen();
+    this.isCut = false;
+    try {
+      for (const line of this.lines) if (line.tree) await this.makeFolders(line);
+    } catch (refusal) {
+      tellFault(refusal);
+      this.cut(this.withState('waits'));
+    }
+    const queue = this.withState('waits');
+    await Promise.all(Array.from({ length: AT_ONCE }, () => this.sendInTurn(queue)));
+    this.interrupted ||= interruptionsSeen() !== seen;
+    if (this.interrupted && !this.isCut) await this.lookAgain();
+    running -= 1;
+    this.end();
+  }
+
+  end() {
+    const bad = this.withState('bad');
+    const whole = bad.length === 0 && this.lines.every(({ faults = [] }) => faults.length === 0);
+    this.panel.show(this.jobs.length, this.jobs.length);
+    this.panel.say(whole ? `${counted(this.jobs.length, 'document')} uploaded.`
+      : `${counted(bad.length, 'document')} of ${this.jobs.length} failed.`);
+    this.again.hidden = !bad.some(({ again }) => again);
+    this.close.hidden = false;
+    if (whole) this.panel.leave();
+    this.onEnd();
+  }
 }
 
 // Sends files and trees into the folder. The progress is shown beside whatever is open meanwhile.
-// Returns when all have ended.
-export async function uploadAll(files, trees, folder) {
-  const { rows, close } = newSheet(folder);
-  const documents = files.map((file) => documentJob(file, folder));
-  const whole = trees.map((tree) => folderJobs(tree, folder));
-  rows.append(...[...documents, ...whole].map(({ line }) => line));
-  const queue = [...documents];
-  running += 1;
-  for (const [index, line] of whole.entries()) {
-    queue.push(...await makeFolders(trees[index], folder, line));
-    line.tell();
-  }
-  const mayReplace = replacing(queue.length);
-  await Promise.all(Array.from({ length: AT_ONCE }, () => sendInTurn(queue, mayReplace)));
-  running -= 1;
-  close.hidden = false;
+// 'onEnd' is called when all have ended, and again after each further try.
+export async function uploadAll(files, trees, folder, onEnd) {
+  const upload = new Upload(files, trees, folder);
+  upload.onEnd = onEnd;
+  await upload.run();
 }

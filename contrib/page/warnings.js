@@ -5,9 +5,10 @@ import {
   ANYBODY, added, afterSending, callersOf, grantsNobody, hindrance, keepsRight, oneUser,
 } from './judge.js';
 import { printEntry, readListText } from './list.js';
-import { isolated, listed, placeWords } from './words.js';
+import { attributesAt, foldersAbove } from './around.js';
+import { removalOf } from './removers.js';
+import { callerWords, capital, isolated, listed, placeWords } from './words.js';
 
-const UNKNOWN = { owner: null, group: null };
 const NO_GROUPS = 'This page doesn’t know who is in a group.';
 
 // Why I may not, in a sentence.
@@ -34,13 +35,6 @@ export function lossOf(letter, before, after, me, object) {
     text: `${unsure} ${NO_GROUPS}${rest}`,
   };
 }
-
-function callerWords(caller) {
-  if (caller === ANYBODY) return 'everyone';
-  return caller.user === undefined ? `the group ${caller.group}` : isolated(caller.user);
-}
-
-const capital = (text) => text.replace(/^[a-z]/, (first) => first.toUpperCase());
 
 // A sentence about one who can't get here, or perhaps not: {kind: 'bad' or 'unsure', text}.
 export function passageWords(caller, found) {
@@ -71,30 +65,13 @@ export function passageOf(sent, before, after, kind, object, folders) {
   });
 }
 
-async function listAt(path) {
-  const text = await api.readList('dacl', path).catch(() => null);
-  return text === null ? null : readListText(text).list ?? null;
-}
-
-const attributesAt = (path) => api.readAttributes(path).catch(() => UNKNOWN);
-
-// The folders on the way, from the top down, or only the last of them.
-async function foldersAbove(path, whole) {
-  const names = api.namesOf(path);
-  const paths = names.map((_, index) => `/${names.slice(0, index).join('/')}`);
-  return Promise.all(paths.slice(whole ? 0 : -1).map(async (each) => {
-    const [list, object] = await Promise.all([listAt(each), attributesAt(each)]);
-    return { path: each, list, object };
-  }));
-}
-
-// {loss: {title, text} or null, passage: [{kind, text}]} for a draft that is about to be sent.
-// 'now' is the room's text.
+// {loss: {title, text} or null, warned: [{kind, text}]} for a draft that is about to be sent. 'now'
+// is the room's text.
 export async function judged(draft, now) {
   const before = readListText(now).list;
   const sent = draft.list;
   // What can't be read is refused by the room, and the list of records decides nothing.
-  if (!before || !sent || draft.which !== 'dacl') return { loss: null, passage: [] };
+  if (!before || !sent || draft.which !== 'dacl') return { loss: null, warned: [] };
   const [me, object, folders] = await Promise.all([
     api.whoAmI().catch(() => ''), attributesAt(draft.path),
     foldersAbove(draft.path, added(sent, before).length > 0)]);
@@ -102,6 +79,8 @@ export async function judged(draft, now) {
   const after = afterSending(sent, before, above, draft.kind);
   return {
     loss: lossOf('C', before, after, me, object) ?? lossOf('c', before, after, me, object),
-    passage: passageOf(sent, before, after, draft.kind, object, folders),
+    warned: [...passageOf(sent, before, after, draft.kind, object, folders),
+      ...await removalOf(draft.kind, { path: draft.path, entries: before.entries, object },
+        { path: draft.path, entries: after.entries, object, protect: sent.protect })],
   };
 }

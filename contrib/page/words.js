@@ -2,14 +2,22 @@
 
 import { isGroup, isInherited, readEntry } from './list.js';
 import { GREATEST_DOCUMENT, namesOf } from './api.js';
+import { marked } from './signs.js';
 
 // The rights in the groups in which the page shows them. 'idle' ones are kept, but no request asks
 // for them.
 export const GROUPS = [
   { name: 'Read', letters: 'rxtc', idle: 'n' },
-  { name: 'Write', letters: 'waDd', idle: 'NT' },
+  { name: 'Write', letters: 'wa', idle: 'NT' },
   { name: 'Manage', letters: 'Co', idle: 'hHy' },
+  {
+    name: 'Remove and rename what others made', ofDocument: 'Remove and rename it', letters: 'Dd',
+    idle: '',
+  },
 ];
+
+export const groupName = (group, kind) =>
+  (kind === 'document' && group.ofDocument) || group.name;
 
 const ASKED_RIGHTS = GROUPS.map((group) => group.letters).join('').length;
 
@@ -70,6 +78,14 @@ export function whoWords(entry) {
   return `${isGroup(entry) ? 'the group' : 'the user'} ${entry.who}`;
 }
 
+// Those who are judged, as judge.js has them.
+export function callerWords(caller) {
+  if (caller.user !== undefined) return isolated(caller.user);
+  return caller.group === undefined ? 'everyone' : `the group ${caller.group}`;
+}
+
+export const capital = (text) => text.replace(/^[a-z]/, (first) => first.toUpperCase());
+
 // Where an entry counts, by its flags f, d, n, i, in the order in which they are offered.
 export const REACHES = [
   ['', 'only here'],
@@ -108,7 +124,7 @@ export const placeWords = (path) => {
 };
 
 // A name in its own direction, inside a sentence.
-export const isolated = (name) => `\u2068${name}\u2069`;
+export const isolated = (name) => `\u2068${marked(name)}\u2069`;
 
 const FAULTS = {
   A1: 'The type has to be A (allow) or D (deny), for records U (audit) or L (alarm).',
@@ -187,13 +203,22 @@ const SENTENCES = {
   502: 'The room doesn’t answer at the moment. Try again in a minute; if it still doesn’t, tell the administrator.',
   503: 'The room is busy. Try again in a minute.',
   504: 'The room took too long to answer. The request may or may not have been carried out: look before you repeat it.',
+  507: 'The room is full, so nothing was added. Remove what nobody needs any more, then try again; if that doesn’t help, tell the administrator.',
 };
 
 export const tooLarge = (name) =>
   `${name} has more than ${GREATEST_DOCUMENT.toLocaleString('en')} bytes (1 MiB), which is the most a document may have. Make it smaller, or cut it into parts.`;
 
+const TWICE = ' The room didn’t answer at first, so it may have been carried out already: look.';
+
 // Any refusal as a sentence that says what to do.
 export function sentenceOf(fault) {
+  const changes = fault.asked && fault.asked.method !== 'GET';
+  const isAnswer = fault.status >= 400 && fault.status < 500;
+  return answerWords(fault) + (fault.repeated && changes && isAnswer ? TWICE : '');
+}
+
+function answerWords(fault) {
   const { status, body } = fault;
   if (status === undefined) return `The page itself failed: ${fault.message}. Load it again.`;
   const at = body?.at ? placeWords(body.at) : 'that place';

@@ -8,6 +8,7 @@ from selenium import webdriver
 from selenium.common.exceptions import StaleElementReferenceException
 from selenium.webdriver.chrome.options import Options
 from selenium.webdriver.chrome.service import Service
+from selenium.webdriver.common.action_chains import ActionChains
 from selenium.webdriver.support.ui import WebDriverWait
 
 PATIENCE = float(os.environ.get('PAGE_PATIENCE', '30'))
@@ -64,14 +65,14 @@ class Browser:
     def script(self, text, *words):
         return self.driver.execute_script(text, *words)
 
-    def until(self, holds, what):
+    def until(self, holds, what, patience=PATIENCE):
         """Waits until this holds, and answers what it gave."""
         def tried(_):
             try:
                 return holds()
             except StaleElementReferenceException:
                 return False
-        return WebDriverWait(self.driver, PATIENCE, poll_frequency=0.05).until(tried, f'never came: {what}')
+        return WebDriverWait(self.driver, patience, poll_frequency=0.05).until(tried, f'never came: {what}')
 
     def all(self, css):
         return self.script('return [...document.querySelectorAll(arguments[0])].filter((one) => one.checkVisibility())', css)
@@ -95,11 +96,20 @@ class Browser:
         # A list may be drawn anew after the button is found and before it is clicked.
         self.until(lambda: self.click(self.button(words, within)), words)
 
+    def act(self, words, name):
+        """Does this with the object of a row, by its menu."""
+        self.press(f'Actions: {name}')
+        self.press(words, '.menu')
+
     def click(self, control):
         """Away from the head, which stays at the top of the window."""
         self.script("arguments[0].scrollIntoView({ block: 'nearest' })", control)
         control.click()
         return True
+
+    def point(self, css):
+        """Moves the pointer there."""
+        ActionChains(self.driver).move_to_element(self.one(css)).perform()
 
     def write(self, css, text):
         field = self.one(css)
@@ -115,10 +125,10 @@ class Browser:
         except Exception:
             raise AssertionError(f'{self.names()} are listed, not {names}') from None
 
-    def says(self, *words, css='.notice'):
+    def says(self, *words, css='.notice', patience=PATIENCE):
         """Waits for a message with all of these words, and puts messages aside."""
         try:
-            self.until(lambda: any(all(word in text for word in words) for text in self.texts(css)), 'a message')
+            self.until(lambda: any(all(word in text for word in words) for text in self.texts(css)), 'a message', patience)
         except Exception:
             raise AssertionError(f'{css} says {self.texts(css)}, not {words}') from None
         self.script("""document.querySelectorAll('.notice [aria-label="Close this message"]').forEach((one) => one.click())""")

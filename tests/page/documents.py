@@ -90,7 +90,7 @@ class Documents:
 
     def move_strange(self):
         alice = self.alice
-        alice.press(f'Rename or move: {STRANGE}')
+        alice.act('Rename or move', STRANGE)
         alice.write('dialog input', STRANGE + '2')
         alice.press('The folder above', 'dialog')
         alice.until(lambda: 'the top of the room' in alice.one('dialog .where').text, 'the top')
@@ -102,10 +102,10 @@ class Documents:
 
     def remove_strange(self):
         alice = self.alice
-        alice.press(f'Remove: {STRANGE}2')
+        alice.act('Remove', f'{STRANGE}2')
         alice.press('Cancel', 'dialog')
         assert STRANGE + '2' in alice.names()
-        alice.press(f'Remove: {STRANGE}2')
+        alice.act('Remove', f'{STRANGE}2')
         alice.press('Remove it', 'dialog')
         alice.says(STRANGE + '2', 'was removed')
         alice.lists('letters')
@@ -113,7 +113,7 @@ class Documents:
     def full_folder(self):
         """It is removed with what is in it, after a question that counts this."""
         alice = self.alice
-        alice.press('Remove: letters')
+        alice.act('Remove', 'letters')
         alice.says('letters and what is in it, 4 documents, will be gone', css='dialog')
         alice.press('Cancel', 'dialog')
         for path in ('/full', '/full/a', '/full/a/b', '/full/c'):
@@ -121,7 +121,7 @@ class Documents:
         for path in ('/full/one', '/full/a/b/two'):
             self.ask('PUT', f'/doc{path}', b'x')
         alice.open('')
-        alice.press('Remove: full')
+        alice.act('Remove', 'full')
         alice.says('full and what is in it, 2 documents and 3 folders, will be gone', css='dialog')
         alice.press('Remove it', 'dialog')
         alice.says('full was removed')
@@ -132,7 +132,14 @@ class Documents:
         alice.button('New folder').send_keys(Keys.ENTER)
         alice.one('dialog input').send_keys('keys', Keys.ENTER)
         alice.says('keys', 'was made')
-        alice.button('Remove: keys').send_keys(Keys.ENTER)
+        alice.button('Actions: keys').send_keys(Keys.ENTER)
+        for key, words in ((Keys.ARROW_UP, 'Remove'), (Keys.ARROW_DOWN, 'Rename or move'), (Keys.END, 'Remove')):
+            alice.driver.switch_to.active_element.send_keys(key)
+            assert alice.script('return document.activeElement.textContent') == words
+        alice.driver.switch_to.active_element.send_keys(Keys.ESCAPE)
+        assert alice.script('return document.activeElement.dataset.act') == 'menu' and not alice.all('.menu')
+        alice.driver.switch_to.active_element.send_keys(Keys.ENTER, Keys.ARROW_UP)
+        alice.driver.switch_to.active_element.send_keys(Keys.ENTER)
         alice.until(lambda: alice.script('return document.activeElement.textContent') == 'Cancel', 'the question')
         alice.driver.switch_to.active_element.send_keys(Keys.TAB)
         alice.driver.switch_to.active_element.send_keys(Keys.ENTER)

@@ -37,8 +37,10 @@ def of_docs(docs):
             continue
         with open(path, encoding='utf-8') as file:
             texts += blocks(file.read())
-    with open(f'{docs}/access-lists.md', encoding='utf-8') as file:
-        rules = file.read()
+    rules = ''
+    for page in ('access-lists', 'list-text'):
+        with open(f'{docs}/{page}.md', encoding='utf-8') as file:
+            rules += file.read()
     entries = [[written, told or code] for written, told, code in
                re.findall(r'^\| `([^`]*)` \| (?:printed `([^`]*)`|(A\d+))', rules, re.M)]
     entries.append(['A:g:OWNER@:r', 'A:g:OWNER@:r'])

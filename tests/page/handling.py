@@ -29,6 +29,7 @@ class Handling:
             self.ask('PUT', f'/doc/desk/Note%20{number}.txt', f'note {number}'.encode())
         for name, content in (('plan.csv', b'a;b'), ('Caf%C3%A9.txt', b''), ('dot.png', PIXEL),
                               ('text.html', MARKUP.encode()), ('odd.bin', b'\xff\xfe\x00'),
+                              ('paper.pdf', b'%PDF-1.4\n'),
                               ('new/in%20it.txt', b'in it')):
             self.ask('PUT', f'/doc/desk/{name}', content)
 
@@ -78,12 +79,12 @@ class Handling:
         """The name is selected, so that typing replaces it; then the focus is in the row."""
         alice = self.alice
         alice.open('#/desk')
-        alice.press('Rename or move: plan.csv')
+        alice.act('Rename or move', 'plan.csv')
         field = "return document.activeElement.matches('dialog input')"
         alice.until(lambda: alice.script(field), 'the field')
         alice.driver.switch_to.active_element.send_keys('budget.csv', Keys.ENTER)
         alice.says('plan.csv is now “/desk/budget.csv”')
-        alice.until(lambda: self.focus() == ['move', 'budget.csv'], 'the focus in the row')
+        alice.until(lambda: self.focus() == ['menu', 'budget.csv'], 'the focus in the row')
 
     def arrows(self):
         alice = self.alice
@@ -94,7 +95,9 @@ class Handling:
         assert self.focus() == ['open', 'new'] and alice.script(stops) == 1, self.focus()
         for key, wanted in (
                 (Keys.ARROW_DOWN, ['open', 'old']), (Keys.ARROW_DOWN, ['open', 'budget.csv']),
-                (Keys.ARROW_RIGHT, ['preview', 'budget.csv']), (Keys.ARROW_UP, ['open', 'old']),
+                (Keys.ARROW_RIGHT, ['access', 'budget.csv']), (Keys.ARROW_UP, ['access', 'old']),
+                (Keys.ARROW_RIGHT, ['menu', 'old']), (Keys.ARROW_LEFT, ['access', 'old']),
+                (Keys.ARROW_LEFT, ['open', 'old']),
                 (Keys.ARROW_LEFT, ['pick', 'old']), (Keys.END, ['pick', 'text.html']),
                 (Keys.ARROW_DOWN, ['pick', 'text.html']), (Keys.HOME, ['pick', 'new'])):
             alice.driver.switch_to.active_element.send_keys(key)
@@ -173,18 +176,19 @@ class Handling:
         """Text is set as text, and an image is drawn from its bytes."""
         alice = self.alice
         alice.open('#/desk')
-        alice.press('Preview: text.html')
+        alice.act('Preview', 'text.html')
         assert alice.one('dialog pre').text == MARKUP
         assert not alice.script("return document.querySelector('.content :is(b, img)')")
         alice.press('Download', 'dialog')
         assert alice.downloaded('text.html') == MARKUP.encode()
         alice.press('Close', 'dialog')
-        alice.press('Preview: dot.png')
+        alice.act('Preview', 'dot.png')
         width = "return document.querySelector('dialog img')?.naturalWidth"
         alice.until(lambda: alice.script(width) == 1, 'the image')
         alice.press('Close', 'dialog')
-        for name, words in (('odd.bin', 'no preview'), ('Note 5.txt', 'note 5')):
-            alice.press(f'Preview: {name}')
+        for name, words in (('odd.bin', 'no preview'), ('paper.pdf', 'PDF documents have no preview'),
+                            ('Note 5.txt', 'note 5')):
+            alice.act('Preview', name)
             alice.says(words, css='dialog .content')
             alice.press('Close', 'dialog')
 
@@ -235,6 +239,6 @@ class Handling:
         alice = self.alice
         alice.open('')
         for name in ('desk', 'drops'):
-            alice.press(f'Remove: {name}')
+            alice.act('Remove', name)
             alice.press('Remove it', 'dialog')
             alice.says(f'{name} was removed')

@@ -3,9 +3,10 @@
 // other answers follow from the rules of docs/access-lists.md, where nothing is known about groups.
 const [examples, finish] = arguments;
 
-const names = ['/list.js', '/judge.js', '/warnings.js', '/words.js'];
+const names = ['/list.js', '/judge.js', '/warnings.js', '/words.js', '/removers.js', '/moved.js',
+  '/signs.js'];
 const modules = names.map((name) => import(name));
-Promise.all(modules).then(([lists, judging, warnings, words]) => {
+Promise.all(modules).then(([lists, judging, warnings, words, removers, moved, signs]) => {
   const { readListText, readEntry, printEntry } = lists;
   const { ANYBODY, added, afterSending, grantsNobody, hindrance, judge, keepsRight } = judging;
   const { membersOf, oneUser, passedDown } = judging;
@@ -171,6 +172,91 @@ Promise.all(modules).then(([lists, judging, warnings, words]) => {
   equal('only here', passage('A::carol:r', top), []);
   equal('a user called constructor', words.whoWords({ who: 'constructor', flags: '' }),
     'the user constructor');
+
+  // The examples of deleting in docs/access-lists.md, for bob of the group staff.
+  const staff = membersOf('staff');
+  for (const [target, parent, caller, wanted] of [
+    ['A::bob:d', 'D::bob:D', oneUser('bob'), true], ['D::bob:d', 'A::bob:D', oneUser('bob'), true],
+    ['D::bob:d', 'A::bob:w', oneUser('bob'), false],
+    ['', 'A::bob:w D:g:staff:D', oneUser('bob'), true],
+    ['', 'A:g:staff:w D:g:staff:D', staff, false], ['', 'A::bob:w', oneUser('bob'), true],
+    ['', 'A::bob:x', oneUser('bob'), false], ['', 'D:g:staff:w A:g:staff:w', staff, false],
+  ]) {
+    const full = (text) => (
+      { entries: list('list:a', ...text.split(' ').filter(Boolean)).entries, object: ofRoot });
+    const got = judging.mayDelete(full(target), full(parent), caller);
+    equal(`deleting ${target} below ${parent}`, got, wanted);
+  }
+
+  // Who could remove what others made, who couldn't before.
+  const kept = { path: '/a/board', list: list('list:ap', 'A:fd:alice:rxC', 'D:d:EVERYONE@:Dd') };
+  const inside = (entries, shut = [], all = true) => {
+    const folderOf = (given) => (
+      { path: '/a', entries: list('list:a', ...given).entries, object: ofAlice });
+    const after = folderOf([...entries, 'A:fd:alice:rwaxDdtcCo']);
+    return removers.insideWords(folderOf(['A:fd:alice:rwaxDdtcCo']), after, { found: shut, all });
+  };
+  const line = 'D:d:EVERYONE@:Dd';
+  equal('reading removes nothing', inside(['A:fdg:staff:rxtc']), []);
+  equal('writing below the line', inside([line, 'A:fdg:staff:rwaxtc']), []);
+  equal('their own', inside([line, 'A:fdg:staff:rwaxtc', 'A:fi:OWNER@:d']), []);
+  has('removing', inside(['A:fdg:staff:rwaxDdtc'])[0].text, 'The group staff may then remove');
+  equal('d of folders, below the line', inside([line, 'A:dg:staff:rd']), []);
+  has('d of documents', inside([line, 'A:fdg:staff:rd'])[0].text, 'The group staff may then');
+  has('d that is passed down', inside(['A:fdig:staff:d'])[0].text, 'The group staff may then');
+  has('D below only', inside(['A:fdig:staff:D'])[0].text, 'The group staff may then');
+  has('no entry says it', inside(['A:fdg:staff:rwaxtc'])[0].text, 'no entry says who may remove',
+    line);
+  equal('a manager', inside(['A:fdg:chiefs:rwaxDdtcC']), []);
+  const ofManager = inside(['A:fdg:chiefs:rwaxDdtcC'], [kept]);
+  has('a manager, and a protected folder', ofManager[0].text, 'The group chiefs', '“/a/board”');
+  has('D opens what is protected', inside(['A:fdg:staff:xD'], [kept])[0].text, '“/a/board”');
+  has('w alone doesn’t', inside(['A:fdg:staff:rwx'], [kept])[0].kind, 'unsure');
+  const open = { path: '/a/open', list: list('list:ap', 'A:fd:alice:rxC') };
+  has('unless it says nothing', inside(['A:fdg:staff:rwx'], [open])[0].text, '“/a/open”');
+  const deep = { ...kept, path: '/a/b/board' };
+  has('further down', inside(['A:g:staff:rwx'], [deep])[0].text, '“/a/b/board”');
+  equal('not all was seen', inside(['A:fdg:staff:D'], [], false).length, 2);
+  const four = ['/a/1', '/a/2', '/a/3', '/a/4'].map((path) => ({ ...kept, path }));
+  has('many', inside(['A:fdg:staff:D'], four)[0].text, '“/a/3” and 1 other: they could make others');
+
+  // Who gains by a move from a folder of alice's to one of the group staff.
+  const shut = folder('/shut', 'A:fd:alice:rxC');
+  const shared = folder('/shared', line, 'A:fdg:staff:rwaxtc', 'A:fd:alice:rxC');
+  const gains = (to, first = 'list:a', own = [], kind = 'document', from = [top, shut]) => {
+    const was = list(first, ...own, ...judging.passedDown(shut.list.entries, kind).map(printEntry));
+    const now = judging.afterMoving(was, to.at(-1).list ?? list('list:'), kind);
+    const at = (entries, folders) => ({ target: { entries, object: ofAlice, kind }, folders });
+    return moved.gainsOf(at(was.entries, from), at(now, to), 'alice')
+      .map(({ caller, letters }) => [caller, letters]);
+  };
+  equal('a move to the group', gains([top, shared]), [[staff, 'rw']]);
+  equal('a folder', gains([top, shared], 'list:a', [], 'folder'), [[staff, 'rw']]);
+  equal('what is protected', gains([top, shared], 'list:ap'), []);
+  equal('its own denial', gains([top, shared], 'list:a', ['D:g:staff:r']), [[staff, 'w']]);
+  equal('a grant to one who isn’t let pass', gains([top, shared], 'list:a', ['A::carol:r']),
+    [[staff, 'rw']]);
+  const forAll = folder('/open', 'A:fd:alice:rxC', 'A::AUTHENTICATED@:x');
+  equal('and who is let pass now', gains([top, forAll], 'list:a', ['A::carol:r']), [[carol, 'r']]);
+  equal('not let pass', gains([folder('/', 'A::alice:x'), shared]), []);
+  const loose = folder('/loose', 'A:fdg:staff:rwx');
+  equal('removing by w', gains([top, loose]), [[staff, 'rwd']]);
+  equal('which may have been so', gains([top, loose], 'list:a', [], 'document',
+    [top, { ...shut, list: null }]), [[staff, 'rw']]);
+  const everyones = folder('/all', 'A:fdg:staff:rx', 'A:fd:AUTHENTICATED@:rx', 'A:fd:bob:rxC');
+  equal('everyone, and who gains more', gains([top, everyones]), [[ANYBODY, 'r'], [oneUser('bob'), 'rC']]);
+  equal('a list that passes nothing on', gains([top, { ...shared, list: list('list:', 'A:fdg:staff:r') }]), []);
+  equal('a list that is not read', gains([top, { ...shared, list: null }]), []);
+
+  // Signs that can't be seen, and what is none.
+  for (const [name, wanted] of [['plan', 'plan'], ['plan ', 'plan[space]'], [' a b', '[space]a b'],
+    ['a\u202eb', 'a[U+202E]b'], ['a\u00a0b', 'a[U+00A0]b'], ['a\u200bb', 'a[U+200B]b'],
+    ['a\u200db', 'a[U+200D]b'], ['\ufeffa', '[U+FEFF]a'], ['a\u{e0041}', 'a[U+E0041]'],
+    ['\u{1f468}\u200d\u{1f467}', '\u{1f468}\u200d\u{1f467}'], ['\u2764\ufe0f', '\u2764\ufe0f'],
+    ['\u0645\u06cc\u200c\u062e', '\u0645\u06cc\u200c\u062e'], ['שלום "x"', 'שלום "x"'], ['e\u0301', 'e\u0301'],
+    ['   ', '[space]'], ['a\u3164', 'a[U+3164]']]) {
+    equal(`signs of ${JSON.stringify(name)}`, signs.marked(name), wanted);
+  }
 
   const tried = words.sentenceOf({ status: 429, body: null });
   has('too many tries', tried, 'Too many passwords were tried', 'Wait a minute');

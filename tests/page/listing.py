@@ -17,7 +17,7 @@ class Lists:
         alice.press('Table')
         assert [each.get_attribute('value') for each in alice.all('.who select')] == ['OWNER@', 'EVERYONE@']
         alice.press('Remove entry 1')
-        alice.all('.groups input')[2].click()
+        alice.press('Manage', '.groups')
         alice.press('Text')
         assert alice.one('textarea').get_attribute('value') == 'list:a\nD:fdn:EVERYONE@:Co\n'
         alice.press('Drop changes')

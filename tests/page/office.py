@@ -12,18 +12,22 @@ import signal
 import sys
 import urllib.request
 
-from browser import Browser, Checks
+from browser import PATIENCE, Browser, Checks
 from documents import Documents
 from dropping import Dropping
 from handling import Handling
+from lasting import Lasting
 from listing import Lists
+from moving import Moving
 from prompts import cancel_prompts
 from readers import Readers
 from recommended import Recommended
+from removers import Removers
 from warned import Warned
 
 
-class Office(Documents, Dropping, Handling, Readers, Lists, Warned, Recommended):
+class Office(Documents, Dropping, Handling, Readers, Lists, Warned, Recommended, Removers, Moving,
+             Lasting):
     def __init__(self, folder, front, log, server, proxy, docs, pictures):
         self.folder, self.log, self.docs, self.pictures = folder, log, docs, pictures
         self.server, self.proxy = int(server), int(proxy)
@@ -115,8 +119,9 @@ class Office(Documents, Dropping, Handling, Readers, Lists, Warned, Recommended)
 
     def no_room(self):
         os.kill(self.server, signal.SIGKILL)
-        self.alice.open('#/letters')
-        self.alice.says('The room doesn’t answer at the moment', 'Try again')
+        self.alice.driver.get('about:blank')
+        self.alice.driver.get(f'{self.base}/#/letters')
+        self.alice.says('The room doesn’t answer. The page tries again for half a minute.')
 
     def no_front(self):
         os.kill(self.proxy, signal.SIGTERM)
@@ -124,7 +129,7 @@ class Office(Documents, Dropping, Handling, Readers, Lists, Warned, Recommended)
         self.alice.press('New folder')
         self.alice.write('dialog input', 'x')
         self.alice.press('Make it', 'dialog')
-        self.alice.says('The connection was lost', 'look')
+        self.alice.says('The connection was lost', 'look', patience=60 + PATIENCE)
 
 
 PLAY = [
@@ -153,6 +158,10 @@ PLAY = [
     ('filtered by name', Office.filter),
     ('several at once', Office.selection),
     ('previews', Office.previews),
+    ('many are removed, with a count and a stop', Office.count_and_stop),
+    ('the panel of an upload', Office.faults_first),
+    ('rows of a telephone', Office.rows_of_a_phone),
+    ('signs that can’t be seen', Office.unseen_signs),
     ('tables from 1000 to 1440 px', Office.table_widths),
     ('full folders are removed', Office.clear_desk),
     ('bob may not list the top', Office.closed_top),
@@ -175,6 +184,17 @@ PLAY = [
     ('a list that alice keeps', Office.no_question),
     ('somebody is added who is not let pass', Office.not_let_pass),
     ('what the page cannot know', Office.not_known),
+    ('write without removing', Office.write_alone),
+    ('who may then remove a protected folder', Office.names_protected),
+    ('who may then remove what others made', Office.names_others),
+    ('where no entry says who may remove', Office.no_entry_says),
+    ('what may be moved away may be opened', Office.moved_and_opened),
+    ('a move to where more people can read', Office.told_of_move),
+    ('a move by which nobody gains', Office.silent_move),
+    ('several go to where more people can read', Office.several_told),
+    ('a move by lists that are not read', Office.move_not_known),
+    ('who may read by a link', Office.who_reads_by_link),
+    ('both folders are removed', Office.clear_two),
     ('the ready-made lists', Office.ready_made),
     ('a ready-made list is sent', Office.sent_ready_made),
     ('list.js, by the examples of docs', Office.list_tests),

@@ -35,7 +35,7 @@ class Readers:
         bob.lists('Größe 100%25.html', 'Report 2.txt', 'Report 10.txt', HEBREW)
         bob.press('Report 2.txt')
         assert bob.downloaded('Report 2.txt') == b'two'
-        bob.press('Download: Report 10.txt')
+        bob.act('Download', 'Report 10.txt')
         assert bob.downloaded('Report 10.txt') == b'ten'
 
     def page_as_document(self):
@@ -54,7 +54,7 @@ class Readers:
 
     def may_not(self):
         bob = self.bob
-        bob.press('Remove: Report 2.txt')
+        bob.act('Remove', 'Report 2.txt')
         bob.press('Remove it', 'dialog')
         bob.says('“/letters”', 'you may not remove what is in it', 'No entry')
         bob.script(DROP, 'new.txt')
@@ -67,9 +67,8 @@ class Readers:
         alice.press('Add an entry')
         alice.one('[data-place="1"] td[data-heading=Type] select').send_keys('Deny')
         alice.write('[data-place="1"] .who input', 'bob')
-        read, write = alice.all('[data-place="1"] .groups input')[:2]
-        read.click()
-        write.click()
+        for box in ('Read', 'Write', 'Remove and rename what others made'):
+            alice.press(box, '[data-place="1"] .groups')
         alice.press('Move entry 2 up')
         assert alice.one('[data-place="0"] .letters').text == 'waDd'
         alice.press('Review and send')
@@ -78,7 +77,7 @@ class Readers:
 
     def denied_by_entry(self):
         bob = self.bob
-        bob.press('Remove: Report 2.txt')
+        bob.act('Remove', 'Report 2.txt')
         bob.press('Remove it', 'dialog')
         bob.says('Entry 1 of its access list denies it', 'denies the user bob', 'D:I:bob:waDd', '“/letters/Report 2.txt”')
         bob.open('#/letters/Report%202.txt?rights')

@@ -3,6 +3,10 @@
 import re
 
 
+# The groups or the user of each list there, in the order of its fields.
+NAMES = [['staff'], ['staff'], ['staff'], ['bob'], ['personnel'], ['editors', 'staff'], ['clerks', 'staff']]
+
+
 class Recommended:
     def section(self, title):
         """The first paragraph below this heading, in one line, and the first list."""
@@ -16,16 +20,19 @@ class Recommended:
         """Each is offered with its sentence, and draws its list."""
         alice = self.alice
         self.ask('POST', '/folder/office')
-        for index, name in enumerate(('staff', 'staff', 'staff', 'bob')):
+        for index, names in enumerate(NAMES):
             alice.open('#/office?dacl')
             alice.press('Ready-made lists')
-            alice.until(lambda: len(alice.all('dialog [name=ready]')) == 4, 'four lists')
+            alice.until(lambda: len(alice.all('dialog [name=ready]')) == len(NAMES), 'the lists')
             alice.all('dialog [name=ready]')[index].click()
-            alice.write('dialog input[type=text]', name)
+            fields = alice.all('dialog input[type=text]')
+            assert len(fields) == len(names), (index, len(fields))
+            for field, name in zip(fields, names):
+                field.send_keys(name)
             title = alice.texts('dialog .choice .title')[index]
             told = alice.texts('dialog .choice .hint')[index]
             words, text = self.section(title)
-            assert told == words.replace('from him and', f'from {name} and'), (told, words)
+            assert told == words.replace('from him and', f'from {names[0]} and'), (told, words)
             alice.press('Take this list', 'dialog')
             alice.press('Text')
             assert alice.one('textarea').get_attribute('value') == text, title

@@ -51,7 +51,7 @@ class Several:
         carol.lists('bill.txt')
         place = urllib.parse.quote('a b%2F?#', safe='')
         assert carol.driver.current_url == f'{self.base}/#/{place}', carol.driver.current_url
-        carol.press('Download: bill.txt')
+        carol.act('Download', 'bill.txt')
         assert carol.downloaded('bill.txt') == b'ten'
 
     def lists(self):
@@ -65,7 +65,7 @@ class Several:
         carol = self.carol
         carol.open('')
         carol.script("Object.defineProperty(navigator, 'clipboard', { value: undefined })")
-        carol.press('Copy link: a b%2F?#')
+        carol.act('Copy link', 'a b%2F?#')
         copied = carol.one('dialog input').get_attribute('value')
         assert copied == f'{self.base}/#/{urllib.parse.quote("a b%2F?#", safe="")}', copied
 

@@ -1,0 +1,46 @@
+// A panel at the edge of the window for what takes long. Its head stays in sight: what is done, how
+// much of it has ended, and its buttons. The page stays usable meanwhile.
+
+import { button, element } from './dom.js';
+
+const STAYS = 8000;
+
+export function newPanel(label, title, ...buttons) {
+  const count = element('span', { class: 'count' });
+  const bar = element('progress', { max: '1', value: '0', 'aria-label': label });
+  const told = element('p', { class: 'unseen', role: 'status' });
+  const head = element('div', { class: 'head' }, element('div', { class: 'bar' },
+    element('h2', {}, title), count, element('div', { class: 'actions' }, buttons)), bar, told);
+  const rows = element('ul', {});
+  const panel = element('section', { class: 'uploads', 'aria-label': label }, head, rows);
+  document.getElementById('uploads').append(panel);
+
+  // Numbers alone go to a screen reader at the end only.
+  const show = (done, whole) => {
+    count.textContent = `${done.toLocaleString('en')} of ${whole.toLocaleString('en')}`;
+    bar.value = whole === 0 ? 1 : done / whole;
+    bar.hidden = done === whole;
+  };
+  const say = (words) => { told.textContent = words; };
+  // Goes by itself, but not while somebody looks at it.
+  const leave = () => setTimeout(() => {
+    if (panel.matches(':hover, :focus-within')) leave();
+    else panel.remove();
+  }, STAYS);
+  return { rows, show, say, leave, remove: () => panel.remove() };
+}
+
+// So many have ended before anybody could stop them.
+const FEW = 20;
+const NO_PANEL = { show: () => {}, remove: () => {}, isStopped: () => false };
+
+// A panel for work on so many objects, which can be stopped: {show, remove, isStopped}.
+export function stoppable(title, count) {
+  if (count <= FEW) return NO_PANEL;
+  let stopped = false;
+  const stop = button('Stop', () => {
+    stopped = true;
+    stop.disabled = true;
+  }, { class: 'small' });
+  return { ...newPanel(title, title, stop), isStopped: () => stopped };
+}

@@ -1,0 +1,31 @@
+// Signs in a name that can't be seen, or that turn the text around them. By these a name can look
+// like another one, so they are shown.
+
+// Controls, formatting signs, blanks other than a space, and letters without a shape. A joiner is
+// left alone where it belongs: after signs such as emojis, and in scripts that need it.
+const JOINS = '\\p{Extended_Pictographic}\\p{Emoji_Modifier}\\p{M}\\p{Script=Arabic}';
+const JOINERS = `(?<![${JOINS}])[\\u200c\\u200d]`;
+const FORMAT = '(?![\\u200c\\u200d])[\\p{Cc}\\p{Cf}\\p{Zl}\\p{Zp}]';
+const UNSEEN = '[\\u034f\\u115f\\u1160\\u17b4\\u17b5\\u180b-\\u180d\\u2800\\u3164\\uffa0]';
+const BLANKS = '[\\u00a0\\u1680\\u2000-\\u200a\\u202f\\u205f]|^ +| +$';
+const SIGNS = new RegExp([JOINERS, FORMAT, UNSEEN, BLANKS].join('|'), 'gu');
+
+const codeOf = (sign) => (sign.startsWith(' ') ? 'space'
+  : `U+${sign.codePointAt(0).toString(16).toUpperCase().padStart(4, '0')}`);
+
+// The name in pieces: {text}, or {code} for a sign.
+export function piecesOf(name) {
+  const pieces = [];
+  let at = 0;
+  for (const { 0: sign, index } of name.matchAll(SIGNS)) {
+    if (index > at) pieces.push({ text: name.slice(at, index) });
+    pieces.push({ code: codeOf(sign) });
+    at = index + sign.length;
+  }
+  if (at < name.length) pieces.push({ text: name.slice(at) });
+  return pieces;
+}
+
+// The name as text, with each sign as [U+202E].
+export const marked = (name) =>
+  piecesOf(name).map(({ text, code }) => text ?? `[${code}]`).join('');
