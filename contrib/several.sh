@@ -63,9 +63,11 @@ start_page() {
     '  <meta name="color-scheme" content="light dark">' '  <title>Rooms</title>' \
     '  <link rel="stylesheet" href="style.css">' '</head>' '<body>' '  <main id="main">' \
     '    <div class="sheet padded">' '      <h1>Rooms</h1>' '      <ul>'
-  for file in "$dest"/etc/rooms/*.conf; do
+  # Rooms here, and rooms on other machines.
+  for file in "$dest"/etc/rooms/*.conf "$dest"/etc/rooms/*.on; do
     title=$(setting "$file" TITLE | plain_text)
-    place=$(place_of "$(basename "$file" .conf)")
+    file=${file##*/}
+    place=$(place_of "${file%.*}")
     if [ -z "$title" ] || [ -z "$place" ]; then continue; fi
     printf '        <li><a href="%s">%s</a></li>\n' "$place" "$title"
   done

@@ -1,4 +1,4 @@
-# shellcheck shell=bash disable=SC2034,SC2154
+# shellcheck shell=bash disable=SC2016,SC2034,SC2154
 # How a machine of a version that had one room, with the units rooms.service, rooms-nightly.service
 # and rooms-nightly.timer and the settings rooms.conf, gets the same room as the instance office.
 # Nothing is lost: settings, drop-ins and a changed port are taken over, old files stay or get the
@@ -25,6 +25,7 @@ old_start() {
 old_port() {
   local port
   port=$(old_start | sed -n 's/.* --port  *\([0-9]*\).*/\1/p')
+  # shellcheck disable=SC2016
   [ -n "$port" ] || port=$(sed -n 's/^ *set \$room 127\.0\.0\.1:\([0-9]*\);.*/\1/p' \
     "$dest/etc/nginx/sites-enabled/rooms" "$dest/etc/nginx/sites-available/rooms" 2>/dev/null | head -n 1)
   printf '%s\n' "${port:-8780}"

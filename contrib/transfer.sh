@@ -6,6 +6,9 @@ say() { printf '%s: %s\n' "$me" "$1" >&2; }
 refuse() { say "$1"; exit 2; }
 give_up() { end_progress; say "$1"; exit 1; }
 has() { command -v "$1" >/dev/null 2>&1; }
+# What is to be done where a run was cut off, and whether a reply 500 does that.
+next='the same command goes on where this one stopped'
+ends_by_500=yes
 
 # Options that both have: takes one from the front of the arguments, and sets `taken` to their number.
 user='' as='' config='' log='' taken=0
@@ -35,7 +38,7 @@ start_transfer() { # ROOM PATH
   trap 'exit 130' INT TERM HUP
   : >"$private/config"
   if [ -n "$config" ]; then cat "$config" >"$private/config" || refuse "no settings: $config can't be read"; fi
-  [ -z "$as" ] || printf 'header = "Room-User: %s"\n' "$as" >>"$private/config"
+  [ -z "$as" ] || printf 'header = "Room-User: %s"\n' "$as" >>"$private/config" || refuse 'no room for temporary files'
   [ -z "$user" ] || ask_password
   if [ -n "$log" ]; then : >>"$log" || refuse "no log: $log can't be written"; fi
 }
@@ -69,9 +72,10 @@ request() { # METHOD WORD PATH [CURL'S ARGUMENTS ..]
   status=$(curl -sS -g -K "$private/config" -X "$method" -H Expect: -o "$private/reply" -w '%{http_code}' "$@" \
     "$room/$word$(encoded "$path")" 2>"$private/said") || status=000
   case $status in
-    000) give_up "no reply: $(head -c 300 "$private/said"); the same command goes on where this one stopped" ;;
+    000) give_up "no reply: $(head -c 300 "$private/said"); $next" ;;
     401) give_up 'the password was refused' ;;
-    500 | 502 | 503 | 504) give_up "status $status: the room or the front end is out of order; the same command goes on where this one stopped" ;;
+    500) [ "$ends_by_500" = no ] || give_up "status 500: the room is out of order; $next" ;;
+    502 | 503 | 504) give_up "status $status: the room or the front end is out of order; $next" ;;
   esac
 }
 
@@ -93,12 +97,12 @@ report() { # NAME WHY
   [ -z "$log" ] || printf '%(%F %T)T %q: %s\n' -1 "$1" "$2" >>"$log" || give_up "the log $log can't be written"
 }
 
-# A line that is written over, on a terminal alone.
+# A line that is written over, on a terminal alone. A name may have signs that a terminal would obey.
 shown=no
 progress() { # TEXT
   [ -t 2 ] || return 0
   shown=yes
-  printf '\r\033[K%s' "$1" >&2
+  printf '\r\033[K%s' "${1//[![:print:]]/?}" >&2
 }
 end_progress() {
   [ "$shown" = no ] || printf '\n' >&2

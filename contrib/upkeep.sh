@@ -1,5 +1,6 @@
 # shellcheck shell=bash disable=SC2034
-# What rooms-nightly, rooms-restore and rooms-get share: settings, refusals, and running commands as the room's user. They source it.
+# What rooms-nightly, rooms-standby, rooms-restore, rooms-get and rooms-full share: settings, refusals, and running commands as the room's user.
+# They source it.
 
 say() { printf '%s: %s\n' "${0##*/}" "$1" >&2; }
 refuse() { say "$1"; exit 2; }
@@ -8,17 +9,17 @@ has() { command -v "$1" >/dev/null 2>&1; }
 # The settings are never executed: a line is a name, '=' and a value.
 read_settings() { # CONF
   local line number=0
-  FILE='' PORT='' TITLE='' BACKUPS='' KEEP=30 MEMORY='' MAIL='' REVIEW='' REVIEWER='' UNIT=${1##*/} PROGRAM=/usr/local/bin/rooms
+  FILE='' PORT='' TITLE='' BACKUPS='' KEEP=30 MEMORY='' LIMIT='' STANDBY='' MAIL='' REVIEW='' REVIEWER='' UNIT=${1##*/} PROGRAM=/usr/local/bin/rooms
   UNIT=rooms@${UNIT%.conf}
   { [ -f "$1" ] && [ -r "$1" ]; } || refuse "no settings: $1 can't be read"
-  while IFS= read -r line || [ -n "$line" ]; do
+  while LC_ALL=C IFS= read -r line || [ -n "$line" ]; do
     number=$((number + 1))
     case $line in
       '' | '#'*) ;;
-      FILE=* | PORT=* | TITLE=* | BACKUPS=* | KEEP=* | MEMORY=* | MAIL=* | REVIEW=* | REVIEWER=* | UNIT=* | PROGRAM=*)
+      FILE=* | PORT=* | TITLE=* | BACKUPS=* | KEEP=* | MEMORY=* | LIMIT=* | STANDBY=* | MAIL=* | REVIEW=* | REVIEWER=* | UNIT=* | PROGRAM=*)
         printf -v "${line%%=*}" %s "${line#*=}"
         ;;
-      *) refuse "bad settings: $1, line $number has none of FILE= PORT= TITLE= BACKUPS= KEEP= MEMORY= MAIL= REVIEW= REVIEWER= UNIT= PROGRAM=" ;;
+      *) refuse "bad settings: $1, line $number has none of FILE= PORT= TITLE= BACKUPS= KEEP= MEMORY= LIMIT= STANDBY= MAIL= REVIEW= REVIEWER= UNIT= PROGRAM=" ;;
     esac
   done <"$1"
   check_settings "$1"
@@ -32,6 +33,10 @@ check_settings() { # CONF
   [[ $PORT =~ ^([1-9][0-9]{0,4})?$ ]] || refuse "bad settings: PORT in $1 isn't a port: '$PORT'"
   [[ $KEEP =~ ^(0|[1-9][0-9]{0,5})$ ]] || refuse "bad settings: KEEP in $1 isn't a number: '$KEEP'"
   [[ $MEMORY =~ ^([1-9][0-9]{2,6})?$ ]] || refuse "bad settings: MEMORY in $1 isn't a number of megabytes, 100 or more: '$MEMORY'"
+  [[ $LIMIT =~ ^([1-9][0-9]{0,6}|none)?$ ]] ||
+    refuse "bad settings: LIMIT in $1 is neither a number of megabytes, 1 or more, nor none: '$LIMIT'"
+  [[ $STANDBY =~ ^(([A-Za-z0-9_][A-Za-z0-9_.@-]*:)?/[^:]*)?$ ]] ||
+    refuse "bad settings: STANDBY in $1 is neither a folder nor HOST:FOLDER: '$STANDBY'"
   [[ $UNIT =~ ^[A-Za-z0-9_][A-Za-z0-9:_.@-]*$ ]] || refuse "bad settings: UNIT in $1 isn't the name of a unit: '$UNIT'"
   [[ $MAIL != -* ]] || refuse "bad settings: MAIL in $1 isn't an address: '$MAIL'"
   check_review "$1"
@@ -68,3 +73,22 @@ take_lock() { # CONF SECONDS
 
 # The state of the server's unit: active, inactive, failed, or in between.
 server_state() { systemctl is-active "$UNIT" 9<&-; }
+
+# Sets `limit` to the megabytes of its file that the room may have in use, or to nothing if there is no such limit. A server that
+# starts needs what is in use, 128 MB of pages and some more; twice that and 256 MB is what its unit should allow.
+read_limit() {
+  local most
+  limit=
+  case $LIMIT in
+    none) return ;;
+    ?*) limit=$LIMIT; return ;;
+  esac
+  most=$(systemctl show -p MemoryMax --value "$UNIT" 9<&-) || return
+  [[ $most =~ ^[0-9]{1,17}$ ]] || return 0
+  limit=$(((most / 1048576 - 256) / 2))
+  ((limit >= 1)) || limit=1
+}
+
+pages=$(dirname "${BASH_SOURCE[0]}")/pages.pl
+# How many bytes of a room's file are in use. The script is opened here, since the room's user may not get to it.
+used_bytes() { as_owner perl - "$1" <"$pages"; } # FILE
