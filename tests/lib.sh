@@ -147,7 +147,7 @@ has() { command -v "$1" >/dev/null 2>&1; }
 has_sqlite() { has sqlite3 && sqlite3 :memory: 'CREATE TABLE t (a INTEGER) STRICT;' >/dev/null 2>&1; }
 
 # What the consoles of a page type goes to a script, with a line @N before each command; what they show goes to standard output
-# in the same form. A server is waited for, since nobody types as fast as a script.
+# in the same form. Nothing is typed that the page doesn't say, but after a server's start its line is waited for, as a reader does.
 from_consoles() { # PAGE SCRIPT
   awk -v script="$2" '
     /^```/ { inside = $0 == "```console"; typed = 0; next }
@@ -155,7 +155,6 @@ from_consoles() { # PAGE SCRIPT
     typed { print >script; typed = $0 != "END"; next }
     /^\$ / {
       print "@" ++n
-      if (/^\$ rooms verify/) print "wait" >script
       print "echo; echo @" n >script
       print substr($0, 3) >script
       if (/&$/) print "until grep -q ^listening \"$OUT\"; do sleep 0.05; done" >script
@@ -163,4 +162,15 @@ from_consoles() { # PAGE SCRIPT
       next
     }
     { print }' "$1"
+}
+
+# What a case has started beside a server and a proxy.
+stop_others() {
+  local one
+  for one in ${others[@]+"${others[@]}"}; do
+    kill -CONT "$one" 2>/dev/null
+    kill "$one" 2>/dev/null
+    wait "$one" 2>/dev/null
+  done
+  others=()
 }

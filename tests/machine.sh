@@ -1,6 +1,33 @@
 # A machine of its own, a copy of the folder $machine that debootstrap has made: its processes, what
 # runs there, and stand-ins for what it lacks.
 
+# Copies the folder ROOMS_DEBIAN, or one that debootstrap makes once for all cases, to $machine.
+copy_machine() { # NAME OF WHAT IS SKIPPED
+  local folder=${ROOMS_DEBIAN:-$work/debian}
+  if [ ! -d "$folder" ]; then
+    has debootstrap || { skip "$1" 'no debootstrap, and ROOMS_DEBIAN names no folder'; return 1; }
+    timeout 600 debootstrap --variant=minbase --include=systemd,nginx,apache2-utils,openssl,curl \
+      bookworm "$folder.part" >"$work/debootstrap" 2>&1 </dev/null ||
+      { skip "$1" "debootstrap fails: $(tail -n 1 "$work/debootstrap")"; rm -rf "$folder.part"; return 1; }
+    mv "$folder.part" "$folder"
+  fi
+  cp -a "$folder" "$machine" || { skip "$1" "$folder can't be copied"; return 1; }
+}
+# The folder, without what runs in it. It is started, if the machine allows that.
+make_machine() { # NAME OF WHAT IS SKIPPED [FOLDER]
+  local file
+  if [ "$(id -u)" != 0 ] || ! has unshare || ! has nsenter || ! has chroot || ! has ip; then
+    skip "$1" 'no root, or no unshare, nsenter, chroot, ip'
+    return 1
+  fi
+  machine=$PWD/${2:-machine}
+  copy_machine "$1" || return 1
+  for file in usr/sbin/nginx usr/bin/htpasswd usr/bin/openssl usr/bin/curl usr/bin/systemctl; do
+    [ -x "$machine/$file" ] || { skip "$1" "/$file isn't in it"; return 1; }
+  done
+  start_machine || { skip "$1" "no network of its own: $(head -c 200 said)"; return 1; }
+}
+
 # Gives it processes and a network of its own, without a way out. All of its processes end with the
 # first of them, which ends with the case.
 start_machine() {
@@ -90,6 +117,13 @@ all() { # NAME: it, or those that run
 }
 verb=$1
 shift
+if [ "$verb" = show ] && [ "$3" = --value ]; then # -p PROPERTY --value UNIT
+  case $2 in
+    MainPID) if alive "$4"; then cat "/run/$4.pid"; else echo 0; fi ;;
+    MemoryMax) echo 1073741824 ;;
+  esac
+  exit
+fi
 now=no
 units=()
 for word in "$@"; do
@@ -102,7 +136,8 @@ done
 [ "$verb" != --system ] || { verb=$1; units=("${units[@]:1}"); }
 case $verb in
   daemon-reload | reset-failed) exit ;;
-  reload | try-reload-or-restart)
+  show) printf '%s\n' MemoryCurrent=0 MemoryMax=0; exit ;;
+  reload | reload-or-restart | try-reload-or-restart)
     [ "${units[*]}" = nginx ] || { echo "no such unit: ${units[*]}" >&2; exit 1; }
     [ -s /run/nginx.pid ] || exec nginx
     before=$(cat "/proc/$(cat /run/nginx.pid)"/task/*/children)
@@ -126,8 +161,17 @@ for name in "${units[@]}"; do
       ;;
     is-active:*) if alive "$name"; then echo active; else echo inactive; exit 3; fi ;;
     *:*.timer) ;;
-    start:rooms-nightly*) $(command_of "$name") || exit ;;
-    stop:rooms-nightly*) ;;
+    *:rooms-full@*) ;;
+    start:rooms-nightly* | start:rooms-directory*) $(command_of "$name") || exit ;;
+    stop:rooms-nightly* | stop:rooms-directory*) ;;
+    stop:rooms-passwords) ! alive "$name" || kill "$(cat "/run/$name.pid")" ;;
+    start:rooms-passwords | restart:rooms-passwords)
+      "$0" stop "$name"
+      while alive "$name"; do sleep 0.02; done
+      mkdir -p /run/rooms-directory
+      $(command_of "$name") >"/run/$name.fault" 2>&1 </dev/null &
+      echo $! >"/run/$name.pid"
+      ;;
     start:rooms | start:rooms@*) start "$name" || exit ;;
     stop:rooms | stop:rooms@*) stop "$name" ;;
     restart:rooms | restart:rooms@*)

@@ -18,8 +18,12 @@ make_stand() {
   write_tool >"$stand/bin/tool"
   chmod 755 "$stand/bin/systemctl" "$stand/bin/tool"
   local tool
-  for tool in rooms setpriv cat sync mkdir mv rm rmdir touch chmod mail logger sleep; do ln -s tool "$stand/bin/$tool"; done
+  for tool in rooms setpriv cat sync mkdir mv rm rmdir touch chmod tar mail logger sleep; do ln -s tool "$stand/bin/$tool"; done
   export STAND=$stand STAND_ROOMS=$rooms STAND_FILE=$PWD/office/F ROOMS_RUN=$PWD/run
+  # What the machine has beside its rooms is looked for here.
+  mkdir -p root/etc/rooms
+  echo 'TITLE=office' >root/etc/rooms/office.conf
+  export ROOMS_ROOT=$PWD/root
   give_office
 }
 
@@ -60,14 +64,19 @@ step() {
 STEP
 }
 
-# STAND/no-start makes a start fail, STAND/no-tool a tool of that name, and STAND/no-word the program at that subcommand, after
-# a part of its output.
+# STAND/no-start makes a start fail, STAND/no-answer a server that never gets so far as to listen, STAND/no-tool a tool of that
+# name, and STAND/no-word the program at that subcommand, after a part of its output. What is in STAND/at-TOOL is done once, before
+# that tool does anything.
 write_tool() {
   cat <<'TOOL'
 #!/usr/bin/env bash
 . "$STAND/step"
 name=${0##*/}
 step "$name $*"
+if [ -e "$STAND/at-$name" ]; then
+  mv "$STAND/at-$name" "$STAND/hook"
+  (PATH=${PATH#*:} && . "$STAND/hook") </dev/null >"$STAND/hooked" 2>&1
+fi
 if [ -e "$STAND/no-tool" ] && [ "$name" = "$(<"$STAND/no-tool")" ]; then exit 1; fi
 case $name in
   sleep) ;;
@@ -92,6 +101,13 @@ alive() {
   [ -n "$pid" ] && kill -0 "$pid" 2>/dev/null && ! grep -q ') Z ' "/proc/$pid/stat" 2>/dev/null
 }
 serve() {
+  if [ -e "$STAND/no-answer" ]; then
+    setsid sleep 600 </dev/null >/dev/null 2>&1 &
+    pid=$!
+    echo "$pid" >"$STAND/pid"
+    : >"$STAND/err"
+    return
+  fi
   read -r port <"$STAND/port"
   echo "$((port += 1))" >"$STAND/port"
   : >"$STAND/out"
@@ -108,6 +124,11 @@ case $1 in
     # What was started and has ended is started over and over.
     if [ -e "$STAND/started" ]; then echo activating; else echo inactive; fi
     exit 3
+    ;;
+  show)
+    if [ "$3" = MainPID ]; then
+      if alive; then echo "$pid"; else echo 0; fi
+    fi
     ;;
   stop)
     rm -f "$STAND/started"

@@ -52,6 +52,20 @@ long_lines() { # PAGE
   }'
 }
 
+# Cells of tables with more than 60 words, and pages with more than 500 lines.
+long_parts() { # PAGE
+  prose "$1" | awk '{
+    line = $0; sub(/:.*/, "", line); text = substr($0, length(line) + 2)
+    if (text !~ /^ *\|/) next
+    gsub(/\\\|/, "", text)
+    for (i = split(text, cells, "|"); i > 0; i--) {
+      words = split(cells[i], each, " ")
+      if (words > 60) print "line " line ": a cell of " words " words"
+    }
+  }'
+  awk 'END { if (NR > 500) print NR " lines" }' "$1"
+}
+
 none() { # NAME FILE: nothing was found
   if [ -s "$2" ]; then
     fail "$1" "$(wc -l <"$2") found"
@@ -65,7 +79,7 @@ for page in "$top"/README.md "$top"/CONTRIBUTING.md "$top"/CHANGELOG.md "$top"/d
   name=${page#"$top"/}
   lost_links "$page" >found
   none "links of $name" found
-  long_lines "$page" >found
+  { long_lines "$page" && long_parts "$page"; } >found
   none "lines of $name" found
 done
 
@@ -105,10 +119,10 @@ holds "CHANGELOG.md has version $wanted" [ "$(sed -n 's/^## \[\([0-9][^]]*\)\].*
 
 # What the page quotes of contracts and definitions stands there.
 stripped() { sed 's/^ *//' "$@" | LC_ALL=C sort -u; }
-awk '/^```/ { quoted = !quoted; next } quoted && length > 12' "$top/docs/statement.md" | stripped >quoted
+awk '/^```/ { quoted = !quoted; next } quoted && length > 12' "$top/docs/statement.md" "$top/docs/contracts.md" | stripped >quoted
 stripped "$top"/crates/*/src/*.rt "$top"/crates/*/specs/*.antt >stated
 LC_ALL=C comm -23 quoted stated >found
-none 'the quotes of statement.md' found
+none 'the quotes of statement.md and contracts.md' found
 
 # The case itself finds what it is for.
 printf '%s\n' '# One `two`, three' '# A' '# A' '[x](#one-two-three) [x](#a-1) [x](page.md) [x](page.md#a "T")' '```' '[x](none.md)' '```' \
@@ -124,3 +138,7 @@ printf '%s\n' "| $long |" "[$long](y.md)" "https://$long" "$long ." "$longé" '`
 long_lines wide.md >found
 printf '%s\n' 'line 4: 101 columns' >wanted
 same 'lines that are too long' found wanted
+{ printf '| x |' && printf ' word%.0s' {1..61} && echo ' |' && printf '\n%.0s' {1..500}; } >wordy.md
+long_parts wordy.md >found
+printf '%s\n' 'line 1: a cell of 61 words' '501 lines' >wanted
+same 'cells and pages that are too long' found wanted

@@ -25,14 +25,16 @@ clerks,clara
 interns,ivan
 board,bea
 sales,carol
+personnel,petra
+personnel,ella
 END
-users='alice bob erin ella clara ivan bea carol zoe fred -'
+users='alice bob erin ella clara ivan bea carol petra zoe fred -'
 . "$here/lists.sh"
 
 mkdir bin
 ln -s "$rooms" bin/rooms
 take_lists "$operating" lists >index
-holds 'the lists of operating.md and lists.md' [ "$(cut -d' ' -f3 index | sort | uniq -c | tr -s ' \n' ' ')" = ' 8 dacl 2 sacl ' ]
+holds 'the lists of operating.md and lists.md' [ "$(cut -d' ' -f3 index | sort | uniq -c | tr -s ' \n' ' ')" = ' 9 dacl 2 sacl ' ]
 private=$(list_of /bob | grep -v bob)
 
 make_folders() {
@@ -45,7 +47,7 @@ make_folders() {
 }
 
 gives 'a room' 0 'ready\n' '' init office.rooms alice staff
-gives 'its members' 0 'groups 6, members 12\n' '' groups office.rooms groups.csv
+gives 'its members' 0 'groups 7, members 14\n' '' groups office.rooms groups.csv
 paste_lines 'the first list' "lists/$(number_of /).sh" 0 'done\n'
 start_server office.rooms 1 || return
 play 'the folders' make_folders
@@ -81,7 +83,7 @@ play_the_line() {
   prepares PUT /dacl/old/loose "$(printf '%s\n' list:ap "A:fd:alice:$ALL")"
   expects 403 GET /folder/old/loose bob
   expects 204 POST /move/old/loose bob '{"to":"/old/renamed"}'
-  for kept in /policies /minutes /letters /bob /handbook /inbox /drafts; do
+  for kept in /policies /minutes /letters /bob /personnel /handbook /inbox /drafts; do
     prepares POST "/folder/old$kept"
     prepares PUT "/dacl/old$kept" "$(list_of "$kept")"
     expects 403 DELETE "/object/old$kept" bob
@@ -133,8 +135,9 @@ play_single_entries() {
   expects 403 PUT /doc/drafts/new alice x
 }
 
-# 'Write' of the page is waDd: with it on a folder, what is in it is removed unread, and the folder itself.
-play_write() {
+# With D and d on a folder, as by 'Remove and rename what others made' of the page, what is in it is
+# removed unread, and the folder itself.
+play_removers() {
   prepares POST /folder/written
   prepares POST /folder/written/vault
   prepares PUT /dacl/written/vault "$private"
@@ -143,8 +146,55 @@ play_write() {
   expects 204 DELETE /object/written/vault bob
   expects 204 DELETE /object/written bob
 }
+# Who may delete a folder that isn't protected, by D on the folder above or d on it, and has a folder of their own, moves it there
+# and reads what is in it. What is protected, and what has an entry of its own that denies, stays shut.
+play_moving() {
+  local name
+  prepares POST /folder/shared
+  prepares PUT /dacl/shared "$(printf '%s\n' list:ap "A:fd:alice:$ALL" A::bob:rxDtc)"
+  prepares POST /folder/others
+  prepares PUT /dacl/others "$(printf '%s\n' list:ap "A:fd:alice:$ALL" A::bob:rxtc)"
+  for name in shared/salaries shared/shut shared/denied others/salaries others/shut; do
+    prepares POST "/folder/$name"
+    prepares PUT "/doc/$name/may" x
+    prepares POST "/folder/$name/below"
+    prepares PUT "/doc/$name/below/june" x
+  done
+  prepares PUT /doc/shared/notice x
+  prepares PUT /doc/shared/secret x
+  prepares PUT /dacl/shared/secret "$closed"
+  prepares PUT /dacl/shared/shut "$(printf '%s\n' list:ap "A:fd:alice:$ALL")"
+  prepares PUT /dacl/shared/denied "$(printf '%s\n' list:a D:fd:bob:r)"
+  prepares PUT /dacl/others/salaries "$(printf '%s\n' list:a A::bob:d)"
+  prepares PUT /dacl/others/shut "$(printf '%s\n' list:ap "A:fd:alice:$ALL" A::bob:d)"
+  for name in shared/salaries shared/shut shared/denied others/salaries others/shut; do
+    expects 403 GET "/doc/$name/may" bob
+    expects 403 GET "/folder/$name" bob
+    expects 403 GET "/doc/$name/below/june" bob
+    expects 204 POST "/move/$name" bob "{\"to\":\"/bob/${name/\//.}\"}"
+  done
+  for name in shared.salaries others.salaries; do
+    expects 200 GET "/folder/bob/$name" bob
+    expects 200 GET "/doc/bob/$name/may" bob
+    expects 200 GET "/doc/bob/$name/below/june" bob
+  done
+  for name in shared.shut others.shut shared.denied; do
+    expects 403 GET "/folder/bob/$name" bob
+    expects 403 GET "/doc/bob/$name/may" bob
+    expects 403 GET "/doc/bob/$name/below/june" bob
+    prepares GET "/doc/bob/$name/below/june"
+  done
+  # The same with single documents.
+  for name in notice secret; do
+    expects 403 GET "/doc/shared/$name" bob
+    expects 204 POST "/move/shared/$name" bob "{\"to\":\"/bob/$name\"}"
+  done
+  expects 200 GET /doc/bob/notice bob
+  expects 403 GET /doc/bob/secret bob
+}
+play 'who may move it' play_moving
 play 'the line' play_the_line
-play 'what Write includes' play_write
+play 'what D and d include' play_removers
 play 'folders above' play_folders_above
 play 'single entries' play_single_entries
 stop_server
@@ -154,31 +204,23 @@ sed -n '/^rooms check <<END$/,/^END$/p' "$operating" >check.sh
 paste_lines 'a list that is tried' check.sh 1 "$(sed -n 's/^It prints `\(denied .*\)`\..*/\1/p' "$operating")\n"
 holds 'it is the one for interns' [ "$(sed -e '1,/^ask/d' -e '/^END$/d' check.sh)" = "$(list_of /drafts)" ]
 
-# The README and the tour show two of these lists, and say the same of them.
-same_lists() { # NAME FILE
-  { list_of / && list_of /letters; } >wanted
-  same "$1" "$2" wanted
-}
+# The tour shows two of these lists, and says the same of them.
 page_says() { # PAGE SENTENCE
   holds "$1 says: $2" grep -qF -e "$2" <(tr '\n' ' ' <"$here/../$1" | tr -s ' ')
 }
-{ echo "all=$ALL" && sed -n "s/^\(printf '%s\\\\n' list:.*\) |$/\1/p" "$here/../README.md"; } >readme.sh
-bash readme.sh >readme.lists
-same_lists 'the lists of the README' readme.lists
 sed -n '/ <<END$/,/^END$/p' "$here/../docs/tour.md" | grep -v END >tour.lists
-same_lists 'the lists of the tour' tour.lists
-for page in README.md docs/tour.md; do
-  page_says "$page" 'Alice may do everything'
-  page_says "$page" 'taff see which names are at the top'
-  page_says "$page" 'may read, add and change, and each of them may remove, rename and move away the documents that they added themselves.'
-done
+{ list_of / && list_of /letters; } >wanted
+same 'the lists of the tour' tour.lists wanted
+page_says docs/tour.md 'Alice may do everything'
+page_says docs/tour.md 'taff see which names are at the top'
+page_says docs/tour.md 'may read, add and change, and each of them may remove, rename and move away the documents that they added themselves.'
 page_says docs/lists.md 'Staff read everything, add documents and folders, and change every document. Each of them may remove, rename and move away the documents that they added themselves.'
 
 # Records: the page promises one for each denied read, and for each attempt to remove, rename or move something or to change a
 # list or an owner; in /contracts one more for whatever is denied.
 rm office.rooms*
 gives 'a room for records' 0 'ready\n' '' init office.rooms alice staff
-gives 'its members' 0 'groups 6, members 12\n' '' groups office.rooms groups.csv
+gives 'its members' 0 'groups 7, members 14\n' '' groups office.rooms groups.csv
 paste_lines 'the first list' "lists/$(number_of /).sh" 0 'done\n'
 furnish_recorded() {
   local p

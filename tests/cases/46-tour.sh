@@ -1,21 +1,12 @@
-# The quick start of the README and the tour, as pasted: after each command stands what the page shows.
+# The tour, and the question of the README, as pasted: after each command stands what the page shows.
 
 if [ "$loopback" = no ] || ! has curl; then
   skip 'the tour' 'this machine has no loopback, or curl is missing'
   return
 fi
-mkdir -p top/crates/rooms/out rooms
+mkdir -p top/crates/rooms/out top/docs rooms
 ln -s "$rooms" top/crates/rooms/out/rooms
-
-# The quick start goes to a script, and what its comments show to standard output.
-from_comments() { # PAGE SCRIPT
-  awk -v script="$2" '
-    /^```/ { inside = 0; next }
-    /^export PATH=/ { inside = 1 }
-    !inside { next }
-    { gsub(/sleep 1/, "{ until grep -q ^listening \"$OUT\"; do sleep 0.05; done; }"); print >script }
-    match($0, / +# /) { print substr($0, RSTART + RLENGTH) }' "$1"
-}
+ln -s "$here/../docs/examples" top/docs/examples
 
 # Runs a script at the top of a repository, at a port of the tests.
 paste_script() { # SCRIPT
@@ -31,8 +22,9 @@ paste_script tour.sh >got
 holds 'the tour has commands' [ "$(grep -c '^@' wanted)" -gt 15 ]
 same 'the tour' got wanted
 
-# Of a long answer the README shows the beginning.
-from_comments "$here/../README.md" readme.sh >wanted
-paste_script readme.sh | awk -F'\n' '{ getline shown <"wanted"; if (sub(/\.\.}$/, "", shown) && index($0, shown) == 1) $0 = shown "..}"; print }' >got
-holds 'the README has commands' [ "$(wc -l <wanted)" = 10 ]
-same 'the quick start' got wanted
+# The question of the README, with its answer.
+from_consoles "$here/../README.md" readme.sh | grep -v '^$' >wanted
+sed -i '1i export PATH="$PWD/crates/rooms/out:$PATH"' readme.sh
+paste_script readme.sh >got
+holds 'the README has commands' [ "$(grep -c '^@' wanted)" = 2 ]
+same 'the README' got wanted

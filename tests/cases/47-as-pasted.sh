@@ -32,6 +32,9 @@ if [ "\$1" = -B ] && [ -n "$(command -v htpasswd)" ]; then exec "$(command -v ht
 if [ -n "$(command -v htpasswd)" ]; then exec "$(command -v htpasswd)" "\$@"; fi
 echo "htpasswd \$*" >>"$PWD/asked"
 END
+stand_in rooms-full <<'END'
+[ "$*" = --look ] && echo '0 MB of 384 are in use'
+END
 stand_in systemctl <<END
 if [ "\$*" = 'start rooms-nightly@office' ]; then exec "$here/../contrib/rooms-nightly" "$PWD/conf"; fi
 case \$1 in
@@ -108,6 +111,16 @@ answers 'she sees her folder' '[] 200' eve GET /folder/projects/bridge
 answers 'but not the one above' '{"at":"/projects","bits":"r","entry":null,"text":null} 403' eve GET /folder/projects
 answers 'nor any other' '{"at":"/letters","bits":"r","entry":null,"text":null} 403' eve GET /folder/letters
 holds 'the day is noted' grep -q '^at 18:00 2027-01-31$' due
+
+# Who can have changed the rights at a folder, by the review of a night.
+bin/systemctl stop rooms
+mkdir backups/2026-11-26.030000
+"$rooms" review room/office.rooms / >backups/2026-11-26.030000/review.csv
+bin/systemctl start rooms
+paste_in "$(blocks people.md '"/projects")')"
+prints 'who can have changed it' "/,folder,alice,$ALL,no" /projects,folder,a.bob,rwaxtc,yes "/projects,folder,alice,$ALL,yes" \
+  /projects,folder,bob,rwaxtc,yes
+rm -r backups/2026-11-26.030000
 holds 'and what is done then' grep -q "htpasswd -D .*passwords eve" due
 
 paste_in "htpasswd -B $PWD/passwords bob; : >asked
@@ -117,6 +130,16 @@ if has htpasswd; then holds 'he has no password' [ "$(grep -c '^bob:' passwords)
 bin/systemctl stop rooms
 gives 'and is in no group' 0 'group,user\nsales,carol\nsales,dana\nstaff,a.bob\n' '' groups-out room/office.rooms
 bin/systemctl start rooms
+stand_in rooms-handover <<END
+exec "$here/../contrib/rooms-handover" "\$@"
+END
+paste_in "$(blocks people.md 'rooms-handover --dry-run')"
+prints 'what would be his' 'would: /letters/reply' 'would be given 1, of others by now 0, left out 0'
+answers 'still is' '{"group":"staff","kind":"document","owner":"bob"} 200' alice GET /attr/letters/reply
+paste_in "$(blocks people.md 'rooms-handover --as')"
+prints 'all that is his' 'given 1, of others by now 0, left out 0'
+answers 'is alices' '{"group":"staff","kind":"document","owner":"alice"} 200' alice GET /attr/letters/reply
+answers 'it goes back' ' 204' alice PUT /attr/letters/reply '{"group":"staff","owner":"bob"}'
 paste_in "$(blocks people.md '/attr/letters/reply')"
 prints 'another owner' 204
 answers 'who it is' '{"group":"staff","kind":"document","owner":"alice"} 200' alice GET /attr/letters/reply
@@ -126,6 +149,18 @@ if has htpasswd; then
   htpasswd -vb passwords bob "$(cat "$work/out")" >said 2>&1
   holds 'and counts' grep -q correct said
 fi
+
+# Somebody is locked out, who would have seen it before.
+printf '%s\n' list:ap A:fdg:staff:rxtc >list.txt
+paste_in "cd $PWD && $(blocks lists.md 'cat list.txt')"
+holds 'a list that shuts its sender out' [ "$status" = 1 ]
+holds 'is denied' grep -q '^denied bits C no entry$' "$work/out"
+answers 'it is taken without a word' ' 204' alice PUT /dacl/letters "$(cat list.txt)"
+answers 'and holds for its sender' '{"at":"/letters","bits":"r","entry":null,"text":null} 403' alice GET /folder/letters
+paste_in "$(blocks people.md 'office.rooms /letters dacl')"
+prints 'the operator sets another' 'done'
+answers 'and she gets in' '[{"kind":"document","name":"reply"}] 200' alice GET /folder/letters
+answers 'the list of before' ' 204' alice PUT /dacl/letters 'list:a'
 
 paste_in "$(blocks capacity.md 'can/?')"
 prints 'a room that is well' '{} 200'
@@ -146,8 +181,8 @@ printf '%s\n' "FILE=$PWD/room/office.rooms" "BACKUPS=$PWD/backups" KEEP=0 MAIL= 
 stand_in rooms-get <<END
 exec "$here/../contrib/rooms-get" --conf "$PWD/conf" "\$@"
 END
-paste_in "$(blocks operating.md 'rooms-get 2026')
-$(blocks operating.md '@reply')"
+paste_in "$(blocks backup.md 'rooms-get 2026')
+$(blocks backup.md '@reply')"
 prints 'one document out of a backup' 204
 answers 'is the old one' 'Dear Sir 200' alice GET /doc/letters/reply
 answers 'of the same owner' '{"group":"staff","kind":"document","owner":"alice"} 200' alice GET /attr/letters/reply
@@ -169,6 +204,11 @@ if has flock; then
   backup=$(ls -d "$PWD"/backups/*)
   prints 'a backup before an upgrade' "$backup"
   holds 'has the room' [ -s "$backup/office.rooms" ]
+  paste_in "$(blocks people.md 'here && dacl')"
+  prints 'the list of that night' list:a "A:fdI:alice:$ALL" A:fdgI:staff:rwaxtc
+  paste_in "$(blocks people.md 'rooms review')"
+  prints 'who can read a folder' path,kind,user,rights,remove /letters,folder,a.bob,rwaxtc,yes "/letters,folder,alice,$ALL,yes" \
+    /letters,folder,carol,,no /letters,folder,dana,,no '/letters,folder,*,,no' '/letters,folder,ANONYMOUS@,,no'
 else
   skip 'a backup before an upgrade' 'no flock'
   backup=

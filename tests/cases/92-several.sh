@@ -90,7 +90,7 @@ says 'and once' 0 'nothing to change'
 # The settings are those of the scripts and of systemd: names, '=' and values alone.
 for room in office invoices hr; do
   grep -vE '^(#|$)' "machine/etc/rooms/$room.conf" | sed 's/=.*//' | tr '\n' ' ' >got
-  printf 'FILE PORT TITLE BACKUPS KEEP MEMORY MAIL REVIEW REVIEWER UNIT PROGRAM ' >wanted
+  printf 'FILE PORT TITLE BACKUPS KEEP MEMORY LIMIT STANDBY MAIL REVIEW REVIEWER UNIT PROGRAM ' >wanted
   same "the settings of $room" got wanted
 done
 
@@ -145,6 +145,7 @@ older() { # NAME FILE TEXT
 older 'no place for paths' snippets/rooms-server.conf 'rooms.d/*.path'
 older 'no place for hosts' sites-available/rooms 'rooms.d/*.host'
 older 'documents at paths are no files' snippets/rooms-http.conf '[a-z0-9-]+)?/doc'
+older 'nobody says who asks' snippets/rooms-host.conf 'set $room_user'
 rm machine/etc/nginx/sites-enabled/rooms
 refuses 'no site' 'no site' staff
 if has openssl; then

@@ -93,6 +93,25 @@ transfers rooms-import --as eve "$room" tree /in
 told 'import by a stranger' 1 '403' 'made 0'
 stop_server
 
+# Of a damaged room all comes out that can be read.
+if has_sqlite; then
+  cp F damaged
+  [ ! -e F-wal ] || cp F-wal damaged-wal
+  sqlite3 damaged "UPDATE nodes SET dacl_own = 'A::alice' WHERE name = 'nothing'"
+  if start_server damaged 1000; then
+    transfers rooms-export --as root --no-lists "http://127.0.0.1:$port" /in rest
+    told 'export of a damaged room' 1 "/in/a\\ b/%2F/nothing: not read: 500 {\"why\":\"store\"}" 'documents 6, left out 1'
+    diff -r tree rest >found 2>&1
+    echo 'Only in tree/a b/%2F: nothing' >wanted
+    same 'all else comes out' found wanted
+    transfers rooms-import --as root "http://127.0.0.1:$port" tree /in
+    told 'an import ends there' 1 'status 500: the room is out of order; the same command goes on where this one stopped'
+    stop_server
+  fi
+else
+  skip 'a damaged room' 'no sqlite3, or one that is too old'
+fi
+
 # One document out of a backup.
 mkdir backup
 mv F backup/F

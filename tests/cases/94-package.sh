@@ -50,8 +50,15 @@ units=usr/lib/systemd/system
 docs=usr/share/doc/rooms
 for file in usr/bin/rooms usr/bin/rooms-import usr/bin/rooms-export usr/sbin/rooms-nightly \
   usr/sbin/rooms-restore usr/sbin/rooms-get usr/sbin/rooms-add usr/sbin/rooms-setup \
-  usr/lib/rooms/upkeep.sh usr/lib/rooms/transfer.sh usr/lib/rooms/several.sh \
-  usr/lib/rooms/single.sh $units/rooms@.service $units/rooms-nightly@.service \
+  usr/sbin/rooms-doctor usr/bin/rooms-handover usr/share/man/man8/rooms-doctor.8.gz \
+  usr/sbin/rooms-standby usr/lib/rooms/copying.sh $units/rooms-standby@.service $units/rooms-standby@.timer \
+  usr/share/man/man8/rooms-standby.8.gz usr/share/rooms/room/on etc/nginx/snippets/rooms-front.conf \
+  usr/sbin/rooms-full usr/lib/rooms/pages.pl $units/rooms-full@.service usr/share/man/man8/rooms-full.8.gz \
+  usr/lib/rooms/upkeep.sh usr/lib/rooms/transfer.sh usr/lib/rooms/several.sh usr/lib/rooms/machine.sh \
+  usr/lib/rooms/single.sh usr/lib/rooms/directory.sh usr/lib/rooms/passwords.sh usr/sbin/rooms-directory \
+  usr/share/rooms/directory.apache usr/share/rooms/signed-in $units/rooms-passwords.service \
+  $units/rooms-directory@.service $units/rooms-directory@.timer usr/share/man/man8/rooms-directory.8.gz \
+  $units/rooms@.service $units/rooms-nightly@.service \
   $units/rooms-nightly@.timer usr/share/rooms/page/index.html usr/share/rooms/room/settings \
   usr/share/rooms/office.conf usr/share/man/man1/rooms.1.gz usr/share/man/man8/rooms-add.8.gz \
   usr/share/man/man8/rooms-setup.8.gz usr/share/bash-completion/completions/rooms \
@@ -105,31 +112,7 @@ single_package() {
 }
 holds 'a package of a version with one room' single_package
 
-if [ "$(id -u)" != 0 ] || ! has unshare || ! has nsenter || ! has chroot || ! has ip; then
-  skip 'a machine with the package' 'no root, or no unshare, nsenter, chroot, ip'
-  return
-fi
-if [ -z "${ROOMS_DEBIAN-}" ]; then
-  if ! has debootstrap; then
-    skip 'a machine with the package' 'no debootstrap, and ROOMS_DEBIAN names no folder'
-    return
-  fi
-  timeout 600 debootstrap --variant=minbase --include=systemd,nginx,apache2-utils,openssl,curl \
-    bookworm "$PWD/machine" >made 2>&1 </dev/null ||
-    { skip 'a machine with the package' "debootstrap fails: $(tail -n 1 made)"; return; }
-else
-  cp -a "$ROOMS_DEBIAN" machine ||
-    { skip 'a machine with the package' "$ROOMS_DEBIAN can't be copied"; return; }
-fi
-machine=$PWD/machine
-for file in usr/sbin/nginx usr/bin/htpasswd usr/bin/openssl usr/bin/curl usr/bin/systemctl; do
-  [ -x "$machine/$file" ] || { skip 'a machine with the package' "/$file isn't in it"; return; }
-done
-
-if ! start_machine; then
-  skip 'a machine with the package' "no network of its own: $(head -c 200 said)"
-  return
-fi
+make_machine 'a machine with the package' || return
 furnish_machine
 cp "$single" "$machine/root/"
 
@@ -158,6 +141,7 @@ echo '# mine' >>"$machine/etc/rooms/rooms.conf"
 sed -i 's/^KEEP=.*/KEEP=7/' "$machine/etc/rooms/rooms.conf"
 mkdir "$machine/etc/systemd/system/rooms.service.d"
 printf '[Service]\nMemoryMax=3G\n' >"$machine/etc/systemd/system/rooms.service.d/override.conf"
+echo '# mine' >>"$machine/etc/nginx/sites-available/rooms-tls"
 cp "$machine/etc/rooms/rooms.conf" old.conf
 cp "$package" "$machine/root/"
 does 'a backup' "$(block docs/upgrading.md 'start rooms-nightly' | one_unit)"
@@ -172,6 +156,10 @@ for line in 'file /etc/rooms/office.conf, with the values of rooms.conf' "system
   holds "it says: $line" grep -q "^.*$line" "$work/out"
 done
 replies 'the same room by its new unit'
+tls=$machine/etc/nginx/sites-available/rooms-tls
+holds 'a file that was changed is kept' grep -q '^# mine' "$tls"
+same 'and the new one is beside it' "$tls.dpkg-dist" files/etc/nginx/sites-available/rooms-tls
+mv "$tls.dpkg-dist" "$tls"
 does 'which units are there' 'systemctl is-active rooms@office; systemctl is-active rooms
   cd /etc/systemd/system && ls *.wants/*rooms* && cat rooms@office.service.d/override.conf
   grep -E "^(UNIT|PORT|KEEP|FILE|BACKUPS)=" /etc/rooms/office.conf'
@@ -347,6 +335,10 @@ does 'nginx takes the rest' 'nginx -t -q'
 room >after
 same 'the room stays' after before
 does 'it is installed again' "$(block docs/upgrading.md 'enable --now "$unit"')"
+for room in office invoices; do
+  holds "it says how $room is served again" grep -qF \
+    "the room $room isn't served, or has no backups, until: systemctl enable --now rooms@$room rooms-nightly@$room.timer" "$work/out"
+done
 holds 'settings have stayed' grep -q '^# mine' "$machine/etc/rooms/office.conf"
 replies 'the room is served again'
 second 'the other one too'

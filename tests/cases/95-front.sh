@@ -47,6 +47,7 @@ for target in / /app.js /none /me /doc/f /doc/none /folder/ /dacl/f '/can/f?r'; 
   for who in bob:b bob:x; do says_all $who "$target"; done
 done
 answer bob:b /doc/f
+holds 'nothing of TLS without TLS' [ "$(grep -ci Strict-Transport-Security "$work/head")" = 0 ]
 holds 'a document is a file' grep -qx $'Content-Disposition: attachment\r' "$work/head"
 answer bob:b /folder/
 holds 'a listing is none' [ "$(grep -c Content-Disposition "$work/head")" = 0 ]
@@ -195,14 +196,6 @@ ask 'a document for later' 204 '' alice:a /doc/f -X PUT --data-binary kept
 "$here/../contrib/install" --destdir "$PWD/machine" --program "$rooms" >installed 2>&1 </dev/null
 adds() { "$here/../contrib/rooms-add" --destdir "$PWD/machine" "$@" </dev/null >said 2>&1; }
 take_front() { rm -f rooms.d/*; for file in machine/etc/nginx/rooms.d/*; do for_here "$file" >"rooms.d/${file##*/}"; done; }
-# nginx takes its files: its workers of before are gone, and the command succeeds.
-reloaded() { # COMMAND ..
-  local began=$SECONDS before=() one
-  read -r -a before 2>/dev/null <"/proc/$proxy/task/$proxy/children"
-  kill -HUP "$proxy"
-  for one in ${before[@]+"${before[@]}"}; do wait_for "$one"; done
-  until "$@" || [ $((SECONDS - began)) -ge "$patience" ]; do sleep 0.1; done
-}
 answers() { [ "$(curl -s -o "$work/body" -w '%{http_code}' ${reach[@]+"${reach[@]}"} ${2:+-u "$2"} "$base$3")" = "$1" ]; }
 holds 'a room at a path' adds --port $((port + 5)) --title 'Invoices & <orders>' invoices
 holds 'a room at a host' adds --port $((port + 6)) --host hr.example hr
@@ -424,6 +417,8 @@ for field in 'Sec-Fetch-Site: same-origin' "Origin: $base"; do
   ask "PUT with TLS, $field" 204 - alice:a /doc/tls -X PUT --data-binary hello -H "$field"
 done
 says_all bob:b /doc/tls
+only_tls() { grep -qx $'Strict-Transport-Security: max-age=31536000\r' "$work/head"; }
+holds 'and that it is asked for with TLS only' only_tls
 holds 'a document is a file with TLS' grep -qx $'Content-Disposition: attachment\r' "$work/head"
 answer bob:b /me
 holds 'the page is told who asks with TLS' grep -qx $'Room-User: bob\r' "$work/head"
@@ -443,6 +438,8 @@ reach=(--resolve "hr.example:$secure:127.0.0.1" -k)
 reloaded answers 502 dora:d /doc/f
 ask 'the room at a host, with TLS' 502 - dora:d /doc/f
 ask 'alice is nobody there, with TLS' 401 - alice:a /doc/f
+answer dora:d /doc/f
+holds 'nor without TLS for a year' only_tls
 base=http://hr.example:$front
 reach=(--resolve "hr.example:$front:127.0.0.1")
 ask 'and no password without TLS' 301 - '' /doc/f

@@ -68,6 +68,16 @@ stop_server
 stop_proxy
 gives 'sound after the office' 0 'sound\n' '' verify G
 
+# A server that ends and begins again, which the play starts at a port that was free.
+open_room R
+set_list R / dacl list:a "A:fd:alice:$ALL"
+start_server R 1 || return
+stop_server
+start_front 'a server that restarts' || return
+play 'a server that restarts' restarts.py "$PWD" "$front" "$PWD/access.log" "$rooms" "$PWD/R" "$port"
+stop_proxy
+gives 'sound after restarts' 0 'sound\n' '' verify R
+
 # A room at a path, whose page is the same files. Its server listens before nginx's file is made.
 "$here/../contrib/install" --destdir "$PWD/machine" --program "$rooms" >installed 2>&1 </dev/null
 holds 'a room at a path' "$here/../contrib/rooms-add" --destdir "$PWD/machine" --title 'Invoices & <orders>' invoices >said 2>&1

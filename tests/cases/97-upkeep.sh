@@ -6,6 +6,9 @@ if [ "$loopback" = no ] || ! has flock || ! has setpriv || ! has setsid; then
 fi
 make_stand
 night() { script rooms-nightly "$PWD/conf"; }
+# Only root keeps what the machine has beside its rooms.
+tar=
+[ "$(id -u)" != 0 ] || tar='machine.tar '
 setting() { # NAME VALUE
   sed "s|^$1=.*|$1=$2|" conf >conf.new
   mv conf.new conf
@@ -43,19 +46,25 @@ same 'the review is there' "backups/$good/review.csv" wanted
 holds 'nobody else may read it' [ -z "$(find backups/* -perm /077)" ]
 holds 'the room is still its users' [ -z "$(find office -not -user "$STAND_USER")" ]
 holds 'nothing is owed' [ -z "$(ls run)" ]
-holds 'nothing else is left' [ "$(cd "backups/$good" && echo *)" = 'F F-wal lists.txt records.csv review.csv' ]
+holds 'nothing else is left' [ "$(cd "backups/$good" && echo *)" = "F F-wal lists.txt ${tar}records.csv review.csv" ]
+if [ -n "$tar" ]; then
+  tar -xOf "backups/$good/machine.tar" etc/rooms/office.conf >got
+  same 'what the machine has beside its rooms is there' got root/etc/rooms/office.conf
+fi
 
-# The server is stopped for the copy alone, and the program works on the copy, never on the room.
+# The server is held for the copy alone, and the program works on the copy, never on the room.
 did() { sed -n 's/^[0-9]* \(systemctl\|rooms\) \([a-z-]*\).*/\2/p' steps | tr '\n' ' '; }
 same_words() { if [ "$2" = "$3" ]; then pass; else fail "$1" "'$2' instead of '$3'"; fi; }
-same_words 'the server is back before the copy is read' "$(did)" 'is-active stop start is-active verify audit dump review '
+same_words 'the server goes on before the copy is read' "$(did)" "is-active is-active show verify audit dump review ${tar:+--version }show "
 holds 'the room itself is not opened' [ "$(grep -c ' rooms .*office/F' steps)" = 0 ]
 
 # Where the settings say so, the review is put into the room once the server is back.
-reviewing() { # FOLDER USER
+at_port() { # where the server listens
   read -r port <"$stand/port"
-  # The next server listens at the next port.
-  setting PORT $((port + 1))
+  setting PORT "$port"
+}
+reviewing() { # FOLDER USER
+  at_port
   setting REVIEW "$1"
   setting REVIEWER "$2"
 }
@@ -97,6 +106,50 @@ if has curl; then
   setting REVIEWER ''
 else
   skip 'a review in the room' 'no curl'
+fi
+
+# A server that runs and doesn't answer, as one that is killed before it has read its file, and starts again: the copy is sound,
+# and the run fails all the same. Where the settings have no port, nobody can ask.
+if has curl; then
+  at_port
+  : >"$stand/no-answer"
+  unit stop
+  unit start
+  night
+  says 'a server that does not answer' 1 "doesn't answer at port $port within 30 s"
+  holds 'a server that does not answer: mail' grep -qF "doesn't answer at port" "$stand/messages"
+  gives 'a server that does not answer: the copy is sound' 0 'sound\n' '' verify "backups/$(backups | tail -n 1)/F"
+  rm "$stand/no-answer"
+  unit stop
+  night
+  says 'a server that somebody stopped is not asked' 0 "isn't running, and is not started"
+  unit start
+  at_port
+  night
+  holds 'a server that answers' [ "$status" = 0 -a ! -s "$stand/messages" ]
+  setting PORT ''
+  rm -rf backups/*
+else
+  skip 'a server that does not answer' 'no curl'
+fi
+
+# A room that is nearly full.
+if has perl; then
+  echo LIMIT=1 >>conf
+  night
+  holds 'a room with room' [ "$status" = 0 ]
+  head -c 950000 /dev/zero | tr '\0' a >big
+  answers 'a large document' /doc/big made PUT "$(cat big)"
+  sleep 1
+  night
+  says 'a room that is nearly full' 1 'the room has 0 MB in use, and beyond 1 MB nginx refuses'
+  unit_runs 'a room that is nearly full: the server runs'
+  holds 'a room that is nearly full: the backup is there' [ -s "backups/$(backups | tail -n 1)/review.csv" ]
+  answers 'it is removed' /object/big done_reply DELETE
+  setting LIMIT ''
+  rm -rf backups/*
+else
+  skip 'a room that is nearly full' 'no perl'
 fi
 
 # A server that somebody stopped stays stopped.
@@ -148,11 +201,30 @@ for word in audit dump review; do
   kept=$(backups)
   holds "its $word fails: the older one goes, and tonight's stays" grep -qxE '20[2-9][0-9]-[0-9]{2}-[0-9]{2}\.[0-9]{6}' <<<"$kept"
   gives "its $word fails: the copy is sound" 0 'sound\n' '' verify "backups/$kept/F"
-  wanted=" F F-wal lists.txt records.csv review.csv "
+  wanted=" F F-wal lists.txt ${tar}records.csv review.csv "
   same_words "its $word fails: the others are there" " $(cd "backups/$kept" && echo *) " "${wanted/ ${beside[$word]} / }"
   rm -rf backups/*
 done
 setting KEEP 0
+if [ -n "$tar" ]; then
+  mkdir backups/2020-01-01.030000
+  cp office/F backups/2020-01-01.030000/F
+  echo tar >"$stand/no-tool"
+  night
+  says 'a night that can not keep the machine' 1 'but it has no machine.tar'
+  rm "$stand/no-tool"
+  unit_runs 'no machine.tar: the server runs'
+  holds 'no machine.tar: the rest is there' [ "$(cd "backups/$(backups | tail -n 1)" && echo *)" = 'F F-wal lists.txt records.csv review.csv' ]
+  ln -s /nowhere/at/all root/etc/rooms/lost
+  sleep 1
+  night
+  says 'a file of the machine that can not be read' 1 "it lacks /etc/rooms/lost, which can't be read"
+  rm root/etc/rooms/lost
+  holds 'the others are kept' tar -tf "backups/$(backups | tail -n 1)/machine.tar" etc/rooms/office.conf
+  rm -rf backups/*
+else
+  skip 'what the machine has beside its rooms' 'only root keeps it'
+fi
 
 # A tree of folders so deep that its lists need more memory than the settings give. Each move puts what is there below 15 folders
 # more: no path that is sent is longer than 4,096 bytes, and those that the lists print get far longer.
@@ -215,7 +287,7 @@ for tool in cat sync; do
 done
 echo mkdir >"$stand/no-tool"
 night
-failing 'no folder' 'was not stopped'
+failing 'no folder' 'so nothing was copied'
 rm "$stand/no-tool"
 if mkdir small && mount -t tmpfs -o size=1m,mode=700 none small 2>/dev/null; then
   setting BACKUPS "$PWD/small"
@@ -239,7 +311,9 @@ holds 'nobody named: the log' grep -q '^logger .*verify of' "$stand/messages"
 setting MAIL root
 setting PROGRAM "$stand/bin/rooms"
 rm -f "$stand/no-tool"
+# One that has ended is stopped, copied and started.
 : >"$stand/no-start"
+kill -KILL "$(cat "$stand/pid")"
 night
 says 'a server that does not start' 1 "doesn't start"
 rm "$stand/no-start"
@@ -317,6 +391,7 @@ for how in TERM KILL; do
       esac
     done
     holds "$name: nothing is owed" [ -z "$(ls run)" ]
+    holds "$name: no copy is half made" [ -z "$(find backups -name '*.part')" ]
     holds "$name: no text is half written" [ -z "$(find backups -name unfinished)" ]
   done
   holds "$how: the calls came to an end" [ "$number" -gt 10 -a "$number" -lt 60 ]

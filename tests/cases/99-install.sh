@@ -10,11 +10,15 @@ says 'what would be done' 0 'would: file /usr/local/bin/rooms'
 holds 'is not done' is_missing machine
 installs
 says 'an install' 0 'file /etc/systemd/system/rooms-nightly@.timer'
-for file in /usr/local/bin/rooms /usr/local/sbin/rooms-nightly /usr/local/sbin/rooms-restore /usr/local/lib/rooms/upkeep.sh \
-  /usr/local/sbin/rooms-get /usr/local/sbin/rooms-add /usr/local/bin/rooms-import /usr/local/bin/rooms-export /usr/local/lib/rooms/transfer.sh \
+for file in /usr/local/bin/rooms /usr/local/sbin/rooms-nightly /usr/local/sbin/rooms-restore /usr/local/lib/rooms/upkeep.sh /usr/local/lib/rooms/machine.sh \
+  /usr/local/sbin/rooms-get /usr/local/sbin/rooms-add /usr/local/sbin/rooms-doctor /usr/local/bin/rooms-handover /usr/local/bin/rooms-import /usr/local/bin/rooms-export /usr/local/lib/rooms/transfer.sh \
   /usr/local/share/man/man1/rooms.1 /usr/local/share/man/man8/rooms-get.8 /usr/share/bash-completion/completions/rooms \
   /etc/rooms/office.conf /etc/systemd/system/rooms@.service /usr/share/doc/rooms/docs/operating.md /etc/nginx/sites-enabled/rooms \
   /etc/nginx/sites-available/rooms-tls /etc/nginx/snippets/rooms-http.conf /etc/nginx/snippets/rooms-server.conf /etc/nginx/snippets/rooms-host.conf \
+  /usr/local/sbin/rooms-standby /usr/local/lib/rooms/copying.sh /etc/systemd/system/rooms-standby@.timer /etc/nginx/snippets/rooms-machine.conf \
+  /usr/local/sbin/rooms-full /usr/local/lib/rooms/pages.pl /etc/systemd/system/rooms-full@.service /usr/local/share/man/man8/rooms-full.8 \
+  /usr/local/sbin/rooms-directory /usr/local/lib/rooms/directory.sh /usr/local/share/rooms/directory.apache /usr/local/share/rooms/signed-in \
+  /etc/systemd/system/rooms-passwords.service /etc/systemd/system/rooms-directory@.timer /etc/nginx/snippets/rooms-directory.conf \
   /usr/local/lib/rooms/several.sh /usr/local/share/rooms/room/path /etc/nginx/rooms.d/start.html; do
   holds "$file is there" [ -s "machine$file" ]
 done
@@ -50,7 +54,7 @@ says 'another program' 2 'is not rooms'
 installs --destdir here
 says 'a folder that is no path' 2 'bad folder'
 installs --other
-says 'an unknown word' 2 'bad words: --other; install [--dry-run] [--replace] [--tls CERTIFICATE KEY] [--destdir DIR] [--prefix /usr] [--program FILE]'
+says 'an unknown word' 2 'bad words: --other; install [--dry-run] [--replace] [--tls CERTIFICATE KEY] [--directory FILE] [--destdir DIR] [--prefix /usr] [--program FILE]'
 installs --prefix /opt
 says 'a prefix of nobody' 2 'bad prefix'
 installs --prefix /usr --tls one.pem one.key
@@ -60,8 +64,8 @@ status=$?
 says "a package's files without a folder" 2 'bad prefix'
 # The same script as a package has it.
 cp "$contrib/install" rooms-setup
-cp "$contrib/several.sh" "$contrib/single.sh" .
-for word in --replace '--destdir /x' '--program /x' '--prefix /usr' 'x'; do
+cp "$contrib"/{several,single,directory,passwords}.sh .
+for word in --replace '--destdir /x' '--program /x' '--prefix /usr' --directory 'x'; do
   # shellcheck disable=SC2086
   ./rooms-setup $word </dev/null >"$work/out" 2>"$work/err"
   status=$?
@@ -234,13 +238,12 @@ fi
 # The units, as systemd reads them; with the programs that they name in their places.
 if has systemd-analyze; then
   mkdir units
-  for unit in rooms@.service rooms-nightly@.service rooms-nightly@.timer; do
-    sed "s|=/usr/local/|=$PWD/machine/usr/local/|" "$contrib/$unit" >"units/$unit"
+  for unit in "$contrib"/rooms*.service "$contrib"/rooms*.timer; do
+    sed "s|=/usr/local/|=$PWD/machine/usr/local/|; s|=/usr/sbin/apache2|=/bin/true|" "$unit" >"units/${unit##*/}"
   done
-  # It reports what it doesn't know of all units that it meets. Only these three are of this
-  # project.
-  systemd-analyze verify units/rooms@.service units/rooms-nightly@.service units/rooms-nightly@.timer >"$work/out" 2>&1
-  grep -E '^(/.*/)?rooms[a-z-]*@[a-z_-]*\.(service|timer)' "$work/out" >said
+  # It reports what it doesn't know of all units that it meets. Only these are of this project.
+  systemd-analyze verify units/*.service units/*.timer >"$work/out" 2>&1
+  grep -E '^(/.*/)?rooms[a-z-]*(@[a-z_-]*)?\.(service|timer)' "$work/out" >said
   : >nothing
   same 'the units are understood' said nothing
 else

@@ -1,0 +1,224 @@
+# The units under systemd itself: a Debian machine in a folder, booted by systemd-nspawn without a way
+# out, with the package. Its folder is a copy of ROOMS_DEBIAN, or made anew, as by 94-package.
+
+top=$here/..
+version=none
+. "$here/machine.sh"
+if [ "$(id -u)" != 0 ] || ! has systemd-nspawn || ! has nsenter || ! has dpkg-deb; then
+  skip 'the units under systemd' 'no root, or no systemd-nspawn, nsenter, dpkg-deb'
+  return
+fi
+machine=$PWD/machine
+copy_machine 'the units under systemd' || return
+if ! "$top/tools/package" --program "$rooms" >said 2>&1 </dev/null; then
+  fail 'the package' "$(tail -n 1 said)"
+  return
+fi
+cp rooms_*.deb "$machine/root/rooms.deb"
+rm -f "$machine/usr/sbin/policy-rc.d"
+
+# Boots it, and waits until its systemd says that all is started.
+boot() {
+  local began=$SECONDS
+  systemd-nspawn --quiet --register=no --keep-unit --private-network --directory="$machine" --boot \
+    >booted 2>&1 </dev/null &
+  proxy=$!
+  first=
+  while kill -0 "$proxy" 2>/dev/null && [ $((SECONDS - began)) -lt "$patience" ]; do
+    read -r first _ 2>/dev/null <"/proc/$proxy/task/$proxy/children"
+    if [ -n "$first" ]; then
+      inside 'systemctl is-system-running'
+      case $(cat "$work/out") in running | degraded) return ;; esac
+    fi
+    sleep 0.2
+  done
+  return 1
+}
+inside() { # TEXT
+  nsenter -t "$first" --all /usr/bin/env -i HOME=/root LC_ALL=C.UTF-8 DEBIAN_FRONTEND=noninteractive \
+    PATH=/usr/local/sbin:/usr/local/bin:/usr/sbin:/usr/bin:/sbin:/bin \
+    timeout "$patience" bash -c "cd /root && $1" </dev/null >"$work/out" 2>"$work/err"
+  status=$?
+}
+stop_machine() {
+  local began=$SECONDS
+  [ -n "$proxy" ] || return 0
+  kill "$proxy" 2>/dev/null
+  until ! kill -0 "$proxy" 2>/dev/null || [ $((SECONDS - began)) -ge 30 ]; do sleep 0.1; done
+  kill -9 "$proxy" ${first:+"$first"} 2>/dev/null
+  wait "$proxy" 2>/dev/null
+  proxy=
+}
+if ! boot; then
+  skip 'the units under systemd' "it doesn't boot here: $(tail -n 1 booted | head -c 200)"
+  stop_machine
+  return
+fi
+shows() { # NAME UNIT PROPERTY VALUE: soon
+  local began=$SECONDS got
+  while :; do
+    inside "systemctl show $2 -p $3 --value"
+    got=$(cat "$work/out")
+    [ "$got" != "$4" ] && [ $((SECONDS - began)) -lt "$patience" ] || break
+    sleep 0.2
+  done
+  holds "$1: $3 of $2 is $4, and not $got" [ "$got" = "$4" ]
+}
+until_inside() { # NAME TEXT: it succeeds soon
+  local began=$SECONDS
+  until inside "$2"; [ "$status" = 0 ] || [ $((SECONDS - began)) -ge "$patience" ]; do sleep 0.2; done
+  holds "$1" [ "$status" = 0 ]
+}
+
+ends() { # NAME UNIT: with what it does after its run
+  until_inside "$1 ends" "systemctl show $2 -p ActiveState --value | grep -qx -e inactive -e failed"
+}
+
+# The package, and the README's commands.
+does 'the package is installed' 'dpkg -i rooms.deb'
+does 'a room' 'runuser -u rooms -- rooms init /var/lib/rooms/office.rooms alice staff &&
+  systemctl enable --now rooms@office rooms-nightly@office.timer && htpasswd -bB /etc/nginx/rooms.htpasswd alice a &&
+  systemctl reload nginx'
+shows 'the server' rooms@office ActiveState active
+shows 'its watch' rooms-full@office ActiveState active
+does 'units with faults' 'systemctl list-units --state=failed --no-legend --plain "rooms*"'
+holds 'there are none' [ ! -s "$work/out" ]
+does 'when the nightly run begins' 'systemctl show rooms-nightly@office.timer -p NextElapseUSecRealtime --value'
+holds 'at three' grep -q ' 03:00:00 ' "$work/out"
+answers() { # NAME
+  until_inside "$1: the room answers" '[ "$(curl -s -m 20 "http://127.0.0.1:8780/can/?")" = "{}" ]'
+}
+answers 'a start'
+web='curl -s -o said -w %{http_code} -u alice:a'
+# For a moment after a reload of nginx a worker of before may answer, which doesn't know the place yet.
+answer_is() { # NAME STATUS TEXT
+  local began=$SECONDS
+  until inside "$3"; [ "$(cat "$work/out")" != 404 ] || [ "$2" = 404 ] || [ $((SECONDS - began)) -ge 10 ]; do sleep 0.2; done
+  holds "$1: $2" [ "$(cat "$work/out")" = "$2" ]
+}
+answer_is 'a document' 201 "$web -X PUT -d hello http://127.0.0.1/doc/f"
+
+# A nightly run: the same process serves before and after it, and its copy has the document.
+does 'which process serves' 'systemctl show rooms@office -p MainPID --value'
+before=$(cat "$work/out")
+does 'a nightly run' 'systemctl start rooms-nightly@office'
+shows 'without a stop' rooms@office MainPID "$before"
+shows 'it went well' rooms-nightly@office Result success
+does 'its copy' 'rooms dump /var/backups/rooms/20*/office.rooms'
+holds 'has the document' grep -q '^document alice staff 5 /f$' "$work/out"
+
+# It is killed at whatever it does: ExecStopPost brings all in order.
+for turn in 1 2 3 4 5 6; do
+  inside "systemctl start --no-block rooms-nightly@office; sleep 0.$((turn * 7 % 10)); systemctl kill --kill-whom=main -s KILL rooms-nightly@office"
+  ends "a run that is killed, $turn" rooms-nightly@office
+  answers "a run that is killed, $turn"
+  does "what a run that is killed, $turn, owes" 'ls -d /run/rooms-nightly.* /var/backups/rooms/*.part 2>/dev/null; :'
+  : >wanted
+  same "a run that is killed, $turn, owes nothing" "$work/out" wanted
+done
+shows 'the server was never restarted' rooms@office MainPID "$before"
+# One that was killed while it held the server, and that nobody has looked after.
+does 'a server that was left held' 'pid=$(systemctl show rooms@office -p MainPID --value); kill -STOP $pid
+  began=$(sed "s/.*) //" /proc/$pid/stat | cut -d " " -f 20)
+  mkdir /var/backups/rooms/2020-01-01.030000.part
+  printf "%s\n" /var/backups/rooms/2020-01-01.030000.part "held $pid $began" >/run/rooms-nightly.rooms@office
+  ! curl -s -m 2 "http://127.0.0.1:8780/can/?"'
+does 'goes on' 'rooms-nightly --after; ! ls -d /var/backups/rooms/*.part 2>/dev/null'
+answers 'a server that was left held'
+
+# Copies beside restarts of the unit: each one is sound, and the server runs in the end.
+does 'standby copies' 'systemctl start rooms-standby@office && rooms verify /var/backups/rooms/standby/office.rooms'
+for turn in 1 2 3 4; do
+  inside "systemctl start --no-block rooms-standby@office; sleep 0.0$((turn * 3)); systemctl restart rooms@office"
+  ends "a copy beside a restart, $turn" rooms-standby@office
+  answers "a copy beside a restart, $turn"
+  does "the copy, $turn" 'rooms verify /var/backups/rooms/standby/office.rooms'
+  holds "is sound, $turn" grep -qx sound "$work/out"
+done
+does 'its timer' 'systemctl enable --now rooms-standby@office.timer && systemctl list-timers --no-legend rooms-standby@office.timer'
+holds 'is set' [ -s "$work/out" ]
+does 'the timer is switched off' 'systemctl disable --now rooms-standby@office.timer'
+
+# A room for another machine's front end, and the place of a room that is on another machine, by the
+# blocks of machines.md.
+does 'certificates' "$(block docs/machines.md 'Authority of the machines')
+$(block docs/machines.md 'subj /CN=rooms-front')
+$(block docs/machines.md 'name=b.example')
+cp b.example.pem machine.pem && cp b.example.key machine.key"
+does 'a room for another front end' "$(block docs/machines.md 'rooms-add --behind')"
+shows 'its server' rooms@invoices ActiveState active
+front='--cert /etc/rooms/machines/front.pem --key /etc/rooms/machines/front.key'
+there='--cacert /etc/rooms/machines/authority.pem --resolve b.example:8443:127.0.0.1 -H Room-User:carol'
+answer_is 'the front end gets there' 200 "$web $front $there https://b.example:8443/invoices/folder/"
+answer_is 'nobody else does' 400 "$web $there https://b.example:8443/invoices/folder/"
+answer_is 'its own site does not show it' 404 "$web http://127.0.0.1/invoices/folder/"
+inside 'rooms-add --on nowhere.example other'
+holds 'a machine that has no address fails' [ "$status" = 1 ]
+holds 'by its name' grep -q 'host not found in upstream' "$work/err"
+does 'and leaves nothing' '! ls -d /etc/rooms/other* /etc/nginx/rooms.d/other* /etc/nginx/rooms-other* 2>/dev/null && nginx -t -q'
+does 'a place' 'echo 127.0.0.9 c.example >>/etc/hosts && rooms-add --on c.example other &&
+  htpasswd -bB /etc/nginx/rooms-other.htpasswd alice a'
+until_inside 'is there' "[ \"\$($web http://127.0.0.1/other/)\" = 200 ]"
+until_inside 'and a machine of another name gets nothing' "[ \"\$($web http://127.0.0.1/other/folder/)\" = 502 ]"
+does 'both are taken away' 'rooms-add --remove other && rooms-add --remove invoices'
+shows 'with the server' rooms@invoices ActiveState inactive
+shows 'and its watch' rooms-full@invoices ActiveState inactive
+answer_is 'office is as before' 200 "$web http://127.0.0.1/doc/f"
+
+# A full room. What MemoryMax says is the limit: 260 MB leave 2.
+limit_memory() { # LINE ..
+  does "limits: $*" "mkdir -p /etc/systemd/system/rooms@office.service.d &&
+    printf '%s\n' '[Service]' $(printf "'%s' " "$@") >/etc/systemd/system/rooms@office.service.d/memory.conf &&
+    systemctl daemon-reload"
+}
+does 'the default' 'rooms-full --look'
+holds 'is 384' grep -qx '0 MB of 384 are in use' "$work/out"
+limit_memory MemoryMax=260M
+does 'the watch takes that over' "$(block docs/capacity.md 'restart rooms-full@office')"
+holds 'two megabytes' grep -qx '0 MB of 2 are in use' "$work/out"
+does 'uploads' 'head -c 1000000 /dev/zero >big; for n in 1 2 3; do
+  curl -s -o said -u alice:a -X PUT -H Expect: --data-binary @big http://127.0.0.1/doc/big$n; done'
+until_inside 'a flag' '[ -e /run/rooms-full/127.0.0.1:8780 ]'
+answer_is 'what adds' 507 "$web -X PUT -d hello http://127.0.0.1/doc/more"
+answer_is 'what reads' 200 "$web http://127.0.0.1/doc/f"
+does 'the watch is killed' 'systemctl kill -s KILL rooms-full@office'
+until_inside 'and started again' '[ "$(systemctl show rooms-full@office -p NRestarts --value)" -ge 1 ] && systemctl is-active -q rooms-full@office'
+answer_is 'the room is as full' 507 "$web -X PUT -d hello http://127.0.0.1/doc/more"
+answer_is 'what removes' 204 "$web -X DELETE http://127.0.0.1/object/big1"
+answer_is 'and once more' 204 "$web -X DELETE http://127.0.0.1/object/big2"
+until_inside 'no flag then' '[ ! -e /run/rooms-full/127.0.0.1:8780 ]'
+answer_is 'what adds goes on' 201 "$web -X PUT -d hello http://127.0.0.1/doc/more"
+does 'the server stops' 'systemctl stop rooms@office'
+shows 'and its watch with it' rooms-full@office ActiveState inactive
+does 'the server starts' 'systemctl start rooms@office'
+shows 'and its watch with it' rooms-full@office ActiveState active
+does 'a mistake in the settings' 'sed -i "s/^LIMIT=.*/LIMIT=much/" /etc/rooms/office.conf; systemctl restart rooms@office'
+shows 'stops the watch' rooms-full@office ActiveState failed
+answers 'but not the room'
+inside 'systemctl start rooms-nightly@office'
+holds 'the nightly run reports it' [ "$status" != 0 ]
+does 'by its name' 'journalctl --no-pager -u rooms-nightly@office'
+holds 'LIMIT' grep -q "bad settings: LIMIT in /etc/rooms/office.conf" "$work/out"
+does 'the setting is mended' 'sed -i "s/^LIMIT=.*/LIMIT=/" /etc/rooms/office.conf; systemctl restart rooms@office'
+shows 'and the watch is back' rooms-full@office ActiveState active
+
+# A server that can't start: by MemoryMax where this machine has that, otherwise by a limit of the process.
+does 'more documents' 'for n in $(seq 30); do
+  curl -s -o said -X PUT -H "Room-User: alice" -H Expect: --data-binary @big http://127.0.0.1:8780/doc/m$n; done'
+inside 'systemctl show rooms@office -p MemoryCurrent --value'
+if [[ $(cat "$work/out") =~ ^[0-9]+$ ]]; then
+  limit_memory MemoryMax=20M MemorySwapMax=0
+else
+  skip 'a server that is killed by MemoryMax' 'systemd has no such limit here; LimitAS= is used'
+  limit_memory LimitAS=20M
+fi
+inside 'systemctl restart rooms@office; timeout 100 rooms-nightly'
+holds 'a server that can not start: the nightly run fails' [ "$status" = 1 ]
+holds 'a server that can not start: it says so' grep -q "rooms@office doesn't \(answer at port 8780\|stay\)" "$work/err"
+does 'the limit is taken away' 'rm /etc/systemd/system/rooms@office.service.d/memory.conf; systemctl daemon-reload; systemctl restart rooms@office'
+answers 'with more memory'
+does 'a nightly run after all' 'systemctl start rooms-nightly@office'
+does 'all is there' 'rooms dump "$(ls -d /var/backups/rooms/20*0 /var/backups/rooms/20*[1-9] 2>/dev/null | sort | tail -n 1)/office.rooms"'
+holds 'also what was answered last' grep -q '^document alice staff 1000000 /m30$' "$work/out"
+stop_machine
+rm -rf machine

@@ -1,0 +1,296 @@
+# Each block that the pages give an administrator is typed into a shell on a terminal, as a terminal does it that doesn't know of
+# pasted texts. So each line has to get to the shell, and none to a command before it that reads from the terminal. The machine
+# is that of 94-package: a copy of the folder ROOMS_DEBIAN, or one that debootstrap makes.
+
+top=$here/..
+. "$here/machine.sh"
+if ! has python3 || ! has dpkg-deb || ! has sha256sum; then
+  skip 'what is typed' 'python3, dpkg-deb or sha256sum is missing'
+  return
+fi
+make_machine 'what is typed' || return
+furnish_machine
+version=$("$rooms" --version 2>&1 </dev/null | sed 's/^rooms //')
+package=rooms_${version}_amd64.deb
+if ! "$top/tools/package" --program "$rooms" "$machine/root" >said 2>&1 </dev/null; then
+  fail 'a package' "$(tail -n 1 said)"
+  return
+fi
+
+# A package that pages get from Debian, with one program, which prints nothing.
+stand_in_package() { # NAME PROGRAM
+  mkdir -p "stand-ins/$1/DEBIAN" "stand-ins/$1/usr/bin" "$machine/root/packages"
+  printf '%s\n' "Package: $1" 'Version: 1' 'Architecture: all' 'Maintainer: nobody <nobody@localhost>' \
+    'Description: stand-in' >"stand-ins/$1/DEBIAN/control"
+  { printf '#!/bin/sh\n' && cat; } >"stand-ins/$1/usr/bin/$1"
+  chmod 755 "stand-ins/$1/usr/bin/$1"
+  dpkg-deb --root-owner-group --build "stand-ins/$1" "$machine/root/packages/$1.deb" >said 2>&1 || return
+  { cat "stand-ins/$1/DEBIAN/control" && printf '%s\n' "Filename: ./$1.deb" "Size: $(stat -c %s "$machine/root/packages/$1.deb")" \
+    "SHA256: $(sha256sum <"$machine/root/packages/$1.deb" | cut -d ' ' -f 1)" ''; } >>"$machine/root/packages/Packages"
+}
+# A program that the machine lacks.
+stand_in() { # NAME
+  [ -z "$(find "$machine"/{usr/,usr/local/,}{s,}bin -name "$1" -print -quit 2>/dev/null)" ] || return 0
+  { printf '#!/bin/sh\n' && cat; } >"$machine/usr/local/bin/$1"
+  chmod 755 "$machine/usr/local/bin/$1"
+}
+
+# Terminals for apt-get, which has dpkg at one of its own; passwords that are asked for; a shell that tells of each command.
+furnish_terminal() {
+  rm "$machine/usr/local/bin/htpasswd"
+  printf '%s\n' 'APT::Sandbox::User "root";' 'DPkg::Path "/usr/local/sbin:/usr/local/bin:/usr/sbin:/usr/bin:/sbin:/bin";' \
+    >"$machine/etc/apt/apt.conf.d/99rooms"
+  rm -f "$machine"/etc/apt/sources.list.d/*
+  echo 'deb [trusted=yes] file:/root/packages ./' >"$machine/etc/apt/sources.list"
+  echo 'set enable-bracketed-paste off' >>"$machine/etc/inputrc"
+  cat >"$machine/etc/bash.bashrc" <<'END'
+PS1='[typed]$ ' PS2='> '
+HISTCONTROL= HISTTIMEFORMAT=
+unset HISTFILE
+shopt -s cmdhist lithist
+typed() { printf '%s\n%s\n~\n' "$1" "$(history 1)" >>/srv/typed; }
+PS0='$(typed ">")' PROMPT_COMMAND='typed "=$?"'
+END
+  mkdir -p "$machine/dev/pts" "$machine/srv"
+  nsenter -t "$first" -m mount -t devpts -o newinstance,ptmxmode=0666 devpts "$machine/dev/pts" && ln -sf pts/ptmx "$machine/dev/ptmx"
+}
+stand_in_package at <<'END' || fail 'what is typed' "no stand-in: $(cat said)"
+{ cat; echo "at $*"; } >>/root/due
+END
+stand_in_package certbot <<'END' || fail 'what is typed' "no stand-in: $(cat said)"
+mkdir -p /etc/letsencrypt/live/rooms.example
+cp /etc/ssl/rooms.pem /etc/letsencrypt/live/rooms.example/fullchain.pem
+cp /etc/ssl/private/rooms.key /etc/letsencrypt/live/rooms.example/privkey.pem
+END
+for name in nft update-ca-certificates sqlite3 journalctl; do stand_in "$name" </dev/null; done
+mkdir -p "$machine/root/contrib" "$machine/usr/local/share/ca-certificates"
+# At the top of a repository. What it does is tried by 99-install.
+printf '#!/bin/sh\n[ $# = 0 ] || exec rooms-setup "$@"\n' >"$machine/root/contrib/install"
+chmod 755 "$machine/root/contrib/install"
+if ! furnish_terminal 2>said; then
+  skip 'what is typed' "no terminals: $(head -c 200 said)"
+  return
+fi
+
+# The blocks of a page, each in a file of its own.
+pages='README docs/operating docs/backup docs/people docs/upgrading docs/several docs/capacity docs/lists docs/in-and-out docs/check docs/messages'
+mkdir -p blocks/docs
+for page in $pages; do
+  awk -v into="blocks/$page" '
+    /^```/ { if (inside) { inside = 0; close(file) } else { inside = 1; file = "/dev/null"; if ($0 == "```sh") file = into "." ++n } next }
+    inside { print >file }' "$top/$page.md"
+done
+holds 'the pages have blocks' [ "$(find blocks -type f | wc -l)" -gt 80 ]
+
+# The first block of a page that has a text, or that is the text, where it begins with '='.
+block_of() { # PAGE TEXT
+  local block
+  for block in $(printf '%s\n' "blocks/$1".* | sort -V); do
+    if [[ $2 = =* ]]; then [ "$2" = "=$(<"$block")" ]; else grep -qF -e "$2" "$block"; fi || continue
+    echo "$block"
+    return
+  done
+}
+
+# Types blocks into one shell, one after the other. What differs on this machine is said by a script of sed in `edit`, which
+# statuses other than 0 are right in `statuses`, and a folder in `where`.
+edit='' statuses='' where=/root
+types() { # NAME PAGE TEXT ..
+  local name=$1 block each sent=()
+  shift
+  while [ $# != 0 ]; do
+    block=$(block_of "$1" "$2")
+    [ -n "$block" ] || { fail "$name" "no such block in $1: $2"; return; }
+    for each in "blocks/$1".*; do ! cmp -s "$block" "$each" || echo "$each" >>typed; done
+    sent+=("sent.${#sent[@]}")
+    sed -e "s/rooms_VERSION/rooms_$version/" -e "$edit" "$block" >"${sent[-1]}"
+    shift 2
+  done
+  : >"$machine/srv/typed"
+  rm -f log.faults
+  python3 "$here/typed.py" "$machine/srv/typed" "$patience" "${sent[@]}" -- nsenter -t "$first" -n -m -p chroot "$machine" \
+    /usr/bin/env -i HOME=/root LC_ALL=C.UTF-8 TERM=dumb PATH=/usr/local/sbin:/usr/local/bin:/usr/sbin:/usr/bin:/sbin:/bin \
+    bash -c "cd '$where' && exec bash -i" >"$work/out" 2>"$work/err" </dev/null
+  if [ -e "$machine/srv/typed.faults" ] && ! grep -vE "^status (${statuses:-none}): " "$machine/srv/typed.faults" >found; then
+    pass
+  else
+    fail "$name" "$(head -n 5 found) $(head -c 300 "$work/err")"
+    tail -c 900 "$work/out" | tr -d '\r' | sed 's/^/  /'
+  fi
+  rm -f "$machine/srv/typed.faults"
+  edit='' statuses='' where=/root
+}
+shows() { # NAME TEXT ..: what the terminal has shown
+  local name=$1 text
+  shift
+  for text; do holds "$name ($text)" grep -qF -e "$text" "$work/out"; done
+}
+asks_as() { # STATUS USER METHOD TARGET [BODY]
+  printf %s "${5-}" >"$machine/root/body"
+  inside "curl -s -o /dev/null -w '%{http_code}' -X $3 -H 'Room-User: $2' --data-binary @body http://127.0.0.1:8780$4"
+  holds "$3 $4 as $2 is answered by $(<"$work/out")" [ "$(<"$work/out")" = "$1" ]
+}
+: >"$machine/srv/typed"
+chmod 666 "$machine/srv/typed"
+
+# The case itself finds what is lost: apt-get takes the lines behind it, unless it is kept from the terminal.
+printf '%s\n' 'apt-get update' 'apt-get install -y lost' 'echo one' 'echo two' >blocks/docs/lost.1
+before=$failed
+types 'lost lines' docs/lost two >/dev/null
+if [ "$failed" = "$before" ]; then fail 'lost lines' 'are not noticed'; else pass; fi
+failed=$before
+rm blocks/docs/lost.1 typed
+
+# The first hour.
+types 'the package' README './rooms_'
+types 'the three commands' README 'rooms init'
+shows 'they make the room' ready
+inside 'systemctl stop rooms@office; rm -f /var/lib/rooms/office.rooms*; : >/etc/nginx/rooms.htpasswd'
+types 'the same on its page' docs/operating './rooms_' docs/operating 'rooms init'
+shows 'and there' ready 'New password' 'Adding password for user alice'
+types 'without a package' docs/operating 'nginx apache2-utils' docs/operating '=contrib/install'
+types 'a folder' docs/operating 'rooms.example:80'
+shows 'is made' 201
+types 'groups and lists' docs/operating 'runuser -u rooms bash' docs/operating 'cat >groups.csv' \
+  docs/operating 'office.rooms / dacl' docs/operating 'office.rooms / sacl'
+shows 'are taken' 'groups 2, members 3' 'done'
+types 'the port' docs/operating 'nft '
+does 'the server starts' 'systemctl start rooms@office'
+
+# TLS, and back.
+types 'an authority' docs/operating '/root/authority/authority.key -out' docs/operating '-keyout /etc/ssl/private/rooms.key' \
+  docs/operating CAcreateserial docs/operating 'contrib/install --tls /etc/ssl' docs/operating '=systemctl reload nginx' \
+  docs/operating update-ca-certificates
+does 'the site with TLS' 'curl -sf --cacert /root/authority/authority.pem --resolve rooms.example:443:127.0.0.1 -u alice:typed \
+  https://rooms.example/me >/dev/null'
+types 'a public name' docs/operating 'install -y certbot' docs/operating certonly docs/operating letsencrypt/live
+holds 'its certificate is used' grep -q letsencrypt "$machine/etc/nginx/snippets/rooms-tls.conf"
+types 'back' docs/operating 'ln -sfn ../sites-available/rooms '
+does 'without TLS' 'curl -sf -u alice:typed http://127.0.0.1/me >/dev/null'
+
+# Lists.
+types 'folders' docs/lists 'for name in policies'
+types 'each list' docs/operating 'runuser -u rooms bash' docs/lists 'office.rooms /policies' docs/lists 'office.rooms /minutes' \
+  docs/lists 'office.rooms /letters' docs/lists 'office.rooms /bob' docs/lists 'office.rooms /personnel' \
+  docs/lists 'office.rooms /handbook' docs/lists 'office.rooms /inbox' docs/lists 'office.rooms /drafts' docs/lists 'office.rooms /contracts'
+holds 'all are set' [ "$(grep -c '^done' "$work/out")" = 9 ]
+statuses=1
+types 'a list is tried' docs/lists 'caller: ivan'
+does 'the server again' 'systemctl start rooms@office
+  printf "%s\n" list:ap A:fd:alice:rwanNxDtThHdcCoy A:fdg:staff:rxtc >list.txt'
+types 'a list by a request' docs/lists '@list.txt' docs/lists 'cat list.txt'
+shows 'after a look' granted
+where=/usr/share/doc/rooms/docs/examples
+edit=s#docs/examples/NAME#intern-writes#
+statuses=1
+types 'an example' docs/check docs/examples
+does 'an input' "sed -n '/^caller: alice/,/^\`\`\`/p' /usr/share/doc/rooms/docs/check.md | sed '/^\`\`\`/,\$d' >input.txt"
+types 'a list that is judged' docs/check input.txt
+shows 'is' granted
+
+# People.
+types 'somebody joins' docs/people 'rooms.htpasswd dana' docs/people sales,dana
+shows 'she is in her group' 'groups 2, members 4'
+does 'bob has a password' 'htpasswd -bB /etc/nginx/rooms.htpasswd bob secret'
+for path in reply ' odd '; do asks_as 201 bob PUT "/doc/letters/${path// /%20}" x; done
+types 'somebody leaves' docs/people 'htpasswd -D /etc/nginx/rooms.htpasswd bob'
+shows 'what is his' 'document bob staff 1 /letters/ odd ' 'document bob staff 1 /letters/reply'
+holds 'he has no password' [ "$(grep -c '^bob:' "$machine/etc/nginx/rooms.htpasswd")" = 0 ]
+types 'what would be given' docs/people 'rooms-handover --dry-run'
+shows 'is told' "would: /letters/\\ odd\\ " 'would be given 2, of others by now 0, left out 0'
+types 'all of it' docs/people '=rooms-handover --as alice http://127.0.0.1:8780 /var/lib/rooms/lists.txt bob alice'
+shows 'is given' 'given 2, of others by now 0, left out 0'
+types 'a single one' docs/people '/attr/letters/reply'
+shows 'is given too' 204
+asks_as 201 alice POST /folder/projects
+asks_as 201 alice POST /folder/projects/bridge
+types 'somebody from outside' docs/people 'rooms.htpasswd eve' docs/people 'A::eve:x' docs/people 'can/projects/bridge' docs/people 'at 18:00'
+shows 'may read' '"r":"allowed'
+holds 'until a day' grep -q '^at 18:00 2027-01-31$' "$machine/root/due"
+holds 'at which her password goes' grep -q '^htpasswd -D /etc/nginx/rooms.htpasswd eve$' "$machine/root/due"
+types 'a backup' docs/upgrading 'start rooms-nightly'
+asks_as 204 alice PUT /dacl/letters list:ap
+asks_as 403 alice GET /folder/letters
+types 'somebody is locked out' docs/people 'office.rooms /letters dacl'
+asks_as 200 alice GET /folder/letters
+types 'the list of the night' docs/people 'here && dacl'
+shows 'is printed' A:fdg:staff:rwaxtc A:fi:OWNER@:d
+types 'who can read this folder' docs/people 'rooms review'
+shows 'alice, and staff' '/letters,folder,alice,rwanNxDtThHdcCoy,yes'
+types 'who could change it' docs/people '$1 == "/projects"'
+types 'a new password' docs/people '=htpasswd -B /etc/nginx/rooms.htpasswd bob' docs/people 'tr -dc'
+
+# In and out.
+does 'a tree' 'mkdir -p "share/ a " && echo x >"share/ a /b "'
+edit=s#https://rooms.example#http://127.0.0.1#
+types 'it comes in' docs/in-and-out 'rooms-import --user alice' docs/in-and-out 'rooms-import --as alice'
+shows 'all of it' 'left out 0' 'there already 3'
+types 'it goes out' docs/in-and-out rooms-export
+does 'as it was' 'cmp "share/ a /b " "out/ a /b "'
+
+# Several rooms, and passwords that are remembered.
+types 'a second room' docs/several 'rooms-add --title'
+types 'remembered' docs/operating '#include snippets/rooms-remembered' docs/operating 'rooms.d/invoices.path'
+does 'a password counts' 'curl -sf -u carol:typed http://127.0.0.1/invoices/me >/dev/null'
+types 'and not' docs/operating '^include snippets/rooms-remembered'
+types 'a program' docs/operating 'openssl rand'
+types 'taken away' docs/several 'rooms-add --remove'
+
+# What is watched, and what is done when something is wrong.
+types 'what to watch' docs/capacity 'can/?' docs/capacity 'no backup' docs/capacity MemoryCurrent
+shows 'it answers' '{} 200'
+statuses=1
+types 'how full it is' docs/capacity 'restart rooms-full@office'
+shows 'is said' '0 MB of 384 are in use'
+types 'who was here' docs/capacity records.csv
+types 'old records' docs/capacity 'DELETE FROM audits'
+shows 'the room stays sound' sound
+statuses=1
+types 'which cause it is' docs/messages '=rooms-doctor /var/lib/rooms/office.rooms'
+shows 'the server has it' 'busy: process'
+types 'a unit that gave up' docs/messages reset-failed
+types 'a full disk' docs/messages 'df -h' docs/messages vacuum docs/messages 'rooms verify'
+shows 'the room is sound' sound
+backup=$(basename "$(printf '%s\n' "$machine"/var/backups/rooms/????-??-??.?????? | tail -n 1)")
+edit=s/2026-11-20.030000/$backup/
+types 'a restore' docs/backup 'rooms-restore 2026'
+shows 'is done' "restored /var/lib/rooms/office.rooms from /var/backups/rooms/$backup"
+edit=s/2026-11-20.030000/$backup/
+types 'one document' docs/backup 'rooms-get 2026' docs/backup @reply
+shows 'is put back' 204
+where=/var/backups/rooms/$backup
+types 'the longest list' docs/operating 'where = at'
+
+# Upgrades, and the way back.
+types 'a newer version' docs/upgrading '=apt-get install -y ./rooms_VERSION_amd64.deb -o Dpkg::Options::=--force-confold </dev/null' \
+  docs/upgrading '=contrib/install' docs/upgrading 'sleep 1; curl' docs/upgrading 'nginx -t'
+shows 'serves' '{} 200'
+types 'an older one' docs/upgrading allow-downgrades docs/upgrading "=systemctl restart 'rooms@*'"
+edit=s/2026-11-20.030000/$backup/
+types 'with its file' docs/upgrading 'rooms-restore 2026'
+does 'a file of schema 1' 'systemctl stop rooms@office && mkdir kept && mv /var/lib/rooms/office.rooms* kept'
+take moved.1.db "$machine/var/lib/rooms/office.rooms"
+does 'is the room' 'chown rooms: /var/lib/rooms/office.rooms'
+types 'is upgraded and served' docs/upgrading 'rooms migrate'
+shows 'and so on' migrated
+does 'the room of before' 'systemctl stop rooms@office; rm /var/lib/rooms/office.rooms*; mv kept/* /var/lib/rooms'
+for name in rooms.service rooms-nightly.service rooms-nightly.timer; do
+  sed 's#/usr/local/#/usr/#g' "$data/single/$name" >"$machine/etc/systemd/system/$name"
+done
+types 'units of one room' docs/upgrading 'disable --now rooms@office' docs/upgrading 'enable --now rooms rooms-nightly.timer'
+asks_as 200 alice GET /folder/letters
+does 'those of several' 'systemctl disable --now rooms rooms-nightly.timer; rm /etc/systemd/system/rooms{,-nightly}.*'
+types 'from an install by hand' docs/upgrading 'rm -f bin/rooms' docs/upgrading 'enable --now "$unit"'
+asks_as 200 alice GET /folder/letters
+
+# Blocks of the README that are for who builds or changes the program.
+for text in tools/build 'rt try' 'rooms init office.rooms' .ci/run; do block_of README "$text"; done >>typed
+# Blocks of a new machine, and of what is copied for it: 94-new-machine pastes them.
+for text in './rooms_' 'cp -a /mnt' 'do rooms-restore' reload-or-restart machine/about 'openssl rand' 'restore latest' 'rsync -a'; do
+  block_of docs/backup "$text"
+done >>typed
+find blocks -type f | sort >wanted
+while IFS= read -r block; do
+  fail "block ${block##*.} of ${block%.*}" "no line here types it: $(head -n 1 "$block")"
+done < <(sort -u typed | comm -13 - wanted)
+holds 'blocks were typed' [ "$(sort -u typed | wc -l)" -gt 80 ]

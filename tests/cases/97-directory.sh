@@ -1,0 +1,294 @@
+# contrib/rooms-directory: groups of a directory, what it refuses, and an interruption at each of its calls.
+
+. "$here/directory.sh"
+if [ "$loopback" = no ] || ! has flock || ! has setpriv || ! has setsid || ! has timeout; then
+  skip 'groups of a directory' 'no loopback, or no flock, setpriv, setsid'
+  return
+fi
+# Groups in groups, two of which are in one another; names beyond ASCII and with spaces; one who has left, and one without a name.
+people=(alice bob carol dana jürgen 'anna maria')
+if ! {
+  for name in "${people[@]}"; do person "$name" x; done
+  person gone x 'employeeType: gone'
+  entry 'cn=nameless,ou=people,dc=example,dc=net' organizationalRole 'cn: nameless'
+  group interns dana "$(group_dn sales)"
+  group sales bob "$(group_dn interns)"
+  group staff alice bob gone "$(group_dn sales)"
+  group büro carol jürgen 'anna maria'
+  group 'Human Resources' carol
+  group abroad jürgen
+  entry cn=unix,ou=groups,dc=example,dc=net posixGroup 'cn: unix' 'gidNumber: 1000' 'memberUid: bob' 'memberUid: nobody' 'memberUid: gone'
+  entry cn=twice,ou=groups,dc=example,dc=net posixGroup 'cn: twice' 'gidNumber: 1001'
+  entry ou=more,dc=example,dc=net organizationalUnit 'ou: more'
+  entry cn=twice,ou=more,dc=example,dc=net posixGroup 'cn: twice' 'gidNumber: 1002'
+} | load_directory || ! start_directory; then
+  skip 'groups of a directory' "$why"
+  return
+fi
+# slapd sets memberOf when members are set and are there, which what it was loaded with wasn't.
+touch_groups() {
+  local one
+  for one in interns sales staff büro 'Human Resources' abroad; do
+    {
+      echo "dn: $(group_dn "$one")"
+      printf '%s\n' 'changetype: modify' 'replace: member'
+      ldapsearch -x -LLL -o ldif-wrap=no -H "ldap://127.0.0.1:$ldap" -b "$(group_dn "$one")" -s base member | grep '^member:'
+    } >change.ldif
+    as_root_of_directory ldapmodify -f change.ldif || fail 'members are set again' "$(cat said)"
+  done
+}
+make_stand
+cp conf office.conf
+sed -i 's/^KEEP=.*/KEEP=0/' office.conf
+echo secret-word >secret
+chmod 600 secret
+where() { printf '%s\n' "URI=ldap://127.0.0.1:$ldap" BASE=dc=example,dc=net 'USERS=(&(objectClass=inetOrgPerson)(!(employeeType=gone)))' MEMBERS=member "$@"; }
+where >directory
+asked() { printf '%s\n' "$@" >office.groups; }
+brings() { script rooms-directory "$@" "$PWD/office.conf"; }
+members() { as_user "$rooms" groups-out "$PWD/office/F" >got; }
+stopped() { unit stop; members; unit start; }
+new_office() {
+  unit stop
+  rm -f office/* run/* backups/.directory.csv
+  rm -rf backups/2*
+  as_user "$rooms" init "$PWD/office/F" root staff >/dev/null
+  printf '%s\n' group,user own,erin staff,frank >members.csv
+  chmod 644 members.csv
+  as_user "$rooms" groups "$PWD/office/F" "$PWD/members.csv" >/dev/null
+  unit start
+}
+has_members() { # NAME PAIR ..
+  printf '%s\n' group,user "${@:2}" >wanted
+  stopped
+  same "$1" got wanted
+}
+was_stopped() { grep -q ' systemctl stop' "$stand/steps"; }
+prints() { # NAME LINE ..: on standard output
+  printf '%s\n' "${@:2}" >wanted
+  same "$1" "$work/out" wanted
+}
+
+# Groups come in, nested ones flattened, under the names that the room gives them; the room's own stay.
+new_office
+asked 'MOST=1' 'group staff = staff' "group sales = $(group_dn sales)" 'group bureau = büro' 'group hr = Human Resources'
+brings
+says 'groups' 0 'groups 5, members 8'
+prints 'the pairs that come and go' '+ bureau,carol' '+ hr,carol' '+ sales,bob' '+ sales,dana' '+ staff,alice' '+ staff,bob' \
+  '+ staff,dana' '- staff,frank'
+says 'a name beyond ASCII' 0 "left out of bureau: 'jürgen' can't be a user of a room"
+says 'a name with a space' 0 "left out of bureau: 'anna maria' can't be a user of a room"
+unit_runs 'the server runs after it'
+all=(bureau,carol hr,carol own,erin sales,bob sales,dana staff,alice staff,bob staff,dana)
+has_members 'they are the members' "${all[@]}"
+holds 'nothing is left in the folder' [ -z "$(ls office | grep groups)" ]
+holds 'nothing is owed' [ -z "$(ls run)" ]
+brings
+says 'the same again' 0 ''
+holds 'says only who is left out' [ ! -s "$work/out" ]
+holds 'and does not stop the server' eval '! was_stopped'
+
+rm backups/.directory.csv
+brings --dry-run
+says 'a look before there is a backup' 0 "what rooms has isn't known"
+printf '+ %s\n' "${all[@]}" | grep -v own, >wanted
+same 'prints all that the directory has' "$work/out" wanted
+brings
+says 'a run without a backup' 0 ''
+# One joins, one leaves: seen first, then done.
+change() { # GROUP add|delete NAME
+  { echo "dn: $(group_dn "$1")"; printf '%s\n' 'changetype: modify' "$2: member" "member: uid=$3,ou=people,dc=example,dc=net"; } >change.ldif
+  as_root_of_directory ldapmodify -f change.ldif || fail "a change of the directory" "$(cat said)"
+}
+change interns add carol
+change staff delete alice
+brings --dry-run
+says 'what would change' 0 ''
+prints 'is printed' '+ sales,carol' '+ staff,carol' '- staff,alice'
+holds 'without a stop' eval '! was_stopped'
+has_members 'and is not done' "${all[@]}"
+brings
+says 'what changes' 0 'groups 5, members 9'
+all=(bureau,carol hr,carol own,erin sales,bob sales,carol sales,dana staff,bob staff,carol staff,dana)
+has_members 'is done' "${all[@]}"
+
+# What somebody has changed by hand is seen when a backup is newer.
+printf '%s\n' group,user own,erin sales,zoe >members.csv
+unit stop
+as_user "$rooms" groups "$PWD/office/F" "$PWD/members.csv" >/dev/null
+unit start
+brings
+holds 'a change by hand is not known yet' [ "$status" = 0 -a ! -s "$work/out" ]
+mkdir backups/2099-01-01.030000
+printf 'member own erin\nmember sales zoe\n' >backups/2099-01-01.030000/lists.txt
+touch -d '1 hour' backups/2099-01-01.030000/lists.txt
+brings
+says 'and is, after a night' 0 'groups 5, members 9'
+rm -r backups/2099*
+has_members 'the directory counts' "${all[@]}"
+
+# memberOf, and groups of names alone.
+touch_groups
+where MEMBERS=memberOf >directory
+brings
+says 'by memberOf the same' 0 ''
+holds 'nothing changes by it' [ ! -s "$work/out" ]
+where MEMBERS=memberUid >directory
+asked 'group unix = unix'
+brings
+says 'names alone' 0 '+ unix,bob'
+where >directory
+
+# Refused, or failed: no member is changed, and the server runs.
+unchanged() { # NAME STATUS TEXT
+  says "$1" "$2" "$3"
+  unit_runs "$1: the server runs"
+  holds "$1: it was not stopped" eval '! was_stopped'
+  holds "$1: nothing is owed" [ -z "$(ls run)" ]
+}
+members_before() { stopped; cp got before; }
+members_before
+asked 'group staff = nothere'
+brings
+unchanged 'a group that is not there' 2 "no group: the directory has 0 groups 'nothere'"
+asked "group staff = $(group_dn nothere)"
+brings
+unchanged 'a DN that is not there' 2 'no group: the directory has no'
+asked 'group staff = twice'
+brings
+unchanged 'a name of two groups' 2 "2 groups 'twice'"
+asked 'group staff = *'
+brings
+unchanged 'a star is no pattern' 2 "0 groups '*'"
+asked 'group abroad = abroad'
+brings
+unchanged 'a group without a member' 2 'empty: abroad would have no member; --force'
+asked 'MOST=0' 'group staff = staff' 'group sales = Human Resources'
+brings
+unchanged 'too much would go' 2 'too much: 2 pairs would go, and MOST is 0'
+asked 'group staff = staff' 'group bad name = sales'
+brings
+unchanged 'a group that no room has' 2 "'bad name' can't be a group of a room"
+asked 'MOST=many' 'group staff = staff'
+brings
+unchanged 'a limit that is none' 2 'MOST in'
+asked 'rm -rf /'
+brings
+unchanged 'a line of another kind' 2 "is neither 'group NAME = WHAT'"
+: >office.groups
+brings
+unchanged 'no group' 2 'names no group'
+rm office.groups
+brings
+unchanged 'no settings' 2 'no settings'
+asked 'group staff = staff'
+where BASE=dc=other,dc=net >directory
+brings
+unchanged 'another base' 1 'the directory failed: '
+where 'BIND=cn=root,dc=example,dc=net' "SECRET=$PWD/secret" >directory
+brings
+unchanged 'a wrong password' 1 'Invalid credentials'
+where 'USERS=(objectClass=nothing)' >directory
+brings
+unchanged 'no users' 2 'empty: staff'
+where 'USERS=(objectClass=inetOrgPerson' >directory
+brings
+unchanged 'a filter that is none' 2 'bad settings: USERS'
+where 'USERS=(&(objectClass=inetOrgPerson)' >directory
+brings
+unchanged 'half a filter' 1 'Bad search filter'
+rm directory
+brings
+unchanged 'no directory is named' 2 'no settings'
+where WAIT=2 >directory
+kill -STOP "$slapd"
+brings
+unchanged 'a directory that hangs' 1 'the directory failed: no answer within 2 seconds'
+kill -CONT "$slapd"
+stop_directory
+brings
+unchanged 'a directory that is down' 1 "Can't contact LDAP server"
+start_directory
+where >directory
+for words in '--other' '--after --dry-run' 'a b'; do
+  # shellcheck disable=SC2086
+  script rooms-directory $words
+  says "the words '$words'" 2 'bad words'
+done
+stopped
+same 'no member is changed by any of them' got before
+asked 'MOST=0' 'group staff = staff' 'group sales = Human Resources' 'group abroad = abroad'
+brings --force
+says 'what is meant' 0 '- sales,bob'
+has_members 'is done' bureau,carol hr,carol own,erin sales,carol staff,bob staff,carol staff,dana unix,bob
+asked 'MOST=9' 'group staff = Human Resources'
+# The server fails to start, or the import fails: the status says so, and the server runs.
+asked 'MOST=9' 'group staff = Human Resources'
+echo groups >"$stand/no-word"
+brings
+says 'an import that fails' 1 'groups failed'
+rm "$stand/no-word"
+unit_runs 'an import that fails: the server runs'
+asked 'MOST=9' 'group staff = Human Resources'
+echo groups-out >"$stand/no-word"
+brings
+says 'members that can not be read' 1 'groups-out failed'
+rm "$stand/no-word"
+unit_runs 'members that can not be read: the server runs'
+: >"$stand/no-start"
+brings
+says 'a server that does not start' 1 "doesn't start"
+rm "$stand/no-start"
+script rooms-directory --after "$PWD/office.conf"
+says 'is started after it' 1 'interrupted'
+unit_runs 'a second start'
+unit stop
+asked 'group staff = staff'
+brings
+says 'a server that somebody stopped' 0 'groups '
+unit_rests 'stays so'
+unit start
+
+# An interruption at each call, alone and followed by what the unit does after each run.
+for how in TERM KILL; do
+  for number in {1..60}; do
+    rm -f "$stand/hit"
+    asked 'MOST=9' "group staff = $([ $((number % 2)) = 0 ] && echo staff || echo Human Resources)"
+    export KILL_AT=$number KILL_HOW=$how
+    brings
+    unset KILL_AT
+    [ -e "$stand/hit" ] || break
+    name="$how at $(cat "$stand/hit")"
+    name=${name//$PWD\//}
+    [ "$how" = KILL ] || unit_runs "$name"
+    script rooms-directory --after "$PWD/office.conf"
+    unit_runs "$name, and after"
+    holds "$name: nothing is owed" [ -z "$(ls run)" ]
+    holds "$name: nothing is left in the folder" [ -z "$(ls office | grep groups)" ]
+  done
+  holds "$how: the calls came to an end" [ "$number" -gt 5 -a "$number" -lt 60 ]
+done
+brings
+holds 'a run after all' [ "$status" = 0 ]
+
+# Ten thousand members.
+stop_directory
+rm -rf entries entries.ldif
+ldap=
+{ for ((n = 10000; n < 20000; n++)); do person "user$n" x; done
+  echo "dn: $(group_dn all)"; printf '%s\n' 'objectClass: groupOfNames' 'cn: all'
+  for ((n = 10000; n < 20000; n++)); do echo "member: uid=user$n,ou=people,dc=example,dc=net"; done
+  echo; } | load_directory && start_directory || fail 'ten thousand members' "$why"
+where >directory
+asked 'MOST=9' 'group all = all'
+began=$SECONDS
+brings
+says 'ten thousand members' 0 'members '
+holds "come in within a minute: $((SECONDS - began)) s" [ $((SECONDS - began)) -le 60 ]
+stopped
+holds 'all of them' [ "$(grep -c '^all,user1[0-9][0-9][0-9][0-9]$' got)" = 10000 ]
+asked 'MOST=9' 'group all = all' 'group more = all' 'group most = all'
+brings
+unchanged 'more than a room takes' 2 'too many: '
+unit_runs 'the server runs'
+stop_others

@@ -1,0 +1,74 @@
+# A directory: slapd with what a case gives it, at $ldap of 127.0.0.1, and with TLS at $ldaps.
+
+write_slapd() {
+  printf 'include /etc/ldap/schema/%s.schema\n' core cosine inetorgperson nis
+  printf '%s\n' 'modulepath /usr/lib/ldap' 'moduleload back_mdb' 'moduleload memberof' "pidfile $PWD/slapd.pid" \
+    "TLSCACertificateFile $PWD/directory-ca.pem" "TLSCertificateFile $PWD/directory.pem" \
+    "TLSCertificateKeyFile $PWD/directory.key" 'sizelimit size.prtotal=unlimited' 'database mdb' \
+    'maxsize 268435456' 'suffix dc=example,dc=net' 'rootdn cn=root,dc=example,dc=net' 'rootpw root-word' \
+    "directory $PWD/entries" 'index objectClass,uid,cn,memberOf eq' 'overlay memberof' 'memberof-group-oc groupOfNames'
+}
+
+entry() { # DN CLASS LINE ..
+  printf 'dn: %s\nobjectClass: %s\n' "$1" "$2"
+  printf '%s\n' "${@:3}" ''
+}
+person() { # NAME PASSWORD [LINE ..]
+  entry "uid=$1,ou=people,dc=example,dc=net" inetOrgPerson "uid: $1" "cn: $1" 'sn: x' "userPassword: $2" "${@:3}"
+}
+group() { # NAME MEMBER ..: a name of a person, or the DN of a group
+  local one lines=()
+  for one in "${@:2}"; do
+    case $one in *=*) ;; *) one=uid=$one,ou=people,dc=example,dc=net ;; esac
+    lines+=("member: $one")
+  done
+  entry "cn=$1,ou=groups,dc=example,dc=net" groupOfNames "cn: $1" "${lines[@]}"
+}
+group_dn() { printf 'cn=%s,ou=groups,dc=example,dc=net' "$1"; } # NAME
+
+# A certificate for 127.0.0.1, by an authority of its own.
+certify_directory() {
+  openssl req -x509 -newkey ec -pkeyopt ec_paramgen_curve:P-256 -noenc -days 9 -subj /CN=authority \
+    -keyout authority.key -out directory-ca.pem 2>/dev/null &&
+    openssl req -newkey ec -pkeyopt ec_paramgen_curve:P-256 -noenc -subj /CN=directory -keyout directory.key \
+      -out directory.csr 2>/dev/null &&
+    openssl x509 -req -in directory.csr -days 9 -CA directory-ca.pem -CAkey authority.key -CAcreateserial \
+      -extfile <(echo subjectAltName=IP:127.0.0.1) -out directory.pem 2>/dev/null
+}
+
+# Entries on standard input are there from the start. Where it can't, `why` says why.
+load_directory() {
+  { has slapd && has slapadd && has ldapsearch && has openssl; } || { why='no slapd, ldap-utils or openssl'; return 1; }
+  certify_directory || { why='no certificate'; return 1; }
+  mkdir entries
+  write_slapd >slapd.conf
+  { entry dc=example,dc=net dcObject 'objectClass: organization' 'dc: example' 'o: office'
+    entry ou=people,dc=example,dc=net organizationalUnit 'ou: people'
+    entry ou=groups,dc=example,dc=net organizationalUnit 'ou: groups'
+    cat; } >entries.ldif
+  slapadd -q -f slapd.conf -l entries.ldif >said 2>&1 || { why="slapadd fails: $(head -c 300 said)"; return 1; }
+}
+start_directory() {
+  local turn began
+  for turn in {1..20}; do
+    [ -n "${ldap-}" ] || ldap=$((port + 20 + 2 * turn)) ldaps=$((port + 21 + 2 * turn))
+    rm -f slapd.pid
+    slapd -d 0 -f slapd.conf -h "ldap://127.0.0.1:$ldap/ ldaps://127.0.0.1:$ldaps/" >slapd.out 2>&1 &
+    slapd=$!
+    others+=("$slapd")
+    began=$SECONDS
+    until [ -s slapd.pid ] || ! kill -0 "$slapd" 2>/dev/null || [ $((SECONDS - began)) -ge "$patience" ]; do sleep 0.05; done
+    until ldapwhoami -x -H "ldap://127.0.0.1:$ldap" >said 2>&1 || ! kill -0 "$slapd" 2>/dev/null ||
+      [ $((SECONDS - began)) -ge "$patience" ]; do sleep 0.05; done
+    ! kill -0 "$slapd" 2>/dev/null || return 0
+    ldap=
+  done
+  why="slapd doesn't start: $(head -c 300 slapd.out)"
+  return 1
+}
+stop_directory() {
+  kill -CONT "$slapd" 2>/dev/null
+  kill "$slapd" 2>/dev/null
+  wait "$slapd" 2>/dev/null
+}
+as_root_of_directory() { "$1" -x -H "ldap://127.0.0.1:$ldap" -D cn=root,dc=example,dc=net -w root-word "${@:2}" >said 2>&1; }
