@@ -211,6 +211,7 @@ holds 'bob with his own password, soon' awaits "$patience" answers 200 bob:new-w
 
 # A directory that hangs: 503, and nobody else waits. One that is down: 503 too. When it is back, all is well.
 awaits "$patience" answers 200 alice:alice-word /doc/f
+sleep 2 # until zoe's try is let through
 kill -STOP "$slapd"
 curl -s -o /dev/null -m 60 -w '%{http_code}' -u zoe:Zoe-word "$base/doc/f?hangs" >hanging &
 asker=$!
