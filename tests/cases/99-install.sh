@@ -183,12 +183,12 @@ if has openssl; then
   holds 'by this certificate' grep -qxF "ssl_certificate $PWD/one.pem;" machine/etc/nginx/snippets/rooms-tls.conf
   holds 'and this key' grep -qxF "ssl_certificate_key $PWD/one.key;" machine/etc/nginx/snippets/rooms-tls.conf
   tree >before
-  for again in '' '--tls one.pem one.key'; do
+  for words in '' '--tls one.pem one.key'; do
     # shellcheck disable=SC2086
-    installs $again
-    says "TLS again, $again" 0 'nothing to change'
+    installs $words
+    says "TLS again, $words" 0 'nothing to change'
     tree >after
-    same "TLS again, $again: nothing is changed" after before
+    same "TLS again, $words: nothing is changed" after before
   done
   chmod 644 two.key
   installs --tls two.pem two.key
