@@ -28,7 +28,7 @@ pub fn reset<K: Keep>(
     let rest = found.rest;
     let mut chain = found.chain.into_vec();
     match chain.pop() {
-        None => Err(KeepFault::Damaged { id: 0 }),
+        None => unreachable!(),
         Some(node) => {
             let depth = path.names().len().saturating_sub(rest);
             let last = Found { node, depth };

@@ -7,6 +7,7 @@ use Rattle.room_entry.specs.Bytes.{slash}
 use Rattle.room_entry.specs.declared.object.ObjKind.{ObjKind}
 use Rattle.room_rows.specs.declared.node.Node.{Node}
 use Rattle.room_rows.specs.Content.{Content, body_of, children_of, root_of}
+use Rattle.room_rows.specs.Rooted.{HasRoot}
 use Rattle.room_rows.specs.Rows.{Rows, numbers_of}
 use Rattle.room_dump.specs.Lines.{object_text}
 use Rattle.room_dump.specs.Members.{members_text}
@@ -73,9 +74,9 @@ has_bytes content node = is_filled node.kind (body_of content node.id)
 abbrev pub HasAllBytes : Rows → Type 0
 HasAllBytes rows = list_all (has_bytes rows.read) (all_of itself rows) ≡ true
 
--- the text of all objects, of which each document has bytes
+-- The text of all objects: there is a root, and each document has bytes.
 abbrev pub IsDumpText : Rows → List ℕ → Type 0
-IsDumpText rows text = (text ≡ objects_text rows) × HasAllBytes rows
+IsDumpText rows text = (text ≡ objects_text rows) × HasAllBytes rows × HasRoot rows
 
 -- A whole room: all objects, followed by the pairs, which rows have in order of group and then of
 -- user.

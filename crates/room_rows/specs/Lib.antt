@@ -5,6 +5,7 @@ pub mod Held
 pub mod Content
 pub mod Rows
 pub mod Walk
+pub mod Rooted
 pub mod Meaning
 pub mod Keep
 pub mod Along

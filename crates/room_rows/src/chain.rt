@@ -1,8 +1,8 @@
 //! The objects along a path.
-ghost use Rattle.std.specs.Prelude.{◌≡◌, ◌-◌, ◌≤◌, length};
+ghost use Rattle.std.specs.Prelude.{◌≡◌, ◌-◌, ◌<◌, ◌≤◌, IfOk, length};
 ghost use Rattle.room_rows.specs.Calls.{Reads};
 ghost use Rattle.room_rows.specs.Keep.{HasNoRoot};
-ghost use Rattle.room_rows.specs.Walk.{IsWalk};
+ghost use Rattle.room_rows.specs.Rooted.{IsWalkFromRoot};
 
 use crate::keep::{Keep, KeepFault};
 use crate::node::{Nodes, Walk};
@@ -14,9 +14,11 @@ use std::alloc::Global;
 ///
 /// It goes from child to child by the names, as long as there are names and the child is there, and
 /// asks neither for kinds nor for rights. The error is the keeper's, or that memory ran out; where
-/// there is no root it is `Damaged { id: 0 }`.
+/// there is no root it is `Damaged { id: 0 }`, and no walk is answered. So there is an object in
+/// each answer.
 pub fn walk<K: Keep>(alloc: Global, keep: &mut K, path: &Path) -> Result<Walk, KeepFault>
-    ensures read { Reads K.Keep keep.old keep.new result HasNoRoot (IsWalk path.now) }
+    ensures read { Reads K.Keep keep.old keep.new result HasNoRoot (IsWalkFromRoot path.now) }
+    ensures some { IfOk result (λ walk. 0 < length walk.chain) }
 {
     let names = path.names();
     let mut chain = Nodes::new(alloc);

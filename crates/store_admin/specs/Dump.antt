@@ -3,14 +3,16 @@ use Rattle.std.specs.Prelude.{◌≡◌, ℕ, List, ◌++◌, String, string_byt
 use Rattle.std.specs.Global.{Global}
 use Rattle.sqlite.specs.Effect.{Database}
 use Rattle.room_rows.specs.Keep.{IsDamaged}
+use Rattle.room_rows.specs.Rooted.{HasRoot}
 use Rattle.room_dump.specs.Dump.{HasAllBytes, IsDumpText, room_text}
 use Rattle.room_dump.specs.Members.{members_text}
 use Rattle.store_tables.specs.Meaning.{rows_of}
 
--- the text of the room that the tables hold: all objects, of which each document has bytes, and
--- after them all pairs
+-- The text of the room that the tables hold: all objects, and after them all pairs. There is a
+-- root, and each document has bytes.
 abbrev pub IsDump : Database → String Global → Type 0
 IsDump db text = (string_bytes text ≡ room_text (rows_of db)) × HasAllBytes (rows_of db)
+    × HasRoot (rows_of db)
 
 -- some row is damaged
 abbrev pub HasDamagedRow : Database → Type 0

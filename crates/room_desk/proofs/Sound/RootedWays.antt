@@ -1,13 +1,12 @@
 -- What a walk finds is rooted, whatever else the rows say.
 use Rattle.std.proofs.Common.{◌≡◌, ℕ, suc, true, false, List, [], ◌∷◌, ◌++◌, length, Option, Some}
-use Rattle.std.proofs.Common.{None, refl, sym, ap, subst, ◌∙◌, arith, inl, inr}
+use Rattle.std.proofs.Common.{None, refl, sym, ap, subst, ◌∙◌, arith}
 use Rattle.std.specs.Prelude.{◌-◌, option_and_then, slice_get}
 use Rattle.std.specs.Option.{option_map_or}
 use Rattle.std.proofs.lemmas.Option.{same_Some}
 use Rattle.room_rows.specs.declared.node.Node.{Node}
 use Rattle.room_rows.specs.declared.node.Walk.{Walk}
 use Rattle.room_rows.specs.Content.{Content, child_of, node_at, parent_of, reaches_root, root_of}
-use Rattle.room_rows.specs.Keep.{IsDamaged}
 use Rattle.room_rows.specs.Rows.{Rows}
 use Rattle.room_rows.specs.Walk.{behind, walk_from, walk_of}
 use Rattle.room_rows.proofs.Frames.{Rises, child_of-is_there, child_of-parent, root_of-is_there}
@@ -229,26 +228,3 @@ pub stands_last : (rows : Rows) → Rises rows.read
     → node_at rows.read last.id ≡ Some last
 stands_last rows rises path walk front last is chain =
     (last_up rows.read rises path front last (sym (ap (λ (w : Walk). w.chain) is) ∙ chain)).there
-
--- a walk that finds nothing
-pub no_walk : (path : List (List ℕ)) (old : Rows) (walk : Walk) → walk ≡ walk_of old.read path
-    → walk.chain ≡ [] → IsDamaged old 0
-no_walk path old walk is none =
-    on (root_of old.read) refl (sym (ap (λ (w : Walk). w.chain) is) ∙ none)
-  where
-    starts : (rows : Content) (node : Node) (names : List (List ℕ))
-        → (walk_from rows node names).chain ≡ [] → ⊥
-    starts rows node [] none = let wrong : ⊥ = cc in wrong
-    starts rows node (name ∷ names) none = on (child_of rows node.id name) none
-      where
-        on : (o : Option Node)
-            → (option_map_or (λ child. behind node (walk_from rows child names)) o
-            (record { chain = node ∷ []; rest = length (name ∷ names) })).chain ≡ [] → ⊥
-        on None none = let wrong : ⊥ = cc in wrong
-        on (Some child) none = let wrong : ⊥ = cc in wrong
-
-    on : (o : Option Node) → root_of old.read ≡ o
-        → (option_map_or (λ root. walk_from old.read root path) o
-        (record { chain = []; rest = length path })).chain ≡ [] → IsDamaged old 0
-    on None rootless none = inl (inr (refl, rootless))
-    on (Some root) known none = absurd (starts old.read root path none)

@@ -20,7 +20,7 @@ returns-in-None g c =
     record {
       read = damaged k laws a b 0 (read_on k laws a a b found (none_yet k laws a) read)
           (λ t. rootless (k.rows a) c.args.question.now.path found
-          (answer_on k laws a a b found (none_yet k laws a) read t) none);
+          (answer_on k laws a a b found (none_yet k laws a) read t).0 none);
     }
 
 pub returns-in_ok-copy-in-Some : goal.returns-in_ok-copy-in-Some
@@ -37,7 +37,7 @@ returns-in_ok-copy-in-Some g c =
     let chain = sym c.into_vec-above.ensures ∙ c.in-Some.ensures.items in
     let walked = λ (t : k.IsTrusted a b).
     ap walk_with (ap (λ (l : List Node). l ++ c.in-Some.node ∷ []) c.from_vec.ensures ∙ sym chain)
-    ∙ answer_on k laws a a b found (none_yet k laws a) read t in
+    ∙ (answer_on k laws a a b found (none_yet k laws a) read t).0 in
     record {
       read =
           tail k laws a b d c.review_from.result sofar

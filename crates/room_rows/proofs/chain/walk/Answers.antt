@@ -1,14 +1,23 @@
 use Rattle.std.proofs.Common.{◌≡◌, ◌+◌, List, Some, None, sym, ap, subst, ◌∙◌, inl, length, ◌-◌}
-use Rattle.std.proofs.Common.{drop}
+use Rattle.std.proofs.Common.{IfOk, arith, drop, ◌∷◌, ◌++◌, ◌<◌, []}
 use Rattle.room_rows.specs.declared.keep.KeepFault.TheVariants.{Memory}
 use Rattle.room_rows.specs.declared.node.Node.{Node}
+use Rattle.room_rows.specs.declared.node.Walk.{Walk}
 use Rattle.room_rows.specs.Keep.{HasNoRoot, IsRead}
 use Rattle.room_rows.specs.Content.{child_of}
 use Rattle.room_rows.specs.Along.{after_chain}
-use Rattle.room_rows.specs.Walk.{IsWalk, walk_from}
+use Rattle.room_rows.specs.Rooted.{IsWalkFromRoot}
+use Rattle.room_rows.specs.Walk.{walk_from}
 use Rattle.room_rows.proofs.Steps.{handed_on, seen, read_on, answered, gives_up, no_memory}
 use Rattle.room_rows.proofs.Walking.{walk_ends, walk_goes_on}
 use Rattle.room_rows.proofs.chain.walk.Goals as goal
+
+abbrev HasOne : Walk → Type 0
+HasOne walk = 0 < length walk.chain
+
+one_in : (nodes : List Node) (node : Node) → 0 < length (nodes ++ node ∷ [])
+one_in [] node = omega arith
+one_in (x ∷ nodes) node = omega arith
 
 pub returns-in_err-child : goal.returns-in_err-child
 returns-in_err-child g c =
@@ -21,11 +30,12 @@ returns-in_err-child g c =
       read =
           subst
           (λ r. IsRead k.rows k.failures k.writes k.Follows k.IsTrusted c.args.keep.now
-          c.child.new.self r HasNoRoot (IsWalk c.args.path.now)) (sym is)
+          c.child.new.self r HasNoRoot (IsWalkFromRoot c.args.path.now)) (sym is)
           (gives_up k.rows k.failures k.writes k.Follows k.IsTrusted c.args.keep.now
           c.child.new.self _ (λ w at h. inl h)
           (read_on k.rows k.failures k.writes k.Follows k.IsTrusted m.laws c.args.keep.now
           c.names.keep c.child.new.self _ c.names.invariant.read c.in_err-child.ensures.read));
+      some = subst (λ r. IfOk r HasOne) (sym is) tt;
     }
 
 pub returns-in_err-push : goal.returns-in_err-push
@@ -42,9 +52,10 @@ returns-in_err-push g c =
       read =
           subst
           (λ r. IsRead k.rows k.failures k.writes k.Follows k.IsTrusted c.args.keep.now
-          c.child.new.self r HasNoRoot (IsWalk c.args.path.now)) (sym is)
+          c.child.new.self r HasNoRoot (IsWalkFromRoot c.args.path.now)) (sym is)
           (no_memory k.rows k.failures k.writes k.Follows k.IsTrusted c.args.keep.now
           c.child.new.self all);
+      some = subst (λ r. IfOk r HasOne) (sym is) tt;
     }
 
 pub returns-in-None : goal.returns-in-None
@@ -70,13 +81,19 @@ returns-in-None g c =
           ∙ c.in-None.is in
           let ends =
           walk_ends w c.names.node c.names.chain c.names-names.result.now c.names.index
-          c.index-names-index.result c.names-test.true c.index-names-index.is none in
-          c.walked.ensures
-          ∙ ap
-          (λ (l : List Node).
-          record { chain = l; rest = length c.names-names.result.now - c.names.index })
-          c.in_ok-push.ensures.ok
-          ∙ sym ends ∙ c.names.invariant.along before);
+          c.index-names-index.result c.names-test.true c.index-names-index.is none in (
+            c.walked.ensures
+                ∙ ap
+                (λ (l : List Node).
+                record { chain = l; rest = length c.names-names.result.now - c.names.index })
+                c.in_ok-push.ensures.ok
+                ∙ sym ends ∙ c.names.invariant.along before,
+            c.names.invariant.rooted before,
+          ));
+      some =
+          subst HasOne (sym c.walked.ensures)
+          (subst (λ (l : List Node). 0 < length l) (sym c.in_ok-push.ensures.ok)
+          (one_in c.names.chain c.names.node));
     }
 
 pub names-preserved : goal.names-preserved
@@ -90,6 +107,9 @@ names-preserved g c =
       read =
           seen k.rows k.failures k.writes k.Follows k.IsTrusted c.args.keep.now c.child.new.self _
           on;
+      rooted = λ t.
+          c.names.invariant.rooted (m.laws.first c.args.keep.now c.names.keep c.child.new.self
+          c.names.invariant.read.follows c.in_ok-child.ensures.read.follows t);
       along = λ t.
           let before =
           m.laws.first c.args.keep.now c.names.keep c.child.new.self

@@ -1,5 +1,6 @@
 use Rattle.std.proofs.Common.{◌≡◌, drop}
 use Rattle.room_rows.specs.Along.{after_chain}
+use Rattle.room_rows.specs.Rooted.{HasRoot}
 use Rattle.room_rows.specs.Walk.{walk_of, walk_from}
 use Rattle.room_rows.proofs.Steps.{HasRead}
 use Rattle.room_rows.proofs.chain.walk.Given as goal
@@ -10,6 +11,7 @@ invariant-names g l =
     let k = g.K.Keep in
     record {
       read : HasRead k.rows k.failures k.writes k.Follows k.IsTrusted l.fn.keep l.keep;
+      rooted : k.IsTrusted l.fn.keep l.keep → HasRoot (k.rows l.fn.keep);
       along : k.IsTrusted l.fn.keep l.keep
           → after_chain l.chain (walk_from (k.rows l.fn.keep).read l.node (drop l.index l.names))
           ≡ walk_of (k.rows l.fn.keep).read l.path;
