@@ -2,7 +2,12 @@
 use Rattle.std.proofs.Common.{◌≡◌, ◌≤◌, ◌⊎◌, ℕ, ℤ, All, List, [], ◌++◌, length, map, Option, Result}
 use Rattle.std.proofs.Common.{Ok, Err, OnOk, inl, inr, subst, sym}
 use Rattle.std.proofs.lemmas.List.{append-nil}
+use Rattle.sqlite.specs.Effect.{Database}
 use Rattle.sqlite.specs.State.{State, HasCleanDisk}
+use Rattle.room_rows.specs.Rows.{Rows}
+use Rattle.store_tables.specs.Meaning.{rows_of}
+use Rattle.store_tables.specs.Shown.{HasTables}
+use Rattle.room_machine.specs.Desk.{RunsClosed}
 use Rattle.room_machine.specs.declared.desk.Desk.{Ghosts}
 use Rattle.room_machine.specs.Run.{Asking, Event}
 use Rattle.room_machine.proofs.Meeting.{meet}
@@ -12,7 +17,7 @@ use Rattle.room_store.specs.Lasting.{together}
 use Rattle.room_store.specs.Opens.{Opens}
 use Rattle.room_store.proofs.Outlasting.{idle, leaves_whole}
 use Rattle.store_schema.specs.declared.fault.OpenFault.{OpenFault}
-use Rattle.room_store.specs.Kept.{IsShut, IsSound, Keeps}
+use Rattle.room_store.specs.Kept.{IsShut, IsSound, Keeps, Stores}
 use Rattle.cli_serve.specs.Lines.{TellsFaults, TellsFirst, TellsPort}
 use Rattle.cli_serve.specs.Staying.{PassesUntil}
 use Rattle.cli_serve.specs.Visits.{IsEnd, IsServedVisit, Visit, moment_of, requests_of}
@@ -87,6 +92,21 @@ pub opened : (old new : State) (result : Result (Unit {0}) OpenFault) → Opens 
     → Outlasts old [] [] new
 opened old new result opens =
     idle old new opens.leads opens.adopts.crash opens.adopts.was_open
+
+-- the rows stay as they were, sound or not
+opened_stores : (old new : State) (result : Result (Unit {0}) OpenFault) → Opens old new result
+    → HasCleanDisk new → (rows : Rows) → Stores old rows → Stores new rows
+opened_stores old new result opens now rows stored is_open =
+    subst (λ (db : Database). HasTables db × (rows_of db ≡ rows))
+    (sym (opens.adopts.kept now is_open).0) (stored (opens.adopts.was_open now is_open))
+
+-- and what happens to them then, happens from before on
+pub closed_from : (old mid : State) (result : Result (Unit {0}) OpenFault) (events : List Event)
+    (clean : Type 0) (after : Rows → Type 0) → Opens old mid result → (clean → HasCleanDisk mid)
+    → (clean → RunsClosed (Stores mid) events after) → clean
+    → RunsClosed (Stores old) events after
+closed_from old mid result events clean after opens trusted closed now rows stored =
+    closed now rows (opened_stores old mid result opens (trusted now) rows stored)
 
 -- what happens after that
 pub after : (old mid new : State) (asked : List Asking) (events : List Event)

@@ -8,6 +8,8 @@ use Rattle.cli_outcome.specs.Written.{WritesSome}
 use Rattle.room_machine.specs.declared.desk.Desk.{Ghosts}
 use Rattle.room_machine.specs.Desk.{Agrees, DeskLaws}
 use Rattle.room_rows.specs.Content.{Content}
+use Rattle.room_rows.specs.Rows.{Rows}
+use Rattle.room_machine.proofs.Meeting.{closed_still}
 use Rattle.room_http.specs.Stream.{DeskRuns}
 use Rattle.cli_serve.specs.Lines.{TellsEach, Writing, listening_line}
 use Rattle.cli_serve.specs.Staying.{Passes, PassesEach, PassesUntil, Served, ServedAt, TellsShut}
@@ -34,12 +36,14 @@ module _ {D : Type 0} (d : Ghosts D) (laws : DeskLaws d.Outlasts) where
   -- asking leaves what is kept
   pub rests : (old new : D) → (d.trusted new → d.trusted old)
       → (d.trusted new → (room : Content) → d.content old room → d.content new room)
-      → (d.trusted new → d.sound old → d.sound new) → d.Outlasts old [] [] new
-      → DeskRuns d old [] [] new
-  rests old new trusted kept sound outlasts = record {
+      → (d.trusted new → d.sound old → d.sound new)
+      → (d.trusted new → (rows : Rows) → d.stored old rows → d.stored new rows)
+      → d.Outlasts old [] [] new → DeskRuns d old [] [] new
+  rests old new trusted kept sound held outlasts = record {
     trusted = trusted;
     sound = sound;
     run = λ t s room is. (room, refl, kept t room is);
+    closed = λ t. closed_still (d.stored old) (d.stored new) (held t);
     outlasts = outlasts;
   }
 

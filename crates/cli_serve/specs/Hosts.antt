@@ -10,9 +10,10 @@ use Rattle.cli_outcome.specs.declared.no_room.NoRoom.{NoRoom}
 use Rattle.cli_outcome.specs.declared.status.Status.{Status}
 use Rattle.store_schema.specs.declared.fault.OpenFault.{OpenFault}
 use Rattle.room_rows.specs.Content.{Content}
+use Rattle.room_machine.specs.Desk.{RunsClosed}
 use Rattle.room_machine.specs.Run.{Run}
 use Rattle.room_store.specs.Crash.{Lasts, Leaves, Outlasts}
-use Rattle.room_store.specs.Kept.{IsShut, IsSound, Keeps}
+use Rattle.room_store.specs.Kept.{IsShut, IsSound, Keeps, Stores}
 use Rattle.room_store.specs.Leads.{Leads}
 use Rattle.room_store.specs.Opens.{Opens}
 use Rattle.cli_serve.specs.Lines.{TellsFaults, TellsFirst, TellsPort}
@@ -118,7 +119,8 @@ pub record ServesRoom (port count : ℕ) (told told' : List ℤ → Type 0) (old
 
 module _ {S : Type 0} (shown : Held S → State) where
   -- The room was opened, this port of this machine alone was asked for, and it served. From before
-  -- it was opened on, a power cut leaves what was answered.
+  -- it was opened on, and however damaged it was, each request was judged by the lists that the rows
+  -- stored then, and nothing else changed these rows. A power cut leaves what was answered.
   pub record IsHosted (port count : ℕ) (asked asked' : List Place → Type 0)
       (told told' : List ℤ → Type 0) (old new : Held S) (out out' err err' : Option (List ℕ))
       (status : ℕ) : Type 0 where
@@ -127,6 +129,8 @@ module _ {S : Type 0} (shown : Held S → State) where
     pub asked_one : AsksFor asked asked' (local_place port ∷ [])
     pub served : ServesRoom port count told told' (shown mid) (shown new) out out' err err'
         status
+    pub closed : HasCleanDisk (shown new)
+        → RunsClosed (Stores (shown old)) (requests_of served.visits) (Stores (shown new))
     pub outlasts : Outlasts (shown old) (unanswered_of served.visits)
         (requests_of served.visits) (shown new)
     pub leaves : LeavesRequests (shown old) served.visits (shown new)

@@ -7,7 +7,7 @@ use Rattle.room_machine.specs.declared.desk.Desk.{Ghosts}
 use Rattle.room_machine.specs.Desk.{DeskLaws}
 use Rattle.room_machine.specs.Run.{Asking, Event}
 use Rattle.room_http.specs.Stream.{DeskRuns, Exchange, event_at, events_by, Runs}
-use Rattle.room_machine.proofs.Meeting.{meet}
+use Rattle.room_machine.proofs.Meeting.{closed_meet, closed_still, meet}
 
 Runs-then : (old mid new : Content → Type 0) (events others : List Event)
     → Runs old events mid → Runs mid others new → Runs old (events ++ others) new
@@ -22,6 +22,7 @@ module _ {D : Type 0} (d : Ghosts D) (laws : DeskLaws d.Outlasts) where
     trusted = λ t. t;
     sound = λ t s. s;
     run = λ t s room is. (room, refl, is);
+    closed = λ t. closed_still (d.stored desk) (d.stored desk) (λ rows stored. stored);
     outlasts = laws.itself desk;
   }
 
@@ -35,6 +36,9 @@ module _ {D : Type 0} (d : Ghosts D) (laws : DeskLaws d.Outlasts) where
       run = λ t s.
           Runs-then (d.content old) (d.content mid) (d.content new) events others
           (first.run (then.trusted t) s) (then.run t (first.sound (then.trusted t) s));
+      closed = λ t.
+          closed_meet (d.stored old) (d.stored mid) (d.stored new) events others
+          (first.closed (then.trusted t)) (then.closed t);
       outlasts = laws.on old mid new asked later events others first.outlasts then.outlasts;
     }
 

@@ -3,6 +3,7 @@ use Rattle.std.specs.Prelude.{◌≡◌, ℕ, ℤ, ◌+◌, ◌<◌, Bool, true,
 use Rattle.std.specs.Prelude.{◌++◌, length, Option, Some, None, Ok, Err, All, ⊤}
 use Rattle.std.specs.List.{flat_map}
 use Rattle.room_rows.specs.Content.{Content}
+use Rattle.room_machine.specs.Desk.{RunsClosed}
 use Rattle.room_machine.specs.declared.desk.Desk.{Ghosts}
 use Rattle.room_machine.specs.declared.reply.Reply.{Reply}
 use Rattle.room_machine.specs.Run.{Asking, Event, Run}
@@ -65,13 +66,15 @@ Runs old events new =
     (room : Content) → old room → (next : Content) × Run room events next × new next
 
 -- What a desk did from one state to a later one: a run over these events, if it was sound before and
--- is trusted afterwards. Of any desk it is said what outlasts them, and what was asked for and got no
--- answer.
+-- is trusted afterwards. Sound or not, each of them was judged by the lists that its rows stored
+-- then, and nothing else changed these rows. Of any desk it is said what outlasts the events, and
+-- what was asked for and got no answer.
 pub record DeskRuns {D : Type 0} (d : Ghosts D) (old : D) (asked : List Asking)
     (events : List Event) (new : D) : Type 0 where
   pub trusted : d.trusted new → d.trusted old
   pub sound : d.trusted new → d.sound old → d.sound new
   pub run : d.trusted new → d.sound old → Runs (d.content old) events (d.content new)
+  pub closed : d.trusted new → RunsClosed (d.stored old) events (d.stored new)
   pub outlasts : d.Outlasts old asked events new
 
 -- ---- the end

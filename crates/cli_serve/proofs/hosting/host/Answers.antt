@@ -3,7 +3,8 @@ use Rattle.sqlite.specs.Held.{Held, state}
 use Rattle.room_store.specs.Crash.{Lasts}
 use Rattle.cli_serve.specs.Hosts.{Hosts}
 use Rattle.cli_serve.specs.Visits.{requests_of, unanswered_of}
-use Rattle.cli_serve.proofs.Hosted.{after, asks_none, leaves_requests, left_shut, opened, served}
+use Rattle.cli_serve.proofs.Hosted.{after, asks_none, closed_from, leaves_requests, left_shut}
+use Rattle.cli_serve.proofs.Hosted.{opened, served}
 use Rattle.cli_serve.proofs.hosting.host.Goals as goal
 
 pub returns : goal.returns
@@ -13,10 +14,9 @@ returns g c =
     let service = c.args.service.now in
     let old = shown c.args.conn in
     let mid = shown c.in-Ok.store.conn in
-    let new = shown c.serve_at-end.new.desk.conn in
     let at = c.serve_at-end.ensures.served in
     let r = at.served.receives in
-    let all = after old mid new (unanswered_of r.visits) (requests_of r.visits)
+    let all = after old mid _ (unanswered_of r.visits) (requests_of r.visits)
     (opened old mid _ c.in-Ok.ensures.opened) r.did.outlasts in
     subst (λ (conn : Held g.row.S.Denot). Hosts shown service.port service.count
     (g.P.Ports.asked service.ports) (g.P.Ports.asked c.serve_at-end.new.service.ports)
@@ -30,16 +30,19 @@ returns g c =
       opens = c.in-Ok.ensures.opened;
       asked_one = c.serve_at-end.ensures.asked;
       served =
-          served service.port service.count _ _ mid new _ _ _ _ _ c.tell_end-status.result r.visits
+          served service.port service.count _ _ mid _ _ _ _ _ _ c.tell_end-status.result r.visits
           c.serve_at-end.result r.few r.each r.moments r.did.trusted r.did.sound r.did.run at.served.end_says
-          (left_shut _ _ c.in-Ok.store c.serve_at-end.new.desk new (λ is. is)
+          (left_shut _ _ c.in-Ok.store c.serve_at-end.new.desk _ (λ is. is)
           c.serve_at-end.result at.served.stays)
           c.tell_end-status.ensures.status c.serve_at-end.ensures.told at.first at.served.faults
           c.tell_end-status.ensures.told c.what_is_seen_lasts.ensures
           (subst (λ (conn : Held g.row.S.Denot). Lasts (shown conn)) c.into_conn.ensures.same
           c.into_conn.ensures.lasts) r.did.outlasts;
+      closed =
+          closed_from old mid _ (requests_of r.visits) _ _ c.in-Ok.ensures.opened r.did.trusted
+          r.did.closed;
       outlasts = all;
-      leaves = leaves_requests old new r.visits all c.what_is_committed_lasts.ensures;
+      leaves = leaves_requests old _ r.visits all c.what_is_committed_lasts.ensures;
     }))
 
 pub returns-in-Err : goal.returns-in-Err

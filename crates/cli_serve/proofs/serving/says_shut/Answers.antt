@@ -5,7 +5,8 @@ use Rattle.cli_serve.proofs.serving.says_shut.Goals as goal
 pub returns-in-Ok-clause-rests : goal.returns-in-Ok-clause-rests
 returns-in-Ok-clause-rests g c =
     rests g.D.Desk g.met.D.Desk.laws c.args.desk.now c.is_shut.new.self c.is_shut.ensures.trusted
-    c.is_shut.ensures.kept c.is_shut.ensures.sound c.is_shut.ensures.outlasts
+    c.is_shut.ensures.kept c.is_shut.ensures.sound c.is_shut.ensures.held
+    c.is_shut.ensures.outlasts
 
 pub returns-in-Ok-clause-tells : goal.returns-in-Ok-clause-tells
 returns-in-Ok-clause-tells g c =
@@ -15,7 +16,8 @@ returns-in-Ok-clause-tells g c =
 pub returns-in-Err-clause-rests : goal.returns-in-Err-clause-rests
 returns-in-Err-clause-rests g c =
     rests g.D.Desk g.met.D.Desk.laws c.args.desk.now c.is_shut.new.self c.is_shut.ensures.trusted
-    c.is_shut.ensures.kept c.is_shut.ensures.sound c.is_shut.ensures.outlasts
+    c.is_shut.ensures.kept c.is_shut.ensures.sound c.is_shut.ensures.held
+    c.is_shut.ensures.outlasts
 
 pub returns-in-Err-clause-tells : goal.returns-in-Err-clause-tells
 returns-in-Err-clause-tells g c = inr c.in-Err.ensures.faults

@@ -1,7 +1,7 @@
-use Rattle.std.proofs.Common.{subst, rules, w64, ℤ, SFits}
+use Rattle.std.proofs.Common.{refl, subst, rules, w64, ℤ, SFits}
 use Rattle.std.proofs.lemmas.Int.{to_z-of_z}
 use Rattle.cli_serve.specs.Visits.{Attends}
-use Rattle.cli_serve.proofs.Receiving.{exactly_one, lost}
+use Rattle.cli_serve.proofs.Receiving.{exactly_one, lost, nobody}
 use Rattle.cli_serve.proofs.serving.serve_next.Goals as goal
 
 pub returns-in-Ok-Some-clause-received : goal.returns-in-Ok-Some-clause-received
@@ -28,4 +28,11 @@ pub returns-in-Ok-None-clause-attends : goal.returns-in-Ok-None-clause-attends
 returns-in-Ok-None-clause-attends g c = (
   c.next-in-Ok-None.result,
   lost g.D.Desk g.met.D.Desk.laws c.next-in-Ok-None.result c.args.desk.now,
+)
+
+pub returns-in-Err-clause-fault : goal.returns-in-Err-clause-fault
+returns-in-Err-clause-fault g c = (
+  c.in-Err.ensures,
+  refl,
+  nobody g.D.Desk g.met.D.Desk.laws 0 (g.M.Moments.told c.args.clock.now) c.args.desk.now,
 )

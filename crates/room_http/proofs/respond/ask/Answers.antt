@@ -1,9 +1,10 @@
 use Rattle.std.proofs.Common.{refl, rules, subst, w64, ℤ, [], ◌∷◌, Ok, SFits}
 use Rattle.std.proofs.lemmas.Int.{to_z-of_z}
 use Rattle.std.specs.Option.{option_copied}
-use Rattle.room_machine.specs.Desk.{Steps}
+use Rattle.room_machine.specs.Desk.{Closes, Steps}
 use Rattle.room_machine.specs.Run.{Asked, event_of, unanswered}
 use Rattle.room_machine.specs.declared.desk.DeskFault.{DeskFault}
+use Rattle.room_machine.proofs.Meeting.{closed_once, closed_still}
 use Rattle.room_http.proofs.Telling.{responds-by, rose}
 use Rattle.room_http.proofs.respond.ask.Goals as goal
 
@@ -28,6 +29,11 @@ returns-in-Ok g c =
             let one = subst (λ (z : ℤ). Steps {E = DeskFault} (d.content old) user z request
             (Ok reply) (d.content new)) real (c.in-Ok.ensures.step t s) room is in
             (one.0, (one.0, one.1, refl), one.2);
+        closed = λ t.
+            closed_once {E = DeskFault} (d.stored old) (d.stored new) user
+            c.args.call.now.moment request (Ok reply)
+            (subst (λ (z : ℤ). Closes {E = DeskFault} (d.stored old) user z request
+            (Ok reply) (d.stored new)) real (c.in-Ok.ensures.closed t));
         outlasts =
             subst (λ (z : ℤ). d.Outlasts old
             (unanswered {E = DeskFault} (Ok reply) (Asked user z request))
@@ -52,6 +58,7 @@ returns-in-Err g c =
         trusted = c.in-Err.ensures.trusted;
         sound = c.in-Err.ensures.sound;
         run = λ t s room is. (room, refl, c.in-Err.ensures.step t s room is);
+        closed = λ t. closed_still (d.stored old) (d.stored new) (c.in-Err.ensures.closed t);
         outlasts =
             subst (λ (z : ℤ). d.Outlasts old
             (Asked user z request ∷ []) [] new) real
