@@ -23,7 +23,7 @@ use Rattle.room_review.specs.declared.standing.Standing.{Standing}
 use Rattle.room_review.specs.declared.telling.Asked.{Asked}
 use Rattle.room_review.specs.declared.telling.Waiting.{Waiting}
 use Rattle.room_review.specs.Standing.{standings}
-use Rattle.room_review.specs.Table.{IsReview, IsReviewAt, IsTable, Place, header, rows_of, site_of}
+use Rattle.room_review.specs.Table.{IsReview, IsReviewAt, IsTable, Place, header, object_rows, site_of}
 use Rattle.room_review.specs.Table.{table_rows, users_of}
 use Rattle.room_review.specs.Telling.{GathersAll, GivesReview, IsLostAt, Starts, TellsAll, Under}
 use Rattle.room_review.specs.Telling.{WaitsBelow, children_under, ended_at, parent_path, place_at}
@@ -92,13 +92,13 @@ pub table_told : (asked : Asked) (rows : Rows) (most : ℕ) (start : Start) (sit
     (waiting : List Waiting) (before text more : List ℕ)
     → WaitsBelow asked most (place_at start sites) start.node waiting rows
     → text ≡ before
-    ++ rows_text (rows_of true asked.parties.items (place_at start sites) start.node)
+    ++ rows_text (object_rows true asked.parties.items (place_at start sites) start.node)
     → TellsAll asked most waiting text more rows tt
     → more ≡ before
     ++ rows_text (table_rows rows asked.all asked.parties.items (place_at start sites) start.node)
 table_told asked rows most start sites waiting before text more below first rest =
     rows_on before text more
-    (rows_of true asked.parties.items (place_at start sites) start.node) _ first
+    (object_rows true asked.parties.items (place_at start sites) start.node) _ first
     (rest (place_at start sites) start.node below)
 
 -- under the header

@@ -17,7 +17,7 @@ use Rattle.room_entry.proofs.Facts.Members.{count}
 use Rattle.room_review.specs.declared.parties.Party.{Party}
 use Rattle.room_review.specs.declared.telling.Asked.{Asked}
 use Rattle.room_review.specs.declared.telling.Waiting.{Waiting}
-use Rattle.room_review.specs.Table.{Place, place_below, rows_of}
+use Rattle.room_review.specs.Table.{Place, place_below, object_rows}
 use Rattle.room_review.specs.Telling.{TellsOne, Under, WaitsBelow, below_rows, children_under}
 use Rattle.room_review.specs.Telling.{place_under, rows_under, under, waiting_at}
 use Rattle.room_review.proofs.Starting.{starts_reached}
@@ -25,7 +25,7 @@ use Rattle.room_review.proofs.Starting.{starts_reached}
 -- the rows of an object that waits and of all below it, no deeper than the number says
 abbrev tale : Asked → ℕ → Content → Under → List (List (List ℕ))
 tale asked depth content it =
-    tree_of place_below (rows_of asked.all asked.parties.items) depth content (place_under it) it.node
+    tree_of place_below (object_rows asked.all asked.parties.items) depth content (place_under it) it.node
 
 abbrev nodes_of : List Under → List Node
 nodes_of its = map (λ (it : Under). it.node) its
@@ -165,7 +165,7 @@ tells_next asked rows are waits after object most turn before text more whole t 
           told_on (tale asked most content) front it (under (place_under it) it.node) children t.met
           (rows_under asked it) whole
           (goes_down content there (nodes_of front) it.node most turn r place_below
-          (rows_of asked.all parties) (place_under it))
+          (object_rows asked.all parties) (place_under it))
           (ap (λ (l : List Under). t.met ++ texts (tale asked most content) l) (sym last.its_are)
           ∙ t.meets);
       told = rows_on before text more t.met (rows_under asked it) t.told told.0;

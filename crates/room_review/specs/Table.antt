@@ -86,15 +86,15 @@ place_below place node child = record {
 abbrev pub place_of : List Site → Site → Place
 place_of above target = record { path = target.path; above = above }
 
-abbrev pub rows_of : Bool → List Party → Place → Node → List (List (List ℕ))
-rows_of all parties place node = rows_at all parties place.above (site_of place node)
+abbrev pub object_rows : Bool → List Party → Place → Node → List (List (List ℕ))
+object_rows all parties place node = rows_at all parties place.above (site_of place node)
 
 -- The rows of an object, each of which stands, and then those of all below it: a folder before its
 -- children, and these in order of name. No object is deeper than there are rows of the keeper.
 abbrev pub table_rows : Rows → Bool → List Party → Place → Node → List (List (List ℕ))
 table_rows rows all parties place node =
-    rows_of true parties place node
-    ++ flat_map (λ child. tree_of place_below (rows_of all parties) (length (numbers_of rows))
+    object_rows true parties place node
+    ++ flat_map (λ child. tree_of place_below (object_rows all parties) (length (numbers_of rows))
     rows.read (place_below place node child) child) (children_of rows.read node.id)
 
 abbrev pub table_text : Rows → Bool → List Party → Place → Node → List ℕ

@@ -25,7 +25,7 @@ use Rattle.room_review.specs.declared.standing.Standing.{Standing}
 use Rattle.room_review.specs.declared.telling.Asked.{Asked}
 use Rattle.room_review.specs.declared.telling.Waiting.{Waiting}
 use Rattle.room_review.specs.Standing.{standings}
-use Rattle.room_review.specs.Table.{AreAsked, IsReview, IsTable, Place, place_below, rows_of}
+use Rattle.room_review.specs.Table.{AreAsked, IsReview, IsTable, Place, place_below, object_rows}
 use Rattle.room_review.specs.Table.{site_of, table_rows}
 use Rattle.room_review.specs.Table.{table_text, users_below, users_of}
 use Rattle.room_review.specs.Users.{Gathers, users_at}
@@ -98,7 +98,7 @@ children_under place node children = map (under place node) (reverse children)
 
 -- the rows of an object that stands under a folder
 abbrev pub rows_under : Asked → Under → List (List (List ℕ))
-rows_under asked it = rows_of asked.all asked.parties.items (place_under it) it.node
+rows_under asked it = object_rows asked.all asked.parties.items (place_under it) it.node
 
 -- the rows of an object that waits, and its children wait
 abbrev pub TellsOne : Asked → Waiting → List Waiting → List Waiting → List ℕ → List ℕ → Rows
@@ -112,7 +112,7 @@ TellsOne asked object before after text more rows answer =
 -- the rows of all below an object
 abbrev pub below_rows : Asked → Rows → Place → Node → List (List (List ℕ))
 below_rows asked rows place node =
-    flat_map (λ child. tree_of place_below (rows_of asked.all asked.parties.items)
+    flat_map (λ child. tree_of place_below (object_rows asked.all asked.parties.items)
     (length (numbers_of rows)) rows.read (place_below place node child) child)
     (children_of rows.read node.id)
 
