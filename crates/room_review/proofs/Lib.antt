@@ -18,3 +18,9 @@ pub mod Named
 pub mod Said
 pub mod Others
 pub mod Starred
+pub mod Fronts
+pub mod Lookups
+pub mod Labels
+pub mod Below
+pub mod ReadAs
+pub mod Whole

@@ -96,6 +96,16 @@ put_apart (first ∷ names) (suc place) name order behind ahead =
         and_from (is_before first next) (are_apart (insert (next ∷ names) (suc place) name))
         (and_parts (is_before first next) (are_apart (next ∷ names)) order).0 rest
 
+-- a name that is put among names
+pub all_put : (names : List (List ℕ)) (place : ℕ) (name : List ℕ) → list_all is_name names ≡ true
+    → is_name name ≡ true → list_all is_name (insert names place name) ≡ true
+all_put names zero name all is = and_from (is_name name) (list_all is_name names) is all
+all_put [] (suc place) name all is = and_from (is_name name) true is refl
+all_put (first ∷ names) (suc place) name all is =
+    let parts = and_parts (is_name first) (list_all is_name names) all in
+    and_from (is_name first) (list_all is_name (insert names place name)) parts.0
+    (all_put names place name parts.1 is)
+
 module _ (names : List (List ℕ)) (name : List ℕ) where
   -- the names before a place come before the name
   abbrev pub AreBefore : ℕ → Type 0

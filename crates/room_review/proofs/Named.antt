@@ -1,4 +1,4 @@
--- In sound rows a child is found by its name.
+-- In sound rows a child is found by its name, which is an object name.
 use Rattle.std.proofs.Common.{◌≡◌, ℕ, ◌==◌, ◌&&◌, ◌||◌, Bool, true, false, cond, not, List, [], ◌∷◌}
 use Rattle.std.proofs.Common.{◌<◌, ◌≤◌, ◌⊎◌, filter, Option, Some, None, nat_lt, inl, inr, refl}
 use Rattle.std.proofs.Common.{sym}
@@ -162,3 +162,21 @@ module _ (rows : Rows) (are : AreRows rows) (parts : SoundParts rows) (id : ℕ)
       each_filter (IsNamed content id) (has_parent id) content.nodes
       (each_weaker (IsThere content) (λ n. has_parent id n ≡ true → IsNamed content id n)
       (λ n there is. by_name n there is) content.nodes (all_there rows are))
+
+  object_name : (child : Node) → IsThere content child → has_parent id child ≡ true
+      → is_object_name child.name ≡ true
+  object_name child there is =
+      let earlier = λ (other : Node). nat_lt other.id child.id && same_place other child in
+      (and_parts (is_object_name child.name) (not (list_any earlier content.nodes))
+      (ap (λ b. b || (is_object_name child.name && not (list_any earlier content.nodes)))
+      (sym (no_root id child is)) ∙ is_sound (λ n. n.id == child.id) child there)).0
+
+  pub all_kids : Each (λ child. IsNamed content id child × (is_object_name child.name ≡ true))
+      (filter (has_parent id) content.nodes)
+  all_kids =
+      let IsKid : Node → Type 0 =
+      λ child. IsNamed content id child × (is_object_name child.name ≡ true) in
+      each_filter IsKid (has_parent id) content.nodes
+      (each_weaker (IsThere content) (λ n. has_parent id n ≡ true → IsKid n)
+      (λ n there is. (by_name n there is, object_name n there is)) content.nodes
+      (all_there rows are))

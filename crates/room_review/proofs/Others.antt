@@ -242,11 +242,11 @@ module _ (name : List ℕ) where
 -- ---- the paths of a table
 
 -- the path of an object goes on from another one, by fewer names than the number says
-abbrev GoesOn : ℕ → List (List ℕ) → Place × Node → Type 0
+abbrev pub GoesOn : ℕ → List (List ℕ) → Place × Node → Type 0
 GoesOn depth path it =
     (names : List (List ℕ)) × ((it.0.path ≡ path ++ names) × (length names < depth))
 
-all_go_on : (content : Content) (depth : ℕ) (place : Place) (node : Node)
+pub all_go_on : (content : Content) (depth : ℕ) (place : Place) (node : Node)
     → Each (GoesOn depth place.path)
     (tree_of place_below (λ p n. (p, n) ∷ []) depth content place node)
 all_go_on content zero place node = tt

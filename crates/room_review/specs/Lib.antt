@@ -3,4 +3,5 @@ pub mod Standing
 pub mod Table
 pub mod Lines
 pub mod Telling
+pub mod LookedUp
 pub mod Laws

@@ -1,6 +1,7 @@
 -- The names that a review has rows of (own).
 use Rattle.std.specs.Prelude.{◌≡◌, ℕ, ◌&&◌, ◌||◌, Bool, true, List, [], ◌∷◌, IsTrue}
-use Rattle.std.specs.List.{flat_map, list_any}
+use Rattle.std.specs.List.{flat_map, list_all, list_any}
+use Rattle.room_entry.specs.Names.{is_name}
 use Rattle.room_entry.specs.Pieces.{same_text}
 use Rattle.room_entry.specs.declared.entry.Who.{Who}
 use Rattle.room_entry.specs.declared.entry.Who.TheVariants.{User}
@@ -31,7 +32,9 @@ abbrev pub Gathers : List (List ℕ) → List (List ℕ) → List (List ℕ) →
 Gathers old more new =
     (name : List ℕ) → is_listed name new ≡ is_listed name old || is_listed name more
 
--- These users are the names, in order of their bytes, each once.
+-- These users are the names, in order of their bytes, each once. Each is a user's name, so none is
+-- called as one of the special names or `*`.
 pub record AreUsers (names users : List (List ℕ)) : Type 0 where
   pub apart : IsTrue (are_apart users)
+  pub valid : IsTrue (list_all is_name users)
   pub same : (name : List ℕ) → is_listed name users ≡ is_listed name names

@@ -2,6 +2,7 @@
 ghost use Rattle.room_review.specs.Laws.{OthersAreStrangers, SaysCan, SaysRemove};
 ghost use Rattle.room_review.specs.Laws.{StarSpeaksForOthers, StrangersAlike};
 ghost use Rattle.room_review.specs.Laws.{StrangersGetTheSame, TableSaysRights};
+ghost use Rattle.room_review.specs.LookedUp.{TableIsTheRoom};
 
 /// The rights of a row are exactly those that `Can` answers as allowed.
 pub fn says_can()
@@ -36,4 +37,10 @@ pub fn others_are_strangers()
 /// A table says of `*` at each object what it would say of every name without rows.
 pub fn star_speaks_for_others()
     ensures { StarSpeaksForOthers }
+{}
+
+/// What is looked up in a table is what the room allows: no object is missing, no caller, and no
+/// row that says something else than the one above.
+pub fn table_is_the_room()
+    ensures { TableIsTheRoom }
 {}

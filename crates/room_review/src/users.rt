@@ -1,7 +1,8 @@
 //! The names that a review has rows of.
 ghost use Rattle.std.specs.Prelude.{◌≡◌, ◌≤◌, [], ◌∷◌, IfOk, IsTrue, MatchOption, OnOk, decimal};
 ghost use Rattle.std.specs.Prelude.{false, length, map, true};
-ghost use Rattle.std.specs.List.{flat_map, insert};
+ghost use Rattle.std.specs.List.{flat_map, insert, list_all};
+ghost use Rattle.room_entry.specs.Names.{is_name};
 ghost use Rattle.room_review.specs.Users.{Gathers, are_apart, is_listed, user_in, users_at};
 
 use room_ace::{Entry, Failure, Name, Who, read_name};
@@ -18,13 +19,16 @@ pub(crate) struct Users {
 
 impl Model for Users {
     ghost use Rattle.std.specs.Prelude.{List, ℕ, IsTrue};
+    ghost use Rattle.std.specs.List.{list_all};
+    ghost use Rattle.room_entry.specs.Names.{is_name};
     ghost use Rattle.room_review.specs.Users.{are_apart};
 
     ghost Value = { List (List ℕ) };
 
     ghost view = { λ u. u.items.items };
 
-    ghost invariant = { λ u. IsTrue (are_apart u.items.items) };
+    ghost invariant = { λ u.
+        IsTrue (are_apart u.items.items) × IsTrue (list_all is_name u.items.items) };
 }
 
 impl Users {
@@ -37,9 +41,10 @@ impl Users {
         }
     }
 
-    /// Tells a proof that the names rise.
+    /// Tells a proof that the names rise, and that each is one.
     pub(crate) fn is_known(&self)
-        ensures { IsTrue (are_apart self.now) }
+        ensures apart { IsTrue (are_apart self.now) }
+        ensures valid { IsTrue (list_all is_name self.now) }
     {
         let _items = &self.items;
     }
@@ -106,10 +111,13 @@ impl Users {
 //
 // Names are compared one by one: each of them costs a table far more than a step to its place.
 fn place_for(names: &[Name], name: &Name) -> Option<usize>
-    requires { IsTrue (are_apart names.now) }
+    requires apart { IsTrue (are_apart names.now) }
+    requires valid { IsTrue (list_all is_name names.now) }
     ensures { MatchOption result (is_listed name.now names.now ≡ true) (λ place.
-        (place ≤ length names.now) × IsTrue (are_apart (insert names.now place name.now))) }
+        (place ≤ length names.now) × IsTrue (are_apart (insert names.now place name.now))
+        × IsTrue (list_all is_name (insert names.now place name.now))) }
 {
+    name.is_known();
     for (place, other) in names.iter().enumerate() {
         match other.as_str().cmp(name.as_str()) {
             Ordering::Less => {}

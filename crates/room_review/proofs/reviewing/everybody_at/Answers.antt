@@ -20,7 +20,8 @@ returns g c =
           record {
             users = c.in_ok-users.users;
             are = record {
-              apart = c.is_known.ensures;
+              apart = c.is_known.ensures.apart;
+              valid = c.is_known.ensures.valid;
               same = answer_on k laws a a b c.in_ok-users.users (none_yet k laws a) read trusted
                   sites starts;
             };

@@ -1,6 +1,6 @@
-use Rattle.std.proofs.Common.{arith, nat_cmp, sym, ◌∙◌}
+use Rattle.std.proofs.Common.{arith, length, nat_cmp, sym, ◌∙◌}
 use Rattle.std.specs.Cmp.Lexicographic.{slice_cmp}
-use Rattle.room_review.proofs.Listed.{found_there, place_here, place_last}
+use Rattle.room_review.proofs.Listed.{all_put, found_there, place_here, place_last}
 use Rattle.room_review.proofs.users.place_for.Goals as goal
 
 pub returns-in-Equal : goal.returns-in-Equal
@@ -18,12 +18,15 @@ returns-in-Greater c = (
       c.loop-place-test.true c.index-names-place.is
       (sym (c.cmp.ensures
       ∙ (λ i. slice_cmp nat_cmp (c.as_str.ensures i) (c.as_str-in-loop-place.ensures i)))
-      ∙ c.in-Greater.is) c.requires c.loop-place.invariant,
+      ∙ c.in-Greater.is) c.requires.apart c.loop-place.invariant,
+  all_put c.args.names.now c.loop-place.place c.args.name.now c.requires.valid c.is_known.ensures,
 )
 
 pub returns : goal.returns
 returns c = (
   omega arith,
-  place_last c.args.names.now c.args.name.now c.loop-place.place c.loop-place-test.false c.requires
-      c.loop-place.invariant,
+  place_last c.args.names.now c.args.name.now c.loop-place.place c.loop-place-test.false
+      c.requires.apart c.loop-place.invariant,
+  all_put c.args.names.now (length c.args.names.now) c.args.name.now c.requires.valid
+      c.is_known.ensures,
 )

@@ -1,0 +1,104 @@
+-- Texts of paths that part: one that goes on, and two that go on by different names.
+use Rattle.std.proofs.Common.{◌≡◌, ℕ, ◌<◌, ◌&&◌, true, false, not, List, [], ◌∷◌}
+use Rattle.std.proofs.Common.{◌++◌, length, codes, refl, sym, ap, ◌∙◌, arith, nat_lt, nat_le}
+use Rattle.std.proofs.Common.{length-append}
+use Rattle.std.specs.List.{flat_map, list_all}
+use Rattle.std.proofs.lemmas.Bool.{and_parts, false≢true, false_from_ne_true, ltb-true}
+use Rattle.std.proofs.lemmas.Grind.{flat_map-append}
+use Rattle.std.proofs.lemmas.List.{append_cancel_left}
+use Rattle.room_entry.specs.Pieces.{same_text}
+use Rattle.room_entry.specs.Utf8.{is_utf8}
+use Rattle.room_entry.proofs.Alike.{text_itself}
+use Rattle.room_entry.proofs.Texts.{same_text-true}
+use Rattle.room_rows.specs.Paths.{is_name_byte, is_object_name, path_text}
+
+-- ---- object names
+
+-- it has bytes, and each is one that a name may have
+name_parts : (name : List ℕ) → is_object_name name ≡ true
+    → (0 < length name) × (list_all is_name_byte name ≡ true)
+name_parts name is =
+    let some = nat_lt 0 (length name) in
+    let short = nat_le (length name) 255 in
+    let bytes = some && short && list_all is_name_byte name in
+    let no_dot = not (same_text name (codes ".")) in
+    let no_dots = not (same_text name (codes "..")) in
+    let first = and_parts (some && short) (list_all is_name_byte name)
+    (and_parts bytes no_dot
+    (and_parts (bytes && no_dot) no_dots
+    (and_parts (bytes && no_dot && no_dots) (is_utf8 name) is).0).0).0 in
+    (ltb-true 0 (length name) (and_parts some short first.0).0, first.1)
+
+-- ---- the text of a path
+
+-- a `/` before each name
+abbrev slashed : List (List ℕ) → List ℕ
+slashed names = flat_map (λ n. 47 ∷ n) names
+
+-- a path that goes on by a name
+goes_on : (at : List (List ℕ)) (name : List ℕ) (more : List (List ℕ))
+    → path_text (at ++ name ∷ more) ≡ slashed at ++ slashed (name ∷ more)
+goes_on [] name more = refl
+goes_on (next ∷ at) name more = flat_map-append (λ n. 47 ∷ n) (next ∷ at) (name ∷ more)
+
+-- its text is longer
+longer : (at : List (List ℕ)) (name : List ℕ) (more : List (List ℕ)) → 0 < length name
+    → length (path_text (at ++ name ∷ more)) ≡ length (path_text at) → ⊥
+longer [] name more some same =
+    let added = length-append name (slashed more) in
+    omega (arith, some, same, added)
+longer (next ∷ at) name more some same =
+    let added = ap length (goes_on (next ∷ at) name more)
+    ∙ length-append (slashed (next ∷ at)) (slashed (name ∷ more)) in
+    omega (arith, same, added)
+
+-- so it is another text
+pub goes_further : (at : List (List ℕ)) (name : List ℕ) (more : List (List ℕ))
+    → is_object_name name ≡ true
+    → same_text (path_text (at ++ name ∷ more)) (path_text at) ≡ false
+goes_further at name more is =
+    false_from_ne_true _ (λ same. longer at name more (name_parts name is).0
+    (ap length (same_text-true (path_text (at ++ name ∷ more)) (path_text at) same)))
+
+-- ---- two names
+
+no_slash : (b : ℕ) → is_name_byte b ≡ true → b ≡ 47 → ⊥
+no_slash b is e = false≢true (ap is_name_byte (sym e) ∙ is)
+
+-- a name ends where a `/` or nothing follows
+same_names : (name other : List ℕ) (more rest : List (List ℕ))
+    → list_all is_name_byte name ≡ true → list_all is_name_byte other ≡ true
+    → name ++ slashed more ≡ other ++ slashed rest → name ≡ other
+same_names [] [] more rest first second same = refl
+same_names [] (y ∷ ys) [] rest first second same = absurd (let wrong : ⊥ = cc in wrong)
+same_names [] (y ∷ ys) (next ∷ more) rest first second same =
+    absurd
+    (no_slash y (and_parts (is_name_byte y) (list_all is_name_byte ys) second).0
+    (let e : y ≡ 47 = cc in e))
+same_names (x ∷ xs) [] more [] first second same = absurd (let wrong : ⊥ = cc in wrong)
+same_names (x ∷ xs) [] more (next ∷ rest) first second same =
+    absurd
+    (no_slash x (and_parts (is_name_byte x) (list_all is_name_byte xs) first).0
+    (let e : x ≡ 47 = cc in e))
+same_names (x ∷ xs) (y ∷ ys) more rest first second same =
+    let here : x ≡ y = cc in
+    let there = same_names xs ys more rest
+    (and_parts (is_name_byte x) (list_all is_name_byte xs) first).1
+    (and_parts (is_name_byte y) (list_all is_name_byte ys) second).1
+    (let tails : xs ++ slashed more ≡ ys ++ slashed rest = cc in tails) in
+    λ i. here i ∷ there i
+
+-- paths that go on by different names have different texts
+pub goes_apart : (at : List (List ℕ)) (name other : List ℕ) (more rest : List (List ℕ))
+    → is_object_name name ≡ true → is_object_name other ≡ true → same_text name other ≡ false
+    → same_text (path_text (at ++ name ∷ more)) (path_text (at ++ other ∷ rest)) ≡ false
+goes_apart at name other more rest is also apart =
+    false_from_ne_true _ (λ same.
+    let whole = append_cancel_left (slashed at) (slashed (name ∷ more)) (slashed (other ∷ rest))
+    (sym (goes_on at name more)
+    ∙ same_text-true (path_text (at ++ name ∷ more)) (path_text (at ++ other ∷ rest)) same
+    ∙ goes_on at other rest) in
+    let tails : name ++ slashed more ≡ other ++ slashed rest = cc in
+    let equal = same_names name other more rest (name_parts name is).1 (name_parts other also).1
+    tails in
+    false≢true (sym apart ∙ ap (same_text name) (sym equal) ∙ text_itself name))

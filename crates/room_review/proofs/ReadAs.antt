@@ -1,0 +1,58 @@
+-- The text of a table is read as its rows.
+use Rattle.std.proofs.Common.{◌≡◌, ℕ, zero, suc, ◌+◌, ◌<◌, ◌≤◌, cond, List, [], ◌∷◌, ◌++◌, length}
+use Rattle.std.proofs.Common.{refl, arith}
+use Rattle.std.specs.List.{AllByRecursion as Each}
+use Rattle.std.proofs.lemmas.List.{length-append}
+use Rattle.csv.specs.Machine.{next_record}
+use Rattle.csv.specs.Reading.{default_config, records, records_from}
+use Rattle.csv.specs.Writing.{default_writer, is_blank, read_back, row_body}
+use Rattle.csv.specs.declared.parser.State.TheVariants as st
+use Rattle.csv.proofs.RoundTrip.{read-write}
+use Rattle.room_import.specs.Exports.{rows_text}
+use Rattle.room_entry.proofs.Facts.Members.{each_weaker}
+use Rattle.room_rows.specs.Content.{Content}
+use Rattle.room_review.specs.LookedUp.{IsOfObject}
+
+-- a row has a column, so it is read as it was written
+abbrev pub HasColumn : List (List ℕ) → Type 0
+HasColumn row = read_back row ≡ row
+
+-- a row takes a byte, so there are no more rows than bytes
+fewer_rows : (rows : List (List (List ℕ))) → length rows < length (rows_text rows) + 1
+fewer_rows [] = omega arith
+fewer_rows (row ∷ rows) =
+    let body = row_body default_writer row in
+    let marks : List ℕ = cond (is_blank default_writer row) (34 ∷ 34 ∷ []) [] in
+    omega (
+      arith,
+      fewer_rows rows,
+      length-append body (marks ++ 10 ∷ []),
+      length-append marks (10 ∷ []),
+      length-append (body ++ (marks ++ 10 ∷ [])) (rows_text rows),
+    )
+
+all_read : (n : ℕ) (rows : List (List (List ℕ))) → length rows ≤ n → Each HasColumn rows
+    → records_from default_config n st.StartRecord (rows_text rows) ≡ rows
+unfolding records_from next_record
+all_read zero [] most all = refl
+all_read zero (row ∷ rows) most all = absurd (let wrong : ⊥ = omega (arith, most) in wrong)
+all_read (suc n) [] most all = refl
+all_read (suc n) (row ∷ rows) most all =
+    let rest = all_read n rows (omega (arith, most)) all.1 in
+    rw (read-write row (rows_text rows)) (λ i. all.0 i ∷ rest i)
+
+pub read_as_rows : (rows : List (List (List ℕ))) → Each HasColumn rows
+    → records default_config (rows_text rows) ≡ rows
+read_as_rows rows all =
+    all_read (length (rows_text rows) + 1) rows
+    (let fewer = fewer_rows rows in omega (arith, fewer)) all
+
+-- the rows of objects have columns
+pub all_columns : (room : Content) (path : List (List ℕ)) (table : List (List (List ℕ)))
+    → Each (IsOfObject room path) table → Each HasColumn table
+all_columns room path table all =
+    each_weaker (IsOfObject room path) HasColumn has_column table all
+  where
+    has_column : (row : List (List ℕ)) → IsOfObject room path row → HasColumn row
+    has_column [] is = absurd (let none = is.3 in let wrong : ⊥ = cc in wrong)
+    has_column (column ∷ columns) is = refl

@@ -1,0 +1,355 @@
+-- A table of a review is the room: what is looked up in it of each caller is what the room allows.
+use Rattle.std.proofs.Common.{◌≡◌, ℕ, Bool, true, false, List, [], ◌∷◌, ◌++◌}
+use Rattle.std.proofs.Common.{length, map, take, Option, Some, None, refl, sym, ap, subst}
+use Rattle.std.proofs.Common.{◌∙◌, codes}
+use Rattle.std.specs.List.{list_any, AllByRecursion as Each}
+use Rattle.std.specs.Option.{option_map, option_map_or, option_or}
+use Rattle.std.proofs.lemmas.Bool.{cond-false, cond-true}
+use Rattle.std.proofs.lemmas.Bool.{or_from, or_left}
+use Rattle.std.proofs.lemmas.List.Folds.{list_any-append}
+use Rattle.csv.specs.Reading.{default_config, records}
+use Rattle.room_entry.specs.Names.{is_name}
+use Rattle.room_entry.specs.Pieces.{same_text}
+use Rattle.room_entry.proofs.Alike.{text_itself}
+use Rattle.room_entry.proofs.Facts.Members.{any_map, each_append, each_back, each_map}
+use Rattle.room_import.specs.Exports.{rows_text}
+use Rattle.room_rows.specs.declared.node.Node.{Node}
+use Rattle.room_rows.specs.Content.{Content, child_of, children_of, root_of}
+use Rattle.room_rows.specs.Meaning.{meaning}
+use Rattle.room_rows.specs.Paths.{path_text}
+use Rattle.room_rows.specs.Rows.{AreRows, Rows, numbers_of}
+use Rattle.room_rows.specs.Sound.{AreSound}
+use Rattle.room_desk.proofs.Sound.Filled.{site_filled, target_there}
+use Rattle.room_desk.proofs.Sound.Sites.{fill, sites_filled}
+use Rattle.room_desk.proofs.Sound.SoundParts.{sound_parts}
+use Rattle.room_dump.proofs.Counting.{each_always, each_both}
+use Rattle.room_dump.proofs.Reached.{Reached, all_there, goes_down}
+use Rattle.room_machine.specs.Rights.{may_remove_at, rights_at}
+use Rattle.room_machine.specs.Site.{Site, site_at, sites_along}
+use Rattle.room_machine.specs.Step.{caller_in}
+use Rattle.room_machine.specs.Stored.{stored_along, stored_from, stored_site}
+use Rattle.room_review.specs.declared.parties.Party.{Party}
+use Rattle.room_review.specs.declared.question.Question.{Question}
+use Rattle.room_review.specs.declared.question.Reviewed.TheVariants.{Table}
+use Rattle.room_review.specs.Laws.{SaysAlike, SaysAt, stored_above, told_at, told_there, users_on}
+use Rattle.room_review.specs.LookedUp.{is_row_of, label_in, looked_up, nearest}
+use Rattle.room_review.specs.Table.{AreAll, AreAsked, IsReviewAt, Place, header}
+use Rattle.room_review.specs.Table.{kind_word, named, nameless, other_name, place_below, place_of}
+use Rattle.room_review.specs.Table.{row, object_rows, site_of, table_rows}
+use Rattle.room_review.specs.Users.{is_listed}
+use Rattle.room_review.specs.LookedUp.{IsAskedFor, IsOfObject, SaysTheRoom, StandsAt}
+use Rattle.room_review.specs.LookedUp.{TableIsTheRoom}
+use Rattle.room_review.specs.LookedUp.{is_caller}
+use Rattle.room_review.proofs.Below as below
+use Rattle.room_review.proofs.Labels.{IsParty, no_label, nobody_party, star_party, user_party}
+use Rattle.room_review.proofs.Lookups.{any_flat, found_from, has_none, has_row, or_none, printed}
+use Rattle.room_review.proofs.Lookups.{said_elsewhere, said_here}
+use Rattle.room_review.proofs.Named.{all_kids, all_named}
+use Rattle.room_review.proofs.Others.{GoesOn, all_go_on}
+use Rattle.room_review.proofs.ReadAs.{all_columns, read_as_rows}
+use Rattle.room_review.proofs.Said.{table_says_rights}
+use Rattle.room_review.proofs.Starred.{star_speaks_for_others}
+use Rattle.room_review.proofs.Starting.{starts_reached}
+use Rattle.room_review.proofs.Visited.{Stands, each_stands, ends_along, some_same}
+
+-- ---- a walk that goes on from an object
+
+module _ (content : Content) (more : List (List ℕ)) (target site : Site) where
+  abbrev later : List (List ℕ) → List ℕ → List (List ℕ) → Option Node → List Site
+  later at name names o =
+      option_map_or (λ c. stored_from content (at ++ name ∷ []) c names) o []
+
+  from_target : (names at : List (List ℕ)) (node : Node)
+      → site_at (stored_from content at node names) names ≡ Some target
+      → site_at (stored_from content at node (names ++ more)) (names ++ more) ≡ Some site
+      → site_at (stored_from content target.path target.node more) more ≡ Some site
+  from_target [] at node found whole =
+      subst (λ (s : Site). site_at (stored_from content s.path s.node more) more ≡ Some site)
+      (some_same (stored_site at node) target found) whole
+  from_target (name ∷ names) at node found whole =
+      on (child_of content node.id name) found whole
+      (λ c f w. from_target names (at ++ name ∷ []) c f w)
+    where
+      on : (o : Option Node) → site_at (later at name names o) names ≡ Some target
+          → site_at (later at name (names ++ more) o) (names ++ more) ≡ Some site
+          → ((c : Node)
+          → site_at (stored_from content (at ++ name ∷ []) c names) names ≡ Some target
+          → site_at (stored_from content (at ++ name ∷ []) c (names ++ more)) (names ++ more)
+          ≡ Some site
+          → site_at (stored_from content target.path target.node more) more ≡ Some site)
+          → site_at (stored_from content target.path target.node more) more ≡ Some site
+      on None found whole rest = absurd (let wrong : ⊥ = cc in wrong)
+      on (Some c) found whole rest = rest c found whole
+
+  along_target : (path : List (List ℕ))
+      → site_at (stored_along content path) path ≡ Some target
+      → site_at (stored_along content (path ++ more)) (path ++ more) ≡ Some site
+      → site_at (stored_from content target.path target.node more) more ≡ Some site
+  along_target path found whole = on (root_of content) found whole
+    where
+      on : (o : Option Node)
+          → site_at (option_map_or (λ root. stored_from content [] root path) o []) path
+          ≡ Some target
+          → site_at (option_map_or (λ root. stored_from content [] root (path ++ more)) o [])
+          (path ++ more) ≡ Some site
+          → site_at (stored_from content target.path target.node more) more ≡ Some site
+      on None found whole = absurd (let wrong : ⊥ = cc in wrong)
+      on (Some root) found whole = from_target path [] root found whole
+
+-- what stands at a path is found there among the rows
+stored_there : (rows : Rows) → AreRows rows → AreSound rows → (path : List (List ℕ)) (site : Site)
+    → StandsAt (meaning rows.read) path site
+    → site_at (stored_along rows.read path) path ≡ Some (fill site)
+stored_there rows are sound path site stands =
+    ap (λ l. site_at l path) (sym (sites_filled rows are (sound_parts rows sound) path))
+    ∙ site_filled (sites_along (meaning rows.read) path) path ∙ ap (option_map fill) stands
+
+-- ---- the table of an object
+
+module _ (rows : Rows) (are : AreRows rows) (sound : AreSound rows) (question : Question)
+    (target : Site)
+    (found : site_at (stored_along rows.read question.path) question.path ≡ Some target)
+    (parties : List Party) where
+  abbrev content : Content
+  content = rows.read
+
+  abbrev room : Content
+  room = meaning content
+
+  abbrev path : List (List ℕ)
+  path = question.path
+
+  abbrev most : ℕ
+  most = length (numbers_of rows)
+
+  abbrev place : Place
+  place = place_of (stored_above rows path) target
+
+  abbrev table : List (List (List ℕ))
+  table = table_rows rows question.all parties place target.node
+
+  abbrev answer : Option (List ℕ) → List (List ℕ) → List ℕ × Bool
+  answer user at = (rights_at room user at, may_remove_at room user at)
+
+  ends : target ≡ stored_site path target.node
+  ends = ends_along content path target found
+
+  at_path : target.path ≡ path
+  at_path = ap (λ (s : Site). s.path) ends
+
+  reached : Reached content (target.node ∷ []) most 0
+  reached =
+      starts_reached rows are most path target.node
+      (record { most_is = refl; is_there = found ∙ ap Some ends })
+
+  module _ (more : List (List ℕ)) (site : Site) (stands : StandsAt room (path ++ more) site) where
+    stored : site_at (stored_from content target.path target.node more) more ≡ Some (fill site)
+    stored =
+        along_target content more target (fill site) path found
+        (stored_there rows are sound (path ++ more) site stands)
+
+    -- what is looked up of a party
+    at_party : (party : Party) → IsParty parties party → (user : Option (List ℕ))
+        → Each (λ it. told_there party.caller it ≡ answer user it.0.path)
+        (told_at rows path target)
+        → looked_up table (path ++ more) party.label
+        ≡ Some (printed (answer user (path ++ more)))
+    at_party party is user says =
+        found_from party.label table path [] more (printed (answer user (path ++ more)))
+        (subst (λ p. nearest table party.label p more
+        ≡ Some (printed (answer user (p ++ more)))) at_path
+        (sym (or_none (nearest table party.label place.path more))
+        ∙ below.finds_below content (all_there rows are) most question.all parties
+        (λ id. all_kids rows are (sound_parts rows sound) id) party is.one is.among (answer user)
+        more place target.node (object_rows true parties place target.node) None (fill site) reached
+        stored says
+        (record {
+          here = ap (λ o. option_or o None)
+              (said_here place.above (site_of place target.node) party true parties is.one
+              is.among);
+          others = λ other apart.
+              said_elsewhere place.above (site_of place target.node) true parties other party.label
+              apart;
+        })))
+
+    -- one that is called by its name
+    by_name : (name : List ℕ) → IsParty parties (named content name)
+        → looked_up table (path ++ more) (label_in table (Some name))
+        ≡ Some (printed (answer (Some name) (path ++ more)))
+    by_name name is =
+        ap (looked_up table (path ++ more))
+        (cond-true (list_any (is_row_of name) table) name (codes "*")
+        (list_any-append (is_row_of name) (object_rows true parties place target.node) _
+        ∙ or_left _ _ (has_row place.above (site_of place target.node) parties name is.among)))
+        ∙ at_party (named content name) is (Some name)
+        (table_says_rights rows are sound (Some name) path target found)
+
+    -- a caller without a name
+    by_nobody : IsParty parties (nameless content)
+        → looked_up table (path ++ more) (label_in table None)
+        ≡ Some (printed (answer None (path ++ more)))
+    by_nobody is =
+        at_party (nameless content) is None
+        (table_says_rights rows are sound None path target found)
+
+    -- a name that has no rows
+    no_rows_under : (name : List ℕ)
+        → list_any (λ (p : Party). same_text p.label name) parties ≡ false
+        → list_any (is_row_of name) (below.rows_under content (all_there rows are) most question.all
+        parties place target.node) ≡ false
+    no_rows_under name none =
+        let rows_below = λ (child : Node). below.rows_in content (all_there rows are) most
+        question.all parties most (place_below place target.node child) child in
+        any_flat (is_row_of name) rows_below (children_of content target.node.id)
+        (each_always (λ child. list_any (is_row_of name) (rows_below child) ≡ false)
+        (λ child. below.no_rows content (all_there rows are) most question.all parties most
+        (place_below place target.node child) child name none)
+        (children_of content target.node.id))
+
+    by_star : (name : List ℕ) (all : AreAll rows (users_on rows path target) parties)
+        → is_name name ≡ true → is_listed name all.users ≡ false
+        → looked_up table (path ++ more) (label_in table (Some name))
+        ≡ Some (printed (answer (Some name) (path ++ more)))
+    by_star name all is none =
+        let star = other_name content all.stranger in
+        let none_labelled : list_any (λ (p : Party). same_text p.label name) parties ≡ false =
+        ap (list_any (λ (p : Party). same_text p.label name)) all.parties_are
+        ∙ no_label content all.users all.stranger all.are.valid name is none in
+        ap (looked_up table (path ++ more))
+        (cond-false (list_any (is_row_of name) table) name (codes "*")
+        (list_any-append (is_row_of name) (object_rows true parties place target.node)
+        (below.rows_under content (all_there rows are) most question.all parties place target.node)
+        ∙ or_from _ _
+        (has_none place.above (site_of place target.node) true parties name none_labelled)
+        (no_rows_under name none_labelled)))
+        ∙ at_party star
+        (subst (λ (ps : List Party). IsParty ps star) (sym all.parties_are)
+        (star_party content all.users all.stranger all.are.valid)) (Some name)
+        (each_both (SaysAlike star.caller (caller_in content (Some name))) (SaysAt rows (Some name))
+        (λ it. told_there star.caller it ≡ answer (Some name) it.0.path)
+        (λ it alike says. alike ∙ says) (told_at rows path target)
+        (star_speaks_for_others rows path target (map (named content) all.users) star
+        (nameless content) name found
+        (record {
+          users = all.users;
+          are = all.are;
+          stranger = all.stranger;
+          is_other = all.is_other;
+          parties_are = refl;
+        })
+        (any_map (λ (text : List ℕ). same_text text name) (λ (p : Party). p.label)
+        (map (named content) all.users)
+        ∙ any_map (λ (p : Party). same_text p.label name) (named content) all.users ∙ none)).1
+        (table_says_rights rows are sound (Some name) path target found))
+
+    -- each caller that is asked for
+    by_asked : (asked : Option (List ℕ))
+        → AreAsked asked rows (users_on rows path target) parties → (user : Option (List ℕ))
+        → is_caller user ≡ true → IsAskedFor asked user
+        → looked_up table (path ++ more) (label_in table user)
+        ≡ Some (printed (answer user (path ++ more)))
+    by_asked None all None caller is_for =
+        by_nobody (subst (λ (ps : List Party). IsParty ps (nameless content)) (sym all.parties_are)
+        (nobody_party content all.users all.stranger all.are.valid))
+    by_asked None all (Some name) caller is_for = on (is_listed name all.users) refl
+      where
+        on : (t : Bool) → is_listed name all.users ≡ t
+            → looked_up table (path ++ more) (label_in table (Some name))
+            ≡ Some (printed (answer (Some name) (path ++ more)))
+        on true listed =
+            by_name name (subst (λ (ps : List Party). IsParty ps (named content name))
+            (sym all.parties_are)
+            (user_party content all.users all.stranger all.are.valid name caller listed))
+        on false none = by_star name all caller none
+    by_asked (Some name) alone user caller is_for =
+        subst (λ (u : Option (List ℕ)). looked_up table (path ++ more) (label_in table u)
+        ≡ Some (printed (answer u (path ++ more)))) (sym is_for)
+        (by_name name (subst (λ (ps : List Party). IsParty ps (named content name)) (sym alone)
+        (record {
+          one = ((λ same. refl), tt);
+          among = or_left (same_text name name) false (text_itself name);
+        })))
+
+  -- ---- the objects of the table
+
+  abbrev IsPlaced : Place × Node → Type 0
+  IsPlaced it = GoesOn most target.path it × Stands content it.0 it.1
+
+  all_placed : Each IsPlaced (told_at rows path target)
+  all_placed =
+      let start : Stands content place target.node = record {
+        at = subst (λ (p : List (List ℕ)). site_at (stored_along content p) p
+            ≡ Some (stored_site p target.node)) (sym at_path) (found ∙ ap Some ends);
+        way = ap (λ (p : List (List ℕ)). take (length p) (stored_along content p)) at_path;
+      } in
+      each_both (GoesOn most target.path) (λ it. Stands content it.0 it.1) IsPlaced
+      (λ it on stands. (on, stands)) (told_at rows path target)
+      (all_go_on content most place target.node)
+      (each_stands content (λ id. all_named rows are (sound_parts rows sound) id) most place
+      target.node start)
+
+  rows_placed : (all : Bool) (it : Place × Node) → IsPlaced it
+      → Each (IsOfObject room path) (object_rows all parties it.0 it.1)
+  rows_placed all it placed =
+      let there = target_there rows are (sound_parts rows sound) it.0.path (site_of it.0 it.1)
+      placed.1.at in
+      let at : it.0.path ≡ path ++ placed.0.0 =
+      placed.0.1.0 ∙ ap (λ (p : List (List ℕ)). p ++ placed.0.0) at_path in
+      let kind = ap (λ (s : Site). kind_word s.node.kind) there.filled in
+      each_map (IsOfObject room path) (row it.0.above (site_of it.0 it.1)) _
+      (each_always (λ (party : Party). IsOfObject room path
+      (row it.0.above (site_of it.0 it.1) party)) (λ party. (
+        placed.0.0,
+        there.planned,
+        subst (λ (p : List (List ℕ)). StandsAt room p there.planned) at there.at,
+        λ i. path_text (at i) ∷ sym kind i ∷ [],
+      )) _)
+
+  all_of_objects : Each (IsOfObject room path) table
+  all_of_objects =
+      let whole = subst (Each IsPlaced)
+      (goes_down content (all_there rows are) [] target.node most 0 reached place_below
+      (λ p n. (p, n) ∷ []) place) all_placed in
+      each_append (IsOfObject room path) (object_rows true parties place target.node) _
+      (rows_placed true (place, target.node) whole.0)
+      (each_back (IsOfObject room path) (object_rows question.all parties place target.node) _
+      (subst (Each (IsOfObject room path))
+      (goes_down content (all_there rows are) [] target.node most 0 reached place_below
+      (object_rows question.all parties) place)
+      (below.each_row content (all_there rows are) most question.all parties IsPlaced
+      (IsOfObject room path) (rows_placed question.all) most place target.node all_placed)))
+
+-- ---- the law
+
+pub table_is_the_room : TableIsTheRoom
+table_is_the_room rows question reviewed site are sound review stands =
+    on (site_at (stored_along rows.read question.path) question.path) refl review
+    (stored_there rows are sound question.path site stands)
+  where
+    Whole : Type 0
+    Whole =
+        (text : List ℕ) × (table : List (List (List ℕ))) × (reviewed ≡ Table text)
+        × (text ≡ rows_text (header ∷ table)) × (records default_config text ≡ header ∷ table)
+        × SaysTheRoom (meaning rows.read) question table
+        × Each (IsOfObject (meaning rows.read) question.path) table
+
+    on : (o : Option Site) → site_at (stored_along rows.read question.path) question.path ≡ o
+        → IsReviewAt rows.read.members question o rows reviewed
+        → site_at (stored_along rows.read question.path) question.path ≡ Some (fill site) → Whole
+    on None none is there = absurd (let wrong : ⊥ = cc in wrong)
+    on (Some target) found is there =
+        let parties = is.parties in
+        let table = table_rows rows question.all parties
+        (place_of (stored_above rows question.path) target) target.node in
+        let objects = all_of_objects rows are sound question target found parties in (
+          rows_text (header ∷ table),
+          table,
+          is.is,
+          refl,
+          read_as_rows (header ∷ table)
+              (refl, all_columns (meaning rows.read) question.path table objects),
+          λ user more at caller is_for stands.
+              by_asked rows are sound question target found parties more at stands question.user
+              is.are user caller is_for,
+          objects,
+        )
