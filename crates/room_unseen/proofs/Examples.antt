@@ -6,7 +6,7 @@ use Rattle.room_entry.specs.declared.entry.Who.TheVariants.{User}
 use Rattle.room_entry.specs.declared.object.ObjKind.TheVariants.{Document, Folder}
 use Rattle.room_rows.specs.Content.{Content}
 use Rattle.room_rows.specs.declared.node.Node.{Node}
-use Rattle.room_machine.specs.Run.{Asked}
+use Rattle.room_machine.specs.Run.{Asked, Run}
 use Rattle.room_machine.specs.Step.{step}
 use Rattle.room_machine.specs.declared.reply.Reason.TheVariants.{NotEmpty, Exists}
 use Rattle.room_machine.specs.declared.reply.Reply.{Reply}
@@ -17,7 +17,7 @@ use Rattle.room_machine.specs.declared.request.Request.TheVariants.{MakeFolder, 
 use Rattle.room_machine.proofs.Worked.Worlds.{none, fd, entry, root, alice, everything, held, plain}
 use Rattle.room_machine.proofs.Worked.Worlds.{object, world, root_may_all}
 use Rattle.room_unseen.specs.Outside.{Barred}
-use Rattle.room_unseen.specs.Twins.{Twins, Turn, InFirst, InBoth}
+use Rattle.room_unseen.specs.Twins.{AreAlike, Turn, InFirst, InBoth, first_events, second_events}
 
 abbrev q : List (List ℕ)
 q = codes "q" ∷ []
@@ -129,16 +129,19 @@ turns =
     InFirst (Asked (Some root) (pos 0) (Put q_f (codes "hi")) Made)
     ∷ InBoth (Some alice) (pos 1) (pos 2) (MakeFolder q_f) denied denied ∷ []
 
-they_are_twins : Twins q turns bare bare full bare
-they_are_twins = (
-  ((codes "f", [], refl), (codes "f", [], refl)),
-  (
-    full,
-    (3, (omega arith, refl), refl),
-    (
-      (λ is. refl),
-      (λ reaches. (denied, refl)),
-      (full, bare, (9, (omega arith, refl), refl), (9, (omega arith, refl), refl), (refl, refl)),
-    ),
-  ),
+they_were_asked : Run bare (first_events turns) full
+they_were_asked = (
+  full,
+  (3, (omega arith, refl), refl),
+  (full, (9, (omega arith, refl), refl), refl),
 )
+
+they_live_alike : AreAlike q turns bare full they_were_asked
+unfolding they_were_asked
+they_live_alike = (
+  ((codes "f", [], refl), (codes "f", [], refl)),
+  (((λ is. refl), (λ reaches. (denied, refl))), tt),
+)
+
+the_other_room : Run bare (second_events turns) bare
+the_other_room = (bare, (9, (omega arith, refl), refl), refl)

@@ -3,8 +3,7 @@ use Rattle.std.specs.Prelude.{◌⊎◌, ◌≡◌, ℕ, ℤ, List, [], ◌∷�
 use Rattle.room_entry.specs.declared.object.Which.{Which}
 use Rattle.room_ace.specs.Sent.{Sent}
 use Rattle.room_rows.specs.Content.{Content}
-use Rattle.room_machine.specs.Run.{Event, Asked, WasReset, Replaced, Happens, Run}
-use Rattle.room_machine.specs.Step.{Step, Reset, ReplaceMembers}
+use Rattle.room_machine.specs.Run.{Event, Asked, WasReset, Replaced, Run}
 use Rattle.room_machine.specs.declared.reply.Reply.{Reply}
 use Rattle.room_machine.specs.declared.request.Request.{Request}
 use Rattle.room_machine.specs.declared.request.Request.TheVariants.{Remove}
@@ -21,35 +20,26 @@ pub data Turn : Type 0 where
   InFirst : Event → Turn
   InSecond : Event → Turn
 
--- From two contents to two others by these turns. What happens in one room alone is behind the
--- front. Of a request in both, the caller is barred if it reaches behind; and if it removes the
--- front, it does so in both or in neither. If it moves the front, that goes on at the new place.
-abbrev pub Twins : List (List ℕ) → List Turn → Content → Content → Content → Content → Type 0
-Twins front [] a b c d = (c ≡ a) × (d ≡ b)
-Twins front (InBoth user moment later request first second ∷ turns) a b c d =
-    (request ≡ Remove front → first ≡ second)
-    × (Reaches front request → Barred a user front)
-    × ((mid other : Content) × Step a user moment request first mid
-    × Step b user later request second other
-    × Twins (front_after front request first) turns mid other c d)
-Twins front (InBothReset path which sent first second ∷ turns) a b c d =
-    (IsBehind front path → ⊥) × ((mid other : Content) × Reset a path which sent first mid
-    × Reset b path which sent second other
-    × Twins front turns mid other c d)
-Twins front (InBothReplaced pairs ∷ turns) a b c d =
-    (mid other : Content) × ReplaceMembers a pairs mid × ReplaceMembers b pairs other
-    × Twins front turns mid other c d
-Twins front (InFirst event ∷ turns) a b c d = HappensBehind front event
-    × ((mid : Content) × Happens a event mid × Twins front turns mid b c d)
-Twins front (InSecond event ∷ turns) a b c d = HappensBehind front event
-    × ((other : Content) × Happens b event other × Twins front turns a other c d)
+-- What is asked of a turn, in the first room as it begins. What happens in one room alone is behind
+-- the front. Of a request in both, the caller is barred if it reaches behind; and if it removes the
+-- front, it does so in both or in neither.
+abbrev pub IsAlike : List (List ℕ) → Content → Turn → Type 0
+IsAlike front room (InBoth user moment later request first second) =
+    (request ≡ Remove front → first ≡ second) × (Reaches front request → Barred room user front)
+IsAlike front room (InBothReset path which sent first second) = IsBehind front path → ⊥
+IsAlike front room (InBothReplaced pairs) = Unit {0}
+IsAlike front room (InFirst event) = HappensBehind front event
+IsAlike front room (InSecond event) = HappensBehind front event
+
+-- where the front is after a turn: if a request moves it, the same is said of the new place
+abbrev pub front_by : List (List ℕ) → Turn → List (List ℕ)
+front_by front (InBoth user moment later request first second) = front_after front request first
+front_by front turn = front
 
 -- where the front is after these turns
 abbrev pub front_at_end : List (List ℕ) → List Turn → List (List ℕ)
 front_at_end front [] = front
-front_at_end front (InBoth user moment later request first second ∷ turns) =
-    front_at_end (front_after front request first) turns
-front_at_end front (turn ∷ turns) = front_at_end front turns
+front_at_end front (turn ∷ turns) = front_at_end (front_by front turn) turns
 
 -- the same reply in both, but for the names in the front
 abbrev pub AnswersAlike : List (List ℕ) → List Turn → Type 0
@@ -82,12 +72,30 @@ second_events (InBothReplaced pairs ∷ turns) = Replaced pairs ∷ second_event
 second_events (InFirst event ∷ turns) = second_events turns
 second_events (InSecond event ∷ turns) = event ∷ second_events turns
 
--- Over runs: two rooms that were the same outside, in which the same is asked, answer the same and
--- stay the same outside, whatever else happens behind the front in each of them.
+-- In this run of the first room each turn is so, of the room in which it begins.
+abbrev pub AreAlike : (front : List (List ℕ)) (turns : List Turn) (a c : Content)
+    → Run a (first_events turns) c → Type 0
+AreAlike front [] a c run = Unit {0}
+AreAlike front (InBoth user moment later request first second ∷ turns) a c (mid, happens, run) =
+    IsAlike front a (InBoth user moment later request first second)
+    × AreAlike (front_after front request first) turns mid c run
+AreAlike front (InBothReset path which sent first second ∷ turns) a c (mid, happens, run) =
+    IsAlike front a (InBothReset path which sent first second)
+    × AreAlike front turns mid c run
+AreAlike front (InBothReplaced pairs ∷ turns) a c (mid, happens, run) =
+    AreAlike front turns mid c run
+AreAlike front (InFirst event ∷ turns) a c (mid, happens, run) =
+    IsAlike front a (InFirst event) × AreAlike front turns mid c run
+AreAlike front (InSecond event ∷ turns) a c run =
+    IsAlike front a (InSecond event) × AreAlike front turns a c run
+
+-- Over runs: of two rooms that are the same outside, two runs are given, each as it happened. What
+-- happened in them differs in nothing but what was behind the front, and in moments, numbers and
+-- replies. Then the replies are the same, and the rooms are the same outside at the end.
 abbrev pub Unseen : Type 0
 Unseen =
     (front : List (List ℕ)) (turns : List Turn) (a b c d : Content) →
     SameOutside front a b → IsTidy a → IsTidy b → IsNumbered a → IsNumbered b →
-    Twins front turns a b c d →
-    Run a (first_events turns) c × Run b (second_events turns) d
-    × AnswersAlike front turns × SameOutside (front_at_end front turns) c d
+    (run : Run a (first_events turns) c) → Run b (second_events turns) d →
+    AreAlike front turns a c run →
+    AnswersAlike front turns × SameOutside (front_at_end front turns) c d

@@ -4,8 +4,8 @@ ghost use Rattle.room_unseen.specs.Laws.{StaysAlike, StaysBehind, UnseenBehind};
 ghost use Rattle.room_unseen.specs.Tidy.{ContentIsTidy, StaysTidy};
 ghost use Rattle.room_unseen.specs.Twins.{Unseen};
 
-/// Over runs: two rooms that differ behind a folder alone answer the same to who is barred from it,
-/// and to whoever asks for nothing behind it.
+/// Over two runs, each as it happened: two rooms that differ behind a folder alone answered the same
+/// to who was barred from it, and to whoever asked for nothing behind it.
 pub fn unseen()
     ensures { Unseen }
 {}

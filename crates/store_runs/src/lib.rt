@@ -1,0 +1,4 @@
+//! Laws over runs, of the calls of stores.
+#![tactic(auto)]
+
+pub mod laws;
