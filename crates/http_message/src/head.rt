@@ -1,8 +1,7 @@
 //! The head of a message.
-ghost use Rattle.std.specs.Prelude.{◌≡◌};
 
+use room_entry::Items;
 use room_rows::Bytes;
-use std::marker::Model;
 
 /// A field of a head.
 #[derive(Drop)]
@@ -13,36 +12,8 @@ pub struct Field {
     pub value: Bytes,
 }
 
-/// The fields of a head, in order. A contract sees the list of them.
-#[derive(Drop)]
-pub struct Fields {
-    items: Vec<Field>,
-}
-
-impl Model for Fields {
-    ghost use Rattle.std.specs.Prelude.{List};
-    ghost use Rattle.http_message.specs.declared.head.Field.{Field};
-
-    ghost Value = { List Field };
-
-    ghost view = { λ f. f.items.items };
-}
-
-impl Fields {
-    /// These fields, which takes no memory.
-    pub fn from_vec(items: Vec<Field>) -> Fields
-        ensures { result ≡ items.items }
-    {
-        Fields { items }
-    }
-
-    /// The fields as a slice.
-    pub fn as_slice(&self) -> &[Field]
-        ensures { result.now ≡ self.now }
-    {
-        self.items.as_slice()
-    }
-}
+/// The fields of a head, in order.
+pub type Fields = Items<Field>;
 
 /// The head of a message.
 #[derive(Drop)]

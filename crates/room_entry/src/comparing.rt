@@ -4,10 +4,11 @@ ghost use Rattle.room_entry.specs.Pieces.{same_text};
 ghost use Rattle.room_entry.specs.Same.{same_entries, same_entry, who_key};
 ghost use Rattle.room_entry.specs.Letters.{flags_text, kind_text};
 
-use crate::entry::{Entries, Entry, EntryKind, Who};
+use crate::entry::{Entry, EntryKind, Who};
 use crate::flags::EntryFlags;
+use crate::items::Items;
 
-impl Entries {
+impl Items<Entry> {
     /// Whether these are the entries of the slice, in the same order.
     pub fn is_same(&self, other: &[Entry]) -> bool
         ensures { result ≡ same_entries self.now other.now }

@@ -1,13 +1,14 @@
 //! An access control entry.
-ghost use Rattle.std.specs.Prelude.{◌≡◌, [], ◌∷◌, ◌++◌, IsTrue, IfOk, OnOk, OnErr};
+ghost use Rattle.std.specs.Prelude.{◌≡◌, ◌++◌, IsTrue, IfOk, OnOk};
 ghost use Rattle.room_entry.specs.Ace.{fits_who};
 ghost use Rattle.room_entry.specs.Laws.{IsEntry};
 ghost use Rattle.room_entry.specs.Valid.{asks_records};
 
 use crate::flags::EntryFlags;
+use crate::items::Items;
 use crate::mask::Mask;
 use crate::name::Name;
-use std::alloc::{AllocError, Global};
+use std::alloc::AllocError;
 use std::marker::Model;
 
 /// The type of an entry (RFC 8881, section 6.2.1.1).
@@ -143,69 +144,15 @@ impl Entry {
     }
 }
 
-/// Entries in order. A contract sees the list of them.
-#[derive(Clone, Drop)]
-pub struct Entries {
-    items: Vec<Entry>,
-}
+/// Entries in order.
+pub type Entries = Items<Entry>;
 
-impl Model for Entries {
-    ghost use Rattle.std.specs.Prelude.{List};
-    ghost use Rattle.room_entry.specs.Ace.{Ace};
-
-    ghost Value = { List Ace };
-
-    ghost view = { λ e. e.items.items };
-}
-
-impl Entries {
-    /// No entries.
-    pub fn new(alloc: Global) -> Entries
-        ensures { result ≡ [] }
-    {
-        Entries {
-            items: Vec::new(alloc),
-        }
-    }
-
-    /// The entries of a vector.
-    pub fn from_vec(items: Vec<Entry>) -> Entries
-        ensures { result ≡ items.items }
-    {
-        Entries { items }
-    }
-
-    /// The entries as a vector.
-    pub fn into_vec(self) -> Vec<Entry>
-        ensures { result.items ≡ self }
-    {
-        let Entries { items } = self;
-        items
-    }
-
-    /// The entries as a slice.
-    pub fn as_slice(&self) -> &[Entry]
-        ensures { result.now ≡ self.now }
-    {
-        self.items.as_slice()
-    }
-
+impl Items<Entry> {
     /// A copy.
     pub fn copy(&self) -> Result<Entries, AllocError>
         ensures { IfOk result (λ copy. copy ≡ self.now) }
     {
-        Ok(Entries {
-            items: self.items.clone()?,
-        })
-    }
-
-    /// Adds an entry at the end.
-    pub fn push(&mut self, entry: Entry) -> Result<(), AllocError>
-        ensures ok { OnOk result (self.new ≡ self.old ++ entry ∷ []) }
-        ensures err { OnErr result (self.new ≡ self.old) }
-    {
-        self.items.push(entry)?;
-        Ok(())
+        self.clone()
     }
 
     /// Adds copies of the entries at the end. An `Err` leaves some of them added.

@@ -52,7 +52,7 @@ impl Gathered {
             String::from_str(alloc, user.as_str())?,
         );
         if seen.insert(key)? {
-            pairs.push(group, user)?;
+            pairs.push((group, user))?;
         }
         Ok(Gathered { seen, pairs })
     }

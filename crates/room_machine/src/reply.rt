@@ -1,10 +1,8 @@
 //! What the rooms answer.
-ghost use Rattle.std.specs.Prelude.{◌≡◌};
 
-use room_ace::{Entries, Entry, ListFault, ListFlags, Mask, ObjKind, Owners};
+use room_ace::{Entries, Entry, Items, ListFault, ListFlags, Mask, ObjKind, Owners};
 use room_eval::Ruling;
 use room_rows::{Bytes, Listing, Path};
-use std::marker::Model;
 
 /// Why a request is refused.
 #[derive(Clone, Copy, Debug, PartialEq, Eq)]
@@ -29,36 +27,8 @@ pub enum Reason {
     TooLarge,
 }
 
-/// The ruling of each bit that was asked. A contract sees the list of pairs.
-#[derive(Drop)]
-pub struct Rulings {
-    items: Vec<(Mask, Ruling)>,
-}
-
-impl Model for Rulings {
-    ghost use Rattle.std.specs.Prelude.{List, ℕ};
-    ghost use Rattle.room_eval.specs.declared.outcome.Ruling.{Ruling};
-
-    ghost Value = { List (List ℕ × Ruling) };
-
-    ghost view = { λ r. r.items.items };
-}
-
-impl Rulings {
-    /// The rulings of these pairs, which takes no memory.
-    pub fn from_vec(items: Vec<(Mask, Ruling)>) -> Rulings
-        ensures { result ≡ items.items }
-    {
-        Rulings { items }
-    }
-
-    /// The pairs as a slice.
-    pub fn as_slice(&self) -> &[(Mask, Ruling)]
-        ensures { result.now ≡ self.now }
-    {
-        self.items.as_slice()
-    }
-}
+/// The ruling of each bit that was asked.
+pub type Rulings = Items<(Mask, Ruling)>;
 
 /// The reply to a caller.
 #[derive(Drop)]

@@ -1,14 +1,13 @@
 //! Objects as they are kept.
-ghost use Rattle.std.specs.Prelude.{◌≡◌, ◌==◌, [], ◌∷◌, ◌++◌, IfOk, OnOk, OnErr, length};
+ghost use Rattle.std.specs.Prelude.{◌≡◌, IfOk};
 ghost use Rattle.room_entry.specs.Valid.{is_document};
 ghost use Rattle.room_rows.specs.Held.{held_of, with_held};
 ghost use Rattle.room_rows.specs.Keep.{node_of};
 
 use crate::held::Held;
 use crate::text::{Bytes, Text};
-use room_entry::{Mask, Name, ObjKind, Owners, Which};
-use std::alloc::{AllocError, Global};
-use std::marker::Model;
+use room_entry::{Items, Mask, Name, ObjKind, Owners, Which};
+use std::alloc::AllocError;
 
 /// An object as it is kept. The root has no parent.
 #[derive(Clone, Drop)]
@@ -48,89 +47,11 @@ pub struct NewNode {
     pub bytes: Bytes,
 }
 
-/// Numbers of objects. A contract sees the list of them.
-#[derive(Drop)]
-pub struct Numbers {
-    items: Vec<u64>,
-}
+/// Numbers of objects.
+pub type Numbers = Items<u64>;
 
-impl Model for Numbers {
-    ghost use Rattle.std.specs.Prelude.{List, ℕ};
-
-    ghost Value = { List ℕ };
-
-    ghost view = { λ n. n.items.items };
-}
-
-impl Numbers {
-    /// No numbers.
-    pub fn new(alloc: Global) -> Numbers
-        ensures { result ≡ [] }
-    {
-        Numbers {
-            items: Vec::new(alloc),
-        }
-    }
-
-    /// The numbers of the vector, which takes no memory.
-    pub fn from_vec(items: Vec<u64>) -> Numbers
-        ensures { result ≡ items.items }
-    {
-        Numbers { items }
-    }
-
-    /// The vector that holds the numbers.
-    pub fn into_vec(self) -> Vec<u64>
-        ensures { result.items ≡ self }
-    {
-        self.items
-    }
-
-    /// The numbers as a slice.
-    pub fn as_slice(&self) -> &[u64]
-        ensures { result.now ≡ self.now }
-    {
-        self.items.as_slice()
-    }
-
-    /// How many numbers there are.
-    pub fn len(&self) -> usize
-        ensures { result ≡ length self.now }
-    {
-        self.items.len()
-    }
-
-    /// Whether there are none.
-    pub fn is_empty(&self) -> bool
-        ensures { result ≡ (length self.now == 0) }
-    {
-        self.items.is_empty()
-    }
-
-    /// Adds a number at the end.
-    pub fn push(&mut self, id: u64) -> Result<(), AllocError>
-        ensures ok { OnOk result (self.new ≡ self.old ++ id ∷ []) }
-        ensures err { OnErr result (self.new ≡ self.old) }
-    {
-        self.items.push(id)?;
-        Ok(())
-    }
-}
-
-/// Objects in order. A contract sees the list of them.
-#[derive(Drop)]
-pub struct Nodes {
-    items: Vec<Node>,
-}
-
-impl Model for Nodes {
-    ghost use Rattle.std.specs.Prelude.{List};
-    ghost use Rattle.room_rows.specs.declared.node.Node.{Node};
-
-    ghost Value = { List Node };
-
-    ghost view = { λ n. n.items.items };
-}
+/// Objects in order.
+pub type Nodes = Items<Node>;
 
 /// The objects that a walk along a path found, from the root on, and how many names are left over.
 #[derive(Drop)]
@@ -238,60 +159,5 @@ impl NewNode {
             sacl,
         };
         (node, bytes)
-    }
-}
-
-impl Nodes {
-    /// No objects.
-    pub fn new(alloc: Global) -> Nodes
-        ensures { result ≡ [] }
-    {
-        Nodes {
-            items: Vec::new(alloc),
-        }
-    }
-
-    /// The objects of the vector, which takes no memory.
-    pub fn from_vec(items: Vec<Node>) -> Nodes
-        ensures { result ≡ items.items }
-    {
-        Nodes { items }
-    }
-
-    /// The vector that holds the objects.
-    pub fn into_vec(self) -> Vec<Node>
-        ensures { result.items ≡ self }
-    {
-        self.items
-    }
-
-    /// The objects as a slice.
-    pub fn as_slice(&self) -> &[Node]
-        ensures { result.now ≡ self.now }
-    {
-        self.items.as_slice()
-    }
-
-    /// How many objects there are.
-    pub fn len(&self) -> usize
-        ensures { result ≡ length self.now }
-    {
-        self.items.len()
-    }
-
-    /// Whether there are none.
-    pub fn is_empty(&self) -> bool
-        ensures { result ≡ (length self.now == 0) }
-    {
-        self.items.is_empty()
-    }
-
-    /// Adds an object at the end.
-    pub fn push(&mut self, node: Node) -> Result<(), AllocError>
-        ensures ok { OnOk result (self.new ≡ self.old ++ node ∷ []) }
-        ensures err { OnErr result (self.new ≡ self.old) }
-    {
-        self.items.push(node)?;
-        Ok(())
     }
 }
