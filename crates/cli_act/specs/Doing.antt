@@ -16,7 +16,7 @@ use Rattle.room_judge.specs.Judged.{Resets}
 use Rattle.room_machine.specs.Run.{Replaced, WasReset, event_of}
 use Rattle.room_machine.specs.declared.reply.Reply.{Reply}
 use Rattle.room_machine.specs.declared.reply.Reply.TheVariants as reply
-use Rattle.room_review.specs.declared.question.Question.{Question}
+use Rattle.room_review.specs.declared.question.Scope.{Scope}
 use Rattle.room_review.specs.declared.question.Reviewed.{Reviewed}
 use Rattle.room_review.specs.declared.question.Reviewed.TheVariants as reviewed
 use Rattle.store_admin.specs.Carries.{NoTables}
@@ -145,7 +145,7 @@ pub record GivesDump (old : State) (outcome : Outcome) (new : State) : Type 0 wh
   pub leads : Leads old [] new
   pub told : outcome ≡ after_dump result
 
-pub record GivesReview (question : Question) (old : State) (outcome : Outcome) (new : State)
+pub record GivesReview (question : Scope) (old : State) (outcome : Outcome) (new : State)
     : Type 0 where
   pub result : Result Reviewed StoreFault
   pub looked : Looked old new result HasDamagedRow (IsReviewOf question)
@@ -168,7 +168,7 @@ pub record TestsRows (old : State) (outcome : Outcome) (new : State) : Type 0 wh
 -- ---- a task
 
 -- what a store is asked for a review
-abbrev pub question_of : List (List ℕ) → Option (List ℕ) → Bool → Question
+abbrev pub question_of : List (List ℕ) → Option (List ℕ) → Bool → Scope
 question_of path user all = record { path = path; user = user; all = all }
 
 -- What a task does to a room that is open.

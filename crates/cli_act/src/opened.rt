@@ -28,7 +28,7 @@ use room_ace::{Name, SentList, Which};
 use room_import::{write_audits, write_groups};
 use room_inherit::Report;
 use room_machine::Reply;
-use room_review::{Question, Reviewed};
+use room_review::{Scope, Reviewed};
 use room_rows::{AuditRow, Bytes, Path};
 use room_store::{Store, StoreFault};
 use sqlite::Alter;
@@ -121,7 +121,7 @@ fn tell_all<S: Alter>(alloc: Global, store: &mut Store<S>) -> Outcome
     }
 }
 
-fn tell_review<S: Alter>(alloc: Global, store: &mut Store<S>, question: &Question) -> Outcome
+fn tell_review<S: Alter>(alloc: Global, store: &mut Store<S>, question: &Scope) -> Outcome
     ensures { GivesReview question.now (state S.Store store.old.conn) result
         (state S.Store store.new.conn) }
 {
@@ -132,7 +132,7 @@ fn tell_review<S: Alter>(alloc: Global, store: &mut Store<S>, question: &Questio
 }
 
 // What a store is asked for a review.
-fn question_of(path: &Path, user: &Option<Name>, all: bool) -> Result<Question, AllocError>
+fn question_of(path: &Path, user: &Option<Name>, all: bool) -> Result<Scope, AllocError>
     ensures { IfOk result (λ question. question ≡ question_of path.now user.now all) }
 {
     let user = match user {
@@ -140,7 +140,7 @@ fn question_of(path: &Path, user: &Option<Name>, all: bool) -> Result<Question, 
         Some(name) => Some(name.copy()?),
     };
     let path = path.copy()?;
-    Ok(Question { path, user, all })
+    Ok(Scope { path, user, all })
 }
 
 fn review<S: Alter>(

@@ -10,13 +10,13 @@ ghost use Rattle.room_machine.specs.declared.request.Request.TheVariants.{Can};
 
 use room_ace::Mask;
 use room_eval::{Ruling, ruling};
-use room_judge::{Asker, Halt, Walk};
+use room_judge::{Asker, Halt, Walker};
 use room_machine::{Reply, Rulings};
 use room_rows::{Keep, Node, Path};
 use std::alloc::{AllocError, Global};
 
 /// The ruling on each asked bit for the caller.
-pub(crate) fn can<K: Keep>(walk: &mut Walk<'_, K>, path: &Path, mask: Mask) -> Result<Reply, Halt>
+pub(crate) fn can<K: Keep>(walk: &mut Walker<'_, K>, path: &Path, mask: Mask) -> Result<Reply, Halt>
     ensures same_keep { walk.new.keep.ghost_name ≡ walk.old.keep.ghost_name }
     ensures same_asker { walk.new.asker.now ≡ walk.old.asker.now }
     ensures done { Tries K.Keep walk.old.keep.now walk.new.keep.now result IsDamaged

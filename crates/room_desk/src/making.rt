@@ -14,7 +14,7 @@ ghost use Rattle.room_machine.specs.declared.request.Request.TheVariants.{MakeFo
 use crate::writing::put_bytes;
 use room_ace::{ListFlags, MOST_BYTES, Mask, Name, ObjKind, Owners};
 use room_inherit::pass;
-use room_judge::{Asker, Found, Halt, Under, Walk, refusal};
+use room_judge::{Asker, Found, Halt, Under, Walker, refusal};
 use room_machine::{Reason, Reply};
 use room_rows::{Bytes, Held, Keep, NewNode, Node, Path, Text};
 use std::alloc::{AllocError, Global};
@@ -29,7 +29,7 @@ struct NewChild<'a> {
 
 /// Gives a document these bytes, or makes a new one.
 pub(crate) fn put<K: Keep>(
-    walk: &mut Walk<'_, K>,
+    walk: &mut Walker<'_, K>,
     path: &Path,
     bytes: &Bytes,
 ) -> Result<Reply, Halt>
@@ -45,7 +45,7 @@ pub(crate) fn put<K: Keep>(
 }
 
 // Puts the root. A folder is refused, as anywhere.
-fn put_root<K: Keep>(walk: &mut Walk<'_, K>, path: &Path, bytes: &Bytes) -> Result<Reply, Halt>
+fn put_root<K: Keep>(walk: &mut Walker<'_, K>, path: &Path, bytes: &Bytes) -> Result<Reply, Halt>
     requires { path.now ≡ [] }
     ensures same_keep { walk.new.keep.ghost_name ≡ walk.old.keep.ghost_name }
     ensures same_asker { walk.new.asker.now ≡ walk.old.asker.now }
@@ -58,7 +58,7 @@ fn put_root<K: Keep>(walk: &mut Walk<'_, K>, path: &Path, bytes: &Bytes) -> Resu
 
 // Puts the document at a path with a last name.
 fn put_below<K: Keep>(
-    walk: &mut Walk<'_, K>,
+    walk: &mut Walker<'_, K>,
     path: &Path,
     name: &Text,
     bytes: &Bytes,
@@ -83,7 +83,7 @@ fn put_below<K: Keep>(
 
 // Replaces the bytes of what is there, if it is a document and there aren't too many.
 fn put_there<K: Keep>(
-    walk: &mut Walk<'_, K>,
+    walk: &mut Walker<'_, K>,
     path: &Path,
     target: &Found,
     bytes: &Bytes,
@@ -102,7 +102,7 @@ fn put_there<K: Keep>(
 
 // Makes a document in the folder, if it hasn't too many bytes.
 fn put_new<K: Keep>(
-    walk: &mut Walk<'_, K>,
+    walk: &mut Walker<'_, K>,
     path: &Path,
     folder: &Found,
     child: &NewChild<'_>,
@@ -125,7 +125,7 @@ fn put_new<K: Keep>(
 }
 
 /// Makes a folder.
-pub(crate) fn make_folder<K: Keep>(walk: &mut Walk<'_, K>, path: &Path) -> Result<Reply, Halt>
+pub(crate) fn make_folder<K: Keep>(walk: &mut Walker<'_, K>, path: &Path) -> Result<Reply, Halt>
     ensures same_keep { walk.new.keep.ghost_name ≡ walk.old.keep.ghost_name }
     ensures same_asker { walk.new.asker.now ≡ walk.old.asker.now }
     ensures done { Tries K.Keep walk.old.keep.now walk.new.keep.now result IsDamaged
@@ -138,7 +138,7 @@ pub(crate) fn make_folder<K: Keep>(walk: &mut Walk<'_, K>, path: &Path) -> Resul
 }
 
 // Makes the folder at a path with a last name.
-fn make_below<K: Keep>(walk: &mut Walk<'_, K>, path: &Path, name: &Text) -> Result<Reply, Halt>
+fn make_below<K: Keep>(walk: &mut Walker<'_, K>, path: &Path, name: &Text) -> Result<Reply, Halt>
     requires { IsNameOf path.now name.now }
     ensures same_keep { walk.new.keep.ghost_name ≡ walk.old.keep.ghost_name }
     ensures same_asker { walk.new.asker.now ≡ walk.old.asker.now }
@@ -158,7 +158,7 @@ fn make_below<K: Keep>(walk: &mut Walk<'_, K>, path: &Path, name: &Text) -> Resu
 
 // Makes a folder in this one, if nothing is there.
 fn make_new<K: Keep>(
-    walk: &mut Walk<'_, K>,
+    walk: &mut Walker<'_, K>,
     path: &Path,
     spot: &Under,
     child: &NewChild<'_>,
@@ -182,7 +182,7 @@ fn make_new<K: Keep>(
 
 // Adds the object under the parent.
 fn add_child<K: Keep>(
-    walk: &mut Walk<'_, K>,
+    walk: &mut Walker<'_, K>,
     parent: &Node,
     child: &NewChild<'_>,
 ) -> Result<Reply, Halt>

@@ -13,7 +13,7 @@ ghost use Rattle.room_machine.specs.declared.request.Request.TheVariants.{Move};
 
 use crate::placing::{check_free, place_at};
 use room_ace::Mask;
-use room_judge::{Found, Halt, Walk, refusal};
+use room_judge::{Found, Halt, Walker, refusal};
 use room_machine::{Reason, Reply};
 use room_rows::{Keep, Node, Path};
 
@@ -27,7 +27,7 @@ struct Moving<'a> {
 
 /// Moves an object, with all below it, to another folder or name.
 pub(crate) fn move_object<K: Keep>(
-    walk: &mut Walk<'_, K>,
+    walk: &mut Walker<'_, K>,
     path: &Path,
     to: &Path,
 ) -> Result<Reply, Halt>
@@ -51,7 +51,7 @@ pub(crate) fn move_object<K: Keep>(
 
 // Moves the object that was found in its folder. Both walks begin at the root that was read once.
 fn move_found<K: Keep>(
-    walk: &mut Walk<'_, K>,
+    walk: &mut Walker<'_, K>,
     moving: &Moving<'_>,
     to: &Path,
     root: &Node,
@@ -74,7 +74,7 @@ fn move_found<K: Keep>(
 
 // Refuses a move to the root's place, which is never free.
 fn refuse_root<K: Keep>(
-    walk: &mut Walk<'_, K>,
+    walk: &mut Walker<'_, K>,
     moving: &Moving<'_>,
     to: &Path,
 ) -> Result<Reply, Halt>
@@ -93,7 +93,7 @@ fn refuse_root<K: Keep>(
 
 // The walk to the new folder, and what is judged there.
 fn reach_place<K: Keep>(
-    walk: &mut Walk<'_, K>,
+    walk: &mut Walker<'_, K>,
     moving: &Moving<'_>,
     to: &Path,
     root: &Node,
@@ -118,7 +118,7 @@ fn reach_place<K: Keep>(
 // The new folder grants EXECUTE, the object may leave its own and come into the new one, and its
 // place there is free.
 fn check_place<K: Keep>(
-    walk: &mut Walk<'_, K>,
+    walk: &mut Walker<'_, K>,
     moving: &Moving<'_>,
     to: &Path,
     folder: &Found,

@@ -8,13 +8,13 @@ ghost use Rattle.room_desk.specs.Answered.{SetsOwners};
 ghost use Rattle.room_machine.specs.declared.request.Request.TheVariants.{SetOwners};
 
 use room_ace::{Mask, Owners};
-use room_judge::{Halt, Walk};
+use room_judge::{Halt, Walker};
 use room_machine::Reply;
 use room_rows::{Keep, KeepFault, Node, Path};
 
 /// Gives an object another owner and group.
 pub(crate) fn set_owners<K: Keep>(
-    walk: &mut Walk<'_, K>,
+    walk: &mut Walker<'_, K>,
     path: &Path,
     owners: &Owners,
 ) -> Result<Reply, Halt>

@@ -15,7 +15,7 @@ use crate::removing::remove;
 use crate::setting::set_list;
 use crate::writing::append;
 use room_ace::Name;
-use room_judge::{Asker, Halt, Walk, caller_of};
+use room_judge::{Asker, Halt, Walker, caller_of};
 use room_machine::{Reply, Request};
 use room_rows::{Keep, KeepFault};
 use std::alloc::Global;
@@ -53,7 +53,7 @@ fn perform_for<K: Keep>(
     ensures done { Does K.Keep keep.old keep.new result IsDamaged
         (IsServed asker.now request.now) }
 {
-    let mut walk = Walk { alloc, keep, asker };
+    let mut walk = Walker { alloc, keep, asker };
     reply_of(serve(&mut walk, request))
 }
 
@@ -69,7 +69,7 @@ fn reply_of(outcome: Result<Reply, Halt>) -> Result<Reply, KeepFault>
 }
 
 // Serves one request.
-fn serve<K: Keep>(walk: &mut Walk<'_, K>, request: &Request) -> Result<Reply, Halt>
+fn serve<K: Keep>(walk: &mut Walker<'_, K>, request: &Request) -> Result<Reply, Halt>
     ensures same_keep { walk.new.keep.ghost_name ≡ walk.old.keep.ghost_name }
     ensures same_asker { walk.new.asker.now ≡ walk.old.asker.now }
     ensures done { Tries K.Keep walk.old.keep.now walk.new.keep.now result IsDamaged

@@ -21,13 +21,13 @@ ghost use Rattle.room_machine.specs.Site.{front};
 use crate::carrying::carry_below;
 use room_ace::{Entries, Which};
 use room_inherit::{pass, takes_from};
-use room_judge::{Found, Halt, Walk, refusal};
+use room_judge::{Found, Halt, Walker, refusal};
 use room_machine::{Reason, Reply};
 use room_rows::{Keep, KeepFault, Node, Path, Text};
 
 /// Nothing has the new name, and the object's path doesn't begin that of the folder.
 pub(crate) fn check_free<K: Keep>(
-    walk: &mut Walk<'_, K>,
+    walk: &mut Walker<'_, K>,
     path: &Path,
     to: &Path,
     folder: &Found,
@@ -85,7 +85,7 @@ fn is_same_name(name: &Text, other: &Text) -> bool
 /// Gives the object another parent and another name. What is linked there takes the entries that
 /// the new parent passes, and hands them down.
 pub(crate) fn place_at<K: Keep>(
-    walk: &mut Walk<'_, K>,
+    walk: &mut Walker<'_, K>,
     target: &Node,
     folder: &Node,
     name: &str,
@@ -103,7 +103,7 @@ pub(crate) fn place_at<K: Keep>(
 
 // Where the list is linked to the folder's, it takes what that passes.
 fn renew_list<K: Keep>(
-    walk: &mut Walk<'_, K>,
+    walk: &mut Walker<'_, K>,
     target: &Node,
     folder: &Node,
     which: Which,
@@ -123,7 +123,7 @@ fn renew_list<K: Keep>(
 // Stores these inherited entries, and carries them down, unless they are stored already: then
 // nothing below has changed.
 fn take_passed<K: Keep>(
-    walk: &mut Walk<'_, K>,
+    walk: &mut Walker<'_, K>,
     target: &Node,
     which: Which,
     passed: &Entries,

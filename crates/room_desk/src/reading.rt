@@ -15,13 +15,13 @@ ghost use Rattle.room_machine.specs.declared.request.Request.TheVariants.{
 };
 
 use room_ace::{Entries, Mask, ObjKind, Which};
-use room_judge::{Halt, Walk};
+use room_judge::{Halt, Walker};
 use room_machine::Reply;
 use room_rows::{Held, Keep, KeepFault, Node, Path};
 use std::alloc::{AllocError, Global};
 
 /// The bytes of a document.
-pub(crate) fn read<K: Keep>(walk: &mut Walk<'_, K>, path: &Path) -> Result<Reply, Halt>
+pub(crate) fn read<K: Keep>(walk: &mut Walker<'_, K>, path: &Path) -> Result<Reply, Halt>
     ensures same_keep { walk.new.keep.ghost_name ≡ walk.old.keep.ghost_name }
     ensures same_asker { walk.new.asker.now ≡ walk.old.asker.now }
     ensures done { Tries K.Keep walk.old.keep.now walk.new.keep.now result IsDamaged
@@ -46,7 +46,7 @@ fn read_at<K: Keep>(keep: &mut K, id: u64) -> Result<Reply, KeepFault>
 
 /// The flags and the full list of an object.
 pub(crate) fn read_full_list<K: Keep>(
-    walk: &mut Walk<'_, K>,
+    walk: &mut Walker<'_, K>,
     path: &Path,
     which: Which,
 ) -> Result<Reply, Halt>
@@ -69,7 +69,7 @@ fn list_reply(alloc: Global, held: &Held) -> Result<Reply, AllocError>
 }
 
 /// The kind and the owners of an object.
-pub(crate) fn read_attr<K: Keep>(walk: &mut Walk<'_, K>, path: &Path) -> Result<Reply, Halt>
+pub(crate) fn read_attr<K: Keep>(walk: &mut Walker<'_, K>, path: &Path) -> Result<Reply, Halt>
     ensures same_keep { walk.new.keep.ghost_name ≡ walk.old.keep.ghost_name }
     ensures same_asker { walk.new.asker.now ≡ walk.old.asker.now }
     ensures done { Tries K.Keep walk.old.keep.now walk.new.keep.now result IsDamaged
@@ -87,7 +87,7 @@ fn attr_reply(node: Node) -> Reply
 }
 
 /// The names and kinds of the children of a folder, in order of name.
-pub(crate) fn list<K: Keep>(walk: &mut Walk<'_, K>, path: &Path) -> Result<Reply, Halt>
+pub(crate) fn list<K: Keep>(walk: &mut Walker<'_, K>, path: &Path) -> Result<Reply, Halt>
     ensures same_keep { walk.new.keep.ghost_name ≡ walk.old.keep.ghost_name }
     ensures same_asker { walk.new.asker.now ≡ walk.old.asker.now }
     ensures done { Tries K.Keep walk.old.keep.now walk.new.keep.now result IsDamaged

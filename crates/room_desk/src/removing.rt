@@ -6,12 +6,12 @@ ghost use Rattle.room_judge.specs.Stored.{found_site};
 ghost use Rattle.room_machine.specs.declared.request.Request.TheVariants.{Remove};
 ghost use Rattle.room_desk.specs.Removed.{RemovesChildless, RemovesFrom};
 
-use room_judge::{Found, Halt, Walk, refusal};
+use room_judge::{Found, Halt, Walker, refusal};
 use room_machine::{Reason, Reply};
 use room_rows::{Keep, Path};
 
 /// Removes an object, a folder only without children.
-pub(crate) fn remove<K: Keep>(walk: &mut Walk<'_, K>, path: &Path) -> Result<Reply, Halt>
+pub(crate) fn remove<K: Keep>(walk: &mut Walker<'_, K>, path: &Path) -> Result<Reply, Halt>
     ensures same_keep { walk.new.keep.ghost_name ≡ walk.old.keep.ghost_name }
     ensures same_asker { walk.new.asker.now ≡ walk.old.asker.now }
     ensures done { Tries K.Keep walk.old.keep.now walk.new.keep.now result IsDamaged
@@ -26,7 +26,7 @@ pub(crate) fn remove<K: Keep>(walk: &mut Walk<'_, K>, path: &Path) -> Result<Rep
 }
 
 // Refuses to remove the root, which has to be there.
-fn keep_root<K: Keep>(walk: &mut Walk<'_, K>, path: &Path) -> Result<Reply, Halt>
+fn keep_root<K: Keep>(walk: &mut Walker<'_, K>, path: &Path) -> Result<Reply, Halt>
     requires { path.now ≡ [] }
     ensures same_keep { walk.new.keep.ghost_name ≡ walk.old.keep.ghost_name }
     ensures same_asker { walk.new.asker.now ≡ walk.old.asker.now }
@@ -39,7 +39,7 @@ fn keep_root<K: Keep>(walk: &mut Walk<'_, K>, path: &Path) -> Result<Reply, Halt
 
 // Removes an object from its folder, where the caller may delete it and it has no children.
 fn remove_from<K: Keep>(
-    walk: &mut Walk<'_, K>,
+    walk: &mut Walker<'_, K>,
     path: &Path,
     target: &Found,
     folder: &Found,
@@ -56,7 +56,7 @@ fn remove_from<K: Keep>(
 }
 
 // Removes the object of this number, where it has no children.
-fn remove_childless<K: Keep>(walk: &mut Walk<'_, K>, path: &Path, id: u64) -> Result<Reply, Halt>
+fn remove_childless<K: Keep>(walk: &mut Walker<'_, K>, path: &Path, id: u64) -> Result<Reply, Halt>
     ensures same_keep { walk.new.keep.ghost_name ≡ walk.old.keep.ghost_name }
     ensures same_asker { walk.new.asker.now ≡ walk.old.asker.now }
     ensures done { Tries K.Keep walk.old.keep.now walk.new.keep.now result IsUnreadable

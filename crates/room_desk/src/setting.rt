@@ -25,7 +25,7 @@ ghost use Rattle.room_machine.specs.declared.request.Request.TheVariants.{SetLis
 use crate::carrying::carry_from;
 use room_ace::{Entries, Entry, ListFlags, Mask, ObjKind, SentList, Which, first_bad_entry};
 use room_inherit::pass;
-use room_judge::{Found, Halt, Walk, refused};
+use room_judge::{Found, Halt, Walker, refused};
 use room_machine::{Reason, Reply};
 use room_rows::{Held, Keep, KeepFault, Node, Path};
 use std::alloc::{AllocError, Global};
@@ -43,7 +43,7 @@ pub(crate) struct Setting<'p, 't, 'a, 's> {
 
 /// Sets one of an object's lists, and carries it down.
 pub(crate) fn set_list<K: Keep>(
-    walk: &mut Walk<'_, K>,
+    walk: &mut Walker<'_, K>,
     path: &Path,
     which: Which,
     sent: &SentList,
@@ -70,7 +70,7 @@ pub(crate) fn set_list<K: Keep>(
 
 // Sets the list of the root, which has nothing above it.
 fn set_root<K: Keep>(
-    walk: &mut Walk<'_, K>,
+    walk: &mut Walker<'_, K>,
     path: &Path,
     which: Which,
     sent: &SentList,
@@ -95,7 +95,7 @@ fn set_root<K: Keep>(
 
 // Sets the list of the object that the walk came to, where the caller may write it.
 fn set_allowed<K: Keep>(
-    walk: &mut Walk<'_, K>,
+    walk: &mut Walker<'_, K>,
     setting: &Setting<'_, '_, '_, '_>,
 ) -> Result<Reply, Halt>
     ensures same_keep { walk.new.keep.ghost_name ≡ walk.old.keep.ghost_name }

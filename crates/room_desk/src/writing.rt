@@ -14,14 +14,14 @@ ghost use Rattle.room_desk.specs.Written.{
 ghost use Rattle.room_machine.specs.declared.request.Request.TheVariants.{Append};
 
 use room_ace::{MOST_BYTES, Mask, ObjKind};
-use room_judge::{Halt, Walk, refusal};
+use room_judge::{Halt, Walker, refusal};
 use room_machine::{Reason, Reply};
 use room_rows::{Bytes, Keep, KeepFault, Path};
 use std::alloc::{AllocError, Global};
 
 /// Adds bytes at the end of a document.
 pub(crate) fn append<K: Keep>(
-    walk: &mut Walk<'_, K>,
+    walk: &mut Walker<'_, K>,
     path: &Path,
     bytes: &Bytes,
 ) -> Result<Reply, Halt>
@@ -39,7 +39,7 @@ pub(crate) fn append<K: Keep>(
 // Adds the bytes to those of the document of this number. Where there are none to add, nothing is
 // written.
 fn append_at<K: Keep>(
-    walk: &mut Walk<'_, K>,
+    walk: &mut Walker<'_, K>,
     path: &Path,
     id: u64,
     bytes: &Bytes,
@@ -91,7 +91,7 @@ fn join(before: Bytes, bytes: &Bytes) -> Result<Vec<u8>, AllocError>
 
 /// Gives the document of this number these bytes, if there aren't too many.
 pub(crate) fn put_bytes<K: Keep>(
-    walk: &mut Walk<'_, K>,
+    walk: &mut Walker<'_, K>,
     path: &Path,
     id: u64,
     bytes: &[u8],

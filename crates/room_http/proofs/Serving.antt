@@ -13,7 +13,7 @@ use Rattle.room_http.specs.declared.ended.Cause.{Cause}
 use Rattle.room_http.specs.declared.ended.Ended.{Ended}
 use Rattle.room_http.specs.declared.ended.ServeFault.{ServeFault}
 use Rattle.room_http.specs.declared.server.Connection.{Connection}
-use Rattle.room_http.specs.declared.server.Halt.{Halt}
+use Rattle.room_http.specs.declared.server.TurnFault.{TurnFault}
 use Rattle.room_http.specs.Limits.{max_messages}
 use Rattle.room_http.specs.Message.{print_message}
 use Rattle.room_http.specs.Stream.{Exchange, IsOpen, exchange_text, bytes_of, texts_of, last_text}
@@ -134,7 +134,7 @@ module _ {D : Type 0} (d : Ghosts D) (laws : DeskLaws d.Outlasts) (moment : ℤ)
         faults = subst F a.faults t.faults;
       }
 
-  pub Stops-from : (stop : Halt) (fault : ServeFault) → fault.answered ≡ n
+  pub Stops-from : (stop : TurnFault) (fault : ServeFault) → fault.answered ≡ n
       → fault.acted ≡ stop.acted → fault.cause ≡ stop.cause → TurnsStop d moment n mid new buf stop
       → Stops d moment old new fault
   Stops-from stop fault answered acted cause t =

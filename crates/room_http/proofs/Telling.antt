@@ -8,20 +8,20 @@ use Rattle.room_machine.specs.declared.desk.Desk.{Ghosts}
 use Rattle.room_machine.specs.declared.reply.Reply.{Reply}
 use Rattle.room_machine.specs.Desk.{DeskLaws}
 use Rattle.http_message.specs.declared.fault.HttpFault.{HttpFault}
-use Rattle.room_http.specs.Message.{Asked}
+use Rattle.room_http.specs.Message.{Parsed}
 use Rattle.room_http.specs.Answer.{Stepped, ActedIf, AnswersMessage, Delivers, JoinsText}
 use Rattle.room_http.specs.Answer.{Failed, Responds, SendsRefusal, TellsReply, Rose}
 use Rattle.room_http.specs.declared.told.Answer.{Answer}
 use Rattle.room_http.specs.declared.told.Response.{Response}
 use Rattle.room_http.specs.declared.told.Lost.{Lost}
-use Rattle.room_http.specs.Stream.{Agrees, DeskRuns, answer_text, events_at}
+use Rattle.room_http.specs.Stream.{HasReply, DeskRuns, answer_text, events_at}
 use Rattle.room_http.proofs.Runs.{nothing-done}
 use Rattle.room_http.specs.Text.{store_text}
 use Rattle.room_http.specs.Serve.{BlamesText, BlamesWriter}
 use Rattle.room_http.specs.Turn.{WritesPart, WritesSome}
 use Rattle.room_http.specs.Tell.{StopsWithin, Tells, TellsText}
-use Rattle.room_http.specs.declared.server.Halt.{Halt}
-use Rattle.room_http.specs.declared.server.Told.{Told}
+use Rattle.room_http.specs.declared.server.TurnFault.{TurnFault}
+use Rattle.room_http.specs.declared.server.Wrote.{Wrote}
 use Rattle.room_http.specs.declared.ended.Cause.{Cause}
 use Rattle.room_entry.proofs.Facts.KnownBytes.{Appends-none}
 
@@ -51,8 +51,8 @@ from-value P result found value e f h =
     subst P (sym e) (subst (λ x. P (Ok x)) (sym f) h)
 
 -- a text that is due, and what came of writing it
-pub told-text : (text due : List ℕ) (told : Told) (acted : Bool) (u v : Option (List ℕ))
-    (wrote : Result (Unit {0}) Cause) (result : Result Told Halt) → text ≡ due
+pub told-text : (text due : List ℕ) (told : Wrote) (acted : Bool) (u v : Option (List ℕ))
+    (wrote : Result (Unit {0}) Cause) (result : Result Wrote TurnFault) → text ≡ due
     → OnOk wrote (Appends u v text) → OnErr wrote (WritesPart u v text)
     → IfErr wrote (λ why. why ≡ Cause.Write) → OnOk wrote (result ≡ Ok told)
     → IfErr wrote (λ why. result ≡ Err (record { acted = acted; cause = why }))
@@ -68,14 +68,14 @@ Appends-is u v a b e w = subst (λ t. Appends u v t) e w
 
 module _ {D : Type 0} (d : Ghosts D) (moment : ℤ) (old new : D) where
   -- the desk did what the message asks, and this is its reply, or a test refuses the message
-  pub record Replies (asked : Asked) (reply : Option Reply) : Type 0 where
-    pub agrees : Agrees asked reply
+  pub record Replies (asked : Parsed) (reply : Option Reply) : Type 0 where
+    pub agrees : HasReply asked reply
     pub did : DeskRuns d old [] (events_at moment asked reply) new
     pub faults : d.faults new ≡ d.faults old
 
 module _ {D : Type 0} (d : Ghosts D) (moment : ℤ) (old new : D) where
   -- the desk took the step, and its reply is the text
-  pub responds-by : (close : Bool) (asked : Asked) (reply : Reply)
+  pub responds-by : (close : Bool) (asked : Parsed) (reply : Reply)
       → Stepped d moment old new asked reply → (result : Result Response Lost)
       → Delivers reply close result → Responds d moment old new close asked result
   responds-by close asked reply s (Ok (Response.Refused text)) b = absurd b
@@ -85,7 +85,7 @@ module _ {D : Type 0} (d : Ghosts D) (moment : ℤ) (old new : D) where
       subst (λ (a : Bool). ActedIf d moment old new a asked) (sym b) (reply, s)
 
   -- the same where the text is put together
-  pub joined-answers : (close : Bool) (asked : Asked) (text : List ℕ)
+  pub joined-answers : (close : Bool) (asked : Parsed) (text : List ℕ)
       → TellsReply d moment old new close asked text → (result : Result Answer Lost)
       → JoinsText text result → AnswersMessage d moment old new close asked result
   joined-answers close asked text tells (Ok (Answer.Text whole)) j =
@@ -95,11 +95,11 @@ module _ {D : Type 0} (d : Ghosts D) (moment : ℤ) (old new : D) where
       subst (λ (a : Bool). ActedIf d moment old new a asked) (sym j) (tells.0, tells.1)
 
   -- of a message that a test refuses
-  replies-refused : DeskLaws d.Outlasts → (asked : Asked) (fault : HttpFault) → asked ≡ Err fault
+  replies-refused : DeskLaws d.Outlasts → (asked : Parsed) (fault : HttpFault) → asked ≡ Err fault
       → new ≡ old → Replies d moment old new asked None
   replies-refused laws asked fault e same =
-      let A : Asked → Type 0 = λ a. Agrees a None in
-      let R : Asked → Type 0 = λ a. DeskRuns d old [] (events_at moment a None) old in
+      let A : Parsed → Type 0 = λ a. HasReply a None in
+      let R : Parsed → Type 0 = λ a. DeskRuns d old [] (events_at moment a None) old in
       subst (λ (desk : D). Replies d moment old desk asked None) (sym same)
       (record {
         agrees = subst A (sym e) tt;
@@ -108,40 +108,40 @@ module _ {D : Type 0} (d : Ghosts D) (moment : ℤ) (old new : D) where
       })
 
   -- of the desk
-  pub replies-stepped : (asked : Asked) (reply : Reply) → Stepped d moment old new asked reply
+  pub replies-stepped : (asked : Parsed) (reply : Reply) → Stepped d moment old new asked reply
       → Replies d moment old new asked (Some reply)
   replies-stepped asked reply s =
-      let A : Asked → Type 0 = λ a. Agrees a (Some reply) in
-      let R : Asked → Type 0 = λ a. DeskRuns d old [] (events_at moment a (Some reply)) new in
+      let A : Parsed → Type 0 = λ a. HasReply a (Some reply) in
+      let R : Parsed → Type 0 = λ a. DeskRuns d old [] (events_at moment a (Some reply)) new in
       record {
         agrees = subst A (sym s.asks) tt;
         did = subst R (sym s.asks) s.did;
         faults = s.faults;
       }
 
-  pub refused-tells : DeskLaws d.Outlasts → (close : Bool) (asked : Asked) (text : List ℕ)
+  pub refused-tells : DeskLaws d.Outlasts → (close : Bool) (asked : Parsed) (text : List ℕ)
       → SendsRefusal d moment old new close asked text
       → Replies d moment old new asked None × (text ≡ answer_text close asked None)
   refused-tells laws close asked text a = (
     replies-refused laws asked a.0.0 a.0.1 a.1,
-    a.0.2 ∙ ap (λ (t : Asked). answer_text close t None) (sym a.0.1),
+    a.0.2 ∙ ap (λ (t : Parsed). answer_text close t None) (sym a.0.1),
   )
 
-  pub replied-tells : (close : Bool) (asked : Asked) (text : List ℕ)
+  pub replied-tells : (close : Bool) (asked : Parsed) (text : List ℕ)
       → TellsReply d moment old new close asked text
       → (reply : Reply) × Replies d moment old new asked (Some reply)
       × (text ≡ answer_text close asked (Some reply))
   replied-tells close asked text a = (
     a.0,
     replies-stepped asked a.0 a.1,
-    a.2 ∙ ap (λ (t : Asked). answer_text close t (Some a.0)) (sym a.1.asks),
+    a.2 ∙ ap (λ (t : Parsed). answer_text close t (Some a.0)) (sym a.1.asks),
   )
 
   -- the whole text of a reply was written
-  pub answers-whole : DeskLaws d.Outlasts → (close : Bool) (asked : Asked)
+  pub answers-whole : DeskLaws d.Outlasts → (close : Bool) (asked : Parsed)
       (sent sent' : Option (List ℕ)) (response : Result Response Lost)
       → Responds d moment old new close asked response
-      → Tells response sent sent' (Ok Told.Answered)
+      → Tells response sent sent' (Ok Wrote.Answered)
       → (reply : Option Reply) × Replies d moment old new asked reply
       × Appends sent sent' (answer_text close asked reply)
   answers-whole laws close asked sent sent' (Ok (Response.Refused text)) r t =
@@ -155,10 +155,10 @@ module _ {D : Type 0} (d : Ghosts D) (moment : ℤ) (old new : D) where
   answers-whole laws close asked sent sent' (Err lost) r t = absurd t
 
   -- and that the desk failed
-  pub fails-whole : (close : Bool) (asked : Asked)
+  pub fails-whole : (close : Bool) (asked : Parsed)
       (sent sent' : Option (List ℕ)) (response : Result Response Lost)
       → Responds d moment old new close asked response
-      → Tells response sent sent' (Ok Told.Failed)
+      → Tells response sent sent' (Ok Wrote.Failed)
       → Failed d moment old new asked × Appends sent sent' store_text
   fails-whole close asked sent sent' (Ok (Response.Refused text)) r t =
       absurd (let e = t.0 in cc)

@@ -19,10 +19,10 @@ use Rattle.http_message.specs.Close.{asks_close}
 use Rattle.room_http.proofs.Runs.{nothing-done}
 use Rattle.room_http.specs.declared.next.NextMessage.{NextMessage}
 use Rattle.room_http.specs.declared.ended.Ended.{Ended}
-use Rattle.room_http.specs.declared.server.Halt.{Halt}
+use Rattle.room_http.specs.declared.server.TurnFault.{TurnFault}
 use Rattle.room_http.specs.declared.ended.Cause.{Cause}
 use Rattle.room_http.specs.Limits.{max_messages, read_size}
-use Rattle.room_http.specs.Message.{Asked, Message, print_message, IsRefusedHead, IsPart, asked, closes}
+use Rattle.room_http.specs.Message.{Parsed, Message, print_message, IsRefusedHead, IsPart, asked, closes}
 use Rattle.room_http.specs.Message.{head_of}
 use Rattle.room_http.specs.Text.{refusal_reply}
 use Rattle.room_http.specs.Stream.{DeskRuns, Last, answer_text, events_at, events_by}
@@ -33,7 +33,7 @@ use Rattle.room_http.specs.Turn.{TurnsOpen, TurnsLast, TurnsStop, Turns, WholeNe
 use Rattle.room_http.specs.Answer.{ActedIf, Responds}
 use Rattle.room_http.specs.Tell.{StopsWithin, Tells}
 use Rattle.room_http.specs.declared.server.Connection.{Connection}
-use Rattle.room_http.specs.declared.server.Told.{Told}
+use Rattle.room_http.specs.declared.server.Wrote.{Wrote}
 use Rattle.room_http.specs.declared.told.Lost.{Lost}
 use Rattle.room_http.specs.declared.told.Response.{Response}
 use Rattle.room_http.proofs.Telling.{Replies, answers-whole, fails-whole, nothing-sent}
@@ -58,7 +58,7 @@ pub responds-to : {D : Type 0} (d : Ghosts D) (moment : ℤ) (old new : D) (buf 
     (request_of next.head (slice_range bytes next.start next.end)) response
     → Responds d moment old new close (asked w.message) response
 responds-to d moment old new buf next w bytes close response same responds =
-    subst (λ (a : Asked). Responds d moment old new close a response)
+    subst (λ (a : Parsed). Responds d moment old new close a response)
     (ap (λ t. request_of next.head (slice_range t next.start next.end)) same
     ∙ asks-the-same buf next w) responds
 
@@ -162,7 +162,7 @@ pub take-answered : {D : Type 0} (d : Ghosts D) → DeskLaws d.Outlasts → (mom
     → (close ≡ false → (ended ≡ None) × (connection.inbox.buf.items ≡ drop next.end buf))
     → (close ≡ false → connection.answered ≡ n + 1)
     → Responds d moment old.desk new.desk close (asked w.message) response
-    → Tells response old.sent new.sent (Ok Told.Answered)
+    → Tells response old.sent new.sent (Ok Wrote.Answered)
     → Turns d moment n old new buf connection (Ok ended)
 take-answered d laws moment n old new buf connection next w true ended response few near same says
     closing staying counts responds tells =
@@ -185,7 +185,7 @@ pub take-failed : {D : Type 0} (d : Ghosts D) (moment : ℤ) (n : ℕ) (old new 
     (next : NextMessage) (w : WholeNext buf next) (close : Bool) (response : Result Response Lost)
     → length buf < next.end + read_size → new.left ≡ old.left
     → Responds d moment old.desk new.desk close (asked w.message) response
-    → Tells response old.sent new.sent (Ok Told.Failed)
+    → Tells response old.sent new.sent (Ok Wrote.Failed)
     → TurnsLast d moment n old new buf Ended.Closed
 take-failed d moment n old new buf next w close response near same responds tells =
     let f = fails-whole d moment old.desk new.desk close (asked w.message) old.sent new.sent
@@ -204,7 +204,7 @@ take-failed d moment n old new buf next w close response near same responds tell
     }
 
 module _ {D : Type 0} (d : Ghosts D) (moment : ℤ) (n : ℕ) (old new : Snapshot D) (buf : List ℕ)
-    (next : NextMessage) (w : WholeNext buf next) (close : Bool) (stop : Halt)
+    (next : NextMessage) (w : WholeNext buf next) (close : Bool) (stop : TurnFault)
     (near : length buf < next.end + read_size) (same : new.left ≡ old.left)
     (says : says_close w.message n ≡ close) where
   -- the writer failed within a reply, or there was no memory for it
@@ -283,7 +283,7 @@ module _ {D : Type 0} (d : Ghosts D) (moment : ℤ) (n : ℕ) (old new : Snapsho
 -- a turn after more bytes came
 pub shift : {D : Type 0} (d : Ghosts D) (moment : ℤ) (n : ℕ) (left mid sent : Option (List ℕ))
     (desk : D) (new : Snapshot D)
-    (buf came : List ℕ) (connection : Connection) (result : Result (Option Ended) Halt)
+    (buf came : List ℕ) (connection : Connection) (result : Result (Option Ended) TurnFault)
     → Came left mid buf came
     → Turns d moment n (seen mid sent desk) new
     came connection result
@@ -327,7 +327,7 @@ shift d at n left mid sent desk new buf came connection (Err stop) more t = reco
 
 pub turn-refused : {D : Type 0} (d : Ghosts D) → DeskLaws d.Outlasts → (moment : ℤ) (n : ℕ)
     (left mid sent wrote : Option (List ℕ)) (desk : D)
-    (buf came : List ℕ) (connection : Connection) (reason : Refusal) (result : Result (Option Ended) Halt)
+    (buf came : List ℕ) (connection : Connection) (reason : Refusal) (result : Result (Option Ended) TurnFault)
     → Came left mid buf came → IsRefusedHead came reason → IsNearHead came
     → IfOk result (λ ended. (ended ≡ Some Ended.Closed) × Appends sent wrote (refusal_reply reason))
     → IfErr result (λ stop. (stop.acted ≡ false)

@@ -10,7 +10,7 @@ use Rattle.http_message.specs.declared.fault.HttpFault.{HttpFault}
 use Rattle.room_http.specs.declared.told.Answer.{Answer}
 use Rattle.room_http.specs.declared.told.Response.{Response}
 use Rattle.room_http.specs.declared.told.Lost.{Lost}
-use Rattle.room_http.specs.Message.{Asked}
+use Rattle.room_http.specs.Message.{Parsed}
 use Rattle.room_http.specs.Stream.{DeskRuns, IsRequest, asking_at}
 
 -- the count of faults rose, or is at its end
@@ -20,41 +20,41 @@ Rose old new = (old < new) ⊎ (2 ^ 64 - 1 ≤ old)
 -- of a desk, at a moment, from one state to another
 module _ {D : Type 0} (d : Ghosts D) (moment : ℤ) (old new : D) where
   -- the desk took the step that the message asks for, and replied so
-  pub record Stepped (asked : Asked) (reply : Reply) : Type 0 where
+  pub record Stepped (asked : Parsed) (reply : Reply) : Type 0 where
     pub call : message.UserRequest
     pub asks : asked ≡ Ok call
     pub did : DeskRuns d old [] (Event.Asked call.0 moment call.1 reply ∷ []) new
     pub faults : d.faults new ≡ d.faults old
 
   -- the desk failed at what the message asks, and keeps what it kept
-  pub record Failed (asked : Asked) : Type 0 where
+  pub record Failed (asked : Parsed) : Type 0 where
     pub asks : IsRequest asked
     pub did : DeskRuns d old (asking_at moment asked) [] new
     pub faults : Rose (d.faults old) (d.faults new)
 
   -- the step was taken where the flag says so, and else the desk is as it was
-  abbrev pub ActedIf : Bool → Asked → Type 0
+  abbrev pub ActedIf : Bool → Parsed → Type 0
   ActedIf true asked = (reply : Reply) × Stepped asked reply
   ActedIf false asked = new ≡ old
 
   -- the text of the first test that fails, where the desk is as it was
-  abbrev pub SendsRefusal : Bool → Asked → List ℕ → Type 0
+  abbrev pub SendsRefusal : Bool → Parsed → List ℕ → Type 0
   SendsRefusal close asked text =
       ((fault : HttpFault) × (asked ≡ Err fault) × (text ≡ fault_text fault close)) × (new ≡ old)
 
   -- the text of the desk's reply, where it took the step
-  abbrev pub TellsReply : Bool → Asked → List ℕ → Type 0
+  abbrev pub TellsReply : Bool → Parsed → List ℕ → Type 0
   TellsReply close asked text =
       (reply : Reply) × Stepped asked reply × (text ≡ reply_text reply close)
 
-  abbrev pub Responds : Bool → Asked → Result Response Lost → Type 0
+  abbrev pub Responds : Bool → Parsed → Result Response Lost → Type 0
   Responds close asked (Ok (Response.Refused text)) = SendsRefusal close asked text.items
   Responds close asked (Ok (Response.Replied text)) = TellsReply close asked text
   Responds close asked (Ok Response.Fault) = Failed asked
   Responds close asked (Err lost) = ActedIf lost.acted asked
 
   -- What the answer to a message says of its text and of the desk.
-  abbrev pub AnswersMessage : Bool → Asked → Result Answer Lost → Type 0
+  abbrev pub AnswersMessage : Bool → Parsed → Result Answer Lost → Type 0
   AnswersMessage close asked (Ok (Answer.Text text)) =
       SendsRefusal close asked text.items ⊎ TellsReply close asked text.items
   AnswersMessage close asked (Ok Answer.Fault) = Failed asked

@@ -85,10 +85,10 @@ pub record IsMessage (m : Message) : Type 0 where
   pub size : body_size_of m.head ≡ Ok (length m.body)
 
 -- who asks, and what; or the first of the tests 5 to 12 that fails
-abbrev pub Asked : Type 0
-Asked = Result message.UserRequest HttpFault
+abbrev pub Parsed : Type 0
+Parsed = Result message.UserRequest HttpFault
 
-abbrev pub asked : Message → Asked
+abbrev pub asked : Message → Parsed
 asked m = message.request_of (head_of m.head) m.body
 
 -- the message asks that the connection ends

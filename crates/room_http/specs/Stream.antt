@@ -11,7 +11,7 @@ use Rattle.http_message.specs.Reply.{reply_text, fault_text}
 use Rattle.room_http.specs.declared.refusal.Refusal.{Refusal}
 use Rattle.room_http.specs.declared.ended.Ended.{Ended}
 use Rattle.room_http.specs.Limits.{max_messages}
-use Rattle.room_http.specs.Message.{Message, print_message, IsMessage, IsRefusedHead, IsPart, Asked}
+use Rattle.room_http.specs.Message.{Message, print_message, IsMessage, IsRefusedHead, IsPart, Parsed}
 use Rattle.room_http.specs.Message.{asked, closes}
 use Rattle.room_http.specs.Text.{refusal_reply, store_text}
 
@@ -23,18 +23,18 @@ pub record Exchange : Type 0 where
   pub reply : Option Reply
 
 -- the desk is asked exactly where no test refuses the message
-abbrev pub Agrees : Asked → Option Reply → Type 0
-Agrees (Ok call) (Some reply) = ⊤
-Agrees (Err fault) None = ⊤
-Agrees (Ok call) None = ⊥
-Agrees (Err fault) (Some reply) = ⊥
+abbrev pub HasReply : Parsed → Option Reply → Type 0
+HasReply (Ok call) (Some reply) = ⊤
+HasReply (Err fault) None = ⊤
+HasReply (Ok call) None = ⊥
+HasReply (Err fault) (Some reply) = ⊥
 
 pub record IsExchange (x : Exchange) : Type 0 where
   pub message : IsMessage x.message
-  pub agrees : Agrees (asked x.message) x.reply
+  pub agrees : HasReply (asked x.message) x.reply
 
 -- the text of the reply: that of the first test that fails, else that of the desk's reply
-abbrev pub answer_text : Bool → Asked → Option Reply → List ℕ
+abbrev pub answer_text : Bool → Parsed → Option Reply → List ℕ
 answer_text close (Err fault) reply = fault_text fault close
 answer_text close (Ok call) (Some reply) = reply_text reply close
 answer_text close (Ok call) None = []
@@ -43,7 +43,7 @@ abbrev pub exchange_text : Bool → Exchange → List ℕ
 exchange_text close x = answer_text close (asked x.message) x.reply
 
 -- what happens at the desk, at this moment
-abbrev pub events_at : ℤ → Asked → Option Reply → List Event
+abbrev pub events_at : ℤ → Parsed → Option Reply → List Event
 events_at moment (Ok call) (Some reply) = Event.Asked call.0 moment call.1 reply ∷ []
 events_at moment (Ok call) None = []
 events_at moment (Err fault) reply = []
@@ -56,7 +56,7 @@ abbrev pub events_by : ℤ → List Exchange → List Event
 events_by moment xs = flat_map (event_at moment) xs
 
 -- what the message asks of the desk, at this moment, if no test refuses it
-abbrev pub asking_at : ℤ → Asked → List Asking
+abbrev pub asking_at : ℤ → Parsed → List Asking
 asking_at moment (Ok call) = Event.Asked call.0 moment call.1 ∷ []
 asking_at moment (Err fault) = []
 
@@ -88,7 +88,7 @@ pub data Last : Type 0 where
   Failed : Message → Last
 
 -- the message asks something of the desk
-abbrev pub IsRequest : Asked → Type 0
+abbrev pub IsRequest : Parsed → Type 0
 IsRequest (Ok call) = ⊤
 IsRequest (Err fault) = ⊥
 

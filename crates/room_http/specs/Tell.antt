@@ -2,8 +2,8 @@
 use Rattle.std.specs.Prelude.{◌≡◌, Bool, false, true, List, ℕ, Option, Result, Ok, Err}
 use Rattle.std.specs.Io.KnownBytes.{Appends}
 use Rattle.room_http.specs.declared.ended.Cause.{Cause}
-use Rattle.room_http.specs.declared.server.Halt.{Halt}
-use Rattle.room_http.specs.declared.server.Told.{Told}
+use Rattle.room_http.specs.declared.server.TurnFault.{TurnFault}
+use Rattle.room_http.specs.declared.server.Wrote.{Wrote}
 use Rattle.room_http.specs.declared.told.Lost.{Lost}
 use Rattle.room_http.specs.declared.told.Response.{Response}
 use Rattle.room_http.specs.Text.{store_text}
@@ -11,20 +11,20 @@ use Rattle.room_http.specs.Serve.{BlamesText}
 use Rattle.room_http.specs.Turn.{WritesPart, WritesSome}
 
 -- the text was written, which tells this; or the writer failed within it
-abbrev pub TellsText : List ℕ → Told → Bool → Option (List ℕ) → Option (List ℕ)
-    → Result Told Halt → Type 0
+abbrev pub TellsText : List ℕ → Wrote → Bool → Option (List ℕ) → Option (List ℕ)
+    → Result Wrote TurnFault → Type 0
 TellsText text told acted old new (Ok found) = (found ≡ told) × Appends old new text
 TellsText text told acted old new (Err halt) =
     WritesPart old new text × (halt.cause ≡ Cause.Write) × (halt.acted ≡ acted)
 
 -- what was written of a response
-abbrev pub Tells : Result Response Lost → Option (List ℕ) → Option (List ℕ) → Result Told Halt
+abbrev pub Tells : Result Response Lost → Option (List ℕ) → Option (List ℕ) → Result Wrote TurnFault
     → Type 0
 Tells (Ok (Response.Refused text)) old new result =
-    TellsText text.items Told.Answered false old new result
+    TellsText text.items Wrote.Answered false old new result
 Tells (Ok (Response.Replied text)) old new result =
-    TellsText text Told.Answered true old new result
-Tells (Ok Response.Fault) old new result = TellsText store_text Told.Failed false old new result
+    TellsText text Wrote.Answered true old new result
+Tells (Ok Response.Fault) old new result = TellsText store_text Wrote.Failed false old new result
 Tells (Err lost) old new (Ok told) = ⊥
 Tells (Err lost) old new (Err halt) =
     (new ≡ old) × (halt.cause ≡ Cause.Memory) × (halt.acted ≡ lost.acted)

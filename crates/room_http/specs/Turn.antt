@@ -5,7 +5,7 @@ use Rattle.std.specs.Io.KnownBytes.{Appends, Consumes, IsAtEnd}
 use Rattle.room_machine.specs.declared.desk.Desk.{Ghosts}
 use Rattle.room_http.specs.declared.ended.Ended.{Ended}
 use Rattle.room_http.specs.declared.server.Connection.{Connection}
-use Rattle.room_http.specs.declared.server.Halt.{Halt}
+use Rattle.room_http.specs.declared.server.TurnFault.{TurnFault}
 use Rattle.room_http.specs.declared.next.NextMessage.{NextMessage}
 use Rattle.room_http.specs.declared.next.Upcoming.{Upcoming}
 use Rattle.room_http.specs.Limits.{max_messages, read_size}
@@ -82,7 +82,7 @@ module _ {D : Type 0} (d : Ghosts D) (moment : ℤ) (n : ℕ) (old new : Snapsho
         (events_by moment (last_exchange last)) new.desk
     pub faults : FaultsRose last (d.faults old.desk) (d.faults new.desk)
 
-  pub record TurnsStop (buf : List ℕ) (stop : Halt) : Type 0 where
+  pub record TurnsStop (buf : List ℕ) (stop : TurnFault) : Type 0 where
     pub next : Next
     pub rest : List ℕ
     pub came : Came old.left new.left buf rest
@@ -95,7 +95,7 @@ module _ {D : Type 0} (d : Ghosts D) (moment : ℤ) (n : ℕ) (old new : Snapsho
         (events_by moment (next_exchange next)) new.desk
     pub faults : NextRose next (d.faults old.desk) (d.faults new.desk)
 
-  abbrev pub Turns : List ℕ → Connection → Result (Option Ended) Halt → Type 0
+  abbrev pub Turns : List ℕ → Connection → Result (Option Ended) TurnFault → Type 0
   Turns buf connection (Ok None) = TurnsOpen buf connection
   Turns buf connection (Ok (Some ended)) = TurnsLast buf ended
   Turns buf connection (Err stop) = TurnsStop buf stop

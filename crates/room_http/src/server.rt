@@ -26,14 +26,14 @@ const MAX_MESSAGES: u64 = 10_000;
 
 // What stopped a turn.
 #[derive(Clone, Copy)]
-pub(crate) struct Halt {
+pub(crate) struct TurnFault {
     pub acted: bool,
     pub cause: Cause,
 }
 
 // What was written whole.
 #[derive(Clone, Copy)]
-pub(crate) enum Told {
+pub(crate) enum Wrote {
     // The reply to the message.
     Answered,
     // That the desk failed.
@@ -48,27 +48,27 @@ pub(crate) struct Connection {
 }
 
 // What came of writing this, after the desk took a step or without one.
-fn after_writing(wrote: Result<(), Cause>, told: Told, acted: bool) -> Result<Told, Halt>
+fn after_writing(wrote: Result<(), Cause>, told: Wrote, acted: bool) -> Result<Wrote, TurnFault>
     ensures ok { OnOk wrote (result ≡ Ok told) }
     ensures err { IfErr wrote (λ why. result ≡ Err (record { acted = acted; cause = why })) }
 {
     match wrote {
         Ok(()) => Ok(told),
-        Err(cause) => Err(Halt { acted, cause }),
+        Err(cause) => Err(TurnFault { acted, cause }),
     }
 }
 
 // Writes the text of a response.
-fn tell<W: Write>(w: &mut W, response: Result<Response, Lost>) -> Result<Told, Halt>
+fn tell<W: Write>(w: &mut W, response: Result<Response, Lost>) -> Result<Wrote, TurnFault>
     ensures { Tells response (W.contents w.old) (W.contents w.new) result }
 {
     match response {
         Ok(Response::Refused(text)) => {
-            after_writing(write_text(w, text.as_slice()), Told::Answered, false)
+            after_writing(write_text(w, text.as_slice()), Wrote::Answered, false)
         }
-        Ok(Response::Replied(text)) => after_writing(write_reply(w, &text), Told::Answered, true),
-        Ok(Response::Fault) => after_writing(write_text(w, store_bytes()), Told::Failed, false),
-        Err(lost) => Err(Halt {
+        Ok(Response::Replied(text)) => after_writing(write_reply(w, &text), Wrote::Answered, true),
+        Ok(Response::Fault) => after_writing(write_text(w, store_bytes()), Wrote::Failed, false),
+        Err(lost) => Err(TurnFault {
             acted: lost.acted,
             cause: Cause::Memory,
         }),
@@ -91,7 +91,7 @@ fn take_message<W: Write, D: Desk>(
     w: &mut W,
     connection: &mut Connection,
     next: NextMessage,
-) -> Result<Option<Ended>, Halt>
+) -> Result<Option<Ended>, TurnFault>
     requires few { connection.old.answered < max_messages }
     requires next { WholeNext connection.old.inbox.buf.items next }
     ensures { (left : Option (List ℕ))
@@ -108,8 +108,8 @@ fn take_message<W: Write, D: Desk>(
         Err(halt) => return Err(halt),
     };
     match told {
-        Told::Failed => Ok(Some(Ended::Closed)),
-        Told::Answered => Ok(behind_reply(connection, next.end, close)),
+        Wrote::Failed => Ok(Some(Ended::Closed)),
+        Wrote::Answered => Ok(behind_reply(connection, next.end, close)),
     }
 }
 
@@ -131,21 +131,21 @@ fn behind_reply(connection: &mut Connection, end: usize, close: bool) -> Option<
 }
 
 // Writes the reply to what is refused.
-fn refuse<W: Write>(alloc: Global, w: &mut W, refusal: Refusal) -> Result<Option<Ended>, Halt>
+fn refuse<W: Write>(alloc: Global, w: &mut W, refusal: Refusal) -> Result<Option<Ended>, TurnFault>
     ensures ok { IfOk result (λ ended. (ended ≡ Some Ended.Closed)
         × Appends (W.contents w.old) (W.contents w.new) (refusal_reply refusal)) }
     ensures err { IfErr result (λ stop. (stop.acted ≡ false)
         × StopsWithin (W.contents w.old) (W.contents w.new) (refusal_reply refusal) stop.cause) }
 {
     let Ok(text) = refusal_bytes(alloc, refusal) else {
-        return Err(Halt {
+        return Err(TurnFault {
             acted: false,
             cause: Cause::Memory,
         });
     };
     match write_text(w, text.as_slice()) {
         Ok(()) => Ok(Some(Ended::Closed)),
-        Err(cause) => Err(Halt {
+        Err(cause) => Err(TurnFault {
             acted: false,
             cause,
         }),
@@ -159,7 +159,7 @@ fn turn<R: Read, W: Write, D: Desk>(
     r: &mut R,
     w: &mut W,
     connection: &mut Connection,
-) -> Result<Option<Ended>, Halt>
+) -> Result<Option<Ended>, TurnFault>
     requires { connection.old.answered < max_messages }
     ensures { length connection.old.inbox.buf.items < read_size
         → Turns D.Desk call.now.moment connection.old.answered
@@ -170,7 +170,7 @@ fn turn<R: Read, W: Write, D: Desk>(
     let next = match connection.inbox.next_message(r) {
         Ok(next) => next,
         Err(cause) => {
-            return Err(Halt {
+            return Err(TurnFault {
                 acted: false,
                 cause,
             });

@@ -10,7 +10,7 @@ ghost use Rattle.room_judge.specs.Stored.{found_site};
 use crate::arrival::Found;
 use crate::asker::{Asker, copy_user};
 use crate::halt::Halt;
-use crate::walk::Walk;
+use crate::walk::Walker;
 use room_ace::{Entry, EntryKind, Mask};
 use room_eval::{Verdict, decide, events};
 use room_machine::Reply;
@@ -136,7 +136,7 @@ pub(crate) fn note_check<K: Keep>(
     Ok(())
 }
 
-impl<K: Keep> Walk<'_, K> {
+impl<K: Keep> Walker<'_, K> {
     /// One check of these bits on the object.
     pub fn check(&mut self, path: &Path, found: &Found, mask: Mask) -> Result<(), Halt>
         ensures same_keep { self.new.keep.ghost_name ≡ self.old.keep.ghost_name }

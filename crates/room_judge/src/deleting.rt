@@ -11,7 +11,7 @@ ghost use Rattle.room_judge.specs.Stored.{found_site};
 use crate::arrival::Found;
 use crate::checking::{Checked, granted, note_check};
 use crate::halt::Halt;
-use crate::walk::Walk;
+use crate::walk::Walker;
 use room_ace::Mask;
 use room_eval::{DeleteVerdict, Verdict, may_delete};
 use room_rows::{Keep, KeepFault, Path};
@@ -48,7 +48,7 @@ struct Leaving<'a> {
     verdict: &'a DeleteVerdict,
 }
 
-impl<K: Keep> Walk<'_, K> {
+impl<K: Keep> Walker<'_, K> {
     // Nothing where the rule grants, and else the denial.
     fn deletable(&self, leaving: &Leaving<'_>) -> Result<(), Halt>
         ensures { Grants result (of_deletion

@@ -13,4 +13,4 @@ mod walking;
 pub use arrival::{Both, Found, Under};
 pub use asker::{Asker, caller_of};
 pub use halt::{Halt, refusal, refused};
-pub use walk::Walk;
+pub use walk::Walker;

@@ -7,12 +7,12 @@ ghost use Rattle.room_judge.specs.Spot.{IsPaired, IsSpotted, SpotsUnder};
 
 use crate::arrival::{Both, Found, Under};
 use crate::halt::{Halt, refusal};
-use crate::walk::Walk;
+use crate::walk::Walker;
 use room_machine::Reason;
 use room_rows::{Keep, Node, Path};
 use std::alloc::Global;
 
-impl<K: Keep> Walk<'_, K> {
+impl<K: Keep> Walker<'_, K> {
     /// The walk to the folder of the path's last name, and what has that name in it. The folder has
     /// to grant EXECUTE. The path isn't the root's. Faults are those of `walk_along`.
     pub fn to_spot(&mut self, path: &Path) -> Result<Under, Halt>

@@ -8,7 +8,7 @@ use std::alloc::Global;
 /// denied ends them with `Refused`, a fault of the keeper or of memory with `Fault`, and the records
 /// that a check calls for are noted either way.
 #[derive(Drop)]
-pub struct Walk<'a, K: Keep> {
+pub struct Walker<'a, K: Keep> {
     /// Where memory is taken.
     pub alloc: Global,
     /// The rows.

@@ -9,12 +9,12 @@ ghost use Rattle.room_judge.specs.Stored.{found_site};
 
 use crate::arrival::Found;
 use crate::halt::{Halt, refusal};
-use crate::walk::Walk;
+use crate::walk::Walker;
 use room_ace::{Mask, ObjKind};
 use room_machine::Reason;
 use room_rows::{Keep, Node, Path};
 
-impl<K: Keep> Walk<'_, K> {
+impl<K: Keep> Walker<'_, K> {
     /// Passes through an object on the way, which has to be a folder that grants EXECUTE.
     pub fn pass_through(&mut self, path: &Path, found: &Found) -> Result<(), Halt>
         ensures same_keep { self.new.keep.ghost_name ≡ self.old.keep.ghost_name }

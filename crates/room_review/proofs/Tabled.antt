@@ -16,12 +16,12 @@ use Rattle.room_rows.specs.Walk.{walk_of}
 use Rattle.room_machine.specs.Site.{Site, site_at}
 use Rattle.room_machine.specs.Stored.{stored_along, stored_site}
 use Rattle.room_review.specs.declared.parties.Party.{Party}
-use Rattle.room_review.specs.declared.question.Question.{Question}
+use Rattle.room_review.specs.declared.question.Scope.{Scope}
 use Rattle.room_review.specs.declared.question.Reviewed.TheVariants.{Table}
 use Rattle.room_review.specs.declared.question.Start.{Start}
 use Rattle.room_review.specs.declared.standing.Standing.{Standing}
-use Rattle.room_review.specs.declared.telling.Asked.{Asked}
-use Rattle.room_review.specs.declared.telling.Waiting.{Waiting}
+use Rattle.room_review.specs.declared.telling.Audience.{Audience}
+use Rattle.room_review.specs.declared.telling.Pending.{Pending}
 use Rattle.room_review.specs.Standing.{standings}
 use Rattle.room_review.specs.Table.{IsReview, IsReviewAt, IsTable, Place, header, object_rows, site_of}
 use Rattle.room_review.specs.Table.{table_rows, users_of}
@@ -88,8 +88,8 @@ module _ (parties : List Party) where
 -- ---- the table
 
 -- the rows of the object, and then those of all below it
-pub table_told : (asked : Asked) (rows : Rows) (most : ℕ) (start : Start) (sites : List Site)
-    (waiting : List Waiting) (before text more : List ℕ)
+pub table_told : (asked : Audience) (rows : Rows) (most : ℕ) (start : Start) (sites : List Site)
+    (waiting : List Pending) (before text more : List ℕ)
     → WaitsBelow asked most (place_at start sites) start.node waiting rows
     → text ≡ before
     ++ rows_text (object_rows true asked.parties.items (place_at start sites) start.node)
@@ -134,7 +134,7 @@ gathers_users rows pairs most start sites paired above all starts first second t
 
 -- ---- the answer
 
-module _ (question : Question) (start : Start) (rows : Rows)
+module _ (question : Scope) (start : Start) (rows : Rows)
     (same : start.path ≡ question.path) where
   abbrev pub Walked : ℕ → Type 0
   Walked rest =

@@ -15,22 +15,22 @@ use Rattle.room_dump.proofs.Reached.{Reached, all_there, goes_down, none_waits, 
 use Rattle.room_dump.proofs.Waits.{texts, texts-below, told_on}
 use Rattle.room_entry.proofs.Facts.Members.{count}
 use Rattle.room_review.specs.declared.parties.Party.{Party}
-use Rattle.room_review.specs.declared.telling.Asked.{Asked}
-use Rattle.room_review.specs.declared.telling.Waiting.{Waiting}
+use Rattle.room_review.specs.declared.telling.Audience.{Audience}
+use Rattle.room_review.specs.declared.telling.Pending.{Pending}
 use Rattle.room_review.specs.Table.{Place, place_below, object_rows}
 use Rattle.room_review.specs.Telling.{TellsOne, Under, WaitsBelow, below_rows, children_under}
 use Rattle.room_review.specs.Telling.{place_under, rows_under, under, waiting_at}
 use Rattle.room_review.proofs.Starting.{starts_reached}
 
 -- the rows of an object that waits and of all below it, no deeper than the number says
-abbrev tale : Asked → ℕ → Content → Under → List (List (List ℕ))
+abbrev tale : Audience → ℕ → Content → Under → List (List (List ℕ))
 tale asked depth content it =
     tree_of place_below (object_rows asked.all asked.parties.items) depth content (place_under it) it.node
 
 abbrev nodes_of : List Under → List Node
 nodes_of its = map (λ (it : Under). it.node) its
 
-pub record Telling (asked : Asked) (rows : Rows) (waiting : List Waiting) (most turn : ℕ)
+pub record Telling (asked : Audience) (rows : Rows) (waiting : List Pending) (most turn : ℕ)
     (before text : List ℕ) (whole : List (List (List ℕ))) : Type 0 where
   pub its : List Under
   pub waits : waiting ≡ map (waiting_at asked.parties.items) its
@@ -63,8 +63,8 @@ earlier : (a b c : ℕ) → (a + b) + 1 ≤ c → (a + b) + 0 ≤ c
 earlier a b c e = omega (arith, e)
 
 -- the children of the object that a review starts at wait
-pub tells_first : (asked : Asked) (rows : Rows) → AreRows rows → (most : ℕ) (place : Place)
-    (node : Node) (waiting : List Waiting) → WaitsBelow asked most place node waiting rows
+pub tells_first : (asked : Audience) (rows : Rows) → AreRows rows → (most : ℕ) (place : Place)
+    (node : Node) (waiting : List Pending) → WaitsBelow asked most place node waiting rows
     → (text : List ℕ)
     → Telling asked rows waiting most 0 text text (below_rows asked rows place node)
 tells_first asked rows are most place node waiting below text =
@@ -96,7 +96,7 @@ tells_first asked rows are most place node waiting below text =
 
 -- ---- the one that is taken
 
-record Last (parties : List Party) (its : List Under) (waits : List Waiting) (object : Waiting)
+record Last (parties : List Party) (its : List Under) (waits : List Pending) (object : Pending)
     : Type 0 where
   pub front : List Under
   pub it : Under
@@ -104,7 +104,7 @@ record Last (parties : List Party) (its : List Under) (waits : List Waiting) (ob
   pub waits_are : waits ≡ map (waiting_at parties) front
   pub object_is : object ≡ waiting_at parties it
 
-last_of_them : (parties : List Party) (its : List Under) (waits : List Waiting) (object : Waiting)
+last_of_them : (parties : List Party) (its : List Under) (waits : List Pending) (object : Pending)
     → waits ++ object ∷ [] ≡ map (waiting_at parties) its → Last parties its waits object
 last_of_them parties [] [] object is = absurd (let wrong : ⊥ = cc in wrong)
 last_of_them parties [] (wait ∷ waits) object is = absurd (let wrong : ⊥ = cc in wrong)
@@ -129,8 +129,8 @@ last_of_them parties (it ∷ its) (wait ∷ waits) object is =
     }
 
 -- its rows are told, and its children wait
-pub tells_next : (asked : Asked) (rows : Rows) → AreRows rows
-    → (waits after : List Waiting) (object : Waiting) (most turn : ℕ) (before text more : List ℕ)
+pub tells_next : (asked : Audience) (rows : Rows) → AreRows rows
+    → (waits after : List Pending) (object : Pending) (most turn : ℕ) (before text more : List ℕ)
     (whole : List (List (List ℕ)))
     → Telling asked rows (waits ++ object ∷ []) most turn before text whole
     → TellsOne asked object waits after text more rows tt
@@ -152,7 +152,7 @@ tells_next asked rows are waits after object most turn before text more whole t 
       its = front ++ kids;
       waits =
           told.1
-          ∙ ap (λ (l : List Waiting). l ++ map (waiting_at parties) kids) last.waits_are
+          ∙ ap (λ (l : List Pending). l ++ map (waiting_at parties) kids) last.waits_are
           ∙ sym (map-append (waiting_at parties) front kids);
       reached =
           subst (λ (l : List Node). Reached content l most (turn + 1))
@@ -172,7 +172,7 @@ tells_next asked rows are waits after object most turn before text more whole t 
     }
 
 -- none waits after n turns
-pub none_left : (asked : Asked) (rows : Rows) (waiting : List Waiting) (most turn : ℕ)
+pub none_left : (asked : Audience) (rows : Rows) (waiting : List Pending) (most turn : ℕ)
     (before text : List ℕ) (whole : List (List (List ℕ))) → most ≤ turn
     → (length waiting ≡ 0 → ⊥) → Telling asked rows waiting most turn before text whole → ⊥
 none_left asked rows waiting most turn before text whole over some t =
@@ -182,7 +182,7 @@ none_left asked rows waiting most turn before text whole over some t =
     t.reached
 
 -- where none waits, all is told
-pub all_told : (asked : Asked) (rows : Rows) (waiting : List Waiting) (most turn : ℕ)
+pub all_told : (asked : Audience) (rows : Rows) (waiting : List Pending) (most turn : ℕ)
     (before text : List ℕ) (whole : List (List (List ℕ))) → waiting ≡ []
     → Telling asked rows waiting most turn before text whole → text ≡ before ++ rows_text whole
 all_told asked rows waiting most turn before text whole none t =

@@ -29,7 +29,7 @@ use Rattle.room_machine.specs.Site.{Site, site_at, sites_along}
 use Rattle.room_machine.specs.Step.{caller_in}
 use Rattle.room_machine.specs.Stored.{stored_along, stored_from, stored_site}
 use Rattle.room_review.specs.declared.parties.Party.{Party}
-use Rattle.room_review.specs.declared.question.Question.{Question}
+use Rattle.room_review.specs.declared.question.Scope.{Scope}
 use Rattle.room_review.specs.declared.question.Reviewed.TheVariants.{Table}
 use Rattle.room_review.specs.Laws.{SaysAlike, SaysAt, stored_above, told_at, told_there, users_on}
 use Rattle.room_review.specs.LookedUp.{is_row_of, label_in, looked_up, nearest}
@@ -106,7 +106,7 @@ stored_there rows are sound path site stands =
 
 -- ---- the table of an object
 
-module _ (rows : Rows) (are : AreRows rows) (sound : AreSound rows) (question : Question)
+module _ (rows : Rows) (are : AreRows rows) (sound : AreSound rows) (question : Scope)
     (target : Site)
     (found : site_at (stored_along rows.read question.path) question.path ≡ Some target)
     (parties : List Party) where

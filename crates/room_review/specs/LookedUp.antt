@@ -15,7 +15,7 @@ use Rattle.room_rows.specs.Rows.{AreRows, Rows}
 use Rattle.room_rows.specs.Sound.{AreSound}
 use Rattle.room_machine.specs.Rights.{may_remove_at, rights_at}
 use Rattle.room_machine.specs.Site.{Site, site_at, sites_along}
-use Rattle.room_review.specs.declared.question.Question.{Question}
+use Rattle.room_review.specs.declared.question.Scope.{Scope}
 use Rattle.room_review.specs.declared.question.Reviewed.{Reviewed}
 use Rattle.room_review.specs.declared.question.Reviewed.TheVariants.{Table}
 use Rattle.room_review.specs.Table.{IsReview, header, kind_word, yes_or_no}
@@ -76,7 +76,7 @@ StandsAt room path site = site_at (sites_along room path) path ≡ Some site
 
 -- What is looked up of each caller that is asked for, at each object from the path on, is what the
 -- room allows there.
-abbrev pub SaysTheRoom : Content → Question → List (List (List ℕ)) → Type 0
+abbrev pub SaysTheRoom : Content → Scope → List (List (List ℕ)) → Type 0
 SaysTheRoom room question table =
     (user : Option (List ℕ)) (more : List (List ℕ)) (site : Site) →
     IsTrue (is_caller user) → IsAskedFor question.user user →
@@ -100,7 +100,7 @@ IsOfObject room path row =
 -- there.
 abbrev pub TableIsTheRoom : Type 0
 TableIsTheRoom =
-    (rows : Rows) (question : Question) (reviewed : Reviewed) (site : Site) →
+    (rows : Rows) (question : Scope) (reviewed : Reviewed) (site : Site) →
     AreRows rows → AreSound rows → IsReview rows.read.members question rows reviewed →
     StandsAt (meaning rows.read) question.path site →
     (text : List ℕ) × (table : List (List (List ℕ))) × (reviewed ≡ Table text)

@@ -16,7 +16,7 @@ use Rattle.room_machine.specs.Stored.{stored_along, stored_site}
 use Rattle.room_dump.specs.Dump.{tree_of}
 use Rattle.room_import.specs.Exports.{rows_text}
 use Rattle.room_review.specs.declared.parties.Party.{Party}
-use Rattle.room_review.specs.declared.question.Question.{Question}
+use Rattle.room_review.specs.declared.question.Scope.{Scope}
 use Rattle.room_review.specs.declared.question.Reviewed.{Reviewed}
 use Rattle.room_review.specs.declared.question.Reviewed.TheVariants.{Table, Refused}
 use Rattle.room_machine.specs.Rights.{last_of, may_remove, rights}
@@ -138,7 +138,7 @@ refused_after path last =
     else Refused last.path NotFolder
 
 -- the table of an object at the end of a way
-pub record IsTable (pairs : List (List ℕ × List ℕ)) (question : Question) (above : List Site)
+pub record IsTable (pairs : List (List ℕ × List ℕ)) (question : Scope) (above : List Site)
     (target : Site) (rows : Rows) (reviewed : Reviewed) : Type 0 where
   pub parties : List Party
   pub are : AreAsked question.user rows (users_of rows pairs above target.node) parties
@@ -151,7 +151,7 @@ pub record IsRefusal (path : List (List ℕ)) (rows : Rows) (reviewed : Reviewed
   pub is_last : last_of (stored_along rows.read path) ≡ Some last
   pub is : reviewed ≡ refused_after path last
 
-abbrev pub IsReviewAt : List (List ℕ × List ℕ) → Question → Option Site → Rows → Reviewed → Type 0
+abbrev pub IsReviewAt : List (List ℕ × List ℕ) → Scope → Option Site → Rows → Reviewed → Type 0
 IsReviewAt pairs question None rows reviewed = IsRefusal question.path rows reviewed
 IsReviewAt pairs question (Some target) rows reviewed =
     IsTable pairs question (take (length question.path) (stored_along rows.read question.path))
@@ -159,7 +159,7 @@ IsReviewAt pairs question (Some target) rows reviewed =
 
 -- The table of the object at the path, or the refusal where the path leads nowhere. The lists are
 -- those that are stored, and the pairs are given.
-abbrev pub IsReview : List (List ℕ × List ℕ) → Question → Rows → Reviewed → Type 0
+abbrev pub IsReview : List (List ℕ × List ℕ) → Scope → Rows → Reviewed → Type 0
 IsReview pairs question rows reviewed =
     IsReviewAt pairs question (site_at (stored_along rows.read question.path) question.path) rows
     reviewed

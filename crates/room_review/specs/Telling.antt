@@ -17,13 +17,13 @@ use Rattle.room_machine.specs.declared.reply.Reason.TheVariants.{NoSuch, NotFold
 use Rattle.room_machine.specs.Site.{Site, site_at}
 use Rattle.room_machine.specs.Stored.{stored_along, stored_site}
 use Rattle.room_review.specs.declared.parties.Party.{Party}
-use Rattle.room_review.specs.declared.question.Question.{Question}
+use Rattle.room_review.specs.declared.question.Scope.{Scope}
 use Rattle.room_review.specs.declared.question.Reviewed.{Reviewed}
 use Rattle.room_review.specs.declared.question.Reviewed.TheVariants.{Refused, Table}
 use Rattle.room_review.specs.declared.question.Start.{Start}
 use Rattle.room_review.specs.declared.standing.Standing.{Standing}
-use Rattle.room_review.specs.declared.telling.Asked.{Asked}
-use Rattle.room_review.specs.declared.telling.Waiting.{Waiting}
+use Rattle.room_review.specs.declared.telling.Audience.{Audience}
+use Rattle.room_review.specs.declared.telling.Pending.{Pending}
 use Rattle.room_review.specs.Standing.{standings}
 use Rattle.room_review.specs.Table.{AreAsked, IsReview, IsTable, Place, place_below, object_rows}
 use Rattle.room_review.specs.Table.{site_of, table_rows}
@@ -69,7 +69,7 @@ abbrev pub place_under : Under → Place
 place_under it = place_below it.place it.folder it.node
 
 -- an object that waits, with all callers at its folder
-abbrev pub waiting_at : List Party → Under → Waiting
+abbrev pub waiting_at : List Party → Under → Pending
 waiting_at parties it = record {
   path = path_text (place_under it).path;
   node = it.node;
@@ -81,7 +81,7 @@ abbrev pub parent_path : List (List ℕ) → List ℕ
 parent_path path = flat_map (λ name. slash ∷ name) path
 
 -- a child of the object at this path
-abbrev pub waiting_below : List ℕ → List Standing → Node → Waiting
+abbrev pub waiting_below : List ℕ → List Standing → Node → Pending
 waiting_below above here node = record {
   path = above ++ slash ∷ node.name;
   node = node;
@@ -89,7 +89,7 @@ waiting_below above here node = record {
 }
 
 -- the children, of which the first in order of name is taken next
-abbrev pub waiting_children : List ℕ → List Standing → List Node → List Waiting
+abbrev pub waiting_children : List ℕ → List Standing → List Node → List Pending
 waiting_children above here nodes = map (waiting_below above here) (reverse nodes)
 
 -- the same, each with where it stands
@@ -97,11 +97,11 @@ abbrev pub children_under : Place → Node → List Node → List Under
 children_under place node children = map (under place node) (reverse children)
 
 -- the rows of an object that stands under a folder
-abbrev pub rows_under : Asked → Under → List (List (List ℕ))
+abbrev pub rows_under : Audience → Under → List (List (List ℕ))
 rows_under asked it = object_rows asked.all asked.parties.items (place_under it) it.node
 
 -- the rows of an object that waits, and its children wait
-abbrev pub TellsOne : Asked → Waiting → List Waiting → List Waiting → List ℕ → List ℕ → Rows
+abbrev pub TellsOne : Audience → Pending → List Pending → List Pending → List ℕ → List ℕ → Rows
     → Unit {0} → Type 0
 TellsOne asked object before after text more rows answer =
     (it : Under) → object ≡ waiting_at asked.parties.items it
@@ -110,26 +110,26 @@ TellsOne asked object before after text more rows answer =
     (children_under (place_under it) it.node (children_of rows.read it.node.id)))
 
 -- the rows of all below an object
-abbrev pub below_rows : Asked → Rows → Place → Node → List (List (List ℕ))
+abbrev pub below_rows : Audience → Rows → Place → Node → List (List (List ℕ))
 below_rows asked rows place node =
     flat_map (λ child. tree_of place_below (object_rows asked.all asked.parties.items)
     (length (numbers_of rows)) rows.read (place_below place node child) child)
     (children_of rows.read node.id)
 
 -- The children of an object at the path wait.
-pub record WaitsBelow (asked : Asked) (most : ℕ) (place : Place) (node : Node)
-    (waiting : List Waiting) (rows : Rows) : Type 0 where
+pub record WaitsBelow (asked : Audience) (most : ℕ) (place : Place) (node : Node)
+    (waiting : List Pending) (rows : Rows) : Type 0 where
   pub starts : StartsAt most place.path node rows
   pub waits : waiting ≡ map (waiting_at asked.parties.items)
       (children_under place node (children_of rows.read node.id))
 
 -- the rows of all below the object whose children wait
-abbrev pub TellsAll : Asked → ℕ → List Waiting → List ℕ → List ℕ → Rows → Unit {0} → Type 0
+abbrev pub TellsAll : Audience → ℕ → List Pending → List ℕ → List ℕ → Rows → Unit {0} → Type 0
 TellsAll asked most waiting text more rows answer =
     (place : Place) (node : Node) → WaitsBelow asked most place node waiting rows
     → more ≡ text ++ rows_text (below_rows asked rows place node)
 
-abbrev pub IsStray : Asked → ℕ → List Waiting → Rows → ℕ → Type 0
+abbrev pub IsStray : Audience → ℕ → List Pending → Rows → ℕ → Type 0
 IsStray asked most waiting rows row =
     (place : Place) (node : Node) → WaitsBelow asked most place node waiting rows
     → HasNoRoot rows row
@@ -171,12 +171,12 @@ GivesParties most start pairs user rows parties =
     (λ sites. AreAsked user rows (users_of rows pairs sites start.node) parties)
 
 -- the table without its header
-abbrev pub TellsTable : ℕ → Start → Asked → List ℕ → List ℕ → Rows → Unit {0} → Type 0
+abbrev pub TellsTable : ℕ → Start → Audience → List ℕ → List ℕ → Rows → Unit {0} → Type 0
 TellsTable most start asked text more rows answer =
     IfStarts most start rows (λ sites. more ≡ text
     ++ rows_text (table_rows rows asked.all asked.parties.items (place_at start sites) start.node))
 
-abbrev pub GivesTable : ℕ → Start → Asked → Rows → List ℕ → Type 0
+abbrev pub GivesTable : ℕ → Start → Audience → Rows → List ℕ → Type 0
 GivesTable most start asked rows bytes =
     IfStarts most start rows (λ sites. bytes
     ≡ table_text rows asked.all asked.parties.items (place_at start sites) start.node)
@@ -187,7 +187,7 @@ ended_at path Document rest = Refused (take (length path - rest) path) NotFolder
 ended_at path Folder rest = Refused (take (length path - (rest - 1)) path) NoSuch
 
 -- the review of the object at the start
-abbrev pub GivesReview : List (List ℕ × List ℕ) → Question → Start → Rows → List ℕ → Type 0
+abbrev pub GivesReview : List (List ℕ × List ℕ) → Scope → Start → Rows → List ℕ → Type 0
 GivesReview pairs question start rows bytes =
     (sites : List Site)
     → site_at (stored_along rows.read start.path) start.path
@@ -203,16 +203,16 @@ IsLostAt start rows row =
     → AreOn start.above sites → HasNoRoot rows row
 
 -- A walk along the path ended at the start, with this many names left over.
-abbrev pub IfWalked : Question → Start → ℕ → Rows → Type 0 → Type 0
+abbrev pub IfWalked : Scope → Start → ℕ → Rows → Type 0 → Type 0
 IfWalked question start rest rows P =
     start.path ≡ question.path
     → record { chain = start.above ++ start.node ∷ []; rest = rest }
     ≡ walk_of rows.read question.path
     → P
 
-abbrev pub GivesAnswer : List (List ℕ × List ℕ) → Question → Start → ℕ → Rows → Reviewed → Type 0
+abbrev pub GivesAnswer : List (List ℕ × List ℕ) → Scope → Start → ℕ → Rows → Reviewed → Type 0
 GivesAnswer pairs question start rest rows reviewed =
     IfWalked question start rest rows (IsReview pairs question rows reviewed)
 
-abbrev pub IsStranded : Question → Start → ℕ → Rows → ℕ → Type 0
+abbrev pub IsStranded : Scope → Start → ℕ → Rows → ℕ → Type 0
 IsStranded question start rest rows row = IfWalked question start rest rows (HasNoRoot rows row)

@@ -12,5 +12,5 @@ mod standing;
 mod telling;
 mod users;
 
-pub use question::{Question, Reviewed};
+pub use question::{Scope, Reviewed};
 pub use reviewing::review;

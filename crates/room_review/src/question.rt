@@ -6,7 +6,7 @@ use room_rows::{Bytes, Node, Nodes, Path};
 
 /// What a review is asked.
 #[derive(Drop)]
-pub struct Question {
+pub struct Scope {
     /// The object whose rows stand first. Those of all below it follow.
     pub path: Path,
     /// The user whose rows are asked for, or none for those of all callers.

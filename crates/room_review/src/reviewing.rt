@@ -16,8 +16,8 @@ ghost use Rattle.room_review.specs.Telling.{
 
 use crate::gathering::{gather_above, gather_below};
 use crate::parties::{Party, alone, everybody};
-use crate::question::{Question, Reviewed, Start};
-use crate::telling::{Asked, table_from};
+use crate::question::{Scope, Reviewed, Start};
+use crate::telling::{Audience, table_from};
 use crate::users::{Users, stranger_to};
 use room_ace::{Name, ObjKind};
 use room_machine::Reason;
@@ -33,7 +33,7 @@ pub fn review<K: Keep>(
     alloc: Global,
     keep: &mut K,
     pairs: &[(Name, Name)],
-    question: &Question,
+    question: &Scope,
 ) -> Result<Reviewed, KeepFault>
     ensures read { Reads K.Keep keep.old keep.new result HasNoRoot
         (IsReview pairs.now question.now) }
@@ -59,7 +59,7 @@ fn review_from<K: Keep>(
     alloc: Global,
     keep: &mut K,
     pairs: &[(Name, Name)],
-    question: &Question,
+    question: &Scope,
     start: &Start,
     rest: usize,
 ) -> Result<Reviewed, KeepFault>
@@ -96,7 +96,7 @@ fn table_at<K: Keep>(
     alloc: Global,
     keep: &mut K,
     pairs: &[(Name, Name)],
-    question: &Question,
+    question: &Scope,
     start: &Start,
 ) -> Result<Bytes, KeepFault>
     ensures read { Reads K.Keep keep.old keep.new result (IsLostAt start.now)
@@ -104,7 +104,7 @@ fn table_at<K: Keep>(
 {
     let most = keep.ids()?.len();
     let parties = parties_at(alloc, keep, most, pairs, question, start)?;
-    let asked = Asked {
+    let asked = Audience {
         alloc,
         parties,
         all: question.all,
@@ -118,7 +118,7 @@ fn parties_at<K: Keep>(
     keep: &mut K,
     most: usize,
     pairs: &[(Name, Name)],
-    question: &Question,
+    question: &Scope,
     start: &Start,
 ) -> Result<Vec<Party>, KeepFault>
     ensures read { Reads K.Keep keep.old keep.new result (IsAstray most start.now)

@@ -35,7 +35,7 @@ impl Model for Sheet {
 
 /// What is told of an object.
 #[derive(Drop)]
-pub(crate) struct Told<'a> {
+pub(crate) struct Described<'a> {
     /// The text of its path.
     pub(crate) path: &'a str,
     /// Whether it is a folder or a document.
@@ -69,7 +69,7 @@ impl Sheet {
         &mut self,
         alloc: Global,
         parties: &[Party],
-        told: &Told<'_>,
+        told: &Described<'_>,
     ) -> Result<(), AllocError>
         ensures { (above : List Site) (target : Site)
             → told.now.path.now ≡ path_text target.path → told.now.kind ≡ target.node.kind
@@ -107,7 +107,7 @@ fn push_lines(
     alloc: Global,
     writer: &mut Writer<Vec<u8>>,
     parties: &[Party],
-    told: &Told<'_>,
+    told: &Described<'_>,
 ) -> Result<(), AllocError>
     requires { StandsAtRow writer.old }
     ensures { OnOk result (written writer.new ≡ written writer.old ++ rows_text
@@ -126,7 +126,7 @@ fn push_lines(
 fn push_line(
     alloc: Global,
     writer: &mut Writer<Vec<u8>>,
-    told: &Told<'_>,
+    told: &Described<'_>,
     caller: (&Party, &Standing),
 ) -> Result<(), AllocError>
     requires { StandsAtRow writer.old }
@@ -145,7 +145,7 @@ fn push_line(
 fn push_fields<'a>(
     writer: &mut Writer<Vec<u8>>,
     rights: &'a str,
-    told: &'a Told<'a>,
+    told: &'a Described<'a>,
     caller: (&'a Party, &'a Standing),
 ) -> Result<(), AllocError>
     requires at_row { StandsAtRow writer.old }
@@ -168,7 +168,7 @@ fn push_fields<'a>(
     )
 }
 
-fn kind_str<'a>(told: &'a Told<'_>) -> &'a str
+fn kind_str<'a>(told: &'a Described<'_>) -> &'a str
     ensures { result.now ≡ kind_word told.now.kind }
 {
     match told.kind {

@@ -28,14 +28,14 @@ ghost use Rattle.room_review.specs.Telling.{
 
 use crate::parties::Party;
 use crate::question::Start;
-use crate::sheet::{Sheet, Told};
+use crate::sheet::{Sheet, Described};
 use crate::standing::{Standings, standings_at};
 use room_rows::{Bytes, Keep, KeepFault, Node, Nodes, Path, Text};
 use std::alloc::{AllocError, Global};
 
 /// Whose rows are told, and which.
 #[derive(Drop)]
-pub(crate) struct Asked {
+pub(crate) struct Audience {
     /// Where memory is taken.
     pub(crate) alloc: Global,
     /// The callers, in their order.
@@ -46,7 +46,7 @@ pub(crate) struct Asked {
 
 // An object that waits, its path, and all callers at the folder that it stands in.
 #[derive(Drop)]
-struct Waiting {
+struct Pending {
     path: Text,
     node: Node,
     folder: Standings,
@@ -57,7 +57,7 @@ pub(crate) fn table_from<K: Keep>(
     keep: &mut K,
     most: usize,
     start: &Start,
-    asked: &Asked,
+    asked: &Audience,
 ) -> Result<Bytes, KeepFault>
     ensures read { Reads K.Keep keep.old keep.new result (IsAstray most start.now)
         (GivesTable most start.now asked.now) }
@@ -72,7 +72,7 @@ fn push_table<K: Keep>(
     keep: &mut K,
     most: usize,
     start: &Start,
-    asked: &Asked,
+    asked: &Audience,
     sheet: &mut Sheet,
 ) -> Result<(), KeepFault>
     ensures read { Reads K.Keep keep.old keep.new result (IsAstray most start.now)
@@ -85,7 +85,7 @@ fn push_table<K: Keep>(
 }
 
 // Adds all rows of the object that a review starts at, and answers with all callers at it.
-fn push_first(start: &Start, asked: &Asked, sheet: &mut Sheet) -> Result<Standings, AllocError>
+fn push_first(start: &Start, asked: &Audience, sheet: &mut Sheet) -> Result<Standings, AllocError>
     ensures here { (sites : List Site) → AreOn start.now.above sites
         → IfOk result (λ here. here ≡ standings asked.now.parties.items sites
         (stored_site start.now.path start.now.node)) }
@@ -103,7 +103,7 @@ fn push_first(start: &Start, asked: &Asked, sheet: &mut Sheet) -> Result<Standin
 // Adds all rows of an object.
 fn push_all(
     start: &Start,
-    asked: &Asked,
+    asked: &Audience,
     here: &Standings,
     sheet: &mut Sheet,
 ) -> Result<(), AllocError>
@@ -115,7 +115,7 @@ fn push_all(
         (stored_site start.now.path start.now.node))) }
 {
     let path = start.path.to_text(asked.alloc)?;
-    let told = Told {
+    let told = Described {
         path: path.as_str(),
         kind: start.node.kind,
         here,
@@ -125,7 +125,7 @@ fn push_all(
 }
 
 // All callers at the last of the objects on a way, or none where there is none.
-fn standings_above(asked: &Asked, above: &[Node]) -> Result<Option<Standings>, AllocError>
+fn standings_above(asked: &Audience, above: &[Node]) -> Result<Option<Standings>, AllocError>
     ensures { (sites : List Site) → AreOn above.now sites
         → IfOk result (λ folder. folder ≡ folder_standings asked.now.parties.items sites) }
 {
@@ -143,7 +143,7 @@ fn children_of(
     path: &Path,
     here: &Standings,
     children: Nodes,
-) -> Result<Vec<Waiting>, AllocError>
+) -> Result<Vec<Pending>, AllocError>
     ensures { IfOk result (λ waiting.
         waiting.items ≡ waiting_children (parent_path path.now) here.now children) }
 {
@@ -168,8 +168,8 @@ fn parent_text(alloc: Global, path: &Path) -> Result<String, AllocError>
 fn push_waiting<K: Keep>(
     keep: &mut K,
     most: usize,
-    asked: &Asked,
-    waiting: &mut Vec<Waiting>,
+    asked: &Audience,
+    waiting: &mut Vec<Pending>,
     sheet: &mut Sheet,
 ) -> Result<(), KeepFault>
     ensures read { Reads K.Keep keep.old keep.new result
@@ -195,9 +195,9 @@ fn push_waiting<K: Keep>(
 // Adds the rows of an object, and has its children wait.
 fn push_one<K: Keep>(
     keep: &mut K,
-    asked: &Asked,
-    object: &Waiting,
-    waiting: &mut Vec<Waiting>,
+    asked: &Audience,
+    object: &Pending,
+    waiting: &mut Vec<Pending>,
     sheet: &mut Sheet,
 ) -> Result<(), KeepFault>
     ensures read { Reads K.Keep keep.old keep.new result IsUnreadable
@@ -210,7 +210,7 @@ fn push_one<K: Keep>(
 }
 
 // Adds the rows of an object, and answers with all callers at it.
-fn push_rows(asked: &Asked, object: &Waiting, sheet: &mut Sheet) -> Result<Standings, AllocError>
+fn push_rows(asked: &Audience, object: &Pending, sheet: &mut Sheet) -> Result<Standings, AllocError>
     ensures here { (it : Under) → object.now ≡ waiting_at asked.now.parties.items it
         → IfOk result (λ here. here ≡ standings asked.now.parties.items (place_under it).above
         (site_of (place_under it) it.node)) }
@@ -224,8 +224,8 @@ fn push_rows(asked: &Asked, object: &Waiting, sheet: &mut Sheet) -> Result<Stand
 }
 
 fn push_told(
-    asked: &Asked,
-    object: &Waiting,
+    asked: &Audience,
+    object: &Pending,
     here: &Standings,
     sheet: &mut Sheet,
 ) -> Result<(), AllocError>
@@ -234,7 +234,7 @@ fn push_told(
         (site_of (place_under it) it.node)
         → OnOk result (sheet.new ≡ sheet.old ++ rows_text (rows_under asked.now it)) }
 {
-    let told = Told {
+    let told = Described {
         path: object.path.as_str(),
         kind: object.node.kind,
         here,
@@ -246,7 +246,7 @@ fn push_told(
 // Has the children wait, of which the first in order of name is taken next.
 fn push_children(
     alloc: Global,
-    waiting: &mut Vec<Waiting>,
+    waiting: &mut Vec<Pending>,
     above: &str,
     here: &Standings,
     children: Nodes,
@@ -263,7 +263,7 @@ fn push_children(
 
 fn push_child(
     alloc: Global,
-    waiting: &mut Vec<Waiting>,
+    waiting: &mut Vec<Pending>,
     above: &str,
     here: &Standings,
     node: Node,
@@ -273,7 +273,7 @@ fn push_child(
 {
     let path = path_below(alloc, above, node.name.as_str())?;
     let folder = here.copy()?;
-    waiting.push(Waiting { path, node, folder })?;
+    waiting.push(Pending { path, node, folder })?;
     Ok(())
 }
 

@@ -5,7 +5,7 @@ use Rattle.sqlite.specs.State.{State}
 use Rattle.room_rows.specs.declared.keep.KeepFault.{KeepFault}
 use Rattle.room_rows.specs.Keep.{HasCause, HasNoRoot}
 use Rattle.room_review.specs.Table.{IsReview}
-use Rattle.room_review.specs.declared.question.Question.{Question}
+use Rattle.room_review.specs.declared.question.Scope.{Scope}
 use Rattle.room_review.specs.declared.question.Reviewed.{Reviewed}
 use Rattle.store_tables.specs.Meaning.{rows_of}
 use Rattle.store_tables.specs.Shown.{Stays}
@@ -15,7 +15,7 @@ use Rattle.store_admin.specs.Dump.{HasDamagedRow}
 use Rattle.store_admin.specs.Operating.{AreMembers}
 use Rattle.room_store.specs.Reviews.{IsReviewBy, IsReviewOf}
 
-module _ (question : Question) (result : Result Reviewed KeepFault) where
+module _ (question : Scope) (result : Result Reviewed KeepFault) where
   -- a review by the keeper
   pub reviewed_by : (begun mid : State) (pairs : List (List ℕ × List ℕ)) (before after : ℕ)
       → Stays begun mid

@@ -10,7 +10,7 @@ use crate::fault::StoreFault;
 use crate::look::{give_up, test_open};
 use crate::turn::begin;
 use room_ace::Name;
-use room_review::{Question, Reviewed, review};
+use room_review::{Scope, Reviewed, review};
 use room_rows::KeepFault;
 use sqlite::{Alter, Connection, Transaction};
 use std::alloc::Global;
@@ -22,7 +22,7 @@ fn review_by<S: Alter>(
     alloc: Global,
     keeper: &mut Keeper<'_, '_, S>,
     pairs: &[(Name, Name)],
-    question: &Question,
+    question: &Scope,
 ) -> Result<Reviewed, KeepFault>
     ensures same_reference { keeper.new.tx.ghost_name ≡ keeper.old.tx.ghost_name }
     ensures same_lender { keeper.new.tx.now.conn.ghost_name ≡ keeper.old.tx.now.conn.ghost_name }
@@ -38,7 +38,7 @@ fn review_within<S: Alter>(
     alloc: Global,
     tx: &mut Transaction<'_, S>,
     pairs: &[(Name, Name)],
-    question: &Question,
+    question: &Scope,
 ) -> Result<Reviewed, KeepFault>
     ensures same_reference { tx.new.conn.ghost_name ≡ tx.old.conn.ghost_name }
     ensures carries { CallsInside (state S.Store tx.old.conn.now) (state S.Store tx.new.conn.now)
@@ -59,7 +59,7 @@ fn review_within<S: Alter>(
 fn review_paired<S: Alter>(
     alloc: Global,
     tx: &mut Transaction<'_, S>,
-    question: &Question,
+    question: &Scope,
 ) -> Result<Reviewed, KeepFault>
     ensures same_reference { tx.new.conn.ghost_name ≡ tx.old.conn.ghost_name }
     ensures carries { CallsInside (state S.Store tx.old.conn.now) (state S.Store tx.new.conn.now)
@@ -73,7 +73,7 @@ fn review_paired<S: Alter>(
 fn review_inside<S: Alter>(
     alloc: Global,
     tx: &mut Transaction<'_, S>,
-    question: &Question,
+    question: &Scope,
 ) -> Result<Reviewed, KeepFault>
     ensures same_reference { tx.new.conn.ghost_name ≡ tx.old.conn.ghost_name }
     ensures carries { CallsInside (state S.Store tx.old.conn.now) (state S.Store tx.new.conn.now)
@@ -93,7 +93,7 @@ fn review_inside<S: Alter>(
 pub(crate) fn review_on<S: Alter>(
     alloc: Global,
     conn: &mut Connection<S>,
-    question: &Question,
+    question: &Scope,
 ) -> Result<Reviewed, StoreFault>
     requires { conn.old.in_transaction ≡ false }
     ensures looked { Looked (state S.Store conn.old) (state S.Store conn.new) result HasDamagedRow

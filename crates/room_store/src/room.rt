@@ -34,7 +34,7 @@ use room_ace::{Name, SentList, Which};
 use room_inherit::Report;
 use room_machine::{Reply, Request};
 use room_remember::Memory;
-use room_review::{Question, Reviewed};
+use room_review::{Scope, Reviewed};
 use room_rows::{AuditRow, Path};
 use sqlite::{Alter, Connection};
 use std::alloc::Global;
@@ -162,7 +162,7 @@ impl<S: Alter> Room<S> {
     pub(crate) fn review(
         &mut self,
         alloc: Global,
-        question: &Question,
+        question: &Scope,
     ) -> Result<Reviewed, StoreFault>
         ensures looked { Looked (state S.Store self.old) (state S.Store self.new) result
             HasDamagedRow (IsReviewOf question.now) }

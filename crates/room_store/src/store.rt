@@ -32,7 +32,7 @@ use room_ace::{Name, SentList, Which};
 use room_inherit::Report;
 use room_inherit::laws::sound_is_no_fault;
 use room_machine::{Reply, Request};
-use room_review::{Question, Reviewed};
+use room_review::{Scope, Reviewed};
 use room_rows::{AuditRow, Path};
 use sqlite::{Alter, Connection};
 use std::alloc::Global;
@@ -208,7 +208,7 @@ impl<S: Alter> Store<S> {
     /// that the tables hold, as a table; or a refusal: no such object, or a document on the way.
     /// Both are read from the same rows. Nothing changes. The error is `Damaged` only for a damaged
     /// row, so never on sound rows.
-    pub fn review(&mut self, alloc: Global, question: &Question) -> Result<Reviewed, StoreFault>
+    pub fn review(&mut self, alloc: Global, question: &Scope) -> Result<Reviewed, StoreFault>
         ensures looked { Looked (state S.Store self.old.conn) (state S.Store self.new.conn) result
             HasDamagedRow (IsReviewOf question.now) }
         ensures leads { Leads (state S.Store self.old.conn) [] (state S.Store self.new.conn) }

@@ -4,7 +4,7 @@ ghost use Rattle.cli_outcome.specs.declared.fault.Fault.TheVariants.{Database, M
 ghost use Rattle.cli_words.specs.declared.stop.Stop.TheVariants.{Failed};
 ghost use Rattle.store_tables.specs.Seeing.{wants_memory};
 
-use crate::look::test_unopened;
+use crate::unopened::test_unopened;
 use cli_outcome::Fault;
 use cli_words::Stop;
 use sqlite::Error;

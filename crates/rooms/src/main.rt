@@ -50,7 +50,7 @@
 #![tactic(auto)]
 
 mod files;
-mod look;
+mod unopened;
 mod work;
 
 use cli_check::tell_check;

@@ -5,7 +5,7 @@ use room_ace::{Failure, Name, SentList, Which, read_name};
 use room_import::{CsvFault, read_groups, write_audits};
 use room_inherit::Report;
 use room_machine::Reply;
-use room_review::{Question, Reviewed};
+use room_review::{Scope, Reviewed};
 use room_rows::{AuditRow, Path};
 use room_store::{Store, StoreFault};
 use sqlite::Alter;
@@ -162,14 +162,14 @@ fn review<S: Alter>(
 }
 
 // A path, then perhaps a user, then perhaps `all`.
-fn question_of(alloc: Global, words: &str) -> Result<Question, Fail> {
+fn question_of(alloc: Global, words: &str) -> Result<Scope, Fail> {
     let (place, words) = cut(words);
     let (user, rest) = match words {
         "all" => ("", words),
         _ => cut(words),
     };
     let user = user_of(alloc, user)?;
-    Ok(Question {
+    Ok(Scope {
         path: path_of(alloc, place)?,
         user,
         all: rest == "all",
@@ -186,7 +186,7 @@ fn user_of(alloc: Global, text: &str) -> Result<Option<Name>, Fail> {
 fn reviewed<S: Alter>(
     alloc: Global,
     store: &mut Store<S>,
-    question: &Question,
+    question: &Scope,
 ) -> Result<Reviewed, StoreFault> {
     store.review(alloc, question)
 }

@@ -4,7 +4,7 @@ use crate::messages::head_of;
 use http_message::Routes;
 use room_http::{Answer, answer};
 use room_machine::Desk;
-use room_memory::MemDesk;
+use test_memory::MemDesk;
 use std::alloc::Global;
 use std::test::Fail;
 use test_player::open_keep;

@@ -1,6 +1,6 @@
 //! Streams that are cut off.
 use room_http::Ended;
-use room_memory::MemDesk;
+use test_memory::MemDesk;
 use std::alloc::Global;
 use std::test::Fail;
 use test_player::open_keep;

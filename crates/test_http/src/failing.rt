@@ -1,12 +1,12 @@
 //! Readers, writers and desks that fail.
 ghost use Rattle.std.specs.Prelude.{◌≡◌, ⊤, refl};
-ghost use Rattle.room_memory.specs.Memory.{content_in};
+ghost use Rattle.test_memory.specs.Memory.{content_in};
 ghost use Rattle.room_tree.specs.Memory.{rows_in};
 
 use room_ace::Name;
 use room_http::Cause;
 use room_machine::{Desk, DeskFault, Reply, Request};
-use room_memory::MemDesk;
+use test_memory::MemDesk;
 use std::alloc::Global;
 use std::test::Fail;
 use test_player::open_keep;

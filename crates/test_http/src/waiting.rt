@@ -1,7 +1,7 @@
 //! A client that waits for each reply before it says more.
 use http_message::Routes;
 use room_http::{Ended, serve};
-use room_memory::MemDesk;
+use test_memory::MemDesk;
 use std::alloc::Global;
 use std::cell::Cell;
 use std::io;

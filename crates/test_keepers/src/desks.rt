@@ -1,6 +1,6 @@
 //! Requests at a desk, and requests carried out in turn.
 use room_desk::{Asked, Desk, DeskFault, Reply, perform_all};
-use room_memory::MemDesk;
+use test_memory::MemDesk;
 use room_tree::{Keep, KeepFault};
 use std::alloc::Global;
 use std::test::Fail;

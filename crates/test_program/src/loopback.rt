@@ -6,7 +6,7 @@ use crate::meeting::{
     serves_untold,
 };
 use cli_serve::{Moments, Seconds, ServingFault, serve_on};
-use room_memory::MemDesk;
+use test_memory::MemDesk;
 use std::io::Write;
 use std::test::Fail;
 use test_player::open_keep;

@@ -2,7 +2,7 @@
 
 use crate::grounds::Ground;
 use crate::lines::{Place, play_lines};
-use room_memory::MemDesk;
+use test_memory::MemDesk;
 use room_tree::MemKeep;
 use std::alloc::Global;
 use std::test::Fail;

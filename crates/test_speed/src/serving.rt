@@ -9,7 +9,7 @@ use crate::workloads::{Message, messages};
 use http_message::Routes;
 use room_http::{Ended, serve};
 use room_machine::{Desk, DeskFault};
-use room_memory::MemDesk;
+use test_memory::MemDesk;
 use room_tree::MemKeep;
 use std::alloc::Global;
 use std::test::Fail;

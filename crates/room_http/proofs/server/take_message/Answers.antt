@@ -1,5 +1,5 @@
 use Rattle.std.proofs.Common.{refl, subst}
-use Rattle.room_http.specs.declared.server.Told.{Told}
+use Rattle.room_http.specs.declared.server.Wrote.{Wrote}
 use Rattle.room_http.specs.Serve.{seen}
 use Rattle.room_http.specs.Tell.{Tells}
 use Rattle.room_http.proofs.Telling.{at-value}
@@ -21,7 +21,7 @@ returns-in-Failed g c left near =
     response c.deref.ensures.value c.respond-response.ensures in
     take-failed d moment connection.answered old new buf c.args.next c.requires.next close response
     near refl responds
-    (at-value (Tells response old.sent new.sent) _ _ Told.Failed c.in-Ok.is c.in-Failed.is
+    (at-value (Tells response old.sent new.sent) _ _ Wrote.Failed c.in-Ok.is c.in-Failed.is
     c.tell.ensures)
 
 pub returns : goal.returns
@@ -41,7 +41,7 @@ returns g c left near =
     c.args.next c.requires.next close c.behind_reply.result response c.requires.few near refl
     (closes-the-same buf c.args.next c.requires.next n close c.says_close-close.ensures)
     c.behind_reply.ensures.closes c.behind_reply.ensures.stays c.behind_reply.ensures.counts responds
-    (at-value (Tells response old.sent new.sent) _ _ Told.Answered c.in-Ok.is c.in-Answered.is
+    (at-value (Tells response old.sent new.sent) _ _ Wrote.Answered c.in-Ok.is c.in-Answered.is
     c.tell.ensures)
 
 pub returns-in-Err : goal.returns-in-Err

@@ -1,5 +1,5 @@
 use Rattle.std.proofs.Common.{false}
-use Rattle.room_http.specs.declared.server.Told.{Told}
+use Rattle.room_http.specs.declared.server.Wrote.{Wrote}
 use Rattle.room_http.specs.Text.{store_text}
 use Rattle.room_http.specs.Tell.{Tells}
 use Rattle.room_http.proofs.Telling.{from-value, told-text}
@@ -11,7 +11,7 @@ returns-in-Ok-Refused g c =
     let new = g.W.Write.contents c.write_text.new.w in
     let result = c.after_writing.result in
     from-value (λ r. Tells r old new result) _ _ _ c.in-Ok-Refused.is c.in-Ok-Refused.field-0-is
-    (told-text _ c.in-Ok-Refused.text.items Told.Answered false old new c.write_text.result result
+    (told-text _ c.in-Ok-Refused.text.items Wrote.Answered false old new c.write_text.result result
     c.as_slice.ensures.value c.write_text.ensures.ok c.write_text.ensures.err
     c.write_text.ensures.cause c.after_writing.ensures.ok c.after_writing.ensures.err)
 
@@ -21,7 +21,7 @@ returns-in-Ok-Fault g c =
     let new = g.W.Write.contents c.write_text-in-Ok-Fault.new.w in
     let result = c.after_writing-in-Ok-Fault.result in
     from-value (λ r. Tells r old new result) _ _ _ c.in-Ok-Fault.is c.in-Ok-Fault.field-0-is
-    (told-text _ store_text Told.Failed false old new c.write_text-in-Ok-Fault.result result
+    (told-text _ store_text Wrote.Failed false old new c.write_text-in-Ok-Fault.result result
     c.store_bytes.ensures c.write_text-in-Ok-Fault.ensures.ok
     c.write_text-in-Ok-Fault.ensures.err c.write_text-in-Ok-Fault.ensures.cause
     c.after_writing-in-Ok-Fault.ensures.ok c.after_writing-in-Ok-Fault.ensures.err)

@@ -2,7 +2,7 @@ use Rattle.std.proofs.Common.{◌≡◌, ◌++◌, ◌∷◌, [], List, ℕ, Som
 use Rattle.room_machine.specs.Site.{Site}
 use Rattle.room_machine.specs.Stored.{stored_site}
 use Rattle.room_review.specs.declared.parties.Party.{Party}
-use Rattle.room_review.specs.declared.telling.Waiting.{Waiting}
+use Rattle.room_review.specs.declared.telling.Pending.{Pending}
 use Rattle.room_review.specs.Standing.{folder_standings, standings}
 use Rattle.room_review.specs.Table.{site_of}
 use Rattle.room_review.specs.Telling.{place_under}
@@ -19,9 +19,9 @@ returns-clause-here c it is =
     → c.in_ok-here.here ≡ standings ps over (stored_site path object.node)) c.deref.ensures.value
     c.in_ok-here.ensures in
     given above (place_under it).path
-    (ap (λ (w : Waiting). Some w.folder) is
+    (ap (λ (w : Pending). Some w.folder) is
     ∙ sym (folder_last parties it.place.above (site_of it.place it.folder)))
-    ∙ ap (λ (w : Waiting). standings parties above (stored_site (place_under it).path w.node)) is
+    ∙ ap (λ (w : Pending). standings parties above (stored_site (place_under it).path w.node)) is
 
 pub returns-clause-text : goal.returns-clause-text
 returns-clause-text c it is =

@@ -3,7 +3,7 @@ use Rattle.std.proofs.Common.{arith, inl}
 use Rattle.std.proofs.lemmas.Bool.{eqb-false, eqb-true}
 use Rattle.room_entry.proofs.Facts.Members.{no_length}
 use Rattle.room_dump.proofs.Reading.{answer_on, answered, damaged, fails, none_yet, read_on}
-use Rattle.room_review.specs.declared.telling.Waiting.{Waiting}
+use Rattle.room_review.specs.declared.telling.Pending.{Pending}
 use Rattle.room_review.specs.Telling.{below_rows}
 use Rattle.room_review.proofs.Told.{Telling, all_told, none_left, tells_first, tells_next}
 use Rattle.room_review.proofs.telling.push_waiting.Goals as goal
@@ -48,7 +48,7 @@ turns-preserved g c =
       read = read_on k laws a b d c.in_ok-told.field-0 sofar read;
       telling = λ t place node below.
           let whole = below_rows asked w place node in
-          let here = subst (λ (l : List Waiting). Telling asked w l c.args.most c.turns._turn
+          let here = subst (λ (l : List Pending). Telling asked w l c.args.most c.turns._turn
           c.args.sheet.now c.turns.sheet whole) c.in-Some.ensures.items
           (c.turns.invariant.telling (trusted t) place node below) in
           tells_next asked w (laws.are a b (trusted t)) c.pop.new.self.items

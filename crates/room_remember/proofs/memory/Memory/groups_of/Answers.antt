@@ -1,4 +1,4 @@
-use Rattle.room_remember.specs.Agrees.{Agrees}
+use Rattle.room_remember.specs.Agrees.{AgreesWithRows}
 use Rattle.room_remember.specs.declared.known.Known.TheVariants.{Grouped}
 use Rattle.room_remember.proofs.Recalling.{recalled}
 use Rattle.room_remember.proofs.memory.Memory.groups_of.Goals as goal
@@ -6,4 +6,4 @@ use Rattle.room_remember.proofs.memory.Memory.groups_of.Goals as goal
 pub returns-in-Some : goal.returns-in-Some
 returns-in-Some c =
     recalled c.groups_of.result c.in-Some.known.now (Grouped c.args.user.now)
-    (Agrees c.args.self.now) (λ rows agreed. c.in-Some.ensures rows agreed.places) c.groups_of.ensures
+    (AgreesWithRows c.args.self.now) (λ rows agreed. c.in-Some.ensures rows agreed.places) c.groups_of.ensures

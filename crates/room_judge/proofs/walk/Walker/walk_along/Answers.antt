@@ -4,7 +4,7 @@ use Rattle.room_rows.specs.Keep.{IsUnreadable}
 use Rattle.room_rows.specs.Rows.{Rows}
 use Rattle.room_judge.proofs.Calls.{done, of_read, tail}
 use Rattle.room_judge.proofs.Walked.{reached_from}
-use Rattle.room_judge.proofs.walk.Walk.walk_along.Goals as goal
+use Rattle.room_judge.proofs.walk.Walker.walk_along.Goals as goal
 
 pub returns-clause-done : goal.returns-clause-done
 returns-clause-done g c =

@@ -2,7 +2,7 @@ use Rattle.std.proofs.Common.{◌≡◌, Some, take}
 use Rattle.room_rows.specs.Content.{root_of}
 use Rattle.room_judge.proofs.Calls.{HasDone}
 use Rattle.room_judge.proofs.Ways.{IsOnWay}
-use Rattle.room_judge.proofs.walk.Walk.walk_down.Given as goal
+use Rattle.room_judge.proofs.walk.Walker.walk_down.Given as goal
 
 -- this many steps are done
 abbrev pub invariant-names : goal.invariant-names

@@ -7,7 +7,7 @@ use Rattle.room_judge.proofs.Calls.{done, tail}
 use Rattle.room_judge.proofs.Folders.{spot_barred, spot_follows}
 use Rattle.room_judge.proofs.Halts.{halts_first}
 use Rattle.room_judge.proofs.Ways.{reached_blames}
-use Rattle.room_judge.proofs.walk.Walk.to_spot.Goals as goal
+use Rattle.room_judge.proofs.walk.Walker.to_spot.Goals as goal
 
 pub returns-in_err-node-clause-done : goal.returns-in_err-node-clause-done
 returns-in_err-node-clause-done g c =

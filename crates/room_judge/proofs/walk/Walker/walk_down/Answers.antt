@@ -6,7 +6,7 @@ use Rattle.room_judge.proofs.Calls.{done, finish, then}
 use Rattle.room_judge.proofs.Halts.{halts}
 use Rattle.room_judge.proofs.Walked.{walk_done, walk_ends, walks_on}
 use Rattle.room_judge.proofs.Ways.{way_begins, way_blames}
-use Rattle.room_judge.proofs.walk.Walk.walk_down.Goals as goal
+use Rattle.room_judge.proofs.walk.Walker.walk_down.Goals as goal
 
 pub names-init : goal.names-init
 names-init g c =

@@ -5,7 +5,7 @@ use Rattle.room_judge.proofs.Folders.{spot_found}
 use Rattle.room_judge.proofs.Halts.{faults}
 use Rattle.room_judge.proofs.Judging.{blames_first}
 use Rattle.room_judge.proofs.Ways.{name_read}
-use Rattle.room_judge.proofs.walk.Walk.spot_in.Goals as goal
+use Rattle.room_judge.proofs.walk.Walker.spot_in.Goals as goal
 
 pub returns-in_err-child-clause-done : goal.returns-in_err-child-clause-done
 returns-in_err-child-clause-done g c =

@@ -8,7 +8,7 @@ use Rattle.room_judge.specs.declared.asker.Asker.{Asker}
 use Rattle.room_judge.proofs.Calls.{done, finish, then}
 use Rattle.room_judge.proofs.Halts.{halts, halts_first}
 use Rattle.room_judge.proofs.Ways.{not_reached, target_passed, target_refused}
-use Rattle.room_judge.proofs.walk.Walk.reach_kind.Goals as goal
+use Rattle.room_judge.proofs.walk.Walker.reach_kind.Goals as goal
 
 pub returns-in_err-node-clause-done : goal.returns-in_err-node-clause-done
 returns-in_err-node-clause-done g c =
