@@ -61,7 +61,8 @@ for file in usr/bin/rooms usr/bin/rooms-import usr/bin/rooms-export usr/sbin/roo
   $units/rooms@.service $units/rooms-nightly@.service \
   $units/rooms-nightly@.timer usr/share/rooms/page/index.html usr/share/rooms/room/settings \
   usr/share/rooms/office.conf usr/share/man/man1/rooms.1.gz usr/share/man/man8/rooms-add.8.gz \
-  usr/share/man/man8/rooms-setup.8.gz usr/share/bash-completion/completions/rooms \
+  usr/share/man/man8/rooms-setup.8.gz usr/lib/rooms/site.sh usr/share/bash-completion/completions/rooms \
+  usr/share/bash-completion/completions/rooms-setup usr/share/bash-completion/completions/rooms-nightly \
   $docs/docs/operating.md $docs/CHANGELOG.md $docs/copyright \
   etc/nginx/sites-available/rooms etc/nginx/sites-available/rooms-tls; do
   holds "$file is in it" [ -s "files/$file" ]

@@ -19,6 +19,7 @@ for file in /usr/local/bin/rooms /usr/local/sbin/rooms-nightly /usr/local/sbin/r
   /usr/local/sbin/rooms-full /usr/local/lib/rooms/pages.pl /etc/systemd/system/rooms-full@.service /usr/local/share/man/man8/rooms-full.8 \
   /usr/local/sbin/rooms-directory /usr/local/lib/rooms/directory.sh /usr/local/share/rooms/directory.apache /usr/local/share/rooms/signed-in \
   /etc/systemd/system/rooms-passwords.service /etc/systemd/system/rooms-directory@.timer /etc/nginx/snippets/rooms-directory.conf \
+  /usr/share/bash-completion/completions/rooms-add /usr/share/bash-completion/completions/rooms-handover \
   /usr/local/lib/rooms/several.sh /usr/local/share/rooms/room/path /etc/nginx/rooms.d/start.html; do
   holds "$file is there" [ -s "machine$file" ]
 done
@@ -64,7 +65,7 @@ status=$?
 says "a package's files without a folder" 2 'bad prefix'
 # The same script as a package has it.
 cp "$contrib/install" rooms-setup
-cp "$contrib"/{several,single,directory,passwords}.sh .
+cp "$contrib"/{several,single,directory,passwords,site}.sh .
 for word in --replace '--destdir /x' '--program /x' '--prefix /usr' --directory 'x'; do
   # shellcheck disable=SC2086
   ./rooms-setup $word </dev/null >"$work/out" 2>"$work/err"
