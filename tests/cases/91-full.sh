@@ -153,6 +153,7 @@ if [ -z "$nginx" ] || ! has curl; then
   return
 fi
 printf 'root:{PLAIN}r\nbob:{PLAIN}b\n' >rooms.htpasswd
+head -c 1048577 /dev/zero >larger
 start_front 'a full room behind nginx' || return
 for name in doc folder f; do ask "a folder $name" 201 '' root:r "/folder/$name" -X POST; done
 ask 'a document' 201 '' root:r /doc/f/d -X PUT --data-binary hello
@@ -172,6 +173,15 @@ ask 'a folder' 507 - root:r /folder/new -X POST
 ask 'a path with escapes' 507 - root:r /%64oc/new -X PUT --data-binary x
 ask 'a path with dots' 507 - root:r /f/../doc/new -X PUT --data-binary x --path-as-is
 ask 'a path with slashes' 507 - root:r //doc/new -X PUT --data-binary x
+# Only who has signed in is told so, and nobody gets there by its address.
+ask 'nobody without a password is told' 401 - '' /doc/new -X PUT --data-binary x
+ask 'nor with a wrong one' 401 - root:x /doc/new -X PUT --data-binary x
+ask 'another site is told nothing' 403 - '' /doc/new -X PUT --data-binary x -H 'Origin: http://elsewhere.example'
+ask 'more than a room takes' 413 - root:r /doc/new -X PUT -H Expect: --data-binary @larger
+ask 'nothing is at its address' 404 - root:r /rooms/full
+ask 'whatever is asked' 404 - root:r /rooms/full -X PUT --data-binary x
+answer root:r /doc/new -X PUT --data-binary x
+holds 'the answer has the policy' grep -q '^Content-Security-Policy: ' "$work/head"
 ask 'reading' 200 hello root:r /doc/f/d
 ask 'listing' 200 - root:r /folder/f
 ask 'what one may' 200 '{}' root:r '/can/f/d?'
@@ -195,8 +205,22 @@ ask 'it is not full' 502 - root:r /invoices/doc/new -X PUT --data-binary x
 : >"run/rooms-full/127.0.0.1:$((port + 5))"
 ask 'until it is' 507 - root:r /invoices/doc/new -X PUT --data-binary x
 ask 'a folder in it' 507 - root:r /invoices/folder/new -X POST
+ask 'nobody without a password is told of it' 401 - '' /invoices/folder/new -X POST
+ask 'nor with one of the room office' 401 - bob:b /invoices/folder/new -X POST
+ask 'nothing is at its address either' 404 - root:r /invoices/rooms/full
 ask 'what it removes goes to the server' 502 - root:r /invoices/object/f -X DELETE
 ask 'a list of it too' 502 - root:r /invoices/dacl/doc -X PUT --data-binary x
+# The same where passwords are remembered, by the blocks of operating.md.
+page_block 'What passwords cost' 2 >remember
+page_block 'What passwords cost' 3 >>remember
+grep -v '^nginx -t' remember | bash -eu
+remembers() { [ "$(curl -s -o "$work/body" -w '%{http_code}' -u root:r "$base/doc/f/d")" = 200 ] && grep -q auth_request snippets/rooms-server.conf; }
+reloaded remembers
+for place in '' /invoices; do
+  ask "who is remembered, at '$place'" 507 - root:r "$place/folder/new" -X POST
+  ask "who isn't, at '$place'" 401 - root:x "$place/folder/new" -X POST
+  ask "nobody, at '$place'" 401 - '' "$place/folder/new" -X POST
+done
 rm "run/rooms-full/127.0.0.1:$((port + 5))"
 # Removing helps.
 for ((one = 1; one < n; one++)); do
