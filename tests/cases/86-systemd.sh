@@ -160,7 +160,10 @@ does 'a place' 'echo 127.0.0.9 c.example >>/etc/hosts && rooms-add --on c.exampl
   htpasswd -bB /etc/nginx/rooms-other.htpasswd alice a'
 until_inside 'is there' "[ \"\$($web http://127.0.0.1/other/)\" = 200 ]"
 until_inside 'and a machine of another name gets nothing' "[ \"\$($web http://127.0.0.1/other/folder/)\" = 502 ]"
+does 'timers that somebody enabled' 'systemctl enable --now rooms-directory@invoices.timer rooms-standby@invoices.timer'
 does 'both are taken away' 'rooms-add --remove other && rooms-add --remove invoices'
+for timer in nightly standby directory; do shows "with the timer of rooms-$timer" "rooms-$timer@invoices.timer" ActiveState inactive; done
+does 'no unit of it is enabled' '! ls -d /etc/systemd/system/*.wants/*invoices* 2>/dev/null'
 shows 'with the server' rooms@invoices ActiveState inactive
 shows 'and its watch' rooms-full@invoices ActiveState inactive
 answer_is 'office is as before' 200 "$web http://127.0.0.1/doc/f"

@@ -263,8 +263,12 @@ prints 'the second one does not start' 'fault: database' inactive
 replies 'the first one goes on'
 does 'its own file' 'sed -i "s/office.rooms/invoices.rooms/" /etc/rooms/invoices.conf && systemctl start rooms@invoices'
 second 'brings it back'
+does 'timers that somebody enabled' 'systemctl enable --now rooms-directory@invoices.timer rooms-standby@invoices.timer
+  echo MOST=1 >/etc/rooms/invoices.groups'
 does 'it is taken away' "$(block docs/several.md 'rooms-add --remove')"
 holds 'its file stays' grep -qx 'kept /var/lib/rooms/invoices.rooms' "$work/out"
+holds 'what it takes from a directory too' grep -qx 'kept /etc/rooms/invoices.groups' "$work/out"
+does 'no unit of it is enabled' 'rm /etc/rooms/invoices.groups; ! ls -d /etc/systemd/system/*.wants/*invoices* 2>/dev/null'
 does 'nobody gets there' "curl -s -o /dev/null -w '%{http_code}\n' -u carol:typed $invoice; systemctl is-active rooms@invoices || :"
 prints 'and no server runs' 401 inactive
 does 'the same room again' 'rooms-add --title "Invoices & more" invoices'
