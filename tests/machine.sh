@@ -68,7 +68,7 @@ block() { # PAGE TEXT
   awk -v text="$2" '
     /^```/ { if (inside && found) printf "%s", kept; inside = !inside; found = 0; kept = ""; next }
     inside { kept = kept $0 "\n"; if (index($0, text)) found = 1 }' "$top/$1" |
-    sed -e 's/^apt-get update && //' -e "s/rooms_VERSION/rooms_${3-$version}/"
+    sed -e 's/^apt-get update && //' -e "s/rooms_VERSION/rooms_${3-${version-}}/"
 }
 
 # In place of systemd: it starts what the units name, with their settings, as their users.

@@ -2,11 +2,6 @@
 
 . "$here/front.sh"
 . "$here/directory.sh"
-contrib=$here/../contrib
-installs() {
-  "$contrib/install" --destdir "$PWD/machine" --program "$rooms" "$@" </dev/null >"$work/out" 2>"$work/err"
-  status=$?
-}
 says() { # NAME STATUS TEXT
   if [ "$status" = "$2" ] && cat "$work/out" "$work/err" | grep -qF -e "$3"; then pass; else
     fail "$1" "status $status, wanted $2 and '$3': $(head -c 400 "$work/out" "$work/err")"
@@ -17,10 +12,6 @@ tree() { (cd machine && find . -exec ls -ld --time-style=full-iso {} + && find .
 # The settings, and what is made of them.
 echo 'reader-word' >secret
 chmod 600 secret
-good() {
-  printf '%s\n' '# where it is' "URI=ldap://127.0.0.1:${ldap-389}" 'BASE=ou=people,dc=example,dc=net' \
-    'BIND=uid=reader,ou=people,dc=example,dc=net' "SECRET=$PWD/secret" 'USERS=(&(objectClass=person)(!(employeeType=gone)))'
-}
 installs
 tree >before
 refuses() { # NAME TEXT: what is in 'settings'
@@ -74,8 +65,6 @@ same 'the site asks its file again' machine/etc/nginx/snippets/rooms-server.conf
 rm -rf machine
 mv kept machine
 
-apache2=$(command -v apache2 || ls /usr/sbin/apache2 2>/dev/null)
-modules=/usr/lib/apache2/modules
 if [ -z "$nginx" ] || ! has curl || [ -z "$apache2" ] || [ ! -e $modules/mod_authnz_ldap.so ] || [ "$loopback" = no ]; then
   skip 'passwords of a directory' 'nginx, curl, or Apache with mod_authnz_ldap is missing'
   return
@@ -94,42 +83,12 @@ set_list F / dacl list:a "A:fd:root:$ALL" A:fd:alice:rwxa D:fd:carol:r A:fd:AUTH
 start_server F 100000 || return
 printf 'alice:{PLAIN}file\n' >rooms.htpasswd
 start_front 'behind a directory' || return
-start_apache() { # FILE-OF-SETTINGS
-  installs --directory "$1"
-  # Who may enter a further room, as directory.md says it.
-  mkdir -p directory.d
-  awk '/^cat >.*invoices.apache/ { on = 1; next } /^END/ { on = 0 } on' "$here/../docs/directory.md" >directory.d/invoices.apache
-  sed -e "s#/etc/rooms/directory.d#$PWD/directory.d#" \
-    -e "s#/run/rooms-directory#$PWD/run#; s#127.0.0.1:8778#127.0.0.1:$apache#; s#^ErrorLog .*#ErrorLog $PWD/apache.log#" \
-    -e "s#/usr/local/share/rooms#$PWD/machine/usr/local/share/rooms#" machine/etc/rooms/directory.apache >apache.conf
-  mkdir -p run
-  chmod 755 "$work" . machine
-  rm -f run/pid
-  "$apache2" -f "$PWD/apache.conf" -DFOREGROUND >apache.out 2>&1 &
-  httpd=$!
-  others+=("$httpd")
-  began=$SECONDS
-  until [ "$(curl -s -o /dev/null -w '%{http_code}' "http://127.0.0.1:$apache/password/rooms")" != 000 ] ||
-    ! kill -0 "$httpd" 2>/dev/null || [ $((SECONDS - began)) -ge "$patience" ]; do sleep 0.1; done
-  kill -0 "$httpd" 2>/dev/null
-}
 good >settings
 if ! start_apache "$PWD/settings"; then
   skip 'passwords of a directory' "Apache doesn't start: $(head -c 300 apache.out apache.log)"
   return
 fi
-for file in rooms-server rooms-remembered rooms-directory; do
-  for_here "machine/etc/nginx/snippets/$file.conf" >"snippets/$file.conf"
-done
-ln -s ../snippets/rooms-directory.conf conf.d/rooms-remember.conf
-reload_front
-answers() { [ "$(curl -s -m 20 -o "$work/body" -w '%{http_code}' ${2:+-u "$2"} "$base$3")" = "$1" ]; }
-awaits() { # SECONDS COMMAND ..: until it succeeds
-  local began=$SECONDS most=$1
-  shift
-  until "$@" || [ $((SECONDS - began)) -ge "$most" ]; do sleep 0.3; done
-  "$@"
-}
+ask_directory
 holds 'the directory is asked' awaits "$patience" answers 200 alice:alice-word /folder/
 ask 'alice makes a document' 201 '' alice:alice-word /doc/f -X PUT --data-binary hello
 ask 'bob reads it' 200 hello bob:bob-word /doc/f
