@@ -92,6 +92,8 @@ none 'links of the installed pages' found
 if has python3; then
   "$top/tools/crates" --check >found
   none 'the tables of crates' found
+  "$top/tools/definitions" --check >found
+  none 'the files of definitions that statement.md counts' found
   "$top/tools/unused" >found 2>&1 && : >found
   none 'lemmas that nothing names' found
   "$top/tools/unused" --twice >found 2>&1 && : >found
