@@ -69,12 +69,12 @@ reload_front() {
   for one in ${before[@]+"${before[@]}"}; do wait_for "$one"; done
 }
 
-# The Nth block of commands below a heading of operating.md, with its files in this folder.
-page_block() { # HEADING N
-  awk -v heading="## $1" -v number="$2" '
+# The Nth block of commands below a heading of a page, with its files in this folder.
+page_block() { # PAGE HEADING N
+  awk -v heading="## $2" -v number="$3" '
     /^## / { on = $0 == heading }
     /^```/ { inside = $0 == "```sh"; if (on && inside) block++; next }
-    on && inside && block == number' "$here/../docs/operating.md" |
+    on && inside && block == number' "$here/../docs/$1.md" |
     sed -E "s#/(root|etc/ssl/private|etc/ssl|etc/nginx)/#$PWD/#g; s#^cd /etc/nginx\$#cd $PWD#"
 }
 

@@ -73,7 +73,7 @@ if ! furnish_terminal 2>said; then
 fi
 
 # The blocks of a page, each in a file of its own.
-pages='README docs/operating docs/backup docs/people docs/upgrading docs/several docs/capacity docs/lists docs/in-and-out docs/check docs/messages'
+pages='README docs/operating docs/backup docs/people docs/upgrading docs/several docs/capacity docs/lists docs/in-and-out docs/check docs/messages docs/passwords'
 mkdir -p blocks/docs
 for page in $pages; do
   awk -v into="blocks/$page" '
@@ -230,10 +230,10 @@ does 'as it was' 'cmp "share/ a /b " "out/ a /b "'
 
 # Several rooms, and passwords that are remembered.
 types 'a second room' docs/several 'rooms-add --title'
-types 'remembered' docs/operating '#include snippets/rooms-remembered' docs/operating 'rooms.d/invoices.path'
+types 'remembered' docs/passwords '#include snippets/rooms-remembered' docs/passwords 'rooms.d/invoices.path'
 does 'a password counts' 'curl -sf -u carol:typed http://127.0.0.1/invoices/me >/dev/null'
-types 'and not' docs/operating '^include snippets/rooms-remembered'
-types 'a program' docs/operating 'openssl rand'
+types 'and not' docs/passwords '^include snippets/rooms-remembered'
+types 'a program' docs/passwords 'openssl rand'
 types 'taken away' docs/several 'rooms-add --remove'
 
 # What is watched, and what is done when something is wrong.

@@ -39,7 +39,7 @@ does 'another one' "$(block docs/several.md 'invoices carol accounting')"
 does 'a certificate' 'openssl req -x509 -newkey ec -pkeyopt ec_paramgen_curve:P-256 -noenc -days 9 -subj /CN=rooms.example \
   -keyout /etc/ssl/private/rooms.key -out /etc/ssl/rooms.pem 2>/dev/null
   rooms-setup --tls /etc/ssl/rooms.pem /etc/ssl/private/rooms.key && systemctl reload nginx'
-does 'passwords are remembered' "$(block docs/operating.md '^auth_basic ".*;#include')"
+does 'passwords are remembered' "$(block docs/passwords.md '^auth_basic ".*;#include')"
 does 'settings' 'sed -i "s/^KEEP=.*/KEEP=7/" /etc/rooms/office.conf
   sed -i "s/rooms.example/rooms.example rooms.office.example/" /etc/nginx/sites-available/rooms-tls
   mkdir /etc/systemd/system/rooms@office.service.d

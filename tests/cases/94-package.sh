@@ -274,14 +274,14 @@ prints 'and no server runs' 401 inactive
 does 'the same room again' 'rooms-add --title "Invoices & more" invoices'
 holds 'with its users' grep -q '^kept /etc/nginx/rooms-invoices.htpasswd: its 1 users may sign in$' "$work/out"
 second 'it is back'
-does 'passwords that are remembered' "$(block docs/operating.md '^auth_basic ".*;#include')"
+does 'passwords that are remembered' "$(block docs/passwords.md '^auth_basic ".*;#include')"
 replies 'office is so'
 second 'it is as before'
-does 'those of the other room' "$(block docs/operating.md 'rooms.d/invoices.path')"
+does 'those of the other room' "$(block docs/passwords.md 'rooms.d/invoices.path')"
 second 'it is so too'
 does 'where they are' 'stat -c "%U %a" /run/rooms-passwords'
 prints 'for one user' 'www-data 700'
-does 'not remembered any more' "$(block docs/operating.md '^include snippets/rooms-remembered')"
+does 'not remembered any more' "$(block docs/passwords.md '^include snippets/rooms-remembered')"
 second 'nothing else has changed'
 
 # An upgrade to the same form.

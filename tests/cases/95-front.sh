@@ -169,9 +169,9 @@ makes_deepest() { # ROOM WHO READER
 }
 makes_deepest '' alice:a bob:b
 
-# A program's user, by the commands of operating.md.
+# A program's user, by the commands of passwords.md.
 if has htpasswd && has openssl; then
-  page_block 'What passwords cost' 1 >archive
+  page_block passwords 'Kinds of passwords' 1 >archive
   token=$(bash -eu archive 2>/dev/null)
   answer "archive:$token" /me
   holds "a program's user" grep -qx $'Room-User: archive\r' "$work/head"
@@ -261,15 +261,15 @@ reach=(-H 'Host: another.example')
 ask 'the site answers for all other names' 200 kept bob:b /doc/f
 reach=()
 
-# Passwords that are remembered, by the commands of operating.md.
-pasted() { page_block 'What passwords cost' "$1" | sed -e '/nginx -t/d' >pasted; bash -eu pasted; } # BLOCK
+# Passwords that are remembered, by the commands of passwords.md.
+pasted() { page_block passwords 'Remembered for ten seconds' "$1" | sed -e '/nginx -t/d' >pasted; bash -eu pasted; } # BLOCK
 cp snippets/rooms-server.conf server.before
 cp rooms.htpasswd all.htpasswd
-pasted 2
+pasted 1
 reloaded eval 'answers 404 "" /password/rooms && [ -d remembered ]'
 ask 'the other room is as before' 200 invoice bob:x /invoices/doc/f
 ask 'bob of office is nobody there as before' 401 - bob:b /invoices/doc/f
-pasted 3
+pasted 2
 holds 'nothing else asks for a password of office' [ "$(grep -c '^auth_basic' snippets/rooms-server.conf)" = 0 ]
 checked() {
   curl -s -o "$work/body" -D "$work/head" "$base/invoices/doc/f"
@@ -333,7 +333,7 @@ holds 'a page that asks for much meets no limit' [ "$(awk '{ print $1, $2 }' ask
 curl -s -o "$work/body" -w '%{http_code}\n' "$base/doc/f?[1-100]" | sort | uniq -c >asked
 holds 'what has no password is asked for one' [ "$(awk '{ print $1, $2 }' asked)" = '100 401' ]
 says_all bob:b /doc/f
-pasted 4
+pasted 3
 same 'switched off, the file is as it was' snippets/rooms-server.conf server.before
 unchecked() { answers 401 '' /password/rooms; }
 reloaded unchecked
@@ -366,7 +366,7 @@ if ! has openssl; then
   return
 fi
 
-for n in 3 4 5; do page_block TLS "$n"; done >certify
+for n in 3 4 5; do page_block operating TLS "$n"; done >certify
 if ! bash -eu certify >certify.out 2>&1; then
   fail 'a certificate' "it can't be made: $(tail -c 400 certify.out)"
   return
@@ -452,8 +452,8 @@ rm rooms.d/hr.host-tls
 serial() { openssl s_client -connect "127.0.0.1:$secure" -servername rooms.example </dev/null 2>/dev/null | openssl x509 -noout -serial; }
 serial >before
 {
-  page_block TLS 3 | head -n 1
-  page_block TLS 5
+  page_block operating TLS 3 | head -n 1
+  page_block operating TLS 5
 } >renew
 bash -eu renew >certify.out 2>&1
 kill -HUP "$proxy"
