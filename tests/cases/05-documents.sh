@@ -94,6 +94,8 @@ if has python3; then
   none 'the tables of crates' found
   "$top/tools/definitions" --check >found
   none 'the files of definitions that statement.md counts' found
+  "$top/tools/speed" check >found
+  none 'the places of tables of times' found
   "$top/tools/unused" >found 2>&1 && : >found
   none 'lemmas that nothing names' found
   "$top/tools/unused" --twice >found 2>&1 && : >found

@@ -283,8 +283,8 @@ does 'those of several' 'systemctl disable --now rooms rooms-nightly.timer; rm /
 types 'from an install by hand' docs/upgrading 'rm -f bin/rooms' docs/upgrading 'enable --now "$unit"'
 asks_as 200 alice GET /folder/letters
 
-# Blocks of the README that are for who builds or changes the program.
-for text in tools/build 'rt try' 'rooms init office.rooms' .ci/run; do block_of README "$text"; done >>typed
+# The block of the README for who builds the program.
+block_of README tools/build >>typed
 # Blocks of a new machine, and of what is copied for it: 94-new-machine pastes them.
 for text in './rooms_' 'cp -a /mnt' 'do rooms-restore' reload-or-restart machine/about 'openssl rand' 'restore latest' 'rsync -a'; do
   block_of docs/backup "$text"
