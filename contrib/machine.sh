@@ -76,7 +76,7 @@ write_about() {
   echo 'What follows is to look at: no restore brings it back.'
   # shellcheck disable=SC2016
   dpkg-query -W -f='package ${Package} ${Version}\n' rooms nginx apache2-bin apache2-utils \
-    openssl curl at certbot ldap-utils
+    openssl curl at certbot ldap-utils libapache2-mod-auth-gssapi libapache2-mod-auth-openidc
   ip -brief address
   for job in $(atq | cut -f 1); do
     printf 'at %s\n' "$(atq | grep "^${job}[[:space:]]")"

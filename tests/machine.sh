@@ -164,11 +164,11 @@ for name in "${units[@]}"; do
     *:rooms-full@*) ;;
     start:rooms-nightly* | start:rooms-directory*) $(command_of "$name") || exit ;;
     stop:rooms-nightly* | stop:rooms-directory*) ;;
-    stop:rooms-passwords) ! alive "$name" || kill "$(cat "/run/$name.pid")" ;;
-    start:rooms-passwords | restart:rooms-passwords)
+    stop:rooms-passwords | stop:rooms-session) ! alive "$name" || kill "$(cat "/run/$name.pid")" ;;
+    start:rooms-passwords | restart:rooms-passwords | start:rooms-session)
       "$0" stop "$name"
       while alive "$name"; do sleep 0.02; done
-      mkdir -p /run/rooms-directory
+      mkdir -p /run/rooms-directory /run/rooms-session
       $(command_of "$name") >"/run/$name.fault" 2>&1 </dev/null &
       echo $! >"/run/$name.pid"
       ;;

@@ -37,6 +37,20 @@ done
 compares ./rooms-setup rooms-setup "$contrib/debian/rooms-setup.8"
 holds 'all scripts are compared' [ "$scripts" -ge 11 ]
 
+# The program itself, and each of its subcommands.
+subcommands() { "$rooms" --help 2>&1 </dev/null | awk '/^Commands:/ { on = 1; next } /^$/ { on = 0 } on { print $1 }'; }
+by_rooms() { # WORD ..
+  bash -c '. "$1"; shift; COMP_WORDS=("$@") COMP_CWORD=$(($# - 1)); _rooms; printf "%s\n" ${COMPREPLY[@]+"${COMPREPLY[@]}"}' bash "$completion" "$@"
+}
+{ subcommands; "$rooms" --help 2>&1 </dev/null | options; } | sort >wanted
+by_rooms rooms '' | sort >offered
+same 'the subcommands' offered wanted
+for name in $(subcommands); do
+  "$rooms" "$name" --help 2>&1 </dev/null | sed -n '/^Options:/,/^$/p' | options >wanted
+  by_rooms rooms "$name" -- | sort >offered
+  same "the options of rooms $name" offered wanted
+done
+
 offers() { # NAME WANTED WORD ..
   local got
   got=$(completes "${@:3}" | grep . | sort | tr '\n' ' ')

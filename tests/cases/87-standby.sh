@@ -233,6 +233,7 @@ if has rsync; then
   read -r port <"$stand/port"
   asks 'with the last document' "reply '200 OK' application/octet-stream hello" GET /doc/to-be-sent-too root
   cp kept conf
+  . "$here/elsewhere.sh"
 else
   skip 'a standby copy elsewhere' 'no rsync'
 fi

@@ -20,7 +20,7 @@ fi
 # A package that pages get from Debian, with one program, which prints nothing.
 stand_in_package() { # NAME PROGRAM
   mkdir -p "stand-ins/$1/DEBIAN" "stand-ins/$1/usr/bin" "$machine/root/packages"
-  printf '%s\n' "Package: $1" 'Version: 1' 'Architecture: all' 'Maintainer: nobody <nobody@localhost>' \
+  printf '%s\n' "Package: $1" 'Version: 99' 'Architecture: all' 'Maintainer: nobody <nobody@localhost>' \
     'Description: stand-in' >"stand-ins/$1/DEBIAN/control"
   { printf '#!/bin/sh\n' && cat; } >"stand-ins/$1/usr/bin/$1"
   chmod 755 "stand-ins/$1/usr/bin/$1"
@@ -62,6 +62,24 @@ mkdir -p /etc/letsencrypt/live/rooms.example
 cp /etc/ssl/rooms.pem /etc/letsencrypt/live/rooms.example/fullchain.pem
 cp /etc/ssl/private/rooms.key /etc/letsencrypt/live/rooms.example/privkey.pem
 END
+for name in apache2-bin ldap-utils libapache2-mod-auth-gssapi libapache2-mod-auth-openidc; do
+  stand_in_package "$name" </dev/null || fail 'what is typed' "no stand-in: $(cat said)"
+done
+# Of Apache and of a directory there is just enough that they are asked: 95-directory, 95-kerberos and 95-session try what they do.
+mkdir -p "$machine/usr/lib/apache2/modules"
+echo >"$machine/usr/lib/apache2/modules/mod_authnz_ldap.so"
+printf '#!/bin/sh\n[ "$1" = -t ] || exec sleep 3600\n' >"$machine/usr/sbin/apache2"
+chmod 755 "$machine/usr/sbin/apache2"
+stand_in ldapsearch <<'END'
+groups=ou=groups,dc=example,dc=net
+case "$*" in
+  *'(cn=staff)'*) printf 'dn: cn=staff,%s\n\n' "$groups" ;;
+  *'(cn=Human Resources)'*) printf 'dn: cn=hr,%s\n\n' "$groups" ;;
+  *'-b cn=sales,'*) printf 'dn: cn=sales,%s\n\n' "$groups" ;;
+  *' member '*) for name in staff hr sales; do printf 'dn: cn=%s,%s\nmember: uid=alice,ou=people\n\n' "$name" "$groups"; done ;;
+  *) printf 'dn: uid=%s,ou=people\nuid: %s\n\n' alice alice bob bob ;;
+esac
+END
 for name in nft update-ca-certificates sqlite3 journalctl; do stand_in "$name" </dev/null; done
 mkdir -p "$machine/root/contrib" "$machine/usr/local/share/ca-certificates"
 # At the top of a repository. What it does is tried by 99-install.
@@ -73,7 +91,7 @@ if ! furnish_terminal 2>said; then
 fi
 
 # The blocks of a page, each in a file of its own.
-pages='README docs/operating docs/backup docs/people docs/upgrading docs/several docs/capacity docs/lists docs/in-and-out docs/check docs/messages docs/passwords'
+pages='README docs/operating docs/backup docs/people docs/upgrading docs/several docs/capacity docs/lists docs/in-and-out docs/check docs/messages docs/passwords docs/directory'
 mkdir -p blocks/docs
 for page in $pages; do
   awk -v into="blocks/$page" '
@@ -234,6 +252,33 @@ types 'remembered' docs/passwords '#include snippets/rooms-remembered' docs/pass
 does 'a password counts' 'curl -sf -u carol:typed http://127.0.0.1/invoices/me >/dev/null'
 types 'and not' docs/passwords '^include snippets/rooms-remembered'
 types 'a program' docs/passwords 'openssl rand'
+
+# A directory, tickets, sessions.
+answers_as() { # NAME STATUS: what alice gets with the password of nginx's own file
+  inside 'curl -s -o /dev/null -w "%{http_code}" -u alice:typed http://127.0.0.1/me'
+  holds "$1: $(<"$work/out")" [ "$(<"$work/out")" = "$2" ]
+}
+types 'where it is' docs/directory 'ldap-utils' docs/directory URI=
+types 'passwords' docs/directory 'rooms-setup --directory /etc'
+shows 'are asked there' 'the directory has 2 users' 'file /etc/rooms/directory.apache'
+answers_as 'nothing answers in its place' 503
+types 'of a further room' docs/directory invoices.path docs/directory invoices.apache
+types 'groups' docs/directory 'MOST=10' docs/directory '=rooms-directory
+systemctl enable --now rooms-directory@office.timer'
+shows 'come in' '+ hr,alice'
+types 'tickets' docs/directory krb5.conf
+does 'a key' 'echo key >keytab'
+types 'are taken' docs/directory 'install -o www-data' docs/directory mod_auth_gssapi docs/directory 'map "$status'
+holds 'a password is offered beside' grep -q '^add_header WWW-Authenticate ' "$machine/etc/nginx/snippets/rooms-server.conf"
+types 'and no more' docs/directory 'rm /etc/rooms/directory.d/kerberos.apache'
+types 'the way back' docs/directory 'rooms-setup --directory none'
+answers_as 'the file counts' 200
+types 'sessions' docs/directory libapache2-mod-auth-openidc docs/directory OIDCProviderMetadataURL docs/directory '[Service]' \
+  docs/directory 'auth_request_set $room_user'
+answers_as 'nothing answers in its place either' 503
+types 'passwords again' docs/directory 'disable --now rooms-session'
+answers_as 'the file counts again' 200
+
 types 'taken away' docs/several 'rooms-add --remove'
 
 # What is watched, and what is done when something is wrong.

@@ -214,7 +214,7 @@ ask 'a list of it too' 502 - root:r /invoices/dacl/doc -X PUT --data-binary x
 page_block 'What passwords cost' 2 >remember
 page_block 'What passwords cost' 3 >>remember
 grep -v '^nginx -t' remember | bash -eu
-remembers() { [ "$(curl -s -o "$work/body" -w '%{http_code}' -u root:r "$base/doc/f/d")" = 200 ] && grep -q auth_request snippets/rooms-server.conf; }
+remembers() { [ "$(curl -s -o "$work/body" -w '%{http_code}' -u root:r "$base/doc/doc/d")" = 200 ] && grep -q auth_request snippets/rooms-server.conf; }
 reloaded remembers
 for place in '' /invoices; do
   ask "who is remembered, at '$place'" 507 - root:r "$place/folder/new" -X POST

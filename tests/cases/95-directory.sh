@@ -2,6 +2,8 @@
 
 . "$here/front.sh"
 . "$here/directory.sh"
+. "$here/machine.sh"
+top=$here/..
 says() { # NAME STATUS TEXT
   if [ "$status" = "$2" ] && cat "$work/out" "$work/err" | grep -qF -e "$3"; then pass; else
     fail "$1" "status $status, wanted $2 and '$3': $(head -c 400 "$work/out" "$work/err")"
@@ -142,7 +144,7 @@ holds 'a further room' awaits "$patience" answers 200 Carol:c /invoices/me
 answer Carol:c /invoices/me
 holds 'has names of its own' grep -qx $'Room-User: Carol\r' "$work/head"
 ask 'and passwords of its own' 401 - carol:carol-word /invoices/me
-awk '/^sed -i/ { on = 1 } /^nginx -t/ { on = 0 } on' "$here/../docs/directory.md" | sed "s#/etc/nginx/#$PWD/#g" >pasted
+block docs/directory.md rooms.d/invoices.path | sed -e "s#/etc/nginx/#$PWD/#g" -e '/^nginx -t/d' >pasted
 bash -eu pasted
 reload_front
 holds 'then it asks the directory' awaits "$patience" answers 200 bob:bob-word /invoices/me

@@ -94,6 +94,16 @@ ask 'the start page asks for none' 404 - '' /rooms/
 ask 'nobody asks for a check from outside' 404 - '' /rooms/session/rooms -b alice
 ask 'nor with another end' 404 - '' /rooms/session/ -b alice
 
+# In a browser: whoever opens the site signs in on the way, and sees the web interface.
+chromium=$(command -v chromium || command -v chromium-browser)
+if [ -n "$chromium" ]; then
+  timeout "$patience" "$chromium" --headless --no-sandbox --disable-gpu --user-data-dir="$PWD/profile" --virtual-time-budget=9000 \
+    --host-resolver-rules='MAP rooms.example 127.0.0.1' --dump-dom "$base/" >dom 2>browser.out </dev/null
+  holds 'a browser sees the folder' grep -qF '>f<' dom
+else
+  skip 'a session in a browser' 'no chromium'
+fi
+
 # Who is who.
 named() { # NAME-AT-THE-PROVIDER NAME-IN-THE-ROOM
   says_claims "\"preferred_username\": \"$1\""
