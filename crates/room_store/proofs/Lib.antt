@@ -11,3 +11,5 @@ mod Recalled
 pub mod Outlasting
 mod Reviewed
 mod FromRoot
+mod Looking
+mod Writing

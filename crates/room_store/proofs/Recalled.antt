@@ -31,6 +31,14 @@ still old new (Some memory) leaves same remembers = λ now open' tables.
     subst (λ db. Agrees memory (rows_of db)) (sym is)
     (remembers (leaves.clean now) (leaves.was_open now open') (subst HasTables is tables))
 
+-- what is begun with agrees with what was remembered
+pub begun_with : (s : State) (kept : Option Memory) (known : Memory)
+    → ((rows : Rows) → IfSome kept (λ m. Agrees m rows) → Agrees known rows)
+    → IfSome kept (Remembers s) → Remembers s known
+begun_with s None known agrees remembers = λ _ _ _. agrees (rows_of s.now) tt
+begun_with s (Some m) known agrees remembers =
+    λ now is_open tables. agrees (rows_of s.now) (remembers now is_open tables)
+
 -- what is remembered agrees as long as the calls are trusted
 pub agrees_at : (old begun mid : State) → Begins old begun → Stays begun mid → (known : Memory)
     → Remembers old known → IsTrusted begun mid → Agrees known (rows_of begun.now)

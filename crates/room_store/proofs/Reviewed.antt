@@ -1,5 +1,5 @@
 -- What reviewing over any keeper is, in terms of a transaction.
-use Rattle.std.proofs.Common.{◌≡◌, ℕ, List, Result, Ok, Err, IfOk, IfErr, Vec, inl, subst, subst₂}
+use Rattle.std.proofs.Common.{◌≡◌, ℕ, List, Result, Ok, IfOk, IfErr, Vec, inl, subst, subst₂}
 use Rattle.std.specs.Global.{Global}
 use Rattle.sqlite.specs.State.{State}
 use Rattle.room_rows.specs.declared.keep.KeepFault.{KeepFault}

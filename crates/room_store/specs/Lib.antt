@@ -11,3 +11,4 @@ pub mod Remembers
 pub mod Failing
 pub mod Reviews
 pub mod FromRoot
+pub mod View

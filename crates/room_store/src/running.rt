@@ -1,4 +1,4 @@
-//! One request in one transaction.
+//! One request inside a transaction, and the end of one that only read.
 ghost use Rattle.std.specs.Prelude.{◌≡◌, ◌≤◌, IfSome, IsOk, false, true};
 ghost use Rattle.std.specs.Option.{option_copied};
 ghost use Rattle.sqlite.specs.Held.{state};
@@ -6,8 +6,9 @@ ghost use Rattle.sqlite.specs.State.{HasCleanDisk};
 ghost use Rattle.sqlite_trees.specs.View.{doubt};
 ghost use Rattle.room_judge.specs.Closed.{Performs};
 ghost use Rattle.room_remember.specs.Agrees.{Agrees};
-ghost use Rattle.room_store.specs.Ran.{HasDamage, Ran};
-ghost use Rattle.room_store.specs.Remembers.{EndsLook, IsKept, Remembers};
+ghost use Rattle.room_store.specs.Ran.{HasDamage};
+ghost use Rattle.room_store.specs.Remembers.{EndsLook, IsKept};
+ghost use Rattle.room_rows.specs.Rows.{Rows};
 ghost use Rattle.store_admin.specs.Carries.{ByRows, CallsInside, OnRows};
 ghost use Rattle.store_tables.specs.Meaning.{rows_of};
 ghost use Rattle.store_tables.specs.Shown.{Stays};
@@ -15,8 +16,7 @@ ghost use Rattle.store_tables.specs.Within.{LeavesAsBefore};
 ghost use Rattle.store_tables.specs.Trust.{IsTrusted};
 
 use crate::fault::StoreFault;
-use crate::look::{give_up, if_open, still_open};
-use crate::turn::{begin, finish};
+use crate::look::still_open;
 use room_ace::Name;
 use room_desk::perform;
 use room_machine::{Reply, Request};
@@ -25,6 +25,16 @@ use room_rows::KeepFault;
 use sqlite::{Alter, Connection, Transaction};
 use std::alloc::Global;
 use store_tables::{Keeper, RecentLists};
+
+/// What is remembered, or nothing yet.
+pub(crate) fn known_of(alloc: Global, kept: Option<Memory>) -> Memory
+    ensures { (rows : Rows) → IfSome kept (λ known. Agrees known rows) → Agrees result rows }
+{
+    match kept {
+        None => Memory::new(alloc),
+        Some(known) => known,
+    }
+}
 
 // The request, by a keeper that remembers.
 fn perform_by<S: Alter>(
@@ -97,8 +107,8 @@ fn perform_with<S: Alter>(
     (done, only_read)
 }
 
-// The request, by a keeper inside the transaction, and whether it only read.
-fn perform_inside<S: Alter>(
+/// The request, by a keeper inside the transaction, and whether it only read.
+pub(crate) fn perform_inside<S: Alter>(
     alloc: Global,
     tx: &mut Transaction<'_, S>,
     lists: &mut RecentLists,
@@ -128,8 +138,8 @@ fn perform_inside<S: Alter>(
     perform_with(alloc, &mut keeper, known, caller, moment, request)
 }
 
-// After calls that only read, and were rolled back: the answer, if the connection is open.
-fn end_look<S: Alter>(
+/// After calls that only read, and were rolled back: the answer, if the connection is open.
+pub(crate) fn end_look<S: Alter>(
     conn: &mut Connection<S>,
     looked: Result<Reply, StoreFault>,
     kept: Memory,
@@ -150,40 +160,4 @@ fn end_look<S: Alter>(
             Ok(()) => (Ok(reply), Some(kept)),
         },
     }
-}
-
-/// Carries out one request in one transaction, with what is remembered.
-pub(crate) fn run_on<S: Alter>(
-    alloc: Global,
-    conn: &mut Connection<S>,
-    known: Memory,
-    lists: &mut RecentLists,
-    caller: Option<&Name>,
-    moment: i64,
-    request: &Request,
-) -> (Result<Reply, StoreFault>, Option<Memory>)
-    requires between { conn.old.in_transaction ≡ false }
-    requires remembers { Remembers (state S.Store conn.old) known }
-    ensures ran { Ran (state S.Store conn.old) (state S.Store conn.new) result.0 HasDamage
-        (Performs (option_copied caller.entry) moment request.now) }
-    ensures remembers { IfSome result.1 (Remembers (state S.Store conn.new)) }
-{
-    let mut tx = begin(conn);
-    let mut memory = known;
-    let (done, only_read) = perform_inside(
-        alloc,
-        &mut tx,
-        lists,
-        &mut memory,
-        caller,
-        moment,
-        request,
-    );
-    if only_read {
-        let looked = give_up(tx, done);
-        return end_look(conn, looked, memory);
-    }
-    memory.forget();
-    let done = if_open(&mut tx, done);
-    (finish(tx, done), Some(memory))
 }

@@ -8,6 +8,7 @@ ghost use Rattle.room_judge.specs.Closed.{Performs};
 ghost use Rattle.room_judge.specs.Judged.{Resets};
 ghost use Rattle.room_machine.specs.Desk.{Closes};
 ghost use Rattle.room_machine.specs.Run.{Event, event_of, unanswered};
+ghost use Rattle.room_store.specs.Asks.{Asks};
 ghost use Rattle.room_store.specs.Crash.{Lasts, Outlasts};
 ghost use Rattle.room_store.specs.Failing.{FailsByDb};
 ghost use Rattle.room_store.specs.Kept.{Stores};
@@ -27,30 +28,60 @@ ghost use Rattle.store_admin.specs.Operating.{
 };
 
 use crate::fault::StoreFault;
-use crate::room::Room;
+use crate::laws::what_is_committed_lasts;
+use crate::look::{give_up, if_open, test_shut};
+use crate::resetting::reset_inside;
+use crate::reviewing::review_inside;
+use crate::running::{end_look, known_of, perform_inside};
+use crate::turn::{begin, finish};
+use crate::verifying::verify_inside;
 use room_ace::{Name, SentList, Which};
 use room_inherit::Report;
 use room_inherit::laws::sound_is_no_fault;
 use room_machine::{Reply, Request};
+use room_remember::Memory;
 use room_review::{Scope, Reviewed};
 use room_rows::{AuditRow, Path};
 use sqlite::{Alter, Connection};
 use std::alloc::Global;
+use std::marker::Model;
+use store_admin::{all_members, all_records, dump_all, put_members};
 use store_tables::RecentLists;
 
-/// A room in the tables of a connection. Each call is one transaction.
+/// A room in the tables of a connection. Each call is one transaction. A contract sees the
+/// connection, and the count of faults.
 pub struct Store<S: Alter> {
-    pub(crate) conn: Room<S>,
+    // with no transaction open
+    pub(crate) conn: Connection<S>,
+    // what requests that only read remembered of its rows
+    memory: Option<Memory>,
     // the lists that requests read recently
     lists: RecentLists,
     // how often the store has answered a fault as a desk
     pub(crate) faults: u64,
 }
 
+impl<S: Alter> Model for Store<S> {
+    ghost use Rattle.std.specs.Prelude.{◌≡◌, IfSome, false};
+    ghost use Rattle.sqlite.specs.Held.{state};
+    ghost use Rattle.room_store.specs.Remembers.{Remembers};
+    ghost use Rattle.room_store.specs.View.{StoreView, view_code};
+
+    ghost Value = { StoreView S };
+
+    ghost coded = { view_code S.code };
+
+    ghost view = { λ s. record { conn = s.conn; faults = s.faults } };
+
+    ghost invariant = { λ s. (s.conn.in_transaction ≡ false)
+        × IfSome s.memory (Remembers (state S.Store s.conn)) };
+}
+
 impl<S: Alter + Drop> Drop for Store<S> {
     fn drop(self) {
         let Store {
             conn: _,
+            memory: _,
             lists: _,
             faults: _,
         } = self;
@@ -65,7 +96,8 @@ impl<S: Alter> Store<S> {
         ensures faults { result.faults ≡ 0 }
     {
         Store {
-            conn: Room::over(conn),
+            conn,
+            memory: None,
             lists: RecentLists::new(),
             faults: 0,
         }
@@ -96,8 +128,28 @@ impl<S: Alter> Store<S> {
             (state S.Store self.new.conn) }
         ensures faults { self.new.faults ≡ self.old.faults }
     {
-        self.conn
-            .run(alloc, &mut self.lists, caller, moment, request)
+        let mut memory = known_of(alloc, self.memory.take());
+        let mut tx = begin(&mut self.conn);
+        let (done, only_read) = perform_inside(
+            alloc,
+            &mut tx,
+            &mut self.lists,
+            &mut memory,
+            caller,
+            moment,
+            request,
+        );
+        if only_read {
+            let looked = give_up(tx, done);
+            let (reply, kept) = end_look(&mut self.conn, looked, memory);
+            self.memory = kept;
+            return reply;
+        }
+        memory.forget();
+        let done = if_open(&mut tx, done);
+        let reply = finish(tx, done);
+        self.memory = Some(memory);
+        reply
     }
 
     /// Sets one of an object's lists as the request does, but asks no rights and leaves no record.
@@ -120,7 +172,11 @@ impl<S: Alter> Store<S> {
             (state S.Store self.new.conn) }
         ensures faults { self.new.faults ≡ self.old.faults }
     {
-        self.conn.reset(alloc, path, which, sent)
+        self.memory = None;
+        let mut tx = begin(&mut self.conn);
+        let done = reset_inside(alloc, &mut tx, path, which, sent);
+        let done = if_open(&mut tx, done);
+        finish(tx, done)
     }
 
     /// Whether the rows are sound, or the first fault of seven tests. Nothing changes. The error is
@@ -133,7 +189,12 @@ impl<S: Alter> Store<S> {
             (state S.Store self.new.conn) }
         ensures faults { self.new.faults ≡ self.old.faults }
     {
-        self.conn.verify(alloc)
+        self.memory = None;
+        let mut tx = begin(&mut self.conn);
+        let done = verify_inside(alloc, &mut tx);
+        // a keeper doesn't tell whether the connection was open
+        let done = if_open(&mut tx, done);
+        give_up(tx, done)
     }
 
     /// Replaces the pairs of group and user by these, each once. It is the operator's step of the
@@ -155,7 +216,11 @@ impl<S: Alter> Store<S> {
         ensures faults { self.new.faults ≡ self.old.faults }
     {
         sound_is_no_fault();
-        self.conn.replace_members(alloc, pairs)
+        self.memory = None;
+        let mut tx = begin(&mut self.conn);
+        let done = put_members(alloc, &mut tx, pairs);
+        let done = if_open(&mut tx, done);
+        finish(tx, done)
     }
 
     /// The pairs, in order of group and then of user, each once. A row whose group or user is no
@@ -171,7 +236,10 @@ impl<S: Alter> Store<S> {
             (state S.Store self.new.conn) }
         ensures faults { self.new.faults ≡ self.old.faults }
     {
-        self.conn.members(alloc)
+        self.memory = None;
+        let mut tx = begin(&mut self.conn);
+        let done = all_members(alloc, &mut tx);
+        give_up(tx, done)
     }
 
     /// The records, in the order in which they were added. Nothing changes. Where a row of records
@@ -186,7 +254,10 @@ impl<S: Alter> Store<S> {
             (state S.Store self.new.conn) }
         ensures faults { self.new.faults ≡ self.old.faults }
     {
-        self.conn.audits(alloc)
+        self.memory = None;
+        let mut tx = begin(&mut self.conn);
+        let done = all_records(alloc, &mut tx);
+        give_up(tx, done)
     }
 
     /// The room as text: the lines of all objects, the root first and after an object its children
@@ -201,7 +272,10 @@ impl<S: Alter> Store<S> {
             (state S.Store self.new.conn) }
         ensures faults { self.new.faults ≡ self.old.faults }
     {
-        self.conn.dump(alloc)
+        self.memory = None;
+        let mut tx = begin(&mut self.conn);
+        let done = dump_all(alloc, &mut tx);
+        give_up(tx, done)
     }
 
     /// Who may do what with the object at a path and with all below it, by the lists and the pairs
@@ -216,7 +290,21 @@ impl<S: Alter> Store<S> {
             (state S.Store self.new.conn) }
         ensures faults { self.new.faults ≡ self.old.faults }
     {
-        self.conn.review(alloc, question)
+        self.memory = None;
+        let mut tx = begin(&mut self.conn);
+        let done = review_inside(alloc, &mut tx, question);
+        // a keeper doesn't tell whether the connection was open
+        let done = if_open(&mut tx, done);
+        give_up(tx, done)
+    }
+
+    // Whether a fault of the disk has shut the connection. What is remembered stays: nothing is
+    // read, and the rows are as they were.
+    pub(crate) fn is_shut(&mut self) -> Result<bool, StoreFault>
+        ensures asks { Asks (state S.Store self.old.conn) (state S.Store self.new.conn) result }
+        ensures faults { self.new.faults ≡ self.old.faults }
+    {
+        test_shut(&mut self.conn)
     }
 
     /// The connection, with the tables as they are, and with no transaction open.
@@ -227,10 +315,11 @@ impl<S: Alter> Store<S> {
     {
         let Store {
             conn,
+            memory: _,
             lists: _,
             faults: _,
         } = self;
-        conn.lasts();
-        conn.into_conn()
+        what_is_committed_lasts(&conn);
+        conn
     }
 }

@@ -1,18 +1,21 @@
+use Rattle.std.proofs.Common.{refl}
 use Rattle.sqlite.specs.Held.{state}
 use Rattle.store_admin.specs.Dump.{HasDamagedRow}
 use Rattle.room_store.specs.Reviews.{IsReviewOf}
-use Rattle.room_store.proofs.Leading.{nothing}
-use Rattle.room_store.proofs.Outlasting.{idle}
+use Rattle.room_store.proofs.Looking.{looks_if_open}
 use Rattle.room_store.proofs.store.Store.review.Goals as goal
 
-pub returns-clause-leads : goal.returns-clause-leads
-returns-clause-leads g c =
-    nothing (state g.S.Store c.args.self.now.conn) (state g.S.Store c.review.new.self)
-    HasDamagedRow (IsReviewOf c.args.question.now) c.review.result c.review.ensures.looked
-
-pub returns-clause-outlasts : goal.returns-clause-outlasts
-returns-clause-outlasts g c =
-    let old = state g.S.Store c.args.self.now.conn in
-    let new = state g.S.Store c.review.new.self in
-    let looked = c.review.ensures.looked in
-    idle old new (nothing old new _ _ c.review.result looked) looked.crash looked.leaves.was_open
+pub returns : goal.returns
+returns g c =
+    let done = c.review_inside-done in
+    let tested = c.if_open-done in
+    let left = c.give_up in
+    let it = looks_if_open (state g.S.Store c.self.inside.conn)
+    (state g.S.Store c.begin-tx.result.conn.now) (state g.S.Store done.new.tx.conn.now)
+    (state g.S.Store tested.new.tx.conn.now) (state g.S.Store left.new.tx.0) HasDamagedRow
+    (IsReviewOf c.args.question.now) done.result tested.result left.result
+    c.begin-tx.ensures.begun done.ensures.carries tested.ensures.stays tested.ensures.opens
+    tested.ensures.stands left.ensures.ended left.ensures.clean left.ensures.gives_up
+    left.ensures.crash in
+    rw (← c.self.view_is)
+    (record { looked = it.looked; leads = it.leads; outlasts = it.outlasts; faults = refl })

@@ -1,6 +1,6 @@
 use Rattle.sqlite.specs.Held.{state}
 use Rattle.room_store.proofs.Recalled.{still}
-use Rattle.room_store.proofs.room.Room.is_shut.Goals as goal
+use Rattle.room_store.proofs.store.Store.is_shut.Goals as goal
 
 pub invariant_of-self : goal.invariant_of-self
 invariant_of-self g c = (
