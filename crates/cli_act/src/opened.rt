@@ -28,7 +28,7 @@ use room_ace::{Name, SentList, Which};
 use room_import::{write_audits, write_groups};
 use room_inherit::Report;
 use room_machine::Reply;
-use room_review::{Scope, Reviewed};
+use room_review::{Reviewed, Scope};
 use room_rows::{AuditRow, Bytes, Path};
 use room_store::{Store, StoreFault};
 use sqlite::Alter;

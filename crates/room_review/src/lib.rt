@@ -12,5 +12,5 @@ mod standing;
 mod telling;
 mod users;
 
-pub use question::{Scope, Reviewed};
+pub use question::{Reviewed, Scope};
 pub use reviewing::review;

@@ -16,7 +16,7 @@ ghost use Rattle.room_review.specs.Telling.{
 
 use crate::gathering::{gather_above, gather_below};
 use crate::parties::{Party, alone, everybody};
-use crate::question::{Scope, Reviewed, Start};
+use crate::question::{Reviewed, Scope, Start};
 use crate::telling::{Audience, table_from};
 use crate::users::{Users, stranger_to};
 use room_ace::{Name, ObjKind};

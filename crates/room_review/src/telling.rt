@@ -28,7 +28,7 @@ ghost use Rattle.room_review.specs.Telling.{
 
 use crate::parties::Party;
 use crate::question::Start;
-use crate::sheet::{Sheet, Described};
+use crate::sheet::{Described, Sheet};
 use crate::standing::{Standings, standings_at};
 use room_rows::{Bytes, Keep, KeepFault, Node, Nodes, Path, Text};
 use std::alloc::{AllocError, Global};

@@ -6,7 +6,7 @@ ghost use Rattle.store_admin.specs.Carries.{CallsInside, Reading};
 ghost use Rattle.store_admin.specs.Dump.{HasDamagedRow};
 
 use room_ace::Name;
-use room_review::{Scope, Reviewed, review};
+use room_review::{Reviewed, Scope, review};
 use room_rows::KeepFault;
 use sqlite::{Alter, Transaction};
 use std::alloc::Global;

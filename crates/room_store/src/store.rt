@@ -40,7 +40,7 @@ use room_inherit::Report;
 use room_inherit::laws::sound_is_no_fault;
 use room_machine::{Reply, Request};
 use room_remember::Memory;
-use room_review::{Scope, Reviewed};
+use room_review::{Reviewed, Scope};
 use room_rows::{AuditRow, Path};
 use sqlite::{Alter, Connection};
 use std::alloc::Global;

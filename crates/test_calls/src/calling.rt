@@ -5,7 +5,7 @@ use room_ace::{Failure, Name, SentList, Which, read_name};
 use room_import::{CsvFault, read_groups, write_audits};
 use room_inherit::Report;
 use room_machine::Reply;
-use room_review::{Scope, Reviewed};
+use room_review::{Reviewed, Scope};
 use room_rows::{AuditRow, Path};
 use room_store::{Store, StoreFault};
 use sqlite::Alter;

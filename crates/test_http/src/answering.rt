@@ -4,9 +4,9 @@ use crate::messages::head_of;
 use http_message::Routes;
 use room_http::{Answer, answer};
 use room_machine::Desk;
-use test_memory::MemDesk;
 use std::alloc::Global;
 use std::test::Fail;
+use test_memory::MemDesk;
 use test_player::open_keep;
 use test_talk::same_bytes;
 

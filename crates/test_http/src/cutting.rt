@@ -1,8 +1,8 @@
 //! Streams that are cut off.
 use room_http::Ended;
-use test_memory::MemDesk;
 use std::alloc::Global;
 use std::test::Fail;
+use test_memory::MemDesk;
 use test_player::open_keep;
 use test_talk::{PUT_TWICE, Pieces, Sink, bytes_at, converse, is_short, same_bytes};
 

@@ -6,9 +6,9 @@ ghost use Rattle.room_tree.specs.Memory.{rows_in};
 use room_ace::Name;
 use room_http::Cause;
 use room_machine::{Desk, DeskFault, Reply, Request};
-use test_memory::MemDesk;
 use std::alloc::Global;
 use std::test::Fail;
+use test_memory::MemDesk;
 use test_player::open_keep;
 use test_talk::{
     PUT_TWICE, Pieces, Sink, Stop, Talk, agrees, bytes_at, converse, is_short, play, stop_at_read,

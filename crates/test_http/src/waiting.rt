@@ -1,12 +1,12 @@
 //! A client that waits for each reply before it says more.
 use http_message::Routes;
 use room_http::{Ended, serve};
-use test_memory::MemDesk;
 use std::alloc::Global;
 use std::cell::Cell;
 use std::io;
 use std::io::{Read, Write};
 use std::test::Fail;
+use test_memory::MemDesk;
 use test_player::open_keep;
 use test_talk::same_bytes;
 

@@ -6,9 +6,9 @@ use crate::meeting::{
     serves_untold,
 };
 use cli_serve::{Moments, Seconds, ServingFault, serve_on};
-use test_memory::MemDesk;
 use std::io::Write;
 use std::test::Fail;
+use test_memory::MemDesk;
 use test_player::open_keep;
 
 const BAD_HEAD: &[u8] = b"\

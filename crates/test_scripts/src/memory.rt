@@ -2,10 +2,10 @@
 
 use crate::grounds::Ground;
 use crate::lines::{Place, play_lines};
-use test_memory::MemDesk;
 use room_tree::MemKeep;
 use std::alloc::Global;
 use std::test::Fail;
+use test_memory::MemDesk;
 use test_player::{Room, Tally, count_line, open_keep, play, stop_at_faults};
 use test_talk::play_at;
 

@@ -9,11 +9,11 @@ use crate::workloads::{Message, messages};
 use http_message::Routes;
 use room_http::{Ended, serve};
 use room_machine::{Desk, DeskFault};
-use test_memory::MemDesk;
 use room_tree::MemKeep;
 use std::alloc::Global;
 use std::test::Fail;
 use std::time::Instant;
+use test_memory::MemDesk;
 use test_player::{Spoken, keep_after, spoken_in};
 
 // One connection is soon over, and other work may disturb it.
