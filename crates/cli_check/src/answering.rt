@@ -66,7 +66,8 @@ fn line_for<R: Read + Drop>(alloc: Global, reader: R) -> io::Result<CheckReply>
         × (reply.status ≡ reply_status (judged input))) }
 {
     // One byte more than an input may have shows that it is too long.
-    let input = read_front(alloc, reader, MOST_BYTES as u64 + 1)?;
+    let mut reader = reader;
+    let input = read_front(alloc, &mut reader, MOST_BYTES + 1)?;
     let CheckReply { text, status } = check(alloc, &input)?;
     let text = with_end(text)?;
     Ok(CheckReply { text, status })

@@ -1,5 +1,6 @@
 //! The task of a job and of what is read for it.
 ghost use Rattle.std.specs.Prelude.{◌≡◌};
+ghost use Rattle.cli_outcome.specs.Reading.{TakesAtMost};
 ghost use Rattle.cli_words.specs.Tasks.{task_of};
 ghost use Rattle.cli_words.specs.Asked.{input_of};
 ghost use Rattle.cli_words.specs.Reads.{IsTask, ReadsTask, most_of};
@@ -18,6 +19,16 @@ use std::io::Read;
 pub fn read_task<R: Read + Drop>(alloc: Global, job: &Job<'_>, reader: R) -> Result<Task, Stop>
     ensures { ReadsTask job.now (R.remaining reader) result }
 {
+    let mut input = reader;
+    task_from(alloc, job, &mut input)
+}
+
+// The task, and no more is read than shows it.
+fn task_from<R: Read>(alloc: Global, job: &Job<'_>, reader: &mut R) -> Result<Task, Stop>
+    ensures task { ReadsTask job.now (R.remaining reader.old) result }
+    ensures few { TakesAtMost (most_of (input_of job.now)) (R.remaining reader.old)
+        (R.remaining reader.new) }
+{
     match read_front(alloc, reader, most_of(job)) {
         Ok(input) => task_in(alloc, job, input.as_slice()),
         Err(error) => Err(Stop::Failed(Fault::of_stream(&error))),
@@ -25,13 +36,13 @@ pub fn read_task<R: Read + Drop>(alloc: Global, job: &Job<'_>, reader: R) -> Res
 }
 
 // How many bytes show what the job's input is, or that it is too long.
-fn most_of(job: &Job<'_>) -> u64
+fn most_of(job: &Job<'_>) -> usize
     ensures { result ≡ most_of (input_of job.now) }
 {
     match job.input() {
         Input::Nothing => 0,
-        Input::Standard => MOST_BYTES as u64 + 1,
-        Input::File(_) => MOST_GROUP_BYTES as u64 + 1,
+        Input::Standard => MOST_BYTES + 1,
+        Input::File(_) => MOST_GROUP_BYTES + 1,
     }
 }
 
