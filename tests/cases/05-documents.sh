@@ -123,10 +123,10 @@ holds "CHANGELOG.md has version $wanted" [ "$(sed -n 's/^## \[\([0-9][^]]*\)\].*
 
 # What the page quotes of contracts and definitions stands there.
 stripped() { sed 's/^ *//' "$@" | LC_ALL=C sort -u; }
-awk '/^```/ { quoted = !quoted; next } quoted && length > 12' "$top/docs/statement.md" "$top/docs/contracts.md" | stripped >quoted
+awk '/^```/ { quoted = !quoted; next } quoted && length > 12' "$top"/docs/{statement,laws,contracts}.md | stripped >quoted
 stripped "$top"/crates/*/src/*.rt "$top"/crates/*/specs/*.antt >stated
 LC_ALL=C comm -23 quoted stated >found
-none 'the quotes of statement.md and contracts.md' found
+none 'the quotes of statement.md, laws.md and contracts.md' found
 
 # The case itself finds what it is for.
 printf '%s\n' '# One `two`, three' '# A' '# A' '[x](#one-two-three) [x](#a-1) [x](page.md) [x](page.md#a "T")' '```' '[x](none.md)' '```' \
