@@ -20,8 +20,9 @@ use Rattle.store_schema.specs.declared.fault.OpenFault.{OpenFault}
 use Rattle.room_store.specs.Kept.{IsShut, IsSound, Keeps, Stores}
 use Rattle.cli_serve.specs.Lines.{TellsFaults, TellsFirst, TellsPort}
 use Rattle.cli_serve.specs.Staying.{PassesUntil}
-use Rattle.cli_serve.specs.Visits.{IsEnd, IsServedVisit, Visit, moment_of, requests_of}
-use Rattle.cli_serve.specs.Visits.{unanswered_of}
+use Rattle.cli_serve.specs.Peers.{Adds}
+use Rattle.cli_serve.specs.Visits.{IsEnd, IsServedVisit, Sources, Visit, acts_of, moment_of}
+use Rattle.cli_serve.specs.Visits.{requests_of, unanswered_of}
 use Rattle.cli_serve.specs.declared.fault.ServingFault.{ServingFault}
 use Rattle.cli_serve.specs.Hosts.{ServesRoom, LeavesRequests, LeavesShut, TellsEnd}
 use Rattle.cli_serve.specs.Hosts.{end_status}
@@ -42,27 +43,29 @@ leaves_requests old new visits outlasts lasts now sound is_open room keeps =
     lasts room keeps
 
 -- what a store served, in terms of its content
-unfoldable pub served : (port count : ℕ) (told told' : List ℤ → Type 0) (old new : State)
+unfoldable pub served : (port count : ℕ) (from to : Sources) (old new : State)
     (out out' err mid err' : Option (List ℕ)) (status : ℕ)
     (visits : List Visit) (end : Result (Unit {0}) ServingFault)
     → length visits ≤ count → All IsServedVisit visits
-    → ((before : List ℤ) → told before → told' (before ++ map moment_of visits))
+    → ((before : List ℤ) → from.told before → to.told (before ++ map moment_of visits))
+    → Adds from.did to.did (acts_of visits)
     → (HasCleanDisk new → HasCleanDisk old)
     → (HasCleanDisk new → IsSound old → IsSound new)
     → (HasCleanDisk new → IsSound old → Runs (Keeps old) (requests_of visits) (Keeps new))
     → IsEnd count end (length visits) → LeavesShut end new → status ≡ end_status end
     → OnOk end (TellsPort port out out')
-    → TellsFirst port (length visits) out out' → TellsFaults (length visits) err mid end
+    → TellsFirst port (length visits) out out' → TellsFaults visits err mid end
     → TellsEnd end mid err' → Lasts old → Lasts new
     → Outlasts old (unanswered_of visits) (requests_of visits) new
-    → ServesRoom port count told told' old new out out' err err' status
-served port count told told' old new out out' err mid err' status visits end few each moments
+    → ServesRoom port count from to old new out out' err err' status
+served port count from to old new out out' err mid err' status visits end few each moments acts
     trusted sound run says shut is tells first connections last lasted lasts outlasts =
     record {
       visits = visits;
       few = few;
       each = each;
       moments = moments;
+      acts = acts;
       leads = record { trusted = trusted; sound = sound; run = run };
       lasts = lasts;
       outlasts = outlasts;

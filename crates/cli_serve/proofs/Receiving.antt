@@ -1,56 +1,75 @@
 -- Connections one after another, as what a desk did.
-use Rattle.std.proofs.Common.{◌≡◌, ℕ, ℤ, ◌+◌, ◌≤◌, All, IfSome, List, [], ◌∷◌, ◌++◌, length, map}
-use Rattle.std.proofs.Common.{Option, Some, None}
+use Rattle.std.proofs.Common.{◌≡◌, ℕ, ℤ, ◌+◌, ◌≤◌, All, List, [], ◌∷◌, ◌++◌, length, map}
+use Rattle.std.proofs.Common.{Option, Some, None, Result, Ok, Err}
 use Rattle.std.proofs.Common.{subst, sym, ap, refl, ◌∙◌, arith, append_assoc}
 use Rattle.std.proofs.lemmas.Grind.{flat_map-append}
 use Rattle.std.proofs.lemmas.List.{append-nil, length-append, map-append}
-use Rattle.std.proofs.lemmas.List.Elements.{All-append, All-nil, All-from_recursion, All-weaker}
+use Rattle.std.proofs.lemmas.List.Elements.{All-append, All-nil, All-from_recursion}
 use Rattle.room_machine.specs.declared.desk.Desk.{Ghosts}
 use Rattle.room_machine.specs.Desk.{DeskLaws}
 use Rattle.room_machine.specs.Run.{Asking, Event}
-use Rattle.room_http.specs.Message.{Message}
-use Rattle.room_http.specs.Serve.{Connects, IsNext, Next, next_asking, next_exchange, seen}
-use Rattle.room_http.specs.Stream.{DeskRuns, Exchange, IsExchange, IsOpen}
-use Rattle.cli_serve.specs.Visits.{AsksDesk, Attends, IsServedVisit, Receives, ReceivesAll, Visit}
-use Rattle.cli_serve.specs.Visits.{asking_by, moment_of, requests_of, unanswered_of, visit_events}
-use Rattle.cli_serve.specs.Visits.{visit_unanswered}
+use Rattle.room_http.specs.declared.ended.Cause.{Cause}
+use Rattle.room_http.specs.declared.ended.Ended.{Ended}
+use Rattle.room_http.specs.declared.ended.ServeFault.{ServeFault}
+use Rattle.room_http.specs.Serve.{Next, Serves, Stops, next_asking, next_exchange, seen}
+use Rattle.room_http.specs.Stream.{DeskRuns, Last, last_asking, last_exchange}
+use Rattle.cli_serve.specs.Peers.{Act, Adds, Wire, met_by, wire}
+use Rattle.cli_serve.specs.Visits.{Attends, IsServedVisit, Meeting, Receives, ReceivesAll}
+use Rattle.cli_serve.specs.Visits.{ReceivesOne, Sources, Visit, acts_at, acts_of, asking_by}
+use Rattle.cli_serve.specs.Visits.{failed_last, failed_next, moment_of, requests_of, unanswered_of}
+use Rattle.cli_serve.specs.Visits.{visit_acts, visit_events, visit_unanswered}
 use Rattle.room_http.proofs.Runs.{done-then, nothing-done}
+use Rattle.room_http.proofs.Telling.{at-value}
 
--- what comes next is an exchange, if anything comes
-next_each : (left : List ℕ) (n : ℕ) (next : Next) → IsNext left n next
-    → All IsExchange (next_exchange next)
-next_each left n Next.Unknown is = All-nil IsExchange
-next_each left n (Next.Exchanging x close) is = All-from_recursion IsExchange (x ∷ []) (is.0, tt)
-next_each left n (Next.Refusing refusal) is = All-nil IsExchange
-next_each left n (Next.Failing m) is = All-nil IsExchange
-
-next_few : (next : Next) → length (next_exchange next) ≤ 1
-next_few Next.Unknown = omega arith
-next_few (Next.Exchanging x close) = omega arith
-next_few (Next.Refusing refusal) = omega arith
-next_few (Next.Failing m) = omega arith
-
--- the message that the desk failed at, if one comes next
-abbrev next_failed : Next → Option Message
-next_failed (Next.Failing m) = Some m
-next_failed next = None
+-- what got no answer
+last_unanswered : (moment : ℤ) (last : Last)
+    → last_asking moment last ≡ asking_by moment (failed_last last)
+last_unanswered moment Last.Clean = refl
+last_unanswered moment Last.Cut = refl
+last_unanswered moment (Last.Refused refusal) = refl
+last_unanswered moment (Last.Closing x) = refl
+last_unanswered moment (Last.Failed m) = refl
 
 next_unanswered : (moment : ℤ) (next : Next)
-    → next_asking moment next ≡ asking_by moment (next_failed next)
+    → next_asking moment next ≡ asking_by moment (failed_next next)
 next_unanswered moment Next.Unknown = refl
 next_unanswered moment (Next.Exchanging x close) = refl
 next_unanswered moment (Next.Refusing refusal) = refl
 next_unanswered moment (Next.Failing m) = refl
 
-next_fails : (left : List ℕ) (n : ℕ) (next : Next) → IsNext left n next
-    → IfSome (next_failed next) AsksDesk
-next_fails left n Next.Unknown is = tt
-next_fails left n (Next.Exchanging x close) is = tt
-next_fails left n (Next.Refusing refusal) is = tt
-next_fails left n (Next.Failing m) is = (is.0, is.1)
+-- nothing more is told
+pub no_more : {X : Type 0} (told : List X → Type 0) (before : List X) → told before
+    → told (before ++ [])
+no_more told before is = subst told (sym (append-nil before)) is
 
-exchange_is : (x : Exchange) → IsOpen x → IsExchange x
-exchange_is x given = given.is
+-- some is told, and then more
+pub told_on : {X : Type 0} (told told' told'' : List X → Type 0) (one two both : List X)
+    → both ≡ one ++ two → ((before : List X) → told before → told' (before ++ one))
+    → ((before : List X) → told' before → told'' (before ++ two))
+    → (before : List X) → told before → told'' (before ++ both)
+told_on told told' told'' one two both whole first then before is =
+    subst told'' (append_assoc before one two ∙ ap (λ t. before ++ t) (sym whole))
+    (then (before ++ one) (first before is))
+
+-- what an accept did, by what it answered
+module _ {P E : Type 0} (result : Result (Option P) E) (did did' : List Act → Type 0)
+    (bytes : P → Wire) where
+  pub met_peer : (found : Option P) (peer : P) → result ≡ Ok found → found ≡ Some peer
+      → Adds did did' (met_by result bytes) → Adds did did' (Act.Came (bytes peer) ∷ [])
+  met_peer found peer is some met =
+      at-value (λ (r : Result (Option P) E). Adds did did' (met_by r bytes)) result found
+      (Some peer) is some met
+
+  pub met_lost : (found : Option P) → result ≡ Ok found → found ≡ None
+      → Adds did did' (met_by result bytes) → Adds did did' (Act.Lost ∷ [])
+  met_lost found is none met =
+      at-value (λ (r : Result (Option P) E). Adds did did' (met_by r bytes)) result found
+      None is none met
+
+  pub met_fault : (fault : E) → result ≡ Err fault → Adds did did' (met_by result bytes)
+      → Adds did did' []
+  met_fault fault is met =
+      subst (λ (r : Result (Option P) E). Adds did did' (met_by r bytes)) is met
 
 module _ {D : Type 0} (d : Ghosts D) (laws : DeskLaws d.Outlasts) where
   -- the same requests, however they are listed
@@ -62,44 +81,46 @@ module _ {D : Type 0} (d : Ghosts D) (laws : DeskLaws d.Outlasts) where
       (subst (λ (us : List Asking). DeskRuns d old us events new) a did)
 
   -- no connection came
-  unfoldable pub nobody : (count : ℕ) (told : List ℤ → Type 0) (desk : D)
-      → Receives d count told told desk desk
-  nobody count told desk = record {
+  unfoldable pub nobody : (count : ℕ) (from to : Sources) (desk : D)
+      → ((before : List ℤ) → from.told before → to.told (before ++ [])) → Adds from.did to.did []
+      → Receives d count from to desk desk
+  nobody count from to desk moments acts = record {
     visits = [];
     few = omega arith;
     each = All-nil IsServedVisit;
-    moments = λ before is. subst told (sym (append-nil before)) is;
+    moments = moments;
+    acts = acts;
     did = nothing-done d laws desk;
   }
 
   -- more connections might have come
-  unfoldable pub fewer : (less count : ℕ) (told told' : List ℤ → Type 0) (old new : D)
-      → less ≤ count
-      → Receives d less told told' old new → Receives d count told told' old new
-  fewer less count told told' old new h given = record {
+  unfoldable pub fewer : (less count : ℕ) (from to : Sources) (old new : D) → less ≤ count
+      → Receives d less from to old new → Receives d count from to old new
+  fewer less count from to old new h given = record {
     visits = given.visits;
     few = let few = given.few in omega arith;
     each = given.each;
     moments = given.moments;
+    acts = given.acts;
     did = given.did;
   }
 
   -- some connections came, and then others
-  unfoldable pub others : (some more : ℕ) (told told' told'' : List ℤ → Type 0) (old mid new : D)
-      → Receives d some told told' old mid → Receives d more told' told'' mid new
-      → Receives d (some + more) told told'' old new
-  others some more told told' told'' old mid new first then = record {
+  unfoldable pub others : (some more : ℕ) (from via to : Sources) (old mid new : D)
+      → Receives d some from via old mid → Receives d more via to mid new
+      → Receives d (some + more) from to old new
+  others some more from via to old mid new first then = record {
     visits = first.visits ++ then.visits;
     few = let a = first.few in let b = then.few in
         omega (arith, length-append first.visits then.visits);
     each = All-append IsServedVisit first.visits then.visits first.each then.each;
-    moments = λ before is.
-        let one = map moment_of first.visits in
-        let two = map moment_of then.visits in
-        let all : (before ++ one) ++ two ≡ before ++ map moment_of (first.visits ++ then.visits) =
-        append_assoc before one two
-        ∙ ap (λ t. before ++ t) (sym (map-append moment_of first.visits then.visits)) in
-        subst told'' all (then.moments (before ++ one) (first.moments before is));
+    moments =
+        told_on from.told via.told to.told (map moment_of first.visits)
+        (map moment_of then.visits) _ (map-append moment_of first.visits then.visits)
+        first.moments then.moments;
+    acts =
+        told_on from.did via.did to.did (acts_of first.visits) (acts_of then.visits) _
+        (flat_map-append visit_acts first.visits then.visits) first.acts then.acts;
     did =
         alike old new _ _ _ _ (sym (flat_map-append visit_unanswered first.visits then.visits))
         (sym (flat_map-append visit_events first.visits then.visits))
@@ -107,75 +128,143 @@ module _ {D : Type 0} (d : Ghosts D) (laws : DeskLaws d.Outlasts) where
         (requests_of first.visits) (requests_of then.visits) first.did then.did);
   }
 
-  -- the same as exactly none
-  pub none : (told : List ℤ → Type 0) (desk : D) → ReceivesAll d 0 told told desk desk
+  -- none of them is missing
+  unfoldable pub none : (from : Sources) (desk : D) → ReceivesAll d 0 from from desk desk
   unfolding nobody
-  none told desk = (nobody 0 told desk, refl)
+  none from desk = (nobody 0 from from desk (no_more from.told) (no_more from.did), refl)
 
-  -- some connections came, and then others, and none is missing
-  pub all_others : (some more : ℕ) (told told' told'' : List ℤ → Type 0) (old mid new : D)
-      → ReceivesAll d some told told' old mid → ReceivesAll d more told' told'' mid new
-      → ReceivesAll d (some + more) told told'' old new
+  unfoldable pub one_more : (some : ℕ) (from via to : Sources) (old mid new : D)
+      (fault : Option Cause)
+      → ReceivesAll d some from via old mid → ReceivesOne d fault via to mid new
+      → ReceivesAll d (some + 1) from to old new
   unfolding others
-  all_others some more told told' told'' old mid new first then = (
-    others some more told told' told'' old mid new first.0 then.0,
-    omega (arith, length-append first.0.visits then.0.visits, first.1, then.1),
+  one_more some from via to old mid new fault first then = (
+    others some 1 from via to old mid new first.0 then.receives,
+    let one = ap length then.only in
+        omega (arith, length-append first.0.visits then.receives.visits, first.1, one),
   )
 
   -- one connection was served
-  pub attends : {z : ℤ} {left sent left_then sent_then : Option (List ℕ)} (moment : ℤ) (old new : D)
-      → z ≡ moment → Connects d z (seen left sent old) (seen left_then sent_then new)
-      → Attends d moment old new
-  attends {z} moment old new same connects =
-      let next = next_exchange connects.next in
-      let all = connects.exchanges ++ next in
+  pub ended : {z : ℤ} {left sent left' sent' : Option (List ℕ)} (moment : ℤ) (old new : D)
+      (how : Ended) → z ≡ moment
+      → Serves d z (seen left sent old) (seen left' sent' new) how
+      → Attends d moment (Meeting.Met (wire left sent) (wire left' sent')) None old new
+  ended {z} {left} {sent} {left'} {sent'} moment old new how same s =
       let visit : Visit = record {
         moment = z;
-        exchanges = all;
-        failed = next_failed connects.next;
+        meeting = Meeting.Met (wire left sent) (wire left' sent');
+        fault = None;
+        exchanges = s.exchanges ++ last_exchange s.last;
+        failed = failed_last s.last;
       } in
       record {
         visit = visit;
         same_moment = same;
+        met = refl;
+        ended = refl;
         is = record {
-          each = All-append IsExchange connects.exchanges next
-              (All-weaker IsOpen IsExchange exchange_is connects.exchanges connects.opens.each)
-              (next_each connects.rest (length connects.exchanges) connects.next connects.is_next);
-          few = let few = connects.few in let one = next_few connects.next in
-              omega (arith, length-append connects.exchanges next, few, one);
-          fails =
-              next_fails connects.rest (length connects.exchanges) connects.next connects.is_next;
+          before = s.exchanges;
+          last = s.last;
+          talks = s.talks;
+          whole = refl;
+          failed_is = refl;
+        };
+        did = alike old new _ _ _ _ (last_unanswered z s.last) refl s.did;
+      }
+
+  -- up to a fault
+  pub stopped : {z : ℤ} {left sent left' sent' : Option (List ℕ)} (moment : ℤ) (old new : D)
+      (fault : ServeFault) → z ≡ moment
+      → Stops d z (seen left sent old) (seen left' sent' new) fault
+      → Attends d moment (Meeting.Met (wire left sent) (wire left' sent')) (Some fault.cause)
+      old new
+  stopped {z} {left} {sent} {left'} {sent'} moment old new fault same s =
+      let connects = s.connects in
+      let visit : Visit = record {
+        moment = z;
+        meeting = Meeting.Met (wire left sent) (wire left' sent');
+        fault = Some fault.cause;
+        exchanges = connects.exchanges ++ next_exchange connects.next;
+        failed = failed_next connects.next;
+      } in
+      record {
+        visit = visit;
+        same_moment = same;
+        met = refl;
+        ended = refl;
+        is = record {
+          before = connects.exchanges;
+          next = connects.next;
+          talks = connects.talks;
+          cause_is = s.cause;
+          whole = refl;
+          failed_is = refl;
         };
         did = alike old new _ _ _ _ (next_unanswered z connects.next) refl connects.did;
       }
 
   -- a connection was lost, and the desk wasn't asked
-  pub lost : (moment : ℤ) (desk : D) → Attends d moment desk desk
+  pub lost : (moment : ℤ) (desk : D) → Attends d moment Meeting.Lost (Some Cause.Read) desk desk
   lost moment desk = record {
-    visit = record { moment = moment; exchanges = []; failed = None };
+    visit = record {
+      moment = moment;
+      meeting = Meeting.Lost;
+      fault = Some Cause.Read;
+      exchanges = [];
+      failed = None;
+    };
     same_moment = refl;
-    is = record { each = All-nil IsExchange; few = omega arith; fails = tt };
+    met = refl;
+    ended = refl;
+    is = (refl, refl, refl);
     did = nothing-done d laws desk;
   }
 
-  -- and the clock read its moment
-  pub one : (moment : ℤ) (told told' : List ℤ → Type 0) (old new : D)
-      → ((before : List ℤ) → told before → told' (before ++ moment ∷ []))
-      → Attends d moment old new → Receives d 1 told told' old new
-  one moment told told' old new tells a = record {
-    visits = a.visit ∷ [];
-    few = omega arith;
-    each = All-from_recursion IsServedVisit (a.visit ∷ []) (a.is, tt);
-    moments = λ before is.
-        subst (λ (z : ℤ). told' (before ++ z ∷ [])) (sym a.same_moment) (tells before is);
-    did =
-        alike old new _ _ _ _ (sym (append-nil (visit_unanswered a.visit)))
-        (sym (append-nil (visit_events a.visit))) a.did;
-  }
+  -- and its moment was told, and the listener did this at it
+  pub one : (moment : ℤ) (meeting : Meeting) (fault : Option Cause) (from to : Sources)
+      (old new : D) → ((before : List ℤ) → from.told before → to.told (before ++ moment ∷ []))
+      → Adds from.did to.did (acts_at meeting) → Attends d moment meeting fault old new
+      → ReceivesOne d fault from to old new
+  one moment meeting fault from to old new tells acts a =
+      let here : acts_at meeting ≡ acts_of (a.visit ∷ []) =
+      ap acts_at (sym a.met) ∙ sym (append-nil (visit_acts a.visit)) in
+      record {
+        receives = record {
+          visits = a.visit ∷ [];
+          few = omega arith;
+          each = All-from_recursion IsServedVisit (a.visit ∷ []) (a.is, tt);
+          moments = λ before is.
+              subst (λ (z : ℤ). to.told (before ++ z ∷ [])) (sym a.same_moment) (tells before is);
+          acts = subst (λ (done : List Act). Adds from.did to.did done) here acts;
+          did =
+              alike old new _ _ _ _ (sym (append-nil (visit_unanswered a.visit)))
+              (sym (append-nil (visit_events a.visit))) a.did;
+        };
+        visit = a.visit;
+        only = refl;
+        ended = a.ended;
+      }
 
-  -- the same as exactly one
-  pub exactly_one : (moment : ℤ) (told told' : List ℤ → Type 0) (old new : D)
-      → ((before : List ℤ) → told before → told' (before ++ moment ∷ []))
-      → Attends d moment old new → ReceivesAll d 1 told told' old new
-  unfolding one
-  exactly_one moment told told' old new tells a = (one moment told told' old new tells a, refl)
+  -- and then the desk was asked whether it is shut
+  pub rested : (fault : Option Cause) (from to : Sources) (old mid new : D)
+      → ReceivesOne d fault from to old mid → DeskRuns d mid [] [] new
+      → ReceivesOne d fault from to old new
+  rested fault from to old mid new first rests =
+      let r = first.receives in
+      record {
+        receives = record {
+          visits = r.visits;
+          few = r.few;
+          each = r.each;
+          moments = r.moments;
+          acts = r.acts;
+          did =
+              alike old new _ _ _ _ (append-nil (unanswered_of r.visits))
+              (append-nil (requests_of r.visits))
+              (done-then d laws old mid new (unanswered_of r.visits) [] (requests_of r.visits) []
+              r.did rests);
+        };
+        visit = first.visit;
+        only = first.only;
+        ended = first.ended;
+      }

@@ -1,8 +1,7 @@
 -- Connections one after another, up to one that leaves the desk shut.
-use Rattle.std.proofs.Common.{◌≡◌, ℕ, ℤ, ◌+◌, ◌<◌, Bool, true, false, List, [], length, Ok, Err}
-use Rattle.std.proofs.Common.{Option, subst, sym, refl, inl, ◌∙◌, arith, add-one}
-use Rattle.std.proofs.lemmas.List.{append-nil, length-append}
-use Rattle.std.proofs.lemmas.List.Elements.{All-nil}
+use Rattle.std.proofs.Common.{◌≡◌, ℕ, ℤ, ◌+◌, ◌<◌, Bool, true, false, List, [], ◌++◌, length, Ok}
+use Rattle.std.proofs.Common.{Err, Option, Result, subst, sym, refl, inl, inr, ◌∙◌, ap, arith, add-one}
+use Rattle.std.proofs.lemmas.List.{length-append}
 use Rattle.std.specs.Io.KnownBytes.{Appends}
 use Rattle.cli_outcome.specs.Written.{WritesSome}
 use Rattle.room_machine.specs.declared.desk.Desk.{Ghosts}
@@ -11,28 +10,17 @@ use Rattle.room_rows.specs.Content.{Content}
 use Rattle.room_rows.specs.Rows.{Rows}
 use Rattle.room_machine.proofs.Meeting.{closed_still}
 use Rattle.room_http.specs.Stream.{DeskRuns}
-use Rattle.cli_serve.specs.Lines.{TellsEach, Writing, listening_line}
+use Rattle.cli_serve.specs.Lines.{TellsEach, TellsOf, Writing, listening_line}
+use Rattle.cli_serve.specs.Peers.{Act, Adds, DoneBy, NothingDone}
 use Rattle.cli_serve.specs.Staying.{Passes, PassesEach, PassesUntil, Served, ServedAt, TellsShut}
-use Rattle.cli_serve.specs.Visits.{IsEnd, IsServedVisit, Receives, ReceivesAll}
+use Rattle.room_http.specs.declared.ended.Cause.{Cause}
+use Rattle.cli_serve.specs.Visits.{IsEnd, Receives, ReceivesAll, ReceivesOne, Sources, acts_of}
+use Rattle.cli_serve.specs.Visits.{sources}
 use Rattle.cli_serve.specs.declared.fault.ServingFault.{ServingFault}
-use Rattle.cli_serve.proofs.Receiving.{fewer, nobody, others}
-use Rattle.cli_serve.proofs.Told.{told_of}
+use Rattle.cli_serve.proofs.Receiving.{fewer, nobody, one_more, others}
+use Rattle.cli_serve.proofs.Told.{told_next, told_no_more}
 
 module _ {D : Type 0} (d : Ghosts D) (laws : DeskLaws d.Outlasts) where
-  -- the desk was asked, and no connection came
-  pub asked : (told : List ℤ → Type 0) (old new : D) → DeskRuns d old [] [] new
-      → ReceivesAll d 0 told told old new
-  asked told old new rests = (
-    record {
-      visits = [];
-      few = omega arith;
-      each = All-nil IsServedVisit;
-      moments = λ before is. subst told (sym (append-nil before)) is;
-      did = rests;
-    },
-    refl,
-  )
-
   -- asking leaves what is kept
   pub rests : (old new : D) → (d.trusted new → d.trusted old)
       → (d.trusted new → (room : Content) → d.content old room → d.content new room)
@@ -61,14 +49,16 @@ module _ {D : Type 0} (d : Ghosts D) (laws : DeskLaws d.Outlasts) where
       subst (λ (k : ℕ). PassesEach d k old new) (sym (add-one n)) (mid, before, here)
 
   -- no connection came, nothing was printed of one, and this was the end
-  pub unserved : (port count : ℕ) (told : List ℤ → Type 0) (desk : D) (fault : ServingFault)
-      (out out' err : Option (List ℕ)) → WritesSome out out' (listening_line port)
+  pub unserved : (port count : ℕ) (from to : Sources) (desk : D) (fault : ServingFault)
+      (out out' err : Option (List ℕ))
+      → ((before : List ℤ) → from.told before → to.told (before ++ [])) → Adds from.did to.did []
+      → WritesSome out out' (listening_line port)
       → IsEnd count (Err fault) 0 → PassesUntil d 0 desk desk (Err fault)
-      → ServedAt d port count told told desk desk out out' err err (Err fault)
+      → ServedAt d port count from to desk desk out out' err err (Err fault)
   unfolding nobody
-  unserved port count told desk fault out out' err wrote says stays = record {
+  unserved port count from to desk fault out out' err moments acts wrote says stays = record {
     served = record {
-      receives = nobody d laws count told desk;
+      receives = nobody d laws count from to desk moments acts;
       end_says = says;
       stays = stays;
       faults = refl;
@@ -76,81 +66,115 @@ module _ {D : Type 0} (d : Ghosts D) (laws : DeskLaws d.Outlasts) where
     first = inl (refl, wrote);
   }
 
-  module _ (number count : ℕ) (told told' : List ℤ → Type 0) (old mid : D)
-      (first : ReceivesAll d number told told' old mid) (stays : PassesEach d number old mid)
+  module _ (number count : ℕ) (from via : Sources) (old mid : D)
+      (first : ReceivesAll d number from via old mid) (stays : PassesEach d number old mid)
       (err err' : Option (List ℕ)) where
     -- as many came as were to come
-    came : number ≡ count → ReceivesAll d count told told' old mid
-    came is = subst (λ (n : ℕ). ReceivesAll d n told told' old mid) is first
+    stays_all : (visits : ℕ) → number ≡ count → visits ≡ number → PassesEach d visits old mid
+    stays_all visits is all = subst (λ (n : ℕ). PassesEach d n old mid) (sym all) stays
 
-    stays_all : (visits : ℕ) → number ≡ count → visits ≡ count → PassesEach d visits old mid
-    stays_all visits is all =
-        subst (λ (n : ℕ). PassesEach d n old mid) (is ∙ sym all) stays
-
-    lines_all : (Tells : Writing) (visits : ℕ) → number ≡ count → visits ≡ count
-        → TellsEach Tells number err err' → TellsEach Tells visits err err'
-    lines_all Tells visits is all = told_of Tells number visits err err' (all ∙ sym is)
-
-    pub all_served : number ≡ count → TellsEach Appends number err err'
-        → Served d count told told' old mid err err' (Ok tt)
-    all_served is lines =
-        let all = came is in
-        record {
-          receives = all.0;
-          end_says = all.1;
-          stays = stays_all _ is all.1;
-          faults = lines_all Appends _ is all.1 lines;
-        }
+    pub all_served : number ≡ count → TellsEach Appends 0 first.0.visits err err'
+        → Served d count from via old mid err err' (Ok tt)
+    unfolding fewer
+    all_served is lines = record {
+      receives = fewer d laws number count from via old mid (omega (arith, is)) first.0;
+      end_says = first.1 ∙ is;
+      stays = stays_all _ is first.1;
+      faults = lines;
+    }
 
     -- all came, and a line couldn't be printed
-    pub untold : number ≡ count → TellsEach WritesSome number err err'
-        → Served d count told told' old mid err err' (Err ServingFault.File)
-    untold is lines =
-        let all = came is in
-        record {
-          receives = all.0;
-          end_says = inl all.1;
-          stays = stays_all _ is all.1;
-          faults = lines_all WritesSome _ is all.1 lines;
-        }
+    pub untold : number ≡ count → TellsEach WritesSome 0 first.0.visits err err'
+        → Served d count from via old mid err err' (Err ServingFault.File)
+    unfolding fewer
+    untold is lines = record {
+      receives = fewer d laws number count from via old mid (omega (arith, is)) first.0;
+      end_says = inl (first.1 ∙ is);
+      stays = stays_all _ is first.1;
+      faults = lines;
+    }
 
     -- the listener failed before all connections came
-    pub missing : (told'' : List ℤ → Type 0) (new : D) (fault : ServingFault) → number < count
-        → TellsEach WritesSome number err err'
-        → (fault ≡ ServingFault.Net) × (new ≡ mid) × Receives d 0 told' told'' mid new
-        → Served d count told told'' old new err err' (Err fault)
+    pub missing : (to : Sources) (new : D) (fault : ServingFault) → number < count
+        → TellsEach WritesSome 0 first.0.visits err err'
+        → (fault ≡ ServingFault.Net) × (new ≡ mid) × Receives d 0 via to mid new
+        → Served d count from to old new err err' (Err fault)
     unfolding fewer others
-    missing told'' new fault more lines end =
-        let all = others d laws number 0 told told' told'' old mid new first.0 end.2 in
+    missing to new fault more lines end =
+        let all = others d laws number 0 from via to old mid new first.0 end.2 in
         let none = end.2.few in
         let visits : length all.visits ≡ number =
         omega (arith, length-append first.0.visits end.2.visits, first.1, none) in
         let here : PassesEach d (length all.visits) old new =
         subst (λ (n : ℕ). PassesEach d n old new) (sym visits)
         (subst (λ (desk : D). PassesEach d number old desk) (sym end.1) stays) in
-        let net : Served d count told told'' old new err err' (Err ServingFault.Net) = record {
-          receives = fewer d laws (number + 0) count told told'' old new (omega (arith, more)) all;
+        let net : Served d count from to old new err err' (Err ServingFault.Net) = record {
+          receives = fewer d laws (number + 0) count from to old new (omega (arith, more)) all;
           end_says = inl (omega (arith, visits, more));
           stays = here;
-          faults = told_of WritesSome number (length all.visits) err err' visits lines;
+          faults = told_no_more WritesSome first.0.visits end.2.visits err err' none lines;
         } in
-        subst (λ (f : ServingFault). Served d count told told'' old new err err' (Err f))
+        subst (λ (f : ServingFault). Served d count from to old new err err' (Err f))
         (sym end.0) net
 
+    -- the lines, with that of one connection more
+    pub lines_then : (Tells : Writing) (to : Sources) (new : D) (fault : Option Cause)
+        (err'' : Option (List ℕ)) (next : ReceivesOne d fault via to mid new)
+        → TellsEach Tells 0 first.0.visits err err' → TellsOf Tells (number + 1) fault err' err''
+        → TellsEach Tells 0 (one_more d laws number from via to old mid new fault first next).0.visits
+        err err''
+    unfolding one_more others
+    lines_then Tells to new fault err'' next before now =
+        told_next Tells 0 number first.0.visits next.receives.visits next.visit fault err err' err''
+        before next.only next.ended (omega (arith, first.1)) now
+
     -- a connection left the desk shut
-    pub left_shut : (told'' : List ℤ → Type 0) (new : D) (shut : Bool) → number < count
-        → TellsEach WritesSome (number + 1) err err'
-        → ReceivesAll d 1 told' told'' mid new → Passes d mid new shut → shut ≡ true
-        → Served d count told told'' old new err err' (Err ServingFault.Desk)
-    unfolding fewer others
-    left_shut told'' new shut more lines next leaves is =
-        let all = others d laws number 1 told told' told'' old mid new first.0 next.0 in
-        let visits : length all.visits ≡ number + 1 =
-        omega (arith, length-append first.0.visits next.0.visits, first.1, next.1) in
+    pub left_shut : (to : Sources) (new : D) (fault : Option Cause) (shut : Bool)
+        (err'' : Option (List ℕ)) → number < count
+        → TellsEach WritesSome 0 first.0.visits err err'
+        → TellsOf WritesSome (number + 1) fault err' err''
+        → ReceivesOne d fault via to mid new → Passes d mid new shut → shut ≡ true
+        → Served d count from to old new err err'' (Err ServingFault.Desk)
+    unfolding fewer
+    left_shut to new fault shut err'' more before now next leaves is =
+        let all = one_more d laws number from via to old mid new fault first next in
         record {
-          receives = fewer d laws (number + 1) count told told'' old new (omega (arith, more)) all;
-          end_says = omega (arith, visits);
+          receives =
+              fewer d laws (number + 1) count from to old new (omega (arith, more)) all.0;
+          end_says = let visits = all.1 in omega (arith, visits);
           stays =
-              (number, visits, (mid, stays, subst (λ (b : Bool). Passes d mid new b) is leaves));
-          faults = told_of WritesSome (number + 1) (length all.visits) err err' visits lines;
+              (number, all.1, (mid, stays, subst (λ (b : Bool). Passes d mid new b) is leaves));
+          faults = lines_then WritesSome to new fault err'' next before now;
         }
+
+-- A listener that has done nothing yet served: all that it did then came of that.
+pub by_listener : {D L : Type 0} (d : Ghosts D) (port count : ℕ) (told told' : List ℤ → Type 0)
+    (did : L → List Act → Type 0) (first last : L) (old new : D)
+    (out out' err err' : Option (List ℕ)) (end : Result (Unit {0}) ServingFault) → did first []
+    → ServedAt d port count (sources told (did first)) (sources told' (did last)) old new out out'
+    err err' end
+    → ServedAt d port count (sources told NothingDone) (sources told' (DoneBy did)) old new out out'
+    err err' end
+by_listener d port count told told' did first last old new out out' err err' end begins at =
+    let r = at.served.receives in
+    record {
+      served = record {
+        receives = record {
+          visits = r.visits;
+          few = r.few;
+          each = r.each;
+          moments = r.moments;
+          acts = λ before none.
+              inr (
+                last,
+                subst (λ (acts : List Act). did last (acts ++ acts_of r.visits))
+                    (sym none) (r.acts [] begins),
+              );
+          did = r.did;
+        };
+        end_says = at.served.end_says;
+        stays = at.served.stays;
+        faults = at.served.faults;
+      };
+      first = at.first;
+    }

@@ -1,13 +1,15 @@
 -- Lines about connections, one after another.
-use Rattle.std.proofs.Common.{◌≡◌, ℕ, ℤ, ◌+◌, Bool, List, Option, ◌++◌, Result, Ok, Err}
-use Rattle.std.proofs.Common.{IsTrue, OnOk, sym, ap, ◌∙◌, subst, add-one}
+use Rattle.std.proofs.Common.{◌≡◌, ℕ, ◌+◌, ◌≤◌, Bool, List, [], ◌∷◌, Option, ◌++◌, length, Result}
+use Rattle.std.proofs.Common.{Ok, Err, IsTrue, OnOk, sym, ap, refl, ◌∙◌, subst, arith}
 use Rattle.std.proofs.lemmas.Fmt.{contents_after_writes}
+use Rattle.std.proofs.lemmas.List.{append-nil}
 use Rattle.std.specs.Fmt.{WritesInCalls}
 use Rattle.std.specs.Io.KnownBytes.{Appends}
 use Rattle.cli_outcome.specs.Written.{WritesSome}
-use Rattle.cli_serve.specs.Lines.{MayTell, TellsEach, Writing}
+use Rattle.room_http.specs.declared.ended.Cause.{Cause}
+use Rattle.cli_serve.specs.Lines.{TellsEach, TellsOf, Writing}
 use Rattle.cli_serve.specs.Staying.{PassesEach}
-use Rattle.cli_serve.specs.Visits.{ReceivesAll}
+use Rattle.cli_serve.specs.Visits.{ReceivesAll, Sources, Visit}
 use Rattle.room_machine.specs.declared.desk.Desk.{Ghosts}
 
 -- a text was written piece by piece at the end of another
@@ -19,24 +21,43 @@ appended (Ok done) w v bs line contents wrote is =
     contents_after_writes _ contents (λ a b c e. e) w bs v wrote ∙ ap (λ l. contents w ++ l) is
 appended (Err e) w v bs line contents wrote is = tt
 
--- one connection more
-pub told_next : (Tells : Writing) (n : ℕ) (old mid new : Option (List ℕ))
-    → TellsEach Tells n old mid → MayTell Tells (n + 1) mid new → TellsEach Tells (n + 1) old new
-told_next Tells n old mid new before now =
-    let here = subst (λ (k : ℕ). MayTell Tells k mid new) (add-one n) now in
-    subst (λ (k : ℕ). TellsEach Tells k old new) (sym (add-one n)) (mid, before, here)
+-- the line of one connection
+told_one : (Tells : Writing) (before number : ℕ) (visit : Visit) (fault : Option Cause)
+    (old mid new : Option (List ℕ)) → mid ≡ old → visit.fault ≡ fault → number ≡ before
+    → TellsOf Tells (number + 1) fault mid new → TellsEach Tells before (visit ∷ []) old new
+told_one Tells before number visit fault old mid new same ended at told =
+    let from = subst (λ (m : Option (List ℕ)). TellsOf Tells (number + 1) fault m new) same told in
+    let its = subst (λ (f : Option Cause). TellsOf Tells (number + 1) f old new) (sym ended) from in
+    (new, subst (λ (n : ℕ). TellsOf Tells (n + 1) visit.fault old new) at its, refl)
 
--- the number of connections in another form
-pub told_of : (Tells : Writing) (n visits : ℕ) (old new : Option (List ℕ)) → visits ≡ n
-    → TellsEach Tells n old new → TellsEach Tells visits old new
-told_of Tells n visits old new is told =
-    subst (λ (k : ℕ). TellsEach Tells k old new) (sym is) told
+-- one connection more
+pub told_next : (Tells : Writing) (before number : ℕ) (visits next : List Visit) (visit : Visit)
+    (fault : Option Cause) (old mid new : Option (List ℕ)) → TellsEach Tells before visits old mid
+    → next ≡ visit ∷ [] → visit.fault ≡ fault → number ≡ before + length visits
+    → TellsOf Tells (number + 1) fault mid new → TellsEach Tells before (visits ++ next) old new
+told_next Tells before number [] next visit fault old mid new told only ended at now =
+    subst (λ (vs : List Visit). TellsEach Tells before vs old new) (sym only)
+    (told_one Tells before number visit fault old mid new told ended (omega (arith, at)) now)
+told_next Tells before number (v ∷ vs) next visit fault old mid new told only ended at now = (
+  told.0,
+  told.1,
+  told_next Tells (before + 1) number vs next visit fault told.0 mid new told.2 only ended
+      (omega (arith, at)) now,
+)
+
+-- no connection more
+pub told_no_more : (Tells : Writing) (visits next : List Visit) (old new : Option (List ℕ))
+    → length next ≤ 0 → TellsEach Tells 0 visits old new
+    → TellsEach Tells 0 (visits ++ next) old new
+told_no_more Tells visits [] old new few told =
+    subst (λ (vs : List Visit). TellsEach Tells 0 vs old new) (sym (append-nil visits)) told
+told_no_more Tells visits (v ∷ vs) old new few told = absurd (omega (arith, few))
 
 -- What holds once some connections came: what the desk did, that none left it shut, and what was
 -- written of them, in whole where that is known.
-pub record IsServing {D : Type 0} (d : Ghosts D) (number : ℕ) (clock clock' : List ℤ → Type 0)
+pub record IsServing {D : Type 0} (d : Ghosts D) (number : ℕ) (from to : Sources)
     (desk desk' : D) (told : Bool) (err err' : Option (List ℕ)) : Type 0 where
-  pub received : ReceivesAll d number clock clock' desk desk'
+  pub received : ReceivesAll d number from to desk desk'
   pub stays : PassesEach d number desk desk'
-  pub whole : IsTrue told → TellsEach Appends number err err'
-  pub some : TellsEach WritesSome number err err'
+  pub whole : IsTrue told → TellsEach Appends 0 received.0.visits err err'
+  pub some : TellsEach WritesSome 0 received.0.visits err err'

@@ -17,8 +17,9 @@ use Rattle.room_store.specs.Kept.{IsShut, IsSound, Keeps, Stores}
 use Rattle.room_store.specs.Leads.{Leads}
 use Rattle.room_store.specs.Opens.{Opens}
 use Rattle.cli_serve.specs.Lines.{TellsFaults, TellsFirst, TellsPort}
-use Rattle.cli_serve.specs.Visits.{IsEnd, IsServedVisit, Visit, moment_of, requests_of}
-use Rattle.cli_serve.specs.Visits.{unanswered_of}
+use Rattle.cli_serve.specs.Peers.{Adds}
+use Rattle.cli_serve.specs.Visits.{IsEnd, IsServedVisit, Sources, Visit, acts_of, moment_of}
+use Rattle.cli_serve.specs.Visits.{requests_of, unanswered_of}
 use Rattle.cli_serve.specs.declared.fault.ServingFault.{ServingFault}
 use Rattle.cli_serve.specs.Places.{AsksFor, Place, local_place}
 
@@ -66,9 +67,9 @@ abbrev pub TellsEnd : Result (Unit {0}) ServingFault → Option (List ℕ) → O
 TellsEnd (Ok done) old new = new ≡ old
 TellsEnd (Err fault) old new = WritesSome old new (fault_line (serving_fault fault))
 
--- What is printed of faults: those of that many connections, one after another, and then the one
--- that ended the service.
-pub record TellsAll (visits : ℕ) (end : Result (Unit {0}) ServingFault)
+-- What is printed of faults: those of these connections, one after another, and then the one that
+-- ended the service.
+pub record TellsAll (visits : List Visit) (end : Result (Unit {0}) ServingFault)
     (old new : Option (List ℕ)) : Type 0 where
   pub mid : Option (List ℕ)
   pub connections : TellsFaults visits old mid end
@@ -95,16 +96,17 @@ pub record IsTurnedDown (asked asked' : List Place → Type 0) (old new : State)
   pub asked_none : AsksFor asked asked' []
 
 -- The requests of at most `count` connections were served, each at the moment that the clock read
--- for it. All is done, or there was a fault, and what the fault says of the connections holds. The
+-- for it. They are all that a listener accepted. All is done, or there was a fault, and what the fault says of the connections holds. The
 -- port was printed before the first of them, and faults of these connections as they came. As long
 -- as the connection to the database is open, a power cut leaves what is seen. Whether it is open or
 -- not, a power cut leaves all requests that were answered, and at most one that wasn't, as a whole.
-pub record ServesRoom (port count : ℕ) (told told' : List ℤ → Type 0) (old new : State)
+pub record ServesRoom (port count : ℕ) (from to : Sources) (old new : State)
     (out out' err err' : Option (List ℕ)) (status : ℕ) : Type 0 where
   pub visits : List Visit
   pub few : length visits ≤ count
   pub each : All IsServedVisit visits
-  pub moments : (before : List ℤ) → told before → told' (before ++ map moment_of visits)
+  pub moments : (before : List ℤ) → from.told before → to.told (before ++ map moment_of visits)
+  pub acts : Adds from.did to.did (acts_of visits)
   pub leads : Leads old (requests_of visits) new
   pub lasts : Lasts new
   pub outlasts : Outlasts old (unanswered_of visits) (requests_of visits) new
@@ -115,20 +117,19 @@ pub record ServesRoom (port count : ℕ) (told told' : List ℤ → Type 0) (old
   pub end_is : status ≡ end_status end
   pub end_says : IsEnd count end (length visits)
   pub shut : LeavesShut end new
-  pub faults : TellsAll (length visits) end err err'
+  pub faults : TellsAll visits end err err'
 
 module _ {S : Type 0} (shown : Held S → State) where
   -- The room was opened, this port of this machine alone was asked for, and it served. From before
   -- it was opened on, and however damaged it was, each request was judged by the lists that the rows
   -- stored then, and nothing else changed these rows. A power cut leaves what was answered.
   pub record IsHosted (port count : ℕ) (asked asked' : List Place → Type 0)
-      (told told' : List ℤ → Type 0) (old new : Held S) (out out' err err' : Option (List ℕ))
+      (from to : Sources) (old new : Held S) (out out' err err' : Option (List ℕ))
       (status : ℕ) : Type 0 where
     pub mid : Held S
     pub opens : Opens (shown old) (shown mid) (Ok tt)
     pub asked_one : AsksFor asked asked' (local_place port ∷ [])
-    pub served : ServesRoom port count told told' (shown mid) (shown new) out out' err err'
-        status
+    pub served : ServesRoom port count from to (shown mid) (shown new) out out' err err' status
     pub closed : HasCleanDisk (shown new)
         → RunsClosed (Stores (shown old)) (requests_of served.visits) (Stores (shown new))
     pub outlasts : Outlasts (shown old) (unanswered_of served.visits)
@@ -136,8 +137,8 @@ module _ {S : Type 0} (shown : Held S → State) where
     pub leaves : LeavesRequests (shown old) served.visits (shown new)
 
   abbrev pub Hosts : ℕ → ℕ → (List Place → Type 0) → (List Place → Type 0)
-      → (List ℤ → Type 0) → (List ℤ → Type 0) → Held S → Held S → Option (List ℕ)
+      → Sources → Sources → Held S → Held S → Option (List ℕ)
       → Option (List ℕ) → Option (List ℕ) → Option (List ℕ) → ℕ → Type 0
-  Hosts port count asked asked' told told' old new out out' err err' status =
+  Hosts port count asked asked' from to old new out out' err err' status =
       IsTurnedDown asked asked' (shown old) (shown new) out out' err err' status
-      ⊎ IsHosted port count asked asked' told told' old new out out' err err' status
+      ⊎ IsHosted port count asked asked' from to old new out out' err err' status

@@ -1,5 +1,6 @@
 pub mod Accepting
 pub mod Lines
+pub mod Peers
 pub mod Staying
 pub mod Visits
 pub mod Hosts

@@ -1,9 +1,10 @@
 -- The lines that are printed beside the replies (own).
-use Rattle.std.specs.Prelude.{◌≡◌, ◌⊎◌, ℕ, zero, suc, List, ◌++◌, codes, decimal, Option}
-use Rattle.std.specs.Prelude.{Result, Ok, Err}
+use Rattle.std.specs.Prelude.{◌≡◌, ◌⊎◌, ℕ, ◌+◌, List, [], ◌∷◌, ◌++◌, codes, decimal}
+use Rattle.std.specs.Prelude.{Option, Some, None, Result, Ok, Err}
 use Rattle.std.specs.Io.KnownBytes.{Appends}
 use Rattle.cli_outcome.specs.Written.{WritesSome}
 use Rattle.room_http.specs.declared.ended.Cause.{Cause}
+use Rattle.cli_serve.specs.Visits.{Visit}
 use Rattle.cli_serve.specs.declared.fault.ServingFault.{ServingFault}
 
 -- the port on which connections are accepted
@@ -33,20 +34,21 @@ connection_line number Cause.Memory =
 abbrev pub Writing : Type 1
 Writing = Option (List ℕ) → Option (List ℕ) → List ℕ → Type 0
 
--- the line of the connection of this number is written in this way, or nothing is
-abbrev pub MayTell : Writing → ℕ → Option (List ℕ) → Option (List ℕ) → Type 0
-MayTell Tells number old new =
-    (new ≡ old) ⊎ ((cause : Cause) × Tells old new (connection_line number cause))
+-- the line of the fault that ended the connection of this number is written in this way; without a
+-- fault nothing is
+abbrev pub TellsOf : Writing → ℕ → Option Cause → Option (List ℕ) → Option (List ℕ) → Type 0
+TellsOf Tells number (Some cause) old new = Tells old new (connection_line number cause)
+TellsOf Tells number None old new = new ≡ old
 
--- for each of the first connections, in order, its line is written in this way, or nothing is
-abbrev pub TellsEach : Writing → ℕ → Option (List ℕ) → Option (List ℕ) → Type 0
-TellsEach Tells zero old new = new ≡ old
-TellsEach Tells (suc n) old new =
-    (mid : Option (List ℕ)) × TellsEach Tells n old mid × MayTell Tells (suc n) mid new
+-- the same for each of these connections, in order, after this many before them
+abbrev pub TellsEach : Writing → ℕ → List Visit → Option (List ℕ) → Option (List ℕ) → Type 0
+TellsEach Tells before [] old new = new ≡ old
+TellsEach Tells before (visit ∷ visits) old new = (mid : Option (List ℕ))
+    × TellsOf Tells (before + 1) visit.fault old mid × TellsEach Tells (before + 1) visits mid new
 
--- What is written about the faults of that many connections: whole lines if all is done. Otherwise
--- lines may be cut off.
-abbrev pub TellsFaults : ℕ → Option (List ℕ) → Option (List ℕ) → Result (Unit {0}) ServingFault
-    → Type 0
-TellsFaults visits old new (Ok done) = TellsEach Appends visits old new
-TellsFaults visits old new (Err fault) = TellsEach WritesSome visits old new
+-- What is written about the faults of these connections: whole lines if all is done. Otherwise lines
+-- may be cut off.
+abbrev pub TellsFaults : List Visit → Option (List ℕ) → Option (List ℕ)
+    → Result (Unit {0}) ServingFault → Type 0
+TellsFaults visits old new (Ok done) = TellsEach Appends 0 visits old new
+TellsFaults visits old new (Err fault) = TellsEach WritesSome 0 visits old new

@@ -5,7 +5,8 @@ use Rattle.room_machine.specs.declared.desk.Desk.{Ghosts}
 use Rattle.room_rows.specs.Keep.{one_more}
 use Rattle.room_http.specs.Stream.{DeskRuns}
 use Rattle.cli_serve.specs.Lines.{TellsFaults, TellsFirst}
-use Rattle.cli_serve.specs.Visits.{Attends, IsEnd, Receives}
+use Rattle.room_http.specs.declared.ended.Cause.{Cause}
+use Rattle.cli_serve.specs.Visits.{Attends, IsEnd, Meeting, Receives, Sources}
 use Rattle.cli_serve.specs.declared.fault.ServingFault.{ServingFault}
 
 -- The desk was asked whether it is shut. Where it isn't said to be, it isn't, or it couldn't find
@@ -15,11 +16,15 @@ TellsShut d old new true = d.shut new
 TellsShut d old new false =
     (d.trusted new → ¬ d.shut new) ⊎ (d.faults new ≡ one_more (d.faults old))
 
+-- some connection was served
+abbrev pub AttendsOne : {D : Type 0} → Ghosts D → D → D → Type 0
+AttendsOne d old new = (moment : ℤ) × (meeting : Meeting) × (fault : Option Cause)
+    × Attends d moment meeting fault old new
+
 -- A connection was served, and then the desk was asked whether it is shut.
 pub record Passes {D : Type 0} (d : Ghosts D) (old new : D) (shut : Bool) : Type 0 where
-  pub moment : ℤ
   pub mid : D
-  pub attends : Attends d moment old mid
+  pub attends : AttendsOne d old mid
   pub rests : DeskRuns d mid [] [] new
   pub tells : TellsShut d mid new shut
 
@@ -36,18 +41,18 @@ PassesUntil {D} d visits old new (Err ServingFault.Desk) = (before : ℕ) × (vi
 PassesUntil d visits old new end = PassesEach d visits old new
 
 -- At most `count` connections were received, and what the end says of them and of the desk holds.
--- What was printed of faults is about these connections alone.
-pub record Served {D : Type 0} (d : Ghosts D) (count : ℕ) (told told' : List ℤ → Type 0)
-    (old new : D) (err err' : Option (List ℕ)) (end : Result (Unit {0}) ServingFault)
+-- What was printed of faults is what ended these connections.
+pub record Served {D : Type 0} (d : Ghosts D) (count : ℕ) (from to : Sources) (old new : D)
+    (err err' : Option (List ℕ)) (end : Result (Unit {0}) ServingFault)
     : Type 0 where
-  pub receives : Receives d count told told' old new
+  pub receives : Receives d count from to old new
   pub end_says : IsEnd count end (length receives.visits)
   pub stays : PassesUntil d (length receives.visits) old new end
-  pub faults : TellsFaults (length receives.visits) err err' end
+  pub faults : TellsFaults receives.visits err err' end
 
 -- The same with what was printed of the port before the first of them.
-pub record ServedAt {D : Type 0} (d : Ghosts D) (port count : ℕ) (told told' : List ℤ → Type 0)
-    (old new : D) (out out' err err' : Option (List ℕ)) (end : Result (Unit {0}) ServingFault)
+pub record ServedAt {D : Type 0} (d : Ghosts D) (port count : ℕ) (from to : Sources) (old new : D)
+    (out out' err err' : Option (List ℕ)) (end : Result (Unit {0}) ServingFault)
     : Type 0 where
-  pub served : Served d count told told' old new err err' end
+  pub served : Served d count from to old new err err' end
   pub first : TellsFirst port (length served.receives.visits) out out'

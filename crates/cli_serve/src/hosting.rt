@@ -2,6 +2,8 @@
 ghost use Rattle.std.specs.Prelude.{◌≡◌, [], ◌∷◌, OnOk, false};
 ghost use Rattle.sqlite.specs.Held.{state};
 ghost use Rattle.cli_serve.specs.Lines.{TellsPort};
+ghost use Rattle.cli_serve.specs.Peers.{DoneBy, NothingDone};
+ghost use Rattle.cli_serve.specs.Visits.{sources};
 ghost use Rattle.cli_serve.specs.Staying.{ServedAt};
 ghost use Rattle.cli_serve.specs.Hosts.{Hosts};
 ghost use Rattle.cli_serve.specs.Places.{AsksFor, local_place};
@@ -47,8 +49,10 @@ pub fn host<S: Alter, P: Ports, M: Moments, O: Write, E: Write>(
     requires { conn.in_transaction ≡ false }
     ensures { Hosts (state S.Store) service.old.port service.old.count
         (P.asked service.old.ports) (P.asked service.new.ports)
-        (M.told service.old.clock) (M.told service.new.clock) conn result.0 (O.contents out.old)
-        (O.contents out.new) (E.contents err.old) (E.contents err.new) result.1 }
+        (sources (M.told service.old.clock) NothingDone)
+        (sources (M.told service.new.clock) (DoneBy P.Listener.did)) conn result.0
+        (O.contents out.old) (O.contents out.new) (E.contents err.old) (E.contents err.new)
+        result.1 }
 {
     what_is_committed_lasts(&conn);
     let mut store = match Store::adopt(conn) {
@@ -73,7 +77,8 @@ fn serve_at<D: Desk, P: Ports, M: Moments, O: Write, E: Write>(
     err: &mut E,
 ) -> Result<(), ServingFault>
     ensures served { ServedAt D.Desk service.old.port service.old.count
-        (M.told service.old.clock) (M.told service.new.clock)
+        (sources (M.told service.old.clock) NothingDone)
+        (sources (M.told service.new.clock) (DoneBy P.Listener.did))
         desk.old desk.new (O.contents out.old) (O.contents out.new)
         (E.contents err.old) (E.contents err.new) result }
     ensures told { OnOk result
@@ -84,10 +89,10 @@ fn serve_at<D: Desk, P: Ports, M: Moments, O: Write, E: Write>(
     let Ok(listener) = service.ports.bind(Ipv4Addr::LOCALHOST, service.port) else {
         return Err(ServingFault::Net);
     };
-    let listening = Listening {
-        listener: &listener,
+    let mut listening = Listening {
+        listener,
         port: service.port,
         count: service.count,
     };
-    serve_on(alloc, desk, &mut service.clock, &listening, out, err)
+    serve_on(alloc, desk, &mut service.clock, &mut listening, out, err)
 }

@@ -11,6 +11,7 @@ mod ports;
 mod serving;
 mod telling;
 
+pub use accepting::{Listens, Peer};
 pub use fault::ServingFault;
 pub use hosting::{Service, host};
 pub use moment::{Moments, Seconds};

@@ -1,13 +1,14 @@
 //! Connections one after another.
-ghost use Rattle.std.specs.Prelude.{◌≡◌, ◌+◌, ℤ, [], IfErr, IfOk, IsTrue, OnOk};
+ghost use Rattle.std.specs.Prelude.{◌≡◌, ◌+◌, List, [], ◌∷◌, IfErr, IfOk, IsTrue, OnOk};
 ghost use Rattle.std.specs.Io.KnownBytes.{Appends};
 ghost use Rattle.cli_outcome.specs.Written.{WritesSome};
 ghost use Rattle.room_http.specs.Stream.{DeskRuns};
-ghost use Rattle.cli_serve.specs.Lines.{MayTell, TellsPort};
-ghost use Rattle.cli_serve.specs.Staying.{Passes, Served, ServedAt, TellsShut};
-ghost use Rattle.cli_serve.specs.Visits.{Attends, Receives, ReceivesAll};
+ghost use Rattle.cli_serve.specs.Lines.{TellsOf, TellsPort};
+ghost use Rattle.cli_serve.specs.Peers.{Act, Adds, Wire, wire};
+ghost use Rattle.cli_serve.specs.Staying.{AttendsOne, Passes, Served, ServedAt, TellsShut};
+ghost use Rattle.cli_serve.specs.Visits.{Attends, Meeting, Receives, ReceivesOne, sources};
 
-use crate::accepting::accepted;
+use crate::accepting::{Listens, Peer};
 use crate::fault::ServingFault;
 use crate::lines::{tell_fault, tell_port};
 use crate::moment::Moments;
@@ -15,13 +16,12 @@ use http_message::Routes;
 use room_http::{Cause, serve};
 use room_machine::Desk;
 use std::alloc::Global;
-use std::io::Write;
-use std::net::{TcpListener, TcpStream};
+use std::io::{Read, Write};
 
 /// Where connections are accepted, and how many.
 #[derive(Drop)]
-pub struct Listening<'a> {
-    pub listener: &'a TcpListener,
+pub struct Listening<L> {
+    pub listener: L,
     /// The port of the listener.
     pub port: u16,
     pub count: u32,
@@ -38,26 +38,28 @@ pub struct Listening<'a> {
 /// The error is `Memory` where nothing was served, `Net` where the listener accepts no more
 /// connections, `Desk` where a connection left the desk shut, and `File` where a line couldn't be
 /// printed.
-pub fn serve_on<D: Desk, M: Moments, O: Write, E: Write>(
+pub fn serve_on<D: Desk, L: Listens, M: Moments, O: Write, E: Write>(
     alloc: Global,
     desk: &mut D,
     clock: &mut M,
-    listening: &Listening<'_>,
+    listening: &mut Listening<L>,
     out: &mut O,
     err: &mut E,
 ) -> Result<(), ServingFault>
-    ensures served { ServedAt D.Desk listening.now.port listening.now.count
-        (M.told clock.old) (M.told clock.new)
+    ensures served { ServedAt D.Desk listening.old.port listening.old.count
+        (sources (M.told clock.old) (L.did listening.old.listener))
+        (sources (M.told clock.new) (L.did listening.new.listener))
         desk.old desk.new (O.contents out.old) (O.contents out.new)
         (E.contents err.old) (E.contents err.new) result }
     ensures told { OnOk result
-        (TellsPort listening.now.port (O.contents out.old) (O.contents out.new)) }
+        (TellsPort listening.old.port (O.contents out.old) (O.contents out.new)) }
 {
     let Ok(routes) = Routes::new(alloc) else {
         return Err(ServingFault::Memory);
     };
+    let count = listening.count;
     if tell_port(out, listening.port) {
-        serve_each(&routes, desk, clock, listening, err)
+        serve_each(&routes, desk, clock, &mut listening.listener, count, err)
     } else {
         Err(ServingFault::File)
     }
@@ -65,19 +67,21 @@ pub fn serve_on<D: Desk, M: Moments, O: Write, E: Write>(
 
 // Serves `count` connections, and prints the fault of each that has one. One that leaves the desk
 // shut is the last. If a fault couldn't be printed, this is the error once all are served.
-fn serve_each<D: Desk, M: Moments, E: Write>(
+fn serve_each<D: Desk, L: Listens, M: Moments, E: Write>(
     routes: &Routes,
     desk: &mut D,
     clock: &mut M,
-    listening: &Listening<'_>,
+    listener: &mut L,
+    count: u32,
     err: &mut E,
 ) -> Result<(), ServingFault>
-    ensures { Served D.Desk listening.now.count (M.told clock.old) (M.told clock.new) desk.old desk.new
+    ensures { Served D.Desk count (sources (M.told clock.old) (L.did listener.old))
+        (sources (M.told clock.new) (L.did listener.new)) desk.old desk.new
         (E.contents err.old) (E.contents err.new) result }
 {
     let mut told = true;
-    'connections: for number in 0..listening.count {
-        let left = match pass(routes, desk, clock, listening.listener) {
+    'connections: for number in 0..count {
+        let left = match pass(routes, desk, clock, listener) {
             Ok(left) => left,
             Err(fault) => return Err(fault),
         };
@@ -97,8 +101,8 @@ fn serve_each<D: Desk, M: Moments, E: Write>(
 // Whether the fault of the connection after `before` others was printed in whole, if it had one.
 fn is_told<E: Write>(err: &mut E, before: u32, lost: Option<Cause>) -> bool
     ensures whole { IsTrue result
-        → MayTell Appends (before + 1) (E.contents err.old) (E.contents err.new) }
-    ensures some { MayTell WritesSome (before + 1) (E.contents err.old) (E.contents err.new) }
+        → TellsOf Appends (before + 1) lost (E.contents err.old) (E.contents err.new) }
+    ensures some { TellsOf WritesSome (before + 1) lost (E.contents err.old) (E.contents err.new) }
 {
     match lost {
         Some(cause) => tell_fault(err, u64::from(before) + 1, cause),
@@ -114,17 +118,19 @@ struct Left {
 }
 
 // Accepts and serves one connection, and asks the desk whether it is shut.
-fn pass<D: Desk, M: Moments>(
+fn pass<D: Desk, L: Listens, M: Moments>(
     routes: &Routes,
     desk: &mut D,
     clock: &mut M,
-    listener: &TcpListener,
+    listener: &mut L,
 ) -> Result<Left, ServingFault>
-    ensures received { OnOk result (ReceivesAll D.Desk 1 (M.told clock.old) (M.told clock.new)
-        desk.old desk.new) }
+    ensures received { IfOk result (λ left. ReceivesOne D.Desk left.lost
+        (sources (M.told clock.old) (L.did listener.old))
+        (sources (M.told clock.new) (L.did listener.new)) desk.old desk.new) }
     ensures leaves { IfOk result (λ left. Passes D.Desk desk.old desk.new left.shut) }
     ensures fault { IfErr result (λ fault. (fault ≡ ServingFault.Net) × (desk.new ≡ desk.old)
-        × Receives D.Desk 0 (M.told clock.old) (M.told clock.new) desk.old desk.new) }
+        × Receives D.Desk 0 (sources (M.told clock.old) (L.did listener.old))
+        (sources (M.told clock.new) (L.did listener.new)) desk.old desk.new) }
 {
     let lost = serve_next(routes, desk, clock, listener)?;
     let shut = says_shut(desk);
@@ -144,20 +150,22 @@ fn says_shut<D: Desk>(desk: &mut D) -> bool
 }
 
 // Accepts and serves one connection, and answers what fault ended it, if one did.
-fn serve_next<D: Desk, M: Moments>(
+fn serve_next<D: Desk, L: Listens, M: Moments>(
     routes: &Routes,
     desk: &mut D,
     clock: &mut M,
-    listener: &TcpListener,
+    listener: &mut L,
 ) -> Result<Option<Cause>, ServingFault>
-    ensures received { OnOk result (ReceivesAll D.Desk 1 (M.told clock.old) (M.told clock.new)
-        desk.old desk.new) }
-    ensures attends { OnOk result ((moment : ℤ) × Attends D.Desk moment desk.old desk.new) }
+    ensures received { IfOk result (λ lost. ReceivesOne D.Desk lost
+        (sources (M.told clock.old) (L.did listener.old))
+        (sources (M.told clock.new) (L.did listener.new)) desk.old desk.new) }
+    ensures attends { OnOk result (AttendsOne D.Desk desk.old desk.new) }
     ensures fault { IfErr result (λ fault. (fault ≡ ServingFault.Net) × (desk.new ≡ desk.old)
-        × Receives D.Desk 0 (M.told clock.old) (M.told clock.new) desk.old desk.new) }
+        × Receives D.Desk 0 (sources (M.told clock.old) (L.did listener.old))
+        (sources (M.told clock.new) (L.did listener.new)) desk.old desk.new) }
 {
-    match accepted(listener) {
-        Ok(Some(stream)) => Ok(serve_stream(routes, desk, clock.next(), &stream)),
+    match listener.meet() {
+        Ok(Some(peer)) => Ok(serve_peer(routes, desk, clock.next(), listener, peer)),
         Ok(None) => {
             // one that is lost has its moment too
             clock.next();
@@ -167,18 +175,40 @@ fn serve_next<D: Desk, M: Moments>(
     }
 }
 
-// Serves one connection, and answers what fault ended it, if one did.
-fn serve_stream<D: Desk>(
+// Serves the peer, parts from it, and answers what fault ended its connection, if one did.
+fn serve_peer<D: Desk, L: Listens>(
     routes: &Routes,
     desk: &mut D,
     moment: i64,
-    stream: &TcpStream,
+    listener: &mut L,
+    peer: Peer<L::Reader, L::Writer>,
 ) -> Option<Cause>
-    ensures { Attends D.Desk moment desk.old desk.new }
+    ensures { (has : Wire) × Attends D.Desk moment (Meeting.Met (wire
+        (L.Reader.remaining peer.reader) (L.Writer.contents peer.writer)) has) result
+        desk.old desk.new × Adds (L.did listener.old) (L.did listener.new) (Act.Parted has ∷ []) }
 {
-    let mut reader = stream;
-    let mut writer = stream;
-    match serve(routes, desk, moment, &mut reader, &mut writer) {
+    let Peer {
+        mut reader,
+        mut writer,
+    } = peer;
+    let lost = serve_stream(routes, desk, moment, &mut reader, &mut writer);
+    listener.part(reader, writer);
+    lost
+}
+
+// Serves one connection, and answers what fault ended it, if one did.
+fn serve_stream<D: Desk, R: Read, W: Write>(
+    routes: &Routes,
+    desk: &mut D,
+    moment: i64,
+    reader: &mut R,
+    writer: &mut W,
+) -> Option<Cause>
+    ensures { Attends D.Desk moment
+        (Meeting.Met (wire (R.remaining reader.old) (W.contents writer.old))
+        (wire (R.remaining reader.new) (W.contents writer.new))) result desk.old desk.new }
+{
+    match serve(routes, desk, moment, reader, writer) {
         Ok(_) => None,
         Err(fault) => Some(fault.cause),
     }

@@ -108,28 +108,30 @@ module _ {D : Type 0} (d : Ghosts D) (laws : DeskLaws d.Outlasts) (moment : ℤ)
       let F : ℕ → Type 0 = λ f. FaultsRose t.last f (d.faults new.desk) in
       let E : ℕ → Type 0 = λ k. EndsStream t.rest k t.last in
       record {
-        read = a.read ++ t.came.0;
         exchanges = a.exchanges;
         last = t.last;
-        reads = Consumes-then old.left mid.left new.left a.read t.came.0 a.reads t.came.1;
-        stream = record {
-          rest = t.rest;
-          opens =
-              record {
-                whole =
-                    bytes-last a.read buf t.came.0 t.rest a.exchanges a.opens.whole t.came.2;
-                each =
-                    a.opens.each;
-              };
-          few = subst (λ k. k < max_messages) a.count a.few;
-          ends = subst E a.count t.ends;
+        talks = record {
+          read = a.read ++ t.came.0;
+          reads = Consumes-then old.left mid.left new.left a.read t.came.0 a.reads t.came.1;
+          stream = record {
+            rest = t.rest;
+            opens =
+                record {
+                  whole =
+                      bytes-last a.read buf t.came.0 t.rest a.exchanges a.opens.whole t.came.2;
+                  each =
+                      a.opens.each;
+                };
+            few = subst (λ k. k < max_messages) a.count a.few;
+            ends = subst E a.count t.ends;
+          };
+          near = t.near;
+          writes =
+              Appends-then old.sent mid.sent new.sent (texts_of a.exchanges)
+              (last_text t.last) a.writes t.writes;
+          at_end = t.at_end;
         };
-        near = t.near;
-        writes =
-            Appends-then old.sent mid.sent new.sent (texts_of a.exchanges)
-            (last_text t.last) a.writes t.writes;
         ended_is = t.is;
-        at_end = t.at_end;
         did = did-then (last_exchange t.last) (last_asking moment t.last) t.did;
         faults = subst F a.faults t.faults;
       }
@@ -142,26 +144,28 @@ module _ {D : Type 0} (d : Ghosts D) (laws : DeskLaws d.Outlasts) (moment : ℤ)
       let F : ℕ → Type 0 = λ f. NextRose t.next f (d.faults new.desk) in
       record {
         connects = record {
-          read = a.read ++ t.came.0;
           exchanges = a.exchanges;
           next = t.next;
-          rest = t.rest;
-          reads = Consumes-then old.left mid.left new.left a.read t.came.0 a.reads t.came.1;
-          opens =
-              record {
-                whole =
-                    bytes-last a.read buf t.came.0 t.rest a.exchanges a.opens.whole t.came.2;
-                each =
-                    a.opens.each;
-              };
-          few = subst (λ k. k < max_messages) a.count a.few;
-          is_next = subst N a.count t.is_next;
-          near = t.near;
-          begun = t.writes.0;
-          beginning = (t.writes.1, t.writes.2);
-          writes =
-              Appends-then old.sent mid.sent new.sent
-              (texts_of a.exchanges) t.writes.0 a.writes t.writes.3;
+          talks = record {
+            read = a.read ++ t.came.0;
+            rest = t.rest;
+            reads = Consumes-then old.left mid.left new.left a.read t.came.0 a.reads t.came.1;
+            opens =
+                record {
+                  whole =
+                      bytes-last a.read buf t.came.0 t.rest a.exchanges a.opens.whole t.came.2;
+                  each =
+                      a.opens.each;
+                };
+            few = subst (λ k. k < max_messages) a.count a.few;
+            is_next = subst N a.count t.is_next;
+            near = t.near;
+            begun = t.writes.0;
+            beginning = (t.writes.1, t.writes.2);
+            writes =
+                Appends-then old.sent mid.sent new.sent
+                (texts_of a.exchanges) t.writes.0 a.writes t.writes.3;
+          };
           did = did-then (next_exchange t.next) (next_asking moment t.next) t.did;
           faults = subst F a.faults t.faults;
         };
@@ -233,19 +237,22 @@ pub served-connects : {D : Type 0} (d : Ghosts D) (moment : ℤ)
 served-connects d moment old new ended s =
     let O : List Asking → List Exchange → Type 0 = λ asked ys. DeskRuns d old.desk asked
     (events_by moment (s.exchanges ++ ys)) new.desk in
+    let t = s.talks in
     record {
-      read = s.read;
       exchanges = s.exchanges;
       next = next_of s.last;
-      rest = s.stream.rest;
-      reads = s.reads;
-      opens = s.stream.opens;
-      few = s.stream.few;
-      is_next = is-next-of s.last s.stream.rest (length s.exchanges) s.stream.ends;
-      near = near-next-of s.last s.stream.rest s.near;
-      begun = last_text s.last;
-      beginning = ([], next-text-of s.last ∙ sym (append-nil (last_text s.last)));
-      writes = s.writes;
+      talks = record {
+        read = t.read;
+        rest = t.stream.rest;
+        reads = t.reads;
+        opens = t.stream.opens;
+        few = t.stream.few;
+        is_next = is-next-of s.last t.stream.rest (length s.exchanges) t.stream.ends;
+        near = near-next-of s.last t.stream.rest t.near;
+        begun = last_text s.last;
+        beginning = ([], next-text-of s.last ∙ sym (append-nil (last_text s.last)));
+        writes = t.writes;
+      };
       faults = next-rose-of s.last (d.faults old.desk) (d.faults new.desk) s.faults;
       did =
           subst (λ asked. O asked (next_exchange (next_of s.last))) (next-asking-of moment s.last)

@@ -54,20 +54,25 @@ abbrev pub FaultsRose : Last → ℕ → ℕ → Type 0
 FaultsRose (Last.Failed m) old new = Rose old new
 FaultsRose last old new = new ≡ old
 
--- A connection that ended: what was read is a stream, what was written its replies, and what the
--- desk did their run, if it was sound before and is trusted afterwards. What the desk failed at, if
--- it did, was asked for and got no answer from it.
-pub record Serves {D : Type 0} (d : Ghosts D) (moment : ℤ) (old new : Snapshot D) (ended : Ended)
+-- The bytes of a connection that ended: what was read is a stream, and what was written its replies.
+pub record Talks (left sent left' sent' : Option (List ℕ)) (exchanges : List Exchange) (last : Last)
     : Type 0 where
   pub read : List ℕ
-  pub exchanges : List Exchange
-  pub last : Last
-  pub reads : Consumes old.left new.left read
+  pub reads : Consumes left left' read
   pub stream : Stream read exchanges last
   pub near : NearLast last stream.rest
-  pub writes : Appends old.sent new.sent (texts_of exchanges ++ last_text last)
+  pub writes : Appends sent sent' (texts_of exchanges ++ last_text last)
+  pub at_end : AtEndIf last left'
+
+-- A connection that ended, with its bytes, and what the desk did: a run over their requests, if it
+-- was sound before and is trusted afterwards. What the desk failed at, if it did, was asked for and
+-- got no answer from it.
+pub record Serves {D : Type 0} (d : Ghosts D) (moment : ℤ) (old new : Snapshot D) (ended : Ended)
+    : Type 0 where
+  pub exchanges : List Exchange
+  pub last : Last
+  pub talks : Talks old.left old.sent new.left new.sent exchanges last
   pub ended_is : ended ≡ ended_of last
-  pub at_end : AtEndIf last new.left
   pub did : DeskRuns d old.desk (last_asking moment last)
       (events_by moment (exchanges ++ last_exchange last)) new.desk
   pub faults : FaultsRose last (d.faults old.desk) (d.faults new.desk)
@@ -148,26 +153,37 @@ Blames cause (Next.Exchanging x close) left begun back = BlamesText cause begun 
 Blames cause (Next.Refusing refusal) left begun back = BlamesText cause begun back
 Blames cause (Next.Failing m) left begun back = BlamesWriter cause back
 
--- What a connection is, however it ended: the bytes that were read begin with messages that leave
--- it open; what was written are their replies, and a beginning of what comes next; and what the
--- desk did is a run of the room machine over them, with the next message where its step was taken.
--- What the desk failed at, if it did, was asked for and got no answer from it.
-pub record Connects {D : Type 0} (d : Ghosts D) (moment : ℤ) (old new : Snapshot D) : Type 0 where
+-- The bytes of a connection, however it ended: those that were read begin with messages that leave
+-- it open; what was written are their replies, and a beginning of what comes next.
+pub record TalksUpTo (left sent left' sent' : Option (List ℕ)) (exchanges : List Exchange)
+    (next : Next)
+    : Type 0 where
   pub read : List ℕ
-  pub exchanges : List Exchange
-  pub next : Next
   pub rest : List ℕ
-  pub reads : Consumes old.left new.left read
+  pub reads : Consumes left left' read
   pub opens : OpensStream read exchanges rest
   pub few : length exchanges < max_messages
   pub is_next : IsNext rest (length exchanges) next
   pub near : NearNext next rest
   pub begun : List ℕ
   pub beginning : (back : List ℕ) × (next_text next ≡ begun ++ back)
-  pub writes : Appends old.sent new.sent (texts_of exchanges ++ begun)
+  pub writes : Appends sent sent' (texts_of exchanges ++ begun)
+
+-- What a connection is, however it ended: its bytes, and what the desk did, which is a run of the
+-- room machine over their requests, with the next message where its step was taken. What the desk
+-- failed at, if it did, was asked for and got no answer from it.
+pub record Connects {D : Type 0} (d : Ghosts D) (moment : ℤ) (old new : Snapshot D) : Type 0 where
+  pub exchanges : List Exchange
+  pub next : Next
+  pub talks : TalksUpTo old.left old.sent new.left new.sent exchanges next
   pub did : DeskRuns d old.desk (next_asking moment next)
       (events_by moment (exchanges ++ next_exchange next)) new.desk
   pub faults : NextRose next (d.faults old.desk) (d.faults new.desk)
+
+-- What failed is to blame where the bytes broke off.
+abbrev pub BreaksOff : Cause → {left sent left' sent' : Option (List ℕ)} → {xs : List Exchange}
+    → (next : Next) → TalksUpTo left sent left' sent' xs next → Type 0
+BreaksOff cause next talks = Blames cause next talks.rest talks.begun talks.beginning.0
 
 -- A connection that a fault ended: how many replies went out whole, whether the desk took the step
 -- of the next message, and what failed.
@@ -177,4 +193,4 @@ pub record Stops {D : Type 0} (d : Ghosts D) (moment : ℤ) (old new : Snapshot 
   pub connects : Connects d moment old new
   pub answered : fault.answered ≡ length connects.exchanges
   pub acted : fault.acted ≡ did_act connects.next
-  pub cause : Blames fault.cause connects.next connects.rest connects.begun connects.beginning.0
+  pub cause : BreaksOff fault.cause connects.next connects.talks

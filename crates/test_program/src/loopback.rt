@@ -90,7 +90,7 @@ fn a_fault_that_cannot_be_told(rt: HostRuntime) -> Result<(), Fail> {
     let second = sends(&rt, &listener, PUT)?;
     let mut desk = MemDesk::new(open_keep(rt.alloc())?);
     let mut clock = Seconds::of(&rt);
-    let end = serves_untold(rt.alloc(), &mut desk, &mut clock, &listener, 2);
+    let end = serves_untold(rt.alloc(), &mut desk, &mut clock, &listener, 2)?;
     assert!(rt; end == Err(ServingFault::File));
     gets(rt.alloc(), second, MADE)
 }
@@ -105,7 +105,7 @@ fn a_port_that_cannot_be_told(rt: HostRuntime) -> Result<(), Fail> {
         rt.alloc(),
         &mut desk,
         &mut clock,
-        &listening(&listener, 1),
+        &mut listening(&listener, 1)?,
         &mut Full,
         &mut err,
     );
@@ -120,7 +120,7 @@ fn a_listener_that_does_not_wait(rt: HostRuntime) -> Result<(), Fail> {
     listener.set_nonblocking(true)?;
     let mut desk = MemDesk::new(open_keep(rt.alloc())?);
     let mut clock = Seconds::of(&rt);
-    let end = serves_untold(rt.alloc(), &mut desk, &mut clock, &listener, 1);
+    let end = serves_untold(rt.alloc(), &mut desk, &mut clock, &listener, 1)?;
     assert!(rt; end == Err(ServingFault::Net));
     Ok(())
 }

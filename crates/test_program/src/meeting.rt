@@ -78,12 +78,12 @@ impl Write for Full {
 }
 
 /// So many connections of the listener, as if it were at port 8780.
-pub fn listening(listener: &TcpListener, count: u32) -> Listening<'_> {
-    Listening {
-        listener,
+pub fn listening(listener: &TcpListener, count: u32) -> Result<Listening<TcpListener>, Fail> {
+    Ok(Listening {
+        listener: listener.try_clone()?,
         port: 8780,
         count,
-    }
+    })
 }
 
 /// Serves `count` connections. What it prints of them has to be this.
@@ -97,8 +97,8 @@ pub fn serves<D: Desk, M: Moments>(
 ) -> Result<(), Fail> {
     let mut out = Vec::new(alloc);
     let mut err = Vec::new(alloc);
-    let listening = listening(listener, count);
-    let end = serve_on(alloc, desk, clock, &listening, &mut out, &mut err);
+    let mut listening = listening(listener, count)?;
+    let end = serve_on(alloc, desk, clock, &mut listening, &mut out, &mut err);
     if end != Ok(()) {
         return Err(Fail::from("a fault of the whole"));
     }
@@ -113,10 +113,10 @@ pub fn serves_untold<D: Desk, M: Moments>(
     clock: &mut M,
     listener: &TcpListener,
     count: u32,
-) -> Result<(), ServingFault> {
+) -> Result<Result<(), ServingFault>, Fail> {
     let mut out = Vec::new(alloc);
-    let listening = listening(listener, count);
-    serve_on(alloc, desk, clock, &listening, &mut out, &mut Full)
+    let mut listening = listening(listener, count)?;
+    Ok(serve_on(alloc, desk, clock, &mut listening, &mut out, &mut Full))
 }
 
 /// From now on a read on a connection that waits soon ends in an error: the connections of a

@@ -2,7 +2,8 @@ use Rattle.std.proofs.Common.{[], inl, inr, subst, sym}
 use Rattle.sqlite.specs.Held.{Held, state}
 use Rattle.room_store.specs.Crash.{Lasts}
 use Rattle.cli_serve.specs.Hosts.{Hosts}
-use Rattle.cli_serve.specs.Visits.{requests_of, unanswered_of}
+use Rattle.cli_serve.specs.Peers.{DoneBy, NothingDone}
+use Rattle.cli_serve.specs.Visits.{requests_of, sources, unanswered_of}
 use Rattle.cli_serve.proofs.Hosted.{after, asks_none, closed_from, leaves_requests, left_shut}
 use Rattle.cli_serve.proofs.Hosted.{opened, served}
 use Rattle.cli_serve.proofs.hosting.host.Goals as goal
@@ -20,7 +21,8 @@ returns g c =
     (opened old mid _ c.in-Ok.ensures.opened) r.did.outlasts in
     subst (λ (conn : Held g.row.S.Denot). Hosts shown service.port service.count
     (g.P.Ports.asked service.ports) (g.P.Ports.asked c.serve_at-end.new.service.ports)
-    (g.M.Moments.told service.clock) (g.M.Moments.told c.serve_at-end.new.service.clock)
+    (sources (g.M.Moments.told service.clock) NothingDone)
+    (sources (g.M.Moments.told c.serve_at-end.new.service.clock) (DoneBy g.P.Listener.Listens.did))
     c.args.conn conn (g.O.Write.contents c.args.out.now)
     (g.O.Write.contents c.serve_at-end.new.out) (g.E.Write.contents c.args.err.now)
     (g.E.Write.contents c.tell_end-status.new.err) c.tell_end-status.result)
@@ -31,7 +33,7 @@ returns g c =
       asked_one = c.serve_at-end.ensures.asked;
       served =
           served service.port service.count _ _ mid _ _ _ _ _ _ c.tell_end-status.result r.visits
-          c.serve_at-end.result r.few r.each r.moments r.did.trusted r.did.sound r.did.run at.served.end_says
+          c.serve_at-end.result r.few r.each r.moments r.acts r.did.trusted r.did.sound r.did.run at.served.end_says
           (left_shut _ _ c.in-Ok.store c.serve_at-end.new.desk _ (λ is. is)
           c.serve_at-end.result at.served.stays)
           c.tell_end-status.ensures.status c.serve_at-end.ensures.told at.first at.served.faults

@@ -1,26 +1,24 @@
 use Rattle.std.proofs.Common.{arith, refl, sym, ◌∙◌}
 use Rattle.std.specs.Io.KnownBytes.{Appends}
 use Rattle.cli_outcome.specs.Written.{WritesSome}
-use Rattle.cli_serve.proofs.Receiving.{all_others, none}
-use Rattle.cli_serve.proofs.Staying.{all_served, left_shut, missing, stays_on, untold}
-use Rattle.cli_serve.proofs.Told.{told_next}
+use Rattle.cli_serve.proofs.Receiving.{nobody, none, one_more}
+use Rattle.cli_serve.proofs.Staying.{all_served, left_shut, lines_then, missing, stays_on, untold}
 use Rattle.cli_serve.proofs.serving.serve_each.Goals as goal
 use Rattle.cli_serve.proofs.serving.serve_each.Goals.{then-told, else-told}
 
 pub returns-in-Err : goal.returns-in-Err
 returns-in-Err g c =
     let one = c.connections.invariant in
-    missing g.D.Desk g.met.D.Desk.laws c.connections.number c.args.listening.now.count _ _ c.args.desk.now
+    missing g.D.Desk g.met.D.Desk.laws c.connections.number c.args.count _ _ c.args.desk.now
     c.connections.desk one.received one.stays _ _ _ c.pass.new.desk c.in-Err.fault
     c.connections-test.true one.some c.in-Err.ensures.fault
 
 pub returns-then-left : goal.returns-then-left
 returns-then-left g c =
     let one = c.connections.invariant in
-    let n = c.connections.number in
-    left_shut g.D.Desk g.met.D.Desk.laws n c.args.listening.now.count _ _ c.args.desk.now
-    c.connections.desk one.received one.stays _ _ _ c.pass.new.desk c.in-Ok.left.shut
-    c.connections-test.true (told_next WritesSome n _ _ _ one.some c.is_told-whole.ensures.some)
+    left_shut g.D.Desk g.met.D.Desk.laws c.connections.number c.args.count _ _ c.args.desk.now
+    c.connections.desk one.received one.stays _ _ _ c.pass.new.desk c.in-Ok.left.lost
+    c.in-Ok.left.shut _ c.connections-test.true one.some c.is_told-whole.ensures.some
     c.in-Ok.ensures.received c.in-Ok.ensures.leaves c.if-left.true
 
 pub connections-preserved : goal.connections-preserved
@@ -28,10 +26,13 @@ connections-preserved g c =
     let one = c.connections.invariant in
     let told = c.is_told-whole.ensures in
     let n = c.connections.number in
-    let some = told_next WritesSome n _ _ _ one.some told.some in
+    let next = c.in-Ok.ensures.received in
     let received =
-    all_others g.D.Desk g.met.D.Desk.laws n 1 _ _ _ c.args.desk.now c.connections.desk
-    c.pass.new.desk one.received c.in-Ok.ensures.received in
+    one_more g.D.Desk g.met.D.Desk.laws n _ _ _ c.args.desk.now c.connections.desk
+    c.pass.new.desk _ one.received next in
+    let some =
+    lines_then g.D.Desk g.met.D.Desk.laws n c.args.count _ _ c.args.desk.now c.connections.desk
+    one.received one.stays _ _ WritesSome _ c.pass.new.desk _ _ next one.some told.some in
     let stays =
     stays_on g.D.Desk g.met.D.Desk.laws n c.args.desk.now c.connections.desk c.pass.new.desk
     c.in-Ok.left.shut one.stays c.in-Ok.ensures.leaves c.if-left.false in
@@ -40,8 +41,9 @@ connections-preserved g c =
         received = received;
         stays = stays;
         whole =
-            λ is. told_next Appends n _ _ _ (one.whole w.if-told.true)
-            (told.whole (sym w.told-is ∙ is));
+            λ is. lines_then g.D.Desk g.met.D.Desk.laws n c.args.count _ _ c.args.desk.now
+            c.connections.desk one.received one.stays _ _ Appends _ c.pass.new.desk _ _ next
+            (one.whole w.if-told.true) (told.whole (sym w.told-is ∙ is));
         some = some;
       }
       | else-told w ↦ record {
@@ -53,6 +55,7 @@ connections-preserved g c =
     ]
 
 pub connections-init : goal.connections-init
+unfolding none nobody
 connections-init g c = record {
   received = none g.D.Desk g.met.D.Desk.laws _ c.args.desk.now;
   stays = refl;
@@ -63,7 +66,7 @@ connections-init g c = record {
 pub returns-then-told-2 : goal.returns-then-told-2
 returns-then-told-2 g c =
     let one = c.connections.invariant in
-    all_served g.D.Desk g.met.D.Desk.laws c.connections.number c.args.listening.now.count _ _ c.args.desk.now
+    all_served g.D.Desk g.met.D.Desk.laws c.connections.number c.args.count _ _ c.args.desk.now
     c.connections.desk one.received one.stays _ _
     (omega (arith, c.connections.auto.number-end, c.connections-test.false))
     (one.whole c.if-told-2.true)
@@ -71,6 +74,6 @@ returns-then-told-2 g c =
 pub returns-else-told-2 : goal.returns-else-told-2
 returns-else-told-2 g c =
     let one = c.connections.invariant in
-    untold g.D.Desk g.met.D.Desk.laws c.connections.number c.args.listening.now.count _ _ c.args.desk.now
+    untold g.D.Desk g.met.D.Desk.laws c.connections.number c.args.count _ _ c.args.desk.now
     c.connections.desk one.received one.stays _ _
     (omega (arith, c.connections.auto.number-end, c.connections-test.false)) one.some

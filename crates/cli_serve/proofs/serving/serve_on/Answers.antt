@@ -1,13 +1,18 @@
 use Rattle.std.proofs.Common.{inr, refl}
 use Rattle.cli_outcome.proofs.KnownBytes.{writes_none}
+use Rattle.cli_serve.specs.Visits.{sources}
 use Rattle.cli_serve.specs.declared.fault.ServingFault.{ServingFault}
+use Rattle.cli_serve.proofs.Receiving.{no_more}
 use Rattle.cli_serve.proofs.Staying.{unserved}
 use Rattle.cli_serve.proofs.serving.serve_on.Goals as goal
 
 pub returns-in_default-clause-served : goal.returns-in_default-clause-served
 returns-in_default-clause-served g c =
-    unserved g.D.Desk g.met.D.Desk.laws c.args.listening.now.port c.args.listening.now.count _ c.args.desk.now
-    ServingFault.Memory _ _ _ (writes_none _ _) refl refl
+    let told = g.M.Moments.told c.args.clock.now in
+    let did = g.L.Listens.did c.args.listening.now.listener in
+    unserved g.D.Desk g.met.D.Desk.laws c.args.listening.now.port c.args.listening.now.count
+    (sources told did) (sources told did) c.args.desk.now ServingFault.Memory _ _ _
+    (no_more told) (no_more did) (writes_none _ _) refl refl
 
 pub returns-then-tell_port-clause-served : goal.returns-then-tell_port-clause-served
 returns-then-tell_port-clause-served g c =
@@ -15,5 +20,8 @@ returns-then-tell_port-clause-served g c =
 
 pub returns-clause-served : goal.returns-clause-served
 returns-clause-served g c =
-    unserved g.D.Desk g.met.D.Desk.laws c.args.listening.now.port c.args.listening.now.count _ c.args.desk.now
-    ServingFault.File _ _ _ c.tell_port.ensures.some (inr refl) refl
+    let told = g.M.Moments.told c.args.clock.now in
+    let did = g.L.Listens.did c.args.listening.now.listener in
+    unserved g.D.Desk g.met.D.Desk.laws c.args.listening.now.port c.args.listening.now.count
+    (sources told did) (sources told did) c.args.desk.now ServingFault.File _ _ _
+    (no_more told) (no_more did) c.tell_port.ensures.some (inr refl) refl
