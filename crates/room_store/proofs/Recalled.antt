@@ -5,7 +5,7 @@ use Rattle.sqlite.specs.Effect.{Database}
 use Rattle.sqlite_trees.specs.View.{doubt}
 use Rattle.sqlite.specs.State.{State, HasCleanDisk, IsRolledBack}
 use Rattle.room_remember.specs.declared.memory.Memory.{Memory}
-use Rattle.room_remember.specs.Agrees.{Agrees}
+use Rattle.room_remember.specs.Agrees.{AgreesWithRows}
 use Rattle.room_rows.specs.declared.keep.KeepFault.{KeepFault}
 use Rattle.room_rows.specs.Rows.{Rows}
 use Rattle.store_tables.specs.Meaning.{rows_of}
@@ -28,12 +28,12 @@ pub still : (old new : State) (known : Option Memory) → LeavesOpen old new
 still old new None leaves same remembers = tt
 still old new (Some memory) leaves same remembers = λ now open' tables.
     let is = same now open' in
-    subst (λ db. Agrees memory (rows_of db)) (sym is)
+    subst (λ db. AgreesWithRows memory (rows_of db)) (sym is)
     (remembers (leaves.clean now) (leaves.was_open now open') (subst HasTables is tables))
 
 -- what is begun with agrees with what was remembered
 pub begun_with : (s : State) (kept : Option Memory) (known : Memory)
-    → ((rows : Rows) → IfSome kept (λ m. Agrees m rows) → Agrees known rows)
+    → ((rows : Rows) → IfSome kept (λ m. AgreesWithRows m rows) → AgreesWithRows known rows)
     → IfSome kept (Remembers s) → Remembers s known
 begun_with s None known agrees remembers = λ _ _ _. agrees (rows_of s.now) tt
 begun_with s (Some m) known agrees remembers =
@@ -41,13 +41,13 @@ begun_with s (Some m) known agrees remembers =
 
 -- what is remembered agrees as long as the calls are trusted
 pub agrees_at : (old begun mid : State) → Begins old begun → Stays begun mid → (known : Memory)
-    → Remembers old known → IsTrusted begun mid → Agrees known (rows_of begun.now)
+    → Remembers old known → IsTrusted begun mid → AgreesWithRows known (rows_of begun.now)
 agrees_at old begun mid begins stays known remembers t =
     let begun_clean : HasCleanDisk begun = omega (arith, stays.within.clean, t.clean) in
     let clean : HasCleanDisk old = subst (λ b. doubt b ≡ 0) begins.same_clean begun_clean in
     let open' : IsTrue old.is_open =
     sym begins.same_open ∙ stays.within.was_open t.clean t.is_open in
-    subst (λ db. Agrees known (rows_of db)) (sym begins.now)
+    subst (λ db. AgreesWithRows known (rows_of db)) (sym begins.now)
     (remembers clean open' (subst HasTables begins.now (tables_of t.now)))
 
 module _ (old begun mid back end : State) (begins : Begins old begun) (stays : Stays begun mid)
@@ -197,7 +197,7 @@ module _ (old begun mid back end : State) (begins : Begins old begun) (stays : S
       let settled = (ends now).1 in
       let same = end_is now rolled settled in
       let it = made' now (rolled.was_open settled.was_open) (subst HasTables same tables) in
-      subst (λ w. Agrees kept w)
+      subst (λ w. AgreesWithRows kept w)
       (is_kept.same it.trusted ∙ ap rows_of begins.now ∙ sym (ap rows_of same))
       (is_kept.agrees it.trusted
       (agrees_at old begun mid begins stays known remembers it.trusted)))

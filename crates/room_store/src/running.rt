@@ -5,7 +5,7 @@ ghost use Rattle.sqlite.specs.Held.{state};
 ghost use Rattle.sqlite.specs.State.{HasCleanDisk};
 ghost use Rattle.sqlite_trees.specs.View.{doubt};
 ghost use Rattle.room_judge.specs.Closed.{Performs};
-ghost use Rattle.room_remember.specs.Agrees.{Agrees};
+ghost use Rattle.room_remember.specs.Agrees.{AgreesWithRows};
 ghost use Rattle.room_store.specs.Ran.{HasDamage};
 ghost use Rattle.room_store.specs.Remembers.{EndsLook, IsKept};
 ghost use Rattle.room_rows.specs.Rows.{Rows};
@@ -28,7 +28,8 @@ use store_tables::{Keeper, RecentLists};
 
 /// What is remembered, or nothing yet.
 pub(crate) fn known_of(alloc: Global, kept: Option<Memory>) -> Memory
-    ensures { (rows : Rows) → IfSome kept (λ known. Agrees known rows) → Agrees result rows }
+    ensures { (rows : Rows) → IfSome kept (λ known. AgreesWithRows known rows)
+        → AgreesWithRows result rows }
 {
     match kept {
         None => Memory::new(alloc),
@@ -53,7 +54,7 @@ fn perform_by<S: Alter>(
     ensures stays { Stays (state S.Store keep.old.keeper.now.tx.now.conn.now)
         (state S.Store keep.new.keeper.now.tx.now.conn.now) }
     ensures carries { (IsTrusted (state S.Store keep.old.keeper.now.tx.now.conn.now)
-        (state S.Store keep.new.keeper.now.tx.now.conn.now) → Agrees keep.old.memory.now
+        (state S.Store keep.new.keeper.now.tx.now.conn.now) → AgreesWithRows keep.old.memory.now
         (rows_of (state S.Store keep.old.keeper.now.tx.now.conn.now).now))
         → CallsInside (state S.Store keep.old.keeper.now.tx.now.conn.now)
         (state S.Store keep.new.keeper.now.tx.now.conn.now) result (OnRows HasDamage)
@@ -88,7 +89,7 @@ fn perform_with<S: Alter>(
         (state S.Store keeper.new.tx.now.conn.now) }
     ensures carries { (IsTrusted (state S.Store keeper.old.tx.now.conn.now)
         (state S.Store keeper.new.tx.now.conn.now)
-        → Agrees known.old (rows_of (state S.Store keeper.old.tx.now.conn.now).now))
+        → AgreesWithRows known.old (rows_of (state S.Store keeper.old.tx.now.conn.now).now))
         → CallsInside (state S.Store keeper.old.tx.now.conn.now)
         (state S.Store keeper.new.tx.now.conn.now) result.0 (OnRows HasDamage)
         (ByRows (Performs (option_copied caller.entry) moment request.now)) }
@@ -120,7 +121,7 @@ pub(crate) fn perform_inside<S: Alter>(
     ensures same_reference { tx.new.conn.ghost_name ≡ tx.old.conn.ghost_name }
     ensures stays { Stays (state S.Store tx.old.conn.now) (state S.Store tx.new.conn.now) }
     ensures carries { (IsTrusted (state S.Store tx.old.conn.now) (state S.Store tx.new.conn.now)
-        → Agrees known.old (rows_of (state S.Store tx.old.conn.now).now))
+        → AgreesWithRows known.old (rows_of (state S.Store tx.old.conn.now).now))
         → CallsInside (state S.Store tx.old.conn.now) (state S.Store tx.new.conn.now)
         result.0 (OnRows HasDamage)
         (ByRows (Performs (option_copied caller.entry) moment request.now)) }
