@@ -186,11 +186,24 @@ holds 'a password without it' awaits 60 reached 503 -u bob:bob-word /doc/f
 start_directory || fail 'the directory again' "$why"
 holds 'a directory that is back' awaits "$patience" answers_by_ticket 200 bob /doc/f
 
+# Another attribute names the users: until the block has it, no ticket counts, and nobody is a caller without a name.
+restarts() { # FILE-OF-SETTINGS
+  kill "$httpd"
+  wait "$httpd" 2>/dev/null
+  start_apache "$PWD/$1" || fail "Apache with $1" "it doesn't start: $(head -c 300 apache.out apache.log)"
+}
+{ good; echo NAME=cn; } >other.settings
+restarts other.settings
+holds 'another attribute' awaits "$patience" answers_by_ticket 401 bob /doc/f
+ask 'a password with it' 200 hello bob:bob-word /doc/f
+sed -i s/AUTHORIZE_UID/AUTHORIZE_CN/g directory.d/kerberos.apache
+restarts other.settings
+holds 'that the block has' awaits "$patience" answers_by_ticket 200 bob /me
+holds 'is the name' grep -qx $'Room-User: bob\r' "$work/head"
+
 # And back.
 pasted 'rm /etc/rooms/directory.d/kerberos.apache'
-kill "$httpd"
-wait "$httpd" 2>/dev/null
-start_apache "$PWD/settings" || fail 'without tickets' "Apache doesn't start: $(head -c 300 apache.out apache.log)"
+restarts settings
 reloaded eval 'reached 401 / && [ "$(challenges)" = "Basic " ]'
 holds 'without tickets again' [ "$(challenges)" = 'Basic ' ]
 ticket bob
