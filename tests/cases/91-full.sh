@@ -210,9 +210,9 @@ ask 'nor with one of the room office' 401 - bob:b /invoices/folder/new -X POST
 ask 'nothing is at its address either' 404 - root:r /invoices/rooms/full
 ask 'what it removes goes to the server' 502 - root:r /invoices/object/f -X DELETE
 ask 'a list of it too' 502 - root:r /invoices/dacl/doc -X PUT --data-binary x
-# The same where passwords are remembered, by the blocks of operating.md.
-page_block 'What passwords cost' 2 >remember
-page_block 'What passwords cost' 3 >>remember
+# The same where passwords are remembered, by the blocks of passwords.md.
+page_block passwords 'Remembered for ten seconds' 1 >remember
+page_block passwords 'Remembered for ten seconds' 2 >>remember
 grep -v '^nginx -t' remember | bash -eu
 remembers() { [ "$(curl -s -o "$work/body" -w '%{http_code}' -u root:r "$base/doc/doc/d")" = 200 ] && grep -q auth_request snippets/rooms-server.conf; }
 reloaded remembers
