@@ -37,6 +37,16 @@ holds() { # NAME COMMAND ..
   if "$@"; then pass; else fail "$name" "doesn't hold: $*"; fi
 }
 
+# The status of the last command, and texts that it wrote to either of its outputs.
+told() { # NAME STATUS TEXT ..
+  local name=$1 text
+  holds "$name (status $status)" [ "$status" = "$2" ]
+  shift 2
+  for text; do
+    holds "$name ($text): $(head -c 400 "$work/out" "$work/err")" grep -qF -e "$text" "$work/out" "$work/err"
+  done
+}
+
 # Runs the program on $input, with what it writes in $work/out and $work/err, and its status in $status.
 run() {
   "$rooms" "$@" <"$input" >"$work/out" 2>"$work/err"

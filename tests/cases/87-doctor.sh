@@ -34,12 +34,6 @@ doctor() { # FILE
     </dev/null >"$work/out" 2>"$work/err"
   status=$?
 }
-told() { # NAME STATUS TEXT ..
-  local name=$1 text
-  holds "$name (status $status)" [ "$status" = "$2" ]
-  shift 2
-  for text; do holds "$name ($text): $(head -c 400 "$work/out" "$work/err")" grep -qF -e "$text" "$work/out" "$work/err"; done
-}
 fails() { # NAME FAULT [FILE]: the program does, as the room's user
   as_user "$program" verify "${3-$file}" </dev/null >said 2>&1
   holds "$1: the program says $(head -c 100 said)" grep -qxF "$2" said

@@ -11,12 +11,6 @@ hands() { # ARGUMENT ..
   LC_ALL=C.UTF-8 "$contrib/rooms-handover" "$@" </dev/null >"$work/out" 2>"$work/err"
   status=$?
 }
-told() { # NAME STATUS TEXT ..
-  local name=$1
-  holds "$name (status $status)" [ "$status" = "$2" ]
-  shift 2
-  for text; do holds "$name ($text): $(head -c 300 "$work/out" "$work/err")" grep -qF -e "$text" "$work/out" "$work/err"; done
-}
 asked() { # STATUS USER METHOD TARGET [BODY]
   local got
   got=$(curl -s -o /dev/null -m "$patience" -X "$3" -H "Room-User: $2" --data-binary "${5-}" -w '%{http_code}' "$room$4")

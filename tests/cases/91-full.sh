@@ -19,11 +19,6 @@ fulls() { # WORD ..
     </dev/null >"$work/out" 2>"$work/err"
   status=$?
 }
-told() { # NAME STATUS TEXT
-  if [ "$status" = "$2" ] && cat "$work/out" "$work/err" | grep -qF -e "$3"; then pass; else
-    fail "$1" "status $status, wanted $2 and '$3': $(head -c 400 "$work/out" "$work/err")"
-  fi
-}
 megabytes() { # USER PLACE COUNT: that many documents of 1 MiB, in one connection
   local n
   head -c 1048576 /dev/zero >mebibyte

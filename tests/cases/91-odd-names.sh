@@ -15,12 +15,6 @@ transfers() { # SCRIPT ARGUMENT ..
   PATH=$PWD/bin:$PATH LC_ALL=C.UTF-8 "$script" "$@" </dev/null >"$work/out" 2>"$work/err"
   status=$?
 }
-told() { # NAME STATUS TEXT ..
-  local name=$1
-  holds "$name (status $status)" [ "$status" = "$2" ]
-  shift 2
-  for text; do holds "$name ($text): $(head -c 300 "$work/out" "$work/err")" grep -qF -e "$text" "$work/out" "$work/err"; done
-}
 equal() { # NAME FOLDER FOLDER
   diff -r "$2" "$3" >found 2>&1
   same "$1" found /dev/null

@@ -13,12 +13,6 @@ transfers() { # SCRIPT ARGUMENT ..
   "$script" "$@" </dev/null >"$work/out" 2>"$work/err"
   status=$?
 }
-told() { # NAME STATUS TEXT ..
-  local name=$1
-  holds "$name (status $status)" [ "$status" = "$2" ]
-  shift 2
-  for text; do holds "$name ($text): $(head -c 300 "$work/out" "$work/err")" grep -qF -e "$text" "$work/out" "$work/err"; done
-}
 
 run init F root staff
 mkdir -p 'tree/a b/%2F' tree/empty 'tree/-x' tree/"quote'\"s"

@@ -17,11 +17,6 @@ packs() { # ARGUMENT ..
   "$top/tools/package" "$@" </dev/null >"$work/out" 2>"$work/err"
   status=$?
 }
-told() { # NAME STATUS TEXT
-  if [ "$status" = "$2" ] && cat "$work/out" "$work/err" | grep -qF -e "$3"; then pass; else
-    fail "$1" "status $status, wanted $2 and '$3': $(head -c 400 "$work/out" "$work/err")"
-  fi
-}
 
 packs --program "$PWD/none"
 told 'no program' 2 'no program'
