@@ -83,6 +83,8 @@ for page in "$top"/README.md "$top"/CONTRIBUTING.md "$top"/CHANGELOG.md "$top"/d
   none "lines of $name" found
 done
 
+holds 'README names the command of all tests' grep -qxF .ci/run "$top/README.md"
+
 # The same of the pages as they are installed, without whatever else is in the repository.
 "$top/contrib/install" --destdir "$PWD/machine" --program "$rooms" >installed 2>&1 </dev/null
 holds 'the pages are installed' [ -s machine/usr/share/doc/rooms/README.md ]
