@@ -19,7 +19,7 @@ use Rattle.room_rows.specs.Content.{is_linked_in, is_rising}
 use Rattle.room_rows.specs.Finding.{find_id}
 use Rattle.room_rows.specs.Held.{held_of, full_of, is_linked}
 use Rattle.room_rows.specs.HeldList.{Held}
-use Rattle.room_rows.specs.Rows.{Rows, numbers_of}
+use Rattle.room_rows.specs.Rows.{Rows, numbers_of, unread_numbers}
 use Rattle.room_rows.specs.Pass.{pass}
 use Rattle.room_rows.specs.Law.{AllAgree, AllAgreeBut, agrees, agrees_with}
 use Rattle.room_inherit.specs.Spread.{ChangedAgree, stores_as_before, with_lists, is_changed}
@@ -325,4 +325,4 @@ count_less p id (x ∷ xs) s found isnt = on (x.id == id) found (count_less p id
 -- there are at least as many numbers in use as objects that can be read
 pub as_many_numbers : (rows : Rows) → length rows.read.nodes ≤ length (numbers_of rows)
 as_many_numbers rows = let e = length-map rows.read.nodes (λ (n : Node). n.id) in let r =
-    length_numbers rows.unreadable (ids_of rows.read.nodes) in omega (arith, e, r)
+    length_numbers (unread_numbers rows) (ids_of rows.read.nodes) in omega (arith, e, r)

@@ -21,7 +21,7 @@ use Rattle.room_rows.specs.Finding.{find_id}
 use Rattle.room_rows.specs.Held.{held_of, is_linked}
 use Rattle.room_rows.specs.Meaning.{kept_held, kept_node, meaning}
 use Rattle.room_rows.specs.Paths.{is_object_name}
-use Rattle.room_rows.specs.Rows.{AreRows, Rows, numbers_of, put_numbers}
+use Rattle.room_rows.specs.Rows.{AreRows, Rows, Unread, numbers_of, put_numbers}
 use Rattle.room_rows.proofs.InPlace.{KeepsPlaces, numbers-with_each, root_of-with_each}
 use Rattle.room_rows.proofs.SamePlace.{IsSamePlace, filter-changed}
 use Rattle.room_inherit.specs.Laws.{HasNoFault, SoundIsContent}
@@ -402,7 +402,8 @@ module _ (rows : Rows) (are : AreRows rows) (none : HasNoFault rows)
       listed : is_some (body_of rows.read id) ≡ true → is_some (find_id id rows.read.nodes) ≡ true
       listed has =
           sym (among_found rows.read.nodes id)
-          ∙ ap (λ (l : List ℕ). is_among (put_numbers l (ids_of rows.read.nodes)) id) (sym readable)
+          ∙ ap (λ (l : List Unread). is_among (put_numbers (map (λ (row : Unread). row.id) l)
+          (ids_of rows.read.nodes)) id) (sym readable)
           ∙ in_use (numbers_of rows) rows.read.bodies id are.bodies
           (among_bodies rows.read.bodies id ∙ has)
 

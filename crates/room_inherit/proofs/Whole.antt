@@ -1,7 +1,7 @@
 -- All rows, read number by number.
 use Rattle.std.proofs.Common.{◌≡◌, ℕ, ◌<◌, ◌+◌, ◌==◌, ◌||◌, Bool, true, false, cond, List, [], ◌∷◌}
 use Rattle.std.proofs.Common.{◌++◌, length, get_or, drop, Some, None, nat_lt, refl, sym, ap, ◌∙◌}
-use Rattle.std.proofs.Common.{inl, inr, append_assoc}
+use Rattle.std.proofs.Common.{inl, inr, append_assoc, map}
 use Rattle.std.specs.Prelude.{is_some}
 use Rattle.std.specs.List.{find, list_any, filter_map, cons_option}
 use Rattle.std.proofs.lemmas.Bool.{cases_Bool, false≢true, eqb-true, eq-eqb, or_left, or_right}
@@ -11,7 +11,8 @@ use Rattle.std.proofs.lemmas.List.Recursion.{or_at}
 use Rattle.room_entry.specs.Pieces.{is_among}
 use Rattle.room_rows.specs.declared.node.Node.{Node}
 use Rattle.room_rows.specs.Content.{node_at}
-use Rattle.room_rows.specs.Rows.{Rows, AreRows, is_unreadable, numbers_of, put_number, put_numbers}
+use Rattle.room_rows.specs.Rows.{Rows, AreRows, Unread, is_unreadable, numbers_of, put_number}
+use Rattle.room_rows.specs.Rows.{put_numbers, unread_numbers}
 use Rattle.room_inherit.specs.Reading.{IsBadAt, IsUnused}
 use Rattle.room_rows.specs.Sound.{first_bad_list, has_bad_list}
 use Rattle.room_inherit.proofs.Numbers.{ids_of, each_found}
@@ -61,7 +62,7 @@ not_free rows ids i row are below free =
     let listed : is_among ids id ≡ true = or_at (λ l. is_among l id) (λ other. other == id) refl
     (λ _ _. refl) ids i 0 below (eq-eqb id id refl) in
     let nowhere : is_among (numbers_of rows) id ≡ false =
-    among_numbers rows.unreadable (ids_of rows.read.nodes) id
+    among_numbers (unread_numbers rows) (ids_of rows.read.nodes) id
     ∙ or_from _ _ free.1 (among_found rows.read.nodes id ∙ ap is_some free.0) in
     false≢true (sym nowhere ∙ ap (λ l. is_among l id) (sym are) ∙ listed)
 
@@ -87,18 +88,19 @@ none_found test (x ∷ xs) none = on (test x) (none_found test xs) none
     on true rest none = absurd (let wrong : ⊥ = cc in wrong)
     on false rest none = rest none
 
-pub all_read : (rows : Rows) (unreadable : List ℕ) → rows.unreadable ≡ unreadable
+pub all_read : (rows : Rows) (unreadable : List Unread) → rows.unreadable ≡ unreadable
     → first_bad_list rows ≡ None → unreadable ≡ []
 all_read rows [] are none = refl
 all_read rows (x ∷ xs) are none =
-    let itself : is_among rows.unreadable x ≡ true = ap (λ l. is_among l x) are
-    ∙ or_left _ _ (eq-eqb x x refl) in
-    let listed : is_among (numbers_of rows) x ≡ true = among_numbers rows.unreadable
-    (ids_of rows.read.nodes) x ∙ or_left _ _ itself in
-    let bad : has_bad_list rows x ≡ true = or_left (is_unreadable rows x) _ itself in
+    let itself : is_unreadable rows x.id ≡ true =
+    ap (λ (l : List Unread). is_among (map (λ (row : Unread). row.id) l) x.id) are
+    ∙ or_left _ _ (eq-eqb x.id x.id refl) in
+    let listed : is_among (numbers_of rows) x.id ≡ true = among_numbers (unread_numbers rows)
+    (ids_of rows.read.nodes) x.id ∙ or_left _ _ itself in
+    let bad : has_bad_list rows x.id ≡ true = or_left (is_unreadable rows x.id) _ itself in
     absurd
     (false≢true (sym (none_found (has_bad_list rows) (numbers_of rows) none)
-    ∙ any_at (has_bad_list rows) (numbers_of rows) x listed bad))
+    ∙ any_at (has_bad_list rows) (numbers_of rows) x.id listed bad))
 
 -- where no number in use is bad, each row can be read
 pub none_unreadable : (rows : Rows) → first_bad_list rows ≡ None → rows.unreadable ≡ []
@@ -108,9 +110,9 @@ none_unreadable rows none = all_read rows rows.unreadable refl none
 pub not_bad : (rows : Rows) → first_bad_list rows ≡ None → (id : ℕ) (node : Node)
     → node_at rows.read id ≡ Some node → has_bad_list rows id ≡ false
 not_bad rows none id node found =
-    let listed : is_among (numbers_of rows) id ≡ true = among_numbers rows.unreadable
+    let listed : is_among (numbers_of rows) id ≡ true = among_numbers (unread_numbers rows)
     (ids_of rows.read.nodes) id
-    ∙ or_right (is_among rows.unreadable id) _
+    ∙ or_right (is_unreadable rows id) _
     (among_found rows.read.nodes id ∙ ap is_some found) in
     false_from_ne_true (has_bad_list rows id)
     (λ bad. false≢true (sym (none_found (has_bad_list rows) (numbers_of rows) none)
@@ -122,7 +124,9 @@ pub whole : (rows : Rows) → AreRows rows → first_bad_list rows ≡ None
     → nodes ≡ filter_map (node_at rows.read) ids → nodes ≡ rows.read.nodes
 whole rows are none nodes ids listed found =
     found ∙ ap (filter_map (node_at rows.read))
-    (listed ∙ ap (λ l. put_numbers l (ids_of rows.read.nodes)) (none_unreadable rows none))
+    (listed
+    ∙ ap (λ (l : List Unread). put_numbers (map (λ (row : Unread). row.id) l)
+    (ids_of rows.read.nodes)) (none_unreadable rows none))
     ∙ each_found 0 rows.read.nodes are.numbers
 
 -- ---- one number after the other

@@ -20,7 +20,7 @@ use Rattle.room_rows.specs.Content.{parent_of, body_at, body_of, put_body, with_
 use Rattle.room_rows.specs.Content.{with_each, is_rising, sorted_by_name}
 use Rattle.room_rows.specs.Held.{held_of, with_held}
 use Rattle.room_rows.specs.Keep.{with_inh, with_owners, with_content}
-use Rattle.room_rows.specs.Rows.{Rows, AreRows, numbers_of, put_numbers}
+use Rattle.room_rows.specs.Rows.{Rows, AreRows, numbers_of, put_numbers, unread_numbers}
 use Rattle.room_rows.proofs.Lookups as lookups
 use Rattle.room_rows.proofs.SamePlace as same_place
 use Rattle.room_rows.proofs.SamePlace.{IsSamePlace, put_there, replaced}
@@ -127,7 +127,7 @@ module _ (content : Content) (rises : Rises content) (id : ℕ) (node new : Node
 pub numbers_of-reading : (rows : Rows) (content : Content)
     → map (λ (n : Node). n.id) content.nodes ≡ map (λ (n : Node). n.id) rows.read.nodes
     → numbers_of (with_content rows content) ≡ numbers_of rows
-numbers_of-reading rows content same = ap (put_numbers rows.unreadable) same
+numbers_of-reading rows content same = ap (put_numbers (unread_numbers rows)) same
 
 -- ---- changes that leave the place
 

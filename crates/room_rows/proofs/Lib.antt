@@ -10,3 +10,4 @@ pub mod Frames
 pub mod InPlace
 pub mod Sets
 pub mod Many
+pub mod Mixed

@@ -1,9 +1,9 @@
 -- What the calls of a keeper answer, and what they leave.
-use Rattle.std.specs.Prelude.{◌≡◌, ℕ, ◌+◌, ◌<◌, ◌≤◌, ◌^◌, ◌-◌, ◌⊎◌, min, map, Bool, not, List, []}
-use Rattle.std.specs.List.{list_all, list_any}
-use Rattle.std.specs.Prelude.{◌==◌, is_some}
-use Rattle.std.specs.Prelude.{◌∷◌, false, Option, Some, None, Result, Ok, Err, IfOk, IfErr, IsTrue}
-use Rattle.std.specs.Prelude.{if◌then◌else◌}
+use Rattle.std.specs.Prelude.{◌≡◌, ℕ, ◌+◌, ◌<◌, ◌≤◌, ◌^◌, ◌-◌, ◌⊎◌, min, map, filter, Bool, not, List}
+use Rattle.std.specs.Prelude.{[], ◌==◌, is_some, ◌∷◌, false, Option, Some, None, Result, Ok, Err}
+use Rattle.std.specs.Prelude.{IfOk, IfErr, IsTrue, if◌then◌else◌}
+use Rattle.std.specs.List.{list_all, list_any, filter_map, Contains}
+use Rattle.std.specs.Option.{option_map_or}
 use Rattle.room_entry.specs.Ace.{Ace}
 use Rattle.room_entry.specs.Valid.{is_document}
 use Rattle.room_entry.specs.declared.object.ObjKind.{ObjKind}
@@ -85,12 +85,23 @@ IsChildOf parent name rows found = found ≡ child_of rows.read parent name
 abbrev pub AreChildrenOf : ℕ → Rows → List Node → Type 0
 AreChildrenOf parent rows nodes = nodes ≡ children_of rows.read parent
 
--- The name and the kind of each child. A keeper may answer from names and kinds alone, so nothing
--- is promised where a row can't be read, as it may be a child's.
+-- the names and kinds under this parent of the rows that can't be read as an object
+abbrev pub unread_under : ℕ → Rows → List (List ℕ × ObjKind)
+unread_under parent rows = filter_map (λ row. row.named)
+    (filter (λ row. option_map_or (λ above. above == parent) row.parent false) rows.unreadable)
+
+-- the first list in its order, and between its elements nothing but some of the others
+abbrev pub IsMixed : {X : Type 0} → List X → List X → List X → Type 0
+IsMixed others firsts [] = firsts ≡ []
+IsMixed others [] (y ∷ ys) = Contains others y × IsMixed others [] ys
+IsMixed others (x ∷ firsts) (y ∷ ys) =
+    ((y ≡ x) × IsMixed others firsts ys) ⊎ (Contains others y × IsMixed others (x ∷ firsts) ys)
+
+-- The name and the kind of each child, in order of name. A keeper may answer from names and kinds
+-- alone, so those of a row under this parent that can't be read as an object may be among them.
 abbrev pub AreNamedUnder : ℕ → Rows → List (List ℕ × ObjKind) → Type 0
-AreNamedUnder parent rows names =
-    rows.unreadable ≡ []
-    → names ≡ map (λ node. (node.name, node.kind)) (children_of rows.read parent)
+AreNamedUnder parent rows names = IsMixed (unread_under parent rows)
+    (map (λ node. (node.name, node.kind)) (children_of rows.read parent)) names
 
 -- Whether there are children. Where a row can't be read, it may be a child, so the answer may be
 -- yes though no object that is read is one.

@@ -127,9 +127,8 @@ pub trait Keep {
             IsUnreadable (AreChildrenOf parent) };
 
     /// The names and kinds of the children, in order of name. It may be answered from names and
-    /// kinds alone, so a child whose row can't be read as an object may be listed or left out: the
-    /// answer is promised where all rows can be read. The error is `Damaged` for a row that can't
-    /// be read.
+    /// kinds alone, so a row under this parent that can't be read as an object may be listed or left
+    /// out. No other name is told. The error is `Damaged` for a row that can't be read.
     fn listing(&mut self, parent: u64) -> Result<Listing, KeepFault>
         ensures read { IsRead rows failures writes Follows IsTrusted self.old self.new result
             IsUnreadable (AreNamedUnder parent) };

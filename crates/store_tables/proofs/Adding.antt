@@ -1,7 +1,7 @@
 -- What the rows mean once an object is put in, and once its bytes are.
 use Rattle.std.proofs.Common.{◌≡◌, ◌<◌, ℕ, ℤ, pos, List, [], ◌∷◌, map, None, Some, refl, sym, ap}
 use Rattle.std.proofs.Common.{subst, ◌∙◌, true, false, Bool}
-use Rattle.std.specs.Prelude.{is_none, is_some, option_and_then, if◌then◌else◌}
+use Rattle.std.specs.Prelude.{is_none, is_some, option_and_then, option_map, if◌then◌else◌}
 use Rattle.std.specs.List.{filter_map}
 use Rattle.sqlite.specs.declared.types.Value.TheVariants.{Int}
 use Rattle.sqlite.specs.Effect.{Database}
@@ -17,7 +17,7 @@ use Rattle.store_tables.specs.declared.columns.Columns.{Columns}
 use Rattle.store_tables.specs.Columns.{ReadsAsNode, values_of}
 use Rattle.store_tables.specs.Filed.{body_rowid, node_at_row, node_keyed, unread_at_row}
 use Rattle.store_tables.specs.Meaning.{audit_in, bodies_of, body_in, node_in, nodes_of, number_in}
-use Rattle.store_tables.specs.Meaning.{pairs_of, rows_of, unread_in, unread_of}
+use Rattle.store_tables.specs.Meaning.{pairs_of, rows_of, unread_in, unread_of, unread_with}
 use Rattle.store_tables.specs.Shown.{AddsRow, Bodies, GetsBytes, IsRoom, shown_node, stored_body}
 use Rattle.store_tables.specs.Shown.{stored_node}
 use Rattle.store_tables.proofs.Chosen.{none_taken}
@@ -70,16 +70,16 @@ put_rows db next id new c room low stores put =
     ap nodes_of put.nodes
     ∙ put_seen see (λ (m : Node). m.id) node_keyed row n seen (db.trees 0) room.nodes.0 free.0
     ∙ sym (node_put n (nodes_of (db.trees 0))) in
-    let nothing : unread_in (shown_node row) ≡ None = ap
-    (λ o. if is_none o then number_in (rowid row) else None) seen in
+    let nothing : unread_in row ≡ None = ap
+    (λ o. if is_none o then option_map (unread_with row) (number_in (rowid row)) else None) seen in
     let unread : unread_of (next.trees 0) ≡ unread_of (db.trees 0) = ap unread_of put.nodes
-    ∙ unseen (λ r. unread_in (shown_node r)) row id refl (db.trees 0) nothing free.0 in
+    ∙ unseen unread_in row id refl (db.trees 0) nothing free.0 in
     record {
       from_one = low;
       is_new = node_at_row db id room.nodes.0 ∙ ap (option_and_then see) free.1;
       is_free =
           unread_at_row db id room.nodes.0
-          ∙ ap (λ o. is_some (option_and_then (λ r. unread_in (shown_node r)) o)) free.1;
+          ∙ ap (λ o. is_some (option_and_then unread_in o)) free.1;
       becomes =
           same_rows nodes unread (ap bodies_of put.bodies) (ap pairs_of put.members)
           (ap (filter_map audit_in) put.audits);

@@ -28,6 +28,7 @@ use Rattle.room_rows.proofs.Many.{changed_among}
 use Rattle.store_tables.specs.Filed.{node_at_row, node_keyed}
 use Rattle.store_tables.specs.Meaning.{audit_in, bodies_of, entries_in, node_in, nodes_of}
 use Rattle.store_tables.specs.Meaning.{number_in, pairs_of, rows_of, unread_in, unread_of}
+use Rattle.store_tables.specs.Meaning.{unread_with}
 use Rattle.store_tables.specs.RoomRows.{number_in-low}
 use Rattle.store_tables.specs.Shown.{IsRoom, RecastsAll, is_in_range, recast_in, sets_inh}
 use Rattle.store_tables.specs.Shown.{shown_node}
@@ -254,21 +255,25 @@ module _ (db next : Database) (room : IsRoom db) (which : Which) (text : List �
   -- each row is read as the changed object, if it is read as one
   read_so : (r : Row) → Has (db.trees 0) r
       → (see (to_row r) ≡ option_map (changed_among run change) (see r))
-      × (unread_in (shown_node (to_row r)) ≡ unread_in (shown_node r))
+      × (unread_in (to_row r) ≡ unread_in r)
   read_so r has = by (is_in_range (pos first) (pos (first + more)) r) refl
     where
       by : (b : Bool) → is_in_range (pos first) (pos (first + more)) r ≡ b
           → (see (to_row r) ≡ option_map (changed_among run change) (see r))
-          × (unread_in (shown_node (to_row r)) ≡ unread_in (shown_node r))
+          × (unread_in (to_row r) ≡ unread_in r)
       by true within =
           let it = within_seen r has within in (
             it.2 ∙ sym (ap (option_map (changed_among run change)) it.1),
-            ap (λ o. if is_none o then number_in (rowid (to_row r)) else None) it.2
-                ∙ sym (ap (λ o. if is_none o then number_in (rowid r) else None) it.1),
+            ap (λ o. if is_none o
+                then option_map (unread_with (to_row r)) (number_in (rowid (to_row r)))
+                else None) it.2
+                ∙ sym (ap (λ o. if is_none o
+                then option_map (unread_with r) (number_in (rowid r))
+                else None) it.1),
           )
       by false isnt = (
         ap see (stays r isnt) ∙ out_seen r isnt (see r) refl,
-        ap (λ (x : Row). unread_in (shown_node x)) (stays r isnt),
+        ap unread_in (stays r isnt),
       )
 
   nodes_so : (rows : List Row) → ((r : Row) → Has rows r → Has (db.trees 0) r)
@@ -292,7 +297,7 @@ module _ (db next : Database) (room : IsRoom db) (which : Which) (text : List �
   unread_so [] has = refl
   unread_so (r ∷ rows) has =
       ap (λ o. cons_option o (unread_of (map to_row rows))) (read_so r (has r (inl refl))).1
-      ∙ ap (cons_option (unread_in (shown_node r))) (unread_so rows (λ x h. has x (inr h)))
+      ∙ ap (cons_option (unread_in r)) (unread_so rows (λ x h. has x (inr h)))
 
 -- the rows of a range are written, and so are the objects
 pub inherited_range : (db next : Database) → IsRoom db → (which : Which) (text : List ℕ)

@@ -19,6 +19,7 @@ pub mod Selected
 pub mod Tops
 pub mod Apart
 pub mod Under
+pub mod Typed
 pub mod Listed
 pub mod Grouped
 pub mod Numbers

@@ -1,13 +1,15 @@
 -- What reading the names of children answers, and reading one of them.
-use Rattle.std.proofs.Common.{◌≡◌, ℕ, zero, suc, pos, negsuc, List, [], ◌∷◌, ◌++◌, map, filter}
+use Rattle.std.proofs.Common.{◌≡◌, ◌<◌, ℕ, zero, suc, pos, negsuc, List, [], ◌∷◌, ◌++◌, map, filter}
 use Rattle.std.proofs.Common.{take, length, None, Some, Option, IsTrue, inl, inr, refl, sym, ap}
 use Rattle.std.proofs.Common.{subst, ◌∙◌, true, not, append-nil, append_assoc, arith, is_lt}
 use Rattle.std.proofs.Common.{IsPermutation, false}
 use Rattle.std.specs.Prelude.{◌==◌, is_none, option_and_then, option_map, if◌then◌else◌}
 use Rattle.std.specs.List.{AllByRecursion, filter_map, cons_option}
-use Rattle.std.proofs.lemmas.Bool.{and_parts}
+use Rattle.std.specs.List.{Contains}
+use Rattle.std.specs.Option.{option_map_or}
+use Rattle.std.proofs.lemmas.Bool.{and_parts, eq-eqb}
 use Rattle.std.proofs.lemmas.List.Sorted.{IsPermutation-sym}
-use Rattle.std.proofs.lemmas.Option.{none-some}
+use Rattle.std.proofs.lemmas.Option.{none-some, same_Some}
 use Rattle.sqlite.specs.declared.types.Value.{Value}
 use Rattle.sqlite.specs.declared.types.Value.TheVariants.{Null, Int, Real, Text, Blob}
 use Rattle.sqlite.specs.Effect.{Database}
@@ -15,15 +17,18 @@ use Rattle.sqlite.specs.Order.{Row, column, value_cmp}
 use Rattle.sqlite.specs.Tree.{rowid}
 use Rattle.sqlite_keyed.specs.Lists.{sort_by}
 use Rattle.sqlite_rules.specs.Lists.{Has}
+use Rattle.sqlite_rules.proofs.ListLemmas.{contains_had, has_filtered, has_kept}
 use Rattle.sqlite_trees.specs.View.{is_int}
 use Rattle.sqlite_value.proofs.OrderLemmas.{value_cmp-Int}
 use Rattle.room_entry.specs.declared.object.ObjKind.{ObjKind}
 use Rattle.room_rows.specs.declared.node.Node.{Node}
 use Rattle.room_rows.specs.Content.{is_empty, sorted_by_name}
-use Rattle.room_rows.specs.Keep.{AreNamedUnder, HasChildren, IsUnreadable}
-use Rattle.room_rows.specs.Rows.{Rows}
+use Rattle.room_rows.specs.Keep.{AreNamedUnder, HasChildren, IsMixed, IsUnreadable, unread_under}
+use Rattle.room_rows.specs.Rows.{Rows, Unread}
+use Rattle.room_rows.proofs.Mixed.{mixed_other}
 use Rattle.store_tables.specs.Filed.{node_parts}
-use Rattle.store_tables.specs.Meaning.{named_in, node_in, number_in, rows_of, text_in, unread_in}
+use Rattle.store_tables.specs.Meaning.{named_in, node_in, number_in, rows_of, text_in}
+use Rattle.store_tables.specs.Meaning.{unread_in, unread_of, unread_with}
 use Rattle.store_tables.specs.RoomRows.{number_in-low}
 use Rattle.store_tables.specs.Seeing.{result_of_seen, seen_as, seen_behind, seen_then}
 use Rattle.store_tables.specs.Shown.{IsRoom, is_child, is_numbered, shown_node}
@@ -33,7 +38,8 @@ use Rattle.store_tables.proofs.Named.{no_map, unread_row}
 use Rattle.store_tables.proofs.Nodes.{Tells}
 use Rattle.store_tables.proofs.Rowids.{alone_in, each_of, of_each}
 use Rattle.store_tables.proofs.Tops.{children_read, kept_from}
-use Rattle.store_tables.proofs.Under.{IsSeen, by_name, seen_in_order, sorted_read, sorted_within}
+use Rattle.store_tables.proofs.Under.{IsSeen, by_name, sorted_from, sorted_read, sorted_within}
+use Rattle.store_tables.proofs.Typed.{parent_whole}
 use Rattle.store_tables.proofs.Under.{tells_by}
 use Rattle.room_rows.proofs.Lookups.{put_is_some}
 
@@ -64,10 +70,10 @@ number_kept (Real x) int high = absurd (let e = int in cc)
 number_kept (Text t) int high = absurd (let e = int in cc)
 number_kept (Blob b) int high = absurd (let e = int in cc)
 
-read_if : (o : Option Node) (m : Option ℕ) (id : ℕ) → m ≡ Some id
+read_if : (o : Option Node) (m : Option Unread) (u : Unread) → m ≡ Some u
     → (if is_none o then m else None) ≡ None → (n : Node) × (o ≡ Some n)
-read_if (Some n) m id is none = (n, refl)
-read_if None m id is none = absurd (none-some id (sym none ∙ is))
+read_if (Some n) m u is none = (n, refl)
+read_if None m u is none = absurd (none-some u (sym none ∙ is))
 
 nothing_of : {X : Type 0} (f : Row → Option X) (rows : List Row) → filter_map f rows ≡ []
     → (r : Row) → Has rows r → f r ≡ None
@@ -80,13 +86,27 @@ nothing_of f (x ∷ rows) none r there = by (f x) refl none there (λ e. nothing
     by None is e (inr later) more = more e later
     by (Some y) is e there more = absurd (let z = e in cc)
 
+-- what a row of a list is read as stands among what the list is read as
+has_read : {A B : Type 0} (f : A → Option B) (xs : List A) (x : A) (y : B) → Has xs x
+    → f x ≡ Some y → Has (filter_map f xs) y
+has_read f [] x y there is = absurd there
+has_read f (z ∷ xs) x y there is = by (f z) refl there (λ later. has_read f xs x y later is)
+  where
+    by : (o : Option _) → f z ≡ o → Has (z ∷ xs) x → (Has xs x → Has (filter_map f xs) y)
+        → Has (cons_option o (filter_map f xs)) y
+    by None at (inl same) more = absurd (none-some y (sym at ∙ ap f (sym same) ∙ is))
+    by None at (inr later) more = more later
+    by (Some w) at (inl same) more = inl (same_Some y w (sym is ∙ ap f same ∙ at))
+    by (Some w) at (inr later) more = inr (more later)
+
 module _ (db : Database) (room : IsRoom db) where
   seen_there : (rows_of db).unreadable ≡ [] → (r : Row) → Has (db.trees 0) r → is_numbered r ≡ true
       → IsSeen r
   seen_there none r there numbered =
       let number = number_kept (rowid r) (of_each _ (db.trees 0) room.nodes.1 r there) numbered in
-      read_if (see r) (number_in (rowid r)) number.0 number.1
-      (nothing_of (λ r. unread_in (shown_node r)) (db.trees 0) none r there)
+      read_if (see r) (option_map (unread_with r) (number_in (rowid r))) (unread_with r number.0)
+      (ap (option_map (unread_with r)) number.1)
+      (nothing_of unread_in (db.trees 0) none r there)
 
   abbrev under : ℕ → List Row
   under parent = filter (is_child (pos parent)) (db.trees 0)
@@ -147,13 +167,54 @@ module _ (db : Database) (room : IsRoom db) (parent : ℕ) where
   not_named r None is none = is
   not_named r (Some n) is none = absurd (none-some (name_of n) (sym none ∙ named_of r n is))
 
-  names_read : (rows : List Row) → AllByRecursion IsSeen rows
-      → filter_map named rows ≡ map name_of (filter_map see rows)
-  names_read [] all = refl
-  names_read (r ∷ rows) all =
-      ap (λ o. cons_option o (filter_map named rows)) (named_of r all.0.0 all.0.1)
-      ∙ ap (λ l. name_of all.0.0 ∷ l) (names_read rows all.1)
-      ∙ ap (λ o. map name_of (cons_option o (filter_map see rows))) (sym all.0.1)
+  abbrev others : List Named
+  others = unread_under parent (rows_of db)
+
+  -- a row under the parent that isn't read as an object can't be read, and is told as it stands
+  other_named : 0 < parent → (r : Row) → Has kept r → see r ≡ None → (p : Named)
+      → named r ≡ Some p → Contains others p
+  other_named low r there unseen p is =
+      let row = has_filtered (is_child (pos parent)) (db.trees 0) r there in
+      let parts = and_parts _ (is_numbered r) row.1 in
+      let number = number_kept (rowid r) (of_each _ (db.trees 0) room.nodes.1 r row.0) parts.1 in
+      let above : number_in (column r 2) ≡ Some parent =
+      ap number_in (parent_whole db room r row.0 parent parts.0) ∙ number_in-low parent low in
+      let read : unread_in r ≡ Some (unread_with r number.0) =
+      ap (λ o. if is_none o then option_map (unread_with r) (number_in (rowid r)) else None) unseen
+      ∙ ap (option_map (unread_with r)) number.1 in
+      let stands : Has (unread_of (db.trees 0)) (unread_with r number.0) =
+      has_read unread_in (db.trees 0) r (unread_with r number.0) row.0 read in
+      let under_it : option_map_or (λ above. above == parent) (number_in (column r 2)) false ≡ true =
+      ap (λ o. option_map_or (λ above. above == parent) o false) above
+      ∙ eq-eqb parent parent refl in
+      contains_had others p
+      (has_read (λ (u : Unread). u.named)
+      (filter (λ (u : Unread). option_map_or (λ above. above == parent) u.parent false)
+      (unread_of (db.trees 0))) (unread_with r number.0) p
+      (has_kept (λ (u : Unread). option_map_or (λ above. above == parent) u.parent false)
+      (unread_of (db.trees 0)) (unread_with r number.0) stands under_it) is)
+
+  mixed_step : 0 < parent → (r : Row) (rows : List Row) → Has kept r → (o : Option Node) → see r ≡ o
+      → (q : Option Named) → named r ≡ q
+      → IsMixed others (map name_of (filter_map see rows)) (filter_map named rows)
+      → IsMixed others (map name_of (cons_option o (filter_map see rows)))
+      (cons_option q (filter_map named rows))
+  mixed_step low r rows there (Some n) seen (Some p) is more =
+      inl (same_Some p (name_of n) (sym is ∙ named_of r n seen), more)
+  mixed_step low r rows there (Some n) seen None is more =
+      absurd (none-some (name_of n) (sym is ∙ named_of r n seen))
+  mixed_step low r rows there None unseen (Some p) is more =
+      mixed_other others (map name_of (filter_map see rows)) p (filter_map named rows)
+      (other_named low r there unseen p is) more
+  mixed_step low r rows there None unseen None is more = more
+
+  -- the names of rows are those of their objects, and of rows that can't be read
+  names_mixed : 0 < parent → (rows : List Row) → ((r : Row) → Has rows r → Has kept r)
+      → IsMixed others (map name_of (filter_map see rows)) (filter_map named rows)
+  names_mixed low [] within = refl
+  names_mixed low (r ∷ rows) within =
+      mixed_step low r rows (within r (inl refl)) (see r) refl (named r) refl
+      (names_mixed low rows (λ x there. within x (inr there)))
 
   abbrev AreNamed : List Named → List Row → Rows → List Named → Type 0
   AreNamed done rows told names = names ≡ done ++ filter_map named rows
@@ -186,17 +247,18 @@ module _ (db : Database) (room : IsRoom db) (parent : ℕ) where
       name_step done r rows (within r (inl refl))
       (reads_names rows (λ x there. within x (inr there))) (named r) refl (number_in (rowid r)) refl
 
-  pub tells_names : (rows : List Row) → HasNames (pos parent) db.trees rows
+  pub tells_names : 0 < parent → (rows : List Row) → HasNames (pos parent) db.trees rows
       → Tells IsUnreadable (AreNamedUnder parent) (rows_of db)
       (result_of_seen (seen_behind named_in [] rows))
-  tells_names rows shown =
+  tells_names low rows shown =
       subst (λ l. Tells IsUnreadable (AreNamedUnder parent) (rows_of db)
       (result_of_seen (seen_behind named_in [] l))) (sym shown)
       (tells_by IsUnreadable (AreNamed [] (sort_by by_name kept)) (AreNamedUnder parent)
       (rows_of db)
-      (λ names read none.
-      let all = under_seen db room parent none in
-      read ∙ names_read (sort_by by_name kept) (seen_in_order kept all)
-      ∙ ap (map name_of) (sorted_read kept all ∙ sym (children_read db parent)))
+      (λ names read.
+      subst (λ l. IsMixed others (map name_of l) names)
+      (sorted_read kept ∙ sym (children_read db parent))
+      (subst (IsMixed others (map name_of (filter_map see (sort_by by_name kept)))) (sym read)
+      (names_mixed low (sort_by by_name kept) (sorted_from kept))))
       (result_of_seen (seen_behind named_in [] (map shown_name (sort_by by_name kept))))
       (reads_names (sort_by by_name kept) (sorted_within db room parent) []))

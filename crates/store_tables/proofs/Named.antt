@@ -26,7 +26,8 @@ use Rattle.room_rows.specs.Content.{has_parent}
 use Rattle.room_rows.specs.Keep.{IsChildOf, IsUnreadable}
 use Rattle.room_rows.proofs.Lookups.{find_yes, find_no}
 use Rattle.store_tables.specs.Shown.{IsRoom, shown_node, is_child_named}
-use Rattle.store_tables.specs.Meaning.{number_in, parent_in, text_in, node_in, unread_in, rows_of}
+use Rattle.store_tables.specs.Meaning.{number_in, parent_in, text_in, node_in, unread_in}
+use Rattle.store_tables.specs.Meaning.{unread_with, rows_of}
 use Rattle.store_tables.specs.Keyed.{same_number}
 use Rattle.store_tables.specs.Filed.{number_is, node_parts, unread_at_row}
 use Rattle.store_tables.specs.RoomRows.{row_found}
@@ -174,9 +175,11 @@ pub unread_row : (db : Database) → IsRoom db → (r : Row) (id : ℕ) → Has 
     → node_in (shown_node r) ≡ None → number_in (rowid r) ≡ Some id → IsUnreadable (rows_of db) id
 unread_row db room r id there seen number =
     unread_at_row db id room.nodes.0
-    ∙ ap (λ o. is_some (option_and_then (λ r. unread_in (shown_node r)) o))
+    ∙ ap (λ o. is_some (option_and_then unread_in o))
     (row_found (db.trees 0) r id room.nodes.0 there (number_is (rowid r) id number).0)
-    ∙ ap (λ o. is_some (if is_none o then number_in (rowid r) else None)) seen ∙ ap is_some number
+    ∙ ap (λ o. is_some (if is_none o then option_map (unread_with r) (number_in (rowid r))
+    else None)) seen
+    ∙ ap (λ m. is_some (option_map (unread_with r) m)) number
 
 module _ (db : Database) (room : IsRoom db) (parent : ℕ) (name : List ℕ) where
   abbrev test : Row → Bool

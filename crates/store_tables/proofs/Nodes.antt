@@ -16,7 +16,7 @@ use Rattle.room_rows.specs.declared.node.Node.{Node}
 use Rattle.room_rows.specs.Rows.{Rows}
 use Rattle.room_rows.specs.Keep.{IsNodeAt, IsUnreadableAt, HasCause, IfSeen}
 use Rattle.store_tables.specs.Shown.{IsRoom, shown_node}
-use Rattle.store_tables.specs.Meaning.{number_in, node_in, unread_in, rows_of}
+use Rattle.store_tables.specs.Meaning.{number_in, node_in, unread_in, unread_with, rows_of}
 use Rattle.store_tables.specs.Filed.{node_at_row, unread_at_row}
 use Rattle.store_tables.specs.RoomRows.{number_in-low}
 use Rattle.store_tables.specs.Seeing.{result_of_seen, seen_only, seen_as, counted_by}
@@ -71,7 +71,7 @@ module _ (db : Database) (room : IsRoom db) (id : ℕ) (low : 0 < id) where
     sym (node_at_row db id room.nodes.0
         ∙ ap (option_and_then (λ r. node_in (shown_node r))) none),
     unread_at_row db id room.nodes.0
-        ∙ ap (λ o. is_some (option_and_then (λ r. unread_in (shown_node r)) o)) none,
+        ∙ ap (λ o. is_some (option_and_then unread_in o)) none,
   )
 
   something : (r : Row) → find (has_rowid (pos id)) (db.trees 0) ≡ Some r → rowid r ≡ Int (pos id)
@@ -82,15 +82,17 @@ module _ (db : Database) (room : IsRoom db) (id : ℕ) (low : 0 < id) where
     sym (node_at_row db id room.nodes.0 ∙ ap (option_and_then (λ r. node_in (shown_node r))) found
         ∙ seen),
     unread_at_row db id room.nodes.0
-        ∙ ap (λ o. is_some (option_and_then (λ r. unread_in (shown_node r)) o)) found
-        ∙ ap (λ o. is_some (if is_none o then number_in (rowid r) else None)) seen,
+        ∙ ap (λ o. is_some (option_and_then unread_in o)) found
+        ∙ ap (λ o. is_some (if is_none o then option_map (unread_with r) (number_in (rowid r))
+        else None)) seen,
   )
   something r found is None seen =
       let number : number_in (rowid r) ≡ Some id = ap number_in is ∙ number_in-low id low in
       let bad = unread_at_row db id room.nodes.0
-      ∙ ap (λ o. is_some (option_and_then (λ r. unread_in (shown_node r)) o)) found
-      ∙ ap (λ o. is_some (if is_none o then number_in (rowid r) else None)) seen
-      ∙ ap is_some number in
+      ∙ ap (λ o. is_some (option_and_then unread_in o)) found
+      ∙ ap (λ o. is_some (if is_none o then option_map (unread_with r) (number_in (rowid r))
+      else None)) seen
+      ∙ ap (λ m. is_some (option_map (unread_with r) m)) number in
       subst (λ o. Tells (IsUnreadableAt id) (IsNodeAt id) (rows_of db)
       (result_of_seen (seen_as None o))) (sym number) (refl, bad)
 

@@ -1,19 +1,21 @@
 -- All numbers in use are those of the rows, in their order.
 use Rattle.std.proofs.Common.{◌≡◌, ◌<◌, ℕ, pos, List, [], ◌∷◌, map, filter, None, Some, Option}
 use Rattle.std.proofs.Common.{refl, sym, ap, ◌∙◌, true, false, Bool, cond, not, arith, Less, is_lt}
-use Rattle.std.specs.Prelude.{is_none, if◌then◌else◌}
+use Rattle.std.specs.Prelude.{is_none, option_map, if◌then◌else◌}
 use Rattle.std.specs.List.{AllByRecursion, filter_map, cons_option}
 use Rattle.std.proofs.lemmas.Bool.{cond-true, cond-false, lt-ltb, le-ltb}
 use Rattle.sqlite.specs.declared.types.Value.TheVariants.{Int}
 use Rattle.sqlite.specs.Order.{Row, value_cmp}
 use Rattle.sqlite.specs.Tree.{rowid, IsTable}
 use Rattle.sqlite.specs.Effect.{Database}
+use Rattle.room_entry.proofs.Facts.Members.{each_map}
 use Rattle.room_rows.specs.declared.node.Node.{Node}
 use Rattle.room_rows.specs.Keep.{AreNumbers}
-use Rattle.room_rows.specs.Rows.{put_number, put_numbers}
+use Rattle.room_rows.specs.Rows.{Unread, put_number, put_numbers}
 use Rattle.store_tables.specs.Filed.{node_parts, number_is, unread_keyed}
 use Rattle.store_tables.specs.Keyed.{below}
 use Rattle.store_tables.specs.Meaning.{node_in, nodes_of, number_in, rows_of, unread_in, unread_of}
+use Rattle.store_tables.specs.Meaning.{unread_with}
 use Rattle.store_tables.specs.Seeing.{numbers_seen}
 use Rattle.store_tables.specs.Shown.{IsRoom, is_numbered, shown_node}
 use Rattle.store_tables.specs.Statements.{HasNumbers, shown_number}
@@ -27,20 +29,22 @@ AllPast id ids = AllByRecursion (λ k. id < k) ids
 
 -- ---- rows after a row have greater numbers
 
-module _ (f : Row → Option ℕ) (keyed : (r : Row) (k : ℕ) → f r ≡ Some k → rowid r ≡ Int (pos k))
+module _ {X : Type 0} (f : Row → Option X) (key : X → ℕ)
+    (keyed : (r : Row) (x : X) → f r ≡ Some x → rowid r ≡ Int (pos (key x)))
     (id : ℕ) (r : Row) (is : rowid r ≡ Int (pos id)) where
-  past_step : (b : Row) (rest : List ℕ) (o : Option ℕ) → f b ≡ o
-      → value_cmp (rowid r) (rowid b) ≡ Less → AllPast id rest → AllPast id (cons_option o rest)
+  past_step : (b : Row) (rest : List X) (o : Option X) → f b ≡ o
+      → value_cmp (rowid r) (rowid b) ≡ Less → AllByRecursion (λ x. id < key x) rest
+      → AllByRecursion (λ x. id < key x) (cons_option o rest)
   past_step b rest None at less all = all
-  past_step b rest (Some k) at less all = (
-    below id k
-        (sym (ap (λ v. value_cmp v (rowid b)) is ∙ ap (value_cmp (Int (pos id))) (keyed b k at))
+  past_step b rest (Some x) at less all = (
+    below id (key x)
+        (sym (ap (λ v. value_cmp v (rowid b)) is ∙ ap (value_cmp (Int (pos id))) (keyed b x at))
         ∙ less),
     all,
   )
 
   all_past : (rows : List Row) → AllByRecursion (λ b. value_cmp (rowid r) (rowid b) ≡ Less) rows
-      → AllPast id (filter_map f rows)
+      → AllByRecursion (λ x. id < key x) (filter_map f rows)
   all_past [] later = tt
   all_past (b ∷ rows) later =
       past_step b (filter_map f rows) (f b) refl later.0 (all_past rows later.1)
@@ -63,29 +67,34 @@ put_under x (u ∷ us) ids all =
 number_keyed : (r : Row) (k : ℕ) → number_of_row r ≡ Some k → rowid r ≡ Int (pos k)
 number_keyed r k is = (number_is (rowid r) k is).0
 
+abbrev unread_ids : List Unread → List ℕ
+unread_ids rows = map (λ (u : Unread). u.id) rows
+
 merge_step : (r : Row) (rows : List Row) (o : Option Node) (m : Option ℕ)
     → node_in (shown_node r) ≡ o → number_of_row r ≡ m
     → AllByRecursion (λ b. value_cmp (rowid r) (rowid b) ≡ Less) rows
-    → put_numbers (unread_of rows) (map (λ (n : Node). n.id) (nodes_of rows))
+    → put_numbers (unread_ids (unread_of rows)) (map (λ (n : Node). n.id) (nodes_of rows))
     ≡ filter_map number_of_row rows
-    → put_numbers (cons_option (if is_none o then m else None) (unread_of rows))
+    → put_numbers
+    (unread_ids (cons_option (if is_none o then option_map (unread_with r) m else None) (unread_of rows)))
     (map (λ (n : Node). n.id) (cons_option o (nodes_of rows)))
     ≡ cons_option m (filter_map number_of_row rows)
 merge_step r rows (Some n) m seen is later more =
     let number : number_of_row r ≡ Some n.id = (node_parts (shown_node r) n seen).number in
-    put_under n.id (unread_of rows) (map (λ (n : Node). n.id) (nodes_of rows))
-    (all_past (λ b. unread_in (shown_node b)) unread_keyed n.id r
-    (number_keyed r n.id number) rows later)
+    put_under n.id (unread_ids (unread_of rows)) (map (λ (n : Node). n.id) (nodes_of rows))
+    (each_map (λ k. n.id < k) (λ (u : Unread). u.id) (unread_of rows)
+    (all_past unread_in (λ (u : Unread). u.id) unread_keyed n.id r
+    (number_keyed r n.id number) rows later))
     ∙ ap (λ l. n.id ∷ l) more
     ∙ ap (λ o. cons_option o (filter_map number_of_row rows)) (sym number ∙ is)
 merge_step r rows None (Some id) seen is later more =
     ap (put_number id) more
     ∙ put_first id (filter_map number_of_row rows)
-    (all_past number_of_row number_keyed id r (number_keyed r id is) rows later)
+    (all_past number_of_row (λ k. k) number_keyed id r (number_keyed r id is) rows later)
 merge_step r rows None None seen is later more = more
 
 merged : (rows : List Row) → IsTable rows
-    → put_numbers (unread_of rows) (map (λ (n : Node). n.id) (nodes_of rows))
+    → put_numbers (unread_ids (unread_of rows)) (map (λ (n : Node). n.id) (nodes_of rows))
     ≡ filter_map number_of_row rows
 merged [] table = refl
 merged (r ∷ rows) table =

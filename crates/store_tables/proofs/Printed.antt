@@ -16,11 +16,9 @@ use Rattle.sqlite_rules.specs.Lists.{Has}
 use Rattle.sqlite_rules.proofs.ListLemmas.{has_filtered, has_found}
 use Rattle.sqlite_rules.specs.Edit.{id_in}
 use Rattle.sqlite_rules.proofs.ProbeLemmas.{has_mapped}
-use Rattle.sqlite_rules.proofs.RuleLemmas.{keeps_at}
 use Rattle.sqlite_rules.proofs.TableLemmas.{int_is}
-use Rattle.sqlite_schema.specs.Rules.{are_typed, is_of, passes}
+use Rattle.sqlite_schema.specs.Rules.{are_typed, is_of}
 use Rattle.sqlite_schema.specs.declared.schema.Column.{Column}
-use Rattle.sqlite_schema.specs.declared.schema.Constraint.TheVariants.{Datatype}
 use Rattle.sqlite_sql.specs.Ops.{is_null}
 use Rattle.sqlite_rules.specs.Cast.{cast_all}
 use Rattle.std.specs.Ordering.{match_ordering}
@@ -32,8 +30,9 @@ use Rattle.store_tables.specs.Printed.{ArePrinted, HeldBefore, HoldsPrinted, IsC
 use Rattle.store_tables.specs.Printed.{KeepsPrinted, list_cells}
 use Rattle.store_tables.specs.Shown.{IsRoom, is_in_range, recast_in, sets_held, sets_inh}
 use Rattle.store_tables.specs.Shown.{sets_owners, sets_place, stored_node}
-use Rattle.store_tables.specs.Tables.{column_of, nodes, room_schema}
+use Rattle.store_tables.specs.Tables.{column_of, nodes}
 use Rattle.store_tables.proofs.Rowids.{of_each, rowid_is}
+use Rattle.store_tables.proofs.Typed.{row_typed}
 use Rattle.store_tables.specs.NodeCells as cell
 
 -- ---- calls one after the other
@@ -162,17 +161,8 @@ has_texts r h0 =
           refl h11);
     }
 
-is_nodes : Has room_schema.tables (record nodes { tree = 0 })
-is_nodes = inl refl
-
 room_texts : (db : Database) → IsRoom db → (r : Row) → Has (db.trees 0) r → HasTexts r
-room_texts db room r there =
-    let sound = subst (λ s. Rattle.sqlite_catalog.specs.Listing.IsSound s db.trees) room.schema
-    room.sound in
-    let kept : passes Datatype room_schema db.trees (record nodes { tree = 0 }) r ≡ true =
-    keeps_at Datatype room_schema db.trees (record nodes { tree = 0 }) r
-    (sound.obeys.rules Datatype) is_nodes there in
-    has_texts r (and_parts _ _ kept).0
+room_texts db room r there = has_texts r (row_typed db room r there)
 
 -- ---- a row that is written
 

@@ -1,7 +1,8 @@
 -- What the rows mean once an object is taken out.
 use Rattle.std.proofs.Common.{◌≡◌, ℕ, pos, List, [], ◌∷◌, filter, find, None, Some, Option, refl}
 use Rattle.std.proofs.Common.{sym, ap, ◌∙◌, true, false, Bool, cond, not}
-use Rattle.std.specs.Prelude.{option_and_then, is_none, is_some, if◌then◌else◌, ◌==◌, ◌||◌}
+use Rattle.std.specs.Prelude.{option_and_then, option_map, is_none, is_some, if◌then◌else◌, ◌==◌}
+use Rattle.std.specs.Prelude.{◌||◌, map}
 use Rattle.std.specs.List.{filter_map, cons_option}
 use Rattle.std.proofs.lemmas.Bool.{cond-true, cond-false}
 use Rattle.std.proofs.lemmas.Option.{none-some}
@@ -12,11 +13,11 @@ use Rattle.room_entry.specs.Pieces.{is_among}
 use Rattle.room_rows.specs.declared.node.AuditRow.{AuditRow}
 use Rattle.room_rows.specs.declared.node.Node.{Node}
 use Rattle.room_rows.specs.Content.{node_at, without_node}
-use Rattle.room_rows.specs.Rows.{Rows, is_unreadable}
+use Rattle.room_rows.specs.Rows.{Rows, Unread, is_unreadable}
 use Rattle.room_rows.specs.Keep.{CanRemove, with_content}
 use Rattle.store_tables.specs.Shown.{RemovesRow, IsRoom, shown_node}
 use Rattle.store_tables.specs.Meaning.{number_in, node_in, unread_in, body_in, audit_in, nodes_of}
-use Rattle.store_tables.specs.Meaning.{unread_of, bodies_of, pairs_of, rows_of}
+use Rattle.store_tables.specs.Meaning.{unread_of, unread_with, bodies_of, pairs_of, rows_of}
 use Rattle.store_tables.specs.Keyed.{has_key}
 use Rattle.store_tables.specs.Filed.{node_keyed, unread_keyed, body_rowid, node_at_row}
 use Rattle.store_tables.specs.Filed.{unread_at_row}
@@ -50,24 +51,24 @@ module _ {X : Type 0} (f : Row → Option X) (key : X → ℕ)
       stay_step id r rows (f r) (has_rowid (pos id) r) refl refl (read_without id rows)
 
 -- a number that isn't there is not missed
-pub none_missed : (id : ℕ) (ids : List ℕ) → is_among ids id ≡ false
-    → filter (λ x. not (x == id)) ids ≡ ids
-none_missed id [] none = refl
-none_missed id (x ∷ ids) none = by (x == id) refl none (none_missed id ids)
+pub none_missed : {X : Type 0} (key : X → ℕ) (id : ℕ) (xs : List X)
+    → is_among (map key xs) id ≡ false → filter (λ x. not (key x == id)) xs ≡ xs
+none_missed key id [] none = refl
+none_missed key id (x ∷ xs) none = by (key x == id) none (none_missed key id xs)
   where
-    by : (b : Bool) → (x == id) ≡ b → (b || is_among ids id) ≡ false
-        → (is_among ids id ≡ false → filter (λ x. not (x == id)) ids ≡ ids)
-        → cond (not b) (x ∷ filter (λ x. not (x == id)) ids) (filter (λ x. not (x == id)) ids) ≡ x
-        ∷ ids
-    by true is e more = absurd (let z = e in cc)
-    by false is e more = ap (λ l. x ∷ l) (more e)
+    by : (b : Bool) → (b || is_among (map key xs) id) ≡ false
+        → (is_among (map key xs) id ≡ false → filter (λ x. not (key x == id)) xs ≡ xs)
+        → cond (not b) (x ∷ filter (λ x. not (key x == id)) xs)
+        (filter (λ x. not (key x == id)) xs) ≡ x ∷ xs
+    by true e more = absurd (let z = e in cc)
+    by false e more = ap (λ l. x ∷ l) (more e)
 
 -- an object that is there can be read
 pub readable : (db : Database) (id : ℕ) (n : Node) → IsTable (db.trees 0)
     → node_at (rows_of db).read id ≡ Some n → is_unreadable (rows_of db) id ≡ false
 readable db id n table there = by (find (has_rowid (pos id)) (db.trees 0)) refl
   where
-    seen : (o : Option Node) (m : Option ℕ) → o ≡ Some n
+    seen : (o : Option Node) (m : Option Unread) → o ≡ Some n
         → is_some (if is_none o then m else None) ≡ false
     seen (Some x) m e = refl
     seen None m e = absurd (none-some n e)
@@ -80,13 +81,13 @@ readable db id n table there = by (find (has_rowid (pos id)) (db.trees 0)) refl
         ∙ sym (node_at_row db id table) ∙ there))
     by (Some r) found =
         unread_at_row db id table
-        ∙ ap (λ o. is_some (option_and_then (λ r. unread_in (shown_node r)) o)) found
-        ∙ seen (node_in (shown_node r)) (number_in (rowid r))
+        ∙ ap (λ o. is_some (option_and_then unread_in o)) found
+        ∙ seen (node_in (shown_node r)) (option_map (unread_with r) (number_in (rowid r)))
         (sym (ap (option_and_then (λ r. node_in (shown_node r))) found)
         ∙ sym (node_at_row db id table) ∙ there)
 
--- what is read of a file is equal where nodes, unreadable numbers, bytes, pairs and records are
-pub same_rows : {a b : List Node} {u v : List ℕ} {c d : List (ℕ × List ℕ)}
+-- what a file says is equal where objects, rows that can't be read, bytes, pairs and records are
+pub same_rows : {a b : List Node} {u v : List Unread} {c d : List (ℕ × List ℕ)}
     {m k : List (List ℕ × List ℕ)} {x y : List AuditRow} → a ≡ b → u ≡ v → c ≡ d → m ≡ k → x ≡ y
     → ◌≡◌ {A = Rows}
     (record {
@@ -111,8 +112,9 @@ removed_rows db next id room gone can =
     (db.trees 0) in
     let unread : unread_of (next.trees 0) ≡ unread_of (db.trees 0) =
     ap unread_of gone.nodes
-    ∙ read_without (λ r. unread_in (shown_node r)) (λ n. n) unread_keyed id (db.trees 0)
-    ∙ none_missed id (unread_of (db.trees 0)) (readable db id can.node room.nodes.0 can.is_there) in
+    ∙ read_without unread_in (λ (u : Unread). u.id) unread_keyed id (db.trees 0)
+    ∙ none_missed (λ (u : Unread). u.id) id (unread_of (db.trees 0))
+    (readable db id can.node room.nodes.0 can.is_there) in
     let bodies : bodies_of (next.trees 2)
     ≡ filter (λ (x : ℕ × List ℕ). not (x.0 == id)) (bodies_of (db.trees 2)) =
     ap bodies_of gone.bodies

@@ -7,7 +7,8 @@ use Rattle.std.specs.List.{AllByRecursion, filter_map, cons_option}
 use Rattle.std.specs.Ordering.{ordering_reverse}
 use Rattle.std.specs.Cmp.Lexicographic.{slice_cmp}
 use Rattle.std.proofs.lemmas.Bool.{cond-true, cond-false}
-use Rattle.std.proofs.lemmas.Cmp.{nat_list_cmp_total, on_total}
+use Rattle.std.specs.Cmp.{IsTotalOrder}
+use Rattle.std.proofs.lemmas.Cmp.{nat_list_cmp_total, on_total, upto}
 use Rattle.std.proofs.lemmas.List.Sorted.{IsPermutation-sym}
 use Rattle.sqlite.specs.declared.types.Value.{Value}
 use Rattle.sqlite.specs.declared.types.Value.TheVariants.{Null, Int, Real, Text, Blob}
@@ -18,8 +19,10 @@ use Rattle.sqlite_keyed.specs.Lists.{insert_sorted, sort_by}
 use Rattle.sqlite_keyed.proofs.SortLemmas.{IsPermutation-sort_by}
 use Rattle.sqlite_rules.specs.Lists.{Has}
 use Rattle.sqlite_trees.proofs.ListLemmas.{all-permutation}
+use Rattle.sqlite_trees.specs.Tree.{IsAscending}
 use Rattle.sqlite_value.proofs.OrderLemmas.{value_cmp-Text, value_cmp_total}
 use Rattle.room_entry.specs.Utf8.{is_utf8}
+use Rattle.room_entry.proofs.Facts.Members.{each_weaker}
 use Rattle.room_rows.specs.declared.keep.KeepFault.{KeepFault}
 use Rattle.room_rows.specs.declared.keep.KeepFault.TheVariants.{Memory, Store, Damaged}
 use Rattle.room_rows.specs.declared.node.Node.{Node}
@@ -71,45 +74,129 @@ ordered_so r o n m is at =
     ∙ turned (slice_cmp nat_cmp n.name m.name)
     ∙ ap is_lt (sym (nat_list_cmp_total.antisymm m.name n.name))
 
-insert_read : (r : Row) (n : Node) → see r ≡ Some n → (rows : List Row) → AllByRecursion IsSeen rows
-    → filter_map see (insert_sorted by_name r rows) ≡ put_by_name n (filter_map see rows)
-insert_read r n is [] all = ap (λ o. cons_option o []) is
-insert_read r n is (o ∷ rows) all =
-    by (is_gt (by_name r o)) refl (insert_read r n is rows all.1)
-    ∙ ap (λ x. put_by_name n (cons_option x (filter_map see rows))) (sym all.0.1)
+by_name_total : IsTotalOrder by_name
+by_name_total = on_total (λ (r : Row). column r 3) value_cmp_total
+
+-- the first may stand before the second
+abbrev AtMost : Row → Row → Type 0
+AtMost a b = is_gt (by_name a b) ≡ false
+
+turned_back : (o : Ordering) → is_gt o ≡ true → is_gt (ordering_reverse o) ≡ false
+turned_back Less past = absurd (let e = past in cc)
+turned_back Equal past = absurd (let e = past in cc)
+turned_back Greater past = refl
+
+insert_all : (P : Row → Type 0) (r : Row) (rows : List Row) → P r → AllByRecursion P rows
+    → AllByRecursion P (insert_sorted by_name r rows)
+insert_all P r [] here all = (here, tt)
+insert_all P r (o ∷ rows) here all =
+    by (is_gt (by_name r o)) (insert_all P r rows here all.1)
   where
-    by : (b : Bool) → is_gt (by_name r o) ≡ b
-        → filter_map see (insert_sorted by_name r rows) ≡ put_by_name n (filter_map see rows)
+    by : (b : Bool) → AllByRecursion P (insert_sorted by_name r rows)
+        → AllByRecursion P (cond b (o ∷ insert_sorted by_name r rows) (r ∷ o ∷ rows))
+    by true more = (all.0, more)
+    by false more = (here, all)
+
+insert_ascends : (r : Row) (rows : List Row) → IsAscending AtMost rows
+    → IsAscending AtMost (insert_sorted by_name r rows)
+insert_ascends r [] up = (tt, tt)
+insert_ascends r (o ∷ rows) up = by (is_gt (by_name r o)) refl (insert_ascends r rows up.1)
+  where
+    by : (b : Bool) → is_gt (by_name r o) ≡ b → IsAscending AtMost (insert_sorted by_name r rows)
+        → IsAscending AtMost (cond b (o ∷ insert_sorted by_name r rows) (r ∷ o ∷ rows))
+    by true past more = (
+      insert_all (AtMost o) r rows
+          (ap is_gt (by_name_total.antisymm o r) ∙ turned_back (by_name r o) past) up.0,
+      more,
+    )
+    by false first more = (
+      (first, each_weaker (AtMost o) (AtMost r) (λ x. upto by_name_total r o x first) rows up.0),
+      up,
+    )
+
+ascends : (rows : List Row) → IsAscending AtMost (sort_by by_name rows)
+ascends [] = tt
+ascends (r ∷ rows) = insert_ascends r (sort_by by_name rows) (ascends rows)
+
+-- ---- rows that are read, in order, are the objects in order
+
+module _ (r : Row) (n : Node) (is : see r ≡ Some n) where
+  put_before : (rows : List Row) → AllByRecursion (AtMost r) rows
+      → put_by_name n (filter_map see rows) ≡ n ∷ filter_map see rows
+  put_before [] all = refl
+  put_before (o ∷ rows) all = by (see o) refl (put_before rows all.1)
+    where
+      by : (m : Option Node) → see o ≡ m
+          → put_by_name n (filter_map see rows) ≡ n ∷ filter_map see rows
+          → put_by_name n (cons_option m (filter_map see rows))
+          ≡ n ∷ cons_option m (filter_map see rows)
+      by None at more = more
+      by (Some m) at more = cond-false _ _ _ (sym (ordered_so r o n m is at) ∙ all.0)
+
+  behind_step : (o : Row) (rest kept : List Node) → is_gt (by_name r o) ≡ true
+      → kept ≡ put_by_name n rest → (m : Option Node) → see o ≡ m
+      → cons_option m kept ≡ put_by_name n (cons_option m rest)
+  behind_step o rest kept past more None at = more
+  behind_step o rest kept past more (Some m) at =
+      ap (λ l. m ∷ l) more ∙ sym (cond-true _ _ _ (sym (ordered_so r o n m is at) ∙ past))
+
+  insert_read : (rows : List Row) → IsAscending AtMost rows
+      → filter_map see (insert_sorted by_name r rows) ≡ put_by_name n (filter_map see rows)
+  insert_read [] up = ap (λ o. cons_option o []) is
+  insert_read (o ∷ rows) up = by (is_gt (by_name r o)) refl (insert_read rows up.1)
+    where
+      by : (b : Bool) → is_gt (by_name r o) ≡ b
+          → filter_map see (insert_sorted by_name r rows) ≡ put_by_name n (filter_map see rows)
+          → filter_map see (cond b (o ∷ insert_sorted by_name r rows) (r ∷ o ∷ rows))
+          ≡ put_by_name n (filter_map see (o ∷ rows))
+      by true past more =
+          behind_step o (filter_map see rows) (filter_map see (insert_sorted by_name r rows)) past
+          more (see o) refl
+      by false first more =
+          ap (λ x. cons_option x (filter_map see (o ∷ rows))) is
+          ∙ sym (put_before (o ∷ rows) (
+            first,
+            each_weaker (AtMost o) (AtMost r) (λ x. upto by_name_total r o x first) rows up.0,
+          ))
+
+insert_unseen : (r : Row) → see r ≡ None → (rows : List Row)
+    → filter_map see (insert_sorted by_name r rows) ≡ filter_map see rows
+insert_unseen r is [] = ap (λ o. cons_option o []) is
+insert_unseen r is (o ∷ rows) = by (is_gt (by_name r o)) (insert_unseen r is rows)
+  where
+    by : (b : Bool) → filter_map see (insert_sorted by_name r rows) ≡ filter_map see rows
         → filter_map see (cond b (o ∷ insert_sorted by_name r rows) (r ∷ o ∷ rows))
-        ≡ put_by_name n (all.0.0 ∷ filter_map see rows)
-    by true has more =
-        ap (λ x. cons_option x (filter_map see (insert_sorted by_name r rows))) all.0.1
-        ∙ ap (λ l. all.0.0 ∷ l) more
-        ∙ sym (cond-true _ _ _ (sym (ordered_so r o n all.0.0 is all.0.1) ∙ has))
-    by false has more =
-        ap (λ x. cons_option x (cons_option (see o) (filter_map see rows))) is
-        ∙ ap (λ x. n ∷ cons_option x (filter_map see rows)) all.0.1
-        ∙ sym (cond-false _ _ _ (sym (ordered_so r o n all.0.0 is all.0.1) ∙ has))
+        ≡ filter_map see (o ∷ rows)
+    by true more = ap (cons_option (see o)) more
+    by false more = ap (λ x. cons_option x (filter_map see (o ∷ rows))) is
 
-pub seen_in_order : (rows : List Row) → AllByRecursion IsSeen rows
-    → AllByRecursion IsSeen (sort_by by_name rows)
-seen_in_order rows all =
-    all-permutation IsSeen rows (sort_by by_name rows)
-    (IsPermutation-sym (sort_by by_name rows) rows
-    (IsPermutation-sort_by by_name (on_total (λ (r : Row). column r 3) value_cmp_total) rows)) all
-
-pub sorted_read : (rows : List Row) → AllByRecursion IsSeen rows
+-- the rows in order of name, without those that can't be read, are the objects in order of name
+pub sorted_read : (rows : List Row)
     → filter_map see (sort_by by_name rows) ≡ sorted_by_name (filter_map see rows)
-sorted_read [] all = refl
-sorted_read (r ∷ rows) all =
-    insert_read r all.0.0 all.0.1 (sort_by by_name rows) (seen_in_order rows all.1)
-    ∙ ap (put_by_name all.0.0) (sorted_read rows all.1)
-    ∙ ap (λ x. sorted_by_name (cons_option x (filter_map see rows))) (sym all.0.1)
+sorted_read [] = refl
+sorted_read (r ∷ rows) = by (see r) refl (sorted_read rows)
+  where
+    by : (o : Option Node) → see r ≡ o
+        → filter_map see (sort_by by_name rows) ≡ sorted_by_name (filter_map see rows)
+        → filter_map see (sort_by by_name (r ∷ rows))
+        ≡ sorted_by_name (cons_option o (filter_map see rows))
+    by None is more = insert_unseen r is (sort_by by_name rows) ∙ more
+    by (Some n) is more =
+        insert_read r n is (sort_by by_name rows) (ascends rows) ∙ ap (put_by_name n) more
+
+-- a row stands in the order if it stands in the rows
+pub sorted_from : (rows : List Row) (r : Row) → Has (sort_by by_name rows) r → Has rows r
+sorted_from rows =
+    of_each (λ r. Has rows r) (sort_by by_name rows)
+    (all-permutation (λ r. Has rows r) rows (sort_by by_name rows)
+    (IsPermutation-sym (sort_by by_name rows) rows
+    (IsPermutation-sort_by by_name by_name_total rows))
+    (each_of (λ r. Has rows r) rows (λ r there. there)))
 
 -- ---- one row after the other
 
 abbrev AreRead : List Node → List Row → Rows → List Node → Type 0
-AreRead done rows told nodes = (nodes ≡ done ++ filter_map see rows) × AllByRecursion IsSeen rows
+AreRead done rows told nodes = nodes ≡ done ++ filter_map see rows
 
 pub tells_by : {X : Type 0} (Blames : Rows → ℕ → Type 0) (A B : Rows → X → Type 0) (rows : Rows)
     → ((x : X) → A rows x → B rows x) → (r : Result X KeepFault) → Tells Blames A rows r
@@ -130,11 +217,8 @@ module _ (db : Database) (room : IsRoom db) where
       (λ before. seen_behind node_in before (map shown_node rows)) done))
   read_step done r rows there more (Some n) seen m number =
       tells_by IsUnreadable (AreRead (done ++ n ∷ []) rows) (AreRead done (r ∷ rows)) (rows_of db)
-      (λ nodes read. (
-        read.0 ∙ append_assoc done (n ∷ []) (filter_map see rows)
-            ∙ ap (λ x. done ++ cons_option x (filter_map see rows)) (sym seen),
-        ((n, seen), read.1),
-      ))
+      (λ nodes read. read ∙ append_assoc done (n ∷ []) (filter_map see rows)
+      ∙ ap (λ x. done ++ cons_option x (filter_map see rows)) (sym seen))
       (result_of_seen (seen_behind node_in (done ++ n ∷ []) (map shown_node rows)))
       (more (done ++ n ∷ []))
   read_step done r rows there more None seen None number = tt
@@ -144,7 +228,7 @@ module _ (db : Database) (room : IsRoom db) where
   reads : (rows : List Row) → ((r : Row) → Has rows r → Has (db.trees 0) r) → (done : List Node)
       → Tells IsUnreadable (AreRead done rows) (rows_of db)
       (result_of_seen (seen_behind node_in done (map shown_node rows)))
-  reads [] within done = (sym (append-nil done), tt)
+  reads [] within done = sym (append-nil done)
   reads (r ∷ rows) within done =
       read_step done r rows (within r (inl refl)) (reads rows (λ x there. within x (inr there)))
       (see r) refl (number_in (rowid r)) refl
@@ -154,27 +238,17 @@ module _ (db : Database) (room : IsRoom db) where
 
   pub sorted_within : (parent : ℕ) (r : Row) → Has (sort_by by_name (under parent)) r
       → Has (db.trees 0) r
-  sorted_within parent =
-      let all = each_of (λ r. Has (db.trees 0) r) (under parent)
-      (λ r there. kept_from (is_child (pos parent)) (db.trees 0) r there) in
-      let order = IsPermutation-sort_by by_name (on_total (λ (r : Row). column r 3) value_cmp_total)
-      (under parent) in
-      of_each (λ r. Has (db.trees 0) r) (sort_by by_name (under parent))
-      (all-permutation (λ r. Has (db.trees 0) r) (under parent) (sort_by by_name (under parent))
-      (IsPermutation-sym (sort_by by_name (under parent)) (under parent) order) all)
+  sorted_within parent r there =
+      kept_from (is_child (pos parent)) (db.trees 0) r (sorted_from (under parent) r there)
 
   pub tells_under : (parent : ℕ) (rows : List Row) → HasUnder (pos parent) db.trees rows
       → Tells IsUnreadable (AreChildrenOf parent) (rows_of db)
       (result_of_seen (seen_behind node_in [] rows))
   tells_under parent rows shown =
       let kept = under parent in
-      let order = IsPermutation-sort_by by_name
-      (on_total (λ (r : Row). column r 3) value_cmp_total) kept in
       subst (λ l. Tells IsUnreadable (AreChildrenOf parent) (rows_of db)
       (result_of_seen (seen_behind node_in [] l))) (sym shown)
       (tells_by IsUnreadable (AreRead [] (sort_by by_name kept)) (AreChildrenOf parent) (rows_of db)
-      (λ nodes read. read.0
-      ∙ sorted_read kept (all-permutation IsSeen (sort_by by_name kept) kept order read.1)
-      ∙ sym (children_read db parent))
+      (λ nodes read. read ∙ sorted_read kept ∙ sym (children_read db parent))
       (result_of_seen (seen_behind node_in [] (map shown_node (sort_by by_name kept))))
       (reads (sort_by by_name kept) (sorted_within parent) []))

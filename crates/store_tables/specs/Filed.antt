@@ -10,12 +10,12 @@ use Rattle.sqlite.specs.Tree.{rowid, has_rowid, IsTable}
 use Rattle.sqlite.specs.Effect.{Database}
 use Rattle.room_rows.specs.declared.node.Node.{Node}
 use Rattle.room_rows.specs.Content.{node_at, is_rising}
-use Rattle.room_rows.specs.Rows.{is_unreadable}
+use Rattle.room_rows.specs.Rows.{Unread, is_unreadable}
 use Rattle.store_tables.specs.Shown.{shown_node}
 use Rattle.store_tables.specs.Meaning.{number_in, parent_in, text_in, kind_in, owners_in, held_in}
 use Rattle.store_tables.specs.Meaning.{node_in, unread_in, body_row, body_in, nodes_of, unread_of}
-use Rattle.store_tables.specs.Meaning.{rows_of}
-use Rattle.store_tables.specs.Keyed.{find_key, rises_from_one, among_found, map_itself}
+use Rattle.store_tables.specs.Meaning.{rows_of, unread_with}
+use Rattle.store_tables.specs.Keyed.{find_key, rises_from_one, among_found}
 
 -- ---- numbers
 
@@ -79,20 +79,23 @@ node_keyed r n is = (number_is (rowid r) n.id (node_parts (shown_node r) n is).n
 node_low : (r : Row) (n : Node) → node_in (shown_node r) ≡ Some n → 0 < n.id
 node_low r n is = (number_is (rowid r) n.id (node_parts (shown_node r) n is).number).1
 
-unread_parts : (b : Bool) (x : Option ℕ) (id : ℕ) → (if b then x else None) ≡ Some id → (b ≡ true)
-    × (x ≡ Some id)
-unread_parts true x id is = (refl, is)
-unread_parts false x id is = absurd (let e = is in cc)
+-- what can't be read is no object, and has the number of its row
+pub unread_parts : (r : Row) (u : Unread) → unread_in r ≡ Some u
+    → (is_none (node_in (shown_node r)) ≡ true) × (number_in (rowid r) ≡ Some u.id)
+unread_parts r u is = by (is_none (node_in (shown_node r))) (number_in (rowid r)) is
+  where
+    by : (b : Bool) (x : Option ℕ)
+        → (if b then option_map (unread_with r) x else None) ≡ Some u
+        → (b ≡ true) × (x ≡ Some u.id)
+    by true (Some id) e = (refl, ap (option_map (λ (w : Unread). w.id)) e)
+    by true None e = absurd (let z = e in cc)
+    by false x e = absurd (let z = e in cc)
 
-pub unread_keyed : (r : Row) (id : ℕ) → unread_in (shown_node r) ≡ Some id → rowid r ≡ Int (pos id)
-unread_keyed r id is =
-    (number_is (rowid r) id (unread_parts (is_none (node_in (shown_node r))) (number_in (rowid r))
-    id is).1).0
+pub unread_keyed : (r : Row) (u : Unread) → unread_in r ≡ Some u → rowid r ≡ Int (pos u.id)
+unread_keyed r u is = (number_is (rowid r) u.id (unread_parts r u is).1).0
 
-unread_low : (r : Row) (id : ℕ) → unread_in (shown_node r) ≡ Some id → 0 < id
-unread_low r id is =
-    (number_is (rowid r) id (unread_parts (is_none (node_in (shown_node r))) (number_in (rowid r))
-    id is).1).1
+unread_low : (r : Row) (u : Unread) → unread_in r ≡ Some u → 0 < u.id
+unread_low r u is = (number_is (rowid r) u.id (unread_parts r u is).1).1
 
 body_keyed : (v w : Value) (x : ℕ × List ℕ) → body_row (number_in v) w ≡ Some x
     → number_in v ≡ Some x.0
@@ -116,11 +119,9 @@ node_at_row db id table = find_key (λ r. node_in (shown_node r)) (λ (n : Node)
     (db.trees 0) table
 
 pub unread_at_row : (db : Database) (id : ℕ) → IsTable (db.trees 0) → is_unreadable (rows_of db) id
-    ≡ is_some (option_and_then (λ r. unread_in (shown_node r))
-    (find (has_rowid (pos id)) (db.trees 0)))
-unread_at_row db id table = among_found id (unread_of (db.trees 0))
-    ∙ ap is_some (find_key (λ r. unread_in (shown_node r)) (λ n. n) unread_keyed id (db.trees 0)
-    table)
+    ≡ is_some (option_and_then unread_in (find (has_rowid (pos id)) (db.trees 0)))
+unread_at_row db id table = among_found (λ (u : Unread). u.id) id (unread_of (db.trees 0))
+    ∙ ap is_some (find_key unread_in (λ (u : Unread). u.id) unread_keyed id (db.trees 0) table)
 
 -- ---- the numbers rise
 
@@ -129,9 +130,10 @@ pub nodes_rise : (rows : List Row) → IsTable rows
 nodes_rise rows table = rises_from_one (λ r. node_in (shown_node r)) (λ (n : Node). n.id) node_keyed
     node_low rows table
 
-pub unread_rise : (rows : List Row) → IsTable rows → is_rising (0 ∷ unread_of rows) ≡ true
-unread_rise rows table = subst (λ l. is_rising (0 ∷ l) ≡ true) (map_itself (unread_of rows))
-    (rises_from_one (λ r. unread_in (shown_node r)) (λ n. n) unread_keyed unread_low rows table)
+pub unread_rise : (rows : List Row) → IsTable rows
+    → is_rising (0 ∷ map (λ (u : Unread). u.id) (unread_of rows)) ≡ true
+unread_rise rows table = rises_from_one unread_in (λ (u : Unread). u.id) unread_keyed unread_low
+    rows table
 
 pub body_rowid : (r : Row) (x : ℕ × List ℕ) → body_in r ≡ Some x → rowid r ≡ Int (pos x.0)
 body_rowid r x is = (number_is (rowid r) x.0 (body_keyed (rowid r) (column r 2) x is)).0

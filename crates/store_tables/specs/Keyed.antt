@@ -145,15 +145,12 @@ module _ {X : Type 0} (f : Row → Option X) (key : X → ℕ) (keyed : (r : Row
 
 -- ---- numbers among numbers
 
-pub among_found : (id : ℕ) (ids : List ℕ) → is_among ids id ≡ is_some (find (λ x. x == id) ids)
-among_found id [] = refl
-among_found id (x ∷ ids) = elim (cases_Bool (x == id)) [
-  | inl same ↦ ap (λ b. Rattle.std.specs.Prelude.◌||◌ b (is_among ids id)) same
-      ∙ sym (ap is_some (find_yes (λ x. x == id) x ids same))
-  | inr apart ↦ ap (λ b. Rattle.std.specs.Prelude.◌||◌ b (is_among ids id)) apart
-      ∙ among_found id ids ∙ sym (ap is_some (find_no (λ x. x == id) x ids apart))
+pub among_found : {X : Type 0} (key : X → ℕ) (id : ℕ) (xs : List X)
+    → is_among (map key xs) id ≡ is_some (find (λ x. key x == id) xs)
+among_found key id [] = refl
+among_found key id (x ∷ xs) = elim (cases_Bool (key x == id)) [
+  | inl same ↦ ap (λ b. Rattle.std.specs.Prelude.◌||◌ b (is_among (map key xs) id)) same
+      ∙ sym (ap is_some (find_yes (λ x. key x == id) x xs same))
+  | inr apart ↦ ap (λ b. Rattle.std.specs.Prelude.◌||◌ b (is_among (map key xs) id)) apart
+      ∙ among_found key id xs ∙ sym (ap is_some (find_no (λ x. key x == id) x xs apart))
 ]
-
-pub map_itself : (xs : List ℕ) → map (λ x. x) xs ≡ xs
-map_itself [] = refl
-map_itself (x ∷ xs) = ap (λ l. x ∷ l) (map_itself xs)

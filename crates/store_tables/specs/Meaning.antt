@@ -18,12 +18,13 @@ use Rattle.room_rows.specs.declared.node.AuditRow.{AuditRow}
 use Rattle.room_rows.specs.declared.node.RecordKind.TheVariants.{Audit, Alarm}
 use Rattle.room_rows.specs.Content.{set_of}
 use Rattle.room_rows.specs.Paths.{path_of}
-use Rattle.room_rows.specs.Rows.{Rows}
+use Rattle.room_rows.specs.Rows.{Rows, Stored, Nothing, Whole, Fraction, Bytes, Unread}
 use Rattle.sqlite.specs.declared.types.Value.{Value}
-use Rattle.sqlite.specs.declared.types.Value.TheVariants.{Null, Int, Text, Blob}
+use Rattle.sqlite.specs.declared.types.Value.TheVariants.{Null, Int, Real, Text, Blob}
 use Rattle.sqlite.specs.Order.{Row, column}
 use Rattle.sqlite.specs.Effect.{Database}
 use Rattle.store_tables.specs.Shown.{shown_node}
+use Rattle.store_tables.specs.Statements.{shown_name}
 use Rattle.store_tables.specs.Trees as tree
 use Rattle.store_tables.specs.BodyCells as body
 use Rattle.store_tables.specs.PairCells as pair
@@ -110,15 +111,36 @@ node_in r =
       sacl = sacl;
     } in n)))))))
 
--- the number of a row that can't be read as an object
-abbrev pub unread_in : Row → Option ℕ
-unread_in r = if is_none (node_in r) then number_in (column r 0) else None
-
 -- a number, a name and a kind, as they are shown
 abbrev pub named_in : Row → Option (List ℕ × ObjKind)
 named_in r =
     given (kind_in (column r 2)) (λ kind.
     given_last (text_in (column r 1)) (λ name. (name, kind)))
+
+-- ---- a row of nodes that can't be read
+
+abbrev pub stored_in : Value → Stored
+stored_in Null = Nothing
+stored_in (Int n) = Whole n
+stored_in (Real x) = Fraction x
+stored_in (Text text) = Stored.Text text
+stored_in (Blob bytes) = Bytes bytes
+
+-- what is stored of the row of this number
+abbrev pub unread_with : Row → ℕ → Unread
+unread_with r id = record {
+  id = id;
+  parent = number_in (column (shown_node r) 1);
+  named = named_in (shown_name r);
+  values = map stored_in r;
+}
+
+-- the row, if it has a number and can't be read as an object
+abbrev pub unread_in : Row → Option Unread
+unread_in r =
+    if is_none (node_in (shown_node r))
+    then option_map (unread_with r) (number_in (column (shown_node r) 0))
+    else None
 
 -- ---- the other tables, as their rows are stored
 
@@ -143,8 +165,8 @@ pair_in r = option_and_then
 abbrev pub nodes_of : List Row → List Node
 nodes_of rows = filter_map (λ r. node_in (shown_node r)) rows
 
-abbrev pub unread_of : List Row → List ℕ
-unread_of rows = filter_map (λ r. unread_in (shown_node r)) rows
+abbrev pub unread_of : List Row → List Unread
+unread_of rows = filter_map unread_in rows
 
 abbrev pub bodies_of : List Row → List (ℕ × List ℕ)
 bodies_of rows = filter_map body_in rows

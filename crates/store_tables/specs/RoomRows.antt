@@ -1,8 +1,8 @@
 -- What a room's tables see to: their rows are rows of a keeper.
 use Rattle.std.proofs.Common.{◌≡◌, ℕ, ℤ, ◌<◌, drop, pos, List, [], ◌∷◌, map, find, Option, Some}
 use Rattle.std.proofs.Common.{None, Bool, true, false, cond, refl, sym, ap, subst, ◌∙◌, inl, inr}
-use Rattle.std.specs.Prelude.{◌==◌, ◌&&◌, option_and_then, is_none, is_some, nat_lt, if◌then◌else◌}
-use Rattle.std.specs.Prelude.{IsTrue}
+use Rattle.std.specs.Prelude.{◌==◌, ◌&&◌, option_and_then, option_map, is_none, is_some, nat_lt}
+use Rattle.std.specs.Prelude.{IsTrue, if◌then◌else◌}
 use Rattle.std.specs.List.{filter_map, cons_option, list_all, list_any}
 use Rattle.std.specs.List.Sorted.{IsStrictlySortedBy}
 use Rattle.std.specs.Ordering.{is_eq}
@@ -29,16 +29,17 @@ use Rattle.sqlite_tied.specs.Compute.{everything}
 use Rattle.room_entry.specs.Pieces.{is_among}
 use Rattle.room_rows.specs.declared.node.Node.{Node}
 use Rattle.room_rows.specs.Content.{node_at, set_of}
-use Rattle.room_rows.specs.Rows.{AreRows, numbers_of, put_number, put_numbers}
+use Rattle.room_rows.specs.Rows.{AreRows, Unread, numbers_of, put_number, put_numbers}
+use Rattle.room_rows.specs.Rows.{unread_numbers}
 use Rattle.room_rows.proofs.Lookups.{find_no}
 use Rattle.store_tables.specs.Paired.{pair_cmp, put_sorted, sorted_set, empty_sorted}
 use Rattle.store_tables.specs.Tables.{bodies, room_schema}
 use Rattle.store_tables.specs.Shown.{IsRoom, shown_node}
 use Rattle.store_tables.specs.Meaning.{number_in, node_in, unread_in, body_in, pair_in, nodes_of}
-use Rattle.store_tables.specs.Meaning.{unread_of, bodies_of, rows_of}
+use Rattle.store_tables.specs.Meaning.{unread_of, unread_with, bodies_of, rows_of}
 use Rattle.store_tables.specs.Keyed.{same_int, same_number}
 use Rattle.store_tables.specs.Filed.{number_is, body_rowid, body_low, node_at_row, unread_at_row}
-use Rattle.store_tables.specs.Filed.{nodes_rise, unread_rise, bodies_rise}
+use Rattle.store_tables.specs.Filed.{nodes_rise, unread_parts, unread_rise, bodies_rise}
 
 -- ---- pairs
 
@@ -81,32 +82,29 @@ is_nothing : {X : Type 0} (o : Option X) → is_none o ≡ true → o ≡ None
 is_nothing None is = refl
 is_nothing (Some x) is = absurd (let e = is in cc)
 
-unread_is : (b : Bool) (x : Option ℕ) (id : ℕ) → (if b then x else None) ≡ Some id → (b ≡ true)
-    × (x ≡ Some id)
-unread_is true x id is = (refl, is)
-unread_is false x id is = absurd (let e = is in cc)
+no_object : (db : Database) → IsTable (db.trees 0) → (r : Row) → Has (db.trees 0) r → (u : Unread)
+    → unread_in r ≡ Some u → is_none (node_at (rows_of db).read u.id) ≡ true
+no_object db table r there u is =
+    let parts = unread_parts r u is in
+    let number = number_is (rowid r) u.id parts.1 in
+    ap is_none (node_at_row db u.id table ∙ ap (option_and_then (λ r. node_in (shown_node r)))
+    (row_found (db.trees 0) r u.id table there number.0)) ∙ parts.0
 
-no_object : (db : Database) → IsTable (db.trees 0) → (r : Row) → Has (db.trees 0) r → (id : ℕ)
-    → unread_in (shown_node r) ≡ Some id → is_none (node_at (rows_of db).read id) ≡ true
-no_object db table r there id is =
-    let parts = unread_is (is_none (node_in (shown_node r))) (number_in (rowid r)) id is in
-    let number = number_is (rowid r) id parts.1 in
-    ap is_none (node_at_row db id table ∙ ap (option_and_then (λ r. node_in (shown_node r)))
-    (row_found (db.trees 0) r id table there number.0)) ∙ parts.0
-
-apart_step : (test : ℕ → Bool) (o : Option ℕ) (rest : List ℕ)
-    → ((id : ℕ) → o ≡ Some id → test id ≡ true) → list_all test rest ≡ true
-    → list_all test (cons_option o rest) ≡ true
+apart_step : (test : ℕ → Bool) (o : Option Unread) (rest : List Unread)
+    → ((u : Unread) → o ≡ Some u → test u.id ≡ true)
+    → list_all test (map (λ (u : Unread). u.id) rest) ≡ true
+    → list_all test (map (λ (u : Unread). u.id) (cons_option o rest)) ≡ true
 apart_step test None rest here more = more
-apart_step test (Some id) rest here more = and_from (test id) (list_all test rest) (here id refl)
-    more
+apart_step test (Some u) rest here more =
+    and_from (test u.id) (list_all test (map (λ (u : Unread). u.id) rest)) (here u refl) more
 
 apart_in : (db : Database) → IsTable (db.trees 0) → (rows : List Row)
     → ((r : Row) → Has rows r → Has (db.trees 0) r)
-    → list_all (λ id. is_none (node_at (rows_of db).read id)) (unread_of rows) ≡ true
+    → list_all (λ id. is_none (node_at (rows_of db).read id))
+    (map (λ (u : Unread). u.id) (unread_of rows)) ≡ true
 apart_in db table [] within = refl
 apart_in db table (r ∷ rows) within =
-    apart_step (λ id. is_none (node_at (rows_of db).read id)) (unread_in (shown_node r))
+    apart_step (λ id. is_none (node_at (rows_of db).read id)) (unread_in r)
     (unread_of rows) (no_object db table r (within r (inl refl)))
     (apart_in db table rows (λ x there. within x (inr there)))
 
@@ -173,17 +171,19 @@ in_use db table r there id is number = by (node_in (shown_node r)) refl
     by : (o : Option Node) → node_in (shown_node r) ≡ o → is_among (numbers_of (rows_of db)) id
         ≡ true
     by (Some n) seen =
-        among_second id (unread_of (db.trees 0)) (map (λ (m : Node). m.id) (nodes_of (db.trees 0)))
+        among_second id (unread_numbers (rows_of db)) (map (λ (m : Node). m.id) (nodes_of (db.trees 0)))
         (among_nodes id (nodes_of (db.trees 0)) n (node_at_row db id table
         ∙ ap (option_and_then (λ r. node_in (shown_node r))) (row_found (db.trees 0) r id table
         there is) ∙ seen))
     by None seen =
-        among_first id (unread_of (db.trees 0)) (map (λ (m : Node). m.id) (nodes_of (db.trees 0)))
+        among_first id (unread_numbers (rows_of db)) (map (λ (m : Node). m.id) (nodes_of (db.trees 0)))
         (unread_at_row db id table
-        ∙ ap (λ o. is_some (option_and_then (λ r. unread_in (shown_node r)) o))
+        ∙ ap (λ o. is_some (option_and_then unread_in o))
         (row_found (db.trees 0) r id table there is)
-        ∙ ap (λ o. is_some (if is_none o then number_in (rowid r) else None)) seen
-        ∙ ap (λ v. is_some (number_in v)) is ∙ ap is_some number)
+        ∙ ap (λ o. is_some (if is_none o then option_map (unread_with r) (number_in (rowid r))
+        else None)) seen
+        ∙ ap (λ v. is_some (option_map (unread_with r) (number_in v))) is
+        ∙ ap (λ m. is_some (option_map (unread_with r) m)) number)
 
 equal_rowid : (v : Value) (id : ℕ) → IsTrue (is_int v) → is_eq (value_cmp v (Int (pos id))) ≡ true
     → v ≡ Int (pos id)

@@ -26,7 +26,7 @@ returns g c =
     let found = c.in-Ok.ensures.asks.rows trust.clean trust.now in
     subst (Tells IsUnreadable (AreNamedUnder c.args.parent) (rows_of old.now))
     (sym (c.answer.ensures.answer ∙ ap result_of_seen seen))
-    (tells_names old.now trust.now c.args.parent c.in-Ok.rows.items
+    (tells_names old.now trust.now c.args.parent c.in-Some.ensures.2 c.in-Ok.rows.items
     (subst (λ z. HasNames z old.now.trees c.in-Ok.rows.items) at found)) in
     record {
       read = record {
