@@ -3,6 +3,7 @@ use Rattle.std.proofs.Common.{◌≡◌, ℕ, List, [], ◌++◌, Result, Ok, Er
 use Rattle.std.proofs.Common.{inr, ◌⊎◌, map, filter, refl, sym, ap, subst, ◌∙◌, false, IfOk, OnOk}
 use Rattle.std.proofs.Common.{Vec, Global}
 use Rattle.std.proofs.lemmas.List.{append-nil, append_assoc}
+use Rattle.std.proofs.lemmas.List.Elements.{All-append, All-nil}
 use Rattle.std.specs.List.Sorted.{IsPermutation}
 use Rattle.sqlite.specs.declared.types.Value.TheVariants.{Null}
 use Rattle.sqlite.specs.Order.{Row}
@@ -19,6 +20,7 @@ use Rattle.sqlite_resolve.specs.declared.compiled.Compiled.{Compiled}
 use Rattle.sqlite_schema.specs.declared.command.Returning.{Returning}
 use Rattle.sqlite.proofs.Callers.{IsPlain, command_of, reads_as}
 use Rattle.store_tables.specs.Tables.{room_schema}
+use Rattle.store_tables.specs.Meaning.{IsRecord}
 use Rattle.store_tables.specs.Shown.{IsRoom, Retains, Stays}
 use Rattle.store_tables.proofs.Texts.{query_of, selects}
 use Rattle.store_tables.proofs.Answers.{passes, shows, selected}
@@ -29,11 +31,17 @@ use Rattle.store_tables.proofs.Within.{CommitsNothing, as_before, unchanged_with
 
 -- ---- what is retained
 
--- where `meta` and `audits` are as they were, no record is lost
+-- where `meta` and `audits` are as they were, no record is lost or added
 pub retains_by : (db next : Trees) → next 5 ≡ db 5 → next 7 ≡ db 7 → KeepsPrinted (db 0) (next 0)
     → Retains db next
 retains_by db next meta audits texts =
-    record { meta = meta; more = []; audits = audits ∙ sym (append-nil (db 7)); texts = texts }
+    record {
+      meta = meta;
+      more = [];
+      audits = audits ∙ sym (append-nil (db 7));
+      records = All-nil IsRecord;
+      texts = texts;
+    }
 
 -- two changes, each of which keeps `meta` and all records, keep them together
 pub retains_on : (a b c : Trees) → Retains a b → Retains b c → Retains a c
@@ -42,6 +50,7 @@ retains_on a b c p q =
       meta = q.meta ∙ p.meta;
       more = p.more ++ q.more;
       audits = q.audits ∙ ap (λ l. l ++ q.more) p.audits ∙ append_assoc (a 7) p.more q.more;
+      records = All-append IsRecord p.more q.more p.records q.records;
       texts = keeps_on (a 0) (b 0) (c 0) p.texts q.texts;
     }
 

@@ -1,9 +1,10 @@
 -- What a new record leaves.
 use Rattle.std.proofs.Common.{◌≡◌, ◌+ℤ◌, ◌<ℤ◌, ℕ, ℤ, pos, List, [], ◌∷◌, ◌++◌, fold, Ok, None, Some}
 use Rattle.std.proofs.Common.{Option, IsTrue, refl, sym, ap, subst, ◌∙◌, true, false, Bool}
-use Rattle.std.proofs.Common.{if◌then◌else◌, arith, Less}
+use Rattle.std.proofs.Common.{if◌then◌else◌, is_some, arith, Less}
 use Rattle.std.proofs.lemmas.Bool.Decides.{nat_tests}
 use Rattle.std.proofs.lemmas.Int.{ints}
+use Rattle.std.proofs.lemmas.List.Elements.{All-cons, All-nil}
 use Rattle.std.specs.Bool.{MatchBool}
 use Rattle.std.specs.List.{AllByRecursion}
 use Rattle.std.specs.Ordering.{int_cmp, is_lt, match_ordering}
@@ -34,10 +35,12 @@ use Rattle.sqlite_trees.specs.declared.store.Shape.TheVariants as Shape
 use Rattle.sqlite_trees.proofs.TreeLemmas.{IsShaped-put_row}
 use Rattle.sqlite_value.proofs.OrderLemmas.{value_cmp-Int}
 use Rattle.store_tables.specs.declared.columns.Record.{Record}
-use Rattle.store_tables.specs.Columns.{record_values}
+use Rattle.store_tables.specs.Columns.{StoresRecord, record_values}
+use Rattle.store_tables.specs.Meaning.{IsRecord}
 use Rattle.store_tables.specs.Shown.{IsRoom, AddsRecordRow, stored_record}
 use Rattle.store_tables.specs.Tables.{audits, counters, room_schema}
 use Rattle.store_tables.proofs.Executed.{WritesRoom}
+use Rattle.store_tables.proofs.Noting.{recalled}
 use Rattle.store_tables.proofs.Printed.{keeps_same}
 use Rattle.store_tables.proofs.Texts.{note_is, note_text, plain_texts}
 use Rattle.store_tables.proofs.Updates.{cast_int, cast_null}
@@ -283,9 +286,10 @@ notes r old new count room h =
           (d.last room);
     }
 
-pub note_room : (r : Record) (old new : State) → IsTrue old.in_transaction → (count : ℕ)
-    → Executes note_text (record_values r) old new (Ok count) → IsRoom old.now → WritesRoom old new
-note_room r old new inside count h room =
+pub note_room : (r : Record) → StoresRecord r → (old new : State) → IsTrue old.in_transaction
+    → (count : ℕ) → Executes note_text (record_values r) old new (Ok count) → IsRoom old.now
+    → WritesRoom old new
+note_room r stored old new inside count h room =
     let d = noted r old new count room.schema h in (
       d.shown.committed_is ∙ ap (λ b. if b then old.committed else new.now) inside,
       record {
@@ -304,6 +308,9 @@ note_room r old new inside count h room =
             meta = added.meta;
             more = _;
             audits = added.audits;
+            records =
+                All-cons IsRecord (stored_record added.seq (record_values r)) []
+                (ap is_some (recalled added.seq stored.0 r stored.1)) (All-nil IsRecord);
             texts = keeps_same _ _ added.nodes;
           }),
     )

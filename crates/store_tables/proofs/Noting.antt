@@ -28,7 +28,7 @@ granted_back : (b : Bool) → granted_in (Int (if b then pos 1 else pos 0)) ≡ 
 granted_back true = refl
 granted_back false = refl
 
-recalled : (seq : ℤ) (a : AuditRow) (r : Record) → Recalls a r
+pub recalled : (seq : ℤ) (a : AuditRow) (r : Record) → Recalls a r
     → audit_in (stored_record seq (record_values r)) ≡ Some a
 recalled seq a r s =
     rw (granted_back r.granted, s.user, s.path, s.bits, s.entry, s.at, s.granted) refl

@@ -73,3 +73,7 @@ pub record Recalls (a : AuditRow) (r : Record) : Type 0 where
   pub bits : mask_in (Int (pos r.bits)) ≡ Some a.bits
   pub granted : r.granted ≡ a.granted
   pub entry : place_in (Int r.entry) ≡ Some (a.place, a.kind)
+
+-- the columns of some record
+abbrev pub StoresRecord : Record → Type 0
+StoresRecord r = (a : AuditRow) × Recalls a r

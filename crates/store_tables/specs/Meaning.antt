@@ -1,7 +1,7 @@
 -- What the rows of the tables mean.
 use Rattle.std.specs.Prelude.{ℕ, zero, suc, ℤ, pos, negsuc, ◌+◌, ◌||◌, ◌++◌, Bool, true, false}
 use Rattle.std.specs.Prelude.{List, [], ◌∷◌, Option, Some, None, Result, Ok, Err, option_map}
-use Rattle.std.specs.Prelude.{option_and_then, is_none, nat_lt, if◌then◌else◌, map}
+use Rattle.std.specs.Prelude.{option_and_then, IsSome, is_none, nat_lt, if◌then◌else◌, map}
 use Rattle.std.specs.List.{filter_map}
 use Rattle.room_entry.specs.Ace.{Ace}
 use Rattle.room_ace.specs.Column.{entries_of}
@@ -23,9 +23,8 @@ use Rattle.sqlite.specs.declared.types.Value.{Value}
 use Rattle.sqlite.specs.declared.types.Value.TheVariants.{Null, Int, Real, Text, Blob}
 use Rattle.sqlite.specs.Order.{Row, column}
 use Rattle.sqlite.specs.Effect.{Database}
-use Rattle.store_tables.specs.Shown.{shown_node}
-use Rattle.store_tables.specs.Statements.{shown_name}
 use Rattle.store_tables.specs.Trees as tree
+use Rattle.store_tables.specs.NodeCells as cell
 use Rattle.store_tables.specs.BodyCells as body
 use Rattle.store_tables.specs.PairCells as pair
 use Rattle.store_tables.specs.RecordCells as record_cell
@@ -71,6 +70,17 @@ entries_in (Text text) = entries_of text
 entries_in _ = None
 
 -- ---- a row of nodes, as it is shown
+
+-- all its columns, and its number first
+abbrev pub shown_node : Row → Row
+shown_node r = column r cell.number ∷ column r cell.parent ∷ column r cell.name
+    ∷ column r cell.kind ∷ column r cell.owner ∷ column r cell.group
+    ∷ column r cell.dacl_flags ∷ column r cell.sacl_flags ∷ column r cell.dacl_own
+    ∷ column r cell.dacl_inh ∷ column r cell.sacl_own ∷ column r cell.sacl_inh ∷ []
+
+-- its number, name and kind
+abbrev pub shown_name : Row → Row
+shown_name r = column r cell.number ∷ column r cell.name ∷ column r cell.kind ∷ []
 
 -- what is read goes on to the next, and to the last
 abbrev pub given : {A B : Type 0} → Option A → (A → Option B) → Option B
@@ -227,6 +237,10 @@ audit_in r =
       place = place.0;
       kind = place.1;
     } in a))))))
+
+-- the row can be read as a record
+abbrev pub IsRecord : Row → Type 0
+IsRecord r = IsSome (audit_in r)
 
 abbrev pub rows_of : Database → Rows
 rows_of db = record {

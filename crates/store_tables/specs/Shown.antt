@@ -1,6 +1,6 @@
 -- What the statements show of the tables, and what each leaves.
 use Rattle.std.specs.Prelude.{◌≡◌, ℕ, ℤ, List, [], ◌∷◌, ◌++◌, Bool, true, false, ◌&&◌, not}
-use Rattle.std.specs.Prelude.{IsTrue, pos, drop, find, map, Some, if◌then◌else◌}
+use Rattle.std.specs.Prelude.{All, IsTrue, pos, drop, find, map, Some, if◌then◌else◌}
 use Rattle.room_entry.specs.declared.object.Which.{Which}
 use Rattle.room_entry.specs.declared.object.Which.TheVariants.{Dacl, Sacl}
 use Rattle.sqlite_rules.specs.Cast.{cast_all}
@@ -14,18 +14,13 @@ use Rattle.sqlite.specs.Effect.{Database, IsDatabase}
 use Rattle.sqlite.specs.State.{State, HasCleanDisk}
 use Rattle.sqlite.specs.Edit.{next_rowid, is_taken}
 use Rattle.store_tables.specs.Tables.{nodes, room_schema}
+use Rattle.store_tables.specs.Meaning.{IsRecord}
+pub use Rattle.store_tables.specs.Meaning.{shown_node}
 use Rattle.store_tables.specs.Within.{IsWithin}
 use Rattle.store_tables.specs.Printed.{KeepsPrinted}
 use Rattle.store_tables.specs.Trees as tree
 use Rattle.store_tables.specs.NodeCells as cell
 use Rattle.store_tables.specs.PairCells as pair
-
--- a row of nodes as it is shown: all its columns, and its number first
-abbrev pub shown_node : Row → Row
-shown_node r = column r cell.number ∷ column r cell.parent ∷ column r cell.name
-    ∷ column r cell.kind ∷ column r cell.owner ∷ column r cell.group
-    ∷ column r cell.dacl_flags ∷ column r cell.sacl_flags ∷ column r cell.dacl_own
-    ∷ column r cell.dacl_inh ∷ column r cell.sacl_own ∷ column r cell.sacl_inh ∷ []
 
 -- the pair of this user
 abbrev pub is_user_row : List ℕ → Row → Bool
@@ -91,11 +86,13 @@ pub record KeepsAll (db next : Trees) : Type 0 where
   pub audits : next tree.audits ≡ db tree.audits
 
 -- What every request keeps to: `meta` is as it was, and each row of `audits` is there with its
--- number. New rows come after them. Where a list column was written, it holds printed entries.
+-- number. New rows come after them, and each can be read as a record. Where a list column was
+-- written, it holds printed entries.
 pub record Retains (db next : Trees) : Type 0 where
   pub meta : next tree.meta ≡ db tree.meta
   pub more : List Row
   pub audits : next tree.audits ≡ db tree.audits ++ more
+  pub records : All IsRecord more
   pub texts : KeepsPrinted (db tree.nodes) (next tree.nodes)
 
 -- what any call inside a transaction leaves, whatever it answers

@@ -11,6 +11,7 @@ use Rattle.std.specs.declared.cmp.Ordering.{Ordering}
 use Rattle.sqlite.specs.Edit.{next_rowid}
 use Rattle.store_tables.specs.Shown.{AddsRow, IsRoom, Stays, shown_node, is_child, is_child_named}
 use Rattle.store_tables.specs.Shown.{is_numbered, is_top, is_user_row}
+pub use Rattle.store_tables.specs.Meaning.{shown_name}
 use Rattle.store_tables.specs.Trees as tree
 use Rattle.store_tables.specs.NodeCells as cell
 use Rattle.store_tables.specs.BodyCells as body
@@ -55,9 +56,6 @@ by_column place a b = value_cmp (column a place) (column b place)
 abbrev pub HasUnder : ℤ → Trees → List Row → Type 0
 HasUnder parent db rows =
     rows ≡ map shown_node (sort_by (by_column cell.name) (filter (is_child parent) (db tree.nodes)))
-
-abbrev pub shown_name : Row → Row
-shown_name r = column r cell.number ∷ column r cell.name ∷ column r cell.kind ∷ []
 
 -- the numbers, names and kinds of the rows of this parent, in order of name
 abbrev pub HasNames : ℤ → Trees → List Row → Type 0

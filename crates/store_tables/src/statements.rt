@@ -1,7 +1,8 @@
 //! The statements, each a fixed text.
 ghost use Rattle.std.specs.Prelude.{◌≡◌, string_bytes};
 ghost use Rattle.sqlite.specs.Held.{state};
-ghost use Rattle.store_tables.specs.Columns.{StoresHeld, StoresNode, record_values, values_of};
+ghost use Rattle.store_tables.specs.Columns.{StoresHeld, StoresNode, StoresRecord, record_values};
+ghost use Rattle.store_tables.specs.Columns.{values_of};
 ghost use Rattle.store_tables.specs.Printed.{IsCanonical};
 ghost use Rattle.store_tables.specs.Shown.{Bodies, Fills, AddsRecordRow};
 ghost use Rattle.store_tables.specs.Shown.{Recasts, RecastsAll, RemovesRow};
@@ -415,6 +416,7 @@ pub(crate) fn insert_record<S: Alter>(
     tx: &mut Transaction<'_, S>,
     noted: &Record,
 ) -> Result<usize, Error>
+    requires { StoresRecord noted.now }
     ensures same_reference { tx.new.conn.ghost_name ≡ tx.old.conn.ghost_name }
     ensures writes { ExecutesSql (OfAny (AddsRecordRow (record_values noted.now)))
         (state S.Store tx.old.conn.now) (state S.Store tx.new.conn.now) result }

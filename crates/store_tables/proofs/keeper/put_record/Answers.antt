@@ -20,3 +20,8 @@ returns-clause-puts g c =
           λ trust. noted_rows old.now new.now row record' recalls
           (c.in-Ok.ensures.writes.leaves trust.clean trust.now);
     }
+
+pub insert_record-done-requires : goal.insert_record-done-requires
+insert_record-done-requires g c =
+    let recalls : Recalls c.args.row.now c.in-Some.record =
+    rw c.in-Some.is at c.in_ok-record.ensures in (c.args.row.now, recalls)

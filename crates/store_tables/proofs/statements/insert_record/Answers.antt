@@ -23,7 +23,7 @@ returns-clause-writes g c =
     ) at
     c.execute.ensures.runs in
     writes note_text (record_values record') old new c.execute.result _ _
-    c.execute.ensures.survives (λ inside. note_room record' old new inside)
+    c.execute.ensures.survives (λ inside. note_room record' c.requires old new inside)
     (λ count room h. notes record' old new count room h)
     (λ off. (
       (c.execute.ensures.ended off).0,
