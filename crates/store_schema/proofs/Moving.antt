@@ -3,6 +3,7 @@ use Rattle.std.proofs.Common.{◌≡◌, ◌≤◌, ℕ, ℤ, pos, List, [], ◌
 use Rattle.std.proofs.Common.{Result, Ok, IfOk, OnOk, IsErrAnd, IsTrue, refl, sym, ap, subst}
 use Rattle.std.proofs.Common.{subst₂, ◌∙◌, arith}
 use Rattle.std.proofs.lemmas.List.{append_assoc}
+use Rattle.std.proofs.lemmas.List.Elements.{All-append}
 use Rattle.sqlite_trees.specs.View.{IsShaped, doubt}
 use Rattle.sqlite_trees.specs.declared.store.Shape.TheVariants as Shape
 use Rattle.sqlite.specs.Order.{Row, column}
@@ -11,7 +12,7 @@ use Rattle.sqlite.specs.Effect.{Database}
 use Rattle.sqlite.specs.State.{State, HasCleanDisk}
 use Rattle.room_rows.specs.declared.keep.KeepFault.{KeepFault}
 use Rattle.room_rows.specs.declared.report.Report.TheVariants.{Sound}
-use Rattle.store_tables.specs.Meaning.{rows_of}
+use Rattle.store_tables.specs.Meaning.{IsRecord, rows_of}
 use Rattle.store_tables.specs.Tables.{no_schema}
 use Rattle.store_tables.specs.RoomRows.{room_rows}
 use Rattle.store_tables.specs.Shown.{IsRoom, Retains, Stays}
@@ -39,6 +40,7 @@ others_on a b c p q =
           ∙ ap other_rows p.meta;
       more = p.more ++ q.more;
       audits = q.audits ∙ ap (λ l. l ++ q.more) p.audits ∙ append_assoc (a 7) p.more q.more;
+      records = All-append IsRecord p.more q.more p.records q.records;
       texts = keeps_on (a 0) (b 0) (c 0) p.texts q.texts;
     }
 

@@ -25,7 +25,8 @@ use Rattle.sqlite_tied.specs.Compute.{everything}
 use Rattle.sqlite_trees.specs.View.{IsShaped}
 use Rattle.sqlite_trees.specs.declared.store.Shape.TheVariants as Shape
 use Rattle.room_rows.specs.Rows.{Rows}
-use Rattle.store_tables.specs.Meaning.{audit_in, bodies_of, nodes_of, pairs_of, rows_of, unread_of}
+use Rattle.store_tables.specs.Meaning.{IsRecord, audit_in, bodies_of, nodes_of, pairs_of, rows_of}
+use Rattle.store_tables.specs.Meaning.{unread_of}
 use Rattle.store_tables.specs.Shown.{IsRoom}
 use Rattle.store_tables.specs.Tables.{meta, room_schema}
 use Rattle.sqlite.specs.Program.{overlay}
@@ -34,6 +35,7 @@ use Rattle.sqlite.specs.Edit.{edited}
 use Rattle.sqlite.proofs.Callers.{one_permutation}
 use Rattle.std.specs.List.Sorted.{IsPermutation}
 use Rattle.std.proofs.lemmas.List.{append-nil}
+use Rattle.std.proofs.lemmas.List.Elements.{All-nil}
 use Rattle.store_tables.proofs.Printed.{keeps_same}
 use Rattle.store_schema.specs.NewRoom.{meta_of}
 use Rattle.store_schema.specs.Migrating.{RetainsOthers, Stamps, other_rows}
@@ -183,6 +185,7 @@ stamp_others old new count room n number h =
       more = [];
       audits = it.others.1.1.1.1.0 (λ e. let e' : 7 ≡ 5 = e in omega (arith, e'))
           ∙ sym (append-nil (old.now.trees 7));
+      records = All-nil IsRecord;
       texts = keeps_same _ _ (it.others.0 (λ e. let e' : 0 ≡ 5 = e in omega (arith, e')));
     }
 

@@ -1,6 +1,6 @@
 -- What upgrading the rows of schema 1 is.
 use Rattle.std.specs.Prelude.{◌≡◌, ◌≤◌, ℕ, ℤ, pos, true, false, not, Some, Result, Ok, Err}
-use Rattle.std.specs.Prelude.{List, ◌++◌, filter}
+use Rattle.std.specs.Prelude.{All, List, ◌++◌, filter}
 use Rattle.std.specs.Prelude.{IfOk, IsErrAnd, OnOk, OnErr, IsTrue}
 use Rattle.sqlite_trees.specs.View.{IsShaped, doubt}
 use Rattle.sqlite_trees.specs.declared.store.Shape.TheVariants.{Table}
@@ -9,7 +9,7 @@ use Rattle.sqlite.specs.Order.{Row}
 use Rattle.sqlite.specs.Tree.{Trees}
 use Rattle.sqlite.specs.State.{State, HasCleanDisk}
 use Rattle.sqlite.specs.declared.error.Error.{Error}
-use Rattle.store_tables.specs.Meaning.{rows_of}
+use Rattle.store_tables.specs.Meaning.{IsRecord, rows_of}
 use Rattle.store_tables.specs.Printed.{KeepsPrinted}
 use Rattle.store_tables.specs.Shown.{HasTables, IsRoom}
 use Rattle.store_tables.specs.Tables.{no_schema}
@@ -82,6 +82,7 @@ pub record RetainsOthers (db next : Trees) : Type 0 where
       → other_rows (next tree.meta) ≡ other_rows (db tree.meta)
   pub more : List Row
   pub audits : next tree.audits ≡ db tree.audits ++ more
+  pub records : All IsRecord more
   pub texts : KeepsPrinted (db tree.nodes) (next tree.nodes)
 
 -- The number of the schema is written anew, and nothing else.
