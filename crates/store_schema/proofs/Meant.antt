@@ -9,7 +9,7 @@ use Rattle.room_entry.specs.declared.object.ObjKind.TheVariants.{Folder}
 use Rattle.room_rows.specs.HeldList.{Held}
 use Rattle.room_rows.specs.declared.node.Node.{Node}
 use Rattle.room_rows.specs.declared.node.AuditRow.{AuditRow}
-use Rattle.room_rows.specs.Rows.{Rows}
+use Rattle.room_rows.specs.Rows.{Rows, Unread}
 use Rattle.sqlite.specs.Effect.{Database}
 use Rattle.room_entry.specs.Bits.{all_bits}
 use Rattle.room_ace.specs.Column.{entries_of}
@@ -20,7 +20,7 @@ use Rattle.sqlite.specs.declared.types.Value.TheVariants.{Null, Int, Text}
 use Rattle.sqlite.specs.Order.{Row, column}
 use Rattle.sqlite_rules.specs.Lists.{Has}
 use Rattle.store_tables.specs.Meaning.{audit_in, bodies_of, name_in, name_of_text, node_in}
-use Rattle.store_tables.specs.Meaning.{nodes_of, pairs_of, rows_of, unread_of}
+use Rattle.store_tables.specs.Meaning.{nodes_of, pairs_of, rows_of, unread_of, unread_with}
 use Rattle.store_tables.specs.Shown.{shown_node}
 use Rattle.store_tables.specs.Printed.{ArePrinted, HoldsPrinted, IsPrinted}
 use Rattle.store_tables.proofs.Printed.{by_cell}
@@ -113,7 +113,7 @@ root_read owners one two three four =
     ∙ ap (root_of (Some owners.owner) (Some owners.group) (Some (owner_entry ∷ []))) no_line_is
 
 -- the rows by their parts
-abbrev rows_by : List Node → List ℕ → List (ℕ × List ℕ) → List (List ℕ × List ℕ) → List AuditRow
+abbrev rows_by : List Node → List Unread → List (ℕ × List ℕ) → List (List ℕ × List ℕ) → List AuditRow
     → Rows
 rows_by nodes unreadable bodies members audits =
     record {
@@ -130,7 +130,8 @@ room_read db owners one two three four nodes bodies members audits =
     let read : nodes_of (db.trees 0) ≡ new_root owners ∷ [] = ap nodes_of nodes
     ∙ ap (λ o. cons_option o []) root in
     let unread : unread_of (db.trees 0) ≡ [] = ap unread_of nodes
-    ∙ ap (λ (o : Option Node). cons_option (if is_none o then Some 1 else None) []) root in
+    ∙ ap (λ (o : Option Node). cons_option (if is_none o
+    then Some (unread_with (root_row owners.owner owners.group) 1) else None) []) root in
     ap (λ n. rows_by n (unread_of (db.trees 0)) (bodies_of (db.trees 2)) (pairs_of (db.trees 3))
     (filter_map audit_in (db.trees 7))) read
     ∙ ap (λ u. rows_by (new_root owners ∷ []) u (bodies_of (db.trees 2)) (pairs_of (db.trees 3))
