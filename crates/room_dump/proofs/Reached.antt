@@ -14,7 +14,7 @@ use Rattle.room_rows.specs.Content.{Content, child_of, children_of, has_parent, 
 use Rattle.room_rows.specs.Content.{root_of}
 use Rattle.room_entry.specs.Pieces.{same_text}
 use Rattle.room_rows.specs.Finding.{find_id}
-use Rattle.room_rows.specs.Rows.{AreRows, Rows, numbers_of}
+use Rattle.room_rows.specs.Rows.{AreRows, Rows, numbers_of, unread_numbers}
 use Rattle.room_dump.specs.Dump.{tree_of}
 use Rattle.room_dump.proofs.Counting.{count_all, count_append, count_found, count_parts}
 use Rattle.room_dump.proofs.Counting.{count_reverse, each_always, each_both, each_filter}
@@ -103,7 +103,7 @@ no_more_objects : (rows : Rows) → count always rows.read.nodes ≤ length (num
 no_more_objects rows =
     let all = count_all rows.read.nodes in
     let numbers = length-map rows.read.nodes (λ (n : Node). n.id) in
-    let fewer = length_numbers rows.unreadable (map (λ (n : Node). n.id) rows.read.nodes) in
+    let fewer = length_numbers (unread_numbers rows) (map (λ (n : Node). n.id) rows.read.nodes) in
     as_many (count always rows.read.nodes) (length rows.read.nodes)
     (length (map (λ (n : Node). n.id) rows.read.nodes)) (length (numbers_of rows)) all numbers fewer
   where
