@@ -11,7 +11,7 @@ use Rattle.room_ace.specs.Sent.{Sent}
 use Rattle.room_rows.specs.declared.node.AuditRow.{AuditRow}
 use Rattle.room_rows.specs.Content.{Content, body_of, with_records}
 use Rattle.room_rows.specs.Held.{held_of}
-use Rattle.room_rows.specs.Keep.{with_content}
+use Rattle.room_rows.specs.Keep.{AreNamedUnder, with_content}
 use Rattle.room_rows.specs.Rows.{Rows}
 use Rattle.room_machine.specs.declared.reply.Reply.{Reply}
 use Rattle.room_machine.specs.declared.reply.Reply.TheVariants.{Bytes, Names, Lists, Attr, Rulings}
@@ -22,7 +22,7 @@ use Rattle.room_machine.specs.declared.request.Request.TheVariants.{Read, List a
 use Rattle.room_machine.specs.declared.request.Request.TheVariants.{Append, MakeFolder, Remove}
 use Rattle.room_machine.specs.declared.request.Request.TheVariants.{Move, ReadList, SetList}
 use Rattle.room_machine.specs.declared.request.Request.TheVariants.{ReadAttr, SetOwners, Can}
-use Rattle.room_machine.specs.Effect.{names_at, rulings}
+use Rattle.room_machine.specs.Effect.{rulings}
 use Rattle.room_machine.specs.Judge.{first_failure, records_of_plan}
 use Rattle.room_machine.specs.Changed.{IsChanged, SetsList}
 use Rattle.room_machine.specs.Site.{Site, front, full_at, site_at}
@@ -71,15 +71,16 @@ only_reads (Move path to) = false
 only_reads (SetList path which sent) = false
 only_reads (SetOwners path owners) = false
 
--- What is shown is what the object at the path has. Names are told of the rows where all of them
--- can be read. To be changed, the object has to be found, and the folder of what is made or moved.
--- So there is a root, and the plan has the checks of that object and of that folder.
+-- What is shown is what the object at the path has. Of a folder it is the names and kinds of all
+-- children that can be read, in order; between them may stand those of rows under it that can't be
+-- read, and no others. To be changed, the object has to be found, and the folder of what is made or
+-- moved. So there is a root, and the plan has the checks of that object and of that folder.
 abbrev pub IsShown : Rows → Caller → Request → Reply → Type 0
 IsShown rows caller (Read path) reply = AtStored rows.read path (λ target.
     (bytes : List ℕ) × (reply ≡ Bytes bytes) × (body_of rows.read target.node.id ≡ Some bytes))
 IsShown rows caller (ListFolder path) reply = AtStored rows.read path (λ target.
     (names : List (List ℕ × ObjKind)) × (reply ≡ Names names)
-    × (rows.unreadable ≡ [] → names ≡ names_at rows.read target.node.id))
+    × AreNamedUnder target.node.id rows names)
 IsShown rows caller (ReadList path which) reply = AtStored rows.read path (λ target.
     reply ≡ Lists (held_of which target.node).flags (full_at which target))
 IsShown rows caller (ReadAttr path) reply = AtStored rows.read path (λ target.
