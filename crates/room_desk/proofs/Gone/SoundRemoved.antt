@@ -18,7 +18,7 @@ use Rattle.room_rows.specs.Content.{without_node}
 use Rattle.room_rows.specs.Finding.{find_id}
 use Rattle.room_rows.specs.Keep.{with_content}
 use Rattle.room_rows.specs.Meaning.{kept_held, kept_node, meaning}
-use Rattle.room_rows.specs.Rows.{Rows, put_numbers}
+use Rattle.room_rows.specs.Rows.{Rows, put_numbers, unread_numbers}
 use Rattle.room_rows.proofs.Frames.{Rises, node_at-without_node-other, has_its_parent}
 use Rattle.room_rows.proofs.Lookups.{each-kept, each-weaker, each_found, find-kept, find-kept_none}
 use Rattle.room_rows.proofs.Lookups.{stands-each, stands-found}
@@ -30,7 +30,7 @@ use Rattle.room_entry.proofs.Facts.Members.{none_filter}
 use Rattle.room_desk.proofs.Gone.Childless.{bad_at, body_kept, by_objects, chosen_kept, each_both}
 use Rattle.room_desk.proofs.Gone.Childless.{map_kept, of_objects, still_pass}
 use Rattle.room_desk.proofs.Sound.SoundParts.{SoundParts, map_same, sound_parts, parts_sound}
-use Rattle.room_desk.proofs.Sound.SoundParts.{none_unreadable}
+use Rattle.room_desk.proofs.Sound.SoundParts.{none_numbered, none_unreadable}
 
 -- ---- the content without the object
 
@@ -233,8 +233,8 @@ sound_removed rows id sound can =
     parts : SoundParts rows
     parts = sound_parts rows sound
 
-    readable : rows.unreadable ≡ []
-    readable = none_unreadable rows parts
+    readable : unread_numbers rows ≡ []
+    readable = none_numbered rows (none_unreadable rows parts)
 
     found : AllByRecursion (λ n. find_id n.id rows.read.nodes ≡ Some n) rows.read.nodes
     found = each_found 0 rows.read.nodes can.rises

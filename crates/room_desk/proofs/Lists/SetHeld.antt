@@ -16,7 +16,7 @@ use Rattle.room_rows.specs.Content.{with_each, with_node}
 use Rattle.room_rows.specs.Finding.{find_id}
 use Rattle.room_rows.specs.Held.{held_of, with_held, is_linked}
 use Rattle.room_rows.specs.Keep.{with_inh}
-use Rattle.room_rows.specs.Rows.{Rows}
+use Rattle.room_rows.specs.Rows.{Rows, Unread}
 use Rattle.room_rows.proofs.Frames.{Rises, node_at-number}
 use Rattle.room_rows.proofs.InPlace.{place-with_held, with_each-with_each, with_node-replaces}
 use Rattle.room_rows.proofs.Lookups.{each_found}
@@ -195,7 +195,7 @@ module _ (which : Which) (rows : Content) (node : Node) (held : Held) where
                   same_Some m (relist which final n) (sym is),
                 )
 
-            module _ (unreadable : List ℕ)
+            module _ (unreadable : List Unread)
                 (sound : AreSound (record { read = rows; unreadable = unreadable })) where
               abbrev old : Rows
               old = record { read = rows; unreadable = unreadable }

@@ -32,12 +32,11 @@ use Rattle.room_rows.specs.Sound.{AreSound, fits_kind, has_sound_lists, is_sound
 use Rattle.room_inherit.proofs.Children.{ids_of, each_there, apart_rising}
 use Rattle.room_inherit.proofs.Renewing.{map_agree}
 use Rattle.room_inherit.proofs.Valid.{pass_is_valid}
-use Rattle.room_inherit.proofs.Whole.{none_unreadable}
 use Rattle.room_machine.specs.Effect.{new_node}
 use Rattle.room_machine.specs.Changed.{new_child, passed_held}
 use Rattle.room_machine.specs.Stored.{stored_site}
 use Rattle.room_desk.proofs.Made.SoundAdded.{above_new, above_old, lists_here, sound_added}
-use Rattle.room_desk.proofs.Sound.SoundParts.{sound_parts}
+use Rattle.room_desk.proofs.Sound.SoundParts.{none_numbered, none_unreadable, sound_parts}
 use Rattle.room_desk.proofs.Lists.ValidDown.{passed_marked}
 use Rattle.room_inherit.proofs.Migrated.{folder_is}
 
@@ -104,7 +103,8 @@ no_bytes_unused : (rows : Rows) → AreRows rows → AreSound rows → (id : ℕ
 no_bytes_unused rows are sound id unused =
     no_bytes_in (numbers_of rows) rows.read.bodies id
     (ap (λ l. is_among (put_numbers l (ids_of rows.read.nodes)) id)
-    (none_unreadable rows (sound_parts rows sound).lists) ∙ not_listed rows.read.nodes id unused)
+    (none_numbered rows (none_unreadable rows (sound_parts rows sound)))
+    ∙ not_listed rows.read.nodes id unused)
     are.bodies
 
 -- ---- the bytes of a new object

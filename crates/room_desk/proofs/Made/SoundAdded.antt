@@ -19,7 +19,7 @@ use Rattle.room_rows.specs.Content.{reaches_root, body_at}
 use Rattle.room_rows.specs.Finding.{find_id}
 use Rattle.room_rows.specs.Keep.{with_content}
 use Rattle.room_rows.specs.Paths.{is_object_name}
-use Rattle.room_rows.specs.Rows.{Rows, AreRows, put_numbers}
+use Rattle.room_rows.specs.Rows.{Rows, AreRows, put_numbers, unread_numbers}
 use Rattle.room_rows.proofs.Frames.{has_its_parent}
 use Rattle.room_rows.specs.Law.{agrees_with}
 use Rattle.room_inherit.specs.Laws.{HasNoFault}
@@ -29,11 +29,10 @@ use Rattle.room_inherit.proofs.Children.{ids_of, each_found}
 use Rattle.room_inherit.proofs.Ends.{each_all}
 use Rattle.room_entry.proofs.Facts.Members.{each_fails, any_none}
 use Rattle.room_inherit.proofs.NoFault.{no_fault, sound}
-use Rattle.room_inherit.proofs.Whole.{none_unreadable}
 use Rattle.room_desk.proofs.Made.Added.{after, stays, comes, each_after, all_after, same_above}
 use Rattle.room_desk.proofs.Made.Added.{reaches_still, reaches_more, length_put, filter_put}
 use Rattle.room_desk.proofs.Made.Added.{each_put}
-use Rattle.room_desk.proofs.Sound.SoundParts.{sound_parts}
+use Rattle.room_desk.proofs.Sound.SoundParts.{none_numbered, none_unreadable, sound_parts}
 
 -- each object that is found passes a test that all pass
 pub found_passes : (test : Node → Bool) (nodes : List Node) (id : ℕ) (node : Node)
@@ -80,7 +79,8 @@ pub lists_here : (rows : Rows) → AreSound rows → (node : Node)
 lists_here rows were node found =
     sym (bad_found rows.read node found)
     ∙ found_passes (λ m. not (bad_at rows.read [] m.id)) rows.read.nodes node.id node
-    (sym (lists_of rows.read rows.unreadable (none_unreadable rows (sound_parts rows were).lists))
+    (sym (lists_of rows.read (unread_numbers rows)
+    (none_numbered rows (none_unreadable rows (sound_parts rows were))))
     ∙ (no_fault rows were).lists) found
 
 module _ (old : Rows) (are : AreRows old) (were : AreSound old) (new folder : Node)
@@ -91,8 +91,8 @@ module _ (old : Rows) (are : AreRows old) (were : AreSound old) (new folder : No
   whole : HasNoFault old
   whole = no_fault old were
 
-  none_bad : old.unreadable ≡ []
-  none_bad = none_unreadable old (sound_parts old were).lists
+  none_bad : unread_numbers old ≡ []
+  none_bad = none_numbered old (none_unreadable old (sound_parts old were))
 
   -- ---- its place
 
@@ -247,7 +247,7 @@ module _ (old : Rows) (are : AreRows old) (were : AreSound old) (new folder : No
         → AreSound (with_content old (after old are new bodies unused))
     sound_added valid dacl sacl bytes fits =
         sound (with_content old (after old are new bodies unused)) (record {
-          lists = lists_of (after old are new bodies unused) old.unreadable none_bad
+          lists = lists_of (after old are new bodies unused) (unread_numbers old) none_bad
               ∙ all_after old are new bodies unused
               (λ n. not (bad_at (after old are new bodies unused) [] n.id))
               (λ n found. bad_found (after old are new bodies unused) n

@@ -33,6 +33,7 @@ use Rattle.room_desk.proofs.Placed.PlacedParts.{all_after, apart, named_elsewher
 use Rattle.room_desk.proofs.Placed.PlacedParts.{one_there, parent_after, parent_found, passes}
 use Rattle.room_desk.proofs.Placed.PlacedParts.{placed, placed_elsewhere, placed_here, placed_kind}
 use Rattle.room_desk.proofs.Placed.PlacedParts.{placed_number}
+use Rattle.room_desk.proofs.Sound.SoundParts.{none_numbered}
 
 -- ---- rows whose numbers are all readable
 
@@ -45,7 +46,8 @@ bad_list_is : (rows : Rows) → rows.unreadable ≡ [] → (id : ℕ)
     ≡ option_map_or (λ node. not (has_sound_lists node)) (node_at rows.read id) false
 bad_list_is rows none id =
     ap (λ l. is_among l id
-    || option_map_or (λ node. not (has_sound_lists node)) (node_at rows.read id) false) none
+    || option_map_or (λ node. not (has_sound_lists node)) (node_at rows.read id) false)
+    (none_numbered rows none)
 
 -- each object that is there has sound lists
 pub lists_there : (rows : Rows) → rows.unreadable ≡ [] → AreRows rows → HasNoFault rows → (n : Node)
@@ -54,7 +56,8 @@ lists_there rows none are faultless n there =
     let all : list_all (λ id. not (has_bad_list rows id)) (map (λ (m : Node). m.id) rows.read.nodes)
     ≡ true =
     ap (λ l. list_all (λ id. not (has_bad_list rows id))
-    (put_numbers l (map (λ (m : Node). m.id) rows.read.nodes))) (sym none) ∙ faultless.lists in
+    (put_numbers l (map (λ (m : Node). m.id) rows.read.nodes))) (sym (none_numbered rows none))
+    ∙ faultless.lists in
     let here : not (has_bad_list rows n.id) ≡ true = passes rows.read are.numbers
     (λ (m : Node). not (has_bad_list rows m.id))
     (sym (list_all-map (λ id. not (has_bad_list rows id)) (λ (m : Node). m.id) rows.read.nodes)

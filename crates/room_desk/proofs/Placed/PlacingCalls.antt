@@ -26,7 +26,7 @@ use Rattle.room_desk.specs.Moving.{TakesPassed}
 use Rattle.room_desk.proofs.Lists.HandedDown.{nothing_handed, one_stays, only_read, put_one}
 use Rattle.room_desk.proofs.Lists.HandedDown.{spread_handed}
 use Rattle.room_desk.proofs.Sound.Anchored.{changed_unread, here_after, past_up, rises_after}
-use Rattle.room_desk.proofs.Sound.Anchored.{rooted_changed, rooted_spread}
+use Rattle.room_desk.proofs.Sound.Anchored.{rooted_changed, rooted_spread, still_unread}
 use Rattle.room_desk.proofs.Placed.PlacedStates.{can_renew, can_renew_sacl, first_state, is_placed}
 use Rattle.room_desk.proofs.Placed.PlacedStates.{mid_is, own_dacl, own_sacl, state}
 use Rattle.room_desk.proofs.Placed.Relinked.{not_linked, renewed, stored_already}
@@ -163,8 +163,7 @@ module _ (target folder : Node) (name : List ℕ) where
   stays_unread : (old mid : Rows) (row : ℕ) → Stays old mid → FailsToRenew target mid row
       → FailsToPlace target folder name old row
   stays_unread old mid row stays fails can = let rooted = stays can in
-      subst (λ (l : List ℕ). Rattle.std.specs.Prelude.IsTrue
-      (Rattle.room_entry.specs.Pieces.is_among l row)) rooted.unreadable (fails rooted.rooted)
+      still_unread old mid row rooted.unreadable (fails rooted.rooted)
 
   placed_stays : (old mid : Rows) → Places target.id folder.id name old mid → Stays old mid
   placed_stays old mid places can =

@@ -6,11 +6,12 @@ use Rattle.std.specs.Prelude.{IsTrue}
 use Rattle.std.specs.Option.{option_map, option_map_or}
 use Rattle.std.proofs.lemmas.Bool.{and_parts, cases_Bool, eqb-false, eqb-true, false≢true}
 use Rattle.std.proofs.lemmas.Option.{same_Some}
+use Rattle.room_entry.specs.Pieces.{is_among}
 use Rattle.room_entry.specs.declared.object.Which.{Which}
 use Rattle.room_rows.specs.declared.node.Node.{Node}
 use Rattle.room_rows.specs.Content.{Content, is_rising, node_at, reaches_root, with_each, with_node}
 use Rattle.room_rows.specs.Keep.{Changes, IsUnreadable, with_content, with_inh}
-use Rattle.room_rows.specs.Rows.{Rows}
+use Rattle.room_rows.specs.Rows.{Rows, Unread}
 use Rattle.room_rows.proofs.Frames.{Rises, node_at-number}
 use Rattle.room_rows.proofs.InPlace.{place-with_inh}
 use Rattle.room_rows.proofs.SamePlace.{put-replaces, replaced, replaced_elsewhere, replaced_here}
@@ -183,12 +184,15 @@ rooted_unread id rows row rooted (inl unreadable) = unreadable
 rooted_unread id rows row rooted (inr loop) =
     absurd (rooted_no_loop rows.read id rooted.steps rooted.node rooted.there rooted.reaches loop.1)
 
--- nothing else became unreadable
+-- no other row became unreadable
+pub still_unread : (old new : Rows) (row : ℕ) → new.unreadable ≡ old.unreadable
+    → IsUnreadable new row → IsUnreadable old row
+still_unread old new row same h =
+    subst (λ (l : List Unread). IsTrue (is_among (map (λ (u : Unread). u.id) l) row)) same h
+
 pub unread_first : (id : ℕ) (old mid : Rows) (row : ℕ) → KeepsRoot id old mid → IsUnreadable mid row
     → IsUnreadable old row
-unread_first id old mid row keeps h =
-    subst (λ (l : List ℕ). IsTrue (Rattle.room_entry.specs.Pieces.is_among l row))
-    keeps.unreadable h
+unread_first id old mid row keeps h = still_unread old mid row keeps.unreadable h
 
 -- what is carried down from an object that gets another list
 pub changed_unread : (id : ℕ) (old mid : Rows) (row : ℕ) (change : Node → Node)

@@ -12,7 +12,7 @@ use Rattle.room_rows.specs.declared.node.Node.{Node}
 use Rattle.room_rows.specs.Content.{Content, node_at, is_root, has_folder_above, reaches_root}
 use Rattle.room_rows.specs.Content.{with_records}
 use Rattle.room_rows.specs.Keep.{HasNoRoot, IsUnreadable}
-use Rattle.room_rows.specs.Rows.{Rows, numbers_of, put_number}
+use Rattle.room_rows.specs.Rows.{Rows, Unread, numbers_of, put_number, unread_numbers}
 use Rattle.room_rows.specs.Sound.{AreSound, first_bad_list, bad_root, first_failing, has_bad_list}
 use Rattle.room_rows.specs.Sound.{reaches, has_sound_name, has_sound_body, keeps_law}
 use Rattle.room_judge.specs.Judged.{NotSound, with_notes}
@@ -147,13 +147,17 @@ listed new (x ∷ xs) = on (nat_lt x new) (listed new xs)
 pub none_unreadable : (rows : Rows) → SoundParts rows → rows.unreadable ≡ []
 none_unreadable rows parts = all_read rows rows.unreadable refl parts.lists
 
+-- then no number is one of a row that can't be read
+pub none_numbered : (rows : Rows) → rows.unreadable ≡ [] → unread_numbers rows ≡ []
+none_numbered rows none = ap (map (λ (row : Unread). row.id)) none
+
 -- ---- no row of sound rows is blamed
 
 pub readable_unsound : (rows : Rows) (row : ℕ) → IsUnreadable rows row → NotSound rows row
 readable_unsound rows row unreadable sound =
     absurd
-    (false≢true (ap (λ l. is_among l row) (sym (none_unreadable rows (sound_parts rows sound)))
-    ∙ unreadable))
+    (false≢true (ap (λ l. is_among l row)
+    (sym (none_numbered rows (none_unreadable rows (sound_parts rows sound)))) ∙ unreadable))
 
 pub rootless_unsound : (rows : Rows) (row : ℕ) → HasNoRoot rows row → NotSound rows row
 rootless_unsound rows row (inl unreadable) sound = readable_unsound rows row unreadable sound

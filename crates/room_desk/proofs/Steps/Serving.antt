@@ -18,6 +18,7 @@ use Rattle.room_rows.specs.Meaning.{meaning, kept_node}
 use Rattle.room_rows.specs.Rows.{Rows, AreRows}
 use Rattle.room_rows.proofs.Frames.{Rises, root_of-is_there, child_of-is_there}
 use Rattle.room_rows.proofs.InPlace.{keeps_places, children_of-with_each}
+use Rattle.room_rows.proofs.Mixed.{named_alone}
 use Rattle.room_rows.specs.Sound.{AreSound}
 use Rattle.room_judge.specs.declared.asker.Asker.{Asker}
 use Rattle.room_machine.specs.declared.reply.Reply.{Reply}
@@ -37,7 +38,7 @@ use Rattle.room_machine.specs.Stored.{stored_site, stored_from, stored_along, st
 use Rattle.room_judge.specs.Judged.{IsJudged, IsReached, of_kind}
 use Rattle.room_judge.proofs.Closing.{closed_asked, closed_failed}
 use Rattle.room_judge.proofs.Judging.{failure_of_parts}
-use Rattle.room_rows.specs.Keep.{IsDamaged, IsUnreadable}
+use Rattle.room_rows.specs.Keep.{AreNamedUnder, IsDamaged, IsUnreadable}
 use Rattle.room_desk.specs.Answered.{AreNamesOf, IsBytesOf}
 use Rattle.room_desk.specs.Asked.{rulings_at}
 use Rattle.room_desk.specs.Written.{HasNoBytes}
@@ -144,16 +145,15 @@ module _ (asker : Asker) (path : List (List ℕ)) where
       ∙ ap (λ (o : Option (List ℕ)). Bytes (unwrap_or o [])) (sym body)) refl
       (stored_site path node, reached.found, (bytes, refl, sym body)) refl
 
-  -- names are those of the children where all rows can be read
   pub served_names : (old new : Rows) (node : Node) (names : List (List ℕ × ObjKind)) → AreRows old
       → IsReached asker path
       (λ target. of_kind Folder target ∷ Check target (read_data ∷ []) ∷ []) old (Ok node) new
-      → (old.unreadable ≡ [] → names ≡ map shown (children_of old.read node.id))
-      → IsServed asker (ListFolder path) old (Names names) new
-  served_names old new node names are reached listed = (
-    λ known sound. (sound_names (listed (none_unreadable old (sound_parts old sound)))).0 known sound,
+      → AreNamedUnder node.id old names → IsServed asker (ListFolder path) old (Names names) new
+  served_names old new node names are reached named = (
+    λ known sound. (sound_names (named_alone node.id old names
+        (none_unreadable old (sound_parts old sound)) named)).0 known sound,
     closed_asked asker (ListFolder path) old (Names names) new reached.judged refl
-        (stored_site path node, reached.found, (names, refl, listed)) refl,
+        (stored_site path node, reached.found, (names, refl, named)) refl,
   )
     where
       sound_names : names ≡ map shown (children_of old.read node.id)
@@ -172,7 +172,7 @@ module _ (asker : Asker) (path : List (List ℕ)) where
           (λ n. record { number = refl; parent = refl; name = refl })) node.id)
           ∙ ap (λ (l : List (List ℕ × ObjKind)). Names l)
           (names_kept old.read (children_of old.read node.id) ∙ sym listed)) refl
-          (stored_site path node, reached.found, (names, refl, λ _. listed)) refl
+          (stored_site path node, reached.found, (names, refl, named)) refl
 
   pub served_list : (which : Which) (old new : Rows) (node : Node) (reply : Reply) → AreRows old
       → IsReached asker path (λ target. Check target (read_acl ∷ []) ∷ []) old (Ok node) new
@@ -365,5 +365,4 @@ module _ (asker : Asker) (path : List (List ℕ)) where
       subst (λ (r : Reply). IsServed asker (ListFolder path) old r new) (sym told.reply_is)
       (served_names asker path old new node told.names are
       (reached_then asker path (FolderAt (read_data ∷ [])) (Ok node) old mid new same reached)
-      (λ read. told.are (ap (λ (r : Rows). r.unreadable) reached.judged.notes ∙ read)
-      ∙ ap (λ (r : Rows). map shown (children_of r.read node.id)) reached.judged.notes))
+      (subst (λ (r : Rows). AreNamedUnder node.id r told.names) reached.judged.notes told.are))
