@@ -35,6 +35,10 @@ pub record IsRooted (id : ℕ) (rows : Rows) : Type 0 where
   pub steps : ℕ
   pub reaches : reaches_root steps rows.read node.parent ≡ true
 
+-- it stands so in the rows, and is rooted
+abbrev pub StandsRooted : Node → Rows → Type 0
+StandsRooted node rows = Holds node rows × IsRooted node.id rows
+
 -- only a row that can't be read, where the object is rooted
 abbrev pub IsUnreadableIfRooted : ℕ → Rows → ℕ → Type 0
 IsUnreadableIfRooted id rows row = IsRooted id rows → IsUnreadable rows row

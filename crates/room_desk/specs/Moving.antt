@@ -52,12 +52,12 @@ use Rattle.room_machine.specs.declared.reply.Reply.{Reply}
 use Rattle.room_machine.specs.declared.reply.Reply.TheVariants.{Done}
 use Rattle.room_machine.specs.declared.reply.Reason.TheVariants.{Exists, Loop}
 use Rattle.room_machine.specs.declared.request.Request.TheVariants.{Move}
-use Rattle.room_machine.specs.Site.{Site, last_name}
+use Rattle.room_machine.specs.Site.{Site, last_name, site_at}
 use Rattle.room_machine.specs.Plan.{Item, Check, Deletion, Refusal, right_to_add}
 use Rattle.room_machine.specs.Changed.{MovesTo, Relinks}
 use Rattle.room_machine.specs.Effect.{moved_node}
 use Rattle.room_judge.specs.Spot.{IsPaired, pair_of}
-use Rattle.room_machine.specs.Stored.{stored_site}
+use Rattle.room_machine.specs.Stored.{stored_along, stored_site}
 use Rattle.room_judge.specs.Closed.{IsServed}
 use Rattle.room_judge.specs.Judged.{IsJudged, through}
 use Rattle.room_desk.specs.Carrying.{IsCarriedDown, IsRooted, IsUnreadableIfRooted}
@@ -105,6 +105,11 @@ abbrev pub FailsToMove : Asker → List (List ℕ) → Node → Found → Found 
 FailsToMove asker path root from target mid row =
     root_of mid.read ≡ Some root → (old : Rows) → AreRows old → IsPaired asker path old
     (pair_of from target) mid → IsDamaged old row
+
+-- the root is this one, and the walk along the path leads to this object
+abbrev pub StandsAlong : List (List ℕ) → Node → Node → Rows → Type 0
+StandsAlong path root target rows = (root_of rows.read ≡ Some root)
+    × (site_at (stored_along rows.read path) path ≡ Some (stored_site path target))
 
 -- ---- the change
 
@@ -198,6 +203,10 @@ pub record HasListOf (which : Which) (target : Node) (rows : Rows) : Type 0 wher
   pub node : Node
   pub there : node_at rows.read target.id ≡ Some node
   pub held : held_of which node ≡ held_of which target
+
+-- the same, and it is rooted
+abbrev pub StandsListed : Which → Node → Rows → Type 0
+StandsListed which target rows = HasListOf which target rows × IsRooted target.id rows
 
 pub record Renews (which : Which) (target folder : Node) (old : Rows) (answer : Unit {0})
     (new : Rows) : Type 0 where

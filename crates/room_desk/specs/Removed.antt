@@ -1,6 +1,7 @@
 -- What becomes of an object that a caller asks to be removed.
 use Rattle.std.specs.Prelude.{◌≡◌, ℕ, Bool, List, [], ◌∷◌, Option, Some, None, if◌then◌else◌}
-use Rattle.room_rows.specs.Keep.{HasChildren, Removes}
+use Rattle.room_rows.specs.Content.{children_of}
+use Rattle.room_rows.specs.Keep.{CanRemove, HasChildren, Removes}
 use Rattle.room_rows.specs.Rows.{Rows}
 use Rattle.room_judge.specs.declared.asker.Asker.{Asker}
 use Rattle.room_judge.specs.Judged.{IsJudged}
@@ -14,6 +15,10 @@ use Rattle.room_desk.specs.Made.{Ends}
 -- the refusal of an object that has children
 abbrev pub refused_where : Bool → List (List ℕ) → Option Reply
 refused_where has_some path = if has_some then Some (Refused path NotEmpty) else None
+
+-- the object may be removed, if it has no children
+abbrev pub RemovableIfEmpty : ℕ → Rows → Type 0
+RemovableIfEmpty id rows = children_of rows.read id ≡ [] → CanRemove id rows
 
 -- An object without children is removed, and one that has some is refused. Where a row can't be
 -- read, it may be a child, and the keeper may answer so.

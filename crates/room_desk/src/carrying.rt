@@ -1,8 +1,10 @@
 //! A change of a list carried down.
 ghost use Rattle.std.specs.Prelude.{◌≡◌};
-ghost use Rattle.room_judge.specs.Judged.{Does};
+ghost use Rattle.room_judge.specs.Judged.{DoesUpTo};
 ghost use Rattle.room_desk.specs.Carrying.{HasLoop, HasLoopFrom, IsCarriedDown, IsCarriedFrom};
 ghost use Rattle.room_desk.specs.Carrying.{keeper_fault};
+ghost use Rattle.room_desk.specs.Counted.{EachList, Provided};
+ghost use Rattle.room_inherit.specs.Spread.{Holds};
 
 use room_ace::Which;
 use room_inherit::{SpreadFault, spread, spread_from};
@@ -17,7 +19,8 @@ pub(crate) fn carry_below<K: Keep>(
     id: u64,
     which: Which,
 ) -> Result<(), KeepFault>
-    ensures done { Does K.Keep keep.old keep.new result (HasLoop id) (IsCarriedDown which id) }
+    ensures done { DoesUpTo K.Keep keep.old keep.new result (EachList which) (HasLoop id)
+        (IsCarriedDown which id) }
 {
     let outcome = spread(alloc, keep, id, which);
     match outcome {
@@ -33,7 +36,8 @@ pub(crate) fn carry_from<K: Keep>(
     start: &Node,
     which: Which,
 ) -> Result<(), KeepFault>
-    ensures done { Does K.Keep keep.old keep.new result (HasLoopFrom start.now)
+    ensures done { DoesUpTo K.Keep keep.old keep.new result
+        (Provided (Holds start.now) (EachList which)) (HasLoopFrom start.now)
         (IsCarriedFrom which start.now) }
 {
     let outcome = spread_from(alloc, keep, start, which);

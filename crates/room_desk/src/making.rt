@@ -1,8 +1,8 @@
 //! Requests that make an object, or replace a document's bytes.
-ghost use Rattle.std.specs.Prelude.{◌≡◌, [], ◌∷◌, IfOk, is_some, length, unwrap_or};
+ghost use Rattle.std.specs.Prelude.{◌≡◌, false, [], ◌∷◌, IfOk, is_some, length, unwrap_or};
 ghost use Rattle.room_entry.specs.Rights.{append_data, write_data};
-ghost use Rattle.room_rows.specs.Keep.{IsDamaged, IsUnreadable, SetsBody};
-ghost use Rattle.room_judge.specs.Halted.{Serves, Tries, replied};
+ghost use Rattle.room_rows.specs.Keep.{CanAdd, IsDamaged, IsUnreadable, SetsBody};
+ghost use Rattle.room_judge.specs.Halted.{Serves, TriesUpTo, replied};
 ghost use Rattle.room_desk.specs.Made.{IsNameOf, IsJudgedAndDone, IsMade, MakesChild};
 ghost use Rattle.room_machine.specs.Changed.{new_child, owners_under, passed_held};
 ghost use Rattle.room_machine.specs.Plan.{Check, Refusal, no_folder, not_over};
@@ -10,6 +10,8 @@ ghost use Rattle.room_judge.specs.Stored.{found_site};
 ghost use Rattle.room_machine.specs.declared.reply.Reason.TheVariants.{Exists};
 ghost use Rattle.room_machine.specs.declared.reply.Reply.TheVariants.{Done, Made};
 ghost use Rattle.room_machine.specs.declared.request.Request.TheVariants.{MakeFolder, Put};
+ghost use Rattle.room_desk.specs.Counted.{OneAndBoth, OneWrite, Provided};
+ghost use Rattle.room_inherit.specs.Spread.{Holds};
 
 use crate::writing::put_bytes;
 use room_ace::{ListFlags, MOST_BYTES, Mask, Name, ObjKind, Owners};
@@ -35,8 +37,8 @@ pub(crate) fn put<K: Keep>(
 ) -> Result<Reply, Halt>
     ensures same_keep { walk.new.keep.ghost_name ≡ walk.old.keep.ghost_name }
     ensures same_asker { walk.new.asker.now ≡ walk.old.asker.now }
-    ensures done { Tries K.Keep walk.old.keep.now walk.new.keep.now result IsDamaged
-        (Serves walk.old.asker.now (Put path.now bytes.now)) }
+    ensures done { TriesUpTo K.Keep walk.old.keep.now walk.new.keep.now result OneAndBoth
+        IsDamaged (Serves walk.old.asker.now (Put path.now bytes.now)) }
 {
     match path.split_last() {
         None => put_root(walk, path, bytes),
@@ -49,8 +51,8 @@ fn put_root<K: Keep>(walk: &mut Walker<'_, K>, path: &Path, bytes: &Bytes) -> Re
     requires { path.now ≡ [] }
     ensures same_keep { walk.new.keep.ghost_name ≡ walk.old.keep.ghost_name }
     ensures same_asker { walk.new.asker.now ≡ walk.old.asker.now }
-    ensures done { Tries K.Keep walk.old.keep.now walk.new.keep.now result IsDamaged
-        (Serves walk.old.asker.now (Put path.now bytes.now)) }
+    ensures done { TriesUpTo K.Keep walk.old.keep.now walk.new.keep.now result OneAndBoth
+        IsDamaged (Serves walk.old.asker.now (Put path.now bytes.now)) }
 {
     let node = walk.walk_to(path)?;
     put_there(walk, path, &Found { node, depth: 0 }, bytes)
@@ -66,8 +68,8 @@ fn put_below<K: Keep>(
     requires { IsNameOf path.now name.now }
     ensures same_keep { walk.new.keep.ghost_name ≡ walk.old.keep.ghost_name }
     ensures same_asker { walk.new.asker.now ≡ walk.old.asker.now }
-    ensures done { Tries K.Keep walk.old.keep.now walk.new.keep.now result IsDamaged
-        (Serves walk.old.asker.now (Put path.now bytes.now)) }
+    ensures done { TriesUpTo K.Keep walk.old.keep.now walk.new.keep.now result OneAndBoth
+        IsDamaged (Serves walk.old.asker.now (Put path.now bytes.now)) }
 {
     let spot = walk.to_spot(path)?;
     let Under { folder, child } = spot;
@@ -90,7 +92,8 @@ fn put_there<K: Keep>(
 ) -> Result<Reply, Halt>
     ensures same_keep { walk.new.keep.ghost_name ≡ walk.old.keep.ghost_name }
     ensures same_asker { walk.new.asker.now ≡ walk.old.asker.now }
-    ensures done { Tries K.Keep walk.old.keep.now walk.new.keep.now result IsUnreadable
+    ensures done { TriesUpTo K.Keep walk.old.keep.now walk.new.keep.now result
+        (Provided (Holds target.now.node) OneWrite) IsUnreadable
         (λ old outcome new. IsJudgedAndDone walk.old.asker.now (no_folder
         (found_site path.now target.now) ∷ Check (found_site path.now target.now) (write_data ∷ [])
         ∷ not_over path.now (length bytes.now) ∷ []) Done
@@ -109,7 +112,9 @@ fn put_new<K: Keep>(
 ) -> Result<Reply, Halt>
     ensures same_keep { walk.new.keep.ghost_name ≡ walk.old.keep.ghost_name }
     ensures same_asker { walk.new.asker.now ≡ walk.old.asker.now }
-    ensures done { Tries K.Keep walk.old.keep.now walk.new.keep.now result IsUnreadable
+    ensures done { TriesUpTo K.Keep walk.old.keep.now walk.new.keep.now result
+        (Provided (CanAdd (new_child walk.old.asker.now.caller child.now.kind folder.now.node
+        child.now.name.now child.now.bytes.now)) OneWrite) IsUnreadable
         (λ old outcome new. IsJudgedAndDone walk.old.asker.now (Check
         (found_site path.now folder.now) (write_data ∷ []) ∷ not_over path.now
         (length child.now.bytes.now) ∷ []) Made (IsMade (new_child walk.old.asker.now.caller
@@ -128,8 +133,8 @@ fn put_new<K: Keep>(
 pub(crate) fn make_folder<K: Keep>(walk: &mut Walker<'_, K>, path: &Path) -> Result<Reply, Halt>
     ensures same_keep { walk.new.keep.ghost_name ≡ walk.old.keep.ghost_name }
     ensures same_asker { walk.new.asker.now ≡ walk.old.asker.now }
-    ensures done { Tries K.Keep walk.old.keep.now walk.new.keep.now result IsDamaged
-        (Serves walk.old.asker.now (MakeFolder path.now)) }
+    ensures done { TriesUpTo K.Keep walk.old.keep.now walk.new.keep.now result OneAndBoth
+        IsDamaged (Serves walk.old.asker.now (MakeFolder path.now)) }
 {
     match path.split_last() {
         None => Err(refusal(walk.alloc, path, 0, Reason::Exists)),
@@ -142,8 +147,8 @@ fn make_below<K: Keep>(walk: &mut Walker<'_, K>, path: &Path, name: &Text) -> Re
     requires { IsNameOf path.now name.now }
     ensures same_keep { walk.new.keep.ghost_name ≡ walk.old.keep.ghost_name }
     ensures same_asker { walk.new.asker.now ≡ walk.old.asker.now }
-    ensures done { Tries K.Keep walk.old.keep.now walk.new.keep.now result IsDamaged
-        (Serves walk.old.asker.now (MakeFolder path.now)) }
+    ensures done { TriesUpTo K.Keep walk.old.keep.now walk.new.keep.now result OneAndBoth
+        IsDamaged (Serves walk.old.asker.now (MakeFolder path.now)) }
 {
     let spot = walk.to_spot(path)?;
     let bytes = Bytes::new(walk.alloc);
@@ -165,7 +170,10 @@ fn make_new<K: Keep>(
 ) -> Result<Reply, Halt>
     ensures same_keep { walk.new.keep.ghost_name ≡ walk.old.keep.ghost_name }
     ensures same_asker { walk.new.asker.now ≡ walk.old.asker.now }
-    ensures done { Tries K.Keep walk.old.keep.now walk.new.keep.now result IsUnreadable
+    ensures done { TriesUpTo K.Keep walk.old.keep.now walk.new.keep.now result
+        (Provided (λ rows. is_some spot.now.child ≡ false → CanAdd
+        (new_child walk.old.asker.now.caller child.now.kind spot.now.folder.node child.now.name.now
+        child.now.bytes.now) rows) OneWrite) IsUnreadable
         (λ old outcome new. IsJudgedAndDone walk.old.asker.now (Check
         (found_site path.now spot.now.folder) (append_data ∷ []) ∷ Refusal path.now Exists
         (is_some spot.now.child) ∷ []) Made (IsMade (new_child walk.old.asker.now.caller
@@ -188,7 +196,9 @@ fn add_child<K: Keep>(
 ) -> Result<Reply, Halt>
     ensures same_keep { walk.new.keep.ghost_name ≡ walk.old.keep.ghost_name }
     ensures same_asker { walk.new.asker.now ≡ walk.old.asker.now }
-    ensures done { Tries K.Keep walk.old.keep.now walk.new.keep.now result IsUnreadable
+    ensures done { TriesUpTo K.Keep walk.old.keep.now walk.new.keep.now result
+        (Provided (CanAdd (new_child walk.old.asker.now.caller child.now.kind parent.now
+        child.now.name.now child.now.bytes.now)) OneWrite) IsUnreadable
         (λ old outcome new. MakesChild walk.old.asker.now.caller child.now.kind parent.now
         child.now.name.now child.now.bytes.now old (replied outcome) new) }
 {

@@ -1,15 +1,16 @@
 //! The request that moves an object.
 ghost use Rattle.std.specs.Prelude.{◌≡◌, ◌+◌, ◌<◌, true, [], ◌∷◌, Some, length};
 ghost use Rattle.room_rows.specs.Keep.{IsDamaged, IsNever, IsUnreadable};
-ghost use Rattle.room_judge.specs.Halted.{Serves, Tries, replied};
+ghost use Rattle.room_judge.specs.Halted.{Serves, Tries, TriesUpTo, replied};
 ghost use Rattle.room_judge.specs.Judged.{FromRoot, IsJudged, IsReached, IsUnreadableFrom};
 ghost use Rattle.room_judge.specs.Judged.{refusal_of};
 ghost use Rattle.room_judge.specs.Stored.{found_site};
-ghost use Rattle.room_desk.specs.Moving.{FailsToMove, MovesOn, at_place, begins};
+ghost use Rattle.room_desk.specs.Moving.{FailsToMove, MovesOn, StandsAlong, at_place, begins};
 ghost use Rattle.room_machine.specs.Plan.{Deletion, Refusal, right_to_add};
 ghost use Rattle.room_machine.specs.Site.{front};
 ghost use Rattle.room_machine.specs.declared.reply.Reason.TheVariants.{Exists};
 ghost use Rattle.room_machine.specs.declared.request.Request.TheVariants.{Move};
+ghost use Rattle.room_desk.specs.Counted.{OneAndBoth, Provided};
 
 use crate::placing::{check_free, place_at};
 use room_ace::Mask;
@@ -33,8 +34,8 @@ pub(crate) fn move_object<K: Keep>(
 ) -> Result<Reply, Halt>
     ensures same_keep { walk.new.keep.ghost_name ≡ walk.old.keep.ghost_name }
     ensures same_asker { walk.new.asker.now ≡ walk.old.asker.now }
-    ensures done { Tries K.Keep walk.old.keep.now walk.new.keep.now result IsDamaged
-        (Serves walk.old.asker.now (Move path.now to.now)) }
+    ensures done { TriesUpTo K.Keep walk.old.keep.now walk.new.keep.now result OneAndBoth
+        IsDamaged (Serves walk.old.asker.now (Move path.now to.now)) }
 {
     let root = walk.keep.root()?;
     if path.is_root() {
@@ -58,8 +59,10 @@ fn move_found<K: Keep>(
 ) -> Result<Reply, Halt>
     ensures same_keep { walk.new.keep.ghost_name ≡ walk.old.keep.ghost_name }
     ensures same_asker { walk.new.asker.now ≡ walk.old.asker.now }
-    ensures done { Tries K.Keep walk.old.keep.now walk.new.keep.now result (FailsToMove
-        walk.old.asker.now moving.now.path.now root.now moving.now.from.now moving.now.target.now)
+    ensures done { TriesUpTo K.Keep walk.old.keep.now walk.new.keep.now result
+        (Provided (StandsAlong moving.now.path.now root.now moving.now.target.now.node)
+        OneAndBoth) (FailsToMove walk.old.asker.now moving.now.path.now root.now
+        moving.now.from.now moving.now.target.now)
         (λ old outcome new. MovesOn walk.old.asker.now moving.now.path.now to.now root.now
         moving.now.from.now moving.now.target.now old (replied outcome) new) }
 {

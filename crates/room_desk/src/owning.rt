@@ -2,10 +2,11 @@
 ghost use Rattle.std.specs.Prelude.{◌≡◌, ◌&&◌, IfOk};
 ghost use Rattle.room_entry.specs.Pieces.{same_text};
 ghost use Rattle.room_rows.specs.Keep.{IsDamaged, IsUnreadable};
-ghost use Rattle.room_judge.specs.Halted.{Serves, Tries};
-ghost use Rattle.room_judge.specs.Judged.{Does};
+ghost use Rattle.room_judge.specs.Halted.{RepliesUpTo, Serves, TriesUpTo};
 ghost use Rattle.room_desk.specs.Answered.{SetsOwners};
 ghost use Rattle.room_machine.specs.declared.request.Request.TheVariants.{SetOwners};
+ghost use Rattle.room_desk.specs.Counted.{OneAndBoth, OneWrite, Provided};
+ghost use Rattle.room_inherit.specs.Spread.{Holds};
 
 use room_ace::{Mask, Owners};
 use room_judge::{Halt, Walker};
@@ -20,8 +21,8 @@ pub(crate) fn set_owners<K: Keep>(
 ) -> Result<Reply, Halt>
     ensures same_keep { walk.new.keep.ghost_name ≡ walk.old.keep.ghost_name }
     ensures same_asker { walk.new.asker.now ≡ walk.old.asker.now }
-    ensures done { Tries K.Keep walk.old.keep.now walk.new.keep.now result IsDamaged
-        (Serves walk.old.asker.now (SetOwners path.now owners.now)) }
+    ensures done { TriesUpTo K.Keep walk.old.keep.now walk.new.keep.now result OneAndBoth
+        IsDamaged (Serves walk.old.asker.now (SetOwners path.now owners.now)) }
 {
     let node = walk.reach(path, Mask::write_owner())?;
     Ok(set_at(walk.keep, &node, owners)?)
@@ -29,7 +30,8 @@ pub(crate) fn set_owners<K: Keep>(
 
 // Gives the object these owners. Where they are what it has, nothing is written.
 fn set_at<K: Keep>(keep: &mut K, node: &Node, owners: &Owners) -> Result<Reply, KeepFault>
-    ensures done { Does K.Keep keep.old keep.new result IsUnreadable
+    ensures done { RepliesUpTo K.Keep keep.old keep.new result
+        (Provided (Holds node.now) OneWrite) IsUnreadable
         (SetsOwners node.now owners.now) }
     ensures quiet { owners.now ≡ node.now.owners → IfOk result
         (λ _. K.writes keep.new ≡ K.writes keep.old) }

@@ -2,9 +2,10 @@
 ghost use Rattle.std.specs.Prelude.{◌≡◌};
 ghost use Rattle.std.specs.Option.{option_copied};
 ghost use Rattle.room_rows.specs.Keep.{IsDamaged};
-ghost use Rattle.room_judge.specs.Halted.{Serves, Tries, reply_of};
+ghost use Rattle.room_judge.specs.Halted.{Serves, TriesWithin, replied, reply_of};
 ghost use Rattle.room_judge.specs.Closed.{IsServed, Performs};
-ghost use Rattle.room_judge.specs.Judged.{Does};
+ghost use Rattle.room_judge.specs.Judged.{DoesWithin};
+ghost use Rattle.room_desk.specs.Counted.{extent_of};
 
 use crate::asking::can;
 use crate::making::{make_folder, put};
@@ -27,7 +28,9 @@ use std::alloc::Global;
 /// can't be read or a document without bytes, or is 0 where there is no root.
 ///
 /// From any rows, damaged ones too, each check that stands before the reply in the request's plan
-/// was granted by the lists as they are stored, and its records are added.
+/// was granted by the lists as they are stored, and its records are added. A request that only
+/// reads, or is denied or refused, writes nothing else. Any other writes at most one object more,
+/// and each list whose inherited entries change.
 pub fn perform<K: Keep>(
     alloc: Global,
     keep: &mut K,
@@ -35,7 +38,7 @@ pub fn perform<K: Keep>(
     moment: i64,
     request: &Request,
 ) -> Result<Reply, KeepFault>
-    ensures done { Does K.Keep keep.old keep.new result IsDamaged
+    ensures done { DoesWithin K.Keep keep.old keep.new result (extent_of request.now) IsDamaged
         (Performs (option_copied user.entry) moment request.now) }
 {
     let caller = caller_of(alloc, keep, user)?;
@@ -50,7 +53,7 @@ fn perform_for<K: Keep>(
     asker: &Asker,
     request: &Request,
 ) -> Result<Reply, KeepFault>
-    ensures done { Does K.Keep keep.old keep.new result IsDamaged
+    ensures done { DoesWithin K.Keep keep.old keep.new result (extent_of request.now) IsDamaged
         (IsServed asker.now request.now) }
 {
     let mut walk = Walker { alloc, keep, asker };
@@ -72,7 +75,8 @@ fn reply_of(outcome: Result<Reply, Halt>) -> Result<Reply, KeepFault>
 fn serve<K: Keep>(walk: &mut Walker<'_, K>, request: &Request) -> Result<Reply, Halt>
     ensures same_keep { walk.new.keep.ghost_name ≡ walk.old.keep.ghost_name }
     ensures same_asker { walk.new.asker.now ≡ walk.old.asker.now }
-    ensures done { Tries K.Keep walk.old.keep.now walk.new.keep.now result IsDamaged
+    ensures done { TriesWithin K.Keep walk.old.keep.now walk.new.keep.now result
+        (λ outcome. extent_of request.now (replied outcome)) IsDamaged
         (Serves walk.old.asker.now request.now) }
 {
     match request {

@@ -3,20 +3,23 @@ ghost use Rattle.std.specs.Prelude.{◌≡◌, ◌+◌, length};
 ghost use Rattle.room_entry.specs.Pieces.{same_text};
 ghost use Rattle.room_rows.specs.Calls.{Reads};
 ghost use Rattle.room_rows.specs.Keep.{IsUnreadable};
-ghost use Rattle.room_judge.specs.Halted.{Tries};
-ghost use Rattle.room_judge.specs.Judged.{Does, refusal_of};
+ghost use Rattle.room_judge.specs.Halted.{RepliesUpTo, Tries};
+ghost use Rattle.room_judge.specs.Judged.{DoesUpTo, refusal_of};
 ghost use Rattle.room_desk.specs.Moving.{
+  CanGo,
   FailsToPlace,
   FailsToRenew,
   IsTaken,
   JudgesAll,
   PlacesAt,
   Renews,
+  StandsListed,
   TakesPassed,
   begins,
   free_place,
 };
 ghost use Rattle.room_machine.specs.Site.{front};
+ghost use Rattle.room_desk.specs.Counted.{EachList, OneAndBoth, Provided};
 
 use crate::carrying::carry_below;
 use room_ace::{Entries, Which};
@@ -92,7 +95,8 @@ pub(crate) fn place_at<K: Keep>(
 ) -> Result<Reply, KeepFault>
     ensures same_keep { walk.new.keep.ghost_name ≡ walk.old.keep.ghost_name }
     ensures same_asker { walk.new.asker.now ≡ walk.old.asker.now }
-    ensures done { Does K.Keep walk.old.keep.now walk.new.keep.now result
+    ensures done { RepliesUpTo K.Keep walk.old.keep.now walk.new.keep.now result
+        (Provided (CanGo target.now folder.now name.now) OneAndBoth)
         (FailsToPlace target.now folder.now name.now) (PlacesAt target.now folder.now name.now) }
 {
     walk.keep.set_place(target.id, folder.id, name)?;
@@ -110,7 +114,8 @@ fn renew_list<K: Keep>(
 ) -> Result<(), KeepFault>
     ensures same_keep { walk.new.keep.ghost_name ≡ walk.old.keep.ghost_name }
     ensures same_asker { walk.new.asker.now ≡ walk.old.asker.now }
-    ensures done { Does K.Keep walk.old.keep.now walk.new.keep.now result (FailsToRenew target.now)
+    ensures done { DoesUpTo K.Keep walk.old.keep.now walk.new.keep.now result
+        (Provided (StandsListed which target.now) (EachList which)) (FailsToRenew target.now)
         (Renews which target.now folder.now) }
 {
     if !takes_from(target, folder, which) {
@@ -130,7 +135,8 @@ fn take_passed<K: Keep>(
 ) -> Result<(), KeepFault>
     ensures same_keep { walk.new.keep.ghost_name ≡ walk.old.keep.ghost_name }
     ensures same_asker { walk.new.asker.now ≡ walk.old.asker.now }
-    ensures done { Does K.Keep walk.old.keep.now walk.new.keep.now result (FailsToRenew target.now)
+    ensures done { DoesUpTo K.Keep walk.old.keep.now walk.new.keep.now result
+        (Provided (StandsListed which target.now) (EachList which)) (FailsToRenew target.now)
         (TakesPassed which target.now passed.now) }
 {
     let is_stored = passed.is_same(target.held(which).inh());

@@ -1,10 +1,11 @@
 //! The request that removes an object.
 ghost use Rattle.std.specs.Prelude.{◌≡◌, []};
 ghost use Rattle.room_rows.specs.Keep.{IsDamaged, IsUnreadable};
-ghost use Rattle.room_judge.specs.Halted.{Serves, Tries, replied};
+ghost use Rattle.room_judge.specs.Halted.{Serves, TriesUpTo, replied};
 ghost use Rattle.room_judge.specs.Stored.{found_site};
 ghost use Rattle.room_machine.specs.declared.request.Request.TheVariants.{Remove};
-ghost use Rattle.room_desk.specs.Removed.{RemovesChildless, RemovesFrom};
+ghost use Rattle.room_desk.specs.Removed.{RemovableIfEmpty, RemovesChildless, RemovesFrom};
+ghost use Rattle.room_desk.specs.Counted.{OneAndBoth, OneWrite, Provided};
 
 use room_judge::{Found, Halt, Walker, refusal};
 use room_machine::{Reason, Reply};
@@ -14,8 +15,8 @@ use room_rows::{Keep, Path};
 pub(crate) fn remove<K: Keep>(walk: &mut Walker<'_, K>, path: &Path) -> Result<Reply, Halt>
     ensures same_keep { walk.new.keep.ghost_name ≡ walk.old.keep.ghost_name }
     ensures same_asker { walk.new.asker.now ≡ walk.old.asker.now }
-    ensures done { Tries K.Keep walk.old.keep.now walk.new.keep.now result IsDamaged
-        (Serves walk.old.asker.now (Remove path.now)) }
+    ensures done { TriesUpTo K.Keep walk.old.keep.now walk.new.keep.now result OneAndBoth
+        IsDamaged (Serves walk.old.asker.now (Remove path.now)) }
 {
     let is_root = path.names().is_empty();
     if is_root {
@@ -30,8 +31,8 @@ fn keep_root<K: Keep>(walk: &mut Walker<'_, K>, path: &Path) -> Result<Reply, Ha
     requires { path.now ≡ [] }
     ensures same_keep { walk.new.keep.ghost_name ≡ walk.old.keep.ghost_name }
     ensures same_asker { walk.new.asker.now ≡ walk.old.asker.now }
-    ensures done { Tries K.Keep walk.old.keep.now walk.new.keep.now result IsDamaged
-        (Serves walk.old.asker.now (Remove path.now)) }
+    ensures done { TriesUpTo K.Keep walk.old.keep.now walk.new.keep.now result OneAndBoth
+        IsDamaged (Serves walk.old.asker.now (Remove path.now)) }
 {
     walk.keep.root()?;
     Err(refusal(walk.alloc, path, 0, Reason::Root))
@@ -46,7 +47,8 @@ fn remove_from<K: Keep>(
 ) -> Result<Reply, Halt>
     ensures same_keep { walk.new.keep.ghost_name ≡ walk.old.keep.ghost_name }
     ensures same_asker { walk.new.asker.now ≡ walk.old.asker.now }
-    ensures done { Tries K.Keep walk.old.keep.now walk.new.keep.now result IsUnreadable
+    ensures done { TriesUpTo K.Keep walk.old.keep.now walk.new.keep.now result
+        (Provided (RemovableIfEmpty target.now.node.id) OneWrite) IsUnreadable
         (λ old outcome new. RemovesFrom walk.old.asker.now path.now
         (found_site path.now target.now) (found_site path.now folder.now) old (replied outcome)
         new) }
@@ -59,7 +61,8 @@ fn remove_from<K: Keep>(
 fn remove_childless<K: Keep>(walk: &mut Walker<'_, K>, path: &Path, id: u64) -> Result<Reply, Halt>
     ensures same_keep { walk.new.keep.ghost_name ≡ walk.old.keep.ghost_name }
     ensures same_asker { walk.new.asker.now ≡ walk.old.asker.now }
-    ensures done { Tries K.Keep walk.old.keep.now walk.new.keep.now result IsUnreadable
+    ensures done { TriesUpTo K.Keep walk.old.keep.now walk.new.keep.now result
+        (Provided (RemovableIfEmpty id) OneWrite) IsUnreadable
         (λ old outcome new. RemovesChildless path.now id old (replied outcome) new) }
 {
     let has_some = walk.keep.has_children(id)?;

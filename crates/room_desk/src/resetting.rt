@@ -1,9 +1,11 @@
 //! The operator's reset of a list.
 ghost use Rattle.std.specs.Option.{option_copied};
 ghost use Rattle.room_rows.specs.Keep.{IsDamaged};
-ghost use Rattle.room_judge.specs.Judged.{Does, Resets};
-ghost use Rattle.room_desk.specs.Carrying.{IsUnreadableIfHeld};
+ghost use Rattle.room_judge.specs.Halted.{RepliesUpTo};
+ghost use Rattle.room_judge.specs.Judged.{Resets};
+ghost use Rattle.room_desk.specs.Carrying.{IsUnreadableIfHeld, StandsRooted};
 ghost use Rattle.room_desk.specs.Setting.{Beneath, IsResetAtEnd};
+ghost use Rattle.room_desk.specs.Counted.{OneAndEach, Provided};
 
 use crate::setting::{Setting, set_found};
 use room_ace::{ObjKind, SentList, Which};
@@ -14,7 +16,8 @@ use std::alloc::Global;
 
 /// Sets one of an object's lists as the request does, but checks no rights and leaves no record.
 /// The reply is `Done`, or a refusal: no such object, a document on the way, or an entry that isn't
-/// valid. Errors are those of `perform`.
+/// valid. Errors are those of `perform`. No more is written than one object, and each list whose
+/// inherited entries change.
 pub fn reset<K: Keep>(
     alloc: Global,
     keep: &mut K,
@@ -22,7 +25,8 @@ pub fn reset<K: Keep>(
     which: Which,
     sent: &SentList,
 ) -> Result<Reply, KeepFault>
-    ensures done { Does K.Keep keep.old keep.new result IsDamaged (Resets path.now which sent.now) }
+    ensures done { RepliesUpTo K.Keep keep.old keep.new result (OneAndEach which) IsDamaged
+        (Resets path.now which sent.now) }
 {
     let found = walk(alloc, keep, path)?;
     let rest = found.rest;
@@ -53,7 +57,8 @@ fn reset_at_end<K: Keep>(
     setting: &Setting<'_, '_, '_, '_>,
     rest: usize,
 ) -> Result<Reply, KeepFault>
-    ensures done { Does K.Keep keep.old keep.new result
+    ensures done { RepliesUpTo K.Keep keep.old keep.new result
+        (Provided (StandsRooted setting.now.target.now.node) (OneAndEach setting.now.which))
         (IsUnreadableIfHeld setting.now.target.now.node)
         (Beneath (option_copied setting.now.above) setting.now.target.now.node (IsResetAtEnd
         setting.now.path.now setting.now.which setting.now.sent.now setting.now.target.now.node

@@ -2,8 +2,10 @@
 ghost use Rattle.std.specs.Prelude.{◌≡◌, [], ◌∷◌, ◌++◌, OnOk};
 ghost use Rattle.room_rows.specs.Keep.{IsDamaged};
 ghost use Rattle.room_judge.specs.Closed.{Performs};
-ghost use Rattle.room_judge.specs.Judged.{Does};
+ghost use Rattle.room_judge.specs.Judged.{DoesUpTo, DoesWithin};
 ghost use Rattle.room_desk.specs.InTurn.{IsDamagedAfter, RunsAll};
+ghost use Rattle.room_desk.specs.Counted.{extent_of};
+ghost use Rattle.room_judge.specs.Extent.{Unsaid};
 
 use crate::performing::perform;
 use room_ace::Name;
@@ -31,7 +33,7 @@ pub fn perform_all<K: Keep>(
     keep: &mut K,
     asked: &[Asked],
 ) -> Result<Vec<Reply>, KeepFault>
-    ensures done { Does K.Keep keep.old keep.new result (IsDamagedAfter asked.now)
+    ensures done { DoesUpTo K.Keep keep.old keep.new result Unsaid (IsDamagedAfter asked.now)
         (λ old replies new. RunsAll asked.now old replies.items new) }
 {
     let mut replies = Vec::new(alloc);
@@ -44,8 +46,8 @@ pub fn perform_all<K: Keep>(
 
 // Carries out one request.
 fn perform_one<K: Keep>(alloc: Global, keep: &mut K, asked: &Asked) -> Result<Reply, KeepFault>
-    ensures done { Does K.Keep keep.old keep.new result IsDamaged
-        (Performs asked.now.user asked.now.moment asked.now.request) }
+    ensures done { DoesWithin K.Keep keep.old keep.new result (extent_of asked.now.request)
+        IsDamaged (Performs asked.now.user asked.now.moment asked.now.request) }
 {
     perform(
         alloc,

@@ -3,9 +3,10 @@ ghost use Rattle.std.specs.Prelude.{◌≡◌, ◌↔◌, IfOk, IsTrue, []};
 ghost use Rattle.std.specs.Option.{option_copied};
 ghost use Rattle.room_rows.specs.Held.{with_held};
 ghost use Rattle.room_rows.specs.Keep.{IsDamaged};
-ghost use Rattle.room_judge.specs.Halted.{Serves, Tries, replied};
-ghost use Rattle.room_judge.specs.Judged.{Does};
+ghost use Rattle.room_judge.specs.Halted.{RepliesUpTo, Serves, TriesUpTo, replied};
+ghost use Rattle.room_judge.specs.Judged.{DoesUpTo};
 ghost use Rattle.room_desk.specs.Carrying.{HasLoopFrom, IsCarriedFrom, IsUnreadableIfHeld};
+ghost use Rattle.room_desk.specs.Carrying.{StandsRooted};
 ghost use Rattle.room_desk.specs.Setting.{
   Beneath,
   FailsToSet,
@@ -21,6 +22,8 @@ ghost use Rattle.room_desk.specs.Setting.{
   list_of,
 };
 ghost use Rattle.room_machine.specs.declared.request.Request.TheVariants.{SetList};
+ghost use Rattle.room_desk.specs.Counted.{EachList, OneAndBoth, OneAndEach, Provided};
+ghost use Rattle.room_inherit.specs.Spread.{Holds};
 
 use crate::carrying::carry_from;
 use room_ace::{Entries, Entry, ListFlags, Mask, ObjKind, SentList, Which, first_bad_entry};
@@ -50,8 +53,8 @@ pub(crate) fn set_list<K: Keep>(
 ) -> Result<Reply, Halt>
     ensures same_keep { walk.new.keep.ghost_name ≡ walk.old.keep.ghost_name }
     ensures same_asker { walk.new.asker.now ≡ walk.old.asker.now }
-    ensures done { Tries K.Keep walk.old.keep.now walk.new.keep.now result IsDamaged
-        (Serves walk.old.asker.now (SetList path.now which sent.now)) }
+    ensures done { TriesUpTo K.Keep walk.old.keep.now walk.new.keep.now result OneAndBoth
+        IsDamaged (Serves walk.old.asker.now (SetList path.now which sent.now)) }
 {
     if path.is_root() {
         return set_root(walk, path, which, sent);
@@ -78,8 +81,8 @@ fn set_root<K: Keep>(
     requires { path.now ≡ [] }
     ensures same_keep { walk.new.keep.ghost_name ≡ walk.old.keep.ghost_name }
     ensures same_asker { walk.new.asker.now ≡ walk.old.asker.now }
-    ensures done { Tries K.Keep walk.old.keep.now walk.new.keep.now result IsDamaged
-        (Serves walk.old.asker.now (SetList path.now which sent.now)) }
+    ensures done { TriesUpTo K.Keep walk.old.keep.now walk.new.keep.now result OneAndBoth
+        IsDamaged (Serves walk.old.asker.now (SetList path.now which sent.now)) }
 {
     let node = walk.keep.root()?;
     let root = Found { node, depth: 0 };
@@ -100,8 +103,9 @@ fn set_allowed<K: Keep>(
 ) -> Result<Reply, Halt>
     ensures same_keep { walk.new.keep.ghost_name ≡ walk.old.keep.ghost_name }
     ensures same_asker { walk.new.asker.now ≡ walk.old.asker.now }
-    ensures done { Tries K.Keep walk.old.keep.now walk.new.keep.now result (FailsToSet
-        walk.old.asker.now setting.now.path.now setting.now.target.now
+    ensures done { TriesUpTo K.Keep walk.old.keep.now walk.new.keep.now result
+        (Provided (StandsRooted setting.now.target.now.node) (OneAndEach setting.now.which))
+        (FailsToSet walk.old.asker.now setting.now.path.now setting.now.target.now
         (option_copied setting.now.above)) (λ old outcome new. SetsOn walk.old.asker.now
         setting.now.path.now setting.now.which setting.now.sent.now setting.now.target.now
         (option_copied setting.now.above) old (replied outcome) new) }
@@ -116,7 +120,8 @@ pub(crate) fn set_found<K: Keep>(
     keep: &mut K,
     setting: &Setting<'_, '_, '_, '_>,
 ) -> Result<Reply, KeepFault>
-    ensures done { Does K.Keep keep.old keep.new result
+    ensures done { RepliesUpTo K.Keep keep.old keep.new result
+        (Provided (StandsRooted setting.now.target.now.node) (OneAndEach setting.now.which))
         (IsUnreadableIfHeld setting.now.target.now.node)
         (Beneath (option_copied setting.now.above) setting.now.target.now.node (IsSetOrRefused
         setting.now.path.now setting.now.which setting.now.sent.now setting.now.target.now.node)) }
@@ -152,7 +157,8 @@ fn set_at<K: Keep>(
     keep: &mut K,
     setting: &Setting<'_, '_, '_, '_>,
 ) -> Result<(), KeepFault>
-    ensures done { Does K.Keep keep.old keep.new result
+    ensures done { DoesUpTo K.Keep keep.old keep.new result
+        (Provided (StandsRooted setting.now.target.now.node) (OneAndEach setting.now.which))
         (IsUnreadableIfHeld setting.now.target.now.node)
         (Beneath (option_copied setting.now.above) setting.now.target.now.node (λ old _ new. IsSet
         setting.now.which setting.now.sent.now setting.now.target.now.node old new)) }
@@ -177,7 +183,8 @@ fn write_list<K: Keep>(
     setting: &Setting<'_, '_, '_, '_>,
     held: Held,
 ) -> Result<(), KeepFault>
-    ensures done { Does K.Keep keep.old keep.new result
+    ensures done { DoesUpTo K.Keep keep.old keep.new result
+        (Provided (StandsRooted setting.now.target.now.node) (OneAndEach setting.now.which))
         (IsUnreadableIfHeld setting.now.target.now.node)
         (IsWrittenDown setting.now.which setting.now.target.now.node held) }
 {
@@ -196,7 +203,9 @@ fn carry_on<K: Keep>(
     setting: &Setting<'_, '_, '_, '_>,
     held: Held,
 ) -> Result<(), KeepFault>
-    ensures done { Does K.Keep keep.old keep.new result
+    ensures done { DoesUpTo K.Keep keep.old keep.new result
+        (Provided (Holds (with_held setting.now.which held setting.now.target.now.node))
+        (EachList setting.now.which))
         (HasLoopFrom (with_held setting.now.which held setting.now.target.now.node))
         (IsCarriedFrom setting.now.which
         (with_held setting.now.which held setting.now.target.now.node)) }

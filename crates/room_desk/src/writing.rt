@@ -1,8 +1,8 @@
 //! Requests that change the bytes of documents.
 ghost use Rattle.std.specs.Prelude.{◌≡◌, [], ◌++◌, IfOk};
 ghost use Rattle.room_rows.specs.Calls.{Reads};
-ghost use Rattle.room_rows.specs.Keep.{IsDamaged, IsUnreadable};
-ghost use Rattle.room_judge.specs.Halted.{Serves, Tries, replied};
+ghost use Rattle.room_rows.specs.Keep.{IsDamaged, IsDocumentAt, IsUnreadable};
+ghost use Rattle.room_judge.specs.Halted.{Serves, TriesUpTo, replied};
 ghost use Rattle.room_desk.specs.Written.{
   Answers,
   HasBody,
@@ -12,6 +12,7 @@ ghost use Rattle.room_desk.specs.Written.{
   sized_reply,
 };
 ghost use Rattle.room_machine.specs.declared.request.Request.TheVariants.{Append};
+ghost use Rattle.room_desk.specs.Counted.{OneAndBoth, OneWrite, Provided};
 
 use room_ace::{MOST_BYTES, Mask, ObjKind};
 use room_judge::{Halt, Walker, refusal};
@@ -27,8 +28,8 @@ pub(crate) fn append<K: Keep>(
 ) -> Result<Reply, Halt>
     ensures same_keep { walk.new.keep.ghost_name ≡ walk.old.keep.ghost_name }
     ensures same_asker { walk.new.asker.now ≡ walk.old.asker.now }
-    ensures done { Tries K.Keep walk.old.keep.now walk.new.keep.now result IsDamaged
-        (Serves walk.old.asker.now (Append path.now bytes.now)) }
+    ensures done { TriesUpTo K.Keep walk.old.keep.now walk.new.keep.now result OneAndBoth
+        IsDamaged (Serves walk.old.asker.now (Append path.now bytes.now)) }
 {
     let node = walk.reach_kind(path, ObjKind::Document, Mask::append_data())?;
     let id = node.id;
@@ -46,7 +47,8 @@ fn append_at<K: Keep>(
 ) -> Result<Reply, Halt>
     ensures same_keep { walk.new.keep.ghost_name ≡ walk.old.keep.ghost_name }
     ensures same_asker { walk.new.asker.now ≡ walk.old.asker.now }
-    ensures done { Tries K.Keep walk.old.keep.now walk.new.keep.now result (HasNoBytes id)
+    ensures done { TriesUpTo K.Keep walk.old.keep.now walk.new.keep.now result
+        (Provided (λ rows. IsDocumentAt rows id) OneWrite) (HasNoBytes id)
         (λ old outcome new. IsAppended path.now id bytes.now old (replied outcome) new) }
     ensures quiet { bytes.now ≡ [] → IfOk result
         (λ _. K.writes walk.new.keep.now ≡ K.writes walk.old.keep.now) }
@@ -98,7 +100,8 @@ pub(crate) fn put_bytes<K: Keep>(
 ) -> Result<Reply, Halt>
     ensures same_keep { walk.new.keep.ghost_name ≡ walk.old.keep.ghost_name }
     ensures same_asker { walk.new.asker.now ≡ walk.old.asker.now }
-    ensures done { Tries K.Keep walk.old.keep.now walk.new.keep.now result IsUnreadable
+    ensures done { TriesUpTo K.Keep walk.old.keep.now walk.new.keep.now result
+        (Provided (λ rows. IsDocumentAt rows id) OneWrite) IsUnreadable
         (λ old outcome new. IsPut path.now id bytes.now old (replied outcome) new) }
 {
     let too_many = bytes.len() > MOST_BYTES;

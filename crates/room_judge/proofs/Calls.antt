@@ -1,58 +1,99 @@
 -- Calls of a keeper one after the other, in the form in which a request is carried out.
-use Rattle.std.proofs.Common.{◌≡◌, ℕ, Result, Ok, Err, IfOk, IfErr, refl, sym, subst}
+use Rattle.std.proofs.Common.{◌≡◌, ℕ, ◌+◌, ◌≤◌, Result, Ok, Err, IfOk, IfErr, length, refl, sym}
+use Rattle.std.proofs.Common.{subst}
 use Rattle.std.specs.Result.{IsErrAnd}
 use Rattle.room_rows.specs.declared.keep.KeepFault.{KeepFault}
 use Rattle.room_rows.specs.declared.keep.KeepFault.TheVariants.{Memory, Store, Damaged}
-use Rattle.room_rows.specs.Keep.{HasCause, IfSeen, IsRead, IsWriteOf, KeepLaws}
+use Rattle.room_rows.specs.Keep.{HasCause, IfSeen, IsRead, IsWriteOf, KeepLaws, writes_after}
 use Rattle.room_rows.specs.Rows.{Rows, AreRows}
 use Rattle.room_rows.proofs.Steps.{later_cause}
+use Rattle.room_judge.specs.Extent.{Extent, OnlyRecords, UpTo, StaysWithin, Unsaid, unrecorded}
 use Rattle.room_judge.specs.Judged.{IsDone}
+use Rattle.room_judge.proofs.Within.{within_after, within_any, within_later, within_same}
+use Rattle.room_judge.proofs.Within.{written_up_to}
 
 -- calls that each answered, and what became of the rows
-pub record HasDone {S : Type 0} (rows : S → Rows) (Follows IsTrusted : S → S → Type 0) (a b : S)
+pub record HasDone {S : Type 0} (rows : S → Rows) (writes : S → ℕ)
+    (Follows IsTrusted : S → S → Type 0) (extent : Extent) (a b : S)
     (Becomes : Rows → Rows → Type 0) : Type 0 where
   pub follows : Follows a b
   pub becomes : IsTrusted a b → Becomes (rows a) (rows b)
+  pub few : IsTrusted a b → StaysWithin rows writes extent a b
 
-module _ {S : Type 0} {rows : S → Rows} {failures : S → ℕ}
+module _ {S : Type 0} {rows : S → Rows} {failures writes : S → ℕ}
     {Follows IsTrusted : S → S → Type 0} where
   -- a call that reads is such a call
-  pub of_read : {writes : S → ℕ} {X : Type 0} {a b : S} {r : Result X KeepFault}
+  pub of_read : {X : Type 0} {a b : S} {r : Result X KeepFault}
       {Blames : Rows → ℕ → Type 0} {Answers : Rows → X → Type 0}
       → IsRead rows failures writes Follows IsTrusted a b r Blames Answers
-      → IsDone rows failures Follows IsTrusted a b r Blames
+      → IsDone rows failures writes Follows IsTrusted (λ _. OnlyRecords) a b r Blames
       (λ old x new. Answers old x × (new ≡ old))
-  of_read {a = a} {b = b} {r = r} {Answers = Answers} read =
+  of_read {X = X} {a = a} {b = b} {r = r} {Answers = Answers} read =
       record {
         follows = read.follows;
         becomes = λ t. both r (read.answers t) (read.same t);
+        few = λ t. kept r (read.same t);
         fault = read.fault;
       }
     where
-      both : (r : Result _ KeepFault) → IfOk r (Answers (rows a)) → IfSeen r (rows b ≡ rows a)
+      both : (r : Result X KeepFault) → IfOk r (Answers (rows a)) → IfSeen r (rows b ≡ rows a)
           → IfOk r (λ x. Answers (rows a) x × (rows b ≡ rows a))
       both (Ok x) answers same = (answers, same)
       both (Err e) answers same = tt
 
-  -- a call that writes, with what it made of the rows and the cause of its fault
-  pub of_write : {writes : S → ℕ} {count : ℕ} {X : Type 0} {a b : S} {r : Result X KeepFault}
+      kept : (r : Result X KeepFault) → IfSeen r (rows b ≡ rows a)
+          → IfOk r (λ _. StaysWithin rows writes OnlyRecords a b)
+      kept (Ok x) same = within_same rows writes a b same read.unwritten
+      kept (Err e) same = tt
+
+  -- a call that writes, with what it made of the rows and the cause of its fault; and this many
+  -- writes suffice
+  pub of_change : {count : ℕ} {X : Type 0} {a b : S} {r : Result X KeepFault}
+      {Suffices : Rows → Rows → ℕ → Type 0} {Blames : Rows → ℕ → Type 0}
+      {Becomes : Rows → X → Rows → Type 0}
+      → IsWriteOf rows failures writes Follows IsTrusted count a b r Blames Becomes
+      → ((old : Rows) (x : X) (new : Rows) (more : ℕ) → Becomes old x new
+      → Suffices (unrecorded old) (unrecorded new) more
+      → count + length old.read.audits ≤ length new.read.audits + more)
+      → IsDone rows failures writes Follows IsTrusted (λ _. UpTo Suffices) a b r Blames Becomes
+  of_change {count = count} {X = X} {a = a} {b = b} {r = r} {Suffices = Suffices}
+      {Becomes = Becomes} write suffices =
+      record {
+        follows = write.follows;
+        becomes = write.becomes;
+        few = λ t. kept r write.written (write.becomes t);
+        fault = write.fault;
+      }
+    where
+      kept : (r : Result X KeepFault) → writes b ≡ writes_after count r (writes a)
+          → IfOk r (λ x. Becomes (rows a) x (rows b))
+          → IfOk r (λ _. StaysWithin rows writes (UpTo Suffices) a b)
+      kept (Ok x) written becomes =
+          λ more enough. written_up_to (writes a) (writes b) count (length (rows a).read.audits)
+          (length (rows b).read.audits) more written
+          (suffices (rows a) x (rows b) more becomes enough)
+      kept (Err e) written becomes = tt
+
+  -- the same, and nothing is said of how much is written
+  pub of_write : {count : ℕ} {X : Type 0} {a b : S} {r : Result X KeepFault}
       {Blames : Rows → ℕ → Type 0} {Becomes : Rows → X → Rows → Type 0}
       → IsWriteOf rows failures writes Follows IsTrusted count a b r Blames Becomes
-      → IsDone rows failures Follows IsTrusted a b r Blames Becomes
-  of_write write = record { follows = write.follows; becomes = write.becomes; fault = write.fault }
+      → IsDone rows failures writes Follows IsTrusted (λ _. UpTo Unsaid) a b r Blames Becomes
+  of_write write = of_change write (λ old x new more becomes never. absurd never)
 
   -- a weaker statement about them
-  pub as_well : {X : Type 0} {a b : S} {r : Result X KeepFault} {Blames Blames' : Rows → ℕ → Type 0}
-      {Becomes Becomes' : Rows → X → Rows → Type 0}
-      → IsDone rows failures Follows IsTrusted a b r Blames Becomes
+  pub as_well : {X : Type 0} {extent : X → Extent} {a b : S} {r : Result X KeepFault}
+      {Blames Blames' : Rows → ℕ → Type 0} {Becomes Becomes' : Rows → X → Rows → Type 0}
+      → IsDone rows failures writes Follows IsTrusted extent a b r Blames Becomes
       → ((old : Rows) (row : ℕ) → Blames old row → Blames' old row)
       → ((old : Rows) (x : X) (new : Rows) → Becomes old x new → Becomes' old x new)
-      → IsDone rows failures Follows IsTrusted a b r Blames' Becomes'
+      → IsDone rows failures writes Follows IsTrusted extent a b r Blames' Becomes'
   as_well {X = X} {a = a} {b = b} {r = r} {Blames = Blames} {Blames' = Blames'} {Becomes = Becomes}
       {Becomes' = Becomes'} call blames joins =
       record {
         follows = call.follows;
         becomes = λ t. joined r (call.becomes t);
+        few = call.few;
         fault = cause r call.fault;
       }
     where
@@ -77,86 +118,113 @@ module _ {S : Type 0} {rows : S → Rows} {failures : S → ℕ}
       cause (Err e) h = blamed e h
 
   -- calls that answered, as part of others
-  pub done : {X : Type 0} {a b : S} {x : X} {Blames : Rows → ℕ → Type 0}
+  pub done : {X : Type 0} {extent : X → Extent} {a b : S} {x : X} {Blames : Rows → ℕ → Type 0}
       {Becomes : Rows → X → Rows → Type 0}
-      → IsDone rows failures Follows IsTrusted a b (Ok x) Blames Becomes
-      → HasDone rows Follows IsTrusted a b (λ old new. Becomes old x new)
-  done call = record { follows = call.follows; becomes = call.becomes }
+      → IsDone rows failures writes Follows IsTrusted extent a b (Ok x) Blames Becomes
+      → HasDone rows writes Follows IsTrusted (extent x) a b (λ old new. Becomes old x new)
+  done call = record { follows = call.follows; becomes = call.becomes; few = call.few }
 
-  module _ {writes : S → ℕ} (laws : KeepLaws rows failures writes Follows IsTrusted) where
+  module _ (laws : KeepLaws rows failures writes Follows IsTrusted) where
     -- before the first call the rows are as they were
-    pub none_done : (a : S) → HasDone rows Follows IsTrusted a a (λ old new. new ≡ old)
-    none_done a = record { follows = laws.itself a; becomes = λ t. refl }
+    pub none_done : (a : S)
+        → HasDone rows writes Follows IsTrusted OnlyRecords a a (λ old new. new ≡ old)
+    none_done a =
+        record {
+          follows = laws.itself a;
+          becomes = λ t. refl;
+          few = λ t. within_same rows writes a a refl refl;
+        }
 
-    -- calls that answered and more that did are one run, with what both made of the rows joined
-    pub then : {a b c : S} {Before After Becomes : Rows → Rows → Type 0}
-        → HasDone rows Follows IsTrusted a b Before → HasDone rows Follows IsTrusted b c After
+    -- calls that answered and more that did are one run, with what both made of the rows joined;
+    -- the first ones write only records
+    pub then : {extent : Extent} {a b c : S} {Before After Becomes : Rows → Rows → Type 0}
+        → HasDone rows writes Follows IsTrusted OnlyRecords a b Before
+        → HasDone rows writes Follows IsTrusted extent b c After
         → ((old mid new : Rows) → Before old mid → After mid new → Becomes old new)
-        → HasDone rows Follows IsTrusted a c Becomes
+        → HasDone rows writes Follows IsTrusted extent a c Becomes
     then {a = a} {b = b} {c = c} before after joins = record {
       follows = laws.on a b c before.follows after.follows;
       becomes =
           λ t. joins (rows a) (rows b) (rows c)
           (before.becomes (laws.first a b c before.follows after.follows t))
           (after.becomes (laws.last a b c before.follows after.follows t));
+      few =
+          λ t. within_after rows writes _ a b c
+          (before.few (laws.first a b c before.follows after.follows t))
+          (after.few (laws.last a b c before.follows after.follows t));
     }
 
     -- the same for rows with their numbers in order
-    pub then_known : {a b c : S} {Before After Becomes : Rows → Rows → Type 0}
-        → HasDone rows Follows IsTrusted a b Before → HasDone rows Follows IsTrusted b c After
+    pub then_known : {extent : Extent} {a b c : S} {Before After Becomes : Rows → Rows → Type 0}
+        → HasDone rows writes Follows IsTrusted OnlyRecords a b Before
+        → HasDone rows writes Follows IsTrusted extent b c After
         → ((old mid new : Rows) → AreRows old → Before old mid → After mid new → Becomes old new)
-        → HasDone rows Follows IsTrusted a c Becomes
+        → HasDone rows writes Follows IsTrusted extent a c Becomes
     then_known {a = a} {b = b} {c = c} before after joins = record {
       follows = laws.on a b c before.follows after.follows;
       becomes =
           λ t. joins (rows a) (rows b) (rows c) (laws.are a c t)
           (before.becomes (laws.first a b c before.follows after.follows t))
           (after.becomes (laws.last a b c before.follows after.follows t));
+      few =
+          λ t. within_after rows writes _ a b c
+          (before.few (laws.first a b c before.follows after.follows t))
+          (after.few (laws.last a b c before.follows after.follows t));
     }
 
     -- what was found shows a row to be damaged
-    pub damaged : {Y : Type 0} {a c : S} {id : ℕ} {Before : Rows → Rows → Type 0}
-        {Blames : Rows → ℕ → Type 0} {Becomes : Rows → Y → Rows → Type 0}
-        → HasDone rows Follows IsTrusted a c Before
+    pub damaged : {Y : Type 0} {first : Extent} {extent : Y → Extent} {a c : S} {id : ℕ}
+        {Before : Rows → Rows → Type 0} {Blames : Rows → ℕ → Type 0}
+        {Becomes : Rows → Y → Rows → Type 0}
+        → HasDone rows writes Follows IsTrusted first a c Before
         → ((old new : Rows) → AreRows old → Before old new → Blames old id)
-        → IsDone rows failures Follows IsTrusted {X = Y} a c (Err (Damaged id)) Blames Becomes
+        → IsDone rows failures writes Follows IsTrusted {X = Y} extent a c (Err (Damaged id)) Blames
+        Becomes
     damaged {a = a} {c = c} before blames =
         record {
           follows = before.follows;
           becomes = λ t. tt;
+          few = λ t. tt;
           fault = λ t. blames (rows a) (rows c) (laws.are a c t) (before.becomes t);
         }
 
-    -- all have answered
-    pub finish : {X : Type 0} {a c : S} (x : X) {Before : Rows → Rows → Type 0}
+    -- all have answered, and written only records
+    pub finish : {X : Type 0} {extent : X → Extent} {a c : S} (x : X)
+        {Before : Rows → Rows → Type 0}
         {Blames : Rows → ℕ → Type 0} {Becomes : Rows → X → Rows → Type 0}
-        → HasDone rows Follows IsTrusted a c Before
+        → HasDone rows writes Follows IsTrusted OnlyRecords a c Before
         → ((old new : Rows) → AreRows old → Before old new → Becomes old x new)
-        → IsDone rows failures Follows IsTrusted a c (Ok x) Blames Becomes
-    finish {a = a} {c = c} x before joins =
+        → IsDone rows failures writes Follows IsTrusted extent a c (Ok x) Blames Becomes
+    finish {extent = extent} {a = a} {c = c} x before joins =
         record {
           follows = before.follows;
           becomes = λ t. joins (rows a) (rows c) (laws.are a c t) (before.becomes t);
+          few = λ t. within_any rows writes (extent x) a c (before.few t);
           fault = tt;
         }
 
     -- the last call gives the answer, or the fault
-    pub tail : {X : Type 0} {a b c : S} {r : Result X KeepFault} {Before : Rows → Rows → Type 0}
-        {Blames Blames' : Rows → ℕ → Type 0} {After Becomes : Rows → X → Rows → Type 0}
-        → HasDone rows Follows IsTrusted a b Before
-        → IsDone rows failures Follows IsTrusted b c r Blames After
+    pub tail : {X : Type 0} {extent : X → Extent} {a b c : S} {r : Result X KeepFault}
+        {Before : Rows → Rows → Type 0} {Blames Blames' : Rows → ℕ → Type 0}
+        {After Becomes : Rows → X → Rows → Type 0}
+        → HasDone rows writes Follows IsTrusted OnlyRecords a b Before
+        → IsDone rows failures writes Follows IsTrusted extent b c r Blames After
         → ((old mid : Rows) (row : ℕ) → Before old mid → Blames mid row → Blames' old row)
         → ((old mid : Rows) (x : X) (new : Rows) → Before old mid → After mid x new
         → Becomes old x new)
-        → IsDone rows failures Follows IsTrusted a c r Blames' Becomes
-    tail {X = X} {a = a} {b = b} {c = c} {r = r} {Blames = Blames} {Blames' = Blames'}
-        {After = After} {Becomes = Becomes} before after blames joins =
+        → IsDone rows failures writes Follows IsTrusted extent a c r Blames' Becomes
+    tail {X = X} {extent = extent} {a = a} {b = b} {c = c} {r = r} {Blames = Blames}
+        {Blames' = Blames'} {After = After} {Becomes = Becomes} before after blames joins =
         record {
           follows = laws.on a b c before.follows after.follows;
           becomes =
               λ t. joined r (λ x. joins (rows a) (rows b) x (rows c)
               (before.becomes (laws.first a b c before.follows after.follows t)))
               (after.becomes (laws.last a b c before.follows after.follows t));
+          few =
+              λ t. within_later rows writes extent a b c r
+              (before.few (laws.first a b c before.follows after.follows t))
+              (after.few (laws.last a b c before.follows after.follows t));
           fault = cause r after.fault;
         }
       where
@@ -180,23 +248,27 @@ module _ {S : Type 0} {rows : S → Rows} {failures : S → ℕ}
             (damaged (laws.last a b c before.follows after.follows t))) h
 
     -- the same for rows with their numbers in order
-    pub tail_known : {X : Type 0} {a b c : S} {r : Result X KeepFault}
+    pub tail_known : {X : Type 0} {extent : X → Extent} {a b c : S} {r : Result X KeepFault}
         {Before : Rows → Rows → Type 0} {Blames Blames' : Rows → ℕ → Type 0}
         {After Becomes : Rows → X → Rows → Type 0}
-        → HasDone rows Follows IsTrusted a b Before
-        → IsDone rows failures Follows IsTrusted b c r Blames After
+        → HasDone rows writes Follows IsTrusted OnlyRecords a b Before
+        → IsDone rows failures writes Follows IsTrusted extent b c r Blames After
         → ((old mid : Rows) (row : ℕ) → AreRows old → Before old mid → Blames mid row
         → Blames' old row) → ((old mid : Rows) (x : X) (new : Rows) → AreRows old → Before old mid
         → After mid x new → Becomes old x new)
-        → IsDone rows failures Follows IsTrusted a c r Blames' Becomes
-    tail_known {X = X} {a = a} {b = b} {c = c} {r = r} {Blames = Blames} {Blames' = Blames'}
-        {After = After} {Becomes = Becomes} before after blames joins =
+        → IsDone rows failures writes Follows IsTrusted extent a c r Blames' Becomes
+    tail_known {X = X} {extent = extent} {a = a} {b = b} {c = c} {r = r} {Blames = Blames}
+        {Blames' = Blames'} {After = After} {Becomes = Becomes} before after blames joins =
         record {
           follows = laws.on a b c before.follows after.follows;
           becomes =
               λ t. joined r (λ x. joins (rows a) (rows b) x (rows c) (laws.are a c t)
               (before.becomes (laws.first a b c before.follows after.follows t)))
               (after.becomes (laws.last a b c before.follows after.follows t));
+          few =
+              λ t. within_later rows writes extent a b c r
+              (before.few (laws.first a b c before.follows after.follows t))
+              (after.few (laws.last a b c before.follows after.follows t));
           fault = cause r after.fault;
         }
       where
@@ -220,20 +292,22 @@ module _ {S : Type 0} {rows : S → Rows} {failures : S → ℕ}
             (damaged (laws.last a b c before.follows after.follows t))) h
 
     -- a call has a fault, which is handed on
-    pub fails : {X Y : Type 0} {a b c : S} {e : KeepFault} {Before : Rows → Rows → Type 0}
-        {Blames Blames' : Rows → ℕ → Type 0} {After : Rows → X → Rows → Type 0}
-        {Becomes : Rows → Y → Rows → Type 0}
-        → HasDone rows Follows IsTrusted a b Before
-        → IsDone rows failures Follows IsTrusted {X = X} b c (Err e) Blames After
+    pub fails : {X Y : Type 0} {first : Extent} {last : X → Extent} {extent : Y → Extent}
+        {a b c : S} {e : KeepFault}
+        {Before : Rows → Rows → Type 0} {Blames Blames' : Rows → ℕ → Type 0}
+        {After : Rows → X → Rows → Type 0} {Becomes : Rows → Y → Rows → Type 0}
+        → HasDone rows writes Follows IsTrusted first a b Before
+        → IsDone rows failures writes Follows IsTrusted {X = X} last b c (Err e) Blames After
         → ((old mid : Rows) (row : ℕ) → Before old mid → Blames mid row → Blames' old row)
         → (r : Result Y KeepFault) → IsErrAnd r (λ x. x ≡ e)
-        → IsDone rows failures Follows IsTrusted a c r Blames' Becomes
+        → IsDone rows failures writes Follows IsTrusted extent a c r Blames' Becomes
     fails before after blames (Ok y) is = absurd is
     fails {a = a} {b = b} {c = c} {e = e} {Blames = Blames} {Blames' = Blames'} before after blames
         (Err f) is =
         record {
           follows = laws.on a b c before.follows after.follows;
           becomes = λ t. tt;
+          few = λ t. tt;
           fault =
               subst (HasCause (failures a) (failures c)
               (λ row. IsTrusted a c → Blames' (rows a) row))
@@ -247,14 +321,17 @@ module _ {S : Type 0} {rows : S → Rows} {failures : S → ℕ}
         }
 
     -- memory ran out after them
-    pub memory : {Y : Type 0} {a b : S} {Before : Rows → Rows → Type 0} {Blames : Rows → ℕ → Type 0}
-        {Becomes : Rows → Y → Rows → Type 0}
-        → HasDone rows Follows IsTrusted a b Before → (r : Result Y KeepFault)
-        → IsErrAnd r (λ x. x ≡ Memory) → IsDone rows failures Follows IsTrusted a b r Blames Becomes
+    pub memory : {Y : Type 0} {first : Extent} {extent : Y → Extent} {a b : S}
+        {Before : Rows → Rows → Type 0}
+        {Blames : Rows → ℕ → Type 0} {Becomes : Rows → Y → Rows → Type 0}
+        → HasDone rows writes Follows IsTrusted first a b Before → (r : Result Y KeepFault)
+        → IsErrAnd r (λ x. x ≡ Memory)
+        → IsDone rows failures writes Follows IsTrusted extent a b r Blames Becomes
     memory before (Ok y) is = absurd is
     memory {a = a} {b = b} {Blames = Blames} before (Err f) is = record {
       follows = before.follows;
       becomes = λ t. tt;
+      few = λ t. tt;
       fault =
           subst (HasCause (failures a) (failures b) (λ at. IsTrusted a b → Blames (rows a) at))
           (sym is) tt;

@@ -6,6 +6,7 @@ use Rattle.room_rows.specs.declared.keep.KeepFault.TheVariants.{Memory}
 use Rattle.room_rows.specs.Keep.{KeepLaws}
 use Rattle.room_rows.specs.Rows.{AreRows, Rows}
 use Rattle.room_machine.specs.declared.reply.Reply.{Reply}
+use Rattle.room_judge.specs.Extent.{Extent, OnlyRecords}
 use Rattle.room_judge.specs.Judged.{IsDone}
 use Rattle.room_judge.proofs.Calls.{HasDone, done, fails, finish, memory, none_done, then}
 use Rattle.room_judge.specs.declared.halt.Halt.{Halt}
@@ -16,34 +17,47 @@ module _ {S : Type 0} {rows : S → Rows} {failures writes : S → ℕ}
     {Follows IsTrusted : S → S → Type 0}
     (laws : KeepLaws rows failures writes Follows IsTrusted) where
   -- numbers are in order
-  known : {a b : S} {Before : Rows → Rows → Type 0} → HasDone rows Follows IsTrusted a b Before
-      → HasDone rows Follows IsTrusted a b (λ old new. AreRows old × Before old new)
+  known : {extent : Extent} {a b : S} {Before : Rows → Rows → Type 0}
+      → HasDone rows writes Follows IsTrusted extent a b Before
+      → HasDone rows writes Follows IsTrusted extent a b (λ old new. AreRows old × Before old new)
   known {a = a} {b = b} before =
-      record { follows = before.follows; becomes = λ t. (laws.are a b t, before.becomes t) }
+      record {
+        follows = before.follows;
+        becomes = λ t. (laws.are a b t, before.becomes t);
+        few = before.few;
+      }
 
   -- a call is refused or has a fault, which is handed on
-  pub halts : {X Y : Type 0} {a b c : S} (e : Halt) {Before : Rows → Rows → Type 0}
-      {Blames Blames' : Rows → ℕ → Type 0} {After : Rows → Result X Reply → Rows → Type 0}
+  pub halts : {X Y : Type 0} {extent : Result Y Reply → Extent} {a b c : S} (e : Halt)
+      {Before : Rows → Rows → Type 0} {Blames Blames' : Rows → ℕ → Type 0}
+      {After : Rows → Result X Reply → Rows → Type 0}
       {Becomes : Rows → Result Y Reply → Rows → Type 0}
-      → HasDone rows Follows IsTrusted a b Before
-      → IsDone rows failures Follows IsTrusted b c (settled {X = X} (Err e)) Blames After
+      → HasDone rows writes Follows IsTrusted OnlyRecords a b Before
+      → IsDone rows failures writes Follows IsTrusted (λ _. OnlyRecords) b c
+      (settled {X = X} (Err e))
+      Blames After
       → ((old mid : Rows) (row : ℕ) → AreRows old → Before old mid → Blames mid row
       → Blames' old row)
       → ((old mid new : Rows) (reply : Reply) → AreRows old → Before old mid
       → After mid (Err reply) new → Becomes old (Err reply) new)
       → (r : Result Y Halt) → IsErrAnd r (λ x. x ≡ e)
-      → IsDone rows failures Follows IsTrusted a c (settled r) Blames' Becomes
+      → IsDone rows failures writes Follows IsTrusted extent a c (settled r) Blames' Becomes
   halts e before after blames refuses (Ok y) is = absurd is
-  halts {X = X} {Y = Y} {a = a} {b = b} {c = c} e {Before = Before} {Blames = Blames}
+  halts {X = X} {Y = Y} {extent = extent} {a = a} {b = b} {c = c} e {Before = Before}
+      {Blames = Blames}
       {Blames' = Blames'} {After = After} {Becomes = Becomes} before after blames refuses (Err f)
       is =
       subst
-      (λ h. IsDone rows failures Follows IsTrusted a c (settled {X = Y} (Err h)) Blames' Becomes)
+      (λ h. IsDone rows failures writes Follows IsTrusted extent a c (settled {X = Y} (Err h))
+      Blames' Becomes)
       (sym is) (on e after)
     where
       on : (h : Halt)
-          → IsDone rows failures Follows IsTrusted b c (settled {X = X} (Err h)) Blames After
-          → IsDone rows failures Follows IsTrusted a c (settled {X = Y} (Err h)) Blames' Becomes
+          → IsDone rows failures writes Follows IsTrusted (λ _. OnlyRecords) b c
+          (settled {X = X} (Err h))
+          Blames After
+          → IsDone rows failures writes Follows IsTrusted extent a c (settled {X = Y} (Err h))
+          Blames' Becomes
       on (Refused reply) after =
           finish laws (Err reply) (then laws (known before) (done after)
           (λ old mid new b a. refuses old mid new reply b.0 b.1 a)) (λ old new are h. h)
@@ -53,15 +67,17 @@ module _ {S : Type 0} {rows : S → Rows} {failures writes : S → ℕ}
           refl
 
   -- the same at the first call
-  pub halts_first : {X Y : Type 0} {a c : S} (e : Halt)
+  pub halts_first : {X Y : Type 0} {extent : Result Y Reply → Extent} {a c : S} (e : Halt)
       {Blames Blames' : Rows → ℕ → Type 0} {After : Rows → Result X Reply → Rows → Type 0}
       {Becomes : Rows → Result Y Reply → Rows → Type 0}
-      → IsDone rows failures Follows IsTrusted a c (settled {X = X} (Err e)) Blames After
+      → IsDone rows failures writes Follows IsTrusted (λ _. OnlyRecords) a c
+      (settled {X = X} (Err e))
+      Blames After
       → ((old : Rows) (row : ℕ) → Blames old row → Blames' old row)
       → ((old new : Rows) (reply : Reply) → AreRows old → After old (Err reply) new
       → Becomes old (Err reply) new)
       → (r : Result Y Halt) → IsErrAnd r (λ x. x ≡ e)
-      → IsDone rows failures Follows IsTrusted a c (settled r) Blames' Becomes
+      → IsDone rows failures writes Follows IsTrusted extent a c (settled r) Blames' Becomes
   halts_first {a = a} e {Blames = Blames} {After = After} after blames refuses r is =
       halts e (none_done laws a) after
       (λ old mid row are same h. blames old row (subst (λ (o : Rows). Blames o row) same h))
@@ -69,31 +85,37 @@ module _ {S : Type 0} {rows : S → Rows} {failures writes : S → ℕ}
       refuses old new reply are (subst (λ (o : Rows). After o (Err reply) new) same h)) r is
 
   -- a call of a keeper has a fault, which is handed on
-  pub faults : {X Y : Type 0} {a b c : S} {e : KeepFault} {Before : Rows → Rows → Type 0}
+  pub faults : {X Y : Type 0} {first : Extent} {last : X → Extent}
+      {extent : Result Y Reply → Extent} {a b c : S} {e : KeepFault}
+      {Before : Rows → Rows → Type 0}
       {Blames Blames' : Rows → ℕ → Type 0} {After : Rows → X → Rows → Type 0}
       {Becomes : Rows → Result Y Reply → Rows → Type 0}
-      → HasDone rows Follows IsTrusted a b Before
-      → IsDone rows failures Follows IsTrusted {X = X} b c (Err e) Blames After
+      → HasDone rows writes Follows IsTrusted first a b Before
+      → IsDone rows failures writes Follows IsTrusted {X = X} last b c (Err e) Blames After
       → ((old mid : Rows) (row : ℕ) → AreRows old → Before old mid → Blames mid row
       → Blames' old row)
       → (r : Result Y Halt) → IsErrAnd r (λ x. x ≡ Fault e)
-      → IsDone rows failures Follows IsTrusted a c (settled r) Blames' Becomes
+      → IsDone rows failures writes Follows IsTrusted extent a c (settled r) Blames' Becomes
   faults before after blames (Ok y) is = absurd is
-  faults {Y = Y} {a = a} {c = c} {e = e} {Blames' = Blames'} {Becomes = Becomes} before after
+  faults {Y = Y} {extent = extent} {a = a} {c = c} {e = e} {Blames' = Blames'} {Becomes = Becomes}
+      before after
       blames (Err f) is =
       subst
-      (λ h. IsDone rows failures Follows IsTrusted a c (settled {X = Y} (Err h)) Blames' Becomes)
+      (λ h. IsDone rows failures writes Follows IsTrusted extent a c (settled {X = Y} (Err h))
+      Blames' Becomes)
       (sym is)
       (fails laws (known before) after
       (λ old mid row b h. blames old mid row b.0 b.1 h) (Err e) refl)
 
   -- the calls end with this refusal, or memory ran out as it was made
-  pub refused_as : {Y : Type 0} {a b : S} {Before : Rows → Rows → Type 0}
+  pub refused_as : {Y : Type 0} {extent : Result Y Reply → Extent} {a b : S}
+      {Before : Rows → Rows → Type 0}
       {Blames : Rows → ℕ → Type 0} {Becomes : Rows → Result Y Reply → Rows → Type 0}
-      → HasDone rows Follows IsTrusted a b Before → (h : Halt) (wanted : Reply)
+      → HasDone rows writes Follows IsTrusted OnlyRecords a b Before → (h : Halt) (wanted : Reply)
       → Refuses h (Some wanted)
       → ((old new : Rows) → AreRows old → Before old new → Becomes old (Err wanted) new)
-      → IsDone rows failures Follows IsTrusted a b (settled {X = Y} (Err h)) Blames Becomes
+      → IsDone rows failures writes Follows IsTrusted extent a b (settled {X = Y} (Err h)) Blames
+      Becomes
   refused_as {Becomes = Becomes} before (Refused reply) wanted is becomes =
       let same : wanted ≡ reply = cc in
       finish laws (Err reply) before (λ old new are b.
@@ -101,23 +123,28 @@ module _ {S : Type 0} {rows : S → Rows} {failures writes : S → ℕ}
   refused_as before (Fault fault) wanted is becomes = memory laws before (Err fault) is
 
   -- memory ran out after them
-  pub memory_out : {Y : Type 0} {a b : S} {Before : Rows → Rows → Type 0}
+  pub memory_out : {Y : Type 0} {first : Extent} {extent : Result Y Reply → Extent} {a b : S}
+      {Before : Rows → Rows → Type 0}
       {Blames : Rows → ℕ → Type 0} {Becomes : Rows → Result Y Reply → Rows → Type 0}
-      → HasDone rows Follows IsTrusted a b Before → (r : Result Y Halt)
+      → HasDone rows writes Follows IsTrusted first a b Before → (r : Result Y Halt)
       → IsErrAnd r (λ x. x ≡ Fault Memory)
-      → IsDone rows failures Follows IsTrusted a b (settled r) Blames Becomes
+      → IsDone rows failures writes Follows IsTrusted extent a b (settled r) Blames Becomes
   memory_out before (Ok y) is = absurd is
-  memory_out {Y = Y} {a = a} {b = b} {Blames = Blames} {Becomes = Becomes} before (Err f) is =
+  memory_out {Y = Y} {extent = extent} {a = a} {b = b} {Blames = Blames} {Becomes = Becomes} before
+      (Err f) is =
       subst
-      (λ h. IsDone rows failures Follows IsTrusted a b (settled {X = Y} (Err h)) Blames Becomes)
+      (λ h. IsDone rows failures writes Follows IsTrusted extent a b (settled {X = Y} (Err h))
+      Blames Becomes)
       (sym is) (memory laws before (Err Memory) refl)
 
   -- the calls end with this outcome, or memory ran out as it was made
-  pub comes_to : {X : Type 0} {a b : S} {Before : Rows → Rows → Type 0}
+  pub comes_to : {X : Type 0} {extent : Result X Reply → Extent} {a b : S}
+      {Before : Rows → Rows → Type 0}
       {Blames : Rows → ℕ → Type 0} {Becomes : Rows → Result X Reply → Rows → Type 0}
-      → HasDone rows Follows IsTrusted a b Before → (r : Result X Halt) (wanted : Result X Reply)
+      → HasDone rows writes Follows IsTrusted OnlyRecords a b Before → (r : Result X Halt)
+      (wanted : Result X Reply)
       → Comes r wanted → ((old new : Rows) → AreRows old → Before old new → Becomes old wanted new)
-      → IsDone rows failures Follows IsTrusted a b (settled r) Blames Becomes
+      → IsDone rows failures writes Follows IsTrusted extent a b (settled r) Blames Becomes
   comes_to {X = X} {Becomes = Becomes} before (Ok x) wanted is becomes =
       finish laws (Ok x) before (λ old new are b.
       subst (λ (o : Result X Reply). Becomes old o new) (sym is) (becomes old new are b))
@@ -127,23 +154,28 @@ module _ {S : Type 0} {rows : S → Rows} {failures writes : S → ℕ}
   comes_to before (Err (Fault fault)) wanted is becomes = memory laws before (Err fault) is
 
   -- a refusal is a reply
-  pub replies : {a b : S} (outcome : Result Reply Halt) {Blames : Rows → ℕ → Type 0}
+  pub replies : {extent : Reply → Extent} {a b : S} (outcome : Result Reply Halt)
+      {Blames : Rows → ℕ → Type 0}
       {Becomes : Rows → Reply → Rows → Type 0}
-      → IsDone rows failures Follows IsTrusted a b (settled outcome) Blames
+      → IsDone rows failures writes Follows IsTrusted (λ out. extent (replied out)) a b
+      (settled outcome) Blames
       (λ old out new. Becomes old (replied out) new)
       → (r : Result Reply KeepFault) → r ≡ reply_of outcome
-      → IsDone rows failures Follows IsTrusted a b r Blames Becomes
-  replies {a = a} {b = b} outcome {Blames = Blames} {Becomes = Becomes} done r is =
-      subst (λ x. IsDone rows failures Follows IsTrusted a b x Blames Becomes) (sym is)
+      → IsDone rows failures writes Follows IsTrusted extent a b r Blames Becomes
+  replies {extent = extent} {a = a} {b = b} outcome {Blames = Blames} {Becomes = Becomes} done r
+      is =
+      subst (λ x. IsDone rows failures writes Follows IsTrusted extent a b x Blames Becomes)
+      (sym is)
       (on outcome done)
     where
       on : (o : Result Reply Halt)
-          → IsDone rows failures Follows IsTrusted a b (settled o) Blames
+          → IsDone rows failures writes Follows IsTrusted (λ out. extent (replied out)) a b
+          (settled o) Blames
           (λ old out new. Becomes old (replied out) new)
-          → IsDone rows failures Follows IsTrusted a b (reply_of o) Blames Becomes
+          → IsDone rows failures writes Follows IsTrusted extent a b (reply_of o) Blames Becomes
       on (Ok reply) done =
-          record { follows = done.follows; becomes = done.becomes; fault = tt }
+          record { follows = done.follows; becomes = done.becomes; few = done.few; fault = tt }
       on (Err (Refused reply)) done =
-          record { follows = done.follows; becomes = done.becomes; fault = tt }
+          record { follows = done.follows; becomes = done.becomes; few = done.few; fault = tt }
       on (Err (Fault fault)) done =
-          record { follows = done.follows; becomes = λ _. tt; fault = done.fault }
+          record { follows = done.follows; becomes = λ _. tt; few = λ _. tt; fault = done.fault }

@@ -1,4 +1,6 @@
+pub mod Within
 pub mod Calls
+pub mod UpTo
 pub mod Judging
 pub mod Noting
 pub mod Ways

@@ -1,6 +1,7 @@
 -- The records of a check, noted one after the other.
 use Rattle.std.proofs.Common.{◌≡◌, ℕ, zero, suc, ◌<◌, ◌≤◌, ◌+◌, Bool, true, false, cond, List, []}
 use Rattle.std.proofs.Common.{◌∷◌, ◌++◌, map, length, take, get_or, sym, ap, subst, ◌∙◌, arith}
+use Rattle.std.proofs.Common.{Result, Ok, Err, IfOk, length-append}
 use Rattle.std.proofs.lemmas.List.{take_more, map-append}
 use Rattle.std.proofs.Math.Seq.{take-length}
 use Rattle.room_entry.specs.Ace.{Ace}
@@ -8,13 +9,17 @@ use Rattle.room_entry.specs.declared.object.Which.TheVariants.{Sacl}
 use Rattle.room_entry.specs.declared.parties.Caller.{Caller}
 use Rattle.room_entry.specs.declared.parties.Owners.{Owners}
 use Rattle.room_eval.specs.Events.{events_from, events_of, is_event_of}
+use Rattle.room_rows.specs.declared.keep.KeepFault.{KeepFault}
 use Rattle.room_rows.specs.declared.node.AuditRow.{AuditRow}
+use Rattle.room_rows.specs.Keep.{IsWriteOf, Leaves, Notes as Noted, writes_after}
 use Rattle.room_rows.specs.Rows.{Rows}
 use Rattle.room_judge.specs.declared.asker.Asker.{Asker}
 use Rattle.room_machine.specs.Site.{Site, full_at}
 use Rattle.room_machine.specs.Judge.{record_at, records_of}
-use Rattle.room_judge.specs.Judged.{with_notes}
+use Rattle.room_judge.specs.Extent.{OnlyRecords, StaysWithin, unrecorded}
+use Rattle.room_judge.specs.Judged.{IsDone, with_notes}
 use Rattle.room_judge.proofs.Judging.{noted_none, noted_more}
+use Rattle.room_judge.proofs.Within.{written_up_to}
 
 -- ---- places count from 1
 
@@ -60,16 +65,24 @@ pub notes_none : (asker : Asker) (granted : Bool) (site : Site) (bits : List ℕ
     (old now : Rows) → now ≡ old → Notes asker granted site bits (take 0 places) old now
 notes_none asker granted site bits places old now same = same ∙ sym (noted_none old)
 
+-- its place is one from 1 on
+pub note_placed : (asker : Asker) (granted : Bool) (site : Site) (bits : List ℕ) (places : List ℕ)
+    (i : ℕ) (row : AuditRow) → i < length places
+    → row ≡ record_for asker granted site bits (get_or places i 0)
+    → places ≡ events_of (full_at Sacl site) asker.caller site.node.owners bits granted
+    → 0 < row.place
+note_placed asker granted site bits places i row below is are =
+    subst (λ (r : AuditRow). 0 < r.place) (sym is)
+    (from_one (full_at Sacl site) asker.caller site.node.owners bits granted places i are below)
+
 pub notes_one : (asker : Asker) (granted : Bool) (site : Site) (bits : List ℕ) (places : List ℕ)
     (i : ℕ) (row : AuditRow) (old now next : Rows) → i < length places
     → row ≡ record_for asker granted site bits (get_or places i 0)
-    → places ≡ events_of (full_at Sacl site) asker.caller site.node.owners bits granted
     → Notes asker granted site bits (take i places) old now
-    → (0 < row.place → next ≡ with_notes now (row ∷ []))
+    → next ≡ with_notes now (row ∷ [])
     → Notes asker granted site bits (take (i + 1) places) old next
-notes_one asker granted site bits places i row old now next below is are sofar more =
-    more (subst (λ (r : AuditRow). 0 < r.place) (sym is)
-    (from_one (full_at Sacl site) asker.caller site.node.owners bits granted places i are below))
+notes_one asker granted site bits places i row old now next below is sofar more =
+    more
     ∙ ap (λ r. with_notes r (row ∷ [])) sofar
     ∙ noted_more old (map (record_for asker granted site bits) (take i places)) (row ∷ [])
     ∙ ap (λ r. with_notes old
@@ -86,3 +99,40 @@ pub notes_all : (asker : Asker) (granted : Bool) (site : Site) (bits : List ℕ)
 notes_all asker granted site bits places i old now full are all =
     all ∙ ap (λ l. with_notes old (map (record_for asker granted site bits) l))
     (ap (λ (n : ℕ). take n places) full ∙ take-length places ∙ are)
+
+-- ---- the call that notes one
+
+-- what a keeper writes to note a record is that record alone
+pub of_note : {S : Type 0} {rows : S → Rows} {failures writes : S → ℕ}
+    {Follows IsTrusted : S → S → Type 0} {a b : S} {r : Result (Unit {0}) KeepFault}
+    {Blames : Rows → ℕ → Type 0} (row : AuditRow) → 0 < row.place
+    → IsWriteOf rows failures writes Follows IsTrusted 1 a b r Blames (Leaves (Noted row))
+    → IsDone rows failures writes Follows IsTrusted (λ _. OnlyRecords) a b r Blames
+    (λ old _ new. new ≡ with_notes old (row ∷ []))
+of_note {S = S} {rows = rows} {failures = failures} {writes = writes} {a = a} {b = b} {r = r} row
+    placed write =
+    record {
+      follows = write.follows;
+      becomes = λ t. noted r (write.becomes t);
+      few = λ t. kept r write.written (noted r (write.becomes t));
+      fault = write.fault;
+    }
+  where
+    noted : (r : Result (Unit {0}) KeepFault)
+        → IfOk r (λ _. 0 < row.place → rows b ≡ with_notes (rows a) (row ∷ []))
+        → IfOk r (λ _. rows b ≡ with_notes (rows a) (row ∷ []))
+    noted (Ok x) is = is placed
+    noted (Err e) is = tt
+
+    kept : (r : Result (Unit {0}) KeepFault) → writes b ≡ writes_after 1 r (writes a)
+        → IfOk r (λ _. rows b ≡ with_notes (rows a) (row ∷ []))
+        → IfOk r (λ _. StaysWithin rows writes OnlyRecords a b)
+    kept (Ok x) written is =
+        let more : length (rows b).read.audits ≡ length (rows a).read.audits + 1 =
+        ap (λ (w : Rows). length w.read.audits) is ∙ length-append (rows a).read.audits (row ∷ [])
+        in (
+          ap unrecorded is,
+          written_up_to (writes a) (writes b) 1 (length (rows a).read.audits)
+              (length (rows b).read.audits) 0 written (omega arith),
+        )
+    kept (Err e) written is = tt

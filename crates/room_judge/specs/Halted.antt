@@ -9,6 +9,7 @@ use Rattle.room_machine.specs.declared.reply.Reply.{Reply}
 use Rattle.room_machine.specs.declared.reply.Reply.TheVariants.{Refused as RefusedWith}
 use Rattle.room_machine.specs.declared.reply.Reason.TheVariants.{NoSuch}
 use Rattle.room_machine.specs.declared.request.Request.{Request}
+use Rattle.room_machine.specs.Closed.{failure_told}
 use Rattle.room_machine.specs.Plan.{Item}
 use Rattle.room_judge.specs.declared.arrival.Both.{Both}
 use Rattle.room_judge.specs.declared.arrival.Found.{Found}
@@ -16,7 +17,8 @@ use Rattle.room_judge.specs.declared.asker.Asker.{Asker}
 use Rattle.room_judge.specs.declared.halt.Halt.{Halt}
 use Rattle.room_judge.specs.declared.halt.Halt.TheVariants.{Refused, Fault}
 use Rattle.room_judge.specs.Closed.{IsServed}
-use Rattle.room_judge.specs.Judged.{Does, IsJudged, refusal_of}
+use Rattle.room_judge.specs.Extent.{Extent, OnlyRecords, Unless}
+use Rattle.room_judge.specs.Judged.{DoesWithin, IsJudged, refusal_of}
 use Rattle.room_judge.specs.Spot.{pair_of}
 
 -- A refusal is an outcome, as an answer is. A fault isn't.
@@ -25,10 +27,36 @@ settled (Ok x) = Ok (Ok x)
 settled (Err (Refused reply)) = Ok (Err reply)
 settled (Err (Fault fault)) = Err fault
 
--- As `Does`, where calls may be refused: the relation says what each outcome leaves.
+-- a refusal is a reply
+abbrev pub replied : Result Reply Reply → Reply
+replied (Ok reply) = reply
+replied (Err reply) = reply
+
+-- unless the reply tells a denial or a refusal, so many writes suffice
+abbrev pub served_up_to : (Rows → Rows → ℕ → Type 0) → Reply → Extent
+served_up_to Suffices reply = Unless (failure_told reply) Suffices
+
+-- The same where calls may be refused: the relation says what each outcome leaves.
 module _ {S : Type 0} (k : Ghosts S) {X : Type 0} (old new : S) (result : Result X Halt) where
+  abbrev pub TriesWithin : (Result X Reply → Extent) → (Rows → ℕ → Type 0)
+      → (Rows → Result X Reply → Rows → Type 0) → Type 0
+  TriesWithin extent Blames Becomes = DoesWithin k old new (settled result) extent Blames Becomes
+
   abbrev pub Tries : (Rows → ℕ → Type 0) → (Rows → Result X Reply → Rows → Type 0) → Type 0
-  Tries Blames Becomes = Does k old new (settled result) Blames Becomes
+  Tries Blames Becomes = TriesWithin (λ outcome. OnlyRecords) Blames Becomes
+
+-- calls that end with a reply
+module _ {S : Type 0} (k : Ghosts S) (old new : S) where
+  abbrev pub TriesUpTo : Result Reply Halt → (Rows → Rows → ℕ → Type 0) → (Rows → ℕ → Type 0)
+      → (Rows → Result Reply Reply → Rows → Type 0) → Type 0
+  TriesUpTo result Suffices Blames Becomes =
+      TriesWithin k old new result (λ outcome. served_up_to Suffices (replied outcome)) Blames
+      Becomes
+
+  abbrev pub RepliesUpTo : Result Reply KeepFault → (Rows → Rows → ℕ → Type 0)
+      → (Rows → ℕ → Type 0) → (Rows → Reply → Rows → Type 0) → Type 0
+  RepliesUpTo result Suffices Blames Becomes =
+      DoesWithin k old new result (served_up_to Suffices) Blames Becomes
 
 -- The refusal is the reply for the first item that fails, and the records of the items up to it
 -- come after the others.
@@ -58,11 +86,6 @@ Comes (Err (Refused reply)) wanted = Err reply ≡ wanted
 Comes (Err (Fault fault)) wanted = fault ≡ Memory
 
 -- ---- a request
-
--- a refusal is a reply
-abbrev pub replied : Result Reply Reply → Reply
-replied (Ok reply) = reply
-replied (Err reply) = reply
 
 abbrev pub Serves : Asker → Request → Rows → Result Reply Reply → Rows → Type 0
 Serves asker request old outcome new = IsServed asker request old (replied outcome) new

@@ -33,26 +33,40 @@ use Rattle.room_machine.specs.Site.{Site, site_at}
 use Rattle.room_machine.specs.Plan.{Item, Check, Refusal, no_folder, no_document}
 use Rattle.room_machine.specs.Judge.{first_failure, records_of_plan}
 use Rattle.room_machine.specs.Stored.{stored_site, stored_along, to_stored}
+use Rattle.room_judge.specs.Extent.{Extent, OnlyRecords, UpTo, StaysWithin}
 use Rattle.room_judge.specs.Stored.{found_site}
 use Rattle.room_machine.specs.Step.{Step, caller_in, Reset}
 
 -- ---- several calls of a keeper
 
-module _ {S : Type 0} (rows : S → Rows) (failures : S → ℕ)
+module _ {S : Type 0} (rows : S → Rows) (failures writes : S → ℕ)
     (Follows IsTrusted : S → S → Type 0) where
-  -- As long as the keeper answers by its rows, an answer says what became of them. A fault has the
-  -- cause that those of the keeper have, and `Damaged` names a row that the relation allows.
-  pub record IsDone {X : Type 0} (old new : S) (result : Result X KeepFault)
+  -- As long as the keeper answers by its rows, an answer says what became of them, and how much was
+  -- written. A fault has the cause that those of the keeper have, and `Damaged` names a row that
+  -- the relation allows.
+  pub record IsDone {X : Type 0} (extent : X → Extent) (old new : S) (result : Result X KeepFault)
       (Blames : Rows → ℕ → Type 0) (Becomes : Rows → X → Rows → Type 0) : Type 0 where
     pub follows : Follows old new
     pub becomes : IsTrusted old new → IfOk result (λ answer. Becomes (rows old) answer (rows new))
+    pub few : IsTrusted old new
+        → IfOk result (λ answer. StaysWithin rows writes (extent answer) old new)
     pub fault : IfErr result (HasCause (failures old) (failures new)
         (λ row. IsTrusted old new → Blames (rows old) row))
 
--- the same with the keeper named once
+-- The same with the keeper named once. Calls that write within the extent of their answer, that
+-- write only records, and to which so many writes more suffice.
 module _ {S : Type 0} (k : Ghosts S) {X : Type 0} (old new : S) (result : Result X KeepFault) where
+  abbrev pub DoesWithin : (X → Extent) → (Rows → ℕ → Type 0) → (Rows → X → Rows → Type 0)
+      → Type 0
+  DoesWithin extent Blames Becomes =
+      IsDone k.rows k.failures k.writes k.Follows k.IsTrusted extent old new result Blames Becomes
+
   abbrev pub Does : (Rows → ℕ → Type 0) → (Rows → X → Rows → Type 0) → Type 0
-  Does Blames Becomes = IsDone k.rows k.failures k.Follows k.IsTrusted old new result Blames Becomes
+  Does Blames Becomes = DoesWithin (λ answer. OnlyRecords) Blames Becomes
+
+  abbrev pub DoesUpTo : (Rows → Rows → ℕ → Type 0) → (Rows → ℕ → Type 0)
+      → (Rows → X → Rows → Type 0) → Type 0
+  DoesUpTo Suffices Blames Becomes = DoesWithin (λ answer. UpTo Suffices) Blames Becomes
 
 -- sound rows have no such row
 abbrev pub NotSound : Rows → ℕ → Type 0

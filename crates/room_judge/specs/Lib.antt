@@ -1,4 +1,5 @@
 pub mod Stored
+pub mod Extent
 pub mod Judged
 pub mod Spot
 pub mod Halted

@@ -26,6 +26,7 @@ use Rattle.room_judge.specs.Closed.{IsClosed, IsServed}
 use Rattle.room_machine.specs.Stored.{stored_site, stored_along, stored_plan, to_stored}
 use Rattle.room_judge.specs.declared.halt.Halt.{Halt}
 use Rattle.room_judge.specs.declared.halt.Halt.TheVariants.{Refused as Halted, Fault}
+use Rattle.room_judge.specs.Extent.{Extent, OnlyRecords}
 use Rattle.room_judge.specs.Halted.{replied, settled}
 use Rattle.room_judge.specs.Judged.{IsDone, IsJudged, IsReached, CarriesOut}
 use Rattle.room_judge.proofs.Calls.{HasDone, finish, memory}
@@ -77,6 +78,13 @@ put_kept path id before bytes old new reply are were none replies same =
     on false =
         λ document. same ∙ sym (ap (with_content old) (with_body-there old are id before were))
 
+pub put_joined : (path : List (List ℕ)) (id : ℕ) (before bytes given : List ℕ) (old mid new : Rows)
+    (reply : Reply) → given ≡ before ++ bytes → mid ≡ old → IsPut path id given mid reply new
+    → IsPut path id (before ++ bytes) old reply new
+put_joined path id before bytes given old mid new reply is same put =
+    subst (λ (b : List ℕ). IsPut path id b old reply new) is
+    (subst (λ (r : Rows). IsPut path id given r reply new) same put)
+
 pub if_ok : {X E P : Type 0} (r : Result X E) → P → IfOk r (λ x. P)
 if_ok (Ok x) p = p
 if_ok (Err e) p = tt
@@ -85,11 +93,12 @@ module _ {S : Type 0} {rows : S → Rows} {failures writes : S → ℕ}
     {Follows IsTrusted : S → S → Type 0}
     (laws : KeepLaws rows failures writes Follows IsTrusted) where
   -- the calls end with this reply, or memory ran out as it was made
-  pub answers : {a b : S} {Before : Rows → Rows → Type 0} {Blames : Rows → ℕ → Type 0}
-      (Becomes : Rows → Reply → Rows → Type 0) → HasDone rows Follows IsTrusted a b Before
+  pub answers : {extent : Result Reply Reply → Extent} {a b : S} {Before : Rows → Rows → Type 0}
+      {Blames : Rows → ℕ → Type 0} (Becomes : Rows → Reply → Rows → Type 0)
+      → HasDone rows writes Follows IsTrusted OnlyRecords a b Before
       → (r : Result Reply Halt) (wanted : Reply) → Answers r wanted
       → ((old new : Rows) → AreRows old → Before old new → Becomes old wanted new)
-      → IsDone rows failures Follows IsTrusted a b (settled r) Blames
+      → IsDone rows failures writes Follows IsTrusted extent a b (settled r) Blames
       (λ old outcome new. Becomes old (replied outcome) new)
   answers Becomes before (Ok reply) wanted is becomes =
       finish laws (Ok reply) before (λ old new are b.

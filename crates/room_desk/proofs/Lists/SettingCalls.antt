@@ -1,6 +1,6 @@
 -- The calls that set a list.
 use Rattle.std.proofs.Common.{◌≡◌, ℕ, Bool, true, false, List, Option, Result, Ok, Err, IfOk, refl}
-use Rattle.std.proofs.Common.{sym, ap, subst, ◌∙◌}
+use Rattle.std.proofs.Common.{◌+◌, ◌≤◌, sym, ap, subst, ◌∙◌, arith}
 use Rattle.std.specs.Result.{IsErrAnd}
 use Rattle.room_entry.specs.Ace.{Ace}
 use Rattle.room_ace.specs.Sent.{Sent}
@@ -17,10 +17,15 @@ use Rattle.room_rows.proofs.InPlace.{place-with_held}
 use Rattle.room_rows.proofs.Lookups.{find-put_same}
 use Rattle.room_inherit.specs.Spread.{Holds}
 use Rattle.room_desk.specs.Carrying.{GoesDown, HasLoop, HasLoopFrom, IsCarriedDown, IsCarriedFrom}
-use Rattle.room_desk.specs.Carrying.{IsUnreadableIfHeld}
+use Rattle.room_desk.specs.Carrying.{IsRooted, IsUnreadableIfHeld, StandsRooted}
 use Rattle.room_desk.specs.Setting.{Beneath, IsNewInh, IsSet, IsWrittenDown, Stores, list_of}
 use Rattle.room_desk.specs.Setting.{entries_marked, held_with}
 use Rattle.room_machine.specs.Changed.{passing_parent, stored_inh}
+use Rattle.room_judge.specs.Extent.{unrecorded}
+use Rattle.room_judge.proofs.UpTo.{Share}
+use Rattle.room_desk.specs.Counted.{EachList, OneAndEach, OneWrite, Provided, changed_lists}
+use Rattle.room_desk.proofs.Writes.ChangedLists.{fewer}
+use Rattle.room_desk.proofs.Writes.Sufficing.{rooted_recorded}
 use Rattle.room_desk.proofs.Sound.Anchored.{changed_unread}
 use Rattle.room_desk.proofs.Lists.SetWell.{well_stored}
 
@@ -71,6 +76,33 @@ module _ (which : Which) (node : Node) (held : Held) (old mid : Rows)
         λ there. subst (λ (t : Bool). GoesDown t which node.id mid new) (sym (same ∙ is))
         (subst (λ (i : ℕ). IsCarriedDown which i mid tt new) number (down (holds_now there)));
   }
+
+  -- what suffices for it
+  pub set_shares : (new : Rows) (more : ℕ)
+      → IsCarriedFrom which (with_held which held node) mid tt new
+      → Provided (StandsRooted node) (OneAndEach which) (unrecorded old) (unrecorded new) more
+      → Share (Provided (Holds node) OneWrite)
+      (Provided (Holds (with_held which held node)) (EachList which)) old mid new more
+  set_shares new more down enough = record {
+    first = 1;
+    second = changed_lists which mid new;
+    suffices_first = (enough.0.0, omega arith);
+    suffices_second = (holds_now enough.0.0, omega arith);
+    fits = fits;
+  }
+    where
+      rooted : IsRooted node.id old
+      rooted = rooted_recorded node.id old enough.0.1
+
+      fits : 1 + changed_lists which mid new ≤ more
+      fits =
+          let below = fewer which node.id (with_held which held)
+          (λ n. (place-with_held which held n).number)
+          (λ n. (place-with_held which held n).parent) old mid new changes rooted
+          (subst (λ (i : ℕ). IsCarriedDown which i mid tt new) number (down (holds_now enough.0.0)))
+          in
+          let all : changed_lists which old new + 1 ≤ more = enough.1 in
+          omega arith
 
   pub written_still : (auto : Bool) → auto ≡ false → held.flags.auto ≡ auto
       → IsWrittenDown which node held old tt mid

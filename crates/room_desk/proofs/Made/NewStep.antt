@@ -48,7 +48,7 @@ new_rows content id Folder new is =
     })
     (record content { nodes = put_node (node_of id new) content.nodes })) is
 
-new_audits : (content : Content) (id : ℕ) (new : NewNode)
+pub new_audits : (content : Content) (id : ℕ) (new : NewNode)
     → (with_new content id new).audits ≡ content.audits
 new_audits content id new = on (is_document new.kind)
   where

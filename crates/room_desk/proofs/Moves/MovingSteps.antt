@@ -89,7 +89,7 @@ module _ (asker : Asker) (path to : List (List ℕ)) where
 
 -- ---- once the object was found
 
-some_name : (sites : List Site) (path : List (List ℕ)) (site : Site)
+pub some_name : (sites : List Site) (path : List (List ℕ)) (site : Site)
     → parent_at sites path ≡ Some site → 0 < length path
 some_name sites [] site is = absurd (let wrong : ⊥ = cc in wrong)
 some_name sites (name ∷ names) site is = omega arith

@@ -165,7 +165,7 @@ module _ (target folder : Node) (name : List ℕ) where
   stays_unread old mid row stays fails can = let rooted = stays can in
       still_unread old mid row rooted.unreadable (fails rooted.rooted)
 
-  placed_stays : (old mid : Rows) → Places target.id folder.id name old mid → Stays old mid
+  pub placed_stays : (old mid : Rows) → Places target.id folder.id name old mid → Stays old mid
   placed_stays old mid places can =
       let becomes : mid ≡ with_content old (with_node old.read (with_place folder.id name target)) =
       places (folder, can.folder_there, can.folder_is) can.is_free target can.target_there in
@@ -198,13 +198,14 @@ module _ (target folder : Node) (name : List ℕ) where
       }
 
   -- it stands there
-  is_at : (old mid : Rows) → Places target.id folder.id name old mid → CanGo target folder name old
+  pub is_at : (old mid : Rows) → Places target.id folder.id name old mid
+      → CanGo target folder name old
       → mid ≡ with_content old (with_node old.read (with_place folder.id name target))
   is_at old mid places can =
       places (folder, can.folder_there, can.folder_is) can.is_free target can.target_there
 
   -- it has both lists at its new place
-  placed_has : (which : Which) (old mid : Rows) → Places target.id folder.id name old mid
+  pub placed_has : (which : Which) (old mid : Rows) → Places target.id folder.id name old mid
       → CanGo target folder name old → HasListOf which target mid
   placed_has which old mid places can = record {
     rises = (placed_stays old mid places can).rooted.rises;

@@ -3,12 +3,16 @@ use Rattle.room_desk.proofs.carrying.carry_from.Goals as goal
 
 pub returns-in-Ok : goal.returns-in-Ok
 returns-in-Ok g c =
-    record { done = given_ok c.args.which c.args.start.now c.in-Ok.field-0 c.in-Ok.ensures.spread }
+    record {
+      done = given_ok g.met.K.Keep.laws c.args.which c.args.start.now c.in-Ok.field-0
+          c.in-Ok.ensures.spread;
+    }
 
 pub returns-in-Err : goal.returns-in-Err
 returns-in-Err g c =
     record {
       done =
-          given_err c.args.which c.args.start.now c.in-Err.fault c.keeper_fault.result
+          given_err g.met.K.Keep.laws c.args.which c.args.start.now c.in-Err.fault
+          c.keeper_fault.result
           c.keeper_fault.ensures c.in-Err.ensures.spread;
     }

@@ -5,7 +5,7 @@ use Rattle.room_machine.specs.declared.reply.Reply.TheVariants.{Made}
 use Rattle.room_judge.specs.Halted.{replied}
 use Rattle.room_judge.specs.Stored.{found_site}
 use Rattle.room_judge.specs.declared.asker.Asker.{Asker}
-use Rattle.room_judge.proofs.Calls.{done, tail_known}
+use Rattle.room_judge.proofs.Calls.{done}
 use Rattle.room_judge.proofs.Halts.{halts_first}
 use Rattle.room_desk.specs.Made.{IsJudgedAndDone, IsMade}
 use Rattle.room_machine.specs.Changed.{new_child}
@@ -13,6 +13,9 @@ use Rattle.room_desk.proofs.Made.FolderMade.{folder_barred, make_in}
 use Rattle.room_desk.proofs.Made.FolderPlans.{making}
 use Rattle.room_desk.proofs.Made.ServedItems.{spotted_blames}
 use Rattle.room_desk.proofs.Sound.Blamed.{rootless_damaged}
+use Rattle.room_desk.proofs.Made.FolderFound.{found_folder}
+use Rattle.room_judge.proofs.UpTo.{tail_provided}
+use Rattle.room_desk.proofs.Writes.Sufficing.{can_make, none_if, one_of_both}
 use Rattle.room_desk.proofs.making.make_below.Goals as goal
 
 pub returns-in_err-spot-clause-done : goal.returns-in_err-spot-clause-done
@@ -31,7 +34,7 @@ returns-clause-done g c =
     let name = c.args.name.now in
     let folder = c.in_ok-spot.spot.folder in
     let child = c.in_ok-spot.spot.child in
-    tail_known g.met.K.Keep.laws (done c.in_ok-spot.ensures.done) c.make_new.ensures.done
+    tail_provided g.met.K.Keep.laws (done c.in_ok-spot.ensures.done) c.make_new.ensures.done
     (λ old mid at are spotted h. spotted_blames asker path _ old mid at spotted h)
     (λ old mid outcome new are spotted served.
     make_in asker path old mid folder child name c.requires are spotted (is_some child) refl new
@@ -43,3 +46,9 @@ returns-clause-done g c =
     (subst (λ (a : Asker). IsJudgedAndDone a (making path (is_some child) (found_site path folder))
     Made (IsMade (new_child a.caller Folder folder.node name c.new-bytes.result)) mid
     (replied outcome) new) c.in_ok-spot.ensures.same_asker served)))
+    (λ old mid new more are spotted enough. (
+      λ none. can_make path folder.node child _ old refl c.requires
+          (found_folder asker path c.requires.some old mid folder child are spotted)
+          (none_if child none),
+      one_of_both old new more enough,
+    ))

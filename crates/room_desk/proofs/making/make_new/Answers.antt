@@ -5,10 +5,13 @@ use Rattle.room_machine.specs.declared.reply.Reason.TheVariants.{Exists}
 use Rattle.room_judge.specs.Halted.{replied}
 use Rattle.room_judge.specs.Stored.{found_site}
 use Rattle.room_judge.specs.declared.asker.Asker.{Asker}
-use Rattle.room_judge.proofs.Calls.{done, tail}
+use Rattle.room_judge.proofs.Calls.{done}
 use Rattle.room_desk.specs.Made.{MakesChild}
 use Rattle.room_machine.specs.Changed.{new_child}
 use Rattle.room_desk.proofs.Made.ServedItems.{added_behind, judged_unread}
+use Rattle.room_rows.specs.Keep.{CanAdd}
+use Rattle.room_judge.specs.Extent.{unrecorded}
+use Rattle.room_judge.proofs.UpTo.{tail_provided}
 use Rattle.room_desk.proofs.making.make_new.Goals as goal
 
 pub returns-clause-done : goal.returns-clause-done
@@ -17,9 +20,9 @@ returns-clause-done g c =
     let path = c.args.path.now in
     let folder = c.args.spot.now.folder in
     let child = c.args.child.now in
-    tail g.met.K.Keep.laws (done c.in_ok-check.ensures.done) c.add_child.ensures.done
-    (λ old mid at judged h. judged_unread asker _ _ old mid at judged h)
-    (λ old mid outcome new judged made.
+    tail_provided g.met.K.Keep.laws (done c.in_ok-check.ensures.done) c.add_child.ensures.done
+    (λ old mid at are judged h. judged_unread asker _ _ old mid at judged h)
+    (λ old mid outcome new are judged made.
     added_behind asker (found_site path folder) c.append_data.result (append_data ∷ []) path Exists
     (is_some c.args.spot.now.child)
     (new_child asker.caller child.kind folder.node child.name.now child.bytes.now) old mid new None
@@ -27,3 +30,9 @@ returns-clause-done g c =
     (sym c.is_some-is_there.ensures ∙ c.if-is_there.false) judged
     (subst (λ (a : Asker). MakesChild a.caller child.kind folder.node child.name.now
     child.bytes.now mid (replied outcome) new) c.in_ok-check.ensures.same_asker made))
+    (λ old mid new more are judged enough. (
+      subst (λ (a : Asker). CanAdd (new_child a.caller child.kind folder.node child.name.now
+          child.bytes.now) (unrecorded old)) (sym c.in_ok-check.ensures.same_asker)
+          (enough.0 (sym c.is_some-is_there.ensures ∙ c.if-is_there.false)),
+      enough.1,
+    ))

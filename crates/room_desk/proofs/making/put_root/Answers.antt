@@ -7,11 +7,15 @@ use Rattle.room_judge.specs.Halted.{replied}
 use Rattle.room_judge.specs.Stored.{found_site}
 use Rattle.room_judge.specs.declared.arrival.Found.{Found}
 use Rattle.room_judge.specs.declared.asker.Asker.{Asker}
-use Rattle.room_judge.proofs.Calls.{done, tail_known}
+use Rattle.room_judge.proofs.Calls.{done}
 use Rattle.room_judge.proofs.Halts.{halts_first}
 use Rattle.room_desk.specs.Made.{IsJudgedAndDone}
 use Rattle.room_desk.proofs.Made.PutMade.{put_root, root_barred}
 use Rattle.room_desk.proofs.Sound.Blamed.{noted_unread, rootless_damaged}
+use Rattle.room_machine.specs.Stored.{stored_site}
+use Rattle.room_desk.proofs.Steps.Serving.{along_there}
+use Rattle.room_judge.proofs.UpTo.{tail_provided}
+use Rattle.room_desk.proofs.Writes.Sufficing.{one_of_both}
 use Rattle.room_desk.proofs.making.put_root.Goals as goal
 
 pub returns-in_err-node-clause-done : goal.returns-in_err-node-clause-done
@@ -30,7 +34,7 @@ returns-clause-done g c =
     let bytes = c.args.bytes.now in
     let node = c.in_ok-node.node in
     let target : Found = record { node = node; depth = 0 } in
-    tail_known g.met.K.Keep.laws (done c.in_ok-node.ensures.done) c.put_there.ensures.done
+    tail_provided g.met.K.Keep.laws (done c.in_ok-node.ensures.done) c.put_there.ensures.done
     (λ old mid at are reached h. noted_unread old mid _ at reached.judged.notes h)
     (λ old mid outcome new are reached served.
     put_root asker path bytes c.requires old mid node are reached new (replied outcome)
@@ -38,3 +42,7 @@ returns-clause-done g c =
     (no_folder (found_site path target) ∷ Check (found_site path target) (write_data ∷ [])
     ∷ not_over path (length bytes) ∷ []) Done (SetsBody node.id bytes) mid (replied outcome) new)
     c.in_ok-node.ensures.same_asker served))
+    (λ old mid new more are reached enough. (
+      along_there old.read are.numbers path (stored_site path node) reached.found,
+      one_of_both old new more enough,
+    ))

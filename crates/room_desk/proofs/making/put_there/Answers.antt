@@ -1,18 +1,29 @@
 use Rattle.std.proofs.Common.{None, refl}
 use Rattle.room_judge.specs.Halted.{replied}
 use Rattle.room_judge.specs.Stored.{found_site}
-use Rattle.room_judge.proofs.Calls.{done, tail}
+use Rattle.room_judge.proofs.Calls.{done}
 use Rattle.room_judge.proofs.Judging.{blames_first}
 use Rattle.room_desk.proofs.Made.ServedItems.{put_behind}
+use Rattle.room_judge.proofs.UpTo.{tail_provided}
+use Rattle.room_desk.proofs.Writes.Sufficing.{document_passed}
 use Rattle.room_desk.proofs.making.put_there.Goals as goal
 
 pub returns-clause-done : goal.returns-clause-done
 returns-clause-done g c =
     let asker = c.args.walk.now.asker.now in
     let target = c.args.target.now in
-    tail g.met.K.Keep.laws (done c.in_ok-check_kind.ensures.done) c.put_bytes.ensures.done
-    (λ old mid at judged h. blames_first asker _ _ old mid at judged h)
-    (λ old mid outcome new judged put.
+    tail_provided g.met.K.Keep.laws (done c.in_ok-check_kind.ensures.done) c.put_bytes.ensures.done
+    (λ old mid at are judged h. blames_first asker _ _ old mid at judged h)
+    (λ old mid outcome new are judged put.
     put_behind asker (found_site c.args.path.now target) c.write_data.result c.args.path.now
     target.node.id c.args.bytes.now c.as_slice.result.now old mid new None (replied outcome)
     c.write_data.ensures refl c.as_slice.ensures judged put)
+    (λ old mid new more are judged enough. (
+      (
+        target.node,
+        enough.0,
+        document_passed asker (found_site c.args.path.now target) c.write_data.result old mid
+            judged,
+      ),
+      enough.1,
+    ))

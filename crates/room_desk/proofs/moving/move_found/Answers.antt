@@ -9,10 +9,12 @@ use Rattle.room_judge.specs.Halted.{replied}
 use Rattle.room_judge.specs.Closed.{IsServed}
 use Rattle.room_judge.specs.Judged.{IsJudged}
 use Rattle.room_judge.specs.Stored.{found_site}
-use Rattle.room_judge.proofs.Calls.{done, finish, none_done, tail, then}
+use Rattle.room_judge.proofs.Calls.{done, none_done, tail}
 use Rattle.room_judge.proofs.Halts.{faults, halts_first}
 use Rattle.room_desk.proofs.Moves.MovingSteps.{moves, name_is, never_unread, never_unplaced}
 use Rattle.room_desk.proofs.Moves.MovingSteps.{place_ended, root_refused, some_last}
+use Rattle.room_judge.proofs.UpTo.{finish_up_to, then_provided, widened}
+use Rattle.room_desk.proofs.Writes.Placing.{can_go_there}
 use Rattle.room_desk.proofs.moving.move_found.Goals as goal
 
 pub returns-in-None-clause-done : goal.returns-in-None-clause-done
@@ -22,7 +24,8 @@ returns-in-None-clause-done g c =
     let path = c.args.moving.now.path.now in
     let from = c.args.moving.now.from.now in
     let target = c.args.moving.now.target.now in
-    tail m.laws (none_done m.laws c.args.walk.now.keep.now) c.refuse_root.ensures.done
+    tail m.laws (none_done m.laws c.args.walk.now.keep.now)
+    (widened m.laws c.refuse_root.ensures.done)
     (λ old mid at same never. absurd never)
     (λ old mid outcome new same judged rooted first are paired.
     root_refused asker path c.args.to.now from target first old are paired new (replied outcome)
@@ -84,9 +87,14 @@ returns-in_ok-place_at-in-Some-clause-done g c =
     c.in-Some.ensures.parts c.as_str.ensures in
     let named : is_object_name c.as_str.result.now ≡ true = ap is_object_name c.as_str.ensures
     ∙ c.in-Some.ensures.name in
-    finish m.laws _ (then m.laws (done c.in_ok-folder-in-Some.ensures.done)
+    finish_up_to m.laws _ (then_provided m.laws (done c.in_ok-folder-in-Some.ensures.done)
     (done c.in_ok-place_at-in-Some.ensures.done)
-    (λ mid end new reached places rooted first are paired.
+    (λ mid end new are_mid reached places rooted first are paired.
     subst (λ (r : Reply). IsServed asker (Move path to) first r new) (sym places.0)
     (moves asker path to from target first mid are paired some c.in_ok-folder-in-Some.folder end
-    c.as_str.result.now last named (reached rooted) new places.1 places.2))) (λ old new are h. h)
+    c.as_str.result.now last named (reached rooted) new places.1 places.2))
+    (λ mid end new more are reached enough. (
+      can_go_there asker path to from target mid end c.args.root.now
+          c.in_ok-folder-in-Some.folder c.as_str.result.now last are enough.0 reached,
+      enough.1,
+    ))) (λ old new are h. h)

@@ -7,12 +7,14 @@ use Rattle.room_machine.specs.declared.reply.Reason.TheVariants.{Root}
 use Rattle.room_judge.specs.Halted.{replied}
 use Rattle.room_judge.specs.Spot.{IsPaired, pair_of}
 use Rattle.room_judge.specs.declared.asker.Asker.{Asker}
-use Rattle.room_judge.proofs.Calls.{done, none_done, of_read, tail_known, then}
+use Rattle.room_judge.proofs.Calls.{done, none_done, of_read, then}
 use Rattle.room_judge.proofs.Halts.{faults, halts, refused_as}
 use Rattle.room_desk.specs.Moving.{FailsToMove, MovesOn}
 use Rattle.room_desk.proofs.Moves.MovingSteps.{empty_path, root_after, root_stays, rooted_pair}
 use Rattle.room_desk.proofs.Moves.MovingSteps.{way_halted}
 use Rattle.room_desk.proofs.Sound.Blamed.{rootless_damaged, unread_damaged}
+use Rattle.room_judge.proofs.UpTo.{tail_provided}
+use Rattle.room_desk.proofs.Writes.Placing.{stands_unrecorded}
 use Rattle.room_desk.proofs.moving.move_object.Goals as goal
 use Rattle.room_judge.specs.declared.arrival.Both.{Both}
 use Rattle.room_machine.specs.declared.reply.Reply.{Reply}
@@ -57,7 +59,7 @@ returns-clause-done g c =
     let folder = c.in_ok-pair.pair.folder in
     let target = c.in_ok-pair.pair.target in
     let pair : Result Both Reply = pair_of folder target in
-    tail_known m.laws {Before = λ old new. (root_of old.read ≡ Some root)
+    tail_provided m.laws {Before = λ old new. (root_of old.read ≡ Some root)
     × IsPaired asker path old pair new}
     (then m.laws (done (of_read c.in_ok-root.ensures.read)) (done c.in_ok-pair.ensures.done)
     (λ old mid new both paired.
@@ -71,3 +73,7 @@ returns-clause-done g c =
     subst (λ (a : Asker). MovesOn a path to root folder target mid (replied outcome) new)
     c.in_ok-pair.ensures.same_asker moved
     (root_after asker path root pair old mid both.0 both.1) old are both.1)
+    (λ old mid new more are both enough. (
+      stands_unrecorded path root target.node old both.0 both.1.target,
+      enough,
+    ))

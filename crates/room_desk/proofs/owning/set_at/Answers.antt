@@ -1,8 +1,11 @@
 use Rattle.std.proofs.Common.{refl, sym, inl, inr, ◌∙◌}
 use Rattle.std.proofs.lemmas.Bool.{false≢true}
-use Rattle.room_judge.proofs.Calls.{none_done, finish, done, of_write}
+use Rattle.room_judge.proofs.Calls.{none_done, finish, done, of_change}
 use Rattle.room_machine.specs.declared.reply.Reply.TheVariants.{Done}
 use Rattle.room_desk.proofs.Owned.OwnersSet.{equal_owners, owners_themselves}
+use Rattle.room_rows.specs.Keep.{with_owners}
+use Rattle.room_judge.proofs.UpTo.{finish_up_to}
+use Rattle.room_desk.proofs.Writes.Sufficing.{one_changed}
 use Rattle.room_desk.proofs.owning.set_at.Goals as goal
 
 pub returns-then-are_same : goal.returns-then-are_same
@@ -29,7 +32,10 @@ returns g c =
     let m = g.met.K.Keep in
     record {
       done =
-          finish m.laws Done (done (of_write c.in_ok-set_owners.ensures.written))
+          finish_up_to m.laws Done (done (of_change c.in_ok-set_owners.ensures.written
+          (λ old x new more changes enough.
+          one_changed c.args.node.now.id (with_owners c.args.owners.now) c.args.node.now old new
+          more changes enough.0 enough.1)))
           (λ old new are changes. (refl, inr changes));
       quiet =
           λ same. absurd

@@ -4,11 +4,15 @@ use Rattle.room_entry.specs.Rights.{write_owner}
 use Rattle.room_machine.specs.declared.reply.Reply.{Reply}
 use Rattle.room_machine.specs.declared.request.Request.TheVariants.{SetOwners}
 use Rattle.room_judge.specs.Closed.{IsServed}
-use Rattle.room_judge.proofs.Calls.{done, finish, then_known}
+use Rattle.room_judge.proofs.Calls.{done}
 use Rattle.room_judge.proofs.Halts.{faults, halts_first}
 use Rattle.room_desk.proofs.Owned.OwnersSet.{owners_set}
 use Rattle.room_desk.proofs.Sound.Blamed.{rootless_damaged}
-use Rattle.room_desk.proofs.Steps.Serving.{CheckAt, not_served, reached_as, reached_damaged}
+use Rattle.room_desk.proofs.Steps.Serving.{CheckAt, along_there, not_served, reached_as}
+use Rattle.room_desk.proofs.Steps.Serving.{reached_damaged}
+use Rattle.room_machine.specs.Stored.{stored_site}
+use Rattle.room_judge.proofs.UpTo.{finish_up_to, then_provided}
+use Rattle.room_desk.proofs.Writes.Sufficing.{one_of_both}
 use Rattle.room_desk.proofs.owning.set_owners.Goals as goal
 
 pub returns-in_err-node-clause-done : goal.returns-in_err-node-clause-done
@@ -38,11 +42,15 @@ returns-clause-done g c =
     let asker = c.args.walk.now.asker.now in
     let path = c.args.path.now in
     let owners = c.args.owners.now in
-    finish m.laws _ (then_known m.laws (done c.in_ok-node.ensures.done)
+    finish_up_to m.laws _ (then_provided m.laws (done c.in_ok-node.ensures.done)
     (done c.in_ok-set_at.ensures.done)
     (λ old mid new are reached set.
     subst (λ (r : Reply). IsServed asker (SetOwners path owners) old r new) (sym set.0)
     (owners_set asker path owners old mid new c.in_ok-node.node are
     (reached_as asker path CheckAt c.write_owner.result (write_owner ∷ [])
-    (Ok c.in_ok-node.node) old mid c.write_owner.ensures reached) set.1)))
+    (Ok c.in_ok-node.node) old mid c.write_owner.ensures reached) set.1))
+    (λ old mid new more are reached enough. (
+      along_there old.read are.numbers path (stored_site path c.in_ok-node.node) reached.found,
+      one_of_both old new more enough,
+    )))
     (λ old new are h. h)

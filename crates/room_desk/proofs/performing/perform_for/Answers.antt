@@ -1,7 +1,8 @@
 use Rattle.std.proofs.Common.{rules, ◌≡◌, subst}
 use Rattle.room_rows.specs.Keep.{IsDamaged}
 use Rattle.room_judge.specs.Closed.{IsServed}
-use Rattle.room_judge.specs.Judged.{Does}
+use Rattle.room_judge.specs.Judged.{DoesWithin}
+use Rattle.room_desk.specs.Counted.{extent_of}
 use Rattle.room_judge.proofs.Halts.{replies}
 use Rattle.room_desk.proofs.performing.perform_for.Goals as goal
 
@@ -11,7 +12,8 @@ returns g c =
     let same : end ≡ c.keep-1.given.0 = search rules in
     record {
       done =
-          subst (λ k. Does g.K.Keep c.args.keep.now k c.reply_of.result IsDamaged
+          subst (λ k. DoesWithin g.K.Keep c.args.keep.now k c.reply_of.result
+          (extent_of c.args.request.now) IsDamaged
           (IsServed c.args.asker.now c.args.request.now)) same
           (replies g.met.K.Keep.laws c.serve.result c.serve.ensures.done c.reply_of.result
           c.reply_of.ensures);

@@ -4,12 +4,14 @@ use Rattle.std.proofs.lemmas.Bool.{false≢true}
 use Rattle.room_rows.specs.Content.{is_empty}
 use Rattle.room_judge.specs.declared.asker.Asker.{Asker}
 use Rattle.room_judge.specs.Stored.{found_site}
-use Rattle.room_judge.proofs.Calls.{done, tail_known}
+use Rattle.room_judge.proofs.Calls.{done}
 use Rattle.room_desk.specs.Removed.{RemovesFrom}
 use Rattle.room_desk.proofs.Sound.Blamed.{noted_unread, rootless_damaged}
 use Rattle.room_desk.proofs.Gone.GoneSteps.{no_names, remove_done, remove_halted}
 use Rattle.room_judge.specs.Halted.{replied}
 use Rattle.room_judge.proofs.Halts.{halts_first}
+use Rattle.room_judge.proofs.UpTo.{tail_provided}
+use Rattle.room_desk.proofs.Writes.Sufficing.{one_of_both, removable}
 use Rattle.room_desk.proofs.removing.remove.Goals as goal
 
 some_names : (path names : List (List ℕ)) (t : Bool) → names ≡ path → t ≡ (length names == 0)
@@ -37,7 +39,7 @@ returns-clause-done g c =
     let path = c.args.path.now in
     let target = c.in_ok-pair.pair.target in
     let folder = c.in_ok-pair.pair.folder in
-    tail_known m.laws (done c.in_ok-pair.ensures.done) c.remove_from.ensures.done
+    tail_provided m.laws (done c.in_ok-pair.ensures.done) c.remove_from.ensures.done
     (λ old mid at are paired h. noted_unread old mid _ at paired.judged.notes h)
     (λ old mid outcome new are paired removes.
     remove_done c.args.walk.now.asker.now path old mid folder target are
@@ -45,3 +47,7 @@ returns-clause-done g c =
     c.is_empty-is_root.ensures c.if-is_root.false) paired new (replied outcome)
     (subst (λ (a : Asker). RemovesFrom a path (found_site path target) (found_site path folder) mid
     (replied outcome) new) c.in_ok-pair.ensures.same_asker removes))
+    (λ old mid new more are paired enough. (
+      removable c.args.walk.now.asker.now path folder target old mid are paired,
+      one_of_both old new more enough,
+    ))

@@ -1,10 +1,13 @@
 use Rattle.std.proofs.Common.{List, length, arith, sym, ap, ◌∙◌}
 use Rattle.std.specs.Prelude.{◌-◌, slice_get}
-use Rattle.room_judge.proofs.Calls.{none_done, tail_known, fails, done, of_read}
+use Rattle.room_judge.proofs.Calls.{none_done, fails, done, of_read}
 use Rattle.room_rows.specs.declared.node.Node.{Node}
 use Rattle.room_desk.proofs.Lists.ResetClosed.{reset_told}
 use Rattle.room_desk.proofs.Lists.SetReset.{reset_blames}
 use Rattle.room_desk.proofs.Sound.Blamed.{rootless_damaged}
+use Rattle.room_desk.proofs.Sound.RootedWays.{rooted_last, stands_last}
+use Rattle.room_judge.proofs.UpTo.{tail_provided}
+use Rattle.room_desk.proofs.Writes.Sufficing.{rooted_unrecorded}
 use Rattle.room_desk.proofs.resetting.reset.Goals as goal
 
 pub returns-in_err-found : goal.returns-in_err-found
@@ -39,11 +42,22 @@ returns g c =
     ∙ ap (λ (l : List Node). slice_get l (length l - 1)) c.deref.ensures.value in
     record {
       done =
-          tail_known m.laws (done (of_read c.in_ok-found.ensures.read)) c.reset_at_end.ensures.done
+          tail_provided m.laws (done (of_read c.in_ok-found.ensures.read))
+          c.reset_at_end.ensures.done
           (λ old mid at are both h.
           reset_blames c.args.path.now c.args.which c.args.sent.now old mid c.in_ok-found.found
           front c.in-Some.node both.0.0 both.1 chain at are h)
           (λ old mid reply new are both said.
           reset_told c.args.path.now c.args.which c.args.sent.now old mid c.in_ok-found.found front
-          c.in-Some.node both.0.0 both.1 chain _ above new reply are said);
+          c.in-Some.node both.0.0 both.1 chain _ above new reply are said)
+          (λ old mid new more are both enough. (
+            (
+              stands_last old are.numbers c.args.path.now c.in_ok-found.found front c.in-Some.node
+                  both.0.0 chain,
+              rooted_unrecorded c.in-Some.node.id old
+                  (rooted_last old are.numbers c.args.path.now c.in_ok-found.found front
+                  c.in-Some.node both.0.0 chain),
+            ),
+            enough,
+          ));
     }

@@ -1,8 +1,11 @@
-use Rattle.std.proofs.Common.{◌≡◌, ap, ◌∙◌}
+use Rattle.std.proofs.Common.{◌≡◌, ap, sym, subst, ◌∙◌}
 use Rattle.room_rows.specs.declared.node.Node.{Node}
 use Rattle.room_rows.specs.Held.{with_held}
-use Rattle.room_judge.proofs.Calls.{none_done, tail}
+use Rattle.room_judge.proofs.Calls.{none_done}
 use Rattle.room_desk.proofs.Lists.SettingCalls.{carried_as, loop_as}
+use Rattle.room_inherit.specs.Spread.{Holds}
+use Rattle.room_judge.specs.Extent.{unrecorded}
+use Rattle.room_judge.proofs.UpTo.{tail_provided}
 use Rattle.room_desk.proofs.setting.carry_on.Goals as goal
 
 pub returns : goal.returns
@@ -15,8 +18,12 @@ returns g c =
     ∙ ap (λ (n : Node). with_held setting.which c.args.held n) c.in_ok-start.ensures in
     record {
       done =
-          tail m.laws (none_done m.laws c.args.keep.now) c.carry_from.ensures.done
-          (λ old mid at unread h. loop_as start node old mid at same unread h)
-          (λ old mid x new unread down.
-          carried_as setting.which start node old mid new same unread down);
+          tail_provided m.laws (none_done m.laws c.args.keep.now) c.carry_from.ensures.done
+          (λ old mid at are unread h. loop_as start node old mid at same unread h)
+          (λ old mid x new are unread down.
+          carried_as setting.which start node old mid new same unread down)
+          (λ old mid new more are unread enough. (
+            subst (λ (n : Node). Holds n (unrecorded old)) (sym same) enough.0,
+            enough.1,
+          ));
     }

@@ -1,7 +1,8 @@
 use Rattle.std.specs.Option.{option_copied}
-use Rattle.room_judge.proofs.Calls.{done, finish, then}
+use Rattle.room_judge.proofs.Calls.{done, then}
 use Rattle.room_judge.proofs.Halts.{faults, halts_first}
 use Rattle.room_desk.proofs.Lists.SetRequest.{allowed_blames, allowed_done, not_allowed}
+use Rattle.room_judge.proofs.UpTo.{finish_up_to}
 use Rattle.room_desk.proofs.setting.set_allowed.Goals as goal
 
 pub returns-in_err-check-clause-done : goal.returns-in_err-check-clause-done
@@ -28,7 +29,7 @@ pub returns-clause-done : goal.returns-clause-done
 returns-clause-done g c =
     let m = g.met.K.Keep in
     let setting = c.args.setting.now in
-    finish m.laws _ (then m.laws (done c.in_ok-check.ensures.done)
+    finish_up_to m.laws _ (then m.laws (done c.in_ok-check.ensures.done)
     (done c.in_ok-set_found.ensures.done)
     (λ mid end new judged said old found.
     allowed_done c.args.walk.now.asker.now setting.path.now setting.which setting.sent.now

@@ -1,8 +1,9 @@
 use Rattle.std.proofs.Common.{◌≡◌, None, sym, ap, subst, ◌∙◌}
 use Rattle.std.specs.Option.{option_map_or}
 use Rattle.room_machine.specs.declared.reply.Reply.TheVariants.{Done, Refused}
-use Rattle.room_judge.proofs.Calls.{done, finish}
+use Rattle.room_judge.proofs.Calls.{done}
 use Rattle.room_desk.specs.Setting.{SetUnless, fault_in}
+use Rattle.room_judge.proofs.UpTo.{finish_up_to}
 use Rattle.room_desk.proofs.setting.set_found.Goals as goal
 
 pub returns-in_ok-set_at-in-None : goal.returns-in_ok-set_at-in-None
@@ -13,7 +14,7 @@ returns-in_ok-set_at-in-None g c =
     sym c.in-None.is ∙ c.bad_entry-fault.ensures
     ∙ ap (fault_in 1 setting.which node.kind) (c.as_slice.ensures ∙ c.entries.ensures.list) in
     record {
-      done = finish g.met.K.Keep.laws Done (done c.in_ok-set_at-in-None.ensures.done)
+      done = finish_up_to g.met.K.Keep.laws Done (done c.in_ok-set_at-in-None.ensures.done)
           (λ old new are set up. record {
             replies = ap (λ o. option_map_or (λ why. Refused setting.path.now why) o Done) none;
             few = c.entries.ensures.within;

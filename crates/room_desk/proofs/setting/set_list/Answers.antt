@@ -1,11 +1,13 @@
 use Rattle.std.proofs.Common.{Some, refl, subst}
 use Rattle.room_judge.specs.Halted.{replied}
 use Rattle.room_judge.specs.declared.asker.Asker.{Asker}
-use Rattle.room_judge.proofs.Calls.{done, tail_known}
+use Rattle.room_judge.proofs.Calls.{done}
 use Rattle.room_judge.proofs.Halts.{halts_first}
 use Rattle.room_desk.specs.Setting.{FailsToSet, SetsOn}
 use Rattle.room_desk.proofs.Lists.SetRequest.{found_pair, set_halted}
 use Rattle.room_desk.proofs.Sound.Blamed.{rootless_damaged}
+use Rattle.room_judge.proofs.UpTo.{tail_provided}
+use Rattle.room_desk.proofs.Writes.Sufficing.{each_of_both, stands_along}
 use Rattle.room_desk.proofs.setting.set_list.Goals as goal
 
 pub returns-in_err-pair-clause-done : goal.returns-in_err-pair-clause-done
@@ -23,7 +25,7 @@ returns-clause-done g c =
     let path = c.args.path.now in
     let folder = c.in_ok-pair.pair.folder in
     let target = c.in_ok-pair.pair.target in
-    tail_known g.met.K.Keep.laws (done c.in_ok-pair.ensures.done) c.set_allowed.ensures.done
+    tail_provided g.met.K.Keep.laws (done c.in_ok-pair.ensures.done) c.set_allowed.ensures.done
     (λ old mid at are paired fails.
     subst (λ (a : Asker). FailsToSet a path target (Some folder.node) mid at)
     c.in_ok-pair.ensures.same_asker fails old
@@ -32,3 +34,7 @@ returns-clause-done g c =
     subst (λ (a : Asker). SetsOn a path c.args.which c.args.sent.now target (Some folder.node) mid
     (replied outcome) new) c.in_ok-pair.ensures.same_asker sets old
     (found_pair asker path folder target old mid are paired))
+    (λ old mid new more are paired enough. (
+      stands_along path target.node old are paired.target,
+      each_of_both c.args.which old new more enough,
+    ))

@@ -1,7 +1,9 @@
-use Rattle.room_judge.proofs.Calls.{done, none_done, of_read, tail_known}
+use Rattle.room_judge.proofs.Calls.{done, none_done, of_read}
 use Rattle.room_judge.proofs.Halts.{faults}
 use Rattle.room_desk.proofs.Lists.SetRequest.{found_root}
 use Rattle.room_desk.proofs.Sound.Blamed.{rootless_damaged}
+use Rattle.room_judge.proofs.UpTo.{tail_provided}
+use Rattle.room_desk.proofs.Writes.Sufficing.{each_of_both, stands_along}
 use Rattle.room_desk.proofs.setting.set_root.Goals as goal
 
 pub returns-in_err-node-clause-done : goal.returns-in_err-node-clause-done
@@ -15,9 +17,14 @@ pub returns-clause-done : goal.returns-clause-done
 returns-clause-done g c =
     let asker = c.args.walk.now.asker.now in
     let path = c.args.path.now in
-    tail_known g.met.K.Keep.laws (done (of_read c.in_ok-node.ensures.read))
+    tail_provided g.met.K.Keep.laws (done (of_read c.in_ok-node.ensures.read))
     c.set_allowed.ensures.done
     (λ old mid at are both fails.
     fails old (found_root asker path c.in_ok-node.node old mid c.requires are both.0 both.1))
     (λ old mid outcome new are both sets.
     sets old (found_root asker path c.in_ok-node.node old mid c.requires are both.0 both.1))
+    (λ old mid new more are both enough. let node = c.in_ok-node.node in (
+      stands_along path node old are
+          (found_root asker path node old mid c.requires are both.0 both.1).reached.found,
+      each_of_both c.args.which old new more enough,
+    ))

@@ -1,8 +1,11 @@
 use Rattle.std.proofs.Common.{sym, ap}
 use Rattle.room_entry.specs.declared.flags.ListFlags.{ListFlags}
-use Rattle.room_judge.proofs.Calls.{none_done, finish, fails, tail, done, of_write}
+use Rattle.room_judge.proofs.Calls.{none_done, fails, done, of_change, of_write}
 use Rattle.room_desk.proofs.Lists.SettingCalls.{carried_fails, unread_before, written_down}
-use Rattle.room_desk.proofs.Lists.SettingCalls.{written_still}
+use Rattle.room_desk.proofs.Lists.SettingCalls.{set_shares, written_still}
+use Rattle.room_rows.specs.Held.{with_held}
+use Rattle.room_judge.proofs.UpTo.{finish_up_to, tail_share}
+use Rattle.room_desk.proofs.Writes.Sufficing.{one_changed, one_of_each}
 use Rattle.room_desk.proofs.setting.write_list.Goals as goal
 
 pub returns-in_err-set_held : goal.returns-in_err-set_held
@@ -26,12 +29,19 @@ returns-then-flags g c =
     let node = setting.target.now.node in
     let auto = ap (λ (f : ListFlags). f.auto) (sym c.flags.ensures) in
     record {
-      done = tail m.laws (done (of_write c.in_ok-set_held.ensures.written)) c.carry_on.ensures.done
+      done = tail_share m.laws c.carry_on.result
+          (done (of_change c.in_ok-set_held.ensures.written
+          (λ old x new more changes enough.
+          one_changed node.id (with_held setting.which c.args.held) node old new more changes
+          enough.0 enough.1)))
+          c.carry_on.ensures.done
           (λ old mid at changes h.
           carried_fails setting.which node c.args.held old mid changes at h)
           (λ old mid x new changes down.
           written_down setting.which node c.args.held old mid changes _ new
-          c.if-flags.true auto down);
+          c.if-flags.true auto down)
+          (λ old mid x new more are changes down enough.
+          set_shares setting.which node c.args.held old mid changes new more down enough);
     }
 
 pub returns-else-flags : goal.returns-else-flags
@@ -42,7 +52,10 @@ returns-else-flags g c =
     let node = setting.target.now.node in
     let auto = ap (λ (f : ListFlags). f.auto) (sym c.flags.ensures) in
     record {
-      done = finish m.laws tt (done (of_write c.in_ok-set_held.ensures.written))
+      done = finish_up_to m.laws tt (done (of_change c.in_ok-set_held.ensures.written
+          (λ old x new more changes enough.
+          one_changed node.id (with_held setting.which c.args.held) node old new more changes
+          enough.0.0 (one_of_each setting.which old new more enough.1))))
           (λ old new are changes.
           written_still setting.which node c.args.held old new changes _ c.if-flags.false
           auto);

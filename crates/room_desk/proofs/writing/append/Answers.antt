@@ -2,11 +2,13 @@ use Rattle.std.proofs.Common.{[], ◌∷◌, refl}
 use Rattle.std.proofs.Common.{Ok, Err}
 use Rattle.room_entry.specs.Rights.{append_data}
 use Rattle.room_judge.specs.Halted.{replied}
-use Rattle.room_judge.proofs.Calls.{done, tail_known}
+use Rattle.room_judge.proofs.Calls.{done}
 use Rattle.room_judge.proofs.Halts.{halts_first}
 use Rattle.room_desk.proofs.Bytes.Appending.{append_blames, append_done, append_ended}
 use Rattle.room_desk.proofs.Sound.Blamed.{rootless_damaged}
-use Rattle.room_desk.proofs.Steps.Serving.{DocumentAt, reached_as}
+use Rattle.room_desk.proofs.Steps.Serving.{DocumentAt, document_there, reached_as}
+use Rattle.room_judge.proofs.UpTo.{tail_provided}
+use Rattle.room_desk.proofs.Writes.Sufficing.{one_of_both}
 use Rattle.room_desk.proofs.writing.append.Goals as goal
 
 pub returns-in_err-node-clause-done : goal.returns-in_err-node-clause-done
@@ -26,7 +28,7 @@ returns-clause-done g c =
     let asker = c.args.walk.now.asker.now in
     let path = c.args.path.now in
     let node = c.in_ok-node.node in
-    tail_known g.met.K.Keep.laws (done c.in_ok-node.ensures.done) c.append_at.ensures.done
+    tail_provided g.met.K.Keep.laws (done c.in_ok-node.ensures.done) c.append_at.ensures.done
     (λ old mid at are reached h.
     append_blames asker path c.args.bytes.now old mid node are
     (reached_as asker path DocumentAt c.append_data.result (append_data ∷ []) (Ok node) old mid
@@ -35,3 +37,8 @@ returns-clause-done g c =
     append_done asker path c.args.bytes.now old mid node are
     (reached_as asker path DocumentAt c.append_data.result (append_data ∷ []) (Ok node) old mid
     c.append_data.ensures reached) new (replied outcome) appended)
+    (λ old mid new more are reached enough.
+    let document = document_there asker path (append_data ∷ []) old mid node are
+    (reached_as asker path DocumentAt c.append_data.result (append_data ∷ []) (Ok node) old mid
+    c.append_data.ensures reached) in
+    ((node, document.0, document.1), one_of_both old new more enough))

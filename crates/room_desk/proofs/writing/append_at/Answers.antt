@@ -1,9 +1,11 @@
-use Rattle.std.proofs.Common.{ℕ, List, ap, subst}
+use Rattle.std.proofs.Common.{ℕ, List, ap, inl, subst, ◌∙◌}
+use Rattle.room_rows.specs.Keep.{IsUnreadable}
 use Rattle.room_rows.specs.Rows.{Rows}
+use Rattle.room_judge.specs.Halted.{replied}
 use Rattle.room_desk.specs.Written.{HasNoBytes, IsAppended, sized_reply}
-use Rattle.room_judge.proofs.Calls.{done, none_done, of_read}
+use Rattle.room_judge.proofs.Calls.{done, none_done, of_read, tail}
 use Rattle.room_judge.proofs.Halts.{faults, memory_out}
-use Rattle.room_desk.proofs.Bytes.Appending.{answers, if_ok, no_bytes_more, put_kept}
+use Rattle.room_desk.proofs.Bytes.Appending.{answers, if_ok, no_bytes_more, put_joined, put_kept}
 use Rattle.room_desk.proofs.writing.append_at.Goals as goal
 
 pub returns-in_err-before-clause-done : goal.returns-in_err-before-clause-done
@@ -41,3 +43,19 @@ pub returns-in_err-joined-clause-done : goal.returns-in_err-joined-clause-done
 returns-in_err-joined-clause-done g c =
     memory_out g.met.K.Keep.laws (done (of_read c.in_ok-before.ensures.read))
     c.from_residual-in_err-joined.result c.from_residual-in_err-joined.ensures.1
+
+pub returns-clause-done : goal.returns-clause-done
+returns-clause-done g c =
+    let path = c.args.path.now in
+    let bytes = c.args.bytes.now in
+    let before : List ℕ = c.in_ok-before.before in
+    tail g.met.K.Keep.laws (done (of_read c.in_ok-before.ensures.read)) c.put_bytes.ensures.done
+    (λ old mid at both h. inl (subst (λ (r : Rows). IsUnreadable r at) both.1 h))
+    (λ old mid outcome new both put.
+    record {
+      before = before;
+      were = both.0;
+      put =
+          put_joined path c.args.id before bytes c.as_slice-2.result.now old mid new
+          (replied outcome) (c.as_slice-2.ensures.value ∙ c.in_ok-joined.ensures) both.1 put;
+    })

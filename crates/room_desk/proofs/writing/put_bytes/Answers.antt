@@ -5,9 +5,11 @@ use Rattle.room_rows.specs.Rows.{Rows}
 use Rattle.room_rows.specs.Keep.{IsUnreadable}
 use Rattle.room_machine.specs.declared.reply.Reply.TheVariants.{Refused}
 use Rattle.room_machine.specs.declared.reply.Reason.TheVariants.{TooLarge}
-use Rattle.room_judge.proofs.Calls.{done, finish, none_done, of_write}
+use Rattle.room_judge.proofs.Calls.{done, none_done, of_change, of_write}
 use Rattle.room_judge.proofs.Halts.{faults, refused_as}
 use Rattle.room_desk.proofs.Bytes.Appending.{put_refused, put_set}
+use Rattle.room_judge.proofs.UpTo.{finish_up_to}
+use Rattle.room_desk.proofs.Writes.Sufficing.{one_put}
 use Rattle.room_desk.proofs.writing.put_bytes.Goals as goal
 
 pub returns-then-too_many-clause-done : goal.returns-then-too_many-clause-done
@@ -33,7 +35,9 @@ returns-in_err-set_body-clause-done g c =
 
 pub returns-clause-done : goal.returns-clause-done
 returns-clause-done g c =
-    finish g.met.K.Keep.laws _ (done (of_write c.in_ok-set_body.ensures.written))
+    finish_up_to g.met.K.Keep.laws _ (done (of_change c.in_ok-set_body.ensures.written
+    (λ old x new more sets enough.
+    one_put c.args.id c.args.bytes.now old new more sets enough)))
     (λ old new are sets.
     put_set c.args.path.now c.args.id c.args.bytes.now old new
     (le-ltb 1048576 (length c.args.bytes.now) c.if-too_many.false) sets)

@@ -2,7 +2,7 @@ use Rattle.std.proofs.Common.{◌≡◌, List, ap, ◌∙◌, length, arith}
 use Rattle.room_entry.specs.Ace.{Ace}
 use Rattle.room_eval.specs.Events.{events_of}
 use Rattle.room_judge.proofs.Calls.{none_done, then, finish, fails, memory, done, of_write}
-use Rattle.room_judge.proofs.Noting.{notes_none, notes_one, notes_all}
+use Rattle.room_judge.proofs.Noting.{note_placed, notes_none, notes_one, notes_all, of_note}
 use Rattle.room_judge.specs.Stored.{found_site}
 use Rattle.room_judge.proofs.checking.note_check.Goals as goal
 
@@ -42,11 +42,15 @@ places-preserved g c =
     ∙ ap
     (λ (es : List Ace). events_of es asker.caller checked.found.now.node.owners checked.bits
     checked.granted) c.full.ensures in
-    then m.laws c.places.invariant (done (of_write c.in_ok-note.ensures.written))
+    let site = found_site checked.path.now checked.found.now in
+    let places = c.as_slice-place-items.result.now in
+    then m.laws c.places.invariant
+    (done (of_note c.in_ok-row.row (note_placed asker checked.granted site checked.bits places
+    c.places.place-index c.in_ok-row.row c.places-test.true c.in_ok-row.ensures are)
+    c.in_ok-note.ensures.written))
     (λ old now next sofar more.
-    notes_one asker checked.granted (found_site checked.path.now checked.found.now) checked.bits
-    c.as_slice-place-items.result.now c.places.place-index c.in_ok-row.row old now next
-    c.places-test.true c.in_ok-row.ensures are sofar more)
+    notes_one asker checked.granted site checked.bits places c.places.place-index c.in_ok-row.row
+    old now next c.places-test.true c.in_ok-row.ensures sofar more)
 
 pub returns : goal.returns
 returns g c =

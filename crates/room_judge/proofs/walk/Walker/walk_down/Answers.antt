@@ -2,7 +2,7 @@ use Rattle.std.proofs.Common.{◌≡◌, ◌∙◌, Ok, Err, refl, take, subst, 
 use Rattle.room_judge.specs.declared.arrival.Found.{Found}
 use Rattle.room_judge.specs.declared.asker.Asker.{Asker}
 use Rattle.room_judge.specs.Judged.{IsStepDown}
-use Rattle.room_judge.proofs.Calls.{done, finish, then}
+use Rattle.room_judge.proofs.Calls.{done, finish, none_done, then}
 use Rattle.room_judge.proofs.Halts.{halts}
 use Rattle.room_judge.proofs.Walked.{walk_done, walk_ends, walks_on}
 use Rattle.room_judge.proofs.Ways.{way_begins, way_blames}
@@ -20,6 +20,7 @@ names-init g c =
             λ t is. way_begins c.args.self.now.asker.now (take c.args.depth c.args.path.now)
             c.args.root (g.K.Keep.rows c.args.self.now.keep.now)
             (g.K.Keep.rows c.args.self.now.keep.now) is refl;
+        few = λ t. (none_done m.laws c.args.self.now.keep.now).few t;
       };
     }
 

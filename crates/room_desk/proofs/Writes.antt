@@ -1,0 +1,4 @@
+-- A request writes no more than it changes.
+pub mod ChangedLists
+pub mod Sufficing
+pub mod Placing

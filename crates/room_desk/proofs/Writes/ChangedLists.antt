@@ -1,0 +1,327 @@
+-- How many objects store other inherited entries than before.
+use Rattle.std.proofs.Common.{◌≡◌, ◌∙◌, ℕ, ◌+◌, ◌≤◌, ◌==◌, Bool, true, false, cond, not, List, []}
+use Rattle.std.proofs.Common.{◌∷◌, map, Option, Some, None, refl, sym, ap, subst, inl, inr, arith}
+use Rattle.std.specs.Prelude.{zero, suc, ◌||◌, ◌⊎◌, count_by}
+use Rattle.std.specs.List.{AllByRecursion as Each}
+use Rattle.std.specs.Option.{option_map, option_map_or}
+use Rattle.std.proofs.lemmas.Bool.{and_parts, cases_Bool, cond-false, cond-true, false≢true}
+use Rattle.std.proofs.lemmas.Bool.{false_from_ne_true, or_cases, or_left, or_right, eq-eqb}
+use Rattle.std.proofs.lemmas.Bool.{eqb-true}
+use Rattle.std.proofs.lemmas.Option.{none-some, same_Some}
+use Rattle.room_entry.specs.Ace.{Ace}
+use Rattle.room_entry.specs.Same.{same_entries}
+use Rattle.room_entry.specs.declared.object.Which.{Which}
+use Rattle.room_entry.proofs.Facts.Members.{count, count-is, one_if}
+use Rattle.room_entry.proofs.Same.{entries_equal}
+use Rattle.room_rows.specs.HeldList.{Held}
+use Rattle.room_rows.specs.declared.node.Node.{Node}
+use Rattle.room_rows.specs.Content.{Content, has_parent, is_linked_in, node_at, parent_of}
+use Rattle.room_rows.specs.Content.{with_each}
+use Rattle.room_rows.specs.Finding.{find_id}
+use Rattle.room_rows.specs.Held.{held_of}
+use Rattle.room_rows.specs.Keep.{Changes, with_inh}
+use Rattle.room_rows.specs.Rows.{Rows}
+use Rattle.room_rows.proofs.Frames.{Rises, node_at-number}
+use Rattle.room_rows.proofs.InPlace.{held_of-with_inh, with_inh-id}
+use Rattle.room_inherit.specs.Spread.{IsLinkedBelow, IsSpread, is_changed, is_linked_within}
+use Rattle.room_inherit.specs.Spread.{is_within}
+use Rattle.room_inherit.proofs.Children.{apart_rising, each_there}
+use Rattle.room_inherit.proofs.Rooted.{rooted_no_loop}
+use Rattle.room_desk.specs.Carrying.{IsCarriedDown, IsRooted}
+use Rattle.room_desk.specs.Counted.{changed_lists, has_other_list}
+use Rattle.room_desk.proofs.Lists.HandedDown.{put_one}
+use Rattle.room_desk.proofs.Placed.Climbing.{node_at-changed}
+use Rattle.room_desk.proofs.Sound.Anchored.{rooted_changed}
+
+-- ---- counts
+
+count_map : (p : Node → Bool) (f : Node → Node) (xs : List Node)
+    → count p (map f xs) ≡ count (λ x. p (f x)) xs
+count_map p f [] = refl
+count_map p f (x ∷ xs) = ap (λ n. one_if (p (f x)) + n) (count_map p f xs)
+
+count_same : (p q : Node → Bool) (xs : List Node) → Each (λ x. p x ≡ q x) xs
+    → count p xs ≡ count q xs
+count_same p q [] all = refl
+count_same p q (x ∷ xs) all =
+    ap (λ t. one_if t + count p xs) all.0 ∙ ap (λ n. one_if (q x) + n) (count_same p q xs all.1)
+
+one_less : (t u : Bool) → (t ≡ true → u ≡ true) → one_if t ≤ one_if u
+one_less true u implies = subst (λ v. 1 ≤ one_if v) (sym (implies refl)) (omega arith)
+one_less false u implies = omega arith
+
+-- where each member that passes a test passes another
+count_less : (p q : Node → Bool) (xs : List Node) → Each (λ x. p x ≡ true → q x ≡ true) xs
+    → count p xs ≤ count q xs
+count_less p q [] all = omega arith
+count_less p q (x ∷ xs) all =
+    let here = one_less (p x) (q x) all.0 in
+    let rest = count_less p q xs all.1 in
+    omega arith
+
+-- and one of them passes only the other
+count_one_less : (p q : Node → Bool) (id : ℕ) (node : Node) (xs : List Node)
+    → Each (λ x. p x ≡ true → q x ≡ true) xs → find_id id xs ≡ Some node → p node ≡ false
+    → q node ≡ true → count p xs + 1 ≤ count q xs
+count_one_less p q id node [] all found fails passes = absurd (none-some node found)
+count_one_less p q id node (x ∷ xs) all found fails passes =
+    on (x.id == id) (λ there. count_one_less p q id node xs all.1 there fails passes) found
+  where
+    on : (t : Bool) → (find_id id xs ≡ Some node → count p xs + 1 ≤ count q xs)
+        → cond t (Some x) (find_id id xs) ≡ Some node
+        → one_if (p x) + count p xs + 1 ≤ one_if (q x) + count q xs
+    on true rest same =
+        let is : x ≡ node = same_Some x node same in
+        let none : one_if (p x) ≡ 0 = ap (λ (n : Node). one_if (p n)) is ∙ ap one_if fails in
+        let one : one_if (q x) ≡ 1 = ap (λ (n : Node). one_if (q n)) is ∙ ap one_if passes in
+        let others = count_less p q xs all.1 in
+        omega arith
+    on false rest there =
+        let here = one_less (p x) (q x) all.0 in
+        let others = rest there in
+        omega arith
+
+-- what holds of each object that is there
+each_here : (content : Content) → Rises content → (P : Node → Type 0)
+    → ((n : Node) → node_at content n.id ≡ Some n → P n) → Each P content.nodes
+each_here content rises P all =
+    each_there P content.nodes (apart_rising 0 content.nodes rises) all
+
+-- ---- other lists
+
+-- with this list stored before
+abbrev other_than : Which → List Ace → Option Node → Bool
+other_than which inh now =
+    option_map_or (λ (n : Node). not (same_entries (held_of which n).inh inh)) now false
+
+module _ (which : Which) (change : Node → Node) (number : (n : Node) → (change n).id ≡ n.id)
+    (same : (n : Node) → (held_of which (change n)).inh ≡ (held_of which n).inh) where
+  each_before : (new : Content) (xs : List Node)
+      → Each (λ n. has_other_list which new (change n) ≡ has_other_list which new n) xs
+  each_before new [] = tt
+  each_before new (n ∷ xs) = (
+    ap (λ (i : ℕ). other_than which (held_of which (change n)).inh (node_at new i)) (number n)
+        ∙ ap (λ (l : List Ace). other_than which l (node_at new n.id)) (same n),
+    each_before new xs,
+  )
+
+  -- before a change that leaves these lists
+  pub changed_before : (old mid new : Rows) → mid.read ≡ with_each old.read change
+      → changed_lists which mid new ≡ changed_lists which old new
+  changed_before old mid new is =
+      ap (λ (c : Content). count_by (has_other_list which new.read) c.nodes) is
+      ∙ count-is (has_other_list which new.read) (map change old.read.nodes)
+      ∙ count_map (has_other_list which new.read) change old.read.nodes
+      ∙ count_same (λ n. has_other_list which new.read (change n)) (has_other_list which new.read)
+      old.read.nodes (each_before new.read old.read.nodes)
+      ∙ sym (count-is (has_other_list which new.read) old.read.nodes)
+
+  after_it : (content : Content) (n : Node)
+      → has_other_list which (with_each content change) n ≡ has_other_list which content n
+  after_it content n =
+      ap (other_than which (held_of which n).inh) (node_at-changed content change number n.id)
+      ∙ on (node_at content n.id)
+    where
+      on : (o : Option Node) → other_than which (held_of which n).inh (option_map change o)
+          ≡ other_than which (held_of which n).inh o
+      on None = refl
+      on (Some m) = ap (λ (l : List Ace). not (same_entries l (held_of which n).inh)) (same m)
+
+  each_after : (content : Content) (xs : List Node)
+      → Each (λ n. has_other_list which (with_each content change) n
+      ≡ has_other_list which content n) xs
+  each_after content [] = tt
+  each_after content (n ∷ xs) = (after_it content n, each_after content xs)
+
+  -- after a change that leaves them
+  pub changed_after : (old mid new : Rows) → new.read ≡ with_each mid.read change
+      → changed_lists which old new ≡ changed_lists which old mid
+  changed_after old mid new is =
+      ap (λ (c : Content). count_by (has_other_list which c) old.read.nodes) is
+      ∙ count-is (has_other_list which (with_each mid.read change)) old.read.nodes
+      ∙ count_same (has_other_list which (with_each mid.read change))
+      (has_other_list which mid.read) old.read.nodes (each_after mid.read old.read.nodes)
+      ∙ sym (count-is (has_other_list which mid.read) old.read.nodes)
+
+-- ---- lists that are carried down
+
+module _ (which : Which) (id changed : ℕ) (old new : Rows)
+    (spread : IsSpread which id old new changed) where
+  abbrev change : Node → Node
+  change n = with_inh which (spread.lists n) n
+
+  spread_number : (n : Node) → (change n).id ≡ n.id
+  spread_number n = with_inh-id which (spread.lists n) n
+
+  read_is : new.read ≡ with_each old.read change
+  read_is = ap (λ (r : Rows). r.read) spread.becomes
+
+  now_other : (n m : Node) → node_at old.read n.id ≡ Some m
+      → has_other_list which new.read n
+      ≡ not (same_entries (spread.lists m) (held_of which n).inh)
+  now_other n m there =
+      ap (other_than which (held_of which n).inh)
+      (ap (λ (c : Content). node_at c n.id) read_is
+      ∙ node_at-changed old.read change spread_number n.id ∙ ap (option_map change) there)
+      ∙ ap (λ (h : Held). not (same_entries h.inh (held_of which n).inh))
+      (held_of-with_inh which (spread.lists m) m)
+
+  -- as many are other as are counted
+  pub spread_changes : Rises old.read → changed_lists which old new ≡ changed
+  spread_changes rises =
+      count-is (has_other_list which new.read) old.read.nodes
+      ∙ count_same (has_other_list which new.read) (is_changed which spread.lists) old.read.nodes
+      (each_here old.read rises
+      (λ n. has_other_list which new.read n ≡ is_changed which spread.lists n)
+      (λ n there. now_other n n there))
+      ∙ sym (count-is (is_changed which spread.lists) old.read.nodes) ∙ sym spread.counted
+
+-- what is linked below is below
+linked_within : (n : ℕ) (content : Content) (which : Which) (id : ℕ) (node : Node)
+    → is_linked_within n content which id node ≡ true → is_within n content id node ≡ true
+linked_within zero content which id node is = is
+linked_within (suc n) content which id node is =
+    let parts = and_parts (is_linked_in content which node) (has_parent id node
+    || option_map_or (is_linked_within n content which id) (parent_of content node) false) is in
+    elim (or_cases (has_parent id node)
+    (option_map_or (is_linked_within n content which id) (parent_of content node) false)
+    parts.1) [
+      | inl child ↦
+          or_left (has_parent id node)
+          (option_map_or (is_within n content id) (parent_of content node) false) child
+      | inr further ↦
+          or_right (has_parent id node)
+          (option_map_or (is_within n content id) (parent_of content node) false)
+          (on (parent_of content node) (λ above. linked_within n content which id above) further)
+    ]
+  where
+    on : (o : Option Node) → ((above : Node) → is_linked_within n content which id above ≡ true
+        → is_within n content id above ≡ true)
+        → option_map_or (is_linked_within n content which id) o false ≡ true
+        → option_map_or (is_within n content id) o false ≡ true
+    on None rest is = is
+    on (Some above) rest is = rest above is
+
+-- ---- from an object whose list was changed before
+
+module _ (which : Which) (id : ℕ) (change : Node → Node)
+    (number : (n : Node) → (change n).id ≡ n.id)
+    (parent : (n : Node) → (change n).parent ≡ n.parent) (old mid new : Rows)
+    (changes : Changes id change old mid) (rooted : IsRooted id old)
+    (down : IsCarriedDown which id mid tt new) where
+  abbrev node : Node
+  node = rooted.node
+
+  abbrev first : Node → Node
+  first n = cond (n.id == id) (change n) n
+
+  mid_is : mid.read ≡ with_each old.read first
+  mid_is =
+      ap (λ (r : Rows). r.read) (changes node rooted.there)
+      ∙ put_one old.read rooted.rises id node rooted.there change number
+
+  first_number : (n : Node) → (first n).id ≡ n.id
+  first_number n = on (n.id == id)
+    where
+      on : (t : Bool) → (cond t (change n) n).id ≡ n.id
+      on true = number n
+      on false = refl
+
+  named : node.id ≡ id
+  named = node_at-number old.read id node rooted.there
+
+  is_here : first node ≡ change node
+  is_here =
+      cond-true (node.id == id) (change node) node (eq-eqb node.id id named)
+
+  -- it stands there with the changed list, and isn't below itself
+  now_there : node_at mid.read id ≡ Some (change node)
+  now_there =
+      ap (λ (c : Content). node_at c id) mid_is ∙ node_at-changed old.read first first_number id
+      ∙ ap (option_map first) rooted.there ∙ ap (λ (n : Node). Some n) is_here
+
+  abbrev lists : Node → List Ace
+  lists = down.1.lists
+
+  unchanged : is_changed which lists (change node) ≡ false
+  unchanged = false_from_ne_true (is_changed which lists (change node)) (λ is.
+      let below : IsLinkedBelow mid.read which id (change node) = down.1.below (change node)
+      (ap (node_at mid.read) (number node ∙ named) ∙ now_there) is in
+      let now = (rooted_changed id old mid change number parent changes rooted).rooted rooted in
+      rooted_no_loop mid.read id now.steps now.node now.there now.reaches (
+        change node,
+        now_there,
+        (below.0, linked_within below.0 mid.read which id (change node) below.1),
+      ))
+
+  -- so it has that list in the end
+  kept : lists (change node) ≡ (held_of which (change node)).inh
+  kept = on (same_entries (lists (change node)) (held_of which (change node)).inh) refl
+    where
+      on : (t : Bool) → same_entries (lists (change node)) (held_of which (change node)).inh ≡ t
+          → lists (change node) ≡ (held_of which (change node)).inh
+      on true same =
+          entries_equal (lists (change node)) (held_of which (change node)).inh same
+      on false isnt = absurd (false≢true (sym unchanged ∙ ap not isnt))
+
+  other_first : has_other_list which new.read (first node) ≡ false
+  other_first =
+      ap (λ (n : Node). has_other_list which new.read n) is_here
+      ∙ now_other which id down.0 mid new down.1 (change node) (change node)
+      (ap (node_at mid.read) (number node ∙ named) ∙ now_there) ∙ unchanged
+
+  -- whether it had another one
+  pub other_node : has_other_list which new.read node
+      ≡ not (same_entries (held_of which (change node)).inh (held_of which node).inh)
+  other_node =
+      now_other which id down.0 mid new down.1 node (change node)
+      (ap (node_at mid.read) named ∙ now_there)
+      ∙ ap (λ (l : List Ace). not (same_entries l (held_of which node).inh)) kept
+
+  each_less : Each (λ n. has_other_list which new.read (first n) ≡ true
+      → has_other_list which new.read n ≡ true) old.read.nodes
+  each_less = each_here old.read rooted.rises
+      (λ n. has_other_list which new.read (first n) ≡ true → has_other_list which new.read n ≡ true)
+      (λ n there. on n there (cases_Bool (n.id == id)))
+    where
+      same_some : (n : Node) → Some n ≡ Some node → n ≡ node
+      same_some n e = cc
+
+      on : (n : Node) → node_at old.read n.id ≡ Some n
+          → ((n.id == id) ≡ true) ⊎ ((n.id == id) ≡ false)
+          → has_other_list which new.read (first n) ≡ true → has_other_list which new.read n ≡ true
+      on n there (inl here) is =
+          let same : n ≡ node = same_some n
+          (sym there ∙ ap (node_at old.read) (eqb-true n.id id here) ∙ rooted.there) in
+          absurd (false≢true (sym other_first
+          ∙ ap (λ (m : Node). has_other_list which new.read (first m)) (sym same) ∙ is))
+      on n there (inr elsewhere) is =
+          ap (λ (m : Node). has_other_list which new.read m)
+          (sym (cond-false (n.id == id) (change n) n elsewhere)) ∙ is
+
+  -- the lists below it
+  below_it : changed_lists which mid new
+      ≡ count (λ n. has_other_list which new.read (first n)) old.read.nodes
+  below_it =
+      ap (λ (c : Content). count_by (has_other_list which new.read) c.nodes) mid_is
+      ∙ count-is (has_other_list which new.read) (map first old.read.nodes)
+      ∙ count_map (has_other_list which new.read) first old.read.nodes
+
+  pub fewer : changed_lists which mid new ≤ changed_lists which old new
+  fewer =
+      let less = count_less (λ n. has_other_list which new.read (first n))
+      (has_other_list which new.read) old.read.nodes each_less in
+      let all = count-is (has_other_list which new.read) old.read.nodes in
+      let below = below_it in
+      omega arith
+
+  -- and its own, where that is another one
+  pub one_fewer : has_other_list which new.read node ≡ true
+      → changed_lists which mid new + 1 ≤ changed_lists which old new
+  one_fewer other =
+      let less = count_one_less (λ n. has_other_list which new.read (first n))
+      (has_other_list which new.read) id node old.read.nodes each_less rooted.there other_first
+      other in
+      let all = count-is (has_other_list which new.read) old.read.nodes in
+      let below = below_it in
+      omega arith

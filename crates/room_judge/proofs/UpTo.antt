@@ -1,0 +1,204 @@
+-- Calls that write more than records, one after the other.
+use Rattle.std.proofs.Common.{Option, Some, None, ℕ, ◌+◌, ◌≤◌, Result, Ok, Err, IfOk, refl, arith}
+use Rattle.room_rows.specs.declared.keep.KeepFault.{KeepFault}
+use Rattle.room_rows.specs.Keep.{KeepLaws}
+use Rattle.room_rows.specs.Rows.{Rows, AreRows}
+use Rattle.room_machine.specs.declared.reply.Reply.{Reply}
+use Rattle.room_judge.specs.Extent.{Extent, OnlyRecords, Unless, UpTo, StaysWithin, Unsaid}
+use Rattle.room_judge.specs.Extent.{unrecorded}
+use Rattle.room_judge.specs.Judged.{IsDone}
+use Rattle.room_judge.proofs.Calls.{HasDone, done, fails, tail_known, then_known}
+use Rattle.room_judge.proofs.Within.{within_any}
+
+-- What suffices for two calls is shared by them.
+pub record Share (First Second : Rows → Rows → ℕ → Type 0) (old mid new : Rows)
+    (more : ℕ) : Type 0 where
+  pub first : ℕ
+  pub second : ℕ
+  pub suffices_first : First (unrecorded old) (unrecorded mid) first
+  pub suffices_second : Second (unrecorded mid) (unrecorded new) second
+  pub fits : first + second ≤ more
+
+module _ {S : Type 0} {rows : S → Rows} {failures writes : S → ℕ}
+    {Follows IsTrusted : S → S → Type 0}
+    (laws : KeepLaws rows failures writes Follows IsTrusted) where
+  both_within : (First Second Suffices : Rows → Rows → ℕ → Type 0) (a b c : S)
+      → StaysWithin rows writes (UpTo First) a b → StaysWithin rows writes (UpTo Second) b c
+      → ((more : ℕ) → Suffices (unrecorded (rows a)) (unrecorded (rows c)) more
+      → Share First Second (rows a) (rows b) (rows c) more)
+      → StaysWithin rows writes (UpTo Suffices) a c
+  both_within First Second Suffices a b c first second shares more enough =
+      let share = shares more enough in
+      let few = first share.first share.suffices_first in
+      let others = second share.second share.suffices_second in
+      let fits = share.fits in
+      omega arith
+
+  -- nothing is said any more of how much they write
+  pub unsaid : {extent : Extent} {a b : S} {Before : Rows → Rows → Type 0}
+      → HasDone rows writes Follows IsTrusted extent a b Before
+      → HasDone rows writes Follows IsTrusted (UpTo Unsaid) a b Before
+  unsaid before =
+      record {
+        follows = before.follows;
+        becomes = before.becomes;
+        few = λ t more never. absurd never;
+      }
+
+  -- all have answered, and written no more than suffices
+  pub finish_up_to : {X : Type 0} {extent : X → Extent} {a c : S} (x : X)
+      {Before : Rows → Rows → Type 0} {Blames : Rows → ℕ → Type 0}
+      {Becomes : Rows → X → Rows → Type 0}
+      → HasDone rows writes Follows IsTrusted (extent x) a c Before
+      → ((old new : Rows) → AreRows old → Before old new → Becomes old x new)
+      → IsDone rows failures writes Follows IsTrusted extent a c (Ok x) Blames Becomes
+  finish_up_to {a = a} {c = c} x before joins =
+      record {
+        follows = before.follows;
+        becomes = λ t. joins (rows a) (rows c) (laws.are a c t) (before.becomes t);
+        few = before.few;
+        fault = tt;
+      }
+
+  served_within : (told : Option Reply) (Enough Suffices : Rows → Rows → ℕ → Type 0) (a c : S)
+      → ((more : ℕ) → Suffices (unrecorded (rows a)) (unrecorded (rows c)) more
+      → Enough (unrecorded (rows a)) (unrecorded (rows c)) more)
+      → StaysWithin rows writes (Unless told Enough) a c
+      → StaysWithin rows writes (Unless told Suffices) a c
+  served_within None Enough Suffices a c suffices few =
+      λ more enough. few more (suffices more enough)
+  served_within (Some failure) Enough Suffices a c suffices few = few
+
+  -- calls that write only records, and others to which this suffices where the rows were so before
+  pub then_provided : {told : Option Reply} {a b c : S}
+      {Enough Suffices : Rows → Rows → ℕ → Type 0} {Before After Becomes : Rows → Rows → Type 0}
+      → HasDone rows writes Follows IsTrusted OnlyRecords a b Before
+      → HasDone rows writes Follows IsTrusted (Unless told Enough) b c After
+      → ((old mid new : Rows) → AreRows old → Before old mid → After mid new → Becomes old new)
+      → ((old mid new : Rows) (more : ℕ) → AreRows old → Before old mid
+      → Suffices (unrecorded old) (unrecorded new) more
+      → Enough (unrecorded old) (unrecorded new) more)
+      → HasDone rows writes Follows IsTrusted (Unless told Suffices) a c Becomes
+  then_provided {told = told} {a = a} {b = b} {c = c} {Enough = Enough} {Suffices = Suffices} before
+      after joins suffices =
+      let whole = then_known laws before after joins in
+      record {
+        follows = whole.follows;
+        becomes = whole.becomes;
+        few =
+            λ t. served_within told Enough Suffices a c
+            (λ more enough. suffices (rows a) (rows b) (rows c) more (laws.are a c t)
+            (before.becomes (laws.first a b c before.follows after.follows t)) enough)
+            (whole.few t);
+      }
+
+  -- the same where the last call gives the answer, or the fault
+  pub tail_provided : {X : Type 0} {told : X → Option Reply} {a b c : S} {r : Result X KeepFault}
+      {Enough Suffices : Rows → Rows → ℕ → Type 0} {Before : Rows → Rows → Type 0}
+      {Blames Blames' : Rows → ℕ → Type 0} {After Becomes : Rows → X → Rows → Type 0}
+      → HasDone rows writes Follows IsTrusted OnlyRecords a b Before
+      → IsDone rows failures writes Follows IsTrusted (λ x. Unless (told x) Enough) b c r Blames
+      After
+      → ((old mid : Rows) (row : ℕ) → AreRows old → Before old mid → Blames mid row
+      → Blames' old row)
+      → ((old mid : Rows) (x : X) (new : Rows) → AreRows old → Before old mid
+      → After mid x new → Becomes old x new)
+      → ((old mid new : Rows) (more : ℕ) → AreRows old → Before old mid
+      → Suffices (unrecorded old) (unrecorded new) more
+      → Enough (unrecorded old) (unrecorded new) more)
+      → IsDone rows failures writes Follows IsTrusted (λ x. Unless (told x) Suffices) a c r
+      Blames' Becomes
+  tail_provided {X = X} {told = told} {a = a} {b = b} {c = c} {r = r} {Enough = Enough}
+      {Suffices = Suffices} {Before = Before} before after blames joins suffices =
+      let whole = tail_known laws before after blames joins in
+      record {
+        follows = whole.follows;
+        becomes = whole.becomes;
+        few =
+            λ t. on r (laws.are a c t)
+            (before.becomes (laws.first a b c before.follows after.follows t)) (whole.few t);
+        fault = whole.fault;
+      }
+    where
+      on : (r : Result X KeepFault) → AreRows (rows a) → Before (rows a) (rows b)
+          → IfOk r (λ x. StaysWithin rows writes (Unless (told x) Enough) a c)
+          → IfOk r (λ x. StaysWithin rows writes (Unless (told x) Suffices) a c)
+      on (Ok x) are is few =
+          served_within (told x) Enough Suffices a c
+          (λ more enough. suffices (rows a) (rows b) (rows c) more are is enough) few
+      on (Err e) are is few = tt
+
+  -- calls that write only records, as part of others
+  pub widened : {X : Type 0} {extent : X → Extent} {a b : S} {r : Result X KeepFault}
+      {Blames : Rows → ℕ → Type 0} {Becomes : Rows → X → Rows → Type 0}
+      → IsDone rows failures writes Follows IsTrusted (λ _. OnlyRecords) a b r Blames Becomes
+      → IsDone rows failures writes Follows IsTrusted extent a b r Blames Becomes
+  widened {X = X} {extent = extent} {a = a} {b = b} {r = r} call =
+      record {
+        follows = call.follows;
+        becomes = call.becomes;
+        few = λ t. on r (call.few t);
+        fault = call.fault;
+      }
+    where
+      on : (r : Result X KeepFault) → IfOk r (λ _. StaysWithin rows writes OnlyRecords a b)
+          → IfOk r (λ x. StaysWithin rows writes (extent x) a b)
+      on (Ok x) few = within_any rows writes (extent x) a b few
+      on (Err e) few = tt
+
+  -- calls that write more than records, and others that do
+  pub then_share : {a b c : S} {First Second Suffices : Rows → Rows → ℕ → Type 0}
+      {Before After Becomes : Rows → Rows → Type 0}
+      → HasDone rows writes Follows IsTrusted (UpTo First) a b Before
+      → HasDone rows writes Follows IsTrusted (UpTo Second) b c After
+      → ((old mid new : Rows) → Before old mid → After mid new → Becomes old new)
+      → ((old mid new : Rows) (more : ℕ) → AreRows old → Before old mid → After mid new
+      → Suffices (unrecorded old) (unrecorded new) more → Share First Second old mid new more)
+      → HasDone rows writes Follows IsTrusted (UpTo Suffices) a c Becomes
+  then_share {a = a} {b = b} {c = c} {First = First} {Second = Second} {Suffices = Suffices}
+      before after joins shares =
+      record {
+        follows = laws.on a b c before.follows after.follows;
+        becomes =
+            λ t. joins (rows a) (rows b) (rows c)
+            (before.becomes (laws.first a b c before.follows after.follows t))
+            (after.becomes (laws.last a b c before.follows after.follows t));
+        few =
+            λ t. both_within First Second Suffices a b c
+            (before.few (laws.first a b c before.follows after.follows t))
+            (after.few (laws.last a b c before.follows after.follows t))
+            (λ more enough. shares (rows a) (rows b) (rows c) more (laws.are a c t)
+            (before.becomes (laws.first a b c before.follows after.follows t))
+            (after.becomes (laws.last a b c before.follows after.follows t)) enough);
+      }
+
+  -- the same where the last call gives the answer, or the fault
+  pub tail_share : {X : Type 0} {a b c : S} (r : Result X KeepFault)
+      {First Second Suffices : Rows → Rows → ℕ → Type 0} {Before : Rows → Rows → Type 0}
+      {Blames Blames' : Rows → ℕ → Type 0} {After Becomes : Rows → X → Rows → Type 0}
+      → HasDone rows writes Follows IsTrusted (UpTo First) a b Before
+      → IsDone rows failures writes Follows IsTrusted (λ _. UpTo Second) b c r Blames After
+      → ((old mid : Rows) (row : ℕ) → Before old mid → Blames mid row → Blames' old row)
+      → ((old mid : Rows) (x : X) (new : Rows) → Before old mid → After mid x new
+      → Becomes old x new)
+      → ((old mid : Rows) (x : X) (new : Rows) (more : ℕ) → AreRows old → Before old mid
+      → After mid x new → Suffices (unrecorded old) (unrecorded new) more
+      → Share First Second old mid new more)
+      → IsDone rows failures writes Follows IsTrusted (λ _. UpTo Suffices) a c r Blames' Becomes
+  tail_share (Ok x) {After = After} {Becomes = Becomes} before after blames joins shares =
+      finish_up_to x
+      (then_share before (done after) (λ old mid new b a. joins old mid x new b a)
+      (λ old mid new more are b a enough. shares old mid x new more are b a enough))
+      (λ old new are h. h)
+  tail_share (Err e) before after blames joins shares =
+      fails laws before after blames (Err e) refl
+
+  -- nothing is said any more of how much is written
+  pub then_unsaid : {first last : Extent} {a b c : S} {Before After Becomes : Rows → Rows → Type 0}
+      → HasDone rows writes Follows IsTrusted first a b Before
+      → HasDone rows writes Follows IsTrusted last b c After
+      → ((old mid new : Rows) → Before old mid → After mid new → Becomes old new)
+      → HasDone rows writes Follows IsTrusted (UpTo Unsaid) a c Becomes
+  then_unsaid before after joins =
+      then_share (unsaid before) (unsaid after) joins
+      (λ old mid new more are b a never. absurd never)

@@ -1,0 +1,61 @@
+-- How much calls write beside records, one after the other.
+use Rattle.std.proofs.Common.{◌≡◌, ◌∙◌, ℕ, Some, None, ◌+◌, ◌≤◌, Result, Ok, Err, IfOk, length, sym}
+use Rattle.std.proofs.Common.{ap, subst, arith}
+use Rattle.room_rows.specs.declared.keep.KeepFault.{KeepFault}
+use Rattle.room_rows.specs.Keep.{capped}
+use Rattle.room_rows.specs.Rows.{Rows}
+use Rattle.room_judge.specs.Extent.{Extent, OnlyRecords, Unless, StaysWithin, WritesRecords}
+use Rattle.room_judge.specs.Extent.{unrecorded}
+
+capped_below : (n : ℕ) → capped n ≤ n
+capped_below n = omega arith
+
+-- a call that counts so many writes, in numbers
+pub written_up_to : (before after count old new more : ℕ) → after ≡ capped (before + count)
+    → count + old ≤ new + more → after + old ≤ before + new + more
+written_up_to before after count old new more is few =
+    let below : after ≤ before + count =
+    subst (λ (n : ℕ). n ≤ before + count) (sym is) (capped_below (before + count)) in
+    omega arith
+
+module _ {S : Type 0} (rows : S → Rows) (writes : S → ℕ) where
+  pub within_same : (a b : S) → rows b ≡ rows a → writes b ≡ writes a
+      → StaysWithin rows writes OnlyRecords a b
+  within_same a b same unwritten =
+      let count : length (rows b).read.audits ≡ length (rows a).read.audits =
+      ap (λ (r : Rows). length r.read.audits) same in
+      (ap unrecorded same, omega arith)
+
+  -- calls that write only records write no more than suffices
+  pub within_any : (extent : Extent) (a b : S) → StaysWithin rows writes OnlyRecords a b
+      → StaysWithin rows writes extent a b
+  within_any OnlyRecords a b within = within
+  within_any (Unless (Some failure) Suffices) a b within = within
+  within_any (Unless None Suffices) a b within =
+      λ more enough. let few = within.1 in omega arith
+
+  records_after : (a b c : S) → WritesRecords rows writes a b → WritesRecords rows writes b c
+      → WritesRecords rows writes a c
+  records_after a b c before after =
+      let first = before.1 in let second = after.1 in
+      (after.0 ∙ before.0, omega arith)
+
+  -- calls after some that write only records
+  pub within_after : (extent : Extent) (a b c : S) → StaysWithin rows writes OnlyRecords a b
+      → StaysWithin rows writes extent b c → StaysWithin rows writes extent a c
+  within_after OnlyRecords a b c before after = records_after a b c before after
+  within_after (Unless (Some failure) Suffices) a b c before after =
+      records_after a b c before after
+  within_after (Unless None Suffices) a b c before after =
+      λ more enough. let first = before.1 in
+      let second = after more
+      (subst (λ (r : Rows). Suffices r (unrecorded (rows c)) more) (sym before.0) enough) in
+      omega arith
+
+  -- the same where the last of them may have a fault
+  pub within_later : {X : Type 0} (extent : X → Extent) (a b c : S) (r : Result X KeepFault)
+      → StaysWithin rows writes OnlyRecords a b
+      → IfOk r (λ x. StaysWithin rows writes (extent x) b c)
+      → IfOk r (λ x. StaysWithin rows writes (extent x) a c)
+  within_later extent a b c (Ok x) before after = within_after (extent x) a b c before after
+  within_later extent a b c (Err e) before after = tt
