@@ -1,5 +1,5 @@
 -- What a statement inside a transaction answers and leaves.
-use Rattle.std.proofs.Common.{◌≡◌, ℕ, List, Result, Ok, Err, IsTrue, ◌⊎◌, false, IfOk, IfErr}
+use Rattle.std.proofs.Common.{◌≡◌, ℕ, List, Result, Ok, Err, IsTrue, ◌⊎◌, false, IfOk, IfErr, subst, sym}
 use Rattle.std.proofs.Common.{Vec, Global}
 use Rattle.sqlite.specs.Order.{Row}
 use Rattle.sqlite.specs.Tree.{Trees}
@@ -8,6 +8,7 @@ use Rattle.sqlite.specs.State.{State, HasCleanDisk, Shown, FailsToQuery, IsTooLa
 use Rattle.sqlite.specs.State.{ExecutesInside}
 use Rattle.store_tables.specs.Shown.{IsRoom, Stays}
 use Rattle.store_tables.specs.Statements.{QueriesSql, ExecutesSql}
+use Rattle.store_tables.specs.Trust.{stays_itself}
 use Rattle.store_tables.proofs.Calls.{same_ok}
 use Rattle.store_tables.proofs.Executed.{WritesRoom}
 use Rattle.store_tables.proofs.Inside.{did_inside, query_inside, write_inside}
@@ -29,6 +30,13 @@ asks sql params old new r Shows reads quiet shows ok err = record {
   same = λ now room. same_ok sql params old new r reads (ok now);
   stays = query_inside sql params old new r reads quiet ok err;
 }
+
+-- a write after the transaction's end, which leaves the connection as it was
+pub ended : {H : Type 0} (shown : H → State) (old new : H) (r : Result ℕ Error) (e : Error)
+    (IsOver : Type 0) → (IsOver → (r ≡ Err e) × (new ≡ old)) → IsOver
+    → (r ≡ Err e) × Stays (shown old) (shown new)
+ended shown old new r e IsOver h over =
+    ((h over).0, subst (λ s. Stays (shown old) (shown s)) (sym (h over).1) (stays_itself (shown old)))
 
 -- a write inside a transaction keeps `ExecutesSql`, once it is known what it leaves by its count
 pub writes : (sql : List ℕ) (params : Row) (old new : State) (r : Result ℕ Error) (e : Error)

@@ -28,7 +28,7 @@ use Rattle.room_rows.specs.Rows.{Rows, Unread}
 use Rattle.room_rows.proofs.Mixed.{mixed_other}
 use Rattle.store_tables.specs.Filed.{node_parts}
 use Rattle.store_tables.specs.Meaning.{named_in, node_in, number_in, rows_of, text_in}
-use Rattle.store_tables.specs.Meaning.{unread_in, unread_of, unread_with}
+use Rattle.store_tables.specs.Meaning.{unread_in, unread_of, unread_with, whole_in}
 use Rattle.store_tables.specs.RoomRows.{number_in-low}
 use Rattle.store_tables.specs.Seeing.{result_of_seen, seen_as, seen_behind, seen_then}
 use Rattle.store_tables.specs.Shown.{IsRoom, is_child, is_numbered, shown_node}
@@ -171,20 +171,20 @@ module _ (db : Database) (room : IsRoom db) (parent : ℕ) where
   others = unread_under parent (rows_of db)
 
   -- a row under the parent that isn't read as an object can't be read, and is told as it stands
-  other_named : 0 < parent → (r : Row) → Has kept r → see r ≡ None → (p : Named)
+  other_named : (r : Row) → Has kept r → see r ≡ None → (p : Named)
       → named r ≡ Some p → Contains others p
-  other_named low r there unseen p is =
+  other_named r there unseen p is =
       let row = has_filtered (is_child (pos parent)) (db.trees 0) r there in
       let parts = and_parts _ (is_numbered r) row.1 in
       let number = number_kept (rowid r) (of_each _ (db.trees 0) room.nodes.1 r row.0) parts.1 in
-      let above : number_in (column r 2) ≡ Some parent =
-      ap number_in (parent_whole db room r row.0 parent parts.0) ∙ number_in-low parent low in
+      let above : whole_in (column r 2) ≡ Some parent =
+      ap whole_in (parent_whole db room r row.0 parent parts.0) in
       let read : unread_in r ≡ Some (unread_with r number.0) =
       ap (λ o. if is_none o then option_map (unread_with r) (number_in (rowid r)) else None) unseen
       ∙ ap (option_map (unread_with r)) number.1 in
       let stands : Has (unread_of (db.trees 0)) (unread_with r number.0) =
       has_read unread_in (db.trees 0) r (unread_with r number.0) row.0 read in
-      let under_it : option_map_or (λ above. above == parent) (number_in (column r 2)) false ≡ true =
+      let under_it : option_map_or (λ above. above == parent) (whole_in (column r 2)) false ≡ true =
       ap (λ o. option_map_or (λ above. above == parent) o false) above
       ∙ eq-eqb parent parent refl in
       contains_had others p
@@ -194,27 +194,27 @@ module _ (db : Database) (room : IsRoom db) (parent : ℕ) where
       (has_kept (λ (u : Unread). option_map_or (λ above. above == parent) u.parent false)
       (unread_of (db.trees 0)) (unread_with r number.0) stands under_it) is)
 
-  mixed_step : 0 < parent → (r : Row) (rows : List Row) → Has kept r → (o : Option Node) → see r ≡ o
+  mixed_step : (r : Row) (rows : List Row) → Has kept r → (o : Option Node) → see r ≡ o
       → (q : Option Named) → named r ≡ q
       → IsMixed others (map name_of (filter_map see rows)) (filter_map named rows)
       → IsMixed others (map name_of (cons_option o (filter_map see rows)))
       (cons_option q (filter_map named rows))
-  mixed_step low r rows there (Some n) seen (Some p) is more =
+  mixed_step r rows there (Some n) seen (Some p) is more =
       inl (same_Some p (name_of n) (sym is ∙ named_of r n seen), more)
-  mixed_step low r rows there (Some n) seen None is more =
+  mixed_step r rows there (Some n) seen None is more =
       absurd (none-some (name_of n) (sym is ∙ named_of r n seen))
-  mixed_step low r rows there None unseen (Some p) is more =
+  mixed_step r rows there None unseen (Some p) is more =
       mixed_other others (map name_of (filter_map see rows)) p (filter_map named rows)
-      (other_named low r there unseen p is) more
-  mixed_step low r rows there None unseen None is more = more
+      (other_named r there unseen p is) more
+  mixed_step r rows there None unseen None is more = more
 
   -- the names of rows are those of their objects, and of rows that can't be read
-  names_mixed : 0 < parent → (rows : List Row) → ((r : Row) → Has rows r → Has kept r)
+  names_mixed : (rows : List Row) → ((r : Row) → Has rows r → Has kept r)
       → IsMixed others (map name_of (filter_map see rows)) (filter_map named rows)
-  names_mixed low [] within = refl
-  names_mixed low (r ∷ rows) within =
-      mixed_step low r rows (within r (inl refl)) (see r) refl (named r) refl
-      (names_mixed low rows (λ x there. within x (inr there)))
+  names_mixed [] within = refl
+  names_mixed (r ∷ rows) within =
+      mixed_step r rows (within r (inl refl)) (see r) refl (named r) refl
+      (names_mixed rows (λ x there. within x (inr there)))
 
   abbrev AreNamed : List Named → List Row → Rows → List Named → Type 0
   AreNamed done rows told names = names ≡ done ++ filter_map named rows
@@ -247,10 +247,10 @@ module _ (db : Database) (room : IsRoom db) (parent : ℕ) where
       name_step done r rows (within r (inl refl))
       (reads_names rows (λ x there. within x (inr there))) (named r) refl (number_in (rowid r)) refl
 
-  pub tells_names : 0 < parent → (rows : List Row) → HasNames (pos parent) db.trees rows
+  pub tells_names : (rows : List Row) → HasNames (pos parent) db.trees rows
       → Tells IsUnreadable (AreNamedUnder parent) (rows_of db)
       (result_of_seen (seen_behind named_in [] rows))
-  tells_names low rows shown =
+  tells_names rows shown =
       subst (λ l. Tells IsUnreadable (AreNamedUnder parent) (rows_of db)
       (result_of_seen (seen_behind named_in [] l))) (sym shown)
       (tells_by IsUnreadable (AreNamed [] (sort_by by_name kept)) (AreNamedUnder parent)
@@ -259,6 +259,6 @@ module _ (db : Database) (room : IsRoom db) (parent : ℕ) where
       subst (λ l. IsMixed others (map name_of l) names)
       (sorted_read kept ∙ sym (children_read db parent))
       (subst (IsMixed others (map name_of (filter_map see (sort_by by_name kept)))) (sym read)
-      (names_mixed low (sort_by by_name kept) (sorted_from kept))))
+      (names_mixed (sort_by by_name kept) (sorted_from kept))))
       (result_of_seen (seen_behind named_in [] (map shown_name (sort_by by_name kept))))
       (reads_names (sort_by by_name kept) (sorted_within db room parent) []))

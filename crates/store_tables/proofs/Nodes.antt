@@ -14,7 +14,7 @@ use Rattle.room_rows.specs.declared.keep.KeepFault.{KeepFault}
 use Rattle.room_rows.specs.declared.keep.KeepFault.TheVariants.{Memory, Store, Damaged}
 use Rattle.room_rows.specs.declared.node.Node.{Node}
 use Rattle.room_rows.specs.Rows.{Rows}
-use Rattle.room_rows.specs.Keep.{IsNodeAt, IsUnreadableAt, HasCause, IfSeen}
+use Rattle.room_rows.specs.Keep.{IsNodeAt, IsRead, IsUnreadableAt, HasCause, IfSeen}
 use Rattle.store_tables.specs.Shown.{IsRoom, shown_node}
 use Rattle.store_tables.specs.Meaning.{number_in, node_in, unread_in, unread_with, rows_of}
 use Rattle.store_tables.specs.Filed.{node_at_row, unread_at_row}
@@ -31,12 +31,12 @@ Tells Blames Answers rows (Err Memory) = Unit {0}
 Tells Blames Answers rows (Err Store) = Unit {0}
 Tells Blames Answers rows (Err (Damaged at)) = Blames rows at
 
-pub told_answers : {X : Type 0} (Blames : Rows → ℕ → Type 0) (Answers : Rows → X → Type 0)
+told_answers : {X : Type 0} (Blames : Rows → ℕ → Type 0) (Answers : Rows → X → Type 0)
     (rows : Rows) (r : Result X KeepFault) → Tells Blames Answers rows r → IfOk r (Answers rows)
 told_answers Blames Answers rows (Ok x) t = t
 told_answers Blames Answers rows (Err e) t = tt
 
-pub told_cause : {X Trusted : Type 0} (Blames : Rows → ℕ → Type 0) (Answers : Rows → X → Type 0)
+told_cause : {X Trusted : Type 0} (Blames : Rows → ℕ → Type 0) (Answers : Rows → X → Type 0)
     (rows : Rows) (r : Result X KeepFault) (before after : ℕ) → counted_by r before after
     → (Trusted → Tells Blames Answers rows r)
     → IfErr r (HasCause before after (λ at. Trusted → Blames rows at))
@@ -45,16 +45,35 @@ told_cause Blames Answers rows (Err Memory) before after counted t = tt
 told_cause Blames Answers rows (Err Store) before after counted t = counted
 told_cause Blames Answers rows (Err (Damaged at)) before after counted t = t
 
-pub told_unfailed : {X : Type 0} (r : Result X KeepFault) (before after : ℕ)
+told_unfailed : {X : Type 0} (r : Result X KeepFault) (before after : ℕ)
     → counted_by r before after → IfOk r (λ _. after ≡ before)
 told_unfailed (Ok x) before after counted = counted
 told_unfailed (Err e) before after counted = tt
 
-pub if_seen : {X : Type 0} (r : Result X KeepFault) (P : Type 0) → P → IfSeen r P
+if_seen : {X : Type 0} (r : Result X KeepFault) (P : Type 0) → P → IfSeen r P
 if_seen (Ok x) P p = p
 if_seen (Err Memory) P p = tt
 if_seen (Err Store) P p = tt
 if_seen (Err (Damaged id)) P p = p
+
+-- a call that reads, by what it tells, where what came before its end counted no failure
+pub reads : {K X : Type 0} (rows : K → Rows) (failures writes : K → ℕ)
+    (Follows Trusted : K → K → Type 0) (Blames : Rows → ℕ → Type 0) (Answers : Rows → X → Type 0)
+    (old new : K) (r : Result X KeepFault) (mid : ℕ) → Follows old new → writes new ≡ writes old
+    → (Trusted old new → rows new ≡ rows old) → mid ≡ failures old
+    → counted_by r mid (failures new) → (Trusted old new → Tells Blames Answers (rows old) r)
+    → IsRead rows failures writes Follows Trusted old new r Blames Answers
+reads rows failures writes Follows Trusted Blames Answers old new r mid follows unwritten same
+    unfailed counts tells =
+    let counted = subst (λ n. counted_by r n (failures new)) unfailed counts in
+    record {
+      follows = follows;
+      unwritten = unwritten;
+      same = λ trust. if_seen r _ (same trust);
+      answers = λ trust. told_answers Blames Answers (rows old) r (tells trust);
+      unfailed = told_unfailed r _ _ counted;
+      fault = told_cause Blames Answers (rows old) r _ _ counted tells;
+    }
 
 pub none_passes : {A : Type 0} (p : A → Bool) (xs : List A) → filter p xs ≡ [] → find p xs ≡ None
 none_passes p [] none = refl

@@ -1,6 +1,8 @@
 -- Rows by their rowids.
-use Rattle.std.proofs.Common.{◌≡◌, ℤ, List, [], ◌∷◌, ◌++◌, filter, Some, IsTrue, inl, inr, ◌⊎◌}
+use Rattle.std.proofs.Common.{◌≡◌, ◌<◌, ℕ, ℤ, pos, to_z, of_z, w64, List, [], ◌∷◌, ◌++◌, filter, Some, IsTrue, inl, inr, ◌⊎◌}
 use Rattle.std.proofs.Common.{refl, sym, ap, subst, ◌∙◌, true, false, Bool, cond, find, arith}
+use Rattle.std.proofs.Math.Facts.{to_z-of_z}
+use Rattle.std.specs.Prelude.{FitsSigned}
 use Rattle.std.specs.Ordering.{is_eq, is_lt}
 use Rattle.std.specs.List.{AllByRecursion}
 use Rattle.sqlite.specs.declared.types.Value.{Value}
@@ -18,6 +20,11 @@ use Rattle.std.proofs.lemmas.Cmp.{tied_itself}
 use Rattle.std.specs.FinMap.{int_cmp-IsAntisymmetric}
 use Rattle.std.specs.declared.cmp.Ordering.{Ordering}
 use Rattle.std.specs.declared.cmp.Ordering.TheVariants.{Less, Equal, Greater}
+
+-- a number's rowid that is passed on is that number
+pub passed_on : (row : ℤ) (id : ℕ) → FitsSigned w64 (pos id) × (row ≡ pos id) × (0 < id)
+    → to_z w64 (of_z w64 row) ≡ pos id
+passed_on row id (fits, is, low) = ap (λ z. to_z w64 (of_z w64 z)) is ∙ to_z-of_z fits
 
 -- an integer compares as equal to itself, so the row with this rowid is found by it
 pub has_itself : (id : ℤ) → is_eq (value_cmp (Int id) (Int id)) ≡ true

@@ -136,11 +136,16 @@ stored_in (Real x) = Fraction x
 stored_in (Text text) = Stored.Text text
 stored_in (Blob bytes) = Bytes bytes
 
+-- a number as it is stored, which may be 0
+abbrev pub whole_in : Value → Option ℕ
+whole_in (Int (pos n)) = Some n
+whole_in _ = None
+
 -- what is stored of the row of this number
 abbrev pub unread_with : Row → ℕ → Unread
 unread_with r id = record {
   id = id;
-  parent = number_in (column (shown_node r) 1);
+  parent = whole_in (column (shown_node r) 1);
   named = named_in (shown_name r);
   values = map stored_in r;
 }

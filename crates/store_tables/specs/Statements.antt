@@ -1,5 +1,6 @@
 -- What the statements of the keeper show of the tables, and what they leave.
-use Rattle.std.specs.Prelude.{◌≡◌, ℕ, ℤ, List, [], ◌∷◌, map, filter, take, Result, IfOk, OnOk, Vec}
+use Rattle.std.specs.Prelude.{◌≡◌, ◌<◌, ℕ, ℤ, pos, List, [], ◌∷◌, map, filter, take, Result, IfOk}
+use Rattle.std.specs.Prelude.{OnOk, Vec}
 use Rattle.std.specs.Global.{Global}
 use Rattle.std.specs.List.Sorted.{IsPermutation}
 use Rattle.sqlite.specs.Order.{Row, column, value_cmp}
@@ -94,9 +95,17 @@ pub record ExecutesSql (Leaves : ℕ → State → State → Type 0) (old new : 
 abbrev pub OfOne : (Trees → Trees → Type 0) → ℕ → State → State → Type 0
 OfOne Becomes count old new = count ≡ 1 → Becomes old.now.trees new.now.trees
 
+-- the row of this number, which counts from 1, becomes so, where it alone was changed
+abbrev pub OfRow : ℕ → (ℤ → Trees → Trees → Type 0) → ℕ → State → State → Type 0
+OfRow id Becomes = OfOne (λ db next. (0 < id) × Becomes (pos id) db next)
+
 -- the trees become so, whatever is counted
 abbrev pub OfAny : (Trees → Trees → Type 0) → ℕ → State → State → Type 0
 OfAny Becomes count old new = Becomes old.now.trees new.now.trees
+
+-- the rows of these numbers, from the first to the last, become so
+abbrev pub OfRows : ℕ → ℕ → (ℤ → ℤ → Trees → Trees → Type 0) → ℕ → State → State → Type 0
+OfRows first last Becomes = OfAny (λ db next. (0 < first) × Becomes (pos first) (pos last) db next)
 
 -- a row of nodes is put in with the next number, which the connection then answers
 abbrev pub PutsNode : Row → State → State → Type 0

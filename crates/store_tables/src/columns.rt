@@ -1,14 +1,15 @@
 //! The columns of an object.
-ghost use Rattle.std.specs.Prelude.{◌≡◌, Some, IfOk, IfSome, pos, string_bytes};
+ghost use Rattle.std.specs.Int.{w64};
+ghost use Rattle.std.specs.Prelude.{◌≡◌, ◌<◌, FitsSigned, Some, IfOk, IfSome, pos, string_bytes};
 ghost use Rattle.sqlite.specs.declared.types.Value.TheVariants.{Int, Text as SqlText};
 ghost use Rattle.store_tables.specs.Columns.{IsParent, Recalls, ReadsAsHeld, ReadsAsNode};
 ghost use Rattle.store_tables.specs.Meaning.{flags_in, kind_in, mask_in, name_in};
 ghost use Rattle.store_tables.specs.Meaning.{parent_in, path_in, place_in, text_in, user_in};
 ghost use Rattle.store_tables.specs.Printed.{IsPrinted};
 
-use crate::seen::rowid_of;
 use room_ace::{Failure, ListFlags, Mask, Name, ObjKind, Owners, names_are_text, print_entries};
 use room_rows::{AuditRow, Held, Node, RecordKind, Text, read_path};
+use sqlite::Error;
 use sqlite::types::Value;
 use std::alloc::{AllocError, Global};
 
@@ -28,14 +29,24 @@ pub(crate) struct Columns {
     pub(crate) sacl_inh: String,
 }
 
+/// The rowid of an object's number, as a parameter of a statement. Some numbers have none.
+pub(crate) fn rowid_of(id: u64) -> Result<i64, Error>
+    ensures { IfOk result (λ row. FitsSigned w64 (pos id) × (row ≡ pos id) × (0 < id)) }
+{
+    match i64::try_from(id) {
+        Ok(row) if id > 0 => Ok(row),
+        _ => Err(Error::IntegralValueOutOfRange(0)),
+    }
+}
+
 fn parent_column(parent: Option<u64>) -> Option<Value>
     ensures { IfSome result (λ v. IsParent v × (parent_in v ≡ Some parent)) }
 {
     match parent {
         None => Some(Value::Null),
         Some(id) => match rowid_of(id) {
-            Some(row) => Some(Value::Int(row)),
-            None => None,
+            Ok(row) => Some(Value::Int(row)),
+            Err(_) => None,
         },
     }
 }

@@ -1,5 +1,5 @@
 //! Why the database failed.
-ghost use Rattle.std.specs.Prelude.{◌≡◌, ◌≤◌, ℕ, IfErr, OnOk, true};
+ghost use Rattle.std.specs.Prelude.{◌≡◌, ◌≤◌, ℕ, Err, IfErr, IfOk, MatchResult, Ok, OnOk, true};
 ghost use Rattle.room_rows.specs.Keep.{HasCause, capped};
 ghost use Rattle.store_tables.specs.Seeing.{Nowhere, all_changed, fault_for, wants_memory};
 
@@ -28,8 +28,8 @@ pub fn fault_for(error: Error) -> KeepFault
     }
 }
 
-/// The same, counted as a failure unless memory ran out.
-pub(crate) fn blamed(error: Error, failures: &mut u64) -> KeepFault
+// The same, counted as a failure unless memory ran out.
+fn blamed(error: Error, failures: &mut u64) -> KeepFault
     ensures fault { result ≡ fault_for error }
     ensures cause { HasCause (capped failures.old) (capped failures.new) Nowhere result }
     ensures uncounted { wants_memory error ≡ true → failures.new ≡ failures.old }
@@ -39,6 +39,21 @@ pub(crate) fn blamed(error: Error, failures: &mut u64) -> KeepFault
         KeepFault::Memory
     } else {
         failed(failures)
+    }
+}
+
+/// What came of a statement. An error is told as a keeper's fault, and counted.
+pub(crate) fn or_blamed<T>(done: Result<T, Error>, failures: &mut u64) -> Result<T, KeepFault>
+    ensures told { MatchResult done (λ answer. result ≡ Ok answer)
+        (λ error. result ≡ Err (fault_for error)) }
+    ensures answer { IfOk result (λ answer. done ≡ Ok answer) }
+    ensures cause { IfErr result (HasCause (capped failures.old) (capped failures.new) Nowhere) }
+    ensures unfailed { OnOk result (failures.new ≡ failures.old) }
+    ensures no_less { failures.old ≤ failures.new }
+{
+    match done {
+        Ok(answer) => Ok(answer),
+        Err(error) => Err(blamed(error, failures)),
     }
 }
 

@@ -1,6 +1,5 @@
 //! What lists inherit, written into one object or into many.
 ghost use Rattle.sqlite.specs.Held.{state};
-ghost use Rattle.std.specs.Int.{w64};
 ghost use Rattle.std.specs.List.{range_with_len};
 ghost use Rattle.std.specs.List.Sorted.{IsPermutation};
 ghost use Rattle.std.specs.Prelude.{
@@ -12,15 +11,11 @@ ghost use Rattle.std.specs.Prelude.{
   ◌++◌,
   ◌∷◌,
   [],
-  FitsSigned,
   IfOk,
   List,
-  MatchOption,
   length,
-  pos,
   true,
   ℕ,
-  ⊤,
 };
 ghost use Rattle.room_entry.specs.Ace.{Ace};
 ghost use Rattle.room_rows.specs.Keep.{capped, with_inh, writes_after};
@@ -29,7 +24,6 @@ ghost use Rattle.store_tables.specs.Trust.{Alters, AltersAll, Puts};
 
 use crate::fault::{wrote_all, wrote_one};
 use crate::keeper::Keeper;
-use crate::seen::rowid_of;
 use crate::statements::{update_inh, update_range};
 use room_ace::{Entry, Which};
 use room_rows::{KeepFault, count_all, count_one, failed};
@@ -52,13 +46,8 @@ fn put_text<S: Alter>(
         (state S.Store keeper.new.tx.now.conn.now) keeper.old.failures keeper.new.failures
         result (λ _. Alters id (with_inh which entries)) }
 {
-    let Some(row) = rowid_of(id) else {
-        return Err(failed(&mut keeper.failures));
-    };
-    wrote_one(
-        update_inh(keeper.tx, row, which, text),
-        &mut keeper.failures,
-    )
+    let done = update_inh(keeper.tx, id, which, text);
+    wrote_one(done, &mut keeper.failures)
 }
 
 /// Writes what a list of an object that is there inherits.
@@ -83,18 +72,6 @@ pub(crate) fn put_inh<S: Alter>(
     Ok(())
 }
 
-// The rowid of the last of so many numbers that follow one another.
-fn end_of(first: u64, count: u64) -> Option<i64>
-    requires { 0 < count }
-    ensures { MatchOption result ⊤
-        (λ at. FitsSigned w64 (pos (first + (count - 1))) × (at ≡ pos (first + (count - 1)))) }
-{
-    match first.checked_add(count - 1) {
-        Some(last) => rowid_of(last),
-        None => None,
-    }
-}
-
 // The same of so many objects whose numbers follow one another, by one statement.
 fn put_range<S: Alter>(
     keeper: &mut Keeper<'_, '_, S>,
@@ -113,13 +90,10 @@ fn put_range<S: Alter>(
         (state S.Store keeper.new.tx.now.conn.now) keeper.old.failures keeper.new.failures
         result (λ _. AltersAll (range_with_len first count) (with_inh which entries)) }
 {
-    let Some(from) = rowid_of(first) else {
+    let Some(last) = first.checked_add(count - 1) else {
         return Err(failed(&mut keeper.failures));
     };
-    let Some(to) = end_of(first, count) else {
-        return Err(failed(&mut keeper.failures));
-    };
-    let done = update_range(keeper.tx, from, to, which, text);
+    let done = update_range(keeper.tx, first, last, which, text);
     wrote_all(done, count, &mut keeper.failures)
 }
 

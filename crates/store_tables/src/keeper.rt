@@ -19,12 +19,12 @@ ghost use Rattle.store_tables.specs.RoomRows.{room_rows};
 ghost use Rattle.store_tables.specs.Whole.{Sees, SeesEach, SeesNamed, SeesSome, SeesTop};
 
 use crate::columns::{columns_of, held_columns, name_is_kept, record_of, text_is_kept};
-use crate::fault::{blamed, wrote_one};
+use crate::fault::{or_blamed, wrote_one};
 use crate::inherited::{put_inh, put_inh_all};
 use crate::reading::number_of;
 use crate::recent::RecentLists;
 use crate::seen::{
-    answer, answer_top, rowid_of, see_all, see_bytes, see_listing, see_names, see_numbers, see_only,
+    answer, answer_top, see_all, see_bytes, see_listing, see_names, see_numbers, see_only,
 };
 use crate::statements::{
     delete_node, insert_bytes, insert_node, insert_record, select_bytes, select_child,
@@ -71,11 +71,8 @@ fn put_held<S: Alter>(
         (state S.Store keeper.new.tx.now.conn.now) keeper.old.failures keeper.new.failures
         result (λ _. Alters id (with_held which held.now)) }
 {
-    let Some(row) = rowid_of(id) else {
-        return Err(failed(&mut keeper.failures));
-    };
     let list = held_columns(keeper.alloc, held)?;
-    let done = update_held(keeper.tx, row, which, &list);
+    let done = update_held(keeper.tx, id, which, &list);
     drop(list);
     wrote_one(done, &mut keeper.failures)?;
     count_one(&mut keeper.writes);
@@ -95,12 +92,9 @@ fn put_owners<S: Alter>(
         (state S.Store keeper.new.tx.now.conn.now) keeper.old.failures keeper.new.failures
         result (λ _. Alters id (with_owners owners.now)) }
 {
-    let Some(row) = rowid_of(id) else {
-        return Err(failed(&mut keeper.failures));
-    };
     name_is_kept(&owners.owner);
     name_is_kept(&owners.group);
-    let done = update_owners(keeper.tx, row, owners.owner.as_str(), owners.group.as_str());
+    let done = update_owners(keeper.tx, id, owners.owner.as_str(), owners.group.as_str());
     wrote_one(done, &mut keeper.failures)?;
     count_one(&mut keeper.writes);
     Ok(())
@@ -120,14 +114,8 @@ fn put_place<S: Alter>(
         (state S.Store keeper.new.tx.now.conn.now) keeper.old.failures keeper.new.failures
         result (λ _. Alters id (with_place parent name.now)) }
 {
-    let Some(row) = rowid_of(id) else {
-        return Err(failed(&mut keeper.failures));
-    };
-    let Some(under) = rowid_of(parent) else {
-        return Err(failed(&mut keeper.failures));
-    };
     text_is_kept(name);
-    let done = update_place(keeper.tx, row, under, name);
+    let done = update_place(keeper.tx, id, parent, name);
     wrote_one(done, &mut keeper.failures)?;
     count_one(&mut keeper.writes);
     Ok(())
@@ -147,10 +135,7 @@ fn put_new<S: Alter>(keeper: &mut Keeper<'_, '_, S>, node: &Node) -> Result<u64,
     };
     let done = insert_node(keeper.tx, &columns);
     drop(columns);
-    match done {
-        Ok(_) => {}
-        Err(error) => return Err(blamed(error, &mut keeper.failures)),
-    }
+    or_blamed(done, &mut keeper.failures)?;
     match number_of(ValueRef::Int(keeper.tx.last_insert_rowid())) {
         Some(id) => Ok(id),
         None => Err(failed(&mut keeper.failures)),
@@ -174,13 +159,8 @@ fn put_bytes<S: Alter>(
     if !node.is_document() {
         return Ok(());
     }
-    let Some(row) = rowid_of(id) else {
-        return Err(failed(&mut keeper.failures));
-    };
-    match insert_bytes(keeper.tx, row, bytes) {
-        Ok(_) => Ok(()),
-        Err(error) => Err(blamed(error, &mut keeper.failures)),
-    }
+    or_blamed(insert_bytes(keeper.tx, id, bytes), &mut keeper.failures)?;
+    Ok(())
 }
 
 // Puts in a record.
@@ -197,10 +177,7 @@ fn put_record<S: Alter>(keeper: &mut Keeper<'_, '_, S>, row: &AuditRow) -> Resul
     };
     let done = insert_record(keeper.tx, &record);
     drop(record);
-    match done {
-        Ok(_) => {}
-        Err(error) => return Err(blamed(error, &mut keeper.failures)),
-    }
+    or_blamed(done, &mut keeper.failures)?;
     count_one(&mut keeper.writes);
     Ok(())
 }
@@ -238,31 +215,19 @@ impl<'a, 'conn, S: Alter> Keep for Keeper<'a, 'conn, S> {
         ensures whole { Sees (state S.Store self.old.tx.now.conn.now)
             (state S.Store self.new.tx.now.conn.now) result SeesTop }
     {
-        let rows = match select_top(self.tx) {
-            Ok(rows) => rows,
-            Err(error) => return Err(blamed(error, &mut self.failures)),
-        };
+        let rows = or_blamed(select_top(self.tx), &mut self.failures)?;
         let seen = see_only(self.alloc, self.lists, rows.as_slice())?;
         answer_top(seen, &mut self.failures)
     }
 
     fn ids(&mut self) -> Result<Numbers, KeepFault> {
-        let rows = match select_numbers(self.tx) {
-            Ok(rows) => rows,
-            Err(error) => return Err(blamed(error, &mut self.failures)),
-        };
+        let rows = or_blamed(select_numbers(self.tx), &mut self.failures)?;
         let ids = see_numbers(self.alloc, rows.as_slice())?;
         Ok(ids)
     }
 
     fn node(&mut self, id: u64) -> Result<Option<Node>, KeepFault> {
-        let Some(row) = rowid_of(id) else {
-            return Err(failed(&mut self.failures));
-        };
-        let rows = match select_node(self.tx, row) {
-            Ok(rows) => rows,
-            Err(error) => return Err(blamed(error, &mut self.failures)),
-        };
+        let rows = or_blamed(select_node(self.tx, id), &mut self.failures)?;
         let seen = see_only(self.alloc, self.lists, rows.as_slice())?;
         answer(seen, &mut self.failures)
     }
@@ -273,13 +238,7 @@ impl<'a, 'conn, S: Alter> Keep for Keeper<'a, 'conn, S> {
         ensures whole { Sees (state S.Store self.old.tx.now.conn.now)
             (state S.Store self.new.tx.now.conn.now) result (SeesNamed parent name.now) }
     {
-        let Some(row) = rowid_of(parent) else {
-            return Err(failed(&mut self.failures));
-        };
-        let rows = match select_child(self.tx, row, name) {
-            Ok(rows) => rows,
-            Err(error) => return Err(blamed(error, &mut self.failures)),
-        };
+        let rows = or_blamed(select_child(self.tx, parent, name), &mut self.failures)?;
         let seen = see_only(self.alloc, self.lists, rows.as_slice())?;
         answer(seen, &mut self.failures)
     }
@@ -290,13 +249,7 @@ impl<'a, 'conn, S: Alter> Keep for Keeper<'a, 'conn, S> {
         ensures whole { Sees (state S.Store self.old.tx.now.conn.now)
             (state S.Store self.new.tx.now.conn.now) result (SeesEach parent) }
     {
-        let Some(row) = rowid_of(parent) else {
-            return Err(failed(&mut self.failures));
-        };
-        let rows = match select_under(self.tx, row) {
-            Ok(rows) => rows,
-            Err(error) => return Err(blamed(error, &mut self.failures)),
-        };
+        let rows = or_blamed(select_under(self.tx, parent), &mut self.failures)?;
         let seen = see_all(self.alloc, self.lists, rows.as_slice())?;
         answer(seen, &mut self.failures)
     }
@@ -307,13 +260,7 @@ impl<'a, 'conn, S: Alter> Keep for Keeper<'a, 'conn, S> {
         ensures whole { Sees (state S.Store self.old.tx.now.conn.now)
             (state S.Store self.new.tx.now.conn.now) result (SeesEach parent) }
     {
-        let Some(row) = rowid_of(parent) else {
-            return Err(failed(&mut self.failures));
-        };
-        let rows = match select_names(self.tx, row) {
-            Ok(rows) => rows,
-            Err(error) => return Err(blamed(error, &mut self.failures)),
-        };
+        let rows = or_blamed(select_names(self.tx, parent), &mut self.failures)?;
         let seen = see_listing(self.alloc, rows.as_slice())?;
         answer(seen, &mut self.failures)
     }
@@ -324,23 +271,12 @@ impl<'a, 'conn, S: Alter> Keep for Keeper<'a, 'conn, S> {
         ensures whole { Sees (state S.Store self.old.tx.now.conn.now)
             (state S.Store self.new.tx.now.conn.now) result (SeesSome parent) }
     {
-        let Some(row) = rowid_of(parent) else {
-            return Err(failed(&mut self.failures));
-        };
-        match select_some(self.tx, row) {
-            Ok(rows) => Ok(!rows.as_slice().is_empty()),
-            Err(error) => Err(blamed(error, &mut self.failures)),
-        }
+        let rows = or_blamed(select_some(self.tx, parent), &mut self.failures)?;
+        Ok(!rows.as_slice().is_empty())
     }
 
     fn body(&mut self, id: u64) -> Result<Option<Bytes>, KeepFault> {
-        let Some(row) = rowid_of(id) else {
-            return Err(failed(&mut self.failures));
-        };
-        let rows = match select_bytes(self.tx, row) {
-            Ok(rows) => rows,
-            Err(error) => return Err(blamed(error, &mut self.failures)),
-        };
+        let rows = or_blamed(select_bytes(self.tx, id), &mut self.failures)?;
         let seen = see_bytes(self.alloc, rows.as_slice())?;
         answer(seen, &mut self.failures)
     }
@@ -348,10 +284,7 @@ impl<'a, 'conn, S: Alter> Keep for Keeper<'a, 'conn, S> {
     fn groups_of(&mut self, user: &Name) -> Result<Names, KeepFault> {
         names_are_text();
         user.is_known();
-        let rows = match select_groups(self.tx, user.as_str()) {
-            Ok(rows) => rows,
-            Err(error) => return Err(blamed(error, &mut self.failures)),
-        };
+        let rows = or_blamed(select_groups(self.tx, user.as_str()), &mut self.failures)?;
         let names = see_names(self.alloc, rows.as_slice())?;
         Ok(names)
     }
@@ -394,19 +327,13 @@ impl<'a, 'conn, S: Alter> Keep for Keeper<'a, 'conn, S> {
     }
 
     fn remove(&mut self, id: u64) -> Result<(), KeepFault> {
-        let Some(row) = rowid_of(id) else {
-            return Err(failed(&mut self.failures));
-        };
-        wrote_one(delete_node(self.tx, row), &mut self.failures)?;
+        wrote_one(delete_node(self.tx, id), &mut self.failures)?;
         count_one(&mut self.writes);
         Ok(())
     }
 
     fn set_body(&mut self, id: u64, bytes: &[u8]) -> Result<(), KeepFault> {
-        let Some(row) = rowid_of(id) else {
-            return Err(failed(&mut self.failures));
-        };
-        wrote_one(update_bytes(self.tx, row, bytes), &mut self.failures)?;
+        wrote_one(update_bytes(self.tx, id, bytes), &mut self.failures)?;
         count_one(&mut self.writes);
         Ok(())
     }

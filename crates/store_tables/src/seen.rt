@@ -1,6 +1,5 @@
 //! What rows are read as.
-ghost use Rattle.std.specs.Prelude.{◌≡◌, ◌<◌, ◌≤◌, FitsSigned, IfOk, pos, MatchOption, ⊤, []};
-ghost use Rattle.std.specs.Int.{w64};
+ghost use Rattle.std.specs.Prelude.{◌≡◌, ◌≤◌, IfOk, []};
 ghost use Rattle.sqlite.specs.Order.{column};
 ghost use Rattle.sqlite_value.specs.Value.{owned};
 ghost use Rattle.room_rows.specs.Keep.{capped};
@@ -183,15 +182,5 @@ pub(crate) fn answer_top(seen: Seen<Option<Node>>, failures: &mut u64) -> Result
     match answer(seen, failures)? {
         Some(node) => Ok(node),
         None => Err(KeepFault::Damaged { id: 0 }),
-    }
-}
-
-/// The rowid of an object's number.
-pub(crate) fn rowid_of(id: u64) -> Option<i64>
-    ensures { MatchOption result ⊤ (λ row. FitsSigned w64 (pos id) × (row ≡ pos id) × (0 < id)) }
-{
-    match i64::try_from(id) {
-        Ok(row) if id > 0 => Some(row),
-        _ => None,
     }
 }

@@ -1,5 +1,5 @@
 //! The statements, each a fixed text.
-ghost use Rattle.std.specs.Prelude.{◌≡◌, string_bytes};
+ghost use Rattle.std.specs.Prelude.{◌≡◌, ◌<◌, OnOk, pos, string_bytes};
 ghost use Rattle.sqlite.specs.Held.{state};
 ghost use Rattle.store_tables.specs.Columns.{StoresHeld, StoresNode, StoresRecord, record_values};
 ghost use Rattle.store_tables.specs.Columns.{values_of};
@@ -10,85 +10,91 @@ ghost use Rattle.store_tables.specs.Shown.{sets_held, sets_inh, sets_place, sets
 ghost use Rattle.store_tables.specs.Statements.{QueriesSql, HasBytes, HasChild};
 ghost use Rattle.store_tables.specs.Statements.{HasGroups, HasNames};
 ghost use Rattle.store_tables.specs.Statements.{HasNode, HasNumbers, HasSome, HasTop, HasUnder};
-ghost use Rattle.store_tables.specs.Statements.{OfAny, OfNode, OfOne, ExecutesSql};
+ghost use Rattle.store_tables.specs.Statements.{ExecutesSql, OfAny, OfNode, OfRow, OfRows};
 
-use crate::columns::{Columns, HeldColumns, Record};
+use crate::columns::{Columns, HeldColumns, Record, rowid_of};
 use room_ace::Which;
 use sqlite::{Alter, Error, Row, Transaction, params};
 
 /// The row of this number.
-pub(crate) fn select_node<S: Alter>(tx: &mut Transaction<'_, S>, id: i64) -> Result<Vec<Row>, Error>
+pub(crate) fn select_node<S: Alter>(tx: &mut Transaction<'_, S>, id: u64) -> Result<Vec<Row>, Error>
     ensures same_reference { tx.new.conn.ghost_name ≡ tx.old.conn.ghost_name }
-    ensures asks { QueriesSql (HasNode id)
+    ensures from_one { OnOk result (0 < id) }
+    ensures asks { QueriesSql (HasNode (pos id))
         (state S.Store tx.old.conn.now) (state S.Store tx.new.conn.now) result }
 {
+    let row = rowid_of(id)?;
     tx.query_all(
         "SELECT id, parent, name, kind, owner, grp, dacl_flags, sacl_flags, dacl_own, \
          dacl_inh, sacl_own, sacl_inh FROM nodes WHERE id = ?1",
-        params![id],
+        params![row],
     )
 }
 
 /// The rows of the objects with this parent and this name.
 pub(crate) fn select_child<S: Alter>(
     tx: &mut Transaction<'_, S>,
-    parent: i64,
+    parent: u64,
     name: &str,
 ) -> Result<Vec<Row>, Error>
     ensures same_reference { tx.new.conn.ghost_name ≡ tx.old.conn.ghost_name }
-    ensures asks { QueriesSql (HasChild parent name.now)
+    ensures asks { QueriesSql (HasChild (pos parent) name.now)
         (state S.Store tx.old.conn.now) (state S.Store tx.new.conn.now) result }
 {
+    let row = rowid_of(parent)?;
     tx.query_all(
         "SELECT id, parent, name, kind, owner, grp, dacl_flags, sacl_flags, dacl_own, \
          dacl_inh, sacl_own, sacl_inh FROM nodes WHERE parent = ?1 AND name = ?2 AND id >= 1",
-        params![parent, name],
+        params![row, name],
     )
 }
 
 /// The rows with this parent, in order of name.
 pub(crate) fn select_under<S: Alter>(
     tx: &mut Transaction<'_, S>,
-    parent: i64,
+    parent: u64,
 ) -> Result<Vec<Row>, Error>
     ensures same_reference { tx.new.conn.ghost_name ≡ tx.old.conn.ghost_name }
-    ensures asks { QueriesSql (HasUnder parent)
+    ensures asks { QueriesSql (HasUnder (pos parent))
         (state S.Store tx.old.conn.now) (state S.Store tx.new.conn.now) result }
 {
+    let row = rowid_of(parent)?;
     tx.query_all(
         "SELECT id, parent, name, kind, owner, grp, dacl_flags, sacl_flags, dacl_own, \
          dacl_inh, sacl_own, sacl_inh FROM nodes WHERE parent = ?1 AND id >= 1 ORDER BY name",
-        params![parent],
+        params![row],
     )
 }
 
 /// The numbers, names and kinds of the rows with this parent, in order of name.
 pub(crate) fn select_names<S: Alter>(
     tx: &mut Transaction<'_, S>,
-    parent: i64,
+    parent: u64,
 ) -> Result<Vec<Row>, Error>
     ensures same_reference { tx.new.conn.ghost_name ≡ tx.old.conn.ghost_name }
-    ensures asks { QueriesSql (HasNames parent)
+    ensures asks { QueriesSql (HasNames (pos parent))
         (state S.Store tx.old.conn.now) (state S.Store tx.new.conn.now) result }
 {
+    let row = rowid_of(parent)?;
     tx.query_all(
         "SELECT id, name, kind FROM nodes WHERE parent = ?1 AND id >= 1 ORDER BY name",
-        params![parent],
+        params![row],
     )
 }
 
 /// The number of one of the rows with this parent.
 pub(crate) fn select_some<S: Alter>(
     tx: &mut Transaction<'_, S>,
-    parent: i64,
+    parent: u64,
 ) -> Result<Vec<Row>, Error>
     ensures same_reference { tx.new.conn.ghost_name ≡ tx.old.conn.ghost_name }
-    ensures asks { QueriesSql (HasSome parent)
+    ensures asks { QueriesSql (HasSome (pos parent))
         (state S.Store tx.old.conn.now) (state S.Store tx.new.conn.now) result }
 {
+    let row = rowid_of(parent)?;
     tx.query_all(
         "SELECT id FROM nodes WHERE parent = ?1 AND id >= 1 LIMIT 1",
-        params![parent],
+        params![row],
     )
 }
 
@@ -133,71 +139,76 @@ pub(crate) fn select_numbers<S: Alter>(tx: &mut Transaction<'_, S>) -> Result<Ve
 /// The bytes of this number.
 pub(crate) fn select_bytes<S: Alter>(
     tx: &mut Transaction<'_, S>,
-    id: i64,
+    id: u64,
 ) -> Result<Vec<Row>, Error>
     ensures same_reference { tx.new.conn.ghost_name ≡ tx.old.conn.ghost_name }
-    ensures asks { QueriesSql (HasBytes id)
+    ensures from_one { OnOk result (0 < id) }
+    ensures asks { QueriesSql (HasBytes (pos id))
         (state S.Store tx.old.conn.now) (state S.Store tx.new.conn.now) result }
 {
-    tx.query_all("SELECT bytes FROM bodies WHERE node = ?1", params![id])
+    let row = rowid_of(id)?;
+    tx.query_all("SELECT bytes FROM bodies WHERE node = ?1", params![row])
 }
 
 /// Takes the row of this number out, with its bytes.
-pub(crate) fn delete_node<S: Alter>(tx: &mut Transaction<'_, S>, id: i64) -> Result<usize, Error>
+pub(crate) fn delete_node<S: Alter>(tx: &mut Transaction<'_, S>, id: u64) -> Result<usize, Error>
     ensures same_reference { tx.new.conn.ghost_name ≡ tx.old.conn.ghost_name }
-    ensures writes { ExecutesSql (OfOne (RemovesRow id))
+    ensures writes { ExecutesSql (OfRow id RemovesRow)
         (state S.Store tx.old.conn.now) (state S.Store tx.new.conn.now) result }
 {
-    tx.execute("DELETE FROM nodes WHERE id = ?1", params![id])
+    let row = rowid_of(id)?;
+    tx.execute("DELETE FROM nodes WHERE id = ?1", params![row])
 }
 
 // Writes the dacl in the row of this number.
 fn update_dacl<S: Alter>(
     tx: &mut Transaction<'_, S>,
-    id: i64,
+    id: u64,
     list: &HeldColumns,
 ) -> Result<usize, Error>
     requires { StoresHeld list.now }
     ensures same_reference { tx.new.conn.ghost_name ≡ tx.old.conn.ghost_name }
-    ensures writes { ExecutesSql (OfOne (Recasts (sets_held Which.Dacl list.now.flags
-        (string_bytes list.now.own) (string_bytes list.now.inh)) id))
+    ensures writes { ExecutesSql (OfRow id (Recasts (sets_held Which.Dacl list.now.flags
+        (string_bytes list.now.own) (string_bytes list.now.inh))))
         (state S.Store tx.old.conn.now) (state S.Store tx.new.conn.now) result }
 {
+    let row = rowid_of(id)?;
     tx.execute(
         "UPDATE nodes SET dacl_flags = ?2, dacl_own = ?3, dacl_inh = ?4 WHERE id = ?1",
-        params![id, &list.flags, &list.own, &list.inh],
+        params![row, &list.flags, &list.own, &list.inh],
     )
 }
 
 // The same of the sacl.
 fn update_sacl<S: Alter>(
     tx: &mut Transaction<'_, S>,
-    id: i64,
+    id: u64,
     list: &HeldColumns,
 ) -> Result<usize, Error>
     requires { StoresHeld list.now }
     ensures same_reference { tx.new.conn.ghost_name ≡ tx.old.conn.ghost_name }
-    ensures writes { ExecutesSql (OfOne (Recasts (sets_held Which.Sacl list.now.flags
-        (string_bytes list.now.own) (string_bytes list.now.inh)) id))
+    ensures writes { ExecutesSql (OfRow id (Recasts (sets_held Which.Sacl list.now.flags
+        (string_bytes list.now.own) (string_bytes list.now.inh))))
         (state S.Store tx.old.conn.now) (state S.Store tx.new.conn.now) result }
 {
+    let row = rowid_of(id)?;
     tx.execute(
         "UPDATE nodes SET sacl_flags = ?2, sacl_own = ?3, sacl_inh = ?4 WHERE id = ?1",
-        params![id, &list.flags, &list.own, &list.inh],
+        params![row, &list.flags, &list.own, &list.inh],
     )
 }
 
 /// Writes a list in the row of this number, and none of its other columns.
 pub(crate) fn update_held<S: Alter>(
     tx: &mut Transaction<'_, S>,
-    id: i64,
+    id: u64,
     which: Which,
     list: &HeldColumns,
 ) -> Result<usize, Error>
     requires { StoresHeld list.now }
     ensures same_reference { tx.new.conn.ghost_name ≡ tx.old.conn.ghost_name }
-    ensures writes { ExecutesSql (OfOne (Recasts (sets_held which list.now.flags
-        (string_bytes list.now.own) (string_bytes list.now.inh)) id))
+    ensures writes { ExecutesSql (OfRow id (Recasts (sets_held which list.now.flags
+        (string_bytes list.now.own) (string_bytes list.now.inh))))
         (state S.Store tx.old.conn.now) (state S.Store tx.new.conn.now) result }
 {
     match which {
@@ -209,81 +220,87 @@ pub(crate) fn update_held<S: Alter>(
 /// Writes the owners in the row of this number, and none of its other columns.
 pub(crate) fn update_owners<S: Alter>(
     tx: &mut Transaction<'_, S>,
-    id: i64,
+    id: u64,
     owner: &str,
     group: &str,
 ) -> Result<usize, Error>
     ensures same_reference { tx.new.conn.ghost_name ≡ tx.old.conn.ghost_name }
-    ensures writes { ExecutesSql (OfOne (Recasts (sets_owners owner.now group.now) id))
+    ensures writes { ExecutesSql (OfRow id (Recasts (sets_owners owner.now group.now)))
         (state S.Store tx.old.conn.now) (state S.Store tx.new.conn.now) result }
 {
+    let row = rowid_of(id)?;
     tx.execute(
         "UPDATE nodes SET owner = ?2, grp = ?3 WHERE id = ?1",
-        params![id, owner, group],
+        params![row, owner, group],
     )
 }
 
 /// Writes the parent and the name in the row of this number, and none of its other columns.
 pub(crate) fn update_place<S: Alter>(
     tx: &mut Transaction<'_, S>,
-    id: i64,
-    parent: i64,
+    id: u64,
+    parent: u64,
     name: &str,
 ) -> Result<usize, Error>
     ensures same_reference { tx.new.conn.ghost_name ≡ tx.old.conn.ghost_name }
-    ensures writes { ExecutesSql (OfOne (Recasts (sets_place parent name.now) id))
+    ensures from_one { OnOk result (0 < parent) }
+    ensures writes { ExecutesSql (OfRow id (Recasts (sets_place (pos parent) name.now)))
         (state S.Store tx.old.conn.now) (state S.Store tx.new.conn.now) result }
 {
+    let row = rowid_of(id)?;
+    let under = rowid_of(parent)?;
     tx.execute(
         "UPDATE nodes SET parent = ?2, name = ?3 WHERE id = ?1",
-        params![id, parent, name],
+        params![row, under, name],
     )
 }
 
 // Writes what the dacl inherits in the row of this number.
 fn update_dacl_inh<S: Alter>(
     tx: &mut Transaction<'_, S>,
-    id: i64,
+    id: u64,
     text: &str,
 ) -> Result<usize, Error>
     requires { IsCanonical text.now }
     ensures same_reference { tx.new.conn.ghost_name ≡ tx.old.conn.ghost_name }
-    ensures writes { ExecutesSql (OfOne (Recasts (sets_inh Which.Dacl text.now) id))
+    ensures writes { ExecutesSql (OfRow id (Recasts (sets_inh Which.Dacl text.now)))
         (state S.Store tx.old.conn.now) (state S.Store tx.new.conn.now) result }
 {
+    let row = rowid_of(id)?;
     tx.execute(
         "UPDATE nodes SET dacl_inh = ?2 WHERE id = ?1",
-        params![id, text],
+        params![row, text],
     )
 }
 
 // Writes what the sacl inherits in the row of this number.
 fn update_sacl_inh<S: Alter>(
     tx: &mut Transaction<'_, S>,
-    id: i64,
+    id: u64,
     text: &str,
 ) -> Result<usize, Error>
     requires { IsCanonical text.now }
     ensures same_reference { tx.new.conn.ghost_name ≡ tx.old.conn.ghost_name }
-    ensures writes { ExecutesSql (OfOne (Recasts (sets_inh Which.Sacl text.now) id))
+    ensures writes { ExecutesSql (OfRow id (Recasts (sets_inh Which.Sacl text.now)))
         (state S.Store tx.old.conn.now) (state S.Store tx.new.conn.now) result }
 {
+    let row = rowid_of(id)?;
     tx.execute(
         "UPDATE nodes SET sacl_inh = ?2 WHERE id = ?1",
-        params![id, text],
+        params![row, text],
     )
 }
 
 /// Writes what a list inherits in the row of this number, and none of its other columns.
 pub(crate) fn update_inh<S: Alter>(
     tx: &mut Transaction<'_, S>,
-    id: i64,
+    id: u64,
     which: Which,
     text: &str,
 ) -> Result<usize, Error>
     requires { IsCanonical text.now }
     ensures same_reference { tx.new.conn.ghost_name ≡ tx.old.conn.ghost_name }
-    ensures writes { ExecutesSql (OfOne (Recasts (sets_inh which text.now) id))
+    ensures writes { ExecutesSql (OfRow id (Recasts (sets_inh which text.now)))
         (state S.Store tx.old.conn.now) (state S.Store tx.new.conn.now) result }
 {
     match which {
@@ -295,38 +312,42 @@ pub(crate) fn update_inh<S: Alter>(
 // Writes what the dacls inherit in the rows of these numbers, from the first to the last.
 fn update_dacl_range<S: Alter>(
     tx: &mut Transaction<'_, S>,
-    first: i64,
-    last: i64,
+    first: u64,
+    last: u64,
     text: &str,
 ) -> Result<usize, Error>
     requires { IsCanonical text.now }
     ensures same_reference { tx.new.conn.ghost_name ≡ tx.old.conn.ghost_name }
     ensures writes { ExecutesSql
-        (OfAny (RecastsAll (sets_inh Which.Dacl text.now) first last))
+        (OfRows first last (RecastsAll (sets_inh Which.Dacl text.now)))
         (state S.Store tx.old.conn.now) (state S.Store tx.new.conn.now) result }
 {
+    let from = rowid_of(first)?;
+    let to = rowid_of(last)?;
     tx.execute(
         "UPDATE nodes SET dacl_inh = ?3 WHERE id >= ?1 AND id <= ?2",
-        params![first, last, text],
+        params![from, to, text],
     )
 }
 
 // The same of the sacls.
 fn update_sacl_range<S: Alter>(
     tx: &mut Transaction<'_, S>,
-    first: i64,
-    last: i64,
+    first: u64,
+    last: u64,
     text: &str,
 ) -> Result<usize, Error>
     requires { IsCanonical text.now }
     ensures same_reference { tx.new.conn.ghost_name ≡ tx.old.conn.ghost_name }
     ensures writes { ExecutesSql
-        (OfAny (RecastsAll (sets_inh Which.Sacl text.now) first last))
+        (OfRows first last (RecastsAll (sets_inh Which.Sacl text.now)))
         (state S.Store tx.old.conn.now) (state S.Store tx.new.conn.now) result }
 {
+    let from = rowid_of(first)?;
+    let to = rowid_of(last)?;
     tx.execute(
         "UPDATE nodes SET sacl_inh = ?3 WHERE id >= ?1 AND id <= ?2",
-        params![first, last, text],
+        params![from, to, text],
     )
 }
 
@@ -334,14 +355,14 @@ fn update_sacl_range<S: Alter>(
 /// of their other columns.
 pub(crate) fn update_range<S: Alter>(
     tx: &mut Transaction<'_, S>,
-    first: i64,
-    last: i64,
+    first: u64,
+    last: u64,
     which: Which,
     text: &str,
 ) -> Result<usize, Error>
     requires { IsCanonical text.now }
     ensures same_reference { tx.new.conn.ghost_name ≡ tx.old.conn.ghost_name }
-    ensures writes { ExecutesSql (OfAny (RecastsAll (sets_inh which text.now) first last))
+    ensures writes { ExecutesSql (OfRows first last (RecastsAll (sets_inh which text.now)))
         (state S.Store tx.old.conn.now) (state S.Store tx.new.conn.now) result }
 {
     match which {
@@ -353,16 +374,17 @@ pub(crate) fn update_range<S: Alter>(
 /// Writes the bytes of this number, which has some.
 pub(crate) fn update_bytes<S: Alter>(
     tx: &mut Transaction<'_, S>,
-    id: i64,
+    id: u64,
     bytes: &[u8],
 ) -> Result<usize, Error>
     ensures same_reference { tx.new.conn.ghost_name ≡ tx.old.conn.ghost_name }
-    ensures writes { ExecutesSql (OfOne (Fills id bytes.now))
+    ensures writes { ExecutesSql (OfRow id (λ row. Fills row bytes.now))
         (state S.Store tx.old.conn.now) (state S.Store tx.new.conn.now) result }
 {
+    let row = rowid_of(id)?;
     tx.execute(
         "UPDATE bodies SET bytes = ?2 WHERE node = ?1",
-        params![id, bytes],
+        params![row, bytes],
     )
 }
 
@@ -398,16 +420,17 @@ pub(crate) fn insert_node<S: Alter>(
 /// Puts in the bytes of this number, which has none.
 pub(crate) fn insert_bytes<S: Alter>(
     tx: &mut Transaction<'_, S>,
-    id: i64,
+    id: u64,
     bytes: &[u8],
 ) -> Result<usize, Error>
     ensures same_reference { tx.new.conn.ghost_name ≡ tx.old.conn.ghost_name }
-    ensures writes { ExecutesSql (OfAny (Bodies id bytes.now))
+    ensures writes { ExecutesSql (OfAny (Bodies (pos id) bytes.now))
         (state S.Store tx.old.conn.now) (state S.Store tx.new.conn.now) result }
 {
+    let row = rowid_of(id)?;
     tx.execute(
         "INSERT INTO bodies (node, bytes) VALUES (?1, ?2)",
-        params![id, bytes],
+        params![row, bytes],
     )
 }
 

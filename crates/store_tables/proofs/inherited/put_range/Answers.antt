@@ -1,6 +1,5 @@
-use Rattle.std.proofs.Common.{◌≡◌, ◌+◌, ◌-◌, ap, subst, ◌∙◌, pos, to_z, of_z, w64, arith}
+use Rattle.std.proofs.Common.{◌≡◌, ◌+◌, ◌-◌, subst, pos, arith}
 use Rattle.std.specs.List.{range_with_len}
-use Rattle.std.proofs.Math.Facts.{to_z-of_z}
 use Rattle.sqlite.specs.Held.{state}
 use Rattle.room_rows.specs.Keep.{with_inh}
 use Rattle.store_tables.specs.Shown.{RecastsAll, sets_inh}
@@ -17,11 +16,7 @@ returns-clause-puts g c = λ entries printed.
     let text = c.args.text.now in
     let first = c.args.first in
     let more = c.args.count - 1 in
-    let from : to_z w64 (of_z w64 c.in-Some.from) ≡ pos first = ap
-    (λ z. to_z w64 (of_z w64 z)) c.in-Some.ensures.1 ∙ to_z-of_z c.in-Some.ensures.0 in
-    let to : to_z w64 (of_z w64 c.in-Some-end_of.to) ≡ pos (first + more) = ap
-    (λ z. to_z w64 (of_z w64 z)) c.in-Some-end_of.ensures.1 ∙ to_z-of_z c.in-Some-end_of.ensures.0
-    in
+    let last = c.in-Some.ensures.1 in
     let whole : more + 1 ≡ c.args.count = let some = c.requires.some in omega (arith, some) in
     record {
       stays = c.update_range-done.ensures.writes.stays;
@@ -36,12 +31,7 @@ returns-clause-puts g c = λ entries printed.
           (λ n. AltersAll (range_with_len first n) (with_inh c.args.which entries) old.now new.now)
           whole
           (inherited_range old.now new.now trust.now c.args.which text entries printed.1 first more
-          c.in-Some.ensures.2
-          (subst
-          (λ z. RecastsAll (sets_inh c.args.which text) (pos first) z old.now.trees
-          new.now.trees) to
-          (subst
-          (λ z. RecastsAll (sets_inh c.args.which text) z
-          (to_z w64 (of_z w64 c.in-Some-end_of.to)) old.now.trees new.now.trees) from put))))
+          put.0 (subst (λ n. RecastsAll (sets_inh c.args.which text) (pos first) (pos n)
+          old.now.trees new.now.trees) last put.1)))
           (c.update_range-done.ensures.writes.leaves trust.clean trust.now));
     }

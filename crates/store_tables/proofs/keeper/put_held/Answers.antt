@@ -1,9 +1,6 @@
-use Rattle.std.proofs.Common.{◌≡◌, ap, subst, ◌∙◌, pos, to_z, of_z, w64}
-use Rattle.std.proofs.Math.Facts.{to_z-of_z}
 use Rattle.std.specs.Prelude.{string_bytes}
 use Rattle.sqlite.specs.Held.{state}
 use Rattle.store_tables.specs.RoomRows.{number_in-low}
-use Rattle.store_tables.specs.Shown.{Recasts, sets_held}
 use Rattle.store_tables.proofs.Changed.{of_one}
 use Rattle.store_tables.proofs.Altered.{held_rows}
 use Rattle.store_tables.proofs.keeper.put_held.Goals as goal
@@ -14,8 +11,6 @@ returns-clause-puts g c =
     let new = state g.S.Store c.update_held-done.new.tx.conn.now in
     let list = c.in_ok-list.list in
     let stores = c.in_ok-list.ensures in
-    let at : to_z w64 (of_z w64 c.in-Some.row) ≡ pos c.args.id = ap
-    (λ z. to_z w64 (of_z w64 z)) c.in-Some.ensures.1 ∙ to_z-of_z c.in-Some.ensures.0 in
     record {
       stays = c.update_held-done.ensures.writes.stays;
       no_less = c.in_ok-wrote_one.ensures.no_less;
@@ -25,12 +20,9 @@ returns-clause-puts g c =
           let put = of_one c.update_held-done.result _ _ c.in_ok-wrote_one.ensures.answer
           (c.update_held-done.ensures.writes.leaves trust.clean trust.now) in
           held_rows old.now new.now c.args.id trust.now
-          (number_in-low c.args.id c.in-Some.ensures.2) c.args.which list.flags
+          (number_in-low c.args.id put.0) c.args.which list.flags
           (string_bytes list.own)
-          (string_bytes list.inh) c.args.held.now stores.flags stores.own.1 stores.inh.1
-          (subst
-          (λ z. Recasts (sets_held c.args.which list.flags (string_bytes list.own)
-          (string_bytes list.inh)) z old.now.trees new.now.trees) at put);
+          (string_bytes list.inh) c.args.held.now stores.flags stores.own.1 stores.inh.1 put.1;
     }
 
 pub update_held-done-requires : goal.update_held-done-requires

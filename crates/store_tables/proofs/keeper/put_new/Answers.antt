@@ -1,12 +1,13 @@
 use Rattle.std.proofs.Math.Facts.{to_z-of_z}
 use Rattle.std.specs.Prelude.{FitsSigned}
-use Rattle.std.proofs.Common.{◌≡◌, refl, arith, rules, w64, Some, pos, ap, sym, subst, ◌∙◌}
+use Rattle.std.proofs.Common.{◌≡◌, rules, w64, Some, pos, ap, sym, subst, ◌∙◌}
 use Rattle.sqlite.specs.Held.{state}
 use Rattle.sqlite.specs.declared.types.Value.TheVariants.{Int}
 use Rattle.store_tables.specs.Columns.{ReadsAsNode, values_of}
 use Rattle.store_tables.specs.Filed.{number_is}
 use Rattle.store_tables.specs.Meaning.{number_in}
 use Rattle.store_tables.specs.Shown.{AddsRow}
+use Rattle.store_tables.specs.Statements.{ExecutesSql}
 use Rattle.store_tables.proofs.Adding.{same_int}
 use Rattle.store_tables.proofs.keeper.put_new.Goals as goal
 
@@ -15,6 +16,8 @@ returns-in-Some-number_of-clause-puts g c =
     let old = state g.S.Store c.args.keeper.now.tx.now.conn.now in
     let new = state g.S.Store c.insert_node-done.new.tx.conn.now in
     let columns = c.in-Some.columns in
+    let came = c.in_ok-or_blamed.ensures in
+    let writes = subst (ExecutesSql _ old new) came.answer c.insert_node-done.ensures.writes in
     let stores : ReadsAsNode c.args.node.now columns = rw c.in-Some.is at c.in_ok-columns.ensures in
     let fits : FitsSigned w64 c.last_insert_rowid.result = first_of
     (search (c.last_insert_rowid.type_inv, rules), search rules) in
@@ -23,12 +26,12 @@ returns-in-Some-number_of-clause-puts g c =
     ∙ sym c.number_of.ensures ∙ c.in-Some-number_of.is in
     let number = number_is (Int new.last_rowid) c.in-Some-number_of.id told in
     record {
-      stays = c.insert_node-done.ensures.writes.stays;
-      no_less = omega arith;
-      unfailed = refl;
+      stays = writes.stays;
+      no_less = came.no_less;
+      unfailed = came.unfailed;
       fault = tt;
       becomes = λ trust.
-          let leaves = c.in-Ok.ensures.writes.leaves trust.clean trust.now in
+          let leaves = writes.leaves trust.clean trust.now in
           record {
             columns = columns;
             stores = stores;

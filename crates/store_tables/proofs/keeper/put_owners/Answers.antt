@@ -1,10 +1,8 @@
-use Rattle.std.proofs.Common.{◌≡◌, Some, sym, ap, subst, ◌∙◌, pos, to_z, of_z, w64}
-use Rattle.std.proofs.Math.Facts.{to_z-of_z}
+use Rattle.std.proofs.Common.{◌≡◌, Some, sym, subst}
 use Rattle.sqlite.specs.declared.types.Value.TheVariants.{Text}
 use Rattle.store_tables.specs.Meaning.{name_in}
 use Rattle.sqlite.specs.Held.{state}
 use Rattle.store_tables.specs.RoomRows.{number_in-low}
-use Rattle.store_tables.specs.Shown.{Recasts, sets_owners}
 use Rattle.store_tables.proofs.Changed.{of_one}
 use Rattle.store_tables.proofs.Altered.{owned_rows}
 use Rattle.store_tables.proofs.keeper.put_owners.Goals as goal
@@ -21,8 +19,6 @@ returns-clause-puts g c =
     let grouped : name_in (Text group) ≡ Some c.args.owners.now.group = subst
     (λ t. name_in (Text t) ≡ Some c.args.owners.now.group)
     (sym c.as_str-2.ensures) c.name_is_kept-2.ensures in
-    let at : to_z w64 (of_z w64 c.in-Some.row) ≡ pos c.args.id = ap
-    (λ z. to_z w64 (of_z w64 z)) c.in-Some.ensures.1 ∙ to_z-of_z c.in-Some.ensures.0 in
     record {
       stays = c.update_owners-done.ensures.writes.stays;
       no_less = c.in_ok-wrote_one.ensures.no_less;
@@ -32,6 +28,5 @@ returns-clause-puts g c =
           let put = of_one c.update_owners-done.result _ _ c.in_ok-wrote_one.ensures.answer
           (c.update_owners-done.ensures.writes.leaves trust.clean trust.now) in
           owned_rows old.now new.now c.args.id trust.now
-          (number_in-low c.args.id c.in-Some.ensures.2) owner group c.args.owners.now owned grouped
-          (subst (λ z. Recasts (sets_owners owner group) z old.now.trees new.now.trees) at put);
+          (number_in-low c.args.id put.0) owner group c.args.owners.now owned grouped put.1;
     }

@@ -1,6 +1,7 @@
-use Rattle.std.proofs.Common.{arith, refl}
+use Rattle.std.proofs.Common.{subst}
 use Rattle.sqlite.specs.Held.{state}
 use Rattle.store_tables.specs.Columns.{Recalls}
+use Rattle.store_tables.specs.Statements.{ExecutesSql}
 use Rattle.store_tables.proofs.Noting.{noted_rows}
 use Rattle.store_tables.proofs.keeper.put_record.Goals as goal
 
@@ -11,14 +12,16 @@ returns-clause-puts g c =
     let row = c.args.row.now in
     let record' = c.in-Some.record in
     let recalls : Recalls row record' = rw c.in-Some.is at c.in_ok-record.ensures in
+    let came = c.in_ok-or_blamed.ensures in
+    let writes = subst (ExecutesSql _ old new) came.answer c.insert_record-done.ensures.writes in
     record {
-      stays = c.insert_record-done.ensures.writes.stays;
-      no_less = omega arith;
-      unfailed = refl;
+      stays = writes.stays;
+      no_less = came.no_less;
+      unfailed = came.unfailed;
       fault = tt;
       becomes =
           λ trust. noted_rows old.now new.now row record' recalls
-          (c.in-Ok.ensures.writes.leaves trust.clean trust.now);
+          (writes.leaves trust.clean trust.now);
     }
 
 pub insert_record-done-requires : goal.insert_record-done-requires

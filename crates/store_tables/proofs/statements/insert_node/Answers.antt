@@ -1,8 +1,6 @@
-use Rattle.std.proofs.Common.{subst, sym}
+use Rattle.std.proofs.Common.{}
 use Rattle.sqlite.specs.Held.{state}
-use Rattle.store_tables.specs.Shown.{Stays}
-use Rattle.store_tables.specs.Trust.{stays_itself}
-use Rattle.store_tables.proofs.Asked.{writes}
+use Rattle.store_tables.proofs.Asked.{ended, writes}
 use Rattle.store_tables.proofs.Inserts.{insert_room, inserted}
 use Rattle.store_tables.proofs.Texts.{insert_text}
 use Rattle.store_tables.proofs.Updates.{bound_parent, columns_in, values}
@@ -36,8 +34,4 @@ returns-clause-writes g c =
       sacl_inh = (_, stored.sacl_inh);
     }) old new inside)
     (λ count room h. let d = inserted cols old new count room.schema h in (d.adds, d.last))
-    (λ off. (
-      (c.execute.ensures.ended off).0,
-      subst (λ h. Stays old (state g.S.Store h)) (sym (c.execute.ensures.ended off).1)
-          (stays_itself old),
-    )) runs
+    (ended (state g.S.Store) _ _ _ _ _ c.execute.ensures.ended) runs

@@ -1,9 +1,7 @@
-use Rattle.std.proofs.Common.{subst, sym}
+use Rattle.std.proofs.Common.{}
 use Rattle.sqlite.specs.Held.{state}
 use Rattle.store_tables.specs.Columns.{record_values}
-use Rattle.store_tables.specs.Shown.{Stays}
-use Rattle.store_tables.specs.Trust.{stays_itself}
-use Rattle.store_tables.proofs.Asked.{writes}
+use Rattle.store_tables.proofs.Asked.{ended, writes}
 use Rattle.store_tables.proofs.Noted.{note_room, notes}
 use Rattle.store_tables.proofs.Texts.{note_text}
 use Rattle.store_tables.proofs.statements.insert_record.Goals as goal
@@ -25,8 +23,4 @@ returns-clause-writes g c =
     writes note_text (record_values record') old new c.execute.result _ _
     c.execute.ensures.survives (λ inside. note_room record' c.requires old new inside)
     (λ count room h. notes record' old new count room h)
-    (λ off. (
-      (c.execute.ensures.ended off).0,
-      subst (λ h. Stays old (state g.S.Store h)) (sym (c.execute.ensures.ended off).1)
-          (stays_itself old),
-    )) runs
+    (ended (state g.S.Store) _ _ _ _ _ c.execute.ensures.ended) runs

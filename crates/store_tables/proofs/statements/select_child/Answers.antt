@@ -1,10 +1,10 @@
-use Rattle.std.proofs.Common.{◌∷◌, []}
-use Rattle.std.proofs.Math.Facts.{to_z-of_z}
+use Rattle.std.proofs.Common.{◌∷◌, [], pos}
 use Rattle.sqlite.specs.declared.types.Value.TheVariants.{Int, Text}
 use Rattle.sqlite.specs.Held.{state}
 use Rattle.store_tables.proofs.Asked.{asks}
 use Rattle.store_tables.proofs.Selected.{shows_child}
 use Rattle.store_tables.proofs.Bare.{reads_by}
+use Rattle.store_tables.proofs.Rowids.{passed_on}
 use Rattle.store_tables.proofs.Texts.{bare_texts, child_text}
 use Rattle.store_tables.proofs.statements.select_child.Goals as goal
 
@@ -12,9 +12,9 @@ pub returns-clause-asks : goal.returns-clause-asks
 returns-clause-asks g c =
     let old = state g.S.Store c.args.tx.now.conn.now in
     let new = state g.S.Store c.query_all.new.self.conn.now in
-    let given = simp (to_z-of_z c.ranges.parent) at c.params-to_sql.ensures in
-    asks child_text (Int c.args.parent ∷ Text c.args.name.now ∷ []) old new c.query_all.result _
+    let given = rw (passed_on _ _ c.in_ok-row.ensures) at c.params-to_sql.ensures in
+    asks child_text (Int (pos c.args.parent) ∷ Text c.args.name.now ∷ []) old new c.query_all.result _
     (reads_by child_text bare_texts.1) c.query_all.ensures.survives
-    (λ rows room. shows_child old new rows room c.args.parent c.args.name.now)
+    (λ rows room. shows_child old new rows room (pos c.args.parent) c.args.name.now)
     (rw (given, c.params-to_sql-2.ensures) at c.query_all.ensures.ok)
     (rw (given, c.params-to_sql-2.ensures) at c.query_all.ensures.err)

@@ -1,12 +1,11 @@
-use Rattle.std.proofs.Common.{subst, sym, ◌∷◌, [], refl}
-use Rattle.std.proofs.Math.Facts.{to_z-of_z}
+use Rattle.std.proofs.Common.{◌∷◌, [], refl, pos}
 use Rattle.sqlite.specs.declared.types.Value.TheVariants.{Int, Text}
 use Rattle.sqlite.specs.Held.{state}
-use Rattle.store_tables.specs.Shown.{Stays, sets_place}
-use Rattle.store_tables.specs.Trust.{stays_itself}
-use Rattle.store_tables.proofs.Asked.{writes}
+use Rattle.store_tables.specs.Shown.{sets_place}
+use Rattle.store_tables.proofs.Asked.{ended, writes}
 use Rattle.store_tables.proofs.Printed.{lying_printed}
 use Rattle.store_tables.proofs.Recast.{recast_one, recast_room}
+use Rattle.store_tables.proofs.Rowids.{passed_on}
 use Rattle.store_tables.proofs.Texts.{place_is, place_terms, place_text, plain_place}
 use Rattle.store_tables.proofs.statements.update_place.Goals as goal
 
@@ -14,19 +13,18 @@ pub returns-clause-writes : goal.returns-clause-writes
 returns-clause-writes g c =
     let old = state g.S.Store c.args.tx.now.conn.now in
     let new = state g.S.Store c.execute.new.self.conn.now in
-    let cell = Int c.args.parent ∷ Text c.args.name.now ∷ [] in
-    let change = sets_place c.args.parent c.args.name.now in
-    let given = simp (to_z-of_z c.ranges.id) at c.params-to_sql.ensures in
-    let under = simp (to_z-of_z c.ranges.parent) at c.params-to_sql-2.ensures in
+    let cell = Int (pos c.args.parent) ∷ Text c.args.name.now ∷ [] in
+    let change = sets_place (pos c.args.parent) c.args.name.now in
+    let given = rw (passed_on _ _ c.in_ok-row.ensures) at c.params-to_sql.ensures in
+    let under = rw (passed_on _ _ c.in_ok-under.ensures) at c.params-to_sql-2.ensures in
     let runs = rw (given, under, c.params-to_sql-3.ensures) at c.execute.ensures.runs in
-    writes place_text (Int c.args.id ∷ cell) old new c.execute.result _ _
+    writes place_text (Int (pos c.args.id) ∷ cell) old new c.execute.result _ _
     c.execute.ensures.survives
-    (recast_room place_text place_terms place_is plain_place c.args.id cell change
-    (λ r. refl) (lying_printed c.args.parent c.args.name.now) old new)
-    (λ count room h. recast_one place_text place_terms place_is plain_place c.args.id cell change
-    (λ r. refl) old new count room h)
-    (λ off. (
-      (c.execute.ensures.ended off).0,
-      subst (λ h. Stays old (state g.S.Store h)) (sym (c.execute.ensures.ended off).1)
-          (stays_itself old),
-    )) runs
+    (recast_room place_text place_terms place_is plain_place (pos c.args.id) cell change
+    (λ r. refl) (lying_printed (pos c.args.parent) c.args.name.now) old new)
+    (λ count room h one. (
+      c.in_ok-row.ensures.2,
+      recast_one place_text place_terms place_is plain_place (pos c.args.id) cell change
+          (λ r. refl) old new count room h one,
+    ))
+    (ended (state g.S.Store) _ _ _ _ _ c.execute.ensures.ended) runs

@@ -1,13 +1,12 @@
-use Rattle.std.proofs.Common.{subst, sym, ◌∷◌, [], refl}
-use Rattle.std.proofs.Math.Facts.{to_z-of_z}
+use Rattle.std.proofs.Common.{◌∷◌, [], refl, pos}
 use Rattle.sqlite.specs.declared.types.Value.TheVariants.{Int, Text}
 use Rattle.sqlite.specs.Held.{state}
 use Rattle.room_entry.specs.declared.object.Which.TheVariants.{Sacl}
-use Rattle.store_tables.specs.Shown.{Stays, sets_inh}
-use Rattle.store_tables.specs.Trust.{stays_itself}
-use Rattle.store_tables.proofs.Asked.{writes}
+use Rattle.store_tables.specs.Shown.{sets_inh}
+use Rattle.store_tables.proofs.Asked.{ended, writes}
 use Rattle.store_tables.proofs.Printed.{inheriting_printed}
 use Rattle.store_tables.proofs.Recast.{recast_one, recast_room}
+use Rattle.store_tables.proofs.Rowids.{passed_on}
 use Rattle.store_tables.proofs.Texts.{sacl_inh_is, sacl_inh_terms, sacl_inh_text, plain_sacl_inh}
 use Rattle.store_tables.proofs.statements.update_sacl_inh.Goals as goal
 
@@ -17,15 +16,14 @@ returns-clause-writes g c =
     let new = state g.S.Store c.execute.new.self.conn.now in
     let cell = Text c.args.text.now ∷ [] in
     let change = sets_inh Sacl c.args.text.now in
-    let given = simp (to_z-of_z c.ranges.id) at c.params-to_sql.ensures in
+    let given = rw (passed_on _ _ c.in_ok-row.ensures) at c.params-to_sql.ensures in
     writes sacl_inh_text
-    (Int c.args.id ∷ cell) old new c.execute.result _ _ c.execute.ensures.survives
-    (recast_room sacl_inh_text sacl_inh_terms sacl_inh_is plain_sacl_inh c.args.id cell change
+    (Int (pos c.args.id) ∷ cell) old new c.execute.result _ _ c.execute.ensures.survives
+    (recast_room sacl_inh_text sacl_inh_terms sacl_inh_is plain_sacl_inh (pos c.args.id) cell change
     (λ r. refl) (inheriting_printed Sacl c.args.text.now c.requires) old new)
-    (λ count room h. recast_one sacl_inh_text sacl_inh_terms sacl_inh_is plain_sacl_inh c.args.id
-    cell change (λ r. refl) old new count room h)
-    (λ off. (
-      (c.execute.ensures.ended off).0,
-      subst (λ h. Stays old (state g.S.Store h)) (sym (c.execute.ensures.ended off).1)
-          (stays_itself old),
-    )) (rw (given, c.params-to_sql-2.ensures) at c.execute.ensures.runs)
+    (λ count room h one. (
+      c.in_ok-row.ensures.2,
+      recast_one sacl_inh_text sacl_inh_terms sacl_inh_is plain_sacl_inh (pos c.args.id)
+          cell change (λ r. refl) old new count room h one,
+    ))
+    (ended (state g.S.Store) _ _ _ _ _ c.execute.ensures.ended) (rw (given, c.params-to_sql-2.ensures) at c.execute.ensures.runs)

@@ -1,15 +1,14 @@
-use Rattle.std.proofs.Common.{subst, sym, ◌∷◌, [], refl}
-use Rattle.std.proofs.Math.Facts.{to_z-of_z}
+use Rattle.std.proofs.Common.{◌∷◌, [], refl, pos}
 use Rattle.sqlite.specs.declared.types.Value.TheVariants.{Int, Text}
 use Rattle.sqlite.specs.Held.{state}
 use Rattle.room_entry.specs.declared.object.Which.TheVariants.{Sacl}
-use Rattle.store_tables.specs.Shown.{Stays, sets_inh}
-use Rattle.store_tables.specs.Trust.{stays_itself}
-use Rattle.store_tables.proofs.Asked.{writes}
+use Rattle.store_tables.specs.Shown.{sets_inh}
+use Rattle.store_tables.proofs.Asked.{ended, writes}
 use Rattle.store_tables.proofs.Printed.{inheriting_printed}
 use Rattle.store_tables.proofs.RangeTexts.{sacl_range_is, sacl_range_terms, sacl_range_text}
 use Rattle.store_tables.proofs.RangeTexts.{plain_sacl_range}
 use Rattle.store_tables.proofs.Ranged.{range_room, range_rows}
+use Rattle.store_tables.proofs.Rowids.{passed_on}
 use Rattle.store_tables.proofs.statements.update_sacl_range.Goals as goal
 
 pub returns-clause-writes : goal.returns-clause-writes
@@ -18,18 +17,17 @@ returns-clause-writes g c =
     let new = state g.S.Store c.execute.new.self.conn.now in
     let cell = Text c.args.text.now ∷ [] in
     let change = sets_inh Sacl c.args.text.now in
-    let from = simp (to_z-of_z c.ranges.first) at c.params-to_sql.ensures in
-    let to = simp (to_z-of_z c.ranges.last) at c.params-to_sql-2.ensures in
+    let from = rw (passed_on _ _ c.in_ok-from.ensures) at c.params-to_sql.ensures in
+    let to = rw (passed_on _ _ c.in_ok-to.ensures) at c.params-to_sql-2.ensures in
     writes sacl_range_text
-    (Int c.args.first ∷ Int c.args.last ∷ cell) old new c.execute.result _ _
+    (Int (pos c.args.first) ∷ Int (pos c.args.last) ∷ cell) old new c.execute.result _ _
     c.execute.ensures.survives
-    (range_room sacl_range_text sacl_range_terms sacl_range_is plain_sacl_range c.args.first
-    c.args.last cell change (λ r. refl) (inheriting_printed Sacl c.args.text.now c.requires) old
+    (range_room sacl_range_text sacl_range_terms sacl_range_is plain_sacl_range (pos c.args.first)
+    (pos c.args.last) cell change (λ r. refl) (inheriting_printed Sacl c.args.text.now c.requires) old
     new)
-    (λ count room h. range_rows sacl_range_text sacl_range_terms sacl_range_is plain_sacl_range
-    c.args.first c.args.last cell change (λ r. refl) old new count room h)
-    (λ off. (
-      (c.execute.ensures.ended off).0,
-      subst (λ h. Stays old (state g.S.Store h)) (sym (c.execute.ensures.ended off).1)
-          (stays_itself old),
-    )) (rw (from, to, c.params-to_sql-3.ensures) at c.execute.ensures.runs)
+    (λ count room h. (
+      c.in_ok-from.ensures.2,
+      range_rows sacl_range_text sacl_range_terms sacl_range_is plain_sacl_range
+          (pos c.args.first) (pos c.args.last) cell change (λ r. refl) old new count room h,
+    ))
+    (ended (state g.S.Store) _ _ _ _ _ c.execute.ensures.ended) (rw (from, to, c.params-to_sql-3.ensures) at c.execute.ensures.runs)

@@ -1,16 +1,13 @@
-use Rattle.std.proofs.Common.{◌≡◌, IfOk, refl, sym, ap, subst, ◌∙◌, pos}
-use Rattle.std.proofs.Common.{to_z, of_z, w64, map, filter}
-use Rattle.std.proofs.Math.Facts.{to_z-of_z}
-use Rattle.std.specs.List.Sorted.{IsPermutation}
+use Rattle.std.proofs.Common.{◌≡◌, IfOk, Ok, refl, sym, ap, subst, ◌∙◌, pos, arith}
 use Rattle.sqlite.specs.Held.{state}
-use Rattle.store_tables.specs.Shown.{is_child_named, shown_node}
-use Rattle.room_rows.specs.Keep.{IsChildOf, IsUnreadable}
+use Rattle.room_rows.specs.Keep.{IsChildOf, IsUnreadable, capped}
 use Rattle.store_tables.specs.Meaning.{rows_of}
 use Rattle.store_tables.specs.Seeing.{result_of_seen, seen_only}
+use Rattle.store_tables.specs.Statements.{HasChild, QueriesSql}
 use Rattle.store_tables.specs.Trust.{IsTrusted}
-use Rattle.store_tables.proofs.Named.{tells_child}
-use Rattle.store_tables.proofs.Nodes.{Tells, if_seen, told_answers, told_cause, told_unfailed}
 use Rattle.store_tables.specs.Whole.{SeesNamed}
+use Rattle.store_tables.proofs.Named.{tells_child}
+use Rattle.store_tables.proofs.Nodes.{Tells, reads}
 use Rattle.store_tables.proofs.Whole.{sees_named}
 use Rattle.store_tables.proofs.keeper.KeeperKeep.child.Goals as goal
 
@@ -20,44 +17,24 @@ returns g c =
     let new = state g.S.Store c.select_child.new.tx.conn.now in
     let parent = c.args.parent in
     let name = c.args.name.now in
-    let at : to_z w64 (of_z w64 c.in-Some.row) ≡ pos parent = ap
-    (λ z. to_z w64 (of_z w64 z)) c.in-Some.ensures.1 ∙ to_z-of_z c.in-Some.ensures.0 in
-    let seen : c.in_ok-seen.seen ≡ seen_only c.in-Ok.rows.items = c.in_ok-seen.ensures
+    let came = c.in_ok-rows.ensures in
+    let rows = c.in_ok-rows.rows.items in
+    let asks : QueriesSql (HasChild (pos parent) name) old new (Ok c.in_ok-rows.rows) =
+    subst (QueriesSql _ old new) came.answer c.select_child.ensures.asks in
+    let seen : c.in_ok-seen.seen ≡ seen_only rows = c.in_ok-seen.ensures
     ∙ ap seen_only c.as_slice.ensures.value in
-    let told : IsTrusted old new
-    → Tells IsUnreadable (IsChildOf parent name) (rows_of old.now) c.answer.result =
-    λ trust.
-    let found = c.in-Ok.ensures.asks.rows trust.clean trust.now in
-    subst (Tells IsUnreadable (IsChildOf parent name) (rows_of old.now))
-    (sym (c.answer.ensures.answer ∙ ap result_of_seen seen))
-    (tells_child old.now trust.now parent name c.in-Ok.rows.items
-    (subst
-    (λ z. IsPermutation (map shown_node (filter (is_child_named z name) (old.now.trees 0)))
-    c.in-Ok.rows.items) at found)) in
+    let is = sym (c.answer.ensures.answer ∙ ap result_of_seen seen) in
+    let told : IsTrusted old new → Tells IsUnreadable (IsChildOf parent name) (rows_of old.now) c.answer.result =
+    λ trust. subst (Tells IsUnreadable (IsChildOf parent name) (rows_of old.now)) is
+    (tells_child old.now trust.now parent name rows (asks.rows trust.clean trust.now)) in
     record {
-      read = record {
-        follows = (
-          refl,
-          c.in-Ok.ensures.same_reference,
-          c.in-Ok.ensures.asks.stays,
-          c.answer.ensures.no_less,
-        );
-        unwritten = refl;
-        same =
-            λ trust. if_seen c.answer.result _
-            (ap rows_of (c.in-Ok.ensures.asks.same trust.clean trust.now).0.now_is);
-        answers =
-            λ trust. told_answers IsUnreadable (IsChildOf parent name)
-            (rows_of old.now) c.answer.result (told trust);
-        unfailed = told_unfailed c.answer.result _ _ c.answer.ensures.counted;
-        fault =
-            told_cause IsUnreadable (IsChildOf parent name)
-            (rows_of old.now) c.answer.result _ _ c.answer.ensures.counted told;
-      };
-      whole = λ trust. subst (λ r. IfOk r (SeesNamed parent name old.now))
-          (sym (c.answer.ensures.answer ∙ ap result_of_seen seen))
-          (sees_named old.now parent name c.in-Ok.rows.items
-          (subst
-          (λ z. IsPermutation (map shown_node (filter (is_child_named z name) (old.now.trees 0)))
-          c.in-Ok.rows.items) at (c.in-Ok.ensures.asks.rows trust.clean trust.now)));
+      read = reads _ _ _ _ _ IsUnreadable (IsChildOf parent name) _ _ c.answer.result _ (
+        refl,
+        c.select_child.ensures.same_reference,
+        asks.stays,
+        omega (arith, came.unfailed, c.answer.ensures.no_less),
+      ) refl (λ trust. ap rows_of (asks.same trust.clean trust.now).0.now_is)
+          (ap capped came.unfailed) c.answer.ensures.counted told;
+      whole = λ trust. subst (λ r. IfOk r (SeesNamed parent name old.now)) is
+          (sees_named old.now parent name rows (asks.rows trust.clean trust.now));
     }

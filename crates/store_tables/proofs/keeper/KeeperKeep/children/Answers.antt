@@ -1,14 +1,13 @@
-use Rattle.std.proofs.Common.{◌≡◌, IfOk, refl, sym, ap, subst, ◌∙◌, pos, [], to_z, of_z, w64}
-use Rattle.std.proofs.Math.Facts.{to_z-of_z}
+use Rattle.std.proofs.Common.{◌≡◌, [], IfOk, Ok, refl, sym, ap, subst, ◌∙◌, pos, arith}
 use Rattle.sqlite.specs.Held.{state}
-use Rattle.room_rows.specs.Keep.{IsUnreadable, AreChildrenOf}
+use Rattle.room_rows.specs.Keep.{AreChildrenOf, IsUnreadable, capped}
 use Rattle.store_tables.specs.Meaning.{node_in, rows_of}
 use Rattle.store_tables.specs.Seeing.{result_of_seen, seen_behind}
-use Rattle.store_tables.specs.Statements.{HasUnder}
+use Rattle.store_tables.specs.Statements.{HasUnder, QueriesSql}
 use Rattle.store_tables.specs.Trust.{IsTrusted}
-use Rattle.store_tables.proofs.Under.{tells_under}
-use Rattle.store_tables.proofs.Nodes.{Tells, if_seen, told_answers, told_cause, told_unfailed}
 use Rattle.store_tables.specs.Whole.{SeesEach}
+use Rattle.store_tables.proofs.Nodes.{Tells, reads}
+use Rattle.store_tables.proofs.Under.{tells_under}
 use Rattle.store_tables.proofs.Whole.{sees_under}
 use Rattle.store_tables.proofs.keeper.KeeperKeep.children.Goals as goal
 
@@ -16,41 +15,25 @@ pub returns : goal.returns
 returns g c =
     let old = state g.S.Store c.args.self.now.tx.now.conn.now in
     let new = state g.S.Store c.select_under.new.tx.conn.now in
-    let at : to_z w64 (of_z w64 c.in-Some.row) ≡ pos c.args.parent = ap
-    (λ z. to_z w64 (of_z w64 z)) c.in-Some.ensures.1 ∙ to_z-of_z c.in-Some.ensures.0 in
-    let seen : c.in_ok-seen.seen ≡ seen_behind node_in [] c.in-Ok.rows.items = c.in_ok-seen.ensures
+    let parent = c.args.parent in
+    let came = c.in_ok-rows.ensures in
+    let rows = c.in_ok-rows.rows.items in
+    let asks : QueriesSql (HasUnder (pos parent)) old new (Ok c.in_ok-rows.rows) =
+    subst (QueriesSql _ old new) came.answer c.select_under.ensures.asks in
+    let seen : c.in_ok-seen.seen ≡ seen_behind node_in [] rows = c.in_ok-seen.ensures
     ∙ ap (seen_behind node_in []) c.as_slice.ensures.value in
-    let told : IsTrusted old new
-    → Tells IsUnreadable (AreChildrenOf c.args.parent) (rows_of old.now) c.answer.result =
-    λ trust.
-    let found = c.in-Ok.ensures.asks.rows trust.clean trust.now in
-    subst (Tells IsUnreadable (AreChildrenOf c.args.parent) (rows_of old.now))
-    (sym (c.answer.ensures.answer ∙ ap result_of_seen seen))
-    (tells_under old.now trust.now c.args.parent c.in-Ok.rows.items
-    (subst (λ z. HasUnder z old.now.trees c.in-Ok.rows.items) at found)) in
+    let is = sym (c.answer.ensures.answer ∙ ap result_of_seen seen) in
+    let told : IsTrusted old new → Tells IsUnreadable (AreChildrenOf parent) (rows_of old.now) c.answer.result =
+    λ trust. subst (Tells IsUnreadable (AreChildrenOf parent) (rows_of old.now)) is
+    (tells_under old.now trust.now parent rows (asks.rows trust.clean trust.now)) in
     record {
-      read = record {
-        follows = (
-          refl,
-          c.in-Ok.ensures.same_reference,
-          c.in-Ok.ensures.asks.stays,
-          c.answer.ensures.no_less,
-        );
-        unwritten = refl;
-        same =
-            λ trust. if_seen c.answer.result _
-            (ap rows_of (c.in-Ok.ensures.asks.same trust.clean trust.now).0.now_is);
-        answers =
-            λ trust. told_answers IsUnreadable (AreChildrenOf c.args.parent)
-            (rows_of old.now) c.answer.result (told trust);
-        unfailed = told_unfailed c.answer.result _ _ c.answer.ensures.counted;
-        fault =
-            told_cause IsUnreadable (AreChildrenOf c.args.parent)
-            (rows_of old.now) c.answer.result _ _ c.answer.ensures.counted told;
-      };
-      whole = λ trust. subst (λ r. IfOk r (SeesEach c.args.parent old.now))
-          (sym (c.answer.ensures.answer ∙ ap result_of_seen seen))
-          (sees_under old.now c.args.parent c.in-Ok.rows.items
-          (subst (λ z. HasUnder z old.now.trees c.in-Ok.rows.items) at
-          (c.in-Ok.ensures.asks.rows trust.clean trust.now)));
+      read = reads _ _ _ _ _ IsUnreadable (AreChildrenOf parent) _ _ c.answer.result _ (
+        refl,
+        c.select_under.ensures.same_reference,
+        asks.stays,
+        omega (arith, came.unfailed, c.answer.ensures.no_less),
+      ) refl (λ trust. ap rows_of (asks.same trust.clean trust.now).0.now_is)
+          (ap capped came.unfailed) c.answer.ensures.counted told;
+      whole = λ trust. subst (λ r. IfOk r (SeesEach parent old.now)) is
+          (sees_under old.now parent rows (asks.rows trust.clean trust.now));
     }

@@ -1,38 +1,35 @@
-use Rattle.std.proofs.Common.{◌≡◌, length, not, refl, sym, ap, subst, ◌∙◌, pos, arith, to_z, of_z}
-use Rattle.std.proofs.Common.{w64}
-use Rattle.std.proofs.Math.Facts.{to_z-of_z}
+use Rattle.std.proofs.Common.{Ok, length, not, refl, sym, ap, subst, ◌∙◌, pos}
 use Rattle.std.specs.Prelude.{◌==◌}
 use Rattle.sqlite.specs.Held.{state}
-use Rattle.room_rows.specs.Keep.{HasChildren}
+use Rattle.room_rows.specs.Keep.{HasChildren, capped}
 use Rattle.store_tables.specs.Meaning.{rows_of}
-use Rattle.store_tables.specs.Statements.{HasSome}
+use Rattle.store_tables.specs.Statements.{HasSome, QueriesSql}
 use Rattle.store_tables.proofs.Listed.{tells_some}
 use Rattle.store_tables.specs.Whole.{SeesSome}
 use Rattle.store_tables.proofs.Whole.{sees_some}
 use Rattle.store_tables.proofs.keeper.KeeperKeep.has_children.Goals as goal
 
-pub returns-in-Ok : goal.returns-in-Ok
-returns-in-Ok g c =
+pub returns : goal.returns
+returns g c =
     let old = state g.S.Store c.args.self.now.tx.now.conn.now in
-    let at : to_z w64 (of_z w64 c.in-Some.row) ≡ pos c.args.parent = ap
-    (λ z. to_z w64 (of_z w64 z)) c.in-Some.ensures.1 ∙ to_z-of_z c.in-Some.ensures.0 in
+    let new = state g.S.Store c.select_some.new.tx.conn.now in
+    let parent = c.args.parent in
+    let came = c.in_ok-rows.ensures in
+    let rows = c.in_ok-rows.rows.items in
+    let asks : QueriesSql (HasSome (pos parent)) old new (Ok c.in_ok-rows.rows) =
+    subst (QueriesSql _ old new) came.answer c.select_some.ensures.asks in
+    let is = sym (c.is_empty.ensures ∙ ap (λ l. length l == 0) c.as_slice.ensures.value) in
     record {
       read = record {
-        follows = (refl, c.in-Ok.ensures.same_reference, c.in-Ok.ensures.asks.stays, omega arith);
+        follows = (refl, c.select_some.ensures.same_reference, asks.stays, came.no_less);
         unwritten = refl;
-        same = λ trust. ap rows_of (c.in-Ok.ensures.asks.same trust.clean trust.now).0.now_is;
+        same = λ trust. ap rows_of (asks.same trust.clean trust.now).0.now_is;
         answers =
-            λ trust. subst (λ b. HasChildren c.args.parent (rows_of old.now) (not b))
-            (sym (c.is_empty.ensures ∙ ap (λ l. length l == 0) c.as_slice.ensures.value))
-            (tells_some old.now trust.now c.args.parent c.in-Ok.rows.items
-            (subst (λ z. HasSome z old.now.trees c.in-Ok.rows.items) at
-            (c.in-Ok.ensures.asks.rows trust.clean trust.now)));
-        unfailed = refl;
+            λ trust. subst (λ b. HasChildren parent (rows_of old.now) (not b)) is
+            (tells_some old.now trust.now parent rows (asks.rows trust.clean trust.now));
+        unfailed = ap capped came.unfailed;
         fault = tt;
       };
-      whole = λ trust. subst (λ b. SeesSome c.args.parent old.now (not b))
-          (sym (c.is_empty.ensures ∙ ap (λ l. length l == 0) c.as_slice.ensures.value))
-          (sees_some old.now c.args.parent c.in-Ok.rows.items
-          (subst (λ z. HasSome z old.now.trees c.in-Ok.rows.items) at
-          (c.in-Ok.ensures.asks.rows trust.clean trust.now)));
+      whole = λ trust. subst (λ b. SeesSome parent old.now (not b)) is
+          (sees_some old.now parent rows (asks.rows trust.clean trust.now));
     }

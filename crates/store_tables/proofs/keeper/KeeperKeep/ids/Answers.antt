@@ -1,24 +1,31 @@
-use Rattle.std.proofs.Common.{◌≡◌, refl, ap, ◌∙◌, arith}
+use Rattle.std.proofs.Common.{◌≡◌, Ok, refl, ap, subst, ◌∙◌}
 use Rattle.sqlite.specs.Held.{state}
+use Rattle.room_rows.specs.Keep.{capped}
 use Rattle.store_tables.specs.Meaning.{rows_of}
 use Rattle.store_tables.specs.Seeing.{numbers_seen}
+use Rattle.store_tables.specs.Statements.{HasNumbers, QueriesSql}
 use Rattle.store_tables.proofs.Numbers.{tells_numbers}
 use Rattle.store_tables.proofs.keeper.KeeperKeep.ids.Goals as goal
 
 pub returns : goal.returns
 returns g c =
     let old = state g.S.Store c.args.self.now.tx.now.conn.now in
-    let seen : c.in_ok-ids.ids ≡ numbers_seen c.in-Ok.rows.items = c.in_ok-ids.ensures
+    let new = state g.S.Store c.select_numbers.new.tx.conn.now in
+    let came = c.in_ok-rows.ensures in
+    let rows = c.in_ok-rows.rows.items in
+    let asks : QueriesSql HasNumbers old new (Ok c.in_ok-rows.rows) =
+    subst (QueriesSql _ old new) came.answer c.select_numbers.ensures.asks in
+    let seen : c.in_ok-ids.ids ≡ numbers_seen rows = c.in_ok-ids.ensures
     ∙ ap numbers_seen c.as_slice.ensures.value in
     record {
       read = record {
-        follows = (refl, c.in-Ok.ensures.same_reference, c.in-Ok.ensures.asks.stays, omega arith);
+        follows = (refl, c.select_numbers.ensures.same_reference, asks.stays, came.no_less);
         unwritten = refl;
-        same = λ trust. ap rows_of (c.in-Ok.ensures.asks.same trust.clean trust.now).0.now_is;
+        same = λ trust. ap rows_of (asks.same trust.clean trust.now).0.now_is;
         answers =
-            λ trust. seen ∙ tells_numbers old.now trust.now c.in-Ok.rows.items
-            (c.in-Ok.ensures.asks.rows trust.clean trust.now);
-        unfailed = refl;
+            λ trust. seen ∙ tells_numbers old.now trust.now rows
+            (asks.rows trust.clean trust.now);
+        unfailed = ap capped came.unfailed;
         fault = tt;
       };
     }
