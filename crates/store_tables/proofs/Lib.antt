@@ -20,6 +20,7 @@ pub mod Tops
 pub mod Apart
 pub mod Under
 pub mod Typed
+mod Worked
 pub mod Listed
 pub mod Grouped
 pub mod Numbers
