@@ -26,6 +26,13 @@ use sqlite::{Alter, Connection, Transaction};
 use std::alloc::Global;
 use store_tables::{Keeper, RecentLists};
 
+/// What is asked, and by whom. Without a name that is an anonymous caller.
+#[derive(Drop)]
+pub(crate) struct Asked<'a, 'b> {
+    pub(crate) caller: Option<&'a Name>,
+    pub(crate) request: &'b Request,
+}
+
 /// What is remembered, or nothing yet.
 pub(crate) fn known_of(alloc: Global, kept: Option<Memory>) -> Memory
     ensures { (rows : Rows) → IfSome kept (λ known. AgreesWithRows known rows)
@@ -41,9 +48,8 @@ pub(crate) fn known_of(alloc: Global, kept: Option<Memory>) -> Memory
 fn perform_by<S: Alter>(
     alloc: Global,
     keep: &mut Remembering<'_, Keeper<'_, '_, S>>,
-    caller: Option<&Name>,
+    asked: &Asked<'_, '_>,
     moment: i64,
-    request: &Request,
 ) -> Result<Reply, KeepFault>
     ensures same_keeper { keep.new.keeper.ghost_name ≡ keep.old.keeper.ghost_name }
     ensures same_memory { keep.new.memory.ghost_name ≡ keep.old.memory.ghost_name }
@@ -58,13 +64,13 @@ fn perform_by<S: Alter>(
         (rows_of (state S.Store keep.old.keeper.now.tx.now.conn.now).now))
         → CallsInside (state S.Store keep.old.keeper.now.tx.now.conn.now)
         (state S.Store keep.new.keeper.now.tx.now.conn.now) result (OnRows HasDamage)
-        (ByRows (Performs (option_copied caller.entry) moment request.now)) }
+        (ByRows (Performs (option_copied asked.now.caller) moment asked.now.request.now)) }
     ensures kept { keep.new.touched ≡ false
         → IsKept (state S.Store keep.old.keeper.now.tx.now.conn.now)
         (state S.Store keep.new.keeper.now.tx.now.conn.now) keep.old.memory.now
         keep.new.memory.now }
 {
-    perform(alloc, keep, caller, moment, request)
+    perform(alloc, keep, asked.caller, moment, asked.request)
 }
 
 // Whether nothing was written and nothing failed.
@@ -79,9 +85,8 @@ fn perform_with<S: Alter>(
     alloc: Global,
     keeper: &mut Keeper<'_, '_, S>,
     known: &mut Memory,
-    caller: Option<&Name>,
+    asked: &Asked<'_, '_>,
     moment: i64,
-    request: &Request,
 ) -> (Result<Reply, KeepFault>, bool)
     ensures same_reference { keeper.new.tx.ghost_name ≡ keeper.old.tx.ghost_name }
     ensures same_lender { keeper.new.tx.now.conn.ghost_name ≡ keeper.old.tx.now.conn.ghost_name }
@@ -92,7 +97,7 @@ fn perform_with<S: Alter>(
         → AgreesWithRows known.old (rows_of (state S.Store keeper.old.tx.now.conn.now).now))
         → CallsInside (state S.Store keeper.old.tx.now.conn.now)
         (state S.Store keeper.new.tx.now.conn.now) result.0 (OnRows HasDamage)
-        (ByRows (Performs (option_copied caller.entry) moment request.now)) }
+        (ByRows (Performs (option_copied asked.now.caller) moment asked.now.request.now)) }
     ensures kept { result.1 ≡ true → IsOk result.0
         × IsKept (state S.Store keeper.old.tx.now.conn.now)
         (state S.Store keeper.new.tx.now.conn.now) known.old known.new }
@@ -103,7 +108,7 @@ fn perform_with<S: Alter>(
         memory: known,
         touched: false,
     };
-    let done = perform_by(alloc, &mut keep, caller, moment, request);
+    let done = perform_by(alloc, &mut keep, asked, moment);
     let only_read = has_read(keep.touched, &done);
     (done, only_read)
 }
@@ -114,9 +119,8 @@ pub(crate) fn perform_inside<S: Alter>(
     tx: &mut Transaction<'_, S>,
     lists: &mut RecentLists,
     known: &mut Memory,
-    caller: Option<&Name>,
+    asked: &Asked<'_, '_>,
     moment: i64,
-    request: &Request,
 ) -> (Result<Reply, KeepFault>, bool)
     ensures same_reference { tx.new.conn.ghost_name ≡ tx.old.conn.ghost_name }
     ensures stays { Stays (state S.Store tx.old.conn.now) (state S.Store tx.new.conn.now) }
@@ -124,7 +128,7 @@ pub(crate) fn perform_inside<S: Alter>(
         → AgreesWithRows known.old (rows_of (state S.Store tx.old.conn.now).now))
         → CallsInside (state S.Store tx.old.conn.now) (state S.Store tx.new.conn.now)
         result.0 (OnRows HasDamage)
-        (ByRows (Performs (option_copied caller.entry) moment request.now)) }
+        (ByRows (Performs (option_copied asked.now.caller) moment asked.now.request.now)) }
     ensures kept { result.1 ≡ true → IsOk result.0
         × IsKept (state S.Store tx.old.conn.now) (state S.Store tx.new.conn.now)
         known.old known.new }
@@ -136,7 +140,7 @@ pub(crate) fn perform_inside<S: Alter>(
         failures: 0,
         writes: 0,
     };
-    perform_with(alloc, &mut keeper, known, caller, moment, request)
+    perform_with(alloc, &mut keeper, known, asked, moment)
 }
 
 /// After calls that only read, and were rolled back: the answer, if the connection is open.

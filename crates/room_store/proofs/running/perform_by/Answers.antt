@@ -21,11 +21,11 @@ returns g c =
       stays = done.follows.below.2;
       carries =
           λ agreed. subst (λ at. CallsInside begun mid c.perform.result (OnRows HasDamage)
-          (ByRows (Performs (option_copied c.args.caller) at c.args.request.now)))
+          (ByRows (Performs (option_copied c.args.asked.now.caller) at c.args.asked.now.request.now)))
           (to_z-of_z w64 c.args.moment c.ranges.moment)
           (carried_with begun mid c.perform.result
-          (Performs (option_copied c.args.caller) (to_z w64 (of_z w64 c.args.moment))
-          c.args.request.now) _ _ _ done.follows.below.2
+          (Performs (option_copied c.args.asked.now.caller) (to_z w64 (of_z w64 c.args.moment))
+          c.args.asked.now.request.now) _ _ _ done.follows.below.2
           (λ trust. record { below = trust; agreed = agreed trust }) done.becomes done.fault);
       kept = λ off. record { agrees = done.follows.agrees; same = done.follows.same off };
     }
