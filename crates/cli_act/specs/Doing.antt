@@ -37,6 +37,7 @@ use Rattle.room_store.specs.declared.fault.StoreFault.{StoreFault}
 use Rattle.room_store.specs.declared.fault.StoreFault.TheVariants as store
 use Rattle.store_tables.specs.Meaning.{rows_of}
 use Rattle.cli_act.specs.Outcome.{not_opened}
+use Rattle.cli_outcome.specs.declared.fault.Fault.{Fault}
 use Rattle.cli_outcome.specs.declared.fault.Fault.TheVariants.{Database, Memory}
 use Rattle.cli_act.specs.declared.outcome.TaskAnswer.TheVariants as answer
 use Rattle.cli_act.specs.declared.outcome.Outcome.{Outcome}
@@ -49,10 +50,18 @@ use Rattle.cli_act.specs.Counting.{distinct_groups}
 
 -- ---- what comes of an answer
 
+abbrev pub fault_of : StoreFault → Fault
+fault_of store.Memory = Memory
+fault_of store.Db = Database
+fault_of store.Damaged = Database
+
 abbrev pub after_fault : StoreFault → Outcome
-after_fault store.Memory = Failed Memory
-after_fault store.Db = Failed Database
-after_fault store.Damaged = Failed Database
+after_fault fault = Failed (fault_of fault)
+
+-- the outcome, or that of the fault
+abbrev pub or_failed : Result Outcome Fault → Outcome
+or_failed (Ok outcome) = outcome
+or_failed (Err fault) = Failed fault
 
 abbrev pub after_create : Result (Unit {0}) CreateFault → Outcome
 after_create (Ok done) = Answer answer.Made

@@ -1,24 +1,22 @@
 //! A task on a room that is open, each by one call of the store.
-ghost use Rattle.std.specs.Prelude.{◌≡◌, IfOk, length};
-ghost use Rattle.cli_act.specs.Counting.{distinct_groups};
+ghost use Rattle.std.specs.Prelude.{◌≡◌, IfOk};
 ghost use Rattle.sqlite.specs.Held.{state};
 ghost use Rattle.cli_act.specs.Doing.{
   GivesDump,
   GivesMembers,
   GivesRecords,
   GivesReview,
-  IsText,
   PutsMembers,
   SetsList,
   TestsRows,
   Works,
-  after_fault,
   after_reply,
   after_report,
   after_review,
+  fault_of,
+  or_failed,
   question_of,
 };
-ghost use Rattle.room_import.specs.Exports.{groups_text, records_text};
 
 use crate::counting::count_groups;
 use crate::outcome::{Outcome, TaskAnswer};
@@ -29,106 +27,71 @@ use room_import::{write_audits, write_groups};
 use room_inherit::Report;
 use room_machine::Reply;
 use room_review::{Reviewed, Scope};
-use room_rows::{AuditRow, Bytes, Path};
+use room_rows::{Bytes, Path};
 use room_store::{Store, StoreFault};
 use sqlite::Alter;
 use std::alloc::{AllocError, Global};
 
-// The outcome where a store gave no answer.
-fn after_fault(fault: StoreFault) -> Outcome
-    ensures { result ≡ after_fault fault }
+// The fault where a store gave no answer.
+fn fault_of(fault: StoreFault) -> Fault
+    ensures { result ≡ fault_of fault }
 {
     match fault {
-        StoreFault::Memory => Outcome::Failed(Fault::Memory),
-        StoreFault::Db => Outcome::Failed(Fault::Database),
-        StoreFault::Damaged => Outcome::Failed(Fault::Database),
+        StoreFault::Memory => Fault::Memory,
+        StoreFault::Db => Fault::Database,
+        StoreFault::Damaged => Fault::Database,
     }
 }
 
-// The members are replaced by these pairs, of `groups` groups.
-fn put<S: Alter>(
+// The fault where memory ran out.
+fn no_memory(_: AllocError) -> Fault
+    ensures { result ≡ Fault.Memory }
+{
+    Fault::Memory
+}
+
+// The members are replaced by these pairs. Their groups are counted before, so that nothing is
+// changed where memory for that runs out.
+fn replace<S: Alter>(
     alloc: Global,
     store: &mut Store<S>,
     pairs: &[(Name, Name)],
-    groups: usize,
-) -> Outcome
-    requires { groups ≡ length (distinct_groups pairs.now) }
-    ensures { PutsMembers pairs.now (state S.Store store.old.conn) result
+) -> Result<Outcome, Fault>
+    ensures { PutsMembers pairs.now (state S.Store store.old.conn) (or_failed result)
         (state S.Store store.new.conn) }
 {
-    match store.replace_members(alloc, pairs) {
-        Ok(()) => Outcome::Answer(TaskAnswer::Replaced {
-            groups,
-            members: pairs.len(),
-        }),
-        Err(fault) => after_fault(fault),
-    }
+    let groups = count_groups(alloc, pairs).map_err(no_memory)?;
+    store.replace_members(alloc, pairs).map_err(fault_of)?;
+    Ok(Outcome::Answer(TaskAnswer::Replaced {
+        groups,
+        members: pairs.len(),
+    }))
 }
 
-// The groups are counted before, so that nothing is changed where memory for that runs out.
-fn replace<S: Alter>(alloc: Global, store: &mut Store<S>, pairs: &[(Name, Name)]) -> Outcome
-    ensures { PutsMembers pairs.now (state S.Store store.old.conn) result
+fn tell_members<S: Alter>(alloc: Global, store: &mut Store<S>) -> Result<Outcome, Fault>
+    ensures { GivesMembers (state S.Store store.old.conn) (or_failed result)
         (state S.Store store.new.conn) }
 {
-    match count_groups(alloc, pairs) {
-        Ok(groups) => put(alloc, store, pairs, groups),
-        Err(_) => Outcome::Failed(Fault::Memory),
-    }
+    let pairs = store.members(alloc).map_err(fault_of)?;
+    let text = write_groups(alloc, pairs.as_slice()).map_err(no_memory)?;
+    Ok(Outcome::Bytes(text))
 }
 
-fn tell_members<S: Alter>(alloc: Global, store: &mut Store<S>) -> Outcome
-    ensures { GivesMembers (state S.Store store.old.conn) result (state S.Store store.new.conn) }
-{
-    match store.members(alloc) {
-        Ok(pairs) => members_text(alloc, pairs.as_slice()),
-        Err(fault) => after_fault(fault),
-    }
-}
-
-fn members_text(alloc: Global, pairs: &[(Name, Name)]) -> Outcome
-    ensures { IsText (groups_text pairs.now) result }
-{
-    match write_groups(alloc, pairs) {
-        Ok(bytes) => Outcome::Bytes(bytes),
-        Err(_) => Outcome::Failed(Fault::Memory),
-    }
-}
-
-fn tell_records<S: Alter>(alloc: Global, store: &mut Store<S>) -> Outcome
-    ensures { GivesRecords (state S.Store store.old.conn) result (state S.Store store.new.conn) }
-{
-    match store.audits(alloc) {
-        Ok(records) => records_text(alloc, records.as_slice()),
-        Err(fault) => after_fault(fault),
-    }
-}
-
-fn records_text(alloc: Global, records: &[AuditRow]) -> Outcome
-    ensures { IsText (records_text records.now) result }
-{
-    match write_audits(alloc, records) {
-        Ok(bytes) => Outcome::Bytes(bytes),
-        Err(_) => Outcome::Failed(Fault::Memory),
-    }
-}
-
-fn tell_all<S: Alter>(alloc: Global, store: &mut Store<S>) -> Outcome
-    ensures { GivesDump (state S.Store store.old.conn) result (state S.Store store.new.conn) }
-{
-    match store.dump(alloc) {
-        Ok(text) => Outcome::Bytes(Bytes::from_vec(text.into_bytes())),
-        Err(fault) => after_fault(fault),
-    }
-}
-
-fn tell_review<S: Alter>(alloc: Global, store: &mut Store<S>, question: &Scope) -> Outcome
-    ensures { GivesReview question.now (state S.Store store.old.conn) result
+fn tell_records<S: Alter>(alloc: Global, store: &mut Store<S>) -> Result<Outcome, Fault>
+    ensures { GivesRecords (state S.Store store.old.conn) (or_failed result)
         (state S.Store store.new.conn) }
 {
-    match store.review(alloc, question) {
-        Ok(reviewed) => after_review(reviewed),
-        Err(fault) => after_fault(fault),
-    }
+    let records = store.audits(alloc).map_err(fault_of)?;
+    let text = write_audits(alloc, records.as_slice()).map_err(no_memory)?;
+    Ok(Outcome::Bytes(text))
+}
+
+fn tell_all<S: Alter>(alloc: Global, store: &mut Store<S>) -> Result<Outcome, Fault>
+    ensures { GivesDump (state S.Store store.old.conn) (or_failed result)
+        (state S.Store store.new.conn) }
+{
+    let text = store.dump(alloc).map_err(fault_of)?;
+    Ok(Outcome::Bytes(Bytes::from_vec(text.into_bytes())))
 }
 
 // What a store is asked for a review.
@@ -149,14 +112,13 @@ fn review<S: Alter>(
     path: &Path,
     user: &Option<Name>,
     all: bool,
-) -> Outcome
-    ensures { GivesReview (question_of path.now user.now all) (state S.Store store.old.conn) result
-        (state S.Store store.new.conn) }
+) -> Result<Outcome, Fault>
+    ensures { GivesReview (question_of path.now user.now all) (state S.Store store.old.conn)
+        (or_failed result) (state S.Store store.new.conn) }
 {
-    match question_of(path, user, all) {
-        Ok(question) => tell_review(alloc, store, &question),
-        Err(_) => Outcome::Failed(Fault::Memory),
-    }
+    let question = question_of(path, user, all).map_err(no_memory)?;
+    let reviewed = store.review(alloc, &question).map_err(fault_of)?;
+    Ok(after_review(reviewed))
 }
 
 // The outcome of a review.
@@ -175,14 +137,12 @@ fn set_list<S: Alter>(
     path: &Path,
     which: Which,
     sent: &SentList,
-) -> Outcome
-    ensures { SetsList path.now which sent.now (state S.Store store.old.conn) result
+) -> Result<Outcome, Fault>
+    ensures { SetsList path.now which sent.now (state S.Store store.old.conn) (or_failed result)
         (state S.Store store.new.conn) }
 {
-    match store.reset(alloc, path, which, sent) {
-        Ok(reply) => after_reply(reply),
-        Err(fault) => after_fault(fault),
-    }
+    let reply = store.reset(alloc, path, which, sent).map_err(fault_of)?;
+    Ok(after_reply(reply))
 }
 
 // The outcome of a reset, whose reply is that it was done or refused.
@@ -212,18 +172,18 @@ fn after_report(report: Report) -> Outcome
     }
 }
 
-fn test<S: Alter>(alloc: Global, store: &mut Store<S>) -> Outcome
-    ensures { TestsRows (state S.Store store.old.conn) result (state S.Store store.new.conn) }
+fn test<S: Alter>(alloc: Global, store: &mut Store<S>) -> Result<Outcome, Fault>
+    ensures { TestsRows (state S.Store store.old.conn) (or_failed result)
+        (state S.Store store.new.conn) }
 {
-    match store.verify(alloc) {
-        Ok(report) => after_report(report),
-        Err(fault) => after_fault(fault),
-    }
+    let report = store.verify(alloc).map_err(fault_of)?;
+    Ok(after_report(report))
 }
 
-/// Does a task on the room of a store.
-pub(crate) fn work<S: Alter>(alloc: Global, store: &mut Store<S>, task: &RoomTask) -> Outcome
-    ensures { Works task.now (state S.Store store.old.conn) result (state S.Store store.new.conn) }
+// The outcome of a task on the room of a store, or the fault for which there is none.
+fn attempt<S: Alter>(alloc: Global, store: &mut Store<S>, task: &RoomTask) -> Result<Outcome, Fault>
+    ensures { Works task.now (state S.Store store.old.conn) (or_failed result)
+        (state S.Store store.new.conn) }
 {
     match task {
         RoomTask::Groups(pairs) => replace(alloc, store, pairs.as_slice()),
@@ -234,4 +194,11 @@ pub(crate) fn work<S: Alter>(alloc: Global, store: &mut Store<S>, task: &RoomTas
         RoomTask::Reset(path, which, sent) => set_list(alloc, store, path, *which, sent),
         RoomTask::Verify => test(alloc, store),
     }
+}
+
+/// Does a task on the room of a store.
+pub(crate) fn work<S: Alter>(alloc: Global, store: &mut Store<S>, task: &RoomTask) -> Outcome
+    ensures { Works task.now (state S.Store store.old.conn) result (state S.Store store.new.conn) }
+{
+    attempt(alloc, store, task).unwrap_or_else(Outcome::Failed)
 }
