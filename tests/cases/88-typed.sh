@@ -328,8 +328,9 @@ does 'those of several' 'systemctl disable --now rooms rooms-nightly.timer; rm /
 types 'from an install by hand' docs/upgrading 'rm -f bin/rooms' docs/upgrading 'enable --now "$unit"'
 asks_as 200 alice GET /folder/letters
 
-# The block of the README for who builds the program.
+# The blocks of the README for who builds the program.
 block_of README tools/build >>typed
+block_of README .ci/run >>typed
 # Blocks of a new machine, and of what is copied for it: 94-new-machine pastes them.
 for text in './rooms_' 'cp -a /mnt' 'do rooms-restore' reload-or-restart machine/about 'openssl rand' 'restore latest' 'rsync -a'; do
   block_of docs/backup "$text"
