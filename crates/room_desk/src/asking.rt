@@ -1,5 +1,5 @@
 //! The request that asks what a caller may do.
-ghost use Rattle.std.specs.Prelude.{◌≡◌, ℕ, [], ◌∷◌, IfOk};
+ghost use Rattle.std.specs.Prelude.{◌≡◌, ◌≤◌, ◌+◌, ℕ, length, [], ◌∷◌, IfOk};
 ghost use Rattle.room_eval.specs.Verdict.{ruling_of};
 ghost use Rattle.room_rows.specs.Held.{full_of};
 ghost use Rattle.room_desk.specs.Asked.{rulings_at};
@@ -21,6 +21,8 @@ pub(crate) fn can<K: Keep>(walk: &mut Walker<'_, K>, path: &Path, mask: Mask) ->
     ensures same_asker { walk.new.asker.now ≡ walk.old.asker.now }
     ensures done { Tries K.Keep walk.old.keep.now walk.new.keep.now result IsDamaged
         (Serves walk.old.asker.now (Can path.now mask)) }
+    ensures counted { K.reads walk.new.keep.now
+        ≤ K.reads walk.old.keep.now + (length path.now + 1) }
 {
     let node = walk.walk_to(path)?;
     Ok(rulings_reply(walk.alloc, walk.asker, &node, mask)?)

@@ -1,8 +1,9 @@
 //! A change of a list carried down.
-ghost use Rattle.std.specs.Prelude.{◌≡◌};
+ghost use Rattle.std.specs.Prelude.{◌≡◌, IfOk};
 ghost use Rattle.room_judge.specs.Judged.{DoesUpTo};
 ghost use Rattle.room_desk.specs.Carrying.{HasLoop, HasLoopFrom, IsCarriedDown, IsCarriedFrom};
 ghost use Rattle.room_desk.specs.Carrying.{keeper_fault};
+ghost use Rattle.room_desk.specs.Called.{ReadsBeside};
 ghost use Rattle.room_desk.specs.Counted.{EachList, Provided};
 ghost use Rattle.room_inherit.specs.Spread.{Holds};
 
@@ -21,6 +22,8 @@ pub(crate) fn carry_below<K: Keep>(
 ) -> Result<(), KeepFault>
     ensures done { DoesUpTo K.Keep keep.old keep.new result (EachList which) (HasLoop id)
         (IsCarriedDown which id) }
+    ensures counted { IfOk result
+        (λ _. ReadsBeside K.Keep 3 keep.old keep.new) }
 {
     let outcome = spread(alloc, keep, id, which);
     match outcome {
@@ -39,6 +42,8 @@ pub(crate) fn carry_from<K: Keep>(
     ensures done { DoesUpTo K.Keep keep.old keep.new result
         (Provided (Holds start.now) (EachList which)) (HasLoopFrom start.now)
         (IsCarriedFrom which start.now) }
+    ensures counted { IfOk result
+        (λ _. ReadsBeside K.Keep 2 keep.old keep.new) }
 {
     let outcome = spread_from(alloc, keep, start, which);
     match outcome {

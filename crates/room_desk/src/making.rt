@@ -1,5 +1,5 @@
 //! Requests that make an object, or replace a document's bytes.
-ghost use Rattle.std.specs.Prelude.{◌≡◌, false, [], ◌∷◌, IfOk, is_some, length, unwrap_or};
+ghost use Rattle.std.specs.Prelude.{◌≡◌, ◌≤◌, ◌+◌, false, [], ◌∷◌, IfOk, is_some, length, unwrap_or};
 ghost use Rattle.room_entry.specs.Rights.{append_data, write_data};
 ghost use Rattle.room_rows.specs.Keep.{CanAdd, IsDamaged, IsUnreadable, SetsBody};
 ghost use Rattle.room_judge.specs.Halted.{Serves, TriesUpTo, replied};
@@ -39,6 +39,8 @@ pub(crate) fn put<K: Keep>(
     ensures same_asker { walk.new.asker.now ≡ walk.old.asker.now }
     ensures done { TriesUpTo K.Keep walk.old.keep.now walk.new.keep.now result OneAndBoth
         IsDamaged (Serves walk.old.asker.now (Put path.now bytes.now)) }
+    ensures counted { K.reads walk.new.keep.now
+        ≤ K.reads walk.old.keep.now + (length path.now + 1) }
 {
     match path.split_last() {
         None => put_root(walk, path, bytes),
@@ -53,6 +55,8 @@ fn put_root<K: Keep>(walk: &mut Walker<'_, K>, path: &Path, bytes: &Bytes) -> Re
     ensures same_asker { walk.new.asker.now ≡ walk.old.asker.now }
     ensures done { TriesUpTo K.Keep walk.old.keep.now walk.new.keep.now result OneAndBoth
         IsDamaged (Serves walk.old.asker.now (Put path.now bytes.now)) }
+    ensures counted { K.reads walk.new.keep.now
+        ≤ K.reads walk.old.keep.now + (length path.now + 1) }
 {
     let node = walk.walk_to(path)?;
     put_there(walk, path, &Found { node, depth: 0 }, bytes)
@@ -70,6 +74,8 @@ fn put_below<K: Keep>(
     ensures same_asker { walk.new.asker.now ≡ walk.old.asker.now }
     ensures done { TriesUpTo K.Keep walk.old.keep.now walk.new.keep.now result OneAndBoth
         IsDamaged (Serves walk.old.asker.now (Put path.now bytes.now)) }
+    ensures counted { K.reads walk.new.keep.now
+        ≤ K.reads walk.old.keep.now + (length path.now + 1) }
 {
     let spot = walk.to_spot(path)?;
     let Under { folder, child } = spot;
@@ -98,6 +104,7 @@ fn put_there<K: Keep>(
         (found_site path.now target.now) ∷ Check (found_site path.now target.now) (write_data ∷ [])
         ∷ not_over path.now (length bytes.now) ∷ []) Done
         (SetsBody target.now.node.id bytes.now) old (replied outcome) new) }
+    ensures counted { K.reads walk.new.keep.now ≤ K.reads walk.old.keep.now }
 {
     walk.check_kind(path, target, ObjKind::Document, Mask::write_data())?;
     put_bytes(walk, path, target.node.id, bytes.as_slice())
@@ -120,6 +127,7 @@ fn put_new<K: Keep>(
         (length child.now.bytes.now) ∷ []) Made (IsMade (new_child walk.old.asker.now.caller
         child.now.kind folder.now.node child.now.name.now child.now.bytes.now)) old
         (replied outcome) new) }
+    ensures counted { K.reads walk.new.keep.now ≤ K.reads walk.old.keep.now }
 {
     walk.check(path, folder, Mask::write_data())?;
     let too_many = child.bytes.len() > MOST_BYTES;
@@ -135,6 +143,8 @@ pub(crate) fn make_folder<K: Keep>(walk: &mut Walker<'_, K>, path: &Path) -> Res
     ensures same_asker { walk.new.asker.now ≡ walk.old.asker.now }
     ensures done { TriesUpTo K.Keep walk.old.keep.now walk.new.keep.now result OneAndBoth
         IsDamaged (Serves walk.old.asker.now (MakeFolder path.now)) }
+    ensures counted { K.reads walk.new.keep.now
+        ≤ K.reads walk.old.keep.now + (length path.now + 1) }
 {
     match path.split_last() {
         None => Err(refusal(walk.alloc, path, 0, Reason::Exists)),
@@ -149,6 +159,8 @@ fn make_below<K: Keep>(walk: &mut Walker<'_, K>, path: &Path, name: &Text) -> Re
     ensures same_asker { walk.new.asker.now ≡ walk.old.asker.now }
     ensures done { TriesUpTo K.Keep walk.old.keep.now walk.new.keep.now result OneAndBoth
         IsDamaged (Serves walk.old.asker.now (MakeFolder path.now)) }
+    ensures counted { K.reads walk.new.keep.now
+        ≤ K.reads walk.old.keep.now + (length path.now + 1) }
 {
     let spot = walk.to_spot(path)?;
     let bytes = Bytes::new(walk.alloc);
@@ -179,6 +191,7 @@ fn make_new<K: Keep>(
         (is_some spot.now.child) ∷ []) Made (IsMade (new_child walk.old.asker.now.caller
         child.now.kind spot.now.folder.node child.now.name.now child.now.bytes.now)) old
         (replied outcome) new) }
+    ensures counted { K.reads walk.new.keep.now ≤ K.reads walk.old.keep.now }
 {
     walk.check(path, &spot.folder, Mask::append_data())?;
     let is_there = spot.child.is_some();
@@ -201,6 +214,7 @@ fn add_child<K: Keep>(
         child.now.name.now child.now.bytes.now)) OneWrite) IsUnreadable
         (λ old outcome new. MakesChild walk.old.asker.now.caller child.now.kind parent.now
         child.now.name.now child.now.bytes.now old (replied outcome) new) }
+    ensures counted { K.reads walk.new.keep.now ≤ K.reads walk.old.keep.now }
 {
     let node = child_at(walk.alloc, walk.asker, parent, child)?;
     walk.keep.add(node)?;

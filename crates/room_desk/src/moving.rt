@@ -1,7 +1,7 @@
 //! The request that moves an object.
-ghost use Rattle.std.specs.Prelude.{◌≡◌, ◌+◌, ◌<◌, true, [], ◌∷◌, Some, length};
+ghost use Rattle.std.specs.Prelude.{◌≡◌, ◌+◌, ◌<◌, ◌≤◌, true, [], ◌∷◌, Some, IfOk, length};
 ghost use Rattle.room_rows.specs.Keep.{IsDamaged, IsNever, IsUnreadable};
-ghost use Rattle.room_judge.specs.Halted.{Serves, Tries, TriesUpTo, replied};
+ghost use Rattle.room_judge.specs.Halted.{Serves, Tries, TriesUpTo, replied, settled};
 ghost use Rattle.room_judge.specs.Judged.{FromRoot, IsJudged, IsReached, IsUnreadableFrom};
 ghost use Rattle.room_judge.specs.Judged.{refusal_of};
 ghost use Rattle.room_judge.specs.Stored.{found_site};
@@ -10,6 +10,7 @@ ghost use Rattle.room_machine.specs.Plan.{Deletion, Refusal, right_to_add};
 ghost use Rattle.room_machine.specs.Site.{front};
 ghost use Rattle.room_machine.specs.declared.reply.Reason.TheVariants.{Exists};
 ghost use Rattle.room_machine.specs.declared.request.Request.TheVariants.{Move};
+ghost use Rattle.room_desk.specs.Called.{ReadsBeside};
 ghost use Rattle.room_desk.specs.Counted.{OneAndBoth, Provided};
 
 use crate::placing::{check_free, place_at};
@@ -36,6 +37,8 @@ pub(crate) fn move_object<K: Keep>(
     ensures same_asker { walk.new.asker.now ≡ walk.old.asker.now }
     ensures done { TriesUpTo K.Keep walk.old.keep.now walk.new.keep.now result OneAndBoth
         IsDamaged (Serves walk.old.asker.now (Move path.now to.now)) }
+    ensures counted { IfOk (settled result)
+        (λ _. ReadsBeside K.Keep (length path.now + length to.now + 7) walk.old.keep.now walk.new.keep.now) }
 {
     let root = walk.keep.root()?;
     if path.is_root() {
@@ -65,6 +68,8 @@ fn move_found<K: Keep>(
         moving.now.from.now moving.now.target.now)
         (λ old outcome new. MovesOn walk.old.asker.now moving.now.path.now to.now root.now
         moving.now.from.now moving.now.target.now old (replied outcome) new) }
+    ensures counted { IfOk (settled result)
+        (λ _. ReadsBeside K.Keep (length to.now + 6) walk.old.keep.now walk.new.keep.now) }
 {
     match to.split_last() {
         None => refuse_root(walk, moving, to),
@@ -89,6 +94,7 @@ fn refuse_root<K: Keep>(
         (found_site moving.now.path.now moving.now.target.now)
         (found_site moving.now.path.now moving.now.from.now) ∷ Refusal [] Exists true ∷ []) old
         (Some (replied outcome)) new) }
+    ensures counted { K.reads walk.new.keep.now ≤ K.reads walk.old.keep.now }
 {
     walk.check_deletion(moving.path, moving.target, moving.from)?;
     Err(refusal(walk.alloc, to, 0, Reason::Exists))
@@ -110,6 +116,7 @@ fn reach_place<K: Keep>(
         (at_place old.read to.now (begins moving.now.path.now (front to.now))
         (found_site moving.now.path.now moving.now.target.now)
         (found_site moving.now.path.now moving.now.from.now)) old outcome new)) }
+    ensures counted { K.reads walk.new.keep.now ≤ K.reads walk.old.keep.now + length to.now }
 {
     let depth = to.names().len() - 1;
     let node = walk.walk_from(to, depth, root)?;
@@ -135,6 +142,7 @@ fn check_place<K: Keep>(
         (found_site moving.now.path.now moving.now.target.now)
         (found_site moving.now.path.now moving.now.from.now) (found_site to.now folder.now)) old
         (refusal_of outcome) new) }
+    ensures counted { K.reads walk.new.keep.now ≤ K.reads walk.old.keep.now + 1 }
 {
     walk.pass_through(to, folder)?;
     walk.check_deletion(moving.path, moving.target, moving.from)?;

@@ -1,5 +1,5 @@
 //! The request that sets owners.
-ghost use Rattle.std.specs.Prelude.{◌≡◌, ◌&&◌, IfOk};
+ghost use Rattle.std.specs.Prelude.{◌≡◌, ◌≤◌, ◌+◌, ◌&&◌, IfOk, length};
 ghost use Rattle.room_entry.specs.Pieces.{same_text};
 ghost use Rattle.room_rows.specs.Keep.{IsDamaged, IsUnreadable};
 ghost use Rattle.room_judge.specs.Halted.{RepliesUpTo, Serves, TriesUpTo};
@@ -23,6 +23,8 @@ pub(crate) fn set_owners<K: Keep>(
     ensures same_asker { walk.new.asker.now ≡ walk.old.asker.now }
     ensures done { TriesUpTo K.Keep walk.old.keep.now walk.new.keep.now result OneAndBoth
         IsDamaged (Serves walk.old.asker.now (SetOwners path.now owners.now)) }
+    ensures counted { K.reads walk.new.keep.now
+        ≤ K.reads walk.old.keep.now + (length path.now + 1) }
 {
     let node = walk.reach(path, Mask::write_owner())?;
     Ok(set_at(walk.keep, &node, owners)?)
@@ -35,6 +37,7 @@ fn set_at<K: Keep>(keep: &mut K, node: &Node, owners: &Owners) -> Result<Reply, 
         (SetsOwners node.now owners.now) }
     ensures quiet { owners.now ≡ node.now.owners → IfOk result
         (λ _. K.writes keep.new ≡ K.writes keep.old) }
+    ensures counted { K.reads keep.new ≤ K.reads keep.old }
 {
     if are_same(owners, &node.owners) {
         return Ok(Reply::Done);

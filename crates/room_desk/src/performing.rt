@@ -1,10 +1,11 @@
 //! One request carried out on a keeper.
-ghost use Rattle.std.specs.Prelude.{◌≡◌};
+ghost use Rattle.std.specs.Prelude.{◌≡◌, ◌+◌};
 ghost use Rattle.std.specs.Option.{option_copied};
 ghost use Rattle.room_rows.specs.Keep.{IsDamaged};
-ghost use Rattle.room_judge.specs.Halted.{Serves, TriesWithin, replied, reply_of};
+ghost use Rattle.room_judge.specs.Halted.{Serves, TriesWithin, replied, reply_of, settled};
 ghost use Rattle.room_judge.specs.Closed.{IsServed, Performs};
 ghost use Rattle.room_judge.specs.Judged.{DoesWithin};
+ghost use Rattle.room_desk.specs.Called.{ReadsFew, calls_for, hands_down};
 ghost use Rattle.room_desk.specs.Counted.{extent_of};
 
 use crate::asking::can;
@@ -29,8 +30,12 @@ use std::alloc::Global;
 ///
 /// From any rows, damaged ones too, each check that stands before the reply in the request's plan
 /// was granted by the lists as they are stored, and its records are added. A request that only
-/// reads, or is denied or refused, writes nothing else. Any other writes at most one object more,
-/// and each list whose inherited entries change.
+/// reads, or is denied or refused, writes nothing else. Any other that is answered writes at most
+/// one object more, and each list whose inherited entries change.
+///
+/// No more calls of the keeper read than one for the caller's groups, one for each name of a path,
+/// and a few more, by the request. Where a list is set or an object is moved, there may be two more
+/// for each object or record that is written, and nothing is said of them where there is a fault.
 pub fn perform<K: Keep>(
     alloc: Global,
     keep: &mut K,
@@ -40,6 +45,8 @@ pub fn perform<K: Keep>(
 ) -> Result<Reply, KeepFault>
     ensures done { DoesWithin K.Keep keep.old keep.new result (extent_of request.now) IsDamaged
         (Performs (option_copied user.entry) moment request.now) }
+    ensures counted { ReadsFew K.Keep (hands_down request.now) (calls_for request.now + 1)
+        keep.old keep.new result }
 {
     let caller = caller_of(alloc, keep, user)?;
     let asker = Asker { caller, moment };
@@ -55,6 +62,8 @@ fn perform_for<K: Keep>(
 ) -> Result<Reply, KeepFault>
     ensures done { DoesWithin K.Keep keep.old keep.new result (extent_of request.now) IsDamaged
         (IsServed asker.now request.now) }
+    ensures counted { ReadsFew K.Keep (hands_down request.now) (calls_for request.now)
+        keep.old keep.new result }
 {
     let mut walk = Walker { alloc, keep, asker };
     reply_of(serve(&mut walk, request))
@@ -78,6 +87,8 @@ fn serve<K: Keep>(walk: &mut Walker<'_, K>, request: &Request) -> Result<Reply, 
     ensures done { TriesWithin K.Keep walk.old.keep.now walk.new.keep.now result
         (λ outcome. extent_of request.now (replied outcome)) IsDamaged
         (Serves walk.old.asker.now request.now) }
+    ensures counted { ReadsFew K.Keep (hands_down request.now) (calls_for request.now)
+        walk.old.keep.now walk.new.keep.now (settled result) }
 {
     match request {
         Request::Read(path) => read(walk, path),

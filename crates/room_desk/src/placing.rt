@@ -1,5 +1,5 @@
 //! The new place of an object.
-ghost use Rattle.std.specs.Prelude.{◌≡◌, ◌+◌, length};
+ghost use Rattle.std.specs.Prelude.{◌≡◌, ◌≤◌, ◌+◌, IfOk, length};
 ghost use Rattle.room_entry.specs.Pieces.{same_text};
 ghost use Rattle.room_rows.specs.Calls.{Reads};
 ghost use Rattle.room_rows.specs.Keep.{IsUnreadable};
@@ -19,6 +19,7 @@ ghost use Rattle.room_desk.specs.Moving.{
   free_place,
 };
 ghost use Rattle.room_machine.specs.Site.{front};
+ghost use Rattle.room_desk.specs.Called.{ReadsBeside};
 ghost use Rattle.room_desk.specs.Counted.{EachList, OneAndBoth, Provided};
 
 use crate::carrying::carry_below;
@@ -41,6 +42,7 @@ pub(crate) fn check_free<K: Keep>(
     ensures done { Tries K.Keep walk.old.keep.now walk.new.keep.now result IsUnreadable
         (λ old outcome new. JudgesAll (λ rows. free_place rows.read to.now
         (begins path.now (front to.now)) folder.now.node) old (refusal_of outcome) new) }
+    ensures counted { K.reads walk.new.keep.now ≤ K.reads walk.old.keep.now + 1 }
 {
     let name = &to.names()[folder.depth];
     let is_taken = is_taken(walk.keep, folder.node.id, name.as_str())?;
@@ -57,6 +59,7 @@ pub(crate) fn check_free<K: Keep>(
 // Whether the folder of this number has a child of this name.
 fn is_taken<K: Keep>(keep: &mut K, folder: u64, name: &str) -> Result<bool, KeepFault>
     ensures read { Reads K.Keep keep.old keep.new result IsUnreadable (IsTaken folder name.now) }
+    ensures counted { K.reads keep.new ≤ K.reads keep.old + 1 }
 {
     let child = keep.child(folder, name)?;
     Ok(child.is_some())
@@ -98,6 +101,8 @@ pub(crate) fn place_at<K: Keep>(
     ensures done { RepliesUpTo K.Keep walk.old.keep.now walk.new.keep.now result
         (Provided (CanGo target.now folder.now name.now) OneAndBoth)
         (FailsToPlace target.now folder.now name.now) (PlacesAt target.now folder.now name.now) }
+    ensures counted { IfOk result
+        (λ _. ReadsBeside K.Keep 6 walk.old.keep.now walk.new.keep.now) }
 {
     walk.keep.set_place(target.id, folder.id, name)?;
     renew_list(walk, target, folder, Which::Dacl)?;
@@ -117,6 +122,8 @@ fn renew_list<K: Keep>(
     ensures done { DoesUpTo K.Keep walk.old.keep.now walk.new.keep.now result
         (Provided (StandsListed which target.now) (EachList which)) (FailsToRenew target.now)
         (Renews which target.now folder.now) }
+    ensures counted { IfOk result
+        (λ _. ReadsBeside K.Keep 3 walk.old.keep.now walk.new.keep.now) }
 {
     if !takes_from(target, folder, which) {
         return Ok(());
@@ -138,6 +145,8 @@ fn take_passed<K: Keep>(
     ensures done { DoesUpTo K.Keep walk.old.keep.now walk.new.keep.now result
         (Provided (StandsListed which target.now) (EachList which)) (FailsToRenew target.now)
         (TakesPassed which target.now passed.now) }
+    ensures counted { IfOk result
+        (λ _. ReadsBeside K.Keep 3 walk.old.keep.now walk.new.keep.now) }
 {
     let is_stored = passed.is_same(target.held(which).inh());
     if is_stored {

@@ -1,5 +1,5 @@
 //! Requests that change nothing but the records.
-ghost use Rattle.std.specs.Prelude.{◌≡◌, IfOk};
+ghost use Rattle.std.specs.Prelude.{◌≡◌, ◌≤◌, ◌+◌, IfOk, length};
 ghost use Rattle.room_rows.specs.Calls.{Reads};
 ghost use Rattle.room_rows.specs.Held.{full_of};
 ghost use Rattle.room_rows.specs.Keep.{IsDamaged, IsUnreadable};
@@ -26,6 +26,8 @@ pub(crate) fn read<K: Keep>(walk: &mut Walker<'_, K>, path: &Path) -> Result<Rep
     ensures same_asker { walk.new.asker.now ≡ walk.old.asker.now }
     ensures done { Tries K.Keep walk.old.keep.now walk.new.keep.now result IsDamaged
         (Serves walk.old.asker.now (Read path.now)) }
+    ensures counted { K.reads walk.new.keep.now
+        ≤ K.reads walk.old.keep.now + (length path.now + 2) }
 {
     let node = walk.reach_kind(path, ObjKind::Document, Mask::read_data())?;
     let id = node.id;
@@ -36,6 +38,7 @@ pub(crate) fn read<K: Keep>(walk: &mut Walker<'_, K>, path: &Path) -> Result<Rep
 // The bytes of the document of this number.
 fn read_at<K: Keep>(keep: &mut K, id: u64) -> Result<Reply, KeepFault>
     ensures read { Reads K.Keep keep.old keep.new result (HasNoBytes id) (IsBytesOf id) }
+    ensures counted { K.reads keep.new ≤ K.reads keep.old + 1 }
 {
     let body = keep.body(id)?;
     match body {
@@ -54,6 +57,8 @@ pub(crate) fn read_full_list<K: Keep>(
     ensures same_asker { walk.new.asker.now ≡ walk.old.asker.now }
     ensures done { Tries K.Keep walk.old.keep.now walk.new.keep.now result IsDamaged
         (Serves walk.old.asker.now (ReadList path.now which)) }
+    ensures counted { K.reads walk.new.keep.now
+        ≤ K.reads walk.old.keep.now + (length path.now + 1) }
 {
     let node = walk.reach(path, Mask::read_acl())?;
     Ok(list_reply(walk.alloc, node.held(which))?)
@@ -74,6 +79,8 @@ pub(crate) fn read_attr<K: Keep>(walk: &mut Walker<'_, K>, path: &Path) -> Resul
     ensures same_asker { walk.new.asker.now ≡ walk.old.asker.now }
     ensures done { Tries K.Keep walk.old.keep.now walk.new.keep.now result IsDamaged
         (Serves walk.old.asker.now (ReadAttr path.now)) }
+    ensures counted { K.reads walk.new.keep.now
+        ≤ K.reads walk.old.keep.now + (length path.now + 1) }
 {
     let node = walk.reach(path, Mask::read_attributes())?;
     Ok(attr_reply(node))
@@ -92,6 +99,8 @@ pub(crate) fn list<K: Keep>(walk: &mut Walker<'_, K>, path: &Path) -> Result<Rep
     ensures same_asker { walk.new.asker.now ≡ walk.old.asker.now }
     ensures done { Tries K.Keep walk.old.keep.now walk.new.keep.now result IsDamaged
         (Serves walk.old.asker.now (List path.now)) }
+    ensures counted { K.reads walk.new.keep.now
+        ≤ K.reads walk.old.keep.now + (length path.now + 2) }
 {
     let node = walk.reach_kind(path, ObjKind::Folder, Mask::read_data())?;
     let id = node.id;
@@ -102,6 +111,7 @@ pub(crate) fn list<K: Keep>(walk: &mut Walker<'_, K>, path: &Path) -> Result<Rep
 // The names and kinds of the children of the folder of this number.
 fn list_at<K: Keep>(keep: &mut K, id: u64) -> Result<Reply, KeepFault>
     ensures read { Reads K.Keep keep.old keep.new result IsUnreadable (AreNamesOf id) }
+    ensures counted { K.reads keep.new ≤ K.reads keep.old + 1 }
 {
     let listing = keep.listing(id)?;
     Ok(Reply::Names(listing))

@@ -1,5 +1,5 @@
 //! The request that removes an object.
-ghost use Rattle.std.specs.Prelude.{◌≡◌, []};
+ghost use Rattle.std.specs.Prelude.{◌≡◌, ◌≤◌, ◌+◌, [], length};
 ghost use Rattle.room_rows.specs.Keep.{IsDamaged, IsUnreadable};
 ghost use Rattle.room_judge.specs.Halted.{Serves, TriesUpTo, replied};
 ghost use Rattle.room_judge.specs.Stored.{found_site};
@@ -17,6 +17,8 @@ pub(crate) fn remove<K: Keep>(walk: &mut Walker<'_, K>, path: &Path) -> Result<R
     ensures same_asker { walk.new.asker.now ≡ walk.old.asker.now }
     ensures done { TriesUpTo K.Keep walk.old.keep.now walk.new.keep.now result OneAndBoth
         IsDamaged (Serves walk.old.asker.now (Remove path.now)) }
+    ensures counted { K.reads walk.new.keep.now
+        ≤ K.reads walk.old.keep.now + (length path.now + 2) }
 {
     let is_root = path.names().is_empty();
     if is_root {
@@ -33,6 +35,7 @@ fn keep_root<K: Keep>(walk: &mut Walker<'_, K>, path: &Path) -> Result<Reply, Ha
     ensures same_asker { walk.new.asker.now ≡ walk.old.asker.now }
     ensures done { TriesUpTo K.Keep walk.old.keep.now walk.new.keep.now result OneAndBoth
         IsDamaged (Serves walk.old.asker.now (Remove path.now)) }
+    ensures counted { K.reads walk.new.keep.now ≤ K.reads walk.old.keep.now + 1 }
 {
     walk.keep.root()?;
     Err(refusal(walk.alloc, path, 0, Reason::Root))
@@ -52,6 +55,7 @@ fn remove_from<K: Keep>(
         (λ old outcome new. RemovesFrom walk.old.asker.now path.now
         (found_site path.now target.now) (found_site path.now folder.now) old (replied outcome)
         new) }
+    ensures counted { K.reads walk.new.keep.now ≤ K.reads walk.old.keep.now + 1 }
 {
     walk.check_deletion(path, target, folder)?;
     remove_childless(walk, path, target.node.id)
@@ -64,6 +68,7 @@ fn remove_childless<K: Keep>(walk: &mut Walker<'_, K>, path: &Path, id: u64) -> 
     ensures done { TriesUpTo K.Keep walk.old.keep.now walk.new.keep.now result
         (Provided (RemovableIfEmpty id) OneWrite) IsUnreadable
         (λ old outcome new. RemovesChildless path.now id old (replied outcome) new) }
+    ensures counted { K.reads walk.new.keep.now ≤ K.reads walk.old.keep.now + 1 }
 {
     let has_some = walk.keep.has_children(id)?;
     if has_some {

@@ -1,10 +1,12 @@
 //! The operator's reset of a list.
+ghost use Rattle.std.specs.Prelude.{◌+◌, IfOk, length};
 ghost use Rattle.std.specs.Option.{option_copied};
 ghost use Rattle.room_rows.specs.Keep.{IsDamaged};
 ghost use Rattle.room_judge.specs.Halted.{RepliesUpTo};
 ghost use Rattle.room_judge.specs.Judged.{Resets};
 ghost use Rattle.room_desk.specs.Carrying.{IsUnreadableIfHeld, StandsRooted};
 ghost use Rattle.room_desk.specs.Setting.{Beneath, IsResetAtEnd};
+ghost use Rattle.room_desk.specs.Called.{ReadsBeside};
 ghost use Rattle.room_desk.specs.Counted.{OneAndEach, Provided};
 
 use crate::setting::{Setting, set_found};
@@ -16,8 +18,8 @@ use std::alloc::Global;
 
 /// Sets one of an object's lists as the request does, but checks no rights and leaves no record.
 /// The reply is `Done`, or a refusal: no such object, a document on the way, or an entry that isn't
-/// valid. Errors are those of `perform`. No more is written than one object, and each list whose
-/// inherited entries change.
+/// valid. Errors are those of `perform`. With an answer, no more is written than one object, and
+/// each list whose inherited entries change, and no more calls read than where a request sets it.
 pub fn reset<K: Keep>(
     alloc: Global,
     keep: &mut K,
@@ -27,6 +29,8 @@ pub fn reset<K: Keep>(
 ) -> Result<Reply, KeepFault>
     ensures done { RepliesUpTo K.Keep keep.old keep.new result (OneAndEach which) IsDamaged
         (Resets path.now which sent.now) }
+    ensures counted { IfOk result
+        (λ _. ReadsBeside K.Keep (length path.now + 3) keep.old keep.new) }
 {
     let found = walk(alloc, keep, path)?;
     let rest = found.rest;
@@ -63,6 +67,8 @@ fn reset_at_end<K: Keep>(
         (Beneath (option_copied setting.now.above) setting.now.target.now.node (IsResetAtEnd
         setting.now.path.now setting.now.which setting.now.sent.now setting.now.target.now.node
         rest)) }
+    ensures counted { IfOk result
+        (λ _. ReadsBeside K.Keep 2 keep.old keep.new) }
 {
     if rest == 0 {
         return set_found(alloc, keep, setting);

@@ -1,9 +1,9 @@
 //! The request that sets a list.
-ghost use Rattle.std.specs.Prelude.{◌≡◌, ◌↔◌, IfOk, IsTrue, []};
+ghost use Rattle.std.specs.Prelude.{◌≡◌, ◌↔◌, ◌+◌, IfOk, IsTrue, [], length};
 ghost use Rattle.std.specs.Option.{option_copied};
 ghost use Rattle.room_rows.specs.Held.{with_held};
 ghost use Rattle.room_rows.specs.Keep.{IsDamaged};
-ghost use Rattle.room_judge.specs.Halted.{RepliesUpTo, Serves, TriesUpTo, replied};
+ghost use Rattle.room_judge.specs.Halted.{RepliesUpTo, Serves, TriesUpTo, replied, settled};
 ghost use Rattle.room_judge.specs.Judged.{DoesUpTo};
 ghost use Rattle.room_desk.specs.Carrying.{HasLoopFrom, IsCarriedFrom, IsUnreadableIfHeld};
 ghost use Rattle.room_desk.specs.Carrying.{StandsRooted};
@@ -22,6 +22,7 @@ ghost use Rattle.room_desk.specs.Setting.{
   list_of,
 };
 ghost use Rattle.room_machine.specs.declared.request.Request.TheVariants.{SetList};
+ghost use Rattle.room_desk.specs.Called.{ReadsBeside};
 ghost use Rattle.room_desk.specs.Counted.{EachList, OneAndBoth, OneAndEach, Provided};
 ghost use Rattle.room_inherit.specs.Spread.{Holds};
 
@@ -55,6 +56,8 @@ pub(crate) fn set_list<K: Keep>(
     ensures same_asker { walk.new.asker.now ≡ walk.old.asker.now }
     ensures done { TriesUpTo K.Keep walk.old.keep.now walk.new.keep.now result OneAndBoth
         IsDamaged (Serves walk.old.asker.now (SetList path.now which sent.now)) }
+    ensures counted { IfOk (settled result)
+        (λ _. ReadsBeside K.Keep (length path.now + 3) walk.old.keep.now walk.new.keep.now) }
 {
     if path.is_root() {
         return set_root(walk, path, which, sent);
@@ -83,6 +86,8 @@ fn set_root<K: Keep>(
     ensures same_asker { walk.new.asker.now ≡ walk.old.asker.now }
     ensures done { TriesUpTo K.Keep walk.old.keep.now walk.new.keep.now result OneAndBoth
         IsDamaged (Serves walk.old.asker.now (SetList path.now which sent.now)) }
+    ensures counted { IfOk (settled result)
+        (λ _. ReadsBeside K.Keep 3 walk.old.keep.now walk.new.keep.now) }
 {
     let node = walk.keep.root()?;
     let root = Found { node, depth: 0 };
@@ -109,6 +114,8 @@ fn set_allowed<K: Keep>(
         (option_copied setting.now.above)) (λ old outcome new. SetsOn walk.old.asker.now
         setting.now.path.now setting.now.which setting.now.sent.now setting.now.target.now
         (option_copied setting.now.above) old (replied outcome) new) }
+    ensures counted { IfOk (settled result)
+        (λ _. ReadsBeside K.Keep 2 walk.old.keep.now walk.new.keep.now) }
 {
     walk.check(setting.path, setting.target, Mask::write_acl())?;
     Ok(set_found(walk.alloc, walk.keep, setting)?)
@@ -125,6 +132,8 @@ pub(crate) fn set_found<K: Keep>(
         (IsUnreadableIfHeld setting.now.target.now.node)
         (Beneath (option_copied setting.now.above) setting.now.target.now.node (IsSetOrRefused
         setting.now.path.now setting.now.which setting.now.sent.now setting.now.target.now.node)) }
+    ensures counted { IfOk result
+        (λ _. ReadsBeside K.Keep 2 keep.old keep.new) }
 {
     let kind = setting.target.node.kind;
     let fault = bad_entry(setting.sent.entries().as_slice(), setting.which, kind);
@@ -165,6 +174,8 @@ fn set_at<K: Keep>(
     ensures quiet { IsStored setting.now.which setting.now.sent.now setting.now.target.now.node
         (option_copied setting.now.above) → IfOk result
         (λ _. K.writes keep.new ≡ K.writes keep.old) }
+    ensures counted { IfOk result
+        (λ _. ReadsBeside K.Keep 2 keep.old keep.new) }
 {
     let inh = new_inh(alloc, setting)?;
     let own = sent_entries(alloc, setting.sent, false)?;
@@ -187,6 +198,8 @@ fn write_list<K: Keep>(
         (Provided (StandsRooted setting.now.target.now.node) (OneAndEach setting.now.which))
         (IsUnreadableIfHeld setting.now.target.now.node)
         (IsWrittenDown setting.now.which setting.now.target.now.node held) }
+    ensures counted { IfOk result
+        (λ _. ReadsBeside K.Keep 2 keep.old keep.new) }
 {
     keep.set_held(setting.target.node.id, setting.which, &held)?;
     if held.flags().auto {
@@ -209,6 +222,8 @@ fn carry_on<K: Keep>(
         (HasLoopFrom (with_held setting.now.which held setting.now.target.now.node))
         (IsCarriedFrom setting.now.which
         (with_held setting.now.which held setting.now.target.now.node)) }
+    ensures counted { IfOk result
+        (λ _. ReadsBeside K.Keep 2 keep.old keep.new) }
 {
     let mut start = setting.target.node.copy()?;
     start.set_held(setting.which, held);

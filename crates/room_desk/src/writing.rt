@@ -1,5 +1,5 @@
 //! Requests that change the bytes of documents.
-ghost use Rattle.std.specs.Prelude.{◌≡◌, [], ◌++◌, IfOk};
+ghost use Rattle.std.specs.Prelude.{◌≡◌, ◌≤◌, ◌+◌, [], ◌++◌, IfOk, length};
 ghost use Rattle.room_rows.specs.Calls.{Reads};
 ghost use Rattle.room_rows.specs.Keep.{IsDamaged, IsDocumentAt, IsUnreadable};
 ghost use Rattle.room_judge.specs.Halted.{Serves, TriesUpTo, replied};
@@ -30,6 +30,8 @@ pub(crate) fn append<K: Keep>(
     ensures same_asker { walk.new.asker.now ≡ walk.old.asker.now }
     ensures done { TriesUpTo K.Keep walk.old.keep.now walk.new.keep.now result OneAndBoth
         IsDamaged (Serves walk.old.asker.now (Append path.now bytes.now)) }
+    ensures counted { K.reads walk.new.keep.now
+        ≤ K.reads walk.old.keep.now + (length path.now + 2) }
 {
     let node = walk.reach_kind(path, ObjKind::Document, Mask::append_data())?;
     let id = node.id;
@@ -52,6 +54,7 @@ fn append_at<K: Keep>(
         (λ old outcome new. IsAppended path.now id bytes.now old (replied outcome) new) }
     ensures quiet { bytes.now ≡ [] → IfOk result
         (λ _. K.writes walk.new.keep.now ≡ K.writes walk.old.keep.now) }
+    ensures counted { K.reads walk.new.keep.now ≤ K.reads walk.old.keep.now + 1 }
 {
     let before = body_of(walk.keep, id)?;
     let are_none = bytes.as_slice().is_empty();
@@ -65,6 +68,7 @@ fn append_at<K: Keep>(
 // The bytes of the document of this number.
 fn body_of<K: Keep>(keep: &mut K, id: u64) -> Result<Bytes, KeepFault>
     ensures read { Reads K.Keep keep.old keep.new result (HasNoBytes id) (HasBody id) }
+    ensures counted { K.reads keep.new ≤ K.reads keep.old + 1 }
 {
     match keep.body(id)? {
         Some(bytes) => Ok(bytes),
@@ -103,6 +107,7 @@ pub(crate) fn put_bytes<K: Keep>(
     ensures done { TriesUpTo K.Keep walk.old.keep.now walk.new.keep.now result
         (Provided (λ rows. IsDocumentAt rows id) OneWrite) IsUnreadable
         (λ old outcome new. IsPut path.now id bytes.now old (replied outcome) new) }
+    ensures counted { K.reads walk.new.keep.now ≤ K.reads walk.old.keep.now }
 {
     let too_many = bytes.len() > MOST_BYTES;
     if too_many {

@@ -1,7 +1,7 @@
 -- Calls of a keeper that write lists, one after the other.
 use Rattle.std.proofs.Common.{◌≡◌, ℕ, ◌+◌, ◌^◌, ◌-◌, false, List, [], ◌∷◌, ◌++◌, length, get_or}
 use Rattle.std.proofs.Common.{Result, Ok, Err, IfOk, IfErr, refl, sym, ap, subst, ◌∙◌, inl, inr}
-use Rattle.std.proofs.Common.{arith}
+use Rattle.std.proofs.Common.{arith, ◌<◌}
 use Rattle.std.specs.Prelude.{IsTrue}
 use Rattle.std.proofs.lemmas.Bool.{cases_lt}
 use Rattle.room_entry.specs.Ace.{Ace}
@@ -35,6 +35,13 @@ use Rattle.room_inherit.proofs.Renewing.{changes_none, changes_one, count_gather
 use Rattle.room_inherit.proofs.Renewing.{still_there, turn_becomes}
 
 -- ---- counts with an end
+
+-- a capped count that isn't at its end is the count
+pub uncapped : (told n : ℕ) → told ≡ capped n → told < 2 ^ 64 - 1 → told ≡ n
+uncapped told n is below = elim (cases_lt n (2 ^ 64 - 1)) [
+  | inl under ↦ is ∙ capped_below n (omega (arith, under))
+  | inr past ↦ absurd (let end = is ∙ capped_past n past in omega (arith, end, below))
+]
 
 pub capped_add : (m n : ℕ) → capped (capped m + n) ≡ capped (m + n)
 capped_add m n = elim (cases_lt m (2 ^ 64 - 1)) [

@@ -1,6 +1,6 @@
 -- How a change of a list is carried down to the stored lists below it (RFC 8881, section 6.4.3).
-use Rattle.std.specs.Prelude.{◌≡◌, ℕ, zero, suc, ◌+◌, ◌&&◌, ◌||◌, Bool, false, not, List, Some}
-use Rattle.std.specs.Prelude.{Result, IfOk, IfErr, IsTrue, count_by}
+use Rattle.std.specs.Prelude.{◌≡◌, ℕ, zero, suc, ◌+◌, ◌-◌, ◌*◌, ◌^◌, ◌<◌, ◌≤◌, ◌&&◌, ◌||◌, Bool}
+use Rattle.std.specs.Prelude.{false, not, List, Some, Result, IfOk, IfErr, IsTrue, count_by}
 use Rattle.std.specs.List.{list_all}
 use Rattle.std.specs.Option.{option_map_or}
 use Rattle.room_entry.specs.Ace.{Ace}
@@ -127,6 +127,13 @@ module _ {S : Type 0} (k : Ghosts S) (old new : S) where
       Carries (λ (spread : Spread). spread.changed) result
       (λ rows. IsOwnAncestor rows.read id)
       (λ first spread last. IsSpread which id first last spread.changed)
+
+  -- So many calls that read, and two for each list that was written, are all that there were,
+  -- unless the count of written lists is at its end.
+  abbrev pub ReadsForLists : ℕ → Result Spread SpreadFault → Type 0
+  ReadsForLists more result =
+      IfOk result (λ spread. spread.changed < 2 ^ 64 - 1
+      → k.reads new ≤ k.reads old + (2 * spread.changed + more))
 
 -- the object stands in the rows
 abbrev pub Holds : Node → Rows → Type 0

@@ -1,6 +1,8 @@
 //! Lists carried down from an object, turn after turn.
-ghost use Rattle.std.specs.Prelude.{◌≡◌, []};
+ghost use Rattle.std.specs.Prelude.{◌≡◌, ◌<◌, ◌≤◌, ◌^◌, ◌+◌, ◌-◌, ◌*◌, [], length, IfOk};
+ghost use Rattle.room_inherit.specs.Spread.{ReadsForLists};
 ghost use Rattle.room_inherit.specs.Turns.{Descends, TakesTurns};
+ghost use Rattle.room_inherit.specs.declared.descent.Reach.TheVariants.{Renewed};
 
 use crate::outcome::{Spread, SpreadFault};
 use crate::turn::visit;
@@ -42,7 +44,8 @@ pub(crate) fn carry_down<K: Keep>(
     which: Which,
     reach: Reach,
 ) -> Result<Spread, SpreadFault>
-    ensures { Descends K.Keep keep.old keep.new reach start.now which result }
+    ensures descends { Descends K.Keep keep.old keep.new reach start.now which result }
+    ensures counted { reach ≡ Renewed → ReadsForLists K.Keep keep.old keep.new 2 result }
 {
     let descent = Descent {
         start: start.id,
@@ -63,8 +66,10 @@ fn go_down<K: Keep>(
     descent: &Descent,
     waiting: &mut Vec<Node>,
 ) -> Result<Spread, SpreadFault>
-    ensures { waiting.old.items ≡ [] → start.now.id ≡ descent.now.start → Descends K.Keep keep.old
-        keep.new descent.now.reach start.now descent.now.which result }
+    ensures descends { waiting.old.items ≡ [] → start.now.id ≡ descent.now.start
+        → Descends K.Keep keep.old keep.new descent.now.reach start.now descent.now.which result }
+    ensures counted { waiting.old.items ≡ [] → descent.now.reach ≡ Renewed
+        → ReadsForLists K.Keep keep.old keep.new 2 result }
 {
     let begun = visit(alloc, keep, descent, start, waiting)?;
     let soon = take_turns(alloc, keep, descent, waiting, FIRST_TURNS)?;
@@ -94,6 +99,10 @@ fn take_turns<K: Keep>(
 ) -> Result<u64, SpreadFault>
     ensures turns { TakesTurns K.Keep descent.now most waiting.old.items waiting.new.items
         keep.old keep.new result }
+    ensures counted { descent.now.reach ≡ Renewed
+        → IfOk result (λ written. written < 2 ^ 64 - 1
+        → K.reads keep.new + length waiting.new.items
+        ≤ K.reads keep.old + length waiting.old.items + 2 * written) }
 {
     let mut written: u64 = 0;
     'turns: for _turn in 0..most {

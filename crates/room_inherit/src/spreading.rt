@@ -1,5 +1,5 @@
 //! A change of a list carried down to what is stored below, and all lists from the root.
-ghost use Rattle.room_inherit.specs.Spread.{Holds, Spreads, SpreadsIf};
+ghost use Rattle.room_inherit.specs.Spread.{Holds, ReadsForLists, Spreads, SpreadsIf};
 ghost use Rattle.room_inherit.specs.SpreadAll.{SpreadsAll, Sweeps};
 
 use crate::descent::{Reach, carry_down};
@@ -20,6 +20,7 @@ pub fn spread<K: Keep>(
     which: Which,
 ) -> Result<Spread, SpreadFault>
     ensures spread { Spreads K.Keep keep.old keep.new which id result }
+    ensures counted { ReadsForLists K.Keep keep.old keep.new 3 result }
 {
     match keep.node(id)? {
         None => Ok(Spread { changed: 0 }),
@@ -36,6 +37,7 @@ pub fn spread_from<K: Keep>(
 ) -> Result<Spread, SpreadFault>
     ensures spread { SpreadsIf K.Keep keep.old keep.new (Holds start.now) which start.now.id
         result }
+    ensures counted { ReadsForLists K.Keep keep.old keep.new 2 result }
 {
     carry_down(alloc, keep, start, which, Reach::Renewed)
 }

@@ -1,6 +1,6 @@
 //! One turn of carrying lists down: an object's children.
-ghost use Rattle.std.specs.Prelude.{◌≡◌, ◌<◌, ◌≤◌, ◌^◌, ◌+◌, ◌++◌, ◌∷◌, false, []};
-ghost use Rattle.std.specs.Prelude.{length, IfOk, OnOk};
+ghost use Rattle.std.specs.Prelude.{◌≡◌, ◌<◌, ◌≤◌, ◌^◌, ◌+◌, ◌*◌, ◌++◌, ◌∷◌, false, []};
+ghost use Rattle.std.specs.Prelude.{length, IfOk, OnOk, if◌then◌else◌};
 ghost use Rattle.room_rows.specs.Calls.{Reads, WritesOf};
 ghost use Rattle.room_rows.specs.Held.{held_of};
 ghost use Rattle.room_rows.specs.Keep.{ChangesAll, IsUnreadable, Leaves, with_inh};
@@ -8,6 +8,7 @@ ghost use Rattle.room_inherit.specs.Turn.{Gathers, IsChildless, IsPassed, Renews
 ghost use Rattle.room_inherit.specs.Turn.{TellsWaiting, Visits, WritesAll, brought_up, count_of};
 ghost use Rattle.room_inherit.specs.Turn.{is_outdated, meets_again, of_kind, outdated_of};
 ghost use Rattle.room_inherit.specs.Turn.{waits_next};
+ghost use Rattle.room_inherit.specs.declared.descent.Reach.TheVariants.{Renewed};
 
 use crate::by_kind::ByKind;
 use crate::descent::{Descent, Reach};
@@ -31,6 +32,9 @@ pub(crate) fn visit<K: Keep>(
     ensures visit { Visits K.Keep keep.old keep.new descent.now above.now waiting.old.items
         waiting.new.items result }
     ensures few { IfOk result (λ written. written < 2 ^ 63) }
+    ensures counted { descent.now.reach ≡ Renewed
+        → IfOk result (λ written. K.reads keep.new + length waiting.new.items
+        ≤ K.reads keep.old + length waiting.old.items + (2 * written + 1)) }
 {
     let children = keep.children(above.id)?;
     if meets_again(children.as_slice(), descent, above) {
@@ -63,6 +67,9 @@ fn renew_all<K: Keep>(
         → RenewsAll K.Keep keep.old keep.new descent.now above children.items waiting.old.items
         waiting.new.items result }
     ensures few { IfOk result (λ written. written < 2 ^ 63) }
+    ensures counted { descent.now.reach ≡ Renewed
+        → IfOk result (λ written. K.reads keep.new + length waiting.new.items
+        ≤ K.reads keep.old + length waiting.old.items + 2 * written) }
 {
     let mut outdated = ByKind::new(alloc);
     gather(
@@ -94,6 +101,9 @@ fn gather<K: Keep>(
         waiting.new.items outdated.old outdated.new result }
     ensures few { OnOk result
         (count_of outdated.new ≤ count_of outdated.old + length children.items) }
+    ensures counted { descent.now.reach ≡ Renewed
+        → OnOk result (K.reads keep.new + length waiting.new.items + 2 * count_of outdated.old
+        ≤ K.reads keep.old + length waiting.old.items + 2 * count_of outdated.new) }
 {
     'children: for child in children {
         gather_next(alloc, keep, descent, passed, child, outdated, waiting)?;
@@ -101,7 +111,9 @@ fn gather<K: Keep>(
     Ok(())
 }
 
-// Adds the number of one child, if it is outdated, and adds the child if it waits next.
+// Adds the number of one child, if it is outdated, and adds the child if it waits next. Where only
+// those that are renewed wait, two calls that read are enough for each of them: one here, and one
+// in its own turn.
 fn gather_next<K: Keep>(
     alloc: Global,
     keep: &mut K,
@@ -115,6 +127,9 @@ fn gather_next<K: Keep>(
         → Gathers K.Keep keep.old keep.new descent.now above (child ∷ []) waiting.old.items
         waiting.new.items outdated.old outdated.new result }
     ensures one { OnOk result (count_of outdated.new ≤ count_of outdated.old + 1) }
+    ensures counted { descent.now.reach ≡ Renewed
+        → OnOk result (K.reads keep.new + length waiting.new.items + 2 * count_of outdated.old
+        ≤ K.reads keep.old + length waiting.old.items + 2 * count_of outdated.new) }
 {
     let renews = is_outdated(passed, &child, descent.which);
     let waits = look_at(keep, &descent.reach, &child, renews, outdated)?;
@@ -139,6 +154,9 @@ fn look_at<K: Keep>(
         → OnOk result ((kind : ObjKind) → of_kind outdated.new kind
         ≡ of_kind outdated.old kind ++ outdated_of which above kind (child.now ∷ [])) }
     ensures one { OnOk result (count_of outdated.new ≤ count_of outdated.old + 1) }
+    ensures counted { reach.now ≡ Renewed
+        → IfOk result (λ waits. K.reads keep.new + (if waits then 1 else 0)
+        + 2 * count_of outdated.old ≤ K.reads keep.old + 2 * count_of outdated.new) }
 {
     let waits = waits_next(keep, reach, child, renews)?;
     add_outdated(child, renews, outdated)?;
@@ -151,6 +169,8 @@ fn add_outdated(child: &Node, renews: bool, outdated: &mut ByKind) -> Result<(),
         → OnOk result ((kind : ObjKind) → of_kind outdated.new kind
         ≡ of_kind outdated.old kind ++ outdated_of which above kind (child.now ∷ [])) }
     ensures one { OnOk result (count_of outdated.new ≤ count_of outdated.old + 1) }
+    ensures grown { OnOk result (count_of outdated.old + (if renews then 1 else 0)
+        ≤ count_of outdated.new) }
 {
     if renews {
         outdated.add(child.kind, child.id)?;
@@ -166,6 +186,7 @@ fn write_all<K: Keep>(
     outdated: &ByKind,
 ) -> Result<(), SpreadFault>
     ensures written { WritesAll K.Keep keep.old keep.new which passed.now outdated.now result }
+    ensures counted { K.reads keep.new ≤ K.reads keep.old }
 {
     let to_documents = passed.to(ObjKind::Document).as_slice();
     write(keep, outdated.documents.as_slice(), which, to_documents)?;
@@ -183,6 +204,7 @@ fn write<K: Keep>(
 ) -> Result<(), KeepFault>
     ensures written { WritesOf K.Keep keep.old keep.new result (length ids.now) IsUnreadable
         (Leaves (ChangesAll ids.now (with_inh which entries.now))) }
+    ensures counted { K.reads keep.new ≤ K.reads keep.old }
 {
     match ids {
         [] => Ok(()),
@@ -212,6 +234,9 @@ fn waits_next<K: Keep>(
     ensures asked { (which : Which) (above : Node) → renews ≡ is_outdated which above child.now
         → Reads K.Keep keep.old keep.new result IsUnreadable
         (λ rows waits. TellsWaiting rows.read reach.now which above child.now waits) }
+    ensures counted { reach.now ≡ Renewed
+        → IfOk result (λ waits. K.reads keep.new + (if waits then 1 else 0)
+        ≤ K.reads keep.old + 2 * (if renews then 1 else 0)) }
 {
     let waits = may_wait(reach, child, renews);
     if waits {
@@ -222,8 +247,9 @@ fn waits_next<K: Keep>(
 
 // Whether the child is one of those to which it goes on.
 fn may_wait(reach: &Reach, child: &Node, renews: bool) -> bool
-    ensures { (which : Which) (above : Node) → renews ≡ is_outdated which above child.now
+    ensures told { (which : Which) (above : Node) → renews ≡ is_outdated which above child.now
         → result ≡ waits_next reach.now which above child.now }
+    ensures counted { reach.now ≡ Renewed → result ≡ renews }
 {
     match reach {
         Reach::Renewed => renews,
@@ -235,6 +261,7 @@ fn may_wait(reach: &Reach, child: &Node, renews: bool) -> bool
 fn may_have_below<K: Keep>(keep: &mut K, object: &Node) -> Result<bool, KeepFault>
     ensures asked { Reads K.Keep keep.old keep.new result IsUnreadable
         (λ rows may. may ≡ false → IsChildless rows.read object.now) }
+    ensures counted { K.reads keep.new ≤ K.reads keep.old + 1 }
 {
     if object.is_document() {
         return keep.has_children(object.id);
@@ -251,10 +278,11 @@ fn wait_next(
     renews: bool,
     waiting: &mut Vec<Node>,
 ) -> Result<(), AllocError>
-    ensures { (above : Node) → IsPassed (held_of which above) passed.now
+    ensures waits { (above : Node) → IsPassed (held_of which above) passed.now
         → renews ≡ is_outdated which above child
         → OnOk result (waiting.new.items
         ≡ waiting.old.items ++ brought_up which above child ∷ []) }
+    ensures one { OnOk result (length waiting.new.items ≡ length waiting.old.items + 1) }
 {
     let next = brought_up(alloc, passed, child, which, renews)?;
     waiting.push(next)?;

@@ -1,5 +1,5 @@
 //! Who asks, and when.
-ghost use Rattle.std.specs.Prelude.{◌≡◌, IfOk, Option};
+ghost use Rattle.std.specs.Prelude.{◌≡◌, ◌+◌, ◌≤◌, IfOk, Option};
 ghost use Rattle.std.specs.Option.{option_copied};
 ghost use Rattle.room_rows.specs.Calls.{Reads};
 ghost use Rattle.room_rows.specs.Keep.{IsNever};
@@ -27,6 +27,7 @@ pub fn caller_of<K: Keep>(
 ) -> Result<Caller, KeepFault>
     ensures read { Reads K.Keep keep.old keep.new result IsNever
         (λ rows caller. caller ≡ caller_in rows.read (option_copied user.entry)) }
+    ensures counted { K.reads keep.new ≤ K.reads keep.old + 1 }
 {
     match user {
         None => Ok(Caller {

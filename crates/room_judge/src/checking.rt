@@ -1,5 +1,5 @@
 //! One check of bits on an object, and the records that it calls for.
-ghost use Rattle.std.specs.Prelude.{◌≡◌, ◌-◌, [], ◌∷◌, IfOk, option_and_then, slice_get};
+ghost use Rattle.std.specs.Prelude.{◌≡◌, ◌-◌, ◌≤◌, [], ◌∷◌, IfOk, option_and_then, slice_get};
 ghost use Rattle.room_rows.specs.Keep.{IsNever};
 ghost use Rattle.room_machine.specs.Judge.{kind_at, of_verdict, record_at, records_of};
 ghost use Rattle.room_machine.specs.Plan.{Check};
@@ -120,6 +120,7 @@ pub(crate) fn note_check<K: Keep>(
         (λ old _ new. new ≡ with_notes old
         (records_of asker.now.caller asker.now.moment checked.now.granted
         (found_site checked.now.path.now checked.now.found.now, checked.now.bits))) }
+    ensures counted { K.reads keep.new ≤ K.reads keep.old }
 {
     let places = events(
         alloc,
@@ -143,6 +144,7 @@ impl<K: Keep> Walker<'_, K> {
         ensures same_asker { self.new.asker.now ≡ self.old.asker.now }
         ensures done { Tries K.Keep self.old.keep.now self.new.keep.now result IsNever
             (Judges self.old.asker.now (Check (found_site path.now found.now) mask ∷ [])) }
+        ensures counted { K.reads self.new.keep.now ≤ K.reads self.old.keep.now }
     {
         let verdict = decide(
             found.node.dacl.full(),

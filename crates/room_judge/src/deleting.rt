@@ -1,5 +1,5 @@
 //! The deletion rule, with its records.
-ghost use Rattle.std.specs.Prelude.{◌≡◌, [], ◌∷◌};
+ghost use Rattle.std.specs.Prelude.{◌≡◌, ◌≤◌, [], ◌∷◌};
 ghost use Rattle.room_entry.specs.Rights.{delete};
 ghost use Rattle.room_rows.specs.Keep.{IsNever};
 ghost use Rattle.room_machine.specs.Judge.{of_deletion, records_of_checks};
@@ -84,6 +84,7 @@ impl<K: Keep> Walker<'_, K> {
               found_site leaving.now.path.now leaving.now.folder.now,
               second_right leaving.now.verdict.now,
             ) ∷ []))) }
+        ensures counted { K.reads self.new.keep.now ≤ K.reads self.old.keep.now }
     {
         let granted = is_deletable(leaving.verdict);
         let first = Checked {
@@ -115,6 +116,7 @@ impl<K: Keep> Walker<'_, K> {
         ensures done { Tries K.Keep self.old.keep.now self.new.keep.now result IsNever
             (Judges self.old.asker.now
             (Deletion (found_site path.now target.now) (found_site path.now folder.now) ∷ [])) }
+        ensures counted { K.reads self.new.keep.now ≤ K.reads self.old.keep.now }
     {
         let verdict = may_delete(
             target.node.dacl.full(),

@@ -1,5 +1,5 @@
 //! The way to the folder of a path's last name, and to what has that name.
-ghost use Rattle.std.specs.Prelude.{◌≡◌, ◌<◌, ◌+◌, length};
+ghost use Rattle.std.specs.Prelude.{◌≡◌, ◌<◌, ◌≤◌, ◌+◌, length};
 ghost use Rattle.room_rows.specs.Keep.{HasNoRoot, IsUnreadable};
 ghost use Rattle.room_judge.specs.Halted.{Comes, Tries, both_with};
 ghost use Rattle.room_judge.specs.Judged.{FromRoot, IsUnreadableFrom};
@@ -21,6 +21,8 @@ impl<K: Keep> Walker<'_, K> {
         ensures same_asker { self.new.asker.now ≡ self.old.asker.now }
         ensures done { Tries K.Keep self.old.keep.now self.new.keep.now result HasNoRoot
             (IsSpotted self.old.asker.now path.now) }
+        ensures counted { K.reads self.new.keep.now
+            ≤ K.reads self.old.keep.now + (length path.now + 1) }
     {
         let depth = path.names().len() - 1;
         let node = self.walk_along(path, depth)?;
@@ -35,6 +37,8 @@ impl<K: Keep> Walker<'_, K> {
         ensures same_asker { self.new.asker.now ≡ self.old.asker.now }
         ensures done { Tries K.Keep self.old.keep.now self.new.keep.now result HasNoRoot
             (IsPaired self.old.asker.now path.now) }
+        ensures counted { K.reads self.new.keep.now
+            ≤ K.reads self.old.keep.now + (length path.now + 1) }
     {
         let spot = self.to_spot(path)?;
         both_at(self.alloc, path, spot)
@@ -48,6 +52,7 @@ impl<K: Keep> Walker<'_, K> {
         ensures done { Tries K.Keep self.old.keep.now self.new.keep.now result
             (IsUnreadableFrom root.now)
             (FromRoot root.now (IsPaired self.old.asker.now path.now)) }
+        ensures counted { K.reads self.new.keep.now ≤ K.reads self.old.keep.now + length path.now }
     {
         let spot = self.to_spot_from(path, root)?;
         both_at(self.alloc, path, spot)
@@ -61,6 +66,7 @@ impl<K: Keep> Walker<'_, K> {
         ensures done { Tries K.Keep self.old.keep.now self.new.keep.now result
             (IsUnreadableFrom root.now)
             (FromRoot root.now (IsSpotted self.old.asker.now path.now)) }
+        ensures counted { K.reads self.new.keep.now ≤ K.reads self.old.keep.now + length path.now }
     {
         let depth = path.names().len() - 1;
         let node = self.walk_from(path, depth, root)?;
@@ -74,6 +80,7 @@ impl<K: Keep> Walker<'_, K> {
         ensures same_asker { self.new.asker.now ≡ self.old.asker.now }
         ensures done { Tries K.Keep self.old.keep.now self.new.keep.now result IsUnreadable
             (SpotsUnder self.old.asker.now path.now folder) }
+        ensures counted { K.reads self.new.keep.now ≤ K.reads self.old.keep.now + 1 }
     {
         self.pass_through(path, &folder)?;
         let name = &path.names()[folder.depth];

@@ -1,5 +1,5 @@
 //! The way to an object, judged as it goes.
-ghost use Rattle.std.specs.Prelude.{◌≡◌, ◌<◌, ◌≤◌, [], ◌∷◌, length, take};
+ghost use Rattle.std.specs.Prelude.{◌≡◌, ◌<◌, ◌≤◌, ◌+◌, [], ◌∷◌, length, take};
 ghost use Rattle.room_rows.specs.Keep.{HasNoRoot, IsNever, IsUnreadable};
 ghost use Rattle.room_machine.specs.Plan.{Check};
 ghost use Rattle.room_judge.specs.Halted.{Judges, Tries};
@@ -21,6 +21,7 @@ impl<K: Keep> Walker<'_, K> {
         ensures same_asker { self.new.asker.now ≡ self.old.asker.now }
         ensures done { Tries K.Keep self.old.keep.now self.new.keep.now result IsNever
             (Judges self.old.asker.now (through (found_site path.now found.now))) }
+        ensures counted { K.reads self.new.keep.now ≤ K.reads self.old.keep.now }
     {
         match found.node.kind {
             ObjKind::Document => Err(refusal(self.alloc, path, found.depth, Reason::NotFolder)),
@@ -35,6 +36,7 @@ impl<K: Keep> Walker<'_, K> {
         ensures same_asker { self.new.asker.now ≡ self.old.asker.now }
         ensures done { Tries K.Keep self.old.keep.now self.new.keep.now result IsUnreadable
             (FindsNext path.now found.now) }
+        ensures counted { K.reads self.new.keep.now ≤ K.reads self.old.keep.now + 1 }
     {
         let name = &path.names()[found.depth];
         let child = self.keep.child(found.node.id, name.as_str())?;
@@ -52,6 +54,7 @@ impl<K: Keep> Walker<'_, K> {
         ensures same_asker { self.new.asker.now ≡ self.old.asker.now }
         ensures done { Tries K.Keep self.old.keep.now self.new.keep.now result IsUnreadable
             (IsStepDown self.old.asker.now path.now found.now) }
+        ensures counted { K.reads self.new.keep.now ≤ K.reads self.old.keep.now + 1 }
     {
         self.pass_through(path, found)?;
         self.find_next(path, found)
@@ -65,6 +68,7 @@ impl<K: Keep> Walker<'_, K> {
         ensures done { Tries K.Keep self.old.keep.now self.new.keep.now result
             (IsUnreadableFrom root)
             (FromRoot root (IsReached self.old.asker.now (take depth path.now) (λ _. []))) }
+        ensures counted { K.reads self.new.keep.now ≤ K.reads self.old.keep.now + depth }
     {
         let mut node = root;
         'names: for index in 0..depth {
@@ -81,6 +85,7 @@ impl<K: Keep> Walker<'_, K> {
         ensures same_asker { self.new.asker.now ≡ self.old.asker.now }
         ensures done { Tries K.Keep self.old.keep.now self.new.keep.now result HasNoRoot
             (IsReached self.old.asker.now (take depth path.now) (λ _. [])) }
+        ensures counted { K.reads self.new.keep.now ≤ K.reads self.old.keep.now + (depth + 1) }
     {
         let root = self.keep.root()?;
         self.walk_down(path, depth, root)
@@ -94,6 +99,7 @@ impl<K: Keep> Walker<'_, K> {
         ensures done { Tries K.Keep self.old.keep.now self.new.keep.now result
             (IsUnreadableFrom root.now)
             (FromRoot root.now (IsReached self.old.asker.now (take depth path.now) (λ _. []))) }
+        ensures counted { K.reads self.new.keep.now ≤ K.reads self.old.keep.now + depth }
     {
         let root = root.copy()?;
         self.walk_down(path, depth, root)
@@ -106,6 +112,8 @@ impl<K: Keep> Walker<'_, K> {
         ensures same_asker { self.new.asker.now ≡ self.old.asker.now }
         ensures done { Tries K.Keep self.old.keep.now self.new.keep.now result HasNoRoot
             (IsReached self.old.asker.now path.now (λ _. [])) }
+        ensures counted { K.reads self.new.keep.now
+            ≤ K.reads self.old.keep.now + (length path.now + 1) }
     {
         self.walk_along(path, path.names().len())
     }
@@ -117,6 +125,8 @@ impl<K: Keep> Walker<'_, K> {
         ensures same_asker { self.new.asker.now ≡ self.old.asker.now }
         ensures done { Tries K.Keep self.old.keep.now self.new.keep.now result HasNoRoot
             (IsReached self.old.asker.now path.now (λ target. Check target mask ∷ [])) }
+        ensures counted { K.reads self.new.keep.now
+            ≤ K.reads self.old.keep.now + (length path.now + 1) }
     {
         let node = self.walk_to(path)?;
         let found = Found {
@@ -141,6 +151,7 @@ impl<K: Keep> Walker<'_, K> {
             (Judges self.old.asker.now
             (of_kind kind (found_site path.now found.now) ∷ Check (found_site path.now found.now)
             mask ∷ [])) }
+        ensures counted { K.reads self.new.keep.now ≤ K.reads self.old.keep.now }
     {
         let is_other = is_other_kind(found.node.kind, kind);
         if is_other {
@@ -157,6 +168,8 @@ impl<K: Keep> Walker<'_, K> {
         ensures done { Tries K.Keep self.old.keep.now self.new.keep.now result HasNoRoot
             (IsReached self.old.asker.now path.now
             (λ target. of_kind kind target ∷ Check target mask ∷ [])) }
+        ensures counted { K.reads self.new.keep.now
+            ≤ K.reads self.old.keep.now + (length path.now + 1) }
     {
         let node = self.walk_to(path)?;
         let found = Found {

@@ -111,6 +111,8 @@ impl<'a, K: Keep> Keep for Remembering<'a, K> {
 
     ghost writes = { λ k. K.writes k.keeper.now };
 
+    ghost reads = { λ k. K.reads k.keeper.now };
+
     ghost Follows = { FollowsOn K.rows K.Follows K.IsTrusted };
 
     ghost IsTrusted = { IsTrustedWith K.rows K.IsTrusted };
@@ -119,6 +121,7 @@ impl<'a, K: Keep> Keep for Remembering<'a, K> {
       itself = follows_itself K.laws;
       on = follows_on K.laws;
       rise = λ a b p. K.laws.rise _ _ p.below;
+      grow = λ a b p. K.laws.grow _ _ p.below;
       ends = λ a. K.laws.ends a.keeper.now;
       first = trusted_first K.laws;
       last = trusted_last K.laws;

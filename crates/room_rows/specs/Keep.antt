@@ -247,6 +247,7 @@ module _ {S : Type 0} (rows : S → Rows) (failures writes : S → ℕ)
     pub itself : (a : S) → Follows a a
     pub on : (a b c : S) → Follows a b → Follows b c → Follows a c
     pub rise : (a b : S) → Follows a b → failures a ≤ failures b
+    pub grow : (a b : S) → Follows a b → writes a ≤ writes b
     pub ends : (a : S) → (failures a ≤ 2 ^ 64 - 1) × (writes a ≤ 2 ^ 64 - 1)
     pub first : (a b c : S) → Follows a b → Follows b c → IsTrusted a c → IsTrusted a b
     pub last : (a b c : S) → Follows a b → Follows b c → IsTrusted a c → IsTrusted b c

@@ -1,5 +1,5 @@
 //! The objects along a path.
-ghost use Rattle.std.specs.Prelude.{◌≡◌, ◌-◌, ◌<◌, ◌≤◌, IfOk, length};
+ghost use Rattle.std.specs.Prelude.{◌≡◌, ◌+◌, ◌-◌, ◌<◌, ◌≤◌, IfOk, length};
 ghost use Rattle.room_rows.specs.Calls.{Reads};
 ghost use Rattle.room_rows.specs.Keep.{HasNoRoot};
 ghost use Rattle.room_rows.specs.Rooted.{IsWalkFromRoot};
@@ -19,6 +19,7 @@ use std::alloc::Global;
 pub fn walk<K: Keep>(alloc: Global, keep: &mut K, path: &Path) -> Result<Walk, KeepFault>
     ensures read { Reads K.Keep keep.old keep.new result HasNoRoot (IsWalkFromRoot path.now) }
     ensures some { IfOk result (λ walk. 0 < length walk.chain) }
+    ensures counted { K.reads keep.new ≤ K.reads keep.old + (length path.now + 1) }
 {
     let names = path.names();
     let mut chain = Nodes::new(alloc);

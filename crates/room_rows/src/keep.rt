@@ -1,5 +1,5 @@
 //! The contract of what keeps the objects.
-ghost use Rattle.std.specs.Prelude.{◌≡◌, ℕ, Some, length};
+ghost use Rattle.std.specs.Prelude.{◌≡◌, ℕ, ◌+◌, ◌-◌, ◌≤◌, Some, length};
 ghost use Rattle.room_rows.specs.declared.keep.KeepFault.TheVariants.{Memory};
 ghost use Rattle.room_rows.specs.Faults.{keep_fault_text};
 ghost use Rattle.room_rows.specs.Held.{with_held};
@@ -92,6 +92,10 @@ pub trait Keep {
 
     ghost writes: { Self → ℕ };
 
+    // How many calls read: a keeper counts none of them twice, and may leave some out. One that is
+    // to write to no object may count among them.
+    ghost reads: { Self → ℕ };
+
     // The second state comes from the first by calls, whatever they answered.
     ghost Follows: { Self → Self → Type 0 };
 
@@ -102,103 +106,121 @@ pub trait Keep {
     /// can't be read, and with the number 0 where there is no such object.
     fn root(&mut self) -> Result<Node, KeepFault>
         ensures read { IsRead rows failures writes Follows IsTrusted self.old self.new result
-            HasNoRoot IsRootOf };
+            HasNoRoot IsRootOf }
+        ensures counted { reads self.new ≤ reads self.old + 1 };
 
     /// All numbers in use, rising.
     fn ids(&mut self) -> Result<Numbers, KeepFault>
         ensures read { IsRead rows failures writes Follows IsTrusted self.old self.new result
-            IsNever AreNumbers };
+            IsNever AreNumbers }
+        ensures counted { reads self.new ≤ reads self.old + 1 };
 
     /// The object of this number, if there is one. The error is `Damaged` where its row can't be
     /// read.
     fn node(&mut self, id: u64) -> Result<Option<Node>, KeepFault>
         ensures read { IsRead rows failures writes Follows IsTrusted self.old self.new result
-            (IsUnreadableAt id) (IsNodeAt id) };
+            (IsUnreadableAt id) (IsNodeAt id) }
+        ensures counted { reads self.new ≤ reads self.old + 1 };
 
     /// The child of this name, if there is one. The error is `Damaged` for a row that can't be
     /// read.
     fn child(&mut self, parent: u64, name: &str) -> Result<Option<Node>, KeepFault>
         ensures read { IsRead rows failures writes Follows IsTrusted self.old self.new result
-            IsUnreadable (IsChildOf parent name.now) };
+            IsUnreadable (IsChildOf parent name.now) }
+        ensures counted { reads self.new ≤ reads self.old + 1 };
 
     /// The children in order of name. The error is `Damaged` for a row that can't be read.
     fn children(&mut self, parent: u64) -> Result<Nodes, KeepFault>
         ensures read { IsRead rows failures writes Follows IsTrusted self.old self.new result
-            IsUnreadable (AreChildrenOf parent) };
+            IsUnreadable (AreChildrenOf parent) }
+        ensures counted { reads self.new ≤ reads self.old + 1 };
 
     /// The names and kinds of the children, in order of name. It may be answered from names and
     /// kinds alone, so a row under this parent that can't be read as an object may be listed or left
     /// out. No other name is told. The error is `Damaged` for a row that can't be read.
     fn listing(&mut self, parent: u64) -> Result<Listing, KeepFault>
         ensures read { IsRead rows failures writes Follows IsTrusted self.old self.new result
-            IsUnreadable (AreNamedUnder parent) };
+            IsUnreadable (AreNamedUnder parent) }
+        ensures counted { reads self.new ≤ reads self.old + 1 };
 
     /// Whether there are children. A 'no' is true of any rows. A 'yes' is promised where all rows
     /// can be read: else such a row may be the child. The error is `Damaged` for a row that can't
     /// be read.
     fn has_children(&mut self, parent: u64) -> Result<bool, KeepFault>
         ensures read { IsRead rows failures writes Follows IsTrusted self.old self.new result
-            IsUnreadable (HasChildren parent) };
+            IsUnreadable (HasChildren parent) }
+        ensures counted { reads self.new ≤ reads self.old + 1 };
 
     /// The bytes of a document, if there are any.
     fn body(&mut self, id: u64) -> Result<Option<Bytes>, KeepFault>
         ensures read { IsRead rows failures writes Follows IsTrusted self.old self.new result
-            IsNever (IsBodyOf id) };
+            IsNever (IsBodyOf id) }
+        ensures counted { reads self.new ≤ reads self.old + 1 };
 
     /// The groups that are paired with the user, in order, each once.
     fn groups_of(&mut self, user: &Name) -> Result<Names, KeepFault>
         ensures read { IsRead rows failures writes Follows IsTrusted self.old self.new result
-            IsNever (AreGroupsOf user.now) };
+            IsNever (AreGroupsOf user.now) }
+        ensures counted { reads self.new ≤ reads self.old + 1 };
 
     /// Adds an object, and answers its number. The error is `Damaged` for a row that can't be read.
     fn add(&mut self, node: NewNode) -> Result<u64, KeepFault>
         ensures written { IsWrite rows failures writes Follows IsTrusted self.old self.new result
-            IsUnreadable (Adds node) };
+            IsUnreadable (Adds node) }
+        ensures unread { reads self.new ≤ reads self.old };
 
     /// Replaces one list of an object: its flags, its own and its inherited entries. The error is
     /// `Damaged` for a row that can't be read.
     fn set_held(&mut self, id: u64, which: Which, held: &Held) -> Result<(), KeepFault>
         ensures written { IsWrite rows failures writes Follows IsTrusted self.old self.new result
-            IsUnreadable (Leaves (Changes id (with_held which held.now))) };
+            IsUnreadable (Leaves (Changes id (with_held which held.now))) }
+        ensures unread { reads self.new ≤ reads self.old };
 
     /// Replaces the inherited entries of one list of an object. The error is `Damaged` for a row
     /// that can't be read.
     fn set_inh(&mut self, id: u64, which: Which, entries: &[Entry]) -> Result<(), KeepFault>
         ensures written { IsWrite rows failures writes Follows IsTrusted self.old self.new result
-            IsUnreadable (Leaves (Changes id (with_inh which entries.now))) };
+            IsUnreadable (Leaves (Changes id (with_inh which entries.now))) }
+        ensures unread { reads self.new ≤ reads self.old };
 
     /// The same of each of these objects, in any order. Each is counted as a write.
     fn set_inh_all(&mut self, ids: &[u64], which: Which, entries: &[Entry]) -> Result<(), KeepFault>
         ensures written { IsWriteOf rows failures writes Follows IsTrusted (length ids.now)
             self.old self.new result
-            IsUnreadable (Leaves (ChangesAll ids.now (with_inh which entries.now))) };
+            IsUnreadable (Leaves (ChangesAll ids.now (with_inh which entries.now))) }
+        ensures unread { reads self.new ≤ reads self.old + (1 - length ids.now) };
 
     /// Replaces the owner and the owning group of an object. The error is `Damaged` for a row that
     /// can't be read.
     fn set_owners(&mut self, id: u64, owners: &Owners) -> Result<(), KeepFault>
         ensures written { IsWrite rows failures writes Follows IsTrusted self.old self.new result
-            IsUnreadable (Leaves (Changes id (with_owners owners.now))) };
+            IsUnreadable (Leaves (Changes id (with_owners owners.now))) }
+        ensures unread { reads self.new ≤ reads self.old };
 
     /// Gives an object another parent and another name. The error is `Damaged` for a row that can't
     /// be read.
     fn set_place(&mut self, id: u64, parent: u64, name: &str) -> Result<(), KeepFault>
         ensures written { IsWrite rows failures writes Follows IsTrusted self.old self.new result
-            IsUnreadable (Leaves (Places id parent name.now)) };
+            IsUnreadable (Leaves (Places id parent name.now)) }
+        ensures unread { reads self.new ≤ reads self.old };
 
     /// Removes an object and its bytes. The error is `Damaged` for a row that can't be read.
     fn remove(&mut self, id: u64) -> Result<(), KeepFault>
         ensures written { IsWrite rows failures writes Follows IsTrusted self.old self.new result
-            IsUnreadable (Leaves (Removes id)) };
+            IsUnreadable (Leaves (Removes id)) }
+        ensures unread { reads self.new ≤ reads self.old };
 
     /// Replaces the bytes of a document. The error is `Damaged` for a row that can't be read.
     fn set_body(&mut self, id: u64, bytes: &[u8]) -> Result<(), KeepFault>
         ensures written { IsWrite rows failures writes Follows IsTrusted self.old self.new result
-            IsUnreadable (Leaves (SetsBody id bytes.now)) };
+            IsUnreadable (Leaves (SetsBody id bytes.now)) }
+        ensures unread { reads self.new ≤ reads self.old };
 
     /// Adds a record after the others.
     fn note(&mut self, row: AuditRow) -> Result<(), KeepFault>
         ensures written { IsWrite rows failures writes Follows IsTrusted self.old self.new result
-            IsNever (Leaves (Notes row)) };
+            IsNever (Leaves (Notes row)) }
+        ensures unread { reads self.new ≤ reads self.old };
 
     // What holds of the states, whatever is called.
     ghost laws: { KeepLaws rows failures writes Follows IsTrusted };

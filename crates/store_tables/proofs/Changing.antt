@@ -1,7 +1,8 @@
--- A fault of the later of two calls.
-use Rattle.std.proofs.Common.{◌≤◌, ℕ, Result, Ok, Err, IfErr}
+-- A fault of the later of two calls, and the count of writes after a call.
+use Rattle.std.proofs.Common.{◌≡◌, ◌≤◌, ◌+◌, ℕ, Result, Ok, Err, IfErr, arith}
 use Rattle.room_rows.specs.declared.keep.KeepFault.{KeepFault}
-use Rattle.room_rows.specs.Keep.{HasCause}
+use Rattle.room_rows.specs.Counts.{capped_below, capped_ends, capped_rises}
+use Rattle.room_rows.specs.Keep.{HasCause, capped, writes_after}
 use Rattle.room_rows.proofs.Steps.{later_cause}
 use Rattle.store_tables.specs.Seeing.{Nowhere}
 
@@ -12,3 +13,12 @@ pub cause_later : {X : Type 0} (r : Result X KeepFault) (first mid last : ℕ) (
 cause_later (Ok x) first mid last E up on h = tt
 cause_later (Err e) first mid last E up on h =
     later_cause first mid last e Nowhere E up on (λ id never. absurd never) h
+
+-- no call takes back what was counted
+pub writes_rise : {X : Type 0} (count : ℕ) (r : Result X KeepFault) (before after : ℕ)
+    → capped after ≡ writes_after count r (capped before) → capped before ≤ capped after
+writes_rise count (Ok x) before after is =
+    let ends = capped_below (capped before) (capped_ends before) in
+    let more = capped_rises (capped before) (capped before + count) (omega arith) in
+    omega (arith, is, ends, more)
+writes_rise count (Err fault) before after is = omega (arith, is)

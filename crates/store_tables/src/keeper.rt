@@ -2,7 +2,7 @@
 ghost use Rattle.std.proofs.Common.{arith, refl, ◌∙◌};
 ghost use Rattle.sqlite.specs.Held.{state};
 ghost use Rattle.room_rows.specs.Counts.{capped_ends, capped_rises};
-ghost use Rattle.std.specs.Prelude.{◌≡◌, ◌≤◌, pos};
+ghost use Rattle.std.specs.Prelude.{◌≡◌, ◌≤◌, ◌+◌, pos};
 ghost use Rattle.room_rows.specs.Held.{with_held};
 ghost use Rattle.room_rows.specs.Calls.{Reads};
 ghost use Rattle.room_rows.specs.Keep.{AreChildrenOf, AreNamedUnder, HasChildren, HasNoRoot};
@@ -189,20 +189,30 @@ impl<'a, 'conn, S: Alter> Keep for Keeper<'a, 'conn, S> {
 
     ghost writes = { λ k. capped k.writes };
 
+    // It doesn't count the calls that read.
+    ghost reads = { λ k. 0 };
+
     ghost Follows = { λ a b.
         (b.tx.ghost_name ≡ a.tx.ghost_name)
         × (b.tx.now.conn.ghost_name ≡ a.tx.now.conn.ghost_name)
         × Stays (state S.Store a.tx.now.conn.now) (state S.Store b.tx.now.conn.now)
-        × (a.failures ≤ b.failures) };
+        × (a.failures ≤ b.failures)
+        × (capped a.writes ≤ capped b.writes) };
 
     ghost IsTrusted = { λ a b.
         IsTrusted (state S.Store a.tx.now.conn.now) (state S.Store b.tx.now.conn.now) };
 
     ghost laws = { record {
-      itself = λ a. (refl, refl, stays_itself _, Prim.omega arith);
-      on = λ a b c p q.
-          (q.0 ∙ p.0, q.1 ∙ p.1, stays_on _ _ _ p.2 q.2, Prim.omega (arith, p.3, q.3));
+      itself = λ a. (refl, refl, stays_itself _, Prim.omega arith, Prim.omega arith);
+      on = λ a b c p q. (
+        q.0 ∙ p.0,
+        q.1 ∙ p.1,
+        stays_on _ _ _ p.2 q.2,
+        Prim.omega (arith, p.3, q.3),
+        Prim.omega (arith, p.4, q.4),
+      );
       rise = λ a b p. capped_rises _ _ p.3;
+      grow = λ a b p. p.4;
       ends = λ a. (capped_ends _, capped_ends _);
       first = λ a b c p q t. trusted_first _ _ _ p.2 q.2 t;
       last = λ a b c p q t. trusted_last _ _ _ p.2 q.2 t;
@@ -212,6 +222,8 @@ impl<'a, 'conn, S: Alter> Keep for Keeper<'a, 'conn, S> {
     fn root(&mut self) -> Result<Node, KeepFault>
         ensures read { Reads ⟦<Keeper<'a, 'conn, S> as Keep>⟧ self.old self.new result
             HasNoRoot IsRootOf }
+        ensures counted { ⟦<Keeper<'a, 'conn, S> as Keep>⟧.reads self.new
+            ≤ ⟦<Keeper<'a, 'conn, S> as Keep>⟧.reads self.old + 1 }
         ensures whole { Sees (state S.Store self.old.tx.now.conn.now)
             (state S.Store self.new.tx.now.conn.now) result SeesTop }
     {
@@ -235,6 +247,8 @@ impl<'a, 'conn, S: Alter> Keep for Keeper<'a, 'conn, S> {
     fn child(&mut self, parent: u64, name: &str) -> Result<Option<Node>, KeepFault>
         ensures read { Reads ⟦<Keeper<'a, 'conn, S> as Keep>⟧ self.old self.new result
             IsUnreadable (IsChildOf parent name.now) }
+        ensures counted { ⟦<Keeper<'a, 'conn, S> as Keep>⟧.reads self.new
+            ≤ ⟦<Keeper<'a, 'conn, S> as Keep>⟧.reads self.old + 1 }
         ensures whole { Sees (state S.Store self.old.tx.now.conn.now)
             (state S.Store self.new.tx.now.conn.now) result (SeesNamed parent name.now) }
     {
@@ -246,6 +260,8 @@ impl<'a, 'conn, S: Alter> Keep for Keeper<'a, 'conn, S> {
     fn children(&mut self, parent: u64) -> Result<Nodes, KeepFault>
         ensures read { Reads ⟦<Keeper<'a, 'conn, S> as Keep>⟧ self.old self.new result
             IsUnreadable (AreChildrenOf parent) }
+        ensures counted { ⟦<Keeper<'a, 'conn, S> as Keep>⟧.reads self.new
+            ≤ ⟦<Keeper<'a, 'conn, S> as Keep>⟧.reads self.old + 1 }
         ensures whole { Sees (state S.Store self.old.tx.now.conn.now)
             (state S.Store self.new.tx.now.conn.now) result (SeesEach parent) }
     {
@@ -257,6 +273,8 @@ impl<'a, 'conn, S: Alter> Keep for Keeper<'a, 'conn, S> {
     fn listing(&mut self, parent: u64) -> Result<Listing, KeepFault>
         ensures read { Reads ⟦<Keeper<'a, 'conn, S> as Keep>⟧ self.old self.new result
             IsUnreadable (AreNamedUnder parent) }
+        ensures counted { ⟦<Keeper<'a, 'conn, S> as Keep>⟧.reads self.new
+            ≤ ⟦<Keeper<'a, 'conn, S> as Keep>⟧.reads self.old + 1 }
         ensures whole { Sees (state S.Store self.old.tx.now.conn.now)
             (state S.Store self.new.tx.now.conn.now) result (SeesEach parent) }
     {
@@ -268,6 +286,8 @@ impl<'a, 'conn, S: Alter> Keep for Keeper<'a, 'conn, S> {
     fn has_children(&mut self, parent: u64) -> Result<bool, KeepFault>
         ensures read { Reads ⟦<Keeper<'a, 'conn, S> as Keep>⟧ self.old self.new result
             IsUnreadable (HasChildren parent) }
+        ensures counted { ⟦<Keeper<'a, 'conn, S> as Keep>⟧.reads self.new
+            ≤ ⟦<Keeper<'a, 'conn, S> as Keep>⟧.reads self.old + 1 }
         ensures whole { Sees (state S.Store self.old.tx.now.conn.now)
             (state S.Store self.new.tx.now.conn.now) result (SeesSome parent) }
     {

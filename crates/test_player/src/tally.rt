@@ -1,4 +1,5 @@
 //! A keeper that counts calls.
+ghost use Rattle.std.specs.Prelude.{◌+◌};
 
 use room_ace::{Entry, Name, Names, Owners, Which};
 use room_rows::{AuditRow, Bytes, Held, Keep, KeepFault, Listing, NewNode, Node, Nodes, Numbers};
@@ -136,6 +137,11 @@ impl<K: Keep> Keep for Tally<K> {
 
     ghost writes = { λ k. K.writes k.keeper };
 
+    // The calls that read, without those of `set_inh_all` that write to no object.
+    ghost reads = { λ k. k.calls.root + k.calls.ids + k.calls.node + k.calls.child
+        + k.calls.children + k.calls.listing + k.calls.has_children + k.calls.body
+        + k.calls.groups };
+
     ghost Follows = { λ a b. K.Follows a.keeper b.keeper };
 
     ghost IsTrusted = { λ a b. K.IsTrusted a.keeper b.keeper };
@@ -239,6 +245,7 @@ impl<K: Keep> Keep for Tally<K> {
       itself = λ a. K.laws.itself a.keeper;
       on = λ a b c p q. K.laws.on _ _ _ p q;
       rise = λ a b p. K.laws.rise _ _ p;
+      grow = λ a b p. K.laws.grow _ _ p;
       ends = λ a. K.laws.ends a.keeper;
       first = λ a b c p q t. K.laws.first _ _ _ p q t;
       last = λ a b c p q t. K.laws.last _ _ _ p q t;

@@ -1,4 +1,5 @@
 use Rattle.room_desk.proofs.Lists.CarriedDown.{given_ok, given_err}
+use Rattle.room_desk.proofs.Writes.Reading.{reads_carried}
 use Rattle.room_desk.proofs.carrying.carry_from.Goals as goal
 
 pub returns-in-Ok : goal.returns-in-Ok
@@ -6,6 +7,9 @@ returns-in-Ok g c =
     record {
       done = given_ok g.met.K.Keep.laws c.args.which c.args.start.now c.in-Ok.field-0
           c.in-Ok.ensures.spread;
+      counted =
+          reads_carried g.K.Keep c.args.keep.now c.spread_from-outcome.new.keep 2 c.in-Ok.field-0.changed
+          c.in-Ok.ensures.counted c.in-Ok.ensures.spread.written;
     }
 
 pub returns-in-Err : goal.returns-in-Err
@@ -15,4 +19,5 @@ returns-in-Err g c =
           given_err g.met.K.Keep.laws c.args.which c.args.start.now c.in-Err.fault
           c.keeper_fault.result
           c.keeper_fault.ensures c.in-Err.ensures.spread;
+      counted = tt;
     }

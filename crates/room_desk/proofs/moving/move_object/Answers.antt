@@ -1,10 +1,10 @@
 use Rattle.std.proofs.Common.{◌≡◌, Some, ap, refl, subst, take, ◌∙◌}
-use Rattle.std.proofs.Common.{Result, Err}
+use Rattle.std.proofs.Common.{Result, Err, arith, length, ◌+◌}
 use Rattle.room_rows.specs.Content.{root_of}
 use Rattle.room_rows.specs.Rows.{Rows}
 use Rattle.room_machine.specs.declared.reply.Reply.TheVariants.{Refused}
 use Rattle.room_machine.specs.declared.reply.Reason.TheVariants.{Root}
-use Rattle.room_judge.specs.Halted.{replied}
+use Rattle.room_judge.specs.Halted.{replied, settled}
 use Rattle.room_judge.specs.Spot.{IsPaired, pair_of}
 use Rattle.room_judge.specs.declared.asker.Asker.{Asker}
 use Rattle.room_judge.proofs.Calls.{done, none_done, of_read, then}
@@ -15,6 +15,7 @@ use Rattle.room_desk.proofs.Moves.MovingSteps.{way_halted}
 use Rattle.room_desk.proofs.Sound.Blamed.{rootless_damaged, unread_damaged}
 use Rattle.room_judge.proofs.UpTo.{tail_provided}
 use Rattle.room_desk.proofs.Writes.Placing.{stands_unrecorded}
+use Rattle.room_desk.proofs.Writes.Reading.{reads_on}
 use Rattle.room_desk.proofs.moving.move_object.Goals as goal
 use Rattle.room_judge.specs.declared.arrival.Both.{Both}
 use Rattle.room_machine.specs.declared.reply.Reply.{Reply}
@@ -77,3 +78,16 @@ returns-clause-done g c =
       stands_unrecorded path root target.node old both.0 both.1.target,
       enough,
     ))
+
+pub returns-clause-counted : goal.returns-clause-counted
+returns-clause-counted g c =
+    let laws = g.met.K.Keep.laws in
+    let path = c.args.path.now in
+    let to = c.args.to.now in
+    let grows = laws.grow _ _ c.in_ok-root.ensures.read.follows in
+    reads_on g.K.Keep (settled c.move_found.result) c.args.walk.now.keep.now
+    c.to_pair_from.new.self.keep.now c.move_found.new.walk.keep.now (length path + 1)
+    (length to + 6) (length path + length to + 7)
+    (omega (arith, c.in_ok-root.ensures.counted, c.in_ok-pair.ensures.counted))
+    (omega (arith, grows, laws.grow _ _ c.in_ok-pair.ensures.done.follows)) (omega arith)
+    c.move_found.ensures.counted

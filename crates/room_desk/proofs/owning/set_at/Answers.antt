@@ -1,4 +1,4 @@
-use Rattle.std.proofs.Common.{refl, sym, inl, inr, ◌∙◌}
+use Rattle.std.proofs.Common.{arith, refl, sym, inl, inr, ◌∙◌}
 use Rattle.std.proofs.lemmas.Bool.{false≢true}
 use Rattle.room_judge.proofs.Calls.{none_done, finish, done, of_change}
 use Rattle.room_machine.specs.declared.reply.Reply.TheVariants.{Done}
@@ -24,6 +24,7 @@ returns-then-are_same g c =
             ),
           ));
       quiet = λ same. refl;
+      counted = omega arith;
     }
 
 pub returns : goal.returns
@@ -41,4 +42,5 @@ returns g c =
           λ same. absurd
           (false≢true (sym c.if-are_same.false ∙ c.are_same.ensures
           ∙ owners_themselves c.args.owners.now c.args.node.now.owners same));
+      counted = c.in_ok-set_owners.ensures.unread;
     }

@@ -1,9 +1,11 @@
-use Rattle.std.proofs.Common.{to_z, of_z, w64}
+use Rattle.std.proofs.Common.{◌+◌, to_z, of_z, w64, arith}
 use Rattle.std.proofs.lemmas.Int.{to_z-of_z}
 use Rattle.room_judge.proofs.Calls.{tail, done, of_read}
 use Rattle.room_desk.proofs.Sound.Blamed.{damaged_before}
 use Rattle.std.specs.Option.{option_copied}
 use Rattle.room_desk.proofs.Steps.InTurn.{performed}
+use Rattle.room_desk.specs.Called.{calls_for, hands_down}
+use Rattle.room_desk.proofs.Writes.Reading.{reads_before}
 use Rattle.room_desk.proofs.performing.perform.Goals as goal
 
 pub returns : goal.returns
@@ -18,4 +20,10 @@ returns g c =
           (record { caller = c.in_ok-caller.caller; moment = to_z w64 (of_z w64 c.args.moment) })
           c.args.request.now old mid new reply
           (to_z-of_z w64 c.args.moment c.ranges.moment) both served);
+      counted =
+          reads_before k (hands_down c.args.request.now) c.perform_for.result c.args.keep.now
+          c.caller_of.new.keep c.perform_for.new.keep 1 (calls_for c.args.request.now)
+          (calls_for c.args.request.now + 1) c.in_ok-caller.ensures.counted
+          (m.laws.grow _ _ c.in_ok-caller.ensures.read.follows) (omega arith)
+          c.perform_for.ensures.counted;
     }

@@ -1,5 +1,5 @@
 use Rattle.std.proofs.Common.{List, length, arith, sym, ap, ◌∙◌}
-use Rattle.std.specs.Prelude.{◌-◌, slice_get}
+use Rattle.std.specs.Prelude.{◌+◌, ◌-◌, slice_get}
 use Rattle.room_judge.proofs.Calls.{none_done, fails, done, of_read}
 use Rattle.room_rows.specs.declared.node.Node.{Node}
 use Rattle.room_desk.proofs.Lists.ResetClosed.{reset_told}
@@ -8,6 +8,7 @@ use Rattle.room_desk.proofs.Sound.Blamed.{rootless_damaged}
 use Rattle.room_desk.proofs.Sound.RootedWays.{rooted_last, stands_last}
 use Rattle.room_judge.proofs.UpTo.{tail_provided}
 use Rattle.room_desk.proofs.Writes.Sufficing.{rooted_unrecorded}
+use Rattle.room_desk.proofs.Writes.Reading.{reads_on, unanswered}
 use Rattle.room_desk.proofs.resetting.reset.Goals as goal
 
 pub returns-in_err-found : goal.returns-in_err-found
@@ -19,9 +20,10 @@ returns-in_err-found g c =
           (of_read c.in_err-found.ensures.read)
           (λ old mid at same h. rootless_damaged old mid at same h) c.from_residual.result
           c.from_residual.ensures.1;
+      counted = unanswered k c.args.keep.now c.walk.new.keep (length c.args.path.now + 3)
+          c.from_residual.result _ c.from_residual.ensures.1;
     }
 
--- the walk has met some object
 pub unreachable-requires : goal.unreachable-requires
 unreachable-requires g c =
     omega (
@@ -60,4 +62,9 @@ returns g c =
             ),
             enough,
           ));
+      counted =
+          reads_on k c.reset_at_end.result c.args.keep.now c.walk.new.keep c.reset_at_end.new.keep
+          (length c.args.path.now + 1) 2 (length c.args.path.now + 3) c.in_ok-found.ensures.counted
+          (m.laws.grow _ _ c.in_ok-found.ensures.read.follows) (omega arith)
+          c.reset_at_end.ensures.counted;
     }

@@ -26,4 +26,5 @@ returns g c =
             subst (λ (n : Node). Holds n (unrecorded old)) (sym same) enough.0,
             enough.1,
           ));
+      counted = c.carry_from.ensures.counted;
     }

@@ -1,4 +1,4 @@
-use Rattle.std.proofs.Common.{List, refl, sym, ap, ◌∙◌, inl, inr}
+use Rattle.std.proofs.Common.{List, refl, sym, ap, ◌∙◌, inl, inr, arith}
 use Rattle.std.proofs.lemmas.Bool.{false≢true}
 use Rattle.std.specs.Option.{option_copied}
 use Rattle.room_entry.specs.Ace.{Ace}
@@ -6,6 +6,7 @@ use Rattle.room_judge.proofs.Calls.{none_done, memory, finish, tail_known}
 use Rattle.room_desk.specs.Setting.{held_with}
 use Rattle.room_desk.proofs.Lists.SettingCalls.{fails_before, list_sent, no_answer, set_from}
 use Rattle.room_desk.proofs.Lists.SettingCalls.{written_as}
+use Rattle.room_desk.proofs.Writes.Reading.{reads_few, unanswered}
 use Rattle.room_desk.proofs.setting.set_at.Goals as goal
 
 pub returns-in_err-inh : goal.returns-in_err-inh
@@ -19,6 +20,8 @@ returns-in_err-inh g c =
       quiet =
           λ same. no_answer (k.writes c.args.keep.now)
           (k.writes c.args.keep.now) c.from_residual.result _ c.from_residual.ensures.1;
+      counted = unanswered k c.args.keep.now c.args.keep.now 2
+          c.from_residual.result _ c.from_residual.ensures.1;
     }
 
 pub returns-in_err-own : goal.returns-in_err-own
@@ -33,10 +36,13 @@ returns-in_err-own g c =
           λ same. no_answer (k.writes c.args.keep.now)
           (k.writes c.args.keep.now) c.from_residual-in_err-own.result _
           c.from_residual-in_err-own.ensures.1;
+      counted = unanswered k c.args.keep.now c.args.keep.now 2
+          c.from_residual-in_err-own.result _ c.from_residual-in_err-own.ensures.1;
     }
 
 pub returns-then-is_same_list : goal.returns-then-is_same_list
 returns-then-is_same_list g c =
+    let k = g.K.Keep in
     let m = g.met.K.Keep in
     let setting = c.args.setting.now in
     let node = setting.target.now.node in
@@ -52,6 +58,7 @@ returns-then-is_same_list g c =
           (inl
           (sym sent ∙ c.is_same_list.ensures.0 c.if-is_same_list.true ∙ c.held.ensures, same)));
       quiet = λ same. refl;
+      counted = reads_few k c.args.keep.now c.args.keep.now 2 (omega arith) (omega arith);
     }
 
 pub returns-in_err-held : goal.returns-in_err-held
@@ -66,6 +73,8 @@ returns-in_err-held g c =
           λ same. no_answer (k.writes c.args.keep.now)
           (k.writes c.args.keep.now) c.from_residual-in_err-held.result _
           c.from_residual-in_err-held.ensures.1;
+      counted = unanswered k c.args.keep.now c.args.keep.now 2
+          c.from_residual-in_err-held.result _ c.from_residual-in_err-held.ensures.1;
     }
 
 pub returns : goal.returns
@@ -90,4 +99,5 @@ returns g c =
           ∙ c.is_same_list.ensures.1 (sent
           ∙ ap (λ (l : List Ace). held_with setting.sent.now l) c.in_ok-inh.ensures
           ∙ same ∙ sym c.held.ensures)));
+      counted = c.write_list.ensures.counted;
     }

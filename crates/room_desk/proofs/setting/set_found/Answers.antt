@@ -21,4 +21,5 @@ returns-in_ok-set_at-in-None g c =
             becomes =
                 subst (λ o. SetUnless o setting.which setting.sent.now node old new) none (set up);
           });
+      counted = c.in_ok-set_at-in-None.ensures.counted;
     }

@@ -1,5 +1,5 @@
-use Rattle.std.proofs.Common.{Some, refl, subst}
-use Rattle.room_judge.specs.Halted.{replied}
+use Rattle.std.proofs.Common.{Some, arith, length, refl, subst, ◌+◌}
+use Rattle.room_judge.specs.Halted.{replied, settled}
 use Rattle.room_judge.specs.declared.asker.Asker.{Asker}
 use Rattle.room_judge.proofs.Calls.{done}
 use Rattle.room_judge.proofs.Halts.{halts_first}
@@ -8,6 +8,7 @@ use Rattle.room_desk.proofs.Lists.SetRequest.{found_pair, set_halted}
 use Rattle.room_desk.proofs.Sound.Blamed.{rootless_damaged}
 use Rattle.room_judge.proofs.UpTo.{tail_provided}
 use Rattle.room_desk.proofs.Writes.Sufficing.{each_of_both, stands_along}
+use Rattle.room_desk.proofs.Writes.Reading.{reads_on}
 use Rattle.room_desk.proofs.setting.set_list.Goals as goal
 
 pub returns-in_err-pair-clause-done : goal.returns-in_err-pair-clause-done
@@ -38,3 +39,11 @@ returns-clause-done g c =
       stands_along path target.node old are paired.target,
       each_of_both c.args.which old new more enough,
     ))
+
+pub returns-clause-counted : goal.returns-clause-counted
+returns-clause-counted g c =
+    reads_on g.K.Keep (settled c.set_allowed.result) c.args.walk.now.keep.now
+    c.to_pair.new.self.keep.now c.set_allowed.new.walk.keep.now (length c.args.path.now + 1) 2
+    (length c.args.path.now + 3) c.in_ok-pair.ensures.counted
+    (g.met.K.Keep.laws.grow _ _ c.in_ok-pair.ensures.done.follows) (omega arith)
+    c.set_allowed.ensures.counted

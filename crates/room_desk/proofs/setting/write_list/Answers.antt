@@ -1,4 +1,4 @@
-use Rattle.std.proofs.Common.{sym, ap}
+use Rattle.std.proofs.Common.{sym, ap, arith}
 use Rattle.room_entry.specs.declared.flags.ListFlags.{ListFlags}
 use Rattle.room_judge.proofs.Calls.{none_done, fails, done, of_change, of_write}
 use Rattle.room_desk.proofs.Lists.SettingCalls.{carried_fails, unread_before, written_down}
@@ -6,6 +6,7 @@ use Rattle.room_desk.proofs.Lists.SettingCalls.{set_shares, written_still}
 use Rattle.room_rows.specs.Held.{with_held}
 use Rattle.room_judge.proofs.UpTo.{finish_up_to, tail_share}
 use Rattle.room_desk.proofs.Writes.Sufficing.{one_changed, one_of_each}
+use Rattle.room_desk.proofs.Writes.Reading.{reads_few, reads_on, unanswered}
 use Rattle.room_desk.proofs.setting.write_list.Goals as goal
 
 pub returns-in_err-set_held : goal.returns-in_err-set_held
@@ -19,6 +20,8 @@ returns-in_err-set_held g c =
           (of_write c.in_err-set_held.ensures.written)
           (λ old mid at same h. unread_before node old mid at same h)
           c.from_residual.result c.from_residual.ensures.1;
+      counted = unanswered k c.args.keep.now c.set_held.new.self 2 c.from_residual.result _
+          c.from_residual.ensures.1;
     }
 
 pub returns-then-flags : goal.returns-then-flags
@@ -42,6 +45,11 @@ returns-then-flags g c =
           c.if-flags.true auto down)
           (λ old mid x new more are changes down enough.
           set_shares setting.which node c.args.held old mid changes new more down enough);
+      counted =
+          reads_on k c.carry_on.result c.args.keep.now c.set_held.new.self c.carry_on.new.keep 0 2 2
+          (omega (arith, c.in_ok-set_held.ensures.unread))
+          (m.laws.grow _ _ c.in_ok-set_held.ensures.written.follows) (omega arith)
+          c.carry_on.ensures.counted;
     }
 
 pub returns-else-flags : goal.returns-else-flags
@@ -59,4 +67,8 @@ returns-else-flags g c =
           (λ old new are changes.
           written_still setting.which node c.args.held old new changes _ c.if-flags.false
           auto);
+      counted =
+          reads_few k c.args.keep.now c.set_held.new.self 2
+          (omega (arith, c.in_ok-set_held.ensures.unread))
+          (m.laws.grow _ _ c.in_ok-set_held.ensures.written.follows);
     }

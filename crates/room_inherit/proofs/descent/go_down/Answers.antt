@@ -12,8 +12,8 @@ use Rattle.room_inherit.proofs.Descending.{descends, descends_not}
 use Rattle.room_inherit.proofs.descent.go_down.Goals.{then-is_empty, else-is_empty}
 use Rattle.room_inherit.proofs.descent.go_down.Goals as goal
 
-pub returns-in_err-begun : goal.returns-in_err-begun
-returns-in_err-begun g c = λ none same.
+pub returns-in_err-begun-clause-descends : goal.returns-in_err-begun-clause-descends
+returns-in_err-begun-clause-descends g c = λ none same.
     let k = g.K.Keep in
     let laws = g.met.K.Keep.laws in
     let d = c.args.descent.now in
@@ -25,8 +25,8 @@ returns-in_err-begun g c = λ none same.
     (λ p. first_turn_fails k laws d start p c.args.waiting.now.items c.visit.new.waiting.items fault
     a b none c.in_err-begun.ensures.visit)
 
-pub returns-in_err-soon : goal.returns-in_err-soon
-returns-in_err-soon g c = λ none same.
+pub returns-in_err-soon-clause-descends : goal.returns-in_err-soon-clause-descends
+returns-in_err-soon-clause-descends g c = λ none same.
     let k = g.K.Keep in
     let laws = g.met.K.Keep.laws in
     let d = c.args.descent.now in
@@ -41,8 +41,8 @@ returns-in_err-soon g c = λ none same.
     c.visit.new.waiting.items none a b c.in_ok-begun.ensures.visit c.take_turns.new.waiting.items
     fault e c.in_err-soon.ensures.turns)
 
-pub returns-then-is_done : goal.returns-then-is_done
-returns-then-is_done g c = λ none same.
+pub returns-then-is_done-clause-descends : goal.returns-then-is_done-clause-descends
+returns-then-is_done-clause-descends g c = λ none same.
     let k = g.K.Keep in
     let laws = g.met.K.Keep.laws in
     let d = c.args.descent.now in
@@ -67,8 +67,8 @@ returns-then-is_done g c = λ none same.
     c.in_ok-soon.ensures.turns told (ltb-true told (2 ^ 63) facts.1)
     c.saturating_add-changed.ensures over)
 
-pub returns-in_err-ids : goal.returns-in_err-ids
-returns-in_err-ids g c = λ none same.
+pub returns-in_err-ids-clause-descends : goal.returns-in_err-ids-clause-descends
+returns-in_err-ids-clause-descends g c = λ none same.
     let k = g.K.Keep in
     let laws = g.met.K.Keep.laws in
     let d = c.args.descent.now in
@@ -84,8 +84,8 @@ returns-in_err-ids g c = λ none same.
     c.visit.new.waiting.items none a b c.in_ok-begun.ensures.visit 65536 c.in_ok-soon.soon
     c.take_turns.new.waiting.items e c.in_ok-soon.ensures.turns fault n c.in_err-ids.ensures.read)
 
-pub returns-in_err-later : goal.returns-in_err-later
-returns-in_err-later g c = λ none same.
+pub returns-in_err-later-clause-descends : goal.returns-in_err-later-clause-descends
+returns-in_err-later-clause-descends g c = λ none same.
     let k = g.K.Keep in
     let laws = g.met.K.Keep.laws in
     let d = c.args.descent.now in
@@ -103,8 +103,8 @@ returns-in_err-later g c = λ none same.
     (length c.as_slice-most.result.now) (ap length c.as_slice-most.ensures) c.ids.new.self
     c.in_ok-ids.ensures.read c.take_turns-2.new.waiting.items fault f c.in_err-later.ensures.turns)
 
-pub returns-then-is_empty-2 : goal.returns-then-is_empty-2
-returns-then-is_empty-2 g c = λ none same.
+pub returns-then-is_empty-2-clause-descends : goal.returns-then-is_empty-2-clause-descends
+returns-then-is_empty-2-clause-descends g c = λ none same.
     let k = g.K.Keep in
     let laws = g.met.K.Keep.laws in
     let d = c.args.descent.now in
@@ -135,8 +135,8 @@ returns-then-is_empty-2 g c = λ none same.
     (ap length c.as_slice-most.ensures) c.ids.new.self c.in_ok-ids.ensures.read later last f
     c.in_ok-later.ensures.turns fits c.saturating_add-changed-2.result told over)
 
-pub returns-else-is_empty-2 : goal.returns-else-is_empty-2
-returns-else-is_empty-2 g c = λ none same.
+pub returns-else-is_empty-2-clause-descends : goal.returns-else-is_empty-2-clause-descends
+returns-else-is_empty-2-clause-descends g c = λ none same.
     let k = g.K.Keep in
     let laws = g.met.K.Keep.laws in
     let d = c.args.descent.now in

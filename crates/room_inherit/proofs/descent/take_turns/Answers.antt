@@ -1,13 +1,13 @@
 use Rattle.std.proofs.Common.{◌≡◌, ℕ, ◌+◌, List, Result, refl, sym, ap, subst, ◌∙◌, inl, inr, arith}
-use Rattle.std.proofs.Common.{add-one}
-use Rattle.std.proofs.lemmas.List.{append-nil}
+use Rattle.std.proofs.Common.{add-one, length}
+use Rattle.std.proofs.lemmas.List.{append-nil, length_push}
 use Rattle.room_rows.specs.declared.node.Node.{Node}
 use Rattle.room_rows.specs.Counts.{capped_below}
 use Rattle.room_rows.specs.Keep.{capped}
 use Rattle.room_inherit.specs.Turns.{AreTurns, TakesTurns}
 use Rattle.room_inherit.specs.declared.outcome.SpreadFault.{SpreadFault}
 use Rattle.room_entry.proofs.Facts.Members.{no_length}
-use Rattle.room_inherit.proofs.Calls.{capped_add, handed_on}
+use Rattle.room_inherit.proofs.Calls.{capped_add, handed_on, uncapped}
 use Rattle.room_inherit.proofs.descent.take_turns.Goals as goal
 
 pub turns-init : goal.turns-init
@@ -15,55 +15,57 @@ turns-init g c =
     record {
       sofar = (0, (refl, refl, refl), sym (capped_below 0 (omega arith)));
       within = omega arith;
+      counted = λ _ _. omega arith;
     }
 
-pub returns-in_default : goal.returns-in_default
-returns-in_default g c =
+pub returns-in_default-clause-turns : goal.returns-in_default-clause-turns
+returns-in_default-clause-turns g c =
     let (total, are, is) = c.turns.invariant.sofar in
     let same : c.turns.waiting.items ≡ c.pop.new.self.items = c.in_default.ensures.items
     ∙ append-nil c.pop.new.self.items in
     record {
-      turns = record {
-        turns = c.turns._turn;
-        total = total;
-        are =
-            subst
-            (λ (l : List Node). AreTurns g.K.Keep c.args.descent.now c.turns._turn
-            c.args.waiting.now.items l total c.args.keep.now c.turns.keep) same are;
-        counted = is;
-        bounded = c.turns.invariant.within;
-        ends =
-            inl (sym same ∙ no_length c.turns.waiting.items
-            (sym c.turns.waiting.ok.0 ∙ c.in_default.ensures.cases.0));
-      };
+      turns = c.turns._turn;
+      total = total;
+      are =
+          subst
+          (λ (l : List Node). AreTurns g.K.Keep c.args.descent.now c.turns._turn
+          c.args.waiting.now.items l total c.args.keep.now c.turns.keep) same are;
+      counted = is;
+      bounded = c.turns.invariant.within;
+      ends =
+          inl (sym same ∙ no_length c.turns.waiting.items
+          (sym c.turns.waiting.ok.0 ∙ c.in_default.ensures.cases.0));
     }
 
-pub returns-in_err-visited : goal.returns-in_err-visited
-returns-in_err-visited g c =
+pub returns-in_default-clause-counted : goal.returns-in_default-clause-counted
+returns-in_default-clause-counted g c = λ reach few.
+    let sofar = c.turns.invariant.counted reach few in
+    let same = ap length (c.in_default.ensures.items ∙ append-nil c.pop.new.self.items) in
+    omega (arith, sofar, same)
+
+pub returns-in_err-visited-clause-turns : goal.returns-in_err-visited-clause-turns
+returns-in_err-visited-clause-turns g c =
     let k = g.K.Keep in
     let d = c.args.descent.now in
     let (total, are, is) = c.turns.invariant.sofar in
     let fault = c.in_err-visited.field-0.0 in
     let before = c.args.waiting.now.items in
-    record {
-      turns =
+    subst
+    (λ (r : Result ℕ SpreadFault).
+    TakesTurns k d c.args.most before c.visit-visited.new.waiting.items c.args.keep.now
+    c.visit-visited.new.keep r)
+    (sym (handed_on c.from_residual.result fault c.from_residual.ensures.1)) (record {
+      turns = c.turns._turn;
+      total = total;
+      rest = c.pop.new.self.items;
+      above = c.in-Some.above;
+      mid = c.turns.keep;
+      are =
           subst
-          (λ (r : Result ℕ SpreadFault).
-          TakesTurns k d c.args.most before c.visit-visited.new.waiting.items c.args.keep.now
-          c.visit-visited.new.keep r)
-          (sym (handed_on c.from_residual.result fault c.from_residual.ensures.1)) (record {
-            turns = c.turns._turn;
-            total = total;
-            rest = c.pop.new.self.items;
-            above = c.in-Some.above;
-            mid = c.turns.keep;
-            are =
-                subst
-                (λ (l : List Node). AreTurns k d c.turns._turn before l total c.args.keep.now
-                c.turns.keep) c.in-Some.ensures.items are;
-            fails = c.in_err-visited.ensures.visit;
-          });
-    }
+          (λ (l : List Node). AreTurns k d c.turns._turn before l total c.args.keep.now
+          c.turns.keep) c.in-Some.ensures.items are;
+      fails = c.in_err-visited.ensures.visit;
+    })
 
 pub turns-preserved : goal.turns-preserved
 turns-preserved g c =
@@ -92,18 +94,24 @@ turns-preserved g c =
             ∙ capped_add total number,
       );
       within = let below = c.turns-test.true in omega (arith, below);
+      counted = λ reach few.
+          let told = uncapped c.saturating_add-written.result (c.turns.written + number)
+          c.saturating_add-written.ensures few in
+          let sofar = c.turns.invariant.counted reach (omega (arith, told, few)) in
+          let visit = c.in_ok-visited.ensures.counted reach in
+          let popped = ap length c.in-Some.ensures.items
+          ∙ length_push c.pop.new.self.items c.in-Some.above in
+          omega (arith, told, sofar, visit, popped);
     }
 
-pub returns : goal.returns
-returns g c =
+pub returns-clause-turns : goal.returns-clause-turns
+returns-clause-turns g c =
     let (total, are, is) = c.turns.invariant.sofar in
     record {
-      turns = record {
-        turns = c.turns._turn;
-        total = total;
-        are = are;
-        counted = is;
-        bounded = c.turns.invariant.within;
-        ends = inr (let below = c.turns-test.false in omega (arith, below));
-      };
+      turns = c.turns._turn;
+      total = total;
+      are = are;
+      counted = is;
+      bounded = c.turns.invariant.within;
+      ends = inr (let below = c.turns-test.false in omega (arith, below));
     }

@@ -25,5 +25,5 @@ returns g c = record {
   swept =
       sweeps_from g.K.Keep g.met.K.Keep.laws c.args.which c.in_ok-root.root c.args.keep.now
       c.root.new.self c.carry_down.new.keep c.carry_down.result c.in_ok-root.ensures.read
-      c.carry_down.ensures;
+      c.carry_down.ensures.descends;
 }

@@ -17,6 +17,7 @@ children-init g c = record {
       gathering_begins g.K.Keep g.met.K.Keep.laws c.args.descent.now above c.args.children.items
       c.args.waiting.now.items c.args.outdated.now c.args.keep.now;
   few = omega arith;
+  counted = λ _. omega arith;
 }
 
 pub returns-in_err-gather_next-clause-gathered : goal.returns-in_err-gather_next-clause-gathered
@@ -83,6 +84,10 @@ children-preserved g c = record {
       let few = c.children.invariant.few in
       let one = c.in_ok-gather_next.ensures.one in
       omega (arith, pushed, few, one);
+  counted = λ reach.
+      let sofar = c.children.invariant.counted reach in
+      let now = c.in_ok-gather_next.ensures.counted reach in
+      omega (arith, sofar, now);
 }
 
 pub returns-clause-gathered : goal.returns-clause-gathered

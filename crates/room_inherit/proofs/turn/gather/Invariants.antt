@@ -1,7 +1,8 @@
-use Rattle.std.proofs.Common.{◌+◌, ◌≤◌, length, drop}
+use Rattle.std.proofs.Common.{◌≡◌, ◌+◌, ◌*◌, ◌≤◌, length, drop}
 use Rattle.room_rows.specs.declared.node.Node.{Node}
 use Rattle.room_rows.specs.Held.{held_of}
 use Rattle.room_inherit.specs.Turn.{IsPassed, count_of}
+use Rattle.room_inherit.specs.declared.descent.Reach.TheVariants.{Renewed}
 use Rattle.room_inherit.proofs.Gathered.{Gathering}
 use Rattle.room_inherit.proofs.turn.gather.Given as goal
 
@@ -14,4 +15,7 @@ invariant-children g l =
           l.fn.waiting.items l.fn.outdated (drop (length l.yielded) l.fn.children.items)
           l.waiting.items l.outdated l.fn.keep l.keep;
       few : count_of l.outdated ≤ count_of l.fn.outdated + length l.yielded;
+      counted : l.descent.reach ≡ Renewed
+          → g.K.Keep.reads l.keep + length l.waiting.items + 2 * count_of l.fn.outdated
+          ≤ g.K.Keep.reads l.fn.keep + length l.fn.waiting.items + 2 * count_of l.outdated;
     }

@@ -10,27 +10,34 @@ pub places-init : goal.places-init
 places-init g c =
     let m = g.met.K.Keep in
     let checked = c.args.checked.now in
-    then m.laws (none_done m.laws c.args.keep.now) (none_done m.laws c.args.keep.now)
-    (λ old mid new same again.
-    notes_none c.args.asker.now checked.granted (found_site checked.path.now checked.found.now)
-    checked.bits c.as_slice-place-items.result.now old new (again ∙ same))
+    record {
+      few = omega arith;
+      done =
+          then m.laws (none_done m.laws c.args.keep.now) (none_done m.laws c.args.keep.now)
+          (λ old mid new same again.
+          notes_none c.args.asker.now checked.granted
+          (found_site checked.path.now checked.found.now) checked.bits
+          c.as_slice-place-items.result.now old new (again ∙ same));
+    }
 
 pub returns-in_err-row : goal.returns-in_err-row
 returns-in_err-row g c =
     let m = g.met.K.Keep in
     record {
       done =
-          memory m.laws c.places.invariant c.from_residual-in_err-row.result
+          memory m.laws c.places.invariant.done c.from_residual-in_err-row.result
           c.from_residual-in_err-row.ensures.1;
+      counted = c.places.invariant.few;
     }
 
 pub returns-in_err-note : goal.returns-in_err-note
 returns-in_err-note g c =
     let m = g.met.K.Keep in
     record {
-      done = fails m.laws c.places.invariant (of_write c.in_err-note.ensures.written)
+      done = fails m.laws c.places.invariant.done (of_write c.in_err-note.ensures.written)
           (λ old mid at sofar never. never) c.from_residual-in_err-note.result
           c.from_residual-in_err-note.ensures.1;
+      counted = omega (arith, c.places.invariant.few, c.in_err-note.ensures.unread);
     }
 
 pub places-preserved : goal.places-preserved
@@ -44,13 +51,17 @@ places-preserved g c =
     checked.granted) c.full.ensures in
     let site = found_site checked.path.now checked.found.now in
     let places = c.as_slice-place-items.result.now in
-    then m.laws c.places.invariant
-    (done (of_note c.in_ok-row.row (note_placed asker checked.granted site checked.bits places
-    c.places.place-index c.in_ok-row.row c.places-test.true c.in_ok-row.ensures are)
-    c.in_ok-note.ensures.written))
-    (λ old now next sofar more.
-    notes_one asker checked.granted site checked.bits places c.places.place-index c.in_ok-row.row
-    old now next c.places-test.true c.in_ok-row.ensures sofar more)
+    record {
+      few = omega (arith, c.places.invariant.few, c.in_ok-note.ensures.unread);
+      done =
+          then m.laws c.places.invariant.done
+          (done (of_note c.in_ok-row.row (note_placed asker checked.granted site checked.bits places
+          c.places.place-index c.in_ok-row.row c.places-test.true c.in_ok-row.ensures are)
+          c.in_ok-note.ensures.written))
+          (λ old now next sofar more.
+          notes_one asker checked.granted site checked.bits places c.places.place-index
+          c.in_ok-row.row old now next c.places-test.true c.in_ok-row.ensures sofar more);
+    }
 
 pub returns : goal.returns
 returns g c =
@@ -64,8 +75,9 @@ returns g c =
     (λ (es : List Ace). events_of es asker.caller checked.found.now.node.owners checked.bits
     checked.granted) c.full.ensures in
     record {
-      done = finish m.laws tt c.places.invariant (λ old new known sofar.
+      done = finish m.laws tt c.places.invariant.done (λ old new known sofar.
           notes_all asker checked.granted (found_site checked.path.now checked.found.now)
           checked.bits c.as_slice-place-items.result.now c.places.place-index old new full are
           sofar);
+      counted = c.places.invariant.few;
     }

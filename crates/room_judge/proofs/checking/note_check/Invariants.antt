@@ -1,4 +1,4 @@
-use Rattle.std.proofs.Common.{take}
+use Rattle.std.proofs.Common.{◌≤◌, take}
 use Rattle.room_judge.specs.Stored.{found_site}
 use Rattle.room_judge.specs.Extent.{OnlyRecords}
 use Rattle.room_judge.proofs.Calls.{HasDone}
@@ -9,6 +9,9 @@ use Rattle.room_judge.proofs.checking.note_check.Given as goal
 abbrev pub invariant-places : goal.invariant-places
 invariant-places g l =
     let k = g.K.Keep in
-    HasDone k.rows k.writes k.Follows k.IsTrusted OnlyRecords l.fn.keep l.keep
-    (Notes l.asker l.checked.granted (found_site l.checked.path.now l.checked.found.now)
-    l.checked.bits (take l.place-index l.place-items))
+    record {
+      few : k.reads l.keep ≤ k.reads l.fn.keep;
+      done : HasDone k.rows k.writes k.Follows k.IsTrusted OnlyRecords l.fn.keep l.keep
+          (Notes l.asker l.checked.granted (found_site l.checked.path.now l.checked.found.now)
+          l.checked.bits (take l.place-index l.place-items));
+    }

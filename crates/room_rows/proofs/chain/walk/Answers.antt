@@ -36,6 +36,13 @@ returns-in_err-child g c =
           (read_on k.rows k.failures k.writes k.Follows k.IsTrusted m.laws c.args.keep.now
           c.names.keep c.child.new.self _ c.names.invariant.read c.in_err-child.ensures.read));
       some = subst (λ r. IfOk r HasOne) (sym is) tt;
+      counted = omega (
+        arith,
+        c.names.invariant.few,
+        c.in_err-child.ensures.counted,
+        c.names-test.true,
+        ap length c.names-names.ensures,
+      );
     }
 
 pub returns-in_err-push : goal.returns-in_err-push
@@ -56,6 +63,13 @@ returns-in_err-push g c =
           (no_memory k.rows k.failures k.writes k.Follows k.IsTrusted c.args.keep.now
           c.child.new.self all);
       some = subst (λ r. IfOk r HasOne) (sym is) tt;
+      counted = omega (
+        arith,
+        c.names.invariant.few,
+        c.in_ok-child.ensures.counted,
+        c.names-test.true,
+        ap length c.names-names.ensures,
+      );
     }
 
 pub returns-in-None : goal.returns-in-None
@@ -94,6 +108,13 @@ returns-in-None g c =
           subst HasOne (sym c.walked.ensures)
           (subst (λ (l : List Node). 0 < length l) (sym c.in_ok-push.ensures.ok)
           (one_in c.names.chain c.names.node));
+      counted = omega (
+        arith,
+        c.names.invariant.few,
+        c.in_ok-child.ensures.counted,
+        c.names-test.true,
+        ap length c.names-names.ensures,
+      );
     }
 
 pub names-preserved : goal.names-preserved
@@ -104,6 +125,7 @@ names-preserved g c =
     read_on k.rows k.failures k.writes k.Follows k.IsTrusted m.laws c.args.keep.now c.names.keep
     c.child.new.self _ c.names.invariant.read c.in_ok-child.ensures.read in
     record {
+      few = omega (arith, c.names.invariant.few, c.in_ok-child.ensures.counted);
       read =
           seen k.rows k.failures k.writes k.Follows k.IsTrusted c.args.keep.now c.child.new.self _
           on;

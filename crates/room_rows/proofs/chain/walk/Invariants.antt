@@ -1,4 +1,4 @@
-use Rattle.std.proofs.Common.{◌≡◌, drop}
+use Rattle.std.proofs.Common.{◌≡◌, ◌+◌, ◌≤◌, drop}
 use Rattle.room_rows.specs.Along.{after_chain}
 use Rattle.room_rows.specs.Rooted.{HasRoot}
 use Rattle.room_rows.specs.Walk.{walk_of, walk_from}
@@ -10,6 +10,7 @@ abbrev pub invariant-names : goal.invariant-names
 invariant-names g l =
     let k = g.K.Keep in
     record {
+      few : k.reads l.keep ≤ k.reads l.fn.keep + (l.index + 1);
       read : HasRead k.rows k.failures k.writes k.Follows k.IsTrusted l.fn.keep l.keep;
       rooted : k.IsTrusted l.fn.keep l.keep → HasRoot (k.rows l.fn.keep);
       along : k.IsTrusted l.fn.keep l.keep

@@ -12,6 +12,7 @@ pub names-init : goal.names-init
 names-init g c =
     let m = g.met.K.Keep in
     record {
+      counted = omega arith;
       same_keep = refl;
       same_asker = refl;
       done = record {
@@ -30,6 +31,8 @@ returns-in_err-node g c =
     let path = c.args.path.now in
     let from : Found = record { node = c.names.node; depth = c.names.index } in
     record {
+      counted = omega
+          (arith, c.names.invariant.counted, c.in_err-node.ensures.counted, c.names-test.true);
       same_keep = c.in_err-node.ensures.same_keep ∙ c.names.invariant.same_keep;
       same_asker = c.in_err-node.ensures.same_asker ∙ c.names.invariant.same_asker;
       done =
@@ -51,6 +54,7 @@ names-preserved g c =
     let from : Found = record { node = c.names.node; depth = c.names.index } in
     let next = c.in_ok-node.node in
     record {
+      counted = omega (arith, c.names.invariant.counted, c.in_ok-node.ensures.counted);
       same_keep = c.in_ok-node.ensures.same_keep ∙ c.names.invariant.same_keep;
       same_asker = c.in_ok-node.ensures.same_asker ∙ c.names.invariant.same_asker;
       done =
@@ -61,6 +65,10 @@ names-preserved g c =
           (subst (λ (a : Asker). IsStepDown a path from mid (Ok next) new)
           c.names.invariant.same_asker step));
     }
+
+pub returns-clause-counted : goal.returns-clause-counted
+returns-clause-counted g c =
+    omega (arith, c.names.invariant.counted, c.names-test.false, c.names.auto.index-end)
 
 pub returns-clause-done : goal.returns-clause-done
 returns-clause-done g c =

@@ -1,4 +1,4 @@
-use Rattle.std.proofs.Common.{◌≡◌, Some, take}
+use Rattle.std.proofs.Common.{◌≡◌, ◌+◌, ◌≤◌, Some, take}
 use Rattle.room_rows.specs.Content.{root_of}
 use Rattle.room_judge.specs.Extent.{OnlyRecords}
 use Rattle.room_judge.proofs.Calls.{HasDone}
@@ -10,6 +10,7 @@ abbrev pub invariant-names : goal.invariant-names
 invariant-names g l =
     let k = g.K.Keep in
     record {
+      counted : k.reads l.self.keep.now ≤ k.reads l.fn.self.keep.now + l.index;
       same_keep : l.self.keep.ghost_name ≡ l.fn.self.keep.ghost_name;
       same_asker : l.self.asker.now ≡ l.fn.self.asker.now;
       done : HasDone k.rows k.writes k.Follows k.IsTrusted OnlyRecords l.fn.self.keep.now

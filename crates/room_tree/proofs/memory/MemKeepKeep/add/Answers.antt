@@ -28,6 +28,7 @@ returns-in_err-put_new-clause-written c =
     record {
       follows = (
         omega arith,
+        omega arith,
         node_rows k.nodes c.add.new.self k.bodies c.put_new.new.self k.members
             k.notes c.at_number-object.result.0
             (omega (arith, next, same)) c.in_ok-add.ensures.ok c.in_err-put_new.ensures.err,
@@ -54,6 +55,7 @@ returns-clause-written c =
     record {
       follows = (
         omega arith,
+        c.count_one.ensures.no_less,
         added_rows k.nodes c.add.new.self k.bodies c.put_new.new.self k.members
             k.notes c.in-Some.id c.args.node (omega (arith, next)) puts fills,
       );

@@ -9,6 +9,7 @@ returns-then-not-was_there-clause-written c =
     record {
       follows = (
         c.failed.ensures.no_less,
+        omega arith,
         gone_rows k.nodes c.take.new.self k.bodies c.take-2.new.self k.members k.notes c.args.id
             c.in_ok-was_there.ensures.ok c.take-2.ensures,
       );
@@ -26,6 +27,7 @@ returns-clause-written c =
     record {
       follows = (
         omega arith,
+        c.count_one.ensures.no_less,
         gone_rows k.nodes c.take.new.self k.bodies c.take-2.new.self k.members
             k.notes c.args.id c.in_ok-was_there.ensures.ok c.take-2.ensures,
       );

@@ -14,6 +14,7 @@ returns-clause-written c =
     record {
       follows = (
         omega arith,
+        c.count_one.ensures.no_less,
         filled_rows k.nodes k.bodies c.put.new.self k.members k.notes c.args.id
             c.args.bytes.now (sym c.has_document.ensures ∙ c.if-not-has_document.false) fills,
       );

@@ -20,6 +20,7 @@ returns-clause-written c =
     record {
       follows = (
         omega arith,
+        c.count_one.ensures.no_less,
         keeps_rows k.nodes c.replace.new.self k.bodies k.members k.notes c.args.id c.in-Some.node
             c.in_ok-held_changed.field-0 found
             (ap (λ n. n.id) is ∙ with_held-id c.args.which c.args.held.now c.in-Some.node)

@@ -19,6 +19,7 @@ returns-clause-written c =
     record {
       follows = (
         omega arith,
+        c.count_one.ensures.no_less,
         keeps_rows k.nodes c.replace.new.self k.bodies k.members k.notes c.args.id c.in-Some.node
             c.in_ok-owners_changed.field-0 found (ap (λ n. n.id) is) c.replace.ensures,
       );

@@ -21,6 +21,7 @@ returns-clause-written c =
     record {
       follows = (
         omega arith,
+        c.count_one.ensures.no_less,
         keeps_rows k.nodes c.place.new.self k.bodies k.members k.notes c.args.id
             c.in-Some-2.node c.in_ok-node-2.node found
             (ap (λ n. n.id) is) c.in_ok-place-2.ensures.ok,

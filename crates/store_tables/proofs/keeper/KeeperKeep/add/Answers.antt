@@ -2,6 +2,7 @@ use Rattle.std.proofs.Common.{◌≡◌, ℕ, List, pos, sym, ap, subst, ◌∙�
 use Rattle.sqlite.specs.Held.{state}
 use Rattle.room_entry.specs.Valid.{is_document}
 use Rattle.room_rows.specs.declared.node.Node.{Node}
+use Rattle.room_rows.specs.Counts.{capped_rises}
 use Rattle.room_rows.specs.Keep.{capped, node_of, one_more}
 use Rattle.store_tables.specs.Columns.{ReadsAsNode}
 use Rattle.store_tables.specs.Shown.{GetsBytes}
@@ -16,6 +17,7 @@ returns g c =
     let last = state g.S.Store c.put_bytes-done.new.keeper.tx.now.conn.now in
     let first = c.in_ok-id.ensures in
     let second = c.in_ok-done.ensures in
+    let counted = ap capped (second.unwritten ∙ first.unwritten) in
     record {
       written = record {
         follows = (
@@ -23,10 +25,10 @@ returns g c =
           second.same_lender ∙ first.same_lender,
           stays_on old mid last first.puts.stays second.puts.stays,
           omega (arith, first.puts.no_less, second.puts.no_less),
+          omega (arith, counted, capped_rises _ _ c.count_one.ensures.no_less),
         );
         written =
-            c.count_one.ensures.capped
-            ∙ ap (λ n. one_more (capped n)) (second.unwritten ∙ first.unwritten);
+            c.count_one.ensures.capped ∙ ap one_more counted;
         becomes = λ trust can.
             let one = trusted_first old mid last first.puts.stays second.puts.stays trust in
             let two = trusted_last old mid last first.puts.stays second.puts.stays trust in
@@ -48,6 +50,7 @@ returns g c =
         unfailed = ap capped (second.puts.unfailed ∙ first.puts.unfailed);
         fault = tt;
       };
+      unread = omega arith;
     }
 
 pub returns-in_err-done : goal.returns-in_err-done

@@ -31,6 +31,8 @@ returns g c =
         c.select_bytes.ensures.same_reference,
         asks.stays,
         omega (arith, came.unfailed, c.answer.ensures.no_less),
+        omega arith,
       ) refl (λ trust. ap rows_of (asks.same trust.clean trust.now).0.now_is)
           (ap capped came.unfailed) c.answer.ensures.counted told;
+      counted = omega arith;
     }

@@ -32,8 +32,10 @@ returns g c =
         c.select_under.ensures.same_reference,
         asks.stays,
         omega (arith, came.unfailed, c.answer.ensures.no_less),
+        omega arith,
       ) refl (λ trust. ap rows_of (asks.same trust.clean trust.now).0.now_is)
           (ap capped came.unfailed) c.answer.ensures.counted told;
       whole = λ trust. subst (λ r. IfOk r (SeesEach parent old.now)) is
           (sees_under old.now parent rows (asks.rows trust.clean trust.now));
+      counted = omega arith;
     }

@@ -1,4 +1,4 @@
-use Rattle.std.proofs.Common.{◌≡◌, Ok, refl, ap, subst, ◌∙◌}
+use Rattle.std.proofs.Common.{◌≡◌, Ok, refl, ap, subst, ◌∙◌, arith}
 use Rattle.sqlite.specs.Held.{state}
 use Rattle.room_rows.specs.Keep.{capped}
 use Rattle.store_tables.specs.Meaning.{rows_of}
@@ -21,7 +21,7 @@ returns g c =
     ∙ ap names_seen c.as_slice.ensures.value in
     record {
       read = record {
-        follows = (refl, c.select_groups.ensures.same_reference, asks.stays, came.no_less);
+        follows = (refl, c.select_groups.ensures.same_reference, asks.stays, came.no_less, omega arith);
         unwritten = refl;
         same = λ trust. ap rows_of (asks.same trust.clean trust.now).0.now_is;
         answers =
@@ -33,4 +33,5 @@ returns g c =
         unfailed = ap capped came.unfailed;
         fault = tt;
       };
+      counted = omega arith;
     }

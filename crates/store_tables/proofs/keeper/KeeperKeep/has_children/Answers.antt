@@ -1,4 +1,4 @@
-use Rattle.std.proofs.Common.{Ok, length, not, refl, sym, ap, subst, ◌∙◌, pos}
+use Rattle.std.proofs.Common.{Ok, length, not, refl, sym, ap, subst, ◌∙◌, pos, arith}
 use Rattle.std.specs.Prelude.{◌==◌}
 use Rattle.sqlite.specs.Held.{state}
 use Rattle.room_rows.specs.Keep.{HasChildren, capped}
@@ -21,7 +21,7 @@ returns g c =
     let is = sym (c.is_empty.ensures ∙ ap (λ l. length l == 0) c.as_slice.ensures.value) in
     record {
       read = record {
-        follows = (refl, c.select_some.ensures.same_reference, asks.stays, came.no_less);
+        follows = (refl, c.select_some.ensures.same_reference, asks.stays, came.no_less, omega arith);
         unwritten = refl;
         same = λ trust. ap rows_of (asks.same trust.clean trust.now).0.now_is;
         answers =
@@ -32,4 +32,5 @@ returns g c =
       };
       whole = λ trust. subst (λ b. SeesSome parent old.now (not b)) is
           (sees_some old.now parent rows (asks.rows trust.clean trust.now));
+      counted = omega arith;
     }

@@ -1,7 +1,7 @@
 use Rattle.std.proofs.Common.{ap, arith}
 use Rattle.room_rows.specs.Counts.{capped_rises}
 use Rattle.room_rows.specs.Keep.{capped}
-use Rattle.store_tables.proofs.Changing.{cause_later}
+use Rattle.store_tables.proofs.Changing.{cause_later, writes_rise}
 use Rattle.store_tables.proofs.Tests.{if_ok}
 use Rattle.store_tables.proofs.keeper.KeeperKeep.note.Goals as goal
 
@@ -10,7 +10,13 @@ returns g c =
     let put = c.put_record.ensures in
     record {
       written = record {
-        follows = (put.same_reference, put.same_lender, put.puts.stays, put.puts.no_less);
+        follows = (
+          put.same_reference,
+          put.same_lender,
+          put.puts.stays,
+          put.puts.no_less,
+          writes_rise _ c.put_record.result _ _ put.written,
+        );
         written = put.written;
         becomes =
             λ trust. if_ok c.put_record.result _ _ (λ done noted from_one. noted)
@@ -20,4 +26,5 @@ returns g c =
             cause_later c.put_record.result _ _ _ _ (capped_rises _ _ (omega arith))
             (capped_rises _ _ put.puts.no_less) put.puts.fault;
       };
+      unread = omega arith;
     }

@@ -31,8 +31,10 @@ returns g c =
         c.select_top.ensures.same_reference,
         asks.stays,
         omega (arith, came.unfailed, c.answer_top.ensures.no_less),
+        omega arith,
       ) refl (λ trust. ap rows_of (asks.same trust.clean trust.now).0.now_is)
           (ap capped came.unfailed) c.answer_top.ensures.counted told;
       whole = λ trust. subst (λ r. IfOk r (SeesTop old.now)) is
           (sees_top old.now rows (asks.rows trust.clean trust.now));
+      counted = omega arith;
     }

@@ -1,5 +1,6 @@
-use Rattle.std.proofs.Common.{refl, ap}
+use Rattle.std.proofs.Common.{refl, ap, arith}
 use Rattle.sqlite.specs.Held.{state}
+use Rattle.room_rows.specs.Counts.{capped_rises}
 use Rattle.room_rows.specs.Keep.{capped}
 use Rattle.store_tables.proofs.Filling.{filled_rows}
 use Rattle.store_tables.proofs.Changed.{of_one}
@@ -16,6 +17,7 @@ returns g c =
           c.update_bytes.ensures.same_reference,
           c.update_bytes.ensures.writes.stays,
           c.in_ok-wrote_one.ensures.no_less,
+          capped_rises _ _ c.count_one.ensures.no_less,
         );
         written = c.count_one.ensures.capped;
         becomes = λ trust document.
@@ -25,4 +27,5 @@ returns g c =
         unfailed = ap capped c.in_ok-wrote_one.ensures.unfailed;
         fault = tt;
       };
+      unread = omega arith;
     }

@@ -1,7 +1,7 @@
 use Rattle.std.proofs.Common.{ap, arith}
 use Rattle.room_rows.specs.Counts.{capped_rises}
 use Rattle.room_rows.specs.Keep.{capped}
-use Rattle.store_tables.proofs.Changing.{cause_later}
+use Rattle.store_tables.proofs.Changing.{cause_later, writes_rise}
 use Rattle.store_tables.proofs.Tests.{if_ok}
 use Rattle.store_tables.proofs.keeper.KeeperKeep.set_inh.Goals as goal
 
@@ -10,7 +10,13 @@ returns g c =
     let put = c.put_inh.ensures in
     record {
       written = record {
-        follows = (put.same_reference, put.same_lender, put.puts.stays, put.puts.no_less);
+        follows = (
+          put.same_reference,
+          put.same_lender,
+          put.puts.stays,
+          put.puts.no_less,
+          writes_rise _ c.put_inh.result _ _ put.written,
+        );
         written = put.written;
         becomes = put.puts.becomes;
         unfailed = if_ok c.put_inh.result _ _ (λ done same. ap capped same) put.puts.unfailed;
@@ -18,4 +24,5 @@ returns g c =
             cause_later c.put_inh.result _ _ _ _ (omega arith)
             (capped_rises _ _ put.puts.no_less) put.puts.fault;
       };
+      unread = omega arith;
     }
