@@ -28,7 +28,7 @@ use store_tables::{Keeper, RecentLists};
 
 /// What is asked, and by whom. Without a name that is an anonymous caller.
 #[derive(Drop)]
-pub(crate) struct Asked<'a, 'b> {
+pub(crate) struct RequestBy<'a, 'b> {
     pub(crate) caller: Option<&'a Name>,
     pub(crate) request: &'b Request,
 }
@@ -48,7 +48,7 @@ pub(crate) fn known_of(alloc: Global, kept: Option<Memory>) -> Memory
 fn perform_by<S: Alter>(
     alloc: Global,
     keep: &mut Remembering<'_, Keeper<'_, '_, S>>,
-    asked: &Asked<'_, '_>,
+    asked: &RequestBy<'_, '_>,
     moment: i64,
 ) -> Result<Reply, KeepFault>
     ensures same_keeper { keep.new.keeper.ghost_name ≡ keep.old.keeper.ghost_name }
@@ -85,7 +85,7 @@ fn perform_with<S: Alter>(
     alloc: Global,
     keeper: &mut Keeper<'_, '_, S>,
     known: &mut Memory,
-    asked: &Asked<'_, '_>,
+    asked: &RequestBy<'_, '_>,
     moment: i64,
 ) -> (Result<Reply, KeepFault>, bool)
     ensures same_reference { keeper.new.tx.ghost_name ≡ keeper.old.tx.ghost_name }
@@ -119,7 +119,7 @@ pub(crate) fn perform_inside<S: Alter>(
     tx: &mut Transaction<'_, S>,
     lists: &mut RecentLists,
     known: &mut Memory,
-    asked: &Asked<'_, '_>,
+    asked: &RequestBy<'_, '_>,
     moment: i64,
 ) -> (Result<Reply, KeepFault>, bool)
     ensures same_reference { tx.new.conn.ghost_name ≡ tx.old.conn.ghost_name }

@@ -32,7 +32,7 @@ use crate::laws::what_is_committed_lasts;
 use crate::look::{give_up, if_open, test_shut};
 use crate::resetting::reset_inside;
 use crate::reviewing::review_inside;
-use crate::running::{Asked, end_look, known_of, perform_inside};
+use crate::running::{RequestBy, end_look, known_of, perform_inside};
 use crate::turn::{begin, finish};
 use crate::verifying::verify_inside;
 use room_ace::{Name, SentList, Which};
@@ -130,7 +130,7 @@ impl<S: Alter> Store<S> {
     {
         let mut memory = known_of(alloc, self.memory.take());
         let mut tx = begin(&mut self.conn);
-        let asked = Asked { caller, request };
+        let asked = RequestBy { caller, request };
         let (done, only_read) = perform_inside(
             alloc,
             &mut tx,
