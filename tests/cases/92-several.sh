@@ -87,6 +87,20 @@ same 'titles are changed in the settings' got wanted
 installs
 says 'and once' 0 'nothing to change'
 
+# The backups of a further room are on the disk that those of office are on.
+sed -i 's#^BACKUPS=.*#BACKUPS=/disk/rooms/#' machine/etc/rooms/office.conf
+refuses 'a disk that is not there' 'no folder: /disk/rooms/, of BACKUPS in /etc/rooms/office.conf' onward
+mkdir -p machine/disk/rooms
+adds onward
+says 'backups elsewhere' 0 'folder /disk/rooms/onward'
+holds 'are in the settings' [ "$(value onward BACKUPS)" = /disk/rooms/onward ]
+holds 'in a folder of root' [ -n "$(find machine/disk/rooms/onward -perm 700)" ]
+adds --remove onward
+says 'it goes' 0 'kept /disk/rooms/onward'
+sed -i 's#^BACKUPS=.*#BACKUPS=rooms#' machine/etc/rooms/office.conf
+refuses 'no path' 'bad settings: BACKUPS' onward
+sed -i 's#^BACKUPS=.*#BACKUPS=/var/backups/rooms#' machine/etc/rooms/office.conf
+
 # The settings are those of the scripts and of systemd: names, '=' and values alone.
 for room in office invoices hr; do
   grep -vE '^(#|$)' "machine/etc/rooms/$room.conf" | sed 's/=.*//' | tr '\n' ' ' >got
