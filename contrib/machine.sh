@@ -259,6 +259,10 @@ put_back() { # NAME
   if [[ $1 = etc/nginx/*.htpasswd ]] && getent group www-data >/dev/null && [ "$(id -u)" = 0 ]; then
     chgrp www-data "$unfinished" && chmod 640 "$unfinished" || return
   fi
+  # The key that Apache checks tickets with (docs/directory.md).
+  if [[ $1 = etc/rooms/*.keytab ]] && getent passwd www-data >/dev/null && [ "$(id -u)" = 0 ]; then
+    chown www-data:www-data "$unfinished" || return
+  fi
   { [ -L "$unfinished" ] || sync "$unfinished"; } && mv -fT "$unfinished" "$target"
 }
 
@@ -301,16 +305,18 @@ tell_changes() {
 }
 
 tell_rest() {
-  local conf units
+  local conf
   echo "to go back: rooms-restore --machine $before"
   [ ! -e machine/added ] || return 0
-  units=$(tr '\n' ' ' <machine/enabled 2>/dev/null)
+  ! grep -qhE '^etc/nginx/.*\.htpasswd$' "$private/added" "$private/changed" ||
+    echo "Passwords are those of $(sed -n 's/^date //p' machine/about): take away again what was taken away since"
   echo 'What is left, where this is a new machine (docs/backup.md):'
   for conf in "$root"/etc/rooms/*.conf; do
     [ ! -e "$conf" ] || echo "  rooms-restore --conf ${conf#"$root"} latest"
   done
   echo '  systemctl daemon-reload; nginx -t && systemctl reload-or-restart nginx'
-  [ -z "$units" ] || echo "  systemctl enable --now ${units% }"
+  # One after the other, since systemctl refuses all of them where one isn't there.
+  sed 's/^/  systemctl enable --now /' machine/enabled 2>/dev/null
 }
 
 # Each room's scripts and rooms-add hold one of these files.

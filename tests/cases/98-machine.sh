@@ -52,6 +52,8 @@ printf 'ssl_certificate /etc/ssl/rooms.pem;\nssl_certificate_key /etc/ssl/privat
 echo '0 1 * * * root rooms-export' >old/etc/cron.d/rooms
 echo mine >old/etc/hostname
 echo older >old/etc/rooms/office.conf.old
+echo key >old/etc/rooms/kerberos.keytab
+chmod 400 old/etc/rooms/kerberos.keytab
 
 # A job of at, as people.md makes it.
 mkdir bin
@@ -63,13 +65,14 @@ holds 'it is kept' [ "$status" = 0 -a ! -s "$work/err" ]
 tar -tf machine.tar | grep -v '^etc/nginx/snippets' >got
 printf '%s\n' etc/nginx/conf.d/rooms-remember.conf etc/nginx/rooms-invoices.htpasswd etc/nginx/rooms.d/invoices.path \
   etc/nginx/rooms.d/start.html etc/nginx/rooms.htpasswd etc/nginx/sites-available/rooms etc/nginx/sites-available/rooms-tls \
-  etc/nginx/sites-enabled/rooms etc/rooms/invoices.conf etc/rooms/office.conf etc/ssl/private/rooms.key etc/ssl/rooms.pem \
+  etc/nginx/sites-enabled/rooms etc/rooms/invoices.conf etc/rooms/kerberos.keytab etc/rooms/office.conf etc/ssl/private/rooms.key etc/ssl/rooms.pem \
   etc/systemd/system/rooms@office.service.d/override.conf machine/about machine/certificates machine/enabled >wanted
 same 'what is kept' got wanted
 tar -xOf machine.tar machine/enabled >got
 printf '%s\n' rooms-nightly@office.timer rooms@office.service >wanted
 same 'which units were enabled' got wanted
 tar -xOf machine.tar machine/about >got
+cp got got.about
 holds 'of which version it is' [ "$(head -n 1 got)" = "rooms $("$rooms" --version 2>&1 </dev/null | sed 's/^rooms //')" ]
 holds 'what is to be made again: cron' grep -q 'rooms-export$' got
 holds 'at, with its time' grep -q '^at 7.*Jan 31 18:00:00 2027' got
@@ -110,7 +113,14 @@ same 'is not done' after before
 brings new 2026-11-21.030000
 says 'a machine' 0 'file /etc/rooms/invoices.conf'
 says 'what is left: a room' 0 '  rooms-restore --conf /etc/rooms/invoices.conf latest'
-says 'what is left: the units' 0 '  systemctl enable --now rooms-nightly@office.timer rooms@office.service'
+says 'what is left: a unit' 0 '  systemctl enable --now rooms-nightly@office.timer'
+says 'and one that may be started without it' 0 '  systemctl enable --now rooms@office.service'
+says 'what was taken away is back' 0 "Passwords are those of $(sed -n 's/^date //p' got.about): take away again"
+if [ "$(id -u)" = 0 ] && getent passwd www-data >/dev/null; then
+  holds 'the key for tickets belongs to who uses it' [ "$(stat -c '%U %a' new/etc/rooms/kerberos.keytab)" = 'www-data 400' ]
+else
+  skip 'the key for tickets' 'no root, or no user www-data'
+fi
 cp -Rp old wanted.old
 rm -r wanted.old/etc/{hostname,cron.d,rooms/office.conf.old} wanted.old/etc/systemd/system/*.wants
 etc wanted.old >wanted
