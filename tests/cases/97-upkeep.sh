@@ -361,6 +361,32 @@ setting BACKUPS "$PWD/not-mounted"
 night
 refused 'no folder of backups' 'no folder'
 cp kept conf
+# A mount point is a folder even so. The case has no disk: what is mounted here is the root alone.
+for place in . ..; do
+  echo "UUID=none $(realpath "backups/$place") ext4 nofail 0 2" >root/etc/fstab
+  night
+  refused "a disk that isn't mounted at backups/$place" 'not mounted: '
+  holds 'nothing is written there' [ -z "$(backups)" ]
+done
+mkdir 'a disk' 'a disk/rooms'
+setting BACKUPS "$PWD/a disk/rooms"
+echo "LABEL=none $PWD/a\\040disk ext4 nofail 0 2" >root/etc/fstab
+night
+refused 'a disk with a blank in its place' "not mounted: $PWD/a disk, which /etc/fstab has"
+if mount -t tmpfs none 'a disk' 2>/dev/null; then
+  mkdir 'a disk/rooms'
+  night
+  holds 'a disk that is mounted' [ "$status" = 0 ]
+  umount 'a disk'
+else
+  skip 'a disk that is mounted' 'no leave to mount'
+fi
+cp kept conf
+printf '%s\n' "# /dev/none $PWD/backups ext4 noauto 0 0" 'proc /proc proc defaults 0 0' '/dev/none / ext4 defaults 0 1' "/dev/none $PWD/backups-too ext4 noauto 0 0" \
+  '/dev/none none swap sw 0 0' >root/etc/fstab
+night
+holds 'disks that have nothing to do with it' [ "$status" = 0 ]
+rm root/etc/fstab
 script rooms-nightly "$PWD/nothing"
 refused 'no settings' 'no settings'
 script rooms-nightly --other
