@@ -362,11 +362,12 @@ night
 refused 'no folder of backups' 'no folder'
 cp kept conf
 # A mount point is a folder even so. The case has no disk: what is mounted here is the root alone.
+before=$(backups)
 for place in . ..; do
   echo "UUID=none $(realpath "backups/$place") ext4 nofail 0 2" >root/etc/fstab
   night
   refused "a disk that isn't mounted at backups/$place" 'not mounted: '
-  holds 'nothing is written there' [ -z "$(backups)" ]
+  holds 'nothing is written there' [ "$(backups)" = "$before" ]
 done
 mkdir 'a disk' 'a disk/rooms'
 setting BACKUPS "$PWD/a disk/rooms"
