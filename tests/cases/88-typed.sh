@@ -332,7 +332,8 @@ asks_as 200 alice GET /folder/letters
 block_of README tools/build >>typed
 block_of README .ci/run >>typed
 # Blocks of a new machine, and of what is copied for it: 94-new-machine pastes them.
-for text in './rooms_' 'cp -a /mnt' 'do rooms-restore' reload-or-restart machine/about 'openssl rand' 'restore latest' 'rsync -a'; do
+for text in './rooms_' 'cp -a /mnt' 'do rooms-restore' reload-or-restart machine/about 'rooms-offsite <<' 'openssl rand' \
+  'restore latest' 'mkdir -m 700 /mnt' 'head -n -90' ssh-keygen useradd; do
   block_of docs/backup "$text"
 done >>typed
 find blocks -type f | sort >wanted
