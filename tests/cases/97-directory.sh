@@ -64,6 +64,13 @@ has_members() { # NAME PAIR ..
   same "$1" got wanted
 }
 was_stopped() { grep -q ' systemctl stop' "$stand/steps"; }
+back_up() { # DATE: a backup of the room as it is
+  unit stop
+  mkdir "backups/$1"
+  as_user "$rooms" dump "$PWD/office/F" >"backups/$1/lists.txt"
+  cp office/F* "backups/$1"
+  unit start
+}
 prints() { # NAME LINE ..: on standard output
   printf '%s\n' "${@:2}" >wanted
   same "$1" "$work/out" wanted
@@ -87,6 +94,7 @@ brings
 says 'the same again' 0 ''
 holds 'says only who is left out' [ ! -s "$work/out" ]
 holds 'and does not stop the server' eval '! was_stopped'
+holds 'and sends no message' [ ! -s "$stand/messages" ]
 
 rm backups/.directory.csv
 brings --dry-run
@@ -107,10 +115,45 @@ says 'what would change' 0 ''
 prints 'is printed' '+ sales,carol' '+ staff,carol' '- staff,alice'
 holds 'without a stop' eval '! was_stopped'
 has_members 'and is not done' "${all[@]}"
+back_up 2020-01-01.030000
 brings
 says 'what changes' 0 'groups 5, members 9'
 all=(bureau,carol hr,carol own,erin sales,bob sales,carol sales,dana staff,bob staff,carol staff,dana)
 has_members 'is done' "${all[@]}"
+
+# A restore brings back who has left. A later backup doesn't know of it, so a run looks into the room, and the next one needn't.
+back_up 2020-01-02.030000
+unit stop
+script rooms-restore --conf "$PWD/office.conf" 2020-01-01.030000
+says 'a restore' 0 'restored '
+unit start
+brings --dry-run
+says 'a look after it' 0 'compared with the backup 2020-01-02.030000: this file of the room is new'
+brings
+says 'a run after it' 0 'groups 5, members 9'
+prints 'takes away who has left' '+ sales,carol' '+ staff,carol' '- staff,alice'
+holds 'for which the server was stopped' was_stopped
+unit_runs 'the server runs after that'
+has_members 'the directory counts after a restore' "${all[@]}"
+brings
+holds 'and the next run has nothing to do' [ "$status" = 0 -a ! -s "$work/out" ]
+holds 'for which it stops nothing' eval '! was_stopped'
+# What is refused after a restore is read from the room once.
+unit stop
+script rooms-restore --conf "$PWD/office.conf" "$PWD/backups/2020-01-01.030000"
+says 'another restore' 0 'restored '
+unit start
+asked 'MOST=0' 'group staff = staff'
+brings
+says 'too much after a restore' 2 'too much: 1 pairs would go'
+holds 'is read from the room' was_stopped
+brings
+says 'is refused again' 2 'too much: 1 pairs would go'
+holds 'without another stop' eval '! was_stopped'
+asked 'MOST=1' 'group staff = staff' "group sales = $(group_dn sales)" 'group bureau = büro' 'group hr = Human Resources'
+brings
+says 'and then done' 0 'groups 5, members 9'
+rm -r office/before-restore.* backups/2020*
 
 # What somebody has changed by hand is seen when a backup is newer.
 printf '%s\n' group,user own,erin sales,zoe >members.csv
@@ -126,6 +169,28 @@ brings
 says 'and is, after a night' 0 'groups 5, members 9'
 rm -r backups/2099*
 has_members 'the directory counts' "${all[@]}"
+
+# Who would be somebody else in the room, since the directory spells the name in another way.
+brings --names
+says 'names without a backup' 2 'no backup yet'
+cp members.csv members.before
+printf '%s\n' group,user Carol,bob own,erin staff,DANA >members.csv
+unit stop
+as_user "$rooms" groups-out "$PWD/office/F" >got
+as_user "$rooms" groups "$PWD/office/F" "$PWD/members.csv" >/dev/null
+printf '%s\n' list:a D:fd:BOB:r A:fdg:CAROL:rx A:fd:ERIN:rx A::EVERYONE@:x | as_user "$rooms" reset "$PWD/office/F" / dacl >/dev/null
+back_up 2020-01-01.030000
+printf '%s\n' 'document Alice Bob 5 /Carol' dacl list:a sacl list:a >>backups/2020-01-01.030000/lists.txt
+unit stop
+cp got members.csv
+as_user "$rooms" groups "$PWD/office/F" "$PWD/members.csv" >/dev/null
+unit start
+brings --names
+says 'names' 0 ''
+prints 'in other capitals' 'Alice: the directory has alice' 'BOB: the directory has bob' 'DANA: the directory has dana'
+holds 'without a stop' eval '! was_stopped'
+rm -r backups/2020*
+mv members.before members.csv
 
 # memberOf, and groups of names alone.
 touch_groups
@@ -145,12 +210,21 @@ unchanged() { # NAME STATUS TEXT
   unit_runs "$1: the server runs"
   holds "$1: it was not stopped" eval '! was_stopped'
   holds "$1: nothing is owed" [ -z "$(ls run)" ]
+  holds "$1: there is a mail" grep -q '^mail -s rooms on .*: groups of the directory failed root$' "$stand/messages"
+  holds "$1: which says so" grep -qF -e "$3" "$stand/messages"
 }
 members_before() { stopped; cp got before; }
 members_before
 asked 'group staff = nothere'
 brings
 unchanged 'a group that is not there' 2 "no group: the directory has 0 groups 'nothere'"
+brings --dry-run
+says 'a look' 2 "no group: the directory has 0 groups 'nothere'"
+holds 'is no mail' [ ! -s "$stand/messages" ]
+echo mail >"$stand/no-tool"
+brings
+rm "$stand/no-tool"
+holds 'without mail it is in the log' grep -qF -e "logger -p daemon.err -t rooms-directory -- no group: the directory has 0 groups 'nothere'" "$stand/messages"
 asked "group staff = $(group_dn nothere)"
 brings
 unchanged 'a DN that is not there' 2 'no group: the directory has no'
@@ -210,7 +284,7 @@ brings
 unchanged 'a directory that is down' 1 "Can't contact LDAP server"
 start_directory
 where >directory
-for words in '--other' '--after --dry-run' 'a b'; do
+for words in '--other' '--after --dry-run' '--names --force' '--names --after' 'a b'; do
   # shellcheck disable=SC2086
   script rooms-directory $words
   says "the words '$words'" 2 'bad words'
@@ -238,9 +312,11 @@ unit_runs 'members that can not be read: the server runs'
 : >"$stand/no-start"
 brings
 says 'a server that does not start' 1 "doesn't start"
+holds 'is in a mail' grep -qF -e "rooms doesn't start" "$stand/messages"
 rm "$stand/no-start"
 script rooms-directory --after "$PWD/office.conf"
 says 'is started after it' 1 'interrupted'
+holds 'which is in a mail' grep -qF -e 'interrupted: a run that had stopped rooms was cut off' "$stand/messages"
 unit_runs 'a second start'
 unit stop
 asked 'group staff = staff'
