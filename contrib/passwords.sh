@@ -88,6 +88,7 @@ drop_directory() {
       "$dest$server_file" >"$made/server" || fail "$made/server can't be written"
     put "$made/server" "$server_file" 644 always
   fi
+  drop_others
   run_passwords stop
 }
 
@@ -111,6 +112,19 @@ run_passwords() { # restart, or stop
     { systemctl daemon-reload && systemctl enable "$unit.service" && systemctl restart "$unit"; } ||
       fail "$unit doesn't start: systemctl status $unit"
   fi
+}
+
+# Further rooms that were told to ask the directory: nobody would get in any more.
+drop_others() {
+  local file
+  for file in "$dest"/etc/nginx/rooms.d/*.{path,host}; do
+    grep -qs 'auth_request /password/' "$file" || continue
+    sed 's#^\( *\)auth_request /password/rooms-\(.*\);#\1auth_request off;\
+\1auth_basic "\2";\
+\1auth_basic_user_file /etc/nginx/rooms-\2.htpasswd;#' "$file" >"$made/room" ||
+      fail "$made/room can't be written"
+    put "$made/room" "${file#"$dest"}" 644 always
+  done
 }
 
 # Rooms with files of their own in rooms.d keep their own passwords.

@@ -61,9 +61,16 @@ echo 'WAIT=5' >>settings
 installs --directory "$PWD/settings"
 says 'other settings' 0 'new /etc/rooms/directory, the old one is'
 cp -Rp machine kept
+# A further room was told to ask the directory too.
+cp machine/etc/nginx/rooms.d/invoices.path room.before
+block docs/directory.md rooms.d/invoices.path | sed -e "s#/etc/nginx/rooms.d#$PWD/machine&#" -e '/^nginx -t/d' >pasted
+bash -eu pasted
+holds 'a further room asks it' grep -qxF '    auth_request /password/rooms-invoices;' machine/etc/nginx/rooms.d/invoices.path
 installs --directory none
 says 'none' 0 'link /etc/nginx/conf.d/rooms-remember.conf is removed'
+says 'none for a further room' 0 'new /etc/nginx/rooms.d/invoices.path'
 same 'the site asks its file again' machine/etc/nginx/snippets/rooms-server.conf server.before
+same 'and a further room its own' machine/etc/nginx/rooms.d/invoices.path room.before
 rm -rf machine
 mv kept machine
 
