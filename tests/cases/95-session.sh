@@ -94,6 +94,22 @@ ask 'the start page asks for none' 404 - '' /rooms/
 ask 'nobody asks for a check from outside' 404 - '' /rooms/session/rooms -b alice
 ask 'nor with another end' 404 - '' /rooms/session/ -b alice
 
+# A further room at a path keeps its own passwords: nobody is led to the provider from there.
+sed -e 's/@NAME@/invoices/g' -e "s/@PORT@/$port/" "$contrib/room/path" >invoices
+for_here invoices >rooms.d/invoices.path
+printf 'Carol:{PLAIN}c\n' >rooms-invoices.htpasswd
+chmod 644 rooms-invoices.htpasswd
+reloaded reaches 200 -u Carol:c /invoices/me
+for jar in none alice; do
+  for way in /invoices/ /invoices/folder/; do
+    holds "$way asks a browser with the session of $jar" reaches 401 -b "$jar" "${browser[@]}" "$way"
+    holds "for a password of its own, $jar" grep -q '^WWW-Authenticate: Basic realm="invoices"' "$work/head"
+  done
+done
+holds 'which counts' reaches 200 -u Carol:c "${browser[@]}" /invoices/me
+holds 'with the name that it has there' grep -qx $'Room-User: Carol\r' "$work/head"
+holds 'and not in the room office' reaches 302 -u Carol:c "${browser[@]}" /doc/f
+
 # In a browser: whoever opens the site signs in on the way, and sees the web interface.
 chromium=$(command -v chromium || command -v chromium-browser)
 if [ -n "$chromium" ]; then
