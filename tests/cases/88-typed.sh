@@ -259,7 +259,8 @@ answers_as() { # NAME STATUS: what alice gets with the password of nginx's own f
   holds "$1: $(<"$work/out")" [ "$(<"$work/out")" = "$2" ]
 }
 types 'where it is' docs/directory 'ldap-utils' docs/directory URI=
-types 'passwords' docs/directory 'rooms-setup --directory /etc'
+does 'the password that was asked for' '[ "$(cat /etc/rooms/directory.secret)" = typed ] && [ "$(stat -c %a /etc/rooms/directory.secret)" = 600 ]'
+types 'passwords' docs/directory 'rooms-directory --names' docs/directory 'rooms-setup --directory /etc'
 shows 'are asked there' 'the directory has 2 users' 'file /etc/rooms/directory.apache'
 answers_as 'nothing answers in its place' 503
 types 'of a further room' docs/directory invoices.path docs/directory invoices.apache
