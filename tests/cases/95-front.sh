@@ -69,6 +69,16 @@ for field in 'Sec-Fetch-Site: same-origin' 'Sec-Fetch-Site: none' "Origin: http:
 done
 ask 'one of both is foreign' 403 - alice:a /doc/f -X PUT -H 'Sec-Fetch-Site: same-origin' -H 'Origin: http://elsewhere.example'
 
+# What nginx answers otherwise than the room: docs/http.md, Through nginx.
+ask 'a document before its part is sent' 204 - alice:a /doc/f -X PUT --data-binary 0123456789
+ask 'a part of a document' 400 - alice:a /doc/f -X PUT --data-binary 6789 -H 'Content-Range: bytes 6-9/10'
+ask 'is not put in its place' 200 0123456789 alice:a /doc/f
+ask 'a chunked body' 204 - alice:a /doc/f -X PUT --data-binary chunked -H 'Transfer-Encoding: chunked'
+ask 'and all of it' 200 chunked alice:a /doc/f
+ask 'a client that waits before its body' 204 - alice:a /doc/f -X PUT --data-binary waited -H 'Expect: 100-continue'
+ask 'and its body' 200 waited alice:a /doc/f
+ask 'a target with a scheme and a host' 200 waited alice:a /doc/f --request-target "http://127.0.0.1:$front/doc/f"
+
 # A caller who sends slowly, and one who reads slowly: the others don't wait for them. Both take five seconds.
 truncate -s 1048576 big
 curl -s -o slow.out -w '%{http_code}' --limit-rate 200k -u alice:a -X PUT --data-binary @big -H 'Expect:' "http://127.0.0.1:$front/doc/slow" >slow.status &
