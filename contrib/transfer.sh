@@ -10,12 +10,13 @@ has() { command -v "$1" >/dev/null 2>&1; }
 next='the same command goes on where this one stopped'
 ends_by_500=yes
 
-# Options that both have: takes one from the front of the arguments, and sets `taken` to their number.
-user='' as='' config='' log='' taken=0
+# Options that all have: takes one from the front of the arguments, and sets `taken` to their number.
+user='' as='' config='' log='' without_tls=no taken=0
 take_option() { # ARGUMENT ..
   taken=2
   case $1 in
     --user | --as | --config | --log) [ -n "${2-}" ] || refuse "bad arguments: $1 needs a value" ;;
+    --without-tls) taken=1 ;;
     *) taken=0 ;;
   esac
   case $1 in
@@ -23,7 +24,23 @@ take_option() { # ARGUMENT ..
     --as) as=$2 ;;
     --config) config=$2 ;;
     --log) log=$2 ;;
+    --without-tls) without_tls=yes ;;
   esac
+}
+
+# Takes the host from the room's address, and sets `at_home` to whether that is this machine. Only what goes to another one can
+# be read on the way: a password then needs TLS, unless --without-tls is given.
+look_at_address() {
+  local before=''
+  host=${room#*://}
+  host=${host%%[/?#]*}
+  [[ $host != *@* ]] || before=${host%@*}
+  host=${host##*@}
+  if [[ $host = \[* ]]; then host=${host%%]*}]; else host=${host%%:*}; fi
+  at_home=no
+  [[ ${host,,} = localhost || $host = '[::1]' || $host =~ ^127(\.[0-9]{1,3}){1,3}$ ]] && at_home=yes
+  [[ $at_home = yes || $without_tls = yes || $room != http://* || -z $user$config$before ]] ||
+    refuse "no TLS: $host would get the password and everything else in clear; take an address with https, or --without-tls"
 }
 
 # The folder for replies is private: it may have a password and documents in it.
@@ -32,13 +49,15 @@ start_transfer() { # ROOM PATH
   [[ $1 = http://?* || $1 = https://?* ]] || refuse "bad arguments: the room is an address such as https://rooms.example, not '$1'"
   [[ $2 = / || ( $2 = /* && $2 != */ ) ]] || refuse "bad arguments: a path in the room begins with a slash and doesn't end with one, unlike '$2'"
   room=${1%/}
+  look_at_address
   umask 077
   private=$(mktemp -d) || refuse 'no folder for temporary files'
   trap 'rm -rf "$private"' EXIT
   trap 'exit 130' INT TERM HUP
-  : >"$private/config"
-  if [ -n "$config" ]; then cat "$config" >"$private/config" || refuse "no settings: $config can't be read"; fi
-  [ -z "$as" ] || printf 'header = "Room-User: %s"\n' "$as" >>"$private/config" || refuse 'no room for temporary files'
+  # No proxy gets to this machine's own ports. A file of settings may lack the end of its last line.
+  if [ "$at_home" = yes ]; then echo 'noproxy = "*"'; fi >"$private/config" || refuse 'no room for temporary files'
+  if [ -n "$config" ]; then { cat "$config" && echo; } >>"$private/config" || refuse "no settings: $config can't be read"; fi
+  [ -z "$as" ] || printf 'header = "Room-User: %s"\n' "$(quoted "$as")" >>"$private/config" || refuse 'no room for temporary files'
   [ -z "$user" ] || ask_password
   if [ -n "$log" ]; then : >>"$log" || refuse "no log: $log can't be written"; fi
 }
@@ -47,8 +66,13 @@ ask_password() {
   local password
   IFS= read -r -s -p "Password of $user: " password || refuse 'no password was given'
   [ ! -t 0 ] || printf '\n' >&2
-  password=${password//\\/\\\\}
-  printf 'user = "%s:%s"\n' "$user" "${password//\"/\\\"}" >>"$private/config"
+  printf 'user = "%s"\n' "$(quoted "$user:$password")" >>"$private/config"
+}
+
+# In curl's settings a backslash is before each quote and backslash of a text. A name may have one, as OFFICE\bob.
+quoted() { # TEXT
+  local text=${1//\\/\\\\}
+  printf %s "${text//\"/\\\"}"
 }
 
 # Every byte but letters, digits, '.', '_', '~', '-' and '/' as %XX.
@@ -66,12 +90,19 @@ encoded() { # PATH
 
 # One request; the status is in `status`, the reply's body in the file $private/reply.
 request() { # METHOD WORD PATH [CURL'S ARGUMENTS ..]
-  local method=$1 word=$2 path=$3
+  local method=$1 word=$2 path elsewhere
+  path=$(encoded "$3")
   shift 3
   : >"$private/reply"
-  status=$(curl -sS -g -K "$private/config" -X "$method" -H Expect: -o "$private/reply" -w '%{http_code}' "$@" \
-    "$room/$word$(encoded "$path")" 2>"$private/said") || status=000
+  status=$(curl -sS -g -K "$private/config" -X "$method" -H Expect: -o "$private/reply" -w '%{http_code} %{redirect_url}' "$@" \
+    "$room/$word$path" 2>"$private/said") || status=000
+  elsewhere=${status#* }
+  status=${status%% *}
   case $status in
+    3??)
+      elsewhere=${elsewhere%"/$word$path"}
+      give_up "status $status: $room sends on to ${elsewhere:-another address}, where nothing is sent: name the room by that address"
+      ;;
     000) give_up "no reply: $(head -c 300 "$private/said"); $next" ;;
     401) give_up 'the password was refused' ;;
     500) [ "$ends_by_500" = no ] || give_up "status 500: the room is out of order; $next" ;;

@@ -92,3 +92,20 @@ stop_server
 dumped >after
 sed -e 's/^\(document\|folder\) bob /\1 alice /' -e '/^document alice [^ ]* 1 \/\(own\|secret\)$/s/ alice / newcomer /' before >wanted
 same 'owners alone have changed' after wanted
+
+# Names with a backslash, and a password that isn't sent in clear.
+start_server F 100000 || return
+room=http://127.0.0.1:$port
+asked 201 alice PUT /doc/office x
+asked 204 alice PUT /attr/office '{"owner":"OFFICE\\bob","group":"staff"}'
+stop_server
+dumped >lists
+start_server F 100000 || return
+room=http://127.0.0.1:$port
+hands --as alice "$room" lists 'OFFICE\bob' 'OFFICE\nancy'
+told 'all of a name with a backslash' 0 'given 1, of others by now 0, left out 0'
+stop_server
+dumped >after
+holds 'is of another one' grep -qxF 'document OFFICE\nancy staff 1 /office' after
+hands --user alice http://rooms.example lists bob alice
+told 'a password without TLS' 2 'no TLS: rooms.example would get the password'
