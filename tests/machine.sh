@@ -136,6 +136,7 @@ done
 [ "$verb" != --system ] || { verb=$1; units=("${units[@]:1}"); }
 case $verb in
   daemon-reload | reset-failed) exit ;;
+  is-failed) echo inactive && exit 1 ;;
   show) printf '%s\n' MemoryCurrent=0 MemoryMax=0; exit ;;
   reload | reload-or-restart | try-reload-or-restart)
     [ "${units[*]}" = nginx ] || { echo "no such unit: ${units[*]}" >&2; exit 1; }

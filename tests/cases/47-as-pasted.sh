@@ -117,11 +117,11 @@ bin/systemctl stop rooms
 mkdir backups/2026-11-26.030000
 "$rooms" review room/office.rooms / >backups/2026-11-26.030000/review.csv
 bin/systemctl start rooms
-paste_in "$(blocks people.md '"/projects")')"
+paste_in "$(blocks people.md "at='/projects'")"
 prints 'who can have changed it' "/,folder,alice,$ALL,no" /projects,folder,a.bob,rwaxtc,yes "/projects,folder,alice,$ALL,yes" \
   /projects,folder,bob,rwaxtc,yes
 rm -r backups/2026-11-26.030000
-holds 'and what is done then' grep -q "htpasswd -D .*passwords eve" due
+holds 'and what is done then' grep -q "htpasswd -D .*passwords 'eve'" due
 
 paste_in "htpasswd -B $PWD/passwords bob; : >asked
 $(blocks people.md 'htpasswd -D /etc/nginx/rooms.htpasswd bob')"
@@ -181,10 +181,12 @@ printf '%s\n' "FILE=$PWD/room/office.rooms" "BACKUPS=$PWD/backups" KEEP=0 MAIL= 
 stand_in rooms-get <<END
 exec "$here/../contrib/rooms-get" --conf "$PWD/conf" "\$@"
 END
-paste_in "$(blocks backup.md 'rooms-get 2026')
-$(blocks backup.md '@reply')"
+paste_in "$(blocks backup.md 'rooms-get 2026')"
 prints 'one document out of a backup' 204
 answers 'is the old one' 'Dear Sir 200' alice GET /doc/letters/reply
+paste_in "cd $PWD && $(blocks backup.md '@reply' | sed 's#/letters/reply >#/letters/none >#')"
+holds 'one that is not in it' [ "$status" != 0 -a ! -s "$work/out" -a ! -s reply ]
+answers 'replaces nothing' 'Dear Sir 200' alice GET /doc/letters/reply
 answers 'of the same owner' '{"group":"staff","kind":"document","owner":"alice"} 200' alice GET /attr/letters/reply
 
 # An upgrade: a backup, the new files, the restart; the earlier files; the earlier room.
@@ -244,12 +246,157 @@ if [ -n "$backup" ]; then
   bin/systemctl start rooms
 fi
 
-# Records that are older than two years.
-if has_sqlite; then
+# The same blocks for other names, by each awk that is here: nobody else's rows go, and none of theirs stays. A name is between
+# single quotes, as the page says. The server rests meanwhile.
+named() { # TEXT WORD NAME
+  grep -v -e ^htpasswd -e ^systemctl <<<"${1//"'$2'"/"'$3'"}"
+}
+odd_users=(-x 0815 1e3 'OFFICE\bob' 'OFFICE\\bob' 'OFFICE\nbob' 'pc-7$' user)
+{ echo group,user && printf 'staff,%s\n' "${odd_users[@]}" 815 1000 OFFICEbob bob; } >members.csv
+all_members() { gives 'members' 0 'groups 1, members 12\n' '' groups room/office.rooms members.csv; }
+members_are() { # NAME FILE
+  "$rooms" groups-out room/office.rooms | sort >got
+  sort "$2" >wanted
+  same "$1" got wanted
+}
+odd_path='/a "b"\n, c '
+answers 'a folder of an odd name' ' 201' alice POST '/folder/a%20%22b%22%5Cn%2C%20c%20'
+answers 'and its list' ' 204' alice PUT '/dacl/a%20%22b%22%5Cn%2C%20c%20' $'list:ap\nA::OFFICE\\nbob:C'
+for at in "${!odd_users[@]}"; do
+  answers 'a document' ' 201' alice PUT "/doc/letters/odd$at" 12345
+  answers "of ${odd_users[at]}" ' 204' alice PUT "/attr/letters/odd$at" "{\"group\":\"staff\",\"owner\":\"${odd_users[at]//\\/\\\\}\"}"
+done
+bin/systemctl stop rooms
+leaving=$(blocks people.md 'htpasswd -D /etc/nginx/rooms.htpasswd bob')
+awks=0
+for awk in mawk gawk original-awk; do
+  [ -n "$(command -v "$awk")" ] || continue
+  awks=$((awks + 1))
+  ln -sf "$(command -v "$awk")" bin/awk
+  for at in "${!odd_users[@]}"; do
+    name=${odd_users[at]}
+    all_members
+    paste_in "$(named "$leaving" bob "$name")"
+    sed -n '1p; / \/letters\/odd/p' "$work/out" >got
+    printf '%s\n' 'groups 1, members 11' "document $name staff 5 /letters/odd$at" >wanted
+    same "$name leaves, by $awk" got wanted
+    grep -vxF -e "staff,$name" members.csv >rest.csv
+    members_are "and nobody else, by $awk" rest.csv
+  done
+  paste_in "$(named "$(blocks people.md sales,dana)" sales,dana 'staff,OFFICE\tdana')"
+  { cat rest.csv && printf '%s\n' 'staff,OFFICE\tdana'; } >more.csv
+  members_are "a name that joins, by $awk" more.csv
+
+  # What a night leaves of a path and of a user.
+  night=backups/9999-12-31.030000
+  mkdir "$night"
+  "$rooms" review room/office.rooms / >"$night/review.csv"
+  "$rooms" dump room/office.rooms >"$night/lists.txt"
+  { echo at,user,path,bits,granted,entry,kind && printf '1000,%s,/x,r,no,1,audit\n' 0815 815 'OFFICE\nbob' OFFICEbob; } >"$night/records.csv"
+  paste_in "$(named "$(blocks people.md 'here && dacl')" /letters "$odd_path")"
+  prints "the list of an odd path, by $awk" list:ap 'A::OFFICE\nbob:C'
+  paste_in "$(named "$(blocks people.md "at='/projects'")" /projects "$odd_path")"
+  grep -v ',,yes$' "$work/out" >got
+  printf '%s\n' "/,folder,alice,$ALL,no" '"/a ""b""\n, c ",folder,OFFICE\nbob,C,yes' >wanted
+  same "who can have changed it, by $awk" got wanted
+  for name in 0815 'OFFICE\nbob'; do
+    paste_in "$(named "$(blocks capacity.md records.csv)" bob "$name")"
+    grep '^1000,' "$work/out" >got
+    echo "1000,$name,/x,r,no,1,audit" >wanted
+    same "records of $name, by $awk" got wanted
+  done
+  holds "and its entry, by $awk" grep -qx '[0-9]*:A::OFFICE\\nbob:C' "$work/out"
+  rm -r "$night"
+done
+rm -f bin/awk
+[ "$awks" != 0 ] || skip 'names in the blocks' 'no mawk, gawk or original-awk'
+
+# Where groups-out fails, whatever it has printed, all members stay, and the room is served.
+all_members
+rm bin/rooms
+stand_in rooms <<END
+[ "\$1" != groups-out ] || { "$rooms" "\$@" | head -n 3; echo 'fault: store' >&2; exit 3; }
+exec "$rooms" "\$@"
+END
+for text in sales,dana 'export name='; do
+  paste_in "$(blocks people.md "$text" | grep -v ^htpasswd)"
+  holds "no members in part, by the block with $text" grep -q '^fault: store$' "$work/err"
+  holds 'nothing is imported' [ ! -s "$work/out" ]
+  answers 'the room is served' '{"group":"staff","kind":"document","owner":"user"} 200' alice GET /attr/letters/odd7
+  bin/systemctl stop rooms
+  members_are 'all members are there' members.csv
+done
+rm bin/rooms
+ln -s "$rooms" bin/rooms
+bin/systemctl start rooms
+
+# Files of a Windows server, which Samba plays, come to this machine and into the room.
+smbd=$(PATH=$PATH:/usr/sbin command -v smbd)
+if [ -n "$smbd" ] && has smbclient && has smbpasswd && has setsid && [ "$(id -u)" = 0 ]; then
+  mkdir -p samba/state samba/share/empty 'samba/share/a b/ü'
+  printf one >'samba/share/a b/100% ü.txt'
+  printf two >'samba/share/a b/ü/.hidden'
+  printf 'not for all' >samba/share/secret
+  { printf '%s\n' '[global]' 'server role = standalone server' 'interfaces = 127.0.0.1' 'bind interfaces only = yes' \
+    "smb ports = $((port + 2))" 'disable netbios = yes' 'load printers = no' "passdb backend = tdbsam:$PWD/samba/passdb.tdb" \
+    "log file = $PWD/samba/log" "ncalrpc dir = $PWD/samba/state/ncalrpc"
+    for name in 'private dir' 'lock directory' 'state directory' 'cache directory' 'pid directory'; do echo "$name = $PWD/samba/state"; done
+    printf '%s\n' '[share]' "path = $PWD/samba/share"; } >samba/conf
+  printf 'word\nword\n' | smbpasswd -c samba/conf -L -s -a root >said 2>&1
+  setsid "$smbd" -s "$PWD/samba/conf" -F --no-process-group --debug-stdout >samba/said 2>&1 </dev/null &
+  others+=("$!")
+  for turn in {1..500}; do (exec 3<>"/dev/tcp/127.0.0.1/$((port + 2))") 2>/dev/null && break; sleep 0.02; done
+  # The port is another one, and a password that is asked for is given.
+  stand_in smbclient <<END
+exec "$(command -v smbclient)" -s "$PWD/samba/conf" -p $((port + 2)) "\${@/#alice/root%\$(cat "$PWD/samba/word")}"
+END
+  stand_in rooms-import <<END
+exec "$here/../contrib/rooms-import" "\$@"
+END
+  fetching="mkdir \$PWD/fetch; cd \$PWD/fetch && $(blocks in-and-out.md smbclient | sed 's/SERVER/127.0.0.1/')"
+  echo word >samba/word
+  paste_in "$fetching"
+  holds 'a share comes' [ "$(tail -n 1 "$work/out")" = 3 ]
+  diff -r samba/share fetch/share >found 2>&1
+  same 'all of it' found /dev/null
+  paste_in "cd $PWD/fetch && $(blocks in-and-out.md 'rooms-import --as')"
+  prints 'and goes into the room' 'made 7, replaced 0, there already 0, left out 0'
+  rm -r fetch
+  echo wrong >samba/word
+  paste_in "$fetching"
+  holds 'a wrong password is told' grep -q NT_STATUS_LOGON_FAILURE <(tail -n 1 "$work/out")
+  rm -r fetch
+  stop_others
+  rm bin/smbclient
+else
+  skip 'a share of Windows' 'no root, smbd, smbclient, smbpasswd or setsid'
+fi
+
+# Records that are older than two years. Without a backup nothing is done, and after a fault nothing is served.
+if has_sqlite && has flock; then
+  removing=$(blocks capacity.md 'DELETE FROM audits')
+  records_are() { # NAME NUMBER
+    holds "$1" [ "$(sqlite3 room/office.rooms 'SELECT count(*) FROM audits')" = "$2" ]
+  }
+  stays_down() { # NAME: the block fails, prints no 'sound', and leaves the server stopped
+    holds "$1 (status $status)" [ "$status" != 0 ]
+    holds "$1: it isn't called sound" [ "$(grep -c sound "$work/out")" = 0 ]
+    holds "$1: nothing is served" [ ! -e pid ]
+    bin/systemctl stop rooms
+  }
   bin/systemctl stop rooms
   sqlite3 room/office.rooms "INSERT INTO audits (at, user, path, bits, granted, entry) VALUES (1000, 'bob', '/', 1, 0, 1), (unixepoch(), 'bob', '/', 1, 0, 1);"
   bin/systemctl start rooms
-  paste_in "$(blocks capacity.md 'DELETE FROM audits')"
+  mv backups backups.away
+  paste_in "$removing"
+  holds "no folder of backups (status $status)" [ "$status" != 0 ]
+  holds 'the server runs' [ -e pid ]
+  mv backups.away backups
+  paste_in "${removing/FROM audits/FROM audit}"
+  stays_down 'a mistake in what it does'
+  records_are 'no record is gone' 2
+  bin/systemctl start rooms
+  paste_in "$removing"
   prints 'old records are removed' sound
   bin/systemctl stop rooms
   run audit room/office.rooms
@@ -260,7 +407,22 @@ if has_sqlite; then
   bin/systemctl stop rooms
   holds 'no number is given twice' [ "$(sqlite3 room/office.rooms 'SELECT seq FROM audits ORDER BY seq' | tr '\n' ' ')" = '2 3 ' ]
   gives 'the room is sound' 0 'sound\n' '' verify room/office.rooms
+  sqlite3 room/office.rooms "INSERT INTO audits (at, user, path, bits, granted, entry) VALUES (unixepoch(), 'OFFICE\\bob', '/', 1, 0, 1);"
+  bin/systemctl start rooms
+  paste_in "$(sed 's/WHERE at .*;/WHERE user = '\''OFFICE\\bob'\'';/' <<<"$removing")"
+  prints 'records of one person are removed' sound
+  bin/systemctl stop rooms
+  records_are 'and none of others' 2
+  bin/systemctl start rooms
+  rm bin/rooms
+  stand_in rooms <<END
+[ "\$1" != verify ] || { echo 'V3 broken-law' >&2; exit 1; }
+exec "$rooms" "\$@"
+END
+  paste_in "$removing"
+  stays_down 'a room with a fault'
+  rm bin/rooms
 else
-  skip 'old records are removed' 'no sqlite3, or one that is too old'
+  skip 'old records are removed' 'no flock, or no sqlite3, or one that is too old'
 fi
 bin/systemctl stop rooms

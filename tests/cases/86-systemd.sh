@@ -202,8 +202,14 @@ inside 'systemctl start rooms-nightly@office'
 holds 'the nightly run reports it' [ "$status" != 0 ]
 does 'by its name' 'journalctl --no-pager -u rooms-nightly@office'
 holds 'LIMIT' grep -q "bad settings: LIMIT in /etc/rooms/office.conf" "$work/out"
+inside "$(block docs/capacity.md is-failed)"
+holds 'and so do the units' [ "$status" = 0 ]
+holds 'one of them' grep -qx failed "$work/out"
 does 'the setting is mended' 'sed -i "s/^LIMIT=.*/LIMIT=/" /etc/rooms/office.conf; systemctl restart rooms@office'
 shows 'and the watch is back' rooms-full@office ActiveState active
+does 'and the nightly run' 'systemctl start rooms-nightly@office'
+inside "$(block docs/capacity.md is-failed)"
+holds 'no unit has failed' [ "$status" = 1 ]
 
 # A server that can't start: by MemoryMax where this machine has that, otherwise by a limit of the process.
 does 'more documents' 'for n in $(seq 30); do

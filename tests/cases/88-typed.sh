@@ -80,7 +80,11 @@ case "$*" in
   *) printf 'dn: uid=%s,ou=people\nuid: %s\n\n' alice alice bob bob ;;
 esac
 END
-for name in nft update-ca-certificates sqlite3 journalctl; do stand_in "$name" </dev/null; done
+stand_in_package sqlite3 </dev/null || fail 'what is typed' "no stand-in: $(cat said)"
+stand_in_package smbclient <<'END' || fail 'what is typed' "no stand-in: $(cat said)"
+mkdir ' a ' && echo x >' a /b '
+END
+for name in nft update-ca-certificates journalctl; do stand_in "$name" </dev/null; done
 mkdir -p "$machine/root/contrib" "$machine/usr/local/share/ca-certificates"
 # At the top of a repository. What it does is tried by 99-install.
 printf '#!/bin/sh\n[ $# = 0 ] || exec rooms-setup "$@"\n' >"$machine/root/contrib/install"
@@ -225,7 +229,7 @@ asks_as 201 alice POST /folder/projects/bridge
 types 'somebody from outside' docs/people 'rooms.htpasswd eve' docs/people 'A::eve:x' docs/people 'can/projects/bridge' docs/people 'at 18:00'
 shows 'may read' '"r":"allowed'
 holds 'until a day' grep -q '^at 18:00 2027-01-31$' "$machine/root/due"
-holds 'at which her password goes' grep -q '^htpasswd -D /etc/nginx/rooms.htpasswd eve$' "$machine/root/due"
+holds 'at which her password goes' grep -q '^htpasswd -D /etc/nginx/rooms.htpasswd '\''eve'\''$' "$machine/root/due"
 types 'a backup' docs/upgrading 'start rooms-nightly'
 asks_as 204 alice PUT /dacl/letters list:ap
 asks_as 403 alice GET /folder/letters
@@ -235,11 +239,11 @@ types 'the list of the night' docs/people 'here && dacl'
 shows 'is printed' A:fdg:staff:rwaxtc A:fi:OWNER@:d
 types 'who can read this folder' docs/people 'rooms review'
 shows 'alice, and staff' '/letters,folder,alice,rwanNxDtThHdcCoy,yes'
-types 'who could change it' docs/people '$1 == "/projects"'
+types 'who could change it' docs/people "at='/projects'"
 types 'a new password' docs/people '=htpasswd -B /etc/nginx/rooms.htpasswd bob' docs/people 'tr -dc'
 
 # In and out.
-does 'a tree' 'mkdir -p "share/ a " && echo x >"share/ a /b "'
+types 'a share of Windows' docs/in-and-out smbclient
 edit=s#https://rooms.example#http://127.0.0.1#
 types 'it comes in' docs/in-and-out 'rooms-import --user alice' docs/in-and-out 'rooms-import --as alice'
 shows 'all of it' 'left out 0' 'there already 3'
@@ -288,7 +292,11 @@ shows 'it answers' '{} 200'
 statuses=1
 types 'how full it is' docs/capacity 'restart rooms-full@office'
 shows 'is said' '0 MB of 384 are in use'
+statuses=1
+types 'what has failed' docs/capacity is-failed
 types 'who was here' docs/capacity records.csv
+statuses=1
+types 'by the log too' docs/capacity 'zgrep'
 types 'old records' docs/capacity 'DELETE FROM audits'
 shows 'the room stays sound' sound
 statuses=1
