@@ -61,7 +61,7 @@ paste_in() { # TEXT-OF-BLOCKS
   sed -e "s|/var/lib/rooms|$PWD/room|g; s|/etc/nginx/rooms.htpasswd|$PWD/passwords|g; s|/var/backups/rooms|$PWD/backups|g" \
     -e "s|127.0.0.1:8780|127.0.0.1:$((port + 1))|g" <<<"$1" >pasted
   [ -s pasted ] || fail 'what is pasted' 'no such block'
-  PATH=$PWD/bin:$PATH timeout "$patience" bash pasted </dev/null >"$work/out" 2>"$work/err"
+  PATH=$PWD/bin:$PATH TMPDIR=$PWD timeout "$patience" bash pasted </dev/null >"$work/out" 2>"$work/err"
   status=$?
 }
 prints() { # NAME LINE ..: these lines, and status 0
