@@ -181,7 +181,7 @@ does 'the server starts' 'systemctl start rooms@office'
 
 # TLS, and back.
 types 'an authority' docs/operating '/root/authority/authority.key -out' docs/operating '-keyout /etc/ssl/private/rooms.key' \
-  docs/operating CAcreateserial docs/operating 'contrib/install --tls /etc/ssl' docs/operating '=systemctl reload nginx' \
+  docs/operating CAcreateserial docs/operating 'rooms-setup --tls /etc/ssl' docs/operating '=nginx -t && systemctl reload nginx' \
   docs/operating update-ca-certificates
 does 'the site with TLS' 'curl -sf --cacert /root/authority/authority.pem --resolve rooms.example:443:127.0.0.1 -u alice:typed \
   https://rooms.example/me >/dev/null'

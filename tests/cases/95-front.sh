@@ -465,6 +465,11 @@ serial >before
   page_block operating TLS 3 | head -n 1
   page_block operating TLS 5
 } >renew
+cp rooms.pem rooms.pem.before
+mv authority/authority.key away.key
+holds "without the authority's key none is made" eval '! bash -eu renew >certify.out 2>&1'
+same 'and the one that is there stays' rooms.pem rooms.pem.before
+mv away.key authority/authority.key
 bash -eu renew >certify.out 2>&1
 kill -HUP "$proxy"
 began=$SECONDS
