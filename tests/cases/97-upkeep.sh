@@ -152,6 +152,55 @@ else
   skip 'a room that is nearly full' 'no perl'
 fi
 
+# The site's certificate: one that ends soon is told, and the run is good all the same.
+if [ -n "$tar" ] && has openssl; then
+  mkdir -p root/etc/nginx/snippets root/etc/nginx/sites-enabled root/etc/ssl
+  ln -s ../sites-available/rooms-tls root/etc/nginx/sites-enabled/rooms
+  certified() { # DAYS FILE
+    printf '%s\n' "ssl_certificate $2;" "ssl_certificate_key /etc/ssl/rooms.key;" >root/etc/nginx/snippets/rooms-tls.conf
+    mkdir -p "root${2%/*}"
+    openssl req -x509 -newkey ec -pkeyopt ec_paramgen_curve:P-256 -noenc -days "$1" -subj /CN=rooms.example \
+      -keyout root/etc/ssl/rooms.key -out "root$2" 2>/dev/null
+    night
+  }
+  untold() { holds "$1" [ "$status" = 0 -a ! -s "$stand/messages" ]; }
+  certified 29 /etc/ssl/rooms.pem
+  untold 'a certificate is told of by the run of office'
+  setting UNIT rooms@office
+  certified 31 /etc/ssl/rooms.pem
+  untold 'a certificate that ends in 31 days'
+  certified 29 /etc/ssl/rooms.pem
+  says 'one that ends in 29' 0 'the certificate /etc/ssl/rooms.pem ends on '
+  holds 'one that ends in 29: mail' grep -q '^the certificate /etc/ssl/rooms.pem ends on .* GMT: ' "$stand/messages"
+  holds 'which says no more' [ "$(grep -c '^mail -s the certificate of rooms on ' "$stand/messages") $(wc -l <"$stand/messages")" = '1 2' ]
+  holds 'the backup is there' [ -s "backups/$(backups | tail -n 1)/review.csv" ]
+  setting MAIL ''
+  night
+  holds 'nobody named: the log' grep -q '^logger -p daemon.warning .*rooms.pem ends on ' "$stand/messages"
+  setting MAIL root
+  certified 29 /etc/letsencrypt/live/rooms.example/fullchain.pem
+  untold 'one that is renewed by a timer'
+  certified 6 /etc/letsencrypt/live/rooms.example/fullchain.pem
+  says 'and was not' 0 'fullchain.pem ends on '
+  certified 31 /etc/ssl/rooms.pem
+  : >root/etc/ssl/rooms.pem
+  night
+  says 'an empty one' 0 "the certificate /etc/ssl/rooms.pem can't be used"
+  ln -sfn ../sites-available/rooms root/etc/nginx/sites-enabled/rooms
+  night
+  untold 'a site without TLS'
+  ln -sfn ../sites-available/rooms-tls root/etc/nginx/sites-enabled/rooms
+  setting PROGRAM /bin/false
+  night
+  says 'a night without a backup fails' 1 'verify of'
+  says 'and tells it too' 1 "the certificate /etc/ssl/rooms.pem can't be used"
+  setting PROGRAM "$stand/bin/rooms"
+  setting UNIT rooms
+  rm -rf backups/* root/etc/{nginx,ssl,letsencrypt}
+else
+  skip 'a certificate that ends' 'no root, or no openssl'
+fi
+
 # A server that somebody stopped stays stopped.
 unit stop
 night
