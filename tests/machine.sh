@@ -173,6 +173,7 @@ for name in "${units[@]}"; do
       $(command_of "$name") >"/run/$name.fault" 2>&1 </dev/null &
       echo $! >"/run/$name.pid"
       ;;
+    restart:nftables) nft -f /etc/nftables.conf || exit ;;
     start:rooms | start:rooms@*) start "$name" || exit ;;
     stop:rooms | stop:rooms@*) stop "$name" ;;
     restart:rooms | restart:rooms@*)

@@ -84,6 +84,12 @@ stand_in_package sqlite3 </dev/null || fail 'what is typed' "no stand-in: $(cat 
 stand_in_package smbclient <<'END' || fail 'what is typed' "no stand-in: $(cat said)"
 mkdir ' a ' && echo x >' a /b '
 END
+# A firewall, unless the machine has one: 95-front tries what the rule does.
+if [ ! -e "$machine/usr/sbin/nft" ]; then
+  stand_in_package nftables </dev/null || fail 'what is typed' "no stand-in: $(cat said)"
+  printf '%s\n' '[Service]' 'ExecStart=/bin/true' '[Install]' WantedBy=sysinit.target >"$machine/etc/systemd/system/nftables.service"
+  echo 'type filter hook output priority filter;' >"$machine/etc/nftables.conf"
+fi
 for name in nft update-ca-certificates journalctl; do stand_in "$name" </dev/null; done
 mkdir -p "$machine/root/contrib" "$machine/usr/local/share/ca-certificates"
 # At the top of a repository. What it does is tried by 99-install.
@@ -176,7 +182,8 @@ shows 'is made' 201
 types 'groups and lists' docs/operating 'runuser -u rooms bash' docs/operating 'cat >groups.csv' \
   docs/operating 'office.rooms / dacl' docs/operating 'office.rooms / sacl'
 shows 'are taken' 'groups 2, members 3' 'done'
-types 'the port' docs/operating 'nft '
+types 'the ports' docs/operating 'install -y nftables' docs/operating 'hook output'
+holds 'are closed at each start' [ -L "$machine/etc/systemd/system/sysinit.target.wants/nftables.service" ]
 does 'the server starts' 'systemctl start rooms@office'
 
 # TLS, and back.

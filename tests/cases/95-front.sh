@@ -480,3 +480,44 @@ reach=()
 stop_server
 stop_proxy
 gives 'sound after TLS' 0 'sound\n' '' verify F
+
+# The ports of rooms, closed to other users by a rule of the firewall, in a network of its own.
+if [ "$(id -u)" != 0 ] || ! has nft || ! has ip || ! has setpriv || ! getent passwd www-data >/dev/null ||
+  ! unshare --net nft list ruleset >said 2>&1; then
+  skip 'ports that are closed to other users' 'no root, or no nft, ip, setpriv, www-data, or network of its own'
+  return
+fi
+{
+  # As Debian's package has it.
+  printf '%s\n' '#!/usr/sbin/nft -f' '' 'flush ruleset' '' 'table inet filter {'
+  for chain in input forward output; do
+    printf '\tchain %s {\n\t\ttype filter hook %s priority filter;\n\t}\n' $chain $chain
+  done
+  echo '}'
+} >nftables.conf
+page_block operating 'What runs' 2 |
+  sed "s#/etc/nftables.conf#$PWD/nftables.conf#; s#systemctl enable.*#nft -f $PWD/nftables.conf#" >close
+for n in 8780 8998 8999; do open_room "P$n"; done
+cat >tried <<'END'
+ip link set lo up
+for n in 8780 8998 8999; do
+  "$1" serve "P$n" --port "$n" --count 100 >"listens.$n" 2>/dev/null &
+  for turn in {1..500}; do [ ! -s "listens.$n" ] || break; sleep 0.02; done
+done
+reached() {
+  for user in root www-data 65534; do
+    for n in 8780 8998 8999; do
+      ! setpriv --reuid=$user --regid=0 --clear-groups bash -c "exec 3<>/dev/tcp/127.0.0.1/$n" 2>/dev/null || echo -n "$user $n, "
+    done
+  done
+  echo
+}
+reached
+bash -eu close
+reached
+kill $(jobs -p)
+END
+unshare --net bash tried "$rooms" >got 2>said
+printf '%s\n' 'root 8780, root 8998, root 8999, www-data 8780, www-data 8998, www-data 8999, 65534 8780, 65534 8998, 65534 8999, ' \
+  'root 8780, root 8998, root 8999, www-data 8780, www-data 8998, www-data 8999, 65534 8999, ' >wanted
+same "the rule closes them to all but root and the front end: $(head -c 200 said)" got wanted
