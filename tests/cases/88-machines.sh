@@ -62,7 +62,8 @@ pasted() { # MACHINE TEXT-IN-THE-BLOCK
   awk -v text="$2" '
     /^```/ { if (inside && found) printf "%s", kept; inside = !inside; found = 0; kept = ""; next }
     inside { kept = kept $0 "\n"; if (index($0, text)) found = 1 }' "$top/docs/machines.md" |
-    sed -e "s#/etc/#$PWD/$1/etc/#g" -e "s#^rooms-add#$top/contrib/rooms-add --destdir $PWD/$1#" >block
+    sed -e "s#/etc/#$PWD/$1/etc/#g" -e "s#^rooms-add#$top/contrib/rooms-add --destdir $PWD/$1#" \
+      -e "s#^systemctl disable --now#systemctl --root=$PWD/$1 -q disable#" >block
   [ -s block ] || echo "echo no block with: $2 >&2; exit 1" >block
   bash -eu block >"$work/out" 2>"$work/err" </dev/null
 }
@@ -254,6 +255,17 @@ gets 'gets no request' 502 - carol:c /folder/
 holds 'since its name is another' grep -q 'upstream SSL certificate does not match "b.example"' A.log
 stop_machines
 drop_spaces
+
+# A machine whose room another one has taken over, and what is enabled there.
+if has systemctl; then
+  enabled() { find B/etc/systemd/system/*.wants -name 'rooms*' -printf '%f\n' 2>/dev/null | sort; }
+  systemctl --root="$PWD/B" -q enable rooms@{office,invoices}.service rooms-{nightly,standby,directory}@office.timer 2>said
+  holds 'a machine that serves a room and sends it' [ "$(enabled | wc -l)" = 5 ]
+  done_so 'is told to stop' B 'rooms-{nightly,standby,directory}@office.timer'
+  holds 'and does neither any more' [ "$(enabled)" = rooms@invoices.service ]
+else
+  skip 'a machine whose room another one has taken over' 'systemctl is missing'
+fi
 
 # It is taken away again.
 adds A --remove --dry-run invoices
