@@ -327,7 +327,9 @@ fi
 does 'systemctl stops' 'systemctl stop rooms@office rooms@invoices'
 room >before
 does 'it is removed' 'apt-get remove -y rooms'
-holds 'it says what it keeps' grep -q '^rooms: kept /var/lib/rooms$' "$work/out"
+for file in /var/lib/rooms /etc/rooms /etc/nginx/rooms.htpasswd; do
+  holds "it says that it keeps $file" grep -qx "rooms: kept $file" "$work/out"
+done
 holds 'the program is gone' is_missing "$machine/usr/bin/rooms"
 holds 'nginx shows it no more' is_missing "$machine/etc/nginx/sites-enabled/rooms"
 holds 'no unit is enabled' [ -z "$(find "$machine/etc/systemd/system" -name 'rooms*')" ]
@@ -349,9 +351,18 @@ does 'installed with TLS' \
   "apt-get install -y /root/$package && readlink /etc/nginx/sites-enabled/rooms >link"
 holds 'TLS stays' [ "$(cat "$machine/root/link")" = ../sites-available/rooms-tls ]
 room >before
+# What somebody has put there, as other pages say.
+own='/etc/rooms/directory.secret /etc/rooms/machines /etc/rooms/office.groups /etc/rooms/restic.password /etc/rooms/session.apache
+  /etc/nginx/conf.d/rooms-tickets.conf /etc/nginx/snippets/rooms-session.conf /etc/systemd/system/rooms-session.service'
+does 'what is beside the settings' "mkdir /etc/rooms/machines; : | tee $(echo $own | sed 's# /etc/rooms/machines##')"
 does 'purged' 'apt-get purge -y rooms'
-holds 'it says that the room stays' grep -q '^rooms: kept /var/lib/rooms$' "$work/out"
-holds 'the settings are gone' is_missing "$machine/etc/rooms"
+printf '%s\n' /var/lib/rooms /var/backups/rooms $own /etc/nginx/rooms.htpasswd /etc/nginx/rooms-invoices.htpasswd | sort >wanted
+# It is removed first, which says that all of /etc/rooms stays.
+sed -n 's/^rooms: kept //p' "$work/out" | tail -n "$(wc -l <wanted)" | sort >found
+same 'it says what stays, and where' found wanted
+does 'it stays' "ls -d $(echo $own)"
+does 'until it is removed' "rm -r $(echo $own)"
+holds 'the settings are gone' [ -z "$(ls -A "$machine/etc/rooms")" ]
 holds "and nginx's files of rooms" is_missing "$machine/etc/nginx/rooms.d"
 holds 'the passwords stay' [ -s "$machine/etc/nginx/rooms.htpasswd" ]
 holds 'those of the other room too' [ -s "$machine/etc/nginx/rooms-invoices.htpasswd" ]
