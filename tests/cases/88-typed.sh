@@ -341,8 +341,14 @@ done
 types 'units of one room' docs/upgrading 'disable --now rooms@office' docs/upgrading 'enable --now rooms rooms-nightly.timer'
 asks_as 200 alice GET /folder/letters
 does 'those of several' 'systemctl disable --now rooms rooms-nightly.timer; rm /etc/systemd/system/rooms{,-nightly}.*'
+does 'what contrib/install has beside' 'sed -i s#/usr/share/rooms#/usr/local/share/rooms# /etc/rooms/*.apache
+  systemctl enable --now rooms-passwords rooms-standby@office.timer'
 types 'from an install by hand' docs/upgrading 'rm -f bin/rooms' docs/upgrading 'enable --now "$unit"'
 asks_as 200 alice GET /folder/letters
+holds 'no file of Apache looks below /usr/local' [ -z "$(grep -l /usr/local "$machine"/etc/rooms/*.apache)" ]
+does 'what was enabled is so' 'systemctl is-active rooms-passwords rooms-standby@office.timer'
+does 'the same command again' 'rooms-setup --directory /etc/rooms/directory'
+holds 'has nothing to add' [ "$(grep -c directory.apache "$work/out")" = 0 ]
 
 # The blocks of the README for who builds the program.
 block_of README tools/build >>typed

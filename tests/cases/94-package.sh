@@ -379,6 +379,11 @@ inside "apt-get install -y /root/$package"
 holds 'over an install by hand' [ "$status" != 0 ]
 holds 'the refusal has a name' grep -q 'refused: installed by hand' "$work/out" "$work/err"
 holds 'and leaves that one' [ -x "$machine/usr/local/bin/rooms" ]
+# What the pages on directories, sessions and standbys enable there.
+does 'what is enabled beside' 'for name in directory session; do
+    echo "AliasMatch ^/password/ /usr/local/share/rooms/signed-in" >/etc/rooms/$name.apache
+  done
+  systemctl enable rooms-standby@office.timer rooms-directory@office.timer rooms-passwords.service'
 # As the package itself says it.
 top=$PWD/files/usr/share/doc/rooms
 does 'the install by hand is taken away' "$(block docs/upgrading.md 'rm -f bin/rooms')"
@@ -390,3 +395,10 @@ done
 same 'and so are the settings' "$machine/etc/rooms/office.conf" files/usr/share/rooms/office.conf
 does 'the package after it' "$(block docs/upgrading.md 'enable --now "$unit"')"
 replies 'the same room by the package'
+cat "$machine"/etc/rooms/{directory,session}.apache >found
+printf 'AliasMatch ^/password/ /usr/share/rooms/signed-in\n%.0s' 1 2 >wanted
+same 'Apache is told where the file is now' found wanted
+holds 'the file is there' [ -s "$machine/usr/share/rooms/signed-in" ]
+does 'what was enabled' "[ ! -e rooms.units ] && readlink -e /etc/systemd/system/*.wants/rooms* | sed 's#.*/systemd/system/##'"
+prints 'is so again, by the units of the package' rooms-passwords.service rooms@.service rooms-directory@.timer rooms-nightly@.timer \
+  rooms-standby@.timer
