@@ -153,6 +153,13 @@ head -c $((size - 4096)) /dev/zero | tr '\0' x | dd of=var/F bs=4096 seek=1 conv
 doctor "$file"
 told 'a damaged file' 1 'damaged: verify gives status' 'rooms-restore'
 new_file
+if has_sqlite; then
+  sqlite3 var/F "INSERT INTO audits (at, user, path, bits, granted, entry) VALUES (1, 'bob', 'no path', 1, 1, 1)"
+  [ "$other" = no ] || chown 65534:65534 var/F*
+  doctor "$file"
+  told 'a record that cannot be read' 1 "damaged: the room is sound, but a record can't be read: fault: database" 'records.csv'
+  new_file
+fi
 well 'a new one'
 
 # A server has it, and two rooms want it.

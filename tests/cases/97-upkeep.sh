@@ -235,6 +235,30 @@ holds 'what is unsound stays' [ -e backups/2019-01-02.030000.unsound/F ]
 setting KEEP 0
 rm -rf backups/*
 
+# A record that can't be read, which verify doesn't see: an older backup may have it.
+if has_sqlite; then
+  unit stop
+  cp office/F whole
+  as_user sqlite3 office/F "INSERT INTO audits (at, user, path, bits, granted, entry) VALUES (1, 'bob', 'no path', 1, 1, 1)" >/dev/null
+  unit start
+  setting KEEP 1
+  mkdir backups/2020-01-01.030000
+  cp whole backups/2020-01-01.030000/F
+  night
+  says 'a record that cannot be read' 1 'no older backup is removed'
+  holds 'it is told once for the text too' grep -q '^audit of the copy failed, status 3: fault: database' "$stand/messages"
+  holds 'the older backup stays' [ -e backups/2020-01-01.030000/F ]
+  holds 'beside tonight'"'"'s' [ "$(backups | wc -l)" = 2 ]
+  unit stop
+  cat whole >office/F
+  rm -f office/F-wal whole
+  unit start
+  setting KEEP 0
+  rm -rf backups/*
+else
+  skip 'a record that cannot be read at night' 'no sqlite3, or one that is too old'
+fi
+
 # What is written beside a sound copy fails: the copy stays, without that text, and older ones go.
 setting KEEP 1
 declare -A beside=([audit]=records.csv [dump]=lists.txt [review]=review.csv)
