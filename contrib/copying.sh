@@ -1,7 +1,7 @@
 # shellcheck shell=bash disable=SC2034,SC2154
 # How rooms-nightly and rooms-standby copy a room that is served, and run the program on the copy.
-# They source this file, after upkeep.sh, and have `failed`, the folder `part` for the copy, and
-# `mark`, a file in /run.
+# They source this file, after upkeep.sh, and have `failed`, `refuse`, the settings of `conf`, the
+# folder `part` for the copy, and `mark`, a file in /run.
 #
 # The server's process is held (SIGSTOP) while both files are copied, and then goes on (SIGCONT).
 # Nobody is turned away: requests wait. A process that is held is between two calls of the system,
@@ -10,6 +10,18 @@
 #
 # The mark has two lines: the folder of the copy, and what has to be undone if the script is killed:
 # 'held PROCESS BEGAN', where BEGAN tells the process from a later one of the same number.
+
+# The folder of backups has to be there, on its own disk: the mount point of a disk that isn't mounted
+# is an ordinary folder, and what is written there is on another disk.
+find_backups() {
+  local place resolved
+  [ -d "$BACKUPS" ] || refuse "no folder: $BACKUPS, of BACKUPS in $conf, isn't there"
+  resolved=$(realpath -m -- "$BACKUPS")
+  while IFS= read -r place; do
+    [[ $resolved/ != "${place%/}"/* ]] || mountpoint -q -- "$place" ||
+      refuse "not mounted: $place, which /etc/fstab has, so $BACKUPS, of BACKUPS in $conf, isn't on its disk"
+  done < <(awk '$1 !~ /^#/ && $2 ~ /^\// { gsub(/\\040/, " ", $2); print $2 }' "${ROOMS_ROOT:-}/etc/fstab" 2>/dev/null)
+}
 
 owe() { # WHAT
   printf '%s\n' "$part" "$1" >"$mark" || { failed "no mark: $mark can't be written"; return 1; }

@@ -168,6 +168,11 @@ set_value BACKUPS "$PWD/not-mounted"
 stands
 says 'no folder of backups' 2 'no folder'
 cp kept conf
+mkdir -p root/etc
+echo "UUID=none $(realpath backups) ext4 nofail 0 2" >root/etc/fstab
+stands
+says 'backups on a disk that is not mounted' 2 'not mounted: '
+rm root/etc/fstab
 for tool in cat sync mkdir mv; do
   echo "$tool" >"$stand/no-tool"
   stands
