@@ -25,8 +25,8 @@ hands_down (Remove path) = false
 hands_down (SetOwners path owners) = false
 
 -- One call for each name of a request's paths, and so many others, once the caller's groups are
--- known: the root; the bytes, the names or the children of what was reached; where a list is handed
--- down, the first children, and how many objects there are.
+-- known: the root; the bytes, the names or the children of what was reached. For each list that is
+-- handed down it is the first children and all numbers, and for a move the object too.
 abbrev pub calls_for : Request → ℕ
 calls_for (Read path) = length path + 2
 calls_for (ListFolder path) = length path + 2
@@ -42,15 +42,15 @@ calls_for (SetList path which sent) = length path + 3
 calls_for (Move path to) = length path + length to + 7
 
 module _ {S : Type 0} (k : Ghosts S) where
-  -- So many calls read, and two more for each object or record that was written. It isn't said
-  -- where the count of what was written is at its end.
+  -- No more calls read than so many, and two for each object or record that was written. It isn't
+  -- said where the count of what was written is at its end.
   abbrev pub ReadsBeside : ℕ → S → S → Type 0
   ReadsBeside count old new =
       k.writes new < 2 ^ 64 - 1
       → k.reads new + 2 * k.writes old ≤ k.reads old + 2 * k.writes new + count
 
-  -- No more calls than so many read, whatever the result is; or where a list is handed down, no
-  -- more than so many beside those for what was written, unless there is a fault.
+  -- No more calls read than so many, whatever the result is; or where a list is handed down, no
+  -- more beside those for what was written, unless there is a fault.
   abbrev pub ReadsFew : Bool → ℕ → S → S → {X : Type 0} → Result X KeepFault → Type 0
   ReadsFew false count old new result = k.reads new ≤ k.reads old + count
   ReadsFew true count old new result = IfOk result (λ _. ReadsBeside count old new)

@@ -22,8 +22,7 @@ pub(crate) fn carry_below<K: Keep>(
 ) -> Result<(), KeepFault>
     ensures done { DoesUpTo K.Keep keep.old keep.new result (EachList which) (HasLoop id)
         (IsCarriedDown which id) }
-    ensures counted { IfOk result
-        (λ _. ReadsBeside K.Keep 3 keep.old keep.new) }
+    ensures counted { IfOk result (λ _. ReadsBeside K.Keep 3 keep.old keep.new) }
 {
     let outcome = spread(alloc, keep, id, which);
     match outcome {
@@ -42,8 +41,7 @@ pub(crate) fn carry_from<K: Keep>(
     ensures done { DoesUpTo K.Keep keep.old keep.new result
         (Provided (Holds start.now) (EachList which)) (HasLoopFrom start.now)
         (IsCarriedFrom which start.now) }
-    ensures counted { IfOk result
-        (λ _. ReadsBeside K.Keep 2 keep.old keep.new) }
+    ensures counted { IfOk result (λ _. ReadsBeside K.Keep 2 keep.old keep.new) }
 {
     let outcome = spread_from(alloc, keep, start, which);
     match outcome {

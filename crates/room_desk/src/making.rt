@@ -1,5 +1,6 @@
 //! Requests that make an object, or replace a document's bytes.
-ghost use Rattle.std.specs.Prelude.{◌≡◌, ◌≤◌, ◌+◌, false, [], ◌∷◌, IfOk, is_some, length, unwrap_or};
+ghost use Rattle.std.specs.Prelude.{◌≡◌, ◌≤◌, ◌+◌, false, [], ◌∷◌, IfOk, is_some, length};
+ghost use Rattle.std.specs.Prelude.{unwrap_or};
 ghost use Rattle.room_entry.specs.Rights.{append_data, write_data};
 ghost use Rattle.room_rows.specs.Keep.{CanAdd, IsDamaged, IsUnreadable, SetsBody};
 ghost use Rattle.room_judge.specs.Halted.{Serves, TriesUpTo, replied};

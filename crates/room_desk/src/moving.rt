@@ -38,7 +38,8 @@ pub(crate) fn move_object<K: Keep>(
     ensures done { TriesUpTo K.Keep walk.old.keep.now walk.new.keep.now result OneAndBoth
         IsDamaged (Serves walk.old.asker.now (Move path.now to.now)) }
     ensures counted { IfOk (settled result)
-        (λ _. ReadsBeside K.Keep (length path.now + length to.now + 7) walk.old.keep.now walk.new.keep.now) }
+        (λ _. ReadsBeside K.Keep (length path.now + length to.now + 7) walk.old.keep.now
+        walk.new.keep.now) }
 {
     let root = walk.keep.root()?;
     if path.is_root() {

@@ -101,8 +101,7 @@ pub(crate) fn place_at<K: Keep>(
     ensures done { RepliesUpTo K.Keep walk.old.keep.now walk.new.keep.now result
         (Provided (CanGo target.now folder.now name.now) OneAndBoth)
         (FailsToPlace target.now folder.now name.now) (PlacesAt target.now folder.now name.now) }
-    ensures counted { IfOk result
-        (λ _. ReadsBeside K.Keep 6 walk.old.keep.now walk.new.keep.now) }
+    ensures counted { IfOk result (λ _. ReadsBeside K.Keep 6 walk.old.keep.now walk.new.keep.now) }
 {
     walk.keep.set_place(target.id, folder.id, name)?;
     renew_list(walk, target, folder, Which::Dacl)?;
@@ -122,8 +121,7 @@ fn renew_list<K: Keep>(
     ensures done { DoesUpTo K.Keep walk.old.keep.now walk.new.keep.now result
         (Provided (StandsListed which target.now) (EachList which)) (FailsToRenew target.now)
         (Renews which target.now folder.now) }
-    ensures counted { IfOk result
-        (λ _. ReadsBeside K.Keep 3 walk.old.keep.now walk.new.keep.now) }
+    ensures counted { IfOk result (λ _. ReadsBeside K.Keep 3 walk.old.keep.now walk.new.keep.now) }
 {
     if !takes_from(target, folder, which) {
         return Ok(());
@@ -145,8 +143,7 @@ fn take_passed<K: Keep>(
     ensures done { DoesUpTo K.Keep walk.old.keep.now walk.new.keep.now result
         (Provided (StandsListed which target.now) (EachList which)) (FailsToRenew target.now)
         (TakesPassed which target.now passed.now) }
-    ensures counted { IfOk result
-        (λ _. ReadsBeside K.Keep 3 walk.old.keep.now walk.new.keep.now) }
+    ensures counted { IfOk result (λ _. ReadsBeside K.Keep 3 walk.old.keep.now walk.new.keep.now) }
 {
     let is_stored = passed.is_same(target.held(which).inh());
     if is_stored {

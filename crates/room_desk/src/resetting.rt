@@ -67,8 +67,7 @@ fn reset_at_end<K: Keep>(
         (Beneath (option_copied setting.now.above) setting.now.target.now.node (IsResetAtEnd
         setting.now.path.now setting.now.which setting.now.sent.now setting.now.target.now.node
         rest)) }
-    ensures counted { IfOk result
-        (λ _. ReadsBeside K.Keep 2 keep.old keep.new) }
+    ensures counted { IfOk result (λ _. ReadsBeside K.Keep 2 keep.old keep.new) }
 {
     if rest == 0 {
         return set_found(alloc, keep, setting);

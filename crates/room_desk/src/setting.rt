@@ -132,8 +132,7 @@ pub(crate) fn set_found<K: Keep>(
         (IsUnreadableIfHeld setting.now.target.now.node)
         (Beneath (option_copied setting.now.above) setting.now.target.now.node (IsSetOrRefused
         setting.now.path.now setting.now.which setting.now.sent.now setting.now.target.now.node)) }
-    ensures counted { IfOk result
-        (λ _. ReadsBeside K.Keep 2 keep.old keep.new) }
+    ensures counted { IfOk result (λ _. ReadsBeside K.Keep 2 keep.old keep.new) }
 {
     let kind = setting.target.node.kind;
     let fault = bad_entry(setting.sent.entries().as_slice(), setting.which, kind);
@@ -174,8 +173,7 @@ fn set_at<K: Keep>(
     ensures quiet { IsStored setting.now.which setting.now.sent.now setting.now.target.now.node
         (option_copied setting.now.above) → IfOk result
         (λ _. K.writes keep.new ≡ K.writes keep.old) }
-    ensures counted { IfOk result
-        (λ _. ReadsBeside K.Keep 2 keep.old keep.new) }
+    ensures counted { IfOk result (λ _. ReadsBeside K.Keep 2 keep.old keep.new) }
 {
     let inh = new_inh(alloc, setting)?;
     let own = sent_entries(alloc, setting.sent, false)?;
@@ -198,8 +196,7 @@ fn write_list<K: Keep>(
         (Provided (StandsRooted setting.now.target.now.node) (OneAndEach setting.now.which))
         (IsUnreadableIfHeld setting.now.target.now.node)
         (IsWrittenDown setting.now.which setting.now.target.now.node held) }
-    ensures counted { IfOk result
-        (λ _. ReadsBeside K.Keep 2 keep.old keep.new) }
+    ensures counted { IfOk result (λ _. ReadsBeside K.Keep 2 keep.old keep.new) }
 {
     keep.set_held(setting.target.node.id, setting.which, &held)?;
     if held.flags().auto {
@@ -222,8 +219,7 @@ fn carry_on<K: Keep>(
         (HasLoopFrom (with_held setting.now.which held setting.now.target.now.node))
         (IsCarriedFrom setting.now.which
         (with_held setting.now.which held setting.now.target.now.node)) }
-    ensures counted { IfOk result
-        (λ _. ReadsBeside K.Keep 2 keep.old keep.new) }
+    ensures counted { IfOk result (λ _. ReadsBeside K.Keep 2 keep.old keep.new) }
 {
     let mut start = setting.target.node.copy()?;
     start.set_held(setting.which, held);

@@ -8,8 +8,8 @@ returns-in-Ok g c =
       done = given_ok g.met.K.Keep.laws c.args.which c.args.start.now c.in-Ok.field-0
           c.in-Ok.ensures.spread;
       counted =
-          reads_carried g.K.Keep c.args.keep.now c.spread_from-outcome.new.keep 2 c.in-Ok.field-0.changed
-          c.in-Ok.ensures.counted c.in-Ok.ensures.spread.written;
+          reads_carried g.K.Keep c.args.keep.now c.spread_from-outcome.new.keep 2
+          c.in-Ok.field-0.changed c.in-Ok.ensures.counted c.in-Ok.ensures.spread.written;
     }
 
 pub returns-in-Err : goal.returns-in-Err

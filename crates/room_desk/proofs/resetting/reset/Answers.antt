@@ -24,6 +24,7 @@ returns-in_err-found g c =
           c.from_residual.result _ c.from_residual.ensures.1;
     }
 
+-- the walk has met some object
 pub unreachable-requires : goal.unreachable-requires
 unreachable-requires g c =
     omega (
