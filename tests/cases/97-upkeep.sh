@@ -246,7 +246,7 @@ if has_sqlite; then
   cp whole backups/2020-01-01.030000/F
   night
   says 'a record that cannot be read' 1 'no older backup is removed'
-  holds 'it is told once for the text too' grep -q '^audit of the copy failed, status 3: fault: database' "$stand/messages"
+  holds 'the text is told of too' grep -q '^audit of the copy failed, status 3: fault: database' "$stand/messages"
   holds 'the older backup stays' [ -e backups/2020-01-01.030000/F ]
   holds 'beside tonight'"'"'s' [ "$(backups | wc -l)" = 2 ]
   unit stop
