@@ -2,6 +2,7 @@
 import importlib.machinery
 import importlib.util
 import os
+import re
 import shutil
 import sys
 from concurrent.futures import FIRST_COMPLETED, ThreadPoolExecutor, wait
@@ -29,13 +30,26 @@ def lines_of(crate):
     return crate.count(rb"\n")
 
 
-def lines_above(crates):
-    """Returns for each crate the lines of the longest chain of crates that begins with it."""
-    chain = {it: lines_of(it) for it in crates}
+def seconds_of(crates):
+    """Returns how long each crate's build takes: as docs/proofs.md has it of the last one that was
+    measured, and by its lines where it isn't there."""
+    with open(f"{TOP}/docs/proofs.md", encoding="utf-8") as page:
+        table = page.read().partition("<!-- build -->")[2].partition("<!-- /build -->")[0]
+    told = {name: int(number) for name, number in re.findall(r"`(\w+)` (\d+) ", table)}
+    measured = [it for it in crates if it.name in told]
+    lines = sum(map(lines_of, measured))
+    each = sum(told[it.name] for it in measured) / lines if lines else 1
+    return {it: told.get(it.name, lines_of(it) * each) for it in crates}
+
+
+def seconds_above(crates):
+    """Returns for each crate the seconds of the longest chain of crates that begins with it."""
+    seconds = seconds_of(crates)
+    chain = dict(seconds)
     for crate in sorted(crates, key=lambda it: -len(it.below())):
         for below in crate.below():
             if below in chain:
-                chain[below] = max(chain[below], lines_of(below) + chain[crate])
+                chain[below] = max(chain[below], seconds[below] + chain[crate])
     return chain
 
 
@@ -43,7 +57,7 @@ def side_by_side(crates, work):
     """Calls work(crate, jobs) for each crate once it was true for those below it, as many at once
     as there are processors and memory, longest chain first; returns what each call returned."""
     lanes, memory = len(os.sched_getaffinity(0)), free_memory()
-    chain, given, running = lines_above(crates), {}, {}
+    chain, given, running = seconds_above(crates), {}, {}
     left = sorted(crates, key=lambda it: -chain[it])
     with ThreadPoolExecutor(lanes) as pool:
         while left or running:

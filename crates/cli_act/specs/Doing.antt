@@ -29,6 +29,7 @@ use Rattle.store_schema.specs.declared.fault.CreateFault.TheVariants as creating
 use Rattle.store_schema.specs.declared.fault.MigrateFault.{MigrateFault}
 use Rattle.store_schema.specs.declared.fault.MigrateFault.TheVariants as migrating
 use Rattle.store_schema.specs.declared.fault.OpenFault.{OpenFault}
+use Rattle.room_store.specs.Failing.{FailsByDb}
 use Rattle.room_store.specs.Leads.{Leads}
 use Rattle.room_store.specs.Opens.{Creates, Opens}
 use Rattle.room_store.specs.Ran.{HasDamage, Looked, Ran}
@@ -139,12 +140,14 @@ pub record PutsMembers (pairs : List (List ℕ × List ℕ)) (old : State) (outc
 pub record GivesMembers (old : State) (outcome : Outcome) (new : State) : Type 0 where
   pub result : Result (Vec (List ℕ × List ℕ) Global) StoreFault
   pub looked : Looked old new result NoTables (λ db pairs. AreMembers db pairs.items)
+  pub fails : FailsByDb old new result
   pub leads : Leads old [] new
   pub told : IsTextOf (λ pairs. groups_text pairs.items) result outcome
 
 pub record GivesRecords (old : State) (outcome : Outcome) (new : State) : Type 0 where
   pub result : Result (Vec AuditRow Global) StoreFault
   pub looked : Looked old new result HasUnreadRecord (λ db records. AreRecords db records.items)
+  pub fails : FailsByDb old new result
   pub leads : Leads old [] new
   pub told : IsTextOf (λ records. records_text records.items) result outcome
 

@@ -3,6 +3,7 @@
 
 mod fault;
 mod no_room;
+mod place;
 mod reading;
 mod status;
 mod texts;
@@ -10,6 +11,7 @@ mod write;
 
 pub use fault::Fault;
 pub use no_room::NoRoom;
+pub use place::Place;
 pub use reading::read_front;
 pub use status::Status;
 pub use texts::{tell_fault, tell_if_possible, tell_text};

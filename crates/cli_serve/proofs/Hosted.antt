@@ -1,12 +1,13 @@
 -- A store that is opened, and then serves.
-use Rattle.std.proofs.Common.{◌≡◌, ◌≤◌, ◌⊎◌, ℕ, ℤ, All, List, [], ◌++◌, length, map, Option, Result}
-use Rattle.std.proofs.Common.{Ok, Err, OnOk, inl, inr, subst, sym}
-use Rattle.std.proofs.lemmas.List.{append-nil}
+use Rattle.std.proofs.Common.{◌≡◌, ◌≤◌, ◌⊎◌, ℕ, ℤ, All, List, [], ◌∷◌, length, map, Option, Result}
+use Rattle.std.proofs.Common.{Ok, Err, OnOk, Some, IsTrue, filter, pos, inl, inr, refl, subst, sym, ap, ◌∙◌}
 use Rattle.sqlite.specs.Effect.{Database}
+use Rattle.cli_outcome.specs.declared.place.Place.{Place}
 use Rattle.sqlite.specs.State.{State, HasCleanDisk}
 use Rattle.room_rows.specs.Rows.{Rows}
 use Rattle.store_tables.specs.Meaning.{rows_of}
-use Rattle.store_tables.specs.Shown.{HasTables}
+use Rattle.store_tables.specs.Shown.{HasTables, Retains, room_of}
+use Rattle.store_tables.proofs.Calls.{retains_same}
 use Rattle.room_machine.specs.Desk.{RunsClosed}
 use Rattle.room_machine.specs.declared.desk.Desk.{Ghosts}
 use Rattle.room_machine.specs.Run.{Asking, Event}
@@ -15,24 +16,27 @@ use Rattle.room_http.specs.Stream.{Runs}
 use Rattle.room_store.specs.Crash.{Lasts, Outlasts}
 use Rattle.room_store.specs.Lasting.{together}
 use Rattle.room_store.specs.Opens.{Opens}
+use Rattle.room_store.specs.Retained.{Holds, StillHolds}
 use Rattle.room_store.proofs.Outlasting.{idle, leaves_whole}
+use Rattle.room_store.proofs.Versions.{same_version}
 use Rattle.store_schema.specs.declared.fault.OpenFault.{OpenFault}
-use Rattle.room_store.specs.Kept.{IsShut, IsSound, Keeps, Stores}
-use Rattle.cli_serve.specs.Lines.{TellsFaults, TellsFirst, TellsPort}
+use Rattle.room_store.specs.Kept.{IsOfThisVersion, IsShut, IsSound, Keeps, Stores}
+use Rattle.cli_serve.specs.Lines.{TellsFaults, TellsFirst, TellsPlace}
 use Rattle.cli_serve.specs.Staying.{PassesUntil}
 use Rattle.cli_serve.specs.Peers.{Adds}
-use Rattle.cli_serve.specs.Visits.{IsEnd, IsServedVisit, Sources, Visit, acts_of, moment_of}
+use Rattle.cli_serve.specs.Visits.{IsEnd, IsServedVisit, Visit, acts_of, moment_of}
 use Rattle.cli_serve.specs.Visits.{requests_of, unanswered_of}
 use Rattle.cli_serve.specs.declared.fault.ServingFault.{ServingFault}
-use Rattle.cli_serve.specs.Hosts.{ServesRoom, LeavesRequests, LeavesShut, TellsEnd}
+use Rattle.cli_serve.specs.Hosts.{ServesRoom, LeavesRequests, LeavesShut, StaysRoom, TellsEnd}
 use Rattle.cli_serve.specs.Hosts.{end_status}
-use Rattle.cli_serve.specs.Places.{AsksFor, Place}
+use Rattle.cli_serve.specs.Places.{Deed, ListensAt, site_of}
 
-pub ends : (end : Result (Unit {0}) ServingFault) (port status : ℕ) (out out' : Option (List ℕ))
-    → status ≡ end_status end → OnOk end (TellsPort port out out')
-    → ((status ≡ 0) × TellsPort port out out') ⊎ (status ≡ 3)
-ends (Ok done) port status out out' is told = inl (is, told)
-ends (Err fault) port status out out' is told = inr is
+pub ends : (end : Result (Unit {0}) ServingFault) (place : Place) (status : ℕ)
+    (out out' : Option (List ℕ))
+    → status ≡ end_status end → OnOk end (TellsPlace place out out')
+    → ((status ≡ 0) × TellsPlace place out out') ⊎ (status ≡ 3)
+ends (Ok done) place status out out' is told = inl (is, told)
+ends (Err fault) place status out out' is told = inr is
 
 -- what a power cut leaves, where it left what was seen before
 pub leaves_requests : (old new : State) (visits : List Visit)
@@ -43,22 +47,23 @@ leaves_requests old new visits outlasts lasts now sound is_open room keeps =
     lasts room keeps
 
 -- what a store served, in terms of its content
-unfoldable pub served : (port count : ℕ) (from to : Sources) (old new : State)
+unfoldable pub served : (place : Place) (count : ℕ) (told told' : List ℤ → Type 0)
+    (did did' : List Deed → Type 0) (old new : State)
     (out out' err mid err' : Option (List ℕ)) (status : ℕ)
     (visits : List Visit) (end : Result (Unit {0}) ServingFault)
     → length visits ≤ count → All IsServedVisit visits
-    → ((before : List ℤ) → from.told before → to.told (before ++ map moment_of visits))
-    → Adds from.did to.did (acts_of visits)
+    → Adds told told' (map moment_of visits)
+    → ListensAt did did' (site_of place) (acts_of visits)
     → (HasCleanDisk new → HasCleanDisk old)
     → (HasCleanDisk new → IsSound old → IsSound new)
     → (HasCleanDisk new → IsSound old → Runs (Keeps old) (requests_of visits) (Keeps new))
     → IsEnd count end (length visits) → LeavesShut end new → status ≡ end_status end
-    → OnOk end (TellsPort port out out')
-    → TellsFirst port (length visits) out out' → TellsFaults visits err mid end
+    → OnOk end (TellsPlace place out out')
+    → TellsFirst place (length visits) out out' → TellsFaults visits err mid end
     → TellsEnd end mid err' → Lasts old → Lasts new
     → Outlasts old (unanswered_of visits) (requests_of visits) new
-    → ServesRoom port count from to old new out out' err err' status
-served port count from to old new out out' err mid err' status visits end few each moments acts
+    → ServesRoom place count told told' did did' old new out out' err err' status
+served place count told told' did did' old new out out' err mid err' status visits end few each moments acts
     trusted sound run says shut is tells first connections last lasted lasts outlasts =
     record {
       visits = visits;
@@ -70,7 +75,7 @@ served port count from to old new out out' err mid err' status visits end few ea
       lasts = lasts;
       outlasts = outlasts;
       leaves = leaves_requests old new visits outlasts lasted;
-      ends = ends end port status out out' is tells;
+      ends = ends end place status out out' is tells;
       first = first;
       end = end;
       end_is = is;
@@ -111,11 +116,59 @@ pub closed_from : (old mid : State) (result : Result (Unit {0}) OpenFault) (even
 closed_from old mid result events clean after opens trusted closed now rows stored =
     closed now rows (opened_stores old mid result opens (trusted now) rows stored)
 
+-- what was retained before is retained then
+opened_retains : (old new : State) (result : Result (Unit {0}) OpenFault) → Opens old new result
+    → StillHolds old new
+opened_retains old new result opens now = (
+  opens.leads.trusted now,
+  λ before holds. record {
+    seen = λ is_open.
+        subst (λ (db : Database). HasTables db × Retains before db.trees)
+        (sym (opens.adopts.kept now is_open).0) (holds.seen (opens.adopts.was_open now is_open));
+    left = λ db left. holds.left db (opens.adopts.crash now db left);
+  },
+)
+
+-- a room over an open connection holds what it holds
+holds_itself : (s : State) → IsTrue s.is_open → HasTables s.now → Lasts s → Holds s.now.trees s
+holds_itself s is_open has lasts =
+    let same = retains_same s.now s.now refl in
+    let safe = lasts is_open in
+    record {
+      seen = λ _. (has, same);
+      left = λ db left. (
+        s.now,
+        record { room = room_of has safe.0; retains = same },
+        safe.1.only db left,
+      );
+    }
+
+-- a room that was opened, and then retained what it held, is still one
+pub stays_room : (old mid new : State) → Opens old mid (Ok tt) → StillHolds mid new → Lasts old
+    → HasCleanDisk new → IsTrue old.is_open → HasTables old.now → StaysRoom old new
+stays_room old mid new opens retained lasted now is_open has =
+    let then = retained now in
+    let first = opened_retains old mid _ opens then.0 in
+    let holds = then.1 old.now.trees
+    (first.1 old.now.trees (holds_itself old is_open has lasted)) in
+    let version : IsOfThisVersion old.now = opens.adopts.told then.0 has.schema in
+    record {
+      seen = λ is_open'.
+          let seen = holds.seen is_open' in
+          (seen.0, same_version old.now new.now seen.1 version, seen.1);
+      left = λ db left.
+          let it = holds.left db left in (
+            it.0,
+            record {
+              room = it.1.room;
+              version = same_version old.now it.0 it.1.retains version;
+              retains = it.1.retains;
+            },
+            it.2,
+          );
+    }
+
 -- what happens after that
 pub after : (old mid new : State) (asked : List Asking) (events : List Event)
     → Outlasts old [] [] mid → Outlasts mid asked events new → Outlasts old asked events new
 after old mid new asked events first then = together meet old mid new [] asked [] events first then
-
--- nothing was asked for
-pub asks_none : (asked : List Place → Type 0) → AsksFor asked asked []
-asks_none asked before is = subst asked (sym (append-nil before)) is

@@ -1,9 +1,10 @@
 -- Connections one after another, up to one that leaves the desk shut.
-use Rattle.std.proofs.Common.{◌≡◌, ℕ, ℤ, ◌+◌, ◌<◌, Bool, true, false, List, [], ◌++◌, length, Ok}
-use Rattle.std.proofs.Common.{Err, Option, Result, subst, sym, refl, inl, inr, ◌∙◌, ap, arith, add-one}
+use Rattle.std.proofs.Common.{◌≡◌, ℕ, ℤ, ◌+◌, ◌<◌, Bool, true, false, List, [], ◌∷◌, ◌++◌, length}
+use Rattle.std.proofs.Common.{Ok, Err, Option, Result, subst, sym, refl, inl, inr, ◌∙◌, arith, add-one}
 use Rattle.std.proofs.lemmas.List.{length-append}
 use Rattle.std.specs.Io.KnownBytes.{Appends}
 use Rattle.cli_outcome.specs.Written.{WritesSome}
+use Rattle.cli_outcome.specs.declared.place.Place.{Place}
 use Rattle.room_machine.specs.declared.desk.Desk.{Ghosts}
 use Rattle.room_machine.specs.Desk.{Agrees, DeskLaws}
 use Rattle.room_rows.specs.Content.{Content}
@@ -11,13 +12,14 @@ use Rattle.room_rows.specs.Rows.{Rows}
 use Rattle.room_machine.proofs.Meeting.{closed_still}
 use Rattle.room_http.specs.Stream.{DeskRuns}
 use Rattle.cli_serve.specs.Lines.{TellsEach, TellsOf, Writing, listening_line}
-use Rattle.cli_serve.specs.Peers.{Act, Adds, DoneBy, NothingDone}
+use Rattle.cli_serve.specs.Peers.{Act, Adds, NothingDone}
+use Rattle.cli_serve.specs.Places.{Deed, ListensAt, Site}
 use Rattle.cli_serve.specs.Staying.{Passes, PassesEach, PassesUntil, Served, ServedAt, TellsShut}
 use Rattle.room_http.specs.declared.ended.Cause.{Cause}
 use Rattle.cli_serve.specs.Visits.{IsEnd, Receives, ReceivesAll, ReceivesOne, Sources, acts_of}
 use Rattle.cli_serve.specs.Visits.{sources}
 use Rattle.cli_serve.specs.declared.fault.ServingFault.{ServingFault}
-use Rattle.cli_serve.proofs.Receiving.{fewer, nobody, one_more, others}
+use Rattle.cli_serve.proofs.Receiving.{fewer, nobody, one_more, others, told_on}
 use Rattle.cli_serve.proofs.Told.{told_next, told_no_more}
 
 module _ {D : Type 0} (d : Ghosts D) (laws : DeskLaws d.Outlasts) where
@@ -49,14 +51,14 @@ module _ {D : Type 0} (d : Ghosts D) (laws : DeskLaws d.Outlasts) where
       subst (λ (k : ℕ). PassesEach d k old new) (sym (add-one n)) (mid, before, here)
 
   -- no connection came, nothing was printed of one, and this was the end
-  pub unserved : (port count : ℕ) (from to : Sources) (desk : D) (fault : ServingFault)
+  pub unserved : (place : Place) (count : ℕ) (from to : Sources) (desk : D) (fault : ServingFault)
       (out out' err : Option (List ℕ))
       → ((before : List ℤ) → from.told before → to.told (before ++ [])) → Adds from.did to.did []
-      → WritesSome out out' (listening_line port)
+      → WritesSome out out' (listening_line place)
       → IsEnd count (Err fault) 0 → PassesUntil d 0 desk desk (Err fault)
-      → ServedAt d port count from to desk desk out out' err err (Err fault)
+      → ServedAt d place count from to desk desk out out' err err (Err fault)
   unfolding nobody
-  unserved port count from to desk fault out out' err moments acts wrote says stays = record {
+  unserved place count from to desk fault out out' err moments acts wrote says stays = record {
     served = record {
       receives = nobody d laws count from to desk moments acts;
       end_says = says;
@@ -147,15 +149,19 @@ module _ {D : Type 0} (d : Ghosts D) (laws : DeskLaws d.Outlasts) where
           faults = lines_then WritesSome to new fault err'' next before now;
         }
 
--- A listener that has done nothing yet served: all that it did then came of that.
-pub by_listener : {D L : Type 0} (d : Ghosts D) (port count : ℕ) (told told' : List ℤ → Type 0)
-    (did : L → List Act → Type 0) (first last : L) (old new : D)
-    (out out' err err' : Option (List ℕ)) (end : Result (Unit {0}) ServingFault) → did first []
-    → ServedAt d port count (sources told (did first)) (sources told' (did last)) old new out out'
+-- A listener that has done nothing yet served, and was given back: all that it did came of that.
+pub by_listener : {D L : Type 0} (d : Ghosts D) (place : Place) (count : ℕ) (told told' : List ℤ → Type 0)
+    (did : L → List Act → Type 0) (first last : L) (site : Site)
+    (deeds bound closed : List Deed → Type 0) (old new : D)
+    (out out' err err' : Option (List ℕ)) (end : Result (Unit {0}) ServingFault)
+    → Adds deeds bound (Deed.Bound site ∷ []) → did first []
+    → ((acts : List Act) → did last acts → Adds bound closed (Deed.Closed acts ∷ []))
+    → ServedAt d place count (sources told (did first)) (sources told' (did last)) old new out out'
     err err' end
-    → ServedAt d port count (sources told NothingDone) (sources told' (DoneBy did)) old new out out'
-    err err' end
-by_listener d port count told told' did first last old new out out' err err' end begins at =
+    → ServedAt d place count (sources told NothingDone) (sources told' (ListensAt deeds closed site))
+    old new out out' err err' end
+by_listener d place count told told' did first last site deeds bound closed old new out out' err
+    err' end binds begins closes at =
     let r = at.served.receives in
     record {
       served = record {
@@ -165,11 +171,10 @@ by_listener d port count told told' did first last old new out out' err err' end
           each = r.each;
           moments = r.moments;
           acts = λ before none.
-              inr (
-                last,
-                subst (λ (acts : List Act). did last (acts ++ acts_of r.visits))
-                    (sym none) (r.acts [] begins),
-              );
+              let all = subst (λ (acts : List Act). did last (acts ++ acts_of r.visits))
+              (sym none) (r.acts [] begins) in
+              inr (told_on deeds bound closed (Deed.Bound site ∷ []) (Deed.Closed _ ∷ []) _ refl
+              binds (closes _ all));
           did = r.did;
         };
         end_says = at.served.end_says;

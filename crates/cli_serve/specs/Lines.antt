@@ -3,23 +3,26 @@ use Rattle.std.specs.Prelude.{◌≡◌, ◌⊎◌, ℕ, ◌+◌, List, [], ◌�
 use Rattle.std.specs.Prelude.{Option, Some, None, Result, Ok, Err}
 use Rattle.std.specs.Io.KnownBytes.{Appends}
 use Rattle.cli_outcome.specs.Written.{WritesSome}
+use Rattle.cli_outcome.specs.declared.place.Place.{Place}
+use Rattle.cli_outcome.specs.declared.place.Place.TheVariants as place
 use Rattle.room_http.specs.declared.ended.Cause.{Cause}
 use Rattle.cli_serve.specs.Visits.{Visit}
 use Rattle.cli_serve.specs.declared.fault.ServingFault.{ServingFault}
 
--- the port on which connections are accepted
-abbrev pub listening_line : ℕ → List ℕ
-listening_line port = codes "listening 127.0.0.1:" ++ (decimal port ++ codes "\n")
+-- the place at which connections are accepted
+abbrev pub listening_line : Place → List ℕ
+listening_line (place.Port port) = codes "listening 127.0.0.1:" ++ (decimal port ++ codes "\n")
+listening_line (place.Socket path) = codes "listening " ++ (path.now ++ codes "\n")
 
--- it was printed that this port listens
-abbrev pub TellsPort : ℕ → Option (List ℕ) → Option (List ℕ) → Type 0
-TellsPort port old new = Appends old new (listening_line port)
+-- it was printed that connections are accepted there
+abbrev pub TellsPlace : Place → Option (List ℕ) → Option (List ℕ) → Type 0
+TellsPlace place old new = Appends old new (listening_line place)
 
--- The port was printed before the first of that many connections. Where there was none, a front of
+-- The place was printed before the first of that many connections. Where there was none, a front of
 -- its line may have been, or nothing.
-abbrev pub TellsFirst : ℕ → ℕ → Option (List ℕ) → Option (List ℕ) → Type 0
-TellsFirst port visits old new =
-    ((visits ≡ 0) × WritesSome old new (listening_line port)) ⊎ TellsPort port old new
+abbrev pub TellsFirst : Place → ℕ → Option (List ℕ) → Option (List ℕ) → Type 0
+TellsFirst place visits old new =
+    ((visits ≡ 0) × WritesSome old new (listening_line place)) ⊎ TellsPlace place old new
 
 -- what ended the connection of this number
 abbrev pub connection_line : ℕ → Cause → List ℕ

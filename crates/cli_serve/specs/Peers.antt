@@ -1,5 +1,5 @@
 -- What a listener does: it accepts peers, and parts from them (own).
-use Rattle.std.specs.Prelude.{◌≡◌, ◌⊎◌, ℕ, List, [], ◌∷◌, ◌++◌, Option, Some, None}
+use Rattle.std.specs.Prelude.{◌≡◌, ℕ, List, [], ◌∷◌, ◌++◌, Option, Some, None}
 use Rattle.std.specs.Prelude.{Result, Ok, Err}
 
 -- the bytes that a peer has still to send, and those that it got, where they are known
@@ -23,13 +23,9 @@ met_by (Ok None) bytes = Act.Lost ∷ []
 met_by (Err fault) bytes = []
 
 -- these were done after those before
-abbrev pub Adds : (List Act → Type 0) → (List Act → Type 0) → List Act → Type 0
-Adds did did' acts = (before : List Act) → did before → did' (before ++ acts)
+abbrev pub Adds : {X : Type 0} → (List X → Type 0) → (List X → Type 0) → List X → Type 0
+Adds {X} did did' acts = (before : List X) → did before → did' (before ++ acts)
 
 -- nothing was done yet
 abbrev pub NothingDone : List Act → Type 0
 NothingDone acts = acts ≡ []
-
--- a listener did these, or nothing was done
-abbrev pub DoneBy : {L : Type 0} → (L → List Act → Type 0) → List Act → Type 0
-DoneBy {L} did acts = (acts ≡ []) ⊎ ((listener : L) × did listener acts)

@@ -2,6 +2,7 @@
 use Rattle.std.specs.Prelude.{◌≡◌, ◌⊎◌, ℕ, ℤ, ◌+◌, Bool, true, false, zero, suc, List, [], length}
 use Rattle.std.specs.Prelude.{Option, Result, Err}
 use Rattle.room_machine.specs.declared.desk.Desk.{Ghosts}
+use Rattle.cli_outcome.specs.declared.place.Place.{Place}
 use Rattle.room_rows.specs.Keep.{one_more}
 use Rattle.room_http.specs.Stream.{DeskRuns}
 use Rattle.cli_serve.specs.Lines.{TellsFaults, TellsFirst}
@@ -50,9 +51,10 @@ pub record Served {D : Type 0} (d : Ghosts D) (count : ℕ) (from to : Sources) 
   pub stays : PassesUntil d (length receives.visits) old new end
   pub faults : TellsFaults receives.visits err err' end
 
--- The same with what was printed of the port before the first of them.
-pub record ServedAt {D : Type 0} (d : Ghosts D) (port count : ℕ) (from to : Sources) (old new : D)
+-- The same with what was printed of the place before the first of them.
+pub record ServedAt {D : Type 0} (d : Ghosts D) (place : Place) (count : ℕ) (from to : Sources)
+    (old new : D)
     (out out' err err' : Option (List ℕ)) (end : Result (Unit {0}) ServingFault)
     : Type 0 where
   pub served : Served d count from to old new err err' end
-  pub first : TellsFirst port (length served.receives.visits) out out'
+  pub first : TellsFirst place (length served.receives.visits) out out'

@@ -9,6 +9,7 @@ mod lines;
 mod moment;
 mod ports;
 mod serving;
+mod sockets;
 mod telling;
 
 pub use accepting::{Listens, Peer};
@@ -17,3 +18,4 @@ pub use hosting::{Service, host};
 pub use moment::{Moments, Seconds};
 pub use ports::{NetPorts, Ports};
 pub use serving::{Listening, serve_on};
+pub use sockets::{FileId, NetListener, NetStream};

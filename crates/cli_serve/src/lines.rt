@@ -2,40 +2,45 @@
 ghost use Rattle.std.specs.Prelude.{◌≡◌, ◌++◌, IfSome, IsTrue, OnOk};
 ghost use Rattle.std.specs.Io.KnownBytes.{Appends};
 ghost use Rattle.cli_outcome.specs.Written.{WritesSome};
-ghost use Rattle.cli_serve.specs.Lines.{TellsPort, connection_line, listening_line};
+ghost use Rattle.cli_serve.specs.Lines.{TellsPlace, connection_line, listening_line};
 
 use arrayvec::ArrayString;
-use cli_outcome::send_text;
+use cli_outcome::{Place, send_text};
 use room_http::Cause;
 use std::fmt;
 use std::fmt::Write as _;
 use std::io::Write;
 
-// Adds the line of the port to a text, if it fits.
-fn add_port(text: &mut ArrayString<64>, port: u16) -> fmt::Result
-    ensures { OnOk result (text.new.bytes ≡ text.old.bytes ++ listening_line port) }
+// Adds the line of the place to a text, if it fits.
+fn add_place(text: &mut ArrayString<128>, place: &Place<'_>) -> fmt::Result
+    ensures { OnOk result (text.new.bytes ≡ text.old.bytes ++ listening_line place.now) }
 {
-    write!(text, "listening 127.0.0.1:{port}\n")
+    match place {
+        Place::Port(port) => write!(text, "listening 127.0.0.1:{port}\n"),
+        Place::Socket(path) => write!(text, "listening {path}\n"),
+    }
 }
 
-// It takes no memory, as that of a connection doesn't.
-fn line_of_port(port: u16) -> Option<ArrayString<64>>
-    ensures { IfSome result (λ line. line.bytes ≡ listening_line port) }
+// It takes no memory, as that of a connection doesn't. The path of a socket has 107 bytes at most.
+fn line_of_place(place: &Place<'_>) -> Option<ArrayString<128>>
+    ensures { IfSome result (λ line. line.bytes ≡ listening_line place.now) }
 {
     let mut line = ArrayString::new();
-    match add_port(&mut line, port) {
+    match add_place(&mut line, place) {
         Ok(()) => Some(line),
         Err(_) => None,
     }
 }
 
-/// Prints on which port connections are accepted, before the first is, and answers whether all of
-/// the line was printed.
-pub(crate) fn tell_port<O: Write>(out: &mut O, port: u16) -> bool
-    ensures whole { IsTrue result → TellsPort port (O.contents out.old) (O.contents out.new) }
-    ensures some { WritesSome (O.contents out.old) (O.contents out.new) (listening_line port) }
+/// Prints where connections are accepted, before the first is, and answers whether all of the line
+/// was printed.
+pub(crate) fn tell_place<O: Write>(out: &mut O, place: &Place<'_>) -> bool
+    ensures whole { IsTrue result
+        → TellsPlace place.now (O.contents out.old) (O.contents out.new) }
+    ensures some { WritesSome (O.contents out.old) (O.contents out.new)
+        (listening_line place.now) }
 {
-    match line_of_port(port) {
+    match line_of_place(place) {
         Some(line) => send_text(out, line.as_str().as_bytes()).is_ok(),
         None => false,
     }

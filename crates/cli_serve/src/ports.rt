@@ -1,52 +1,89 @@
-//! Where ports are bound.
-ghost use Rattle.std.specs.Prelude.{IfOk, List, [], ◌∷◌, ◌++◌, ⊤};
+//! Where ports and sockets are bound.
+ghost use Rattle.std.specs.Prelude.{IfOk, List, [], ◌∷◌, ⊤};
 ghost use Rattle.std.specs.Net.Addr.{ipv4_octets};
-ghost use Rattle.cli_serve.specs.Places.{Place};
+ghost use Rattle.cli_serve.specs.Peers.{Act, Adds};
+ghost use Rattle.cli_serve.specs.Places.{Deed, Site, asked_by};
 
 use crate::accepting::Listens;
+use crate::sockets::{NetListener, file_at, give_up};
+use std::fs::Files;
 use std::io;
+use std::io::ErrorKind;
 use std::net::{Ipv4Addr, Net, TcpListener, TcpStream};
+use std::os::unix::net::UnixListener;
 
-/// Where ports are bound.
+/// Where ports and sockets are bound.
 pub trait Ports {
-    type Listener: Listens + Drop;
+    /// It can't be dropped: whoever has it gives it back.
+    type Listener: Listens;
 
-    // Whether these may be the places that it was asked for, in order.
-    ghost asked: { Self → List Place → Type 0 };
+    // Whether these may have been done here, in order: sites that were asked for, and all that
+    // listeners did that were given back.
+    ghost did: { Self → List Deed → Type 0 };
 
     /// A listener at a port of an address, which has done nothing yet, or the error of the network.
     fn bind(&mut self, address: Ipv4Addr, port: u16) -> io::Result<Self::Listener>
-        ensures asked { (before : List Place) → asked self.old before
-            → asked self.new (before ++ (ipv4_octets address, port) ∷ []) }
+        ensures did { Adds (did self.old) (did self.new)
+            (asked_by result (Site.Port (ipv4_octets address) port) ∷ []) }
         ensures begins { IfOk result (λ listener. Self.Listener.did listener []) };
+
+    /// A listener at a socket whose file is made at this path, which has done nothing yet, or the
+    /// error of the network. Where there is a file already, that is an error.
+    fn bind_path(&mut self, path: &str) -> io::Result<Self::Listener>
+        ensures did { Adds (did self.old) (did self.new)
+            (asked_by result (Site.Socket path.now) ∷ []) }
+        ensures begins { IfOk result (λ listener. Self.Listener.did listener []) };
+
+    /// Takes a listener back, which accepts nobody any more.
+    fn close(&mut self, listener: Self::Listener)
+        ensures { (acts : List Act) → Self.Listener.did listener acts
+            → Adds (did self.old) (did self.new) (Deed.Closed acts ∷ []) };
 }
 
-/// The ports of a network.
+/// The ports and the sockets of a system.
 #[derive(Drop)]
-pub struct NetPorts<'a, N> {
-    net: &'a N,
+pub struct NetPorts<'a, R> {
+    system: &'a R,
 }
 
-impl<'a, N> NetPorts<'a, N>
+impl<'a, R> NetPorts<'a, R>
 where
-    N: Net<Listener = TcpListener, Stream = TcpStream>,
+    R: Files + Net<Listener = TcpListener, Stream = TcpStream>,
 {
-    /// The ports of this network.
-    pub fn of(net: &'a N) -> NetPorts<'a, N> {
-        NetPorts { net }
+    /// The ports and the sockets of this system.
+    pub fn of(system: &'a R) -> NetPorts<'a, R> {
+        NetPorts { system }
     }
 }
 
-impl<N> Ports for NetPorts<'_, N>
+impl<R> Ports for NetPorts<'_, R>
 where
-    N: Net<Listener = TcpListener, Stream = TcpStream>,
+    R: Files + Net<Listener = TcpListener, Stream = TcpStream>,
 {
-    type Listener = TcpListener;
+    type Listener = NetListener;
 
-    // The contract of a network says nothing of what it is asked for.
-    ghost asked = { λ _ _. ⊤ };
+    // The contract of a system says nothing of what it is asked for.
+    ghost did = { λ _ _. ⊤ };
 
-    fn bind(&mut self, address: Ipv4Addr, port: u16) -> io::Result<TcpListener> {
-        TcpListener::bind(self.net, (address, port))
+    fn bind(&mut self, address: Ipv4Addr, port: u16) -> io::Result<NetListener> {
+        match TcpListener::bind(self.system, (address, port)) {
+            Ok(listener) => Ok(NetListener::Tcp(listener)),
+            Err(error) => Err(error),
+        }
+    }
+
+    fn bind_path(&mut self, path: &str) -> io::Result<NetListener> {
+        // For an empty path the system would choose a name that no file has.
+        if path.is_empty() {
+            return Err(io::Error::from(ErrorKind::InvalidInput));
+        }
+        match UnixListener::bind(self.system, path) {
+            Ok(listener) => Ok(NetListener::Unix(listener, file_at(self.system, path))),
+            Err(error) => Err(error),
+        }
+    }
+
+    fn close(&mut self, listener: NetListener) {
+        give_up(self.system, listener);
     }
 }

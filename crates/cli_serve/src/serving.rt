@@ -3,15 +3,16 @@ ghost use Rattle.std.specs.Prelude.{◌≡◌, ◌+◌, List, [], ◌∷◌, IfE
 ghost use Rattle.std.specs.Io.KnownBytes.{Appends};
 ghost use Rattle.cli_outcome.specs.Written.{WritesSome};
 ghost use Rattle.room_http.specs.Stream.{DeskRuns};
-ghost use Rattle.cli_serve.specs.Lines.{TellsOf, TellsPort};
+ghost use Rattle.cli_serve.specs.Lines.{TellsOf, TellsPlace};
 ghost use Rattle.cli_serve.specs.Peers.{Act, Adds, Wire, wire};
 ghost use Rattle.cli_serve.specs.Staying.{AttendsOne, Passes, Served, ServedAt, TellsShut};
 ghost use Rattle.cli_serve.specs.Visits.{Attends, Meeting, Receives, ReceivesOne, sources};
 
 use crate::accepting::{Listens, Peer};
 use crate::fault::ServingFault;
-use crate::lines::{tell_fault, tell_port};
+use crate::lines::{tell_fault, tell_place};
 use crate::moment::Moments;
+use cli_outcome::Place;
 use http_message::Routes;
 use room_http::{Cause, serve};
 use room_machine::Desk;
@@ -20,15 +21,15 @@ use std::io::{Read, Write};
 
 /// Where connections are accepted, and how many.
 #[derive(Drop)]
-pub struct Listening<L> {
+pub struct Listening<'a, L> {
     pub listener: L,
-    /// The port of the listener.
-    pub port: u16,
+    /// The place of the listener.
+    pub place: Place<'a>,
     pub count: u32,
 }
 
 /// Serves `count` connections of the listener, one after another. First it prints on `out` that it
-/// listens on `port`. The clock is read once for each connection, when it is accepted: this is the
+/// listens at `place`. The clock is read once for each connection, when it is accepted: this is the
 /// moment of its requests. A fault of a connection is printed on `err`, and the next one is served.
 /// A connection that is lost before it is accepted counts as one whose reading failed.
 ///
@@ -42,23 +43,23 @@ pub fn serve_on<D: Desk, L: Listens, M: Moments, O: Write, E: Write>(
     alloc: Global,
     desk: &mut D,
     clock: &mut M,
-    listening: &mut Listening<L>,
+    listening: &mut Listening<'_, L>,
     out: &mut O,
     err: &mut E,
 ) -> Result<(), ServingFault>
-    ensures served { ServedAt D.Desk listening.old.port listening.old.count
+    ensures served { ServedAt D.Desk listening.old.place listening.old.count
         (sources (M.told clock.old) (L.did listening.old.listener))
         (sources (M.told clock.new) (L.did listening.new.listener))
         desk.old desk.new (O.contents out.old) (O.contents out.new)
         (E.contents err.old) (E.contents err.new) result }
     ensures told { OnOk result
-        (TellsPort listening.old.port (O.contents out.old) (O.contents out.new)) }
+        (TellsPlace listening.old.place (O.contents out.old) (O.contents out.new)) }
 {
     let Ok(routes) = Routes::new(alloc) else {
         return Err(ServingFault::Memory);
     };
     let count = listening.count;
-    if tell_port(out, listening.port) {
+    if tell_place(out, &listening.place) {
         serve_each(&routes, desk, clock, &mut listening.listener, count, err)
     } else {
         Err(ServingFault::File)

@@ -4,4 +4,5 @@ pub mod Filled
 pub mod Walked
 pub mod Wanted
 pub mod Named
+pub mod Given
 mod Taking

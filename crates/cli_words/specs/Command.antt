@@ -1,14 +1,18 @@
 -- Which command the words are (own).
 use Rattle.std.specs.Prelude.{◌≡◌, ◌≢◌, ◌⊎◌, ◌<◌, false, ◌^◌, ℕ, List, [], Option, Some, None}
-use Rattle.std.specs.Prelude.{◌∷◌, Bool, IsSome, true, codes, option_map, pos, unwrap_or}
-use Rattle.std.specs.Prelude.{if◌then◌else◌}
+use Rattle.std.specs.Prelude.{◌∷◌, ◌&&◌, Bool, IsSome, true, codes, find, is_some, option_and_then}
+use Rattle.std.specs.Prelude.{option_map, pos, unwrap_or, if◌then◌else◌}
 use Rattle.std.specs.Str.{bytes_eq}
 use Rattle.std.specs.Str.Parse.{IsNumeral, digits_value, without_leading_plus}
 use Rattle.std.specs.Borrow.{Bor}
-use Rattle.clap.specs.Words.{IsAmong, IsSignedIn, Row, Text, fault_of, first_of, one_of}
+use Rattle.clap.specs.Words.{App, IsAmong, IsSignedIn, Row, Text, fault_of, first_of, one_of}
 use Rattle.clap.specs.Words.{subcommand_of, takes, without_minus}
 use Rattle.clap.specs.declared.error.kind.ErrorKind.{ErrorKind}
 use Rattle.clap.specs.declared.error.kind.ErrorKind.TheVariants as kinds
+use Rattle.clap.specs.declared.parser.matches.ValueSource.{ValueSource}
+use Rattle.clap.specs.declared.parser.matches.ValueSource.TheVariants.{DefaultValue, CommandLine}
+use Rattle.cli_outcome.specs.declared.place.Place.{Place}
+use Rattle.cli_outcome.specs.declared.place.Place.TheVariants as place
 use Rattle.room_entry.specs.declared.failure.Failure.{Failure}
 use Rattle.room_entry.specs.declared.failure.Failure.TheVariants.{OutOfMemory, Fault}
 use Rattle.cli_words.specs.declared.command.CliFault.{CliFault}
@@ -80,6 +84,29 @@ pub record HasWords (name : Text) (rows : List Row) : Type 0 where
 abbrev pub which_in : List Row → Which
 which_in rows = if bytes_eq (word (codes "LIST") rows) (codes "dacl") then Dacl else Sacl
 
+-- whether a value came from the words, and isn't a default
+abbrev pub is_of_words : Option ValueSource → Bool
+is_of_words None = false
+is_of_words (Some DefaultValue) = false
+is_of_words (Some CommandLine) = true
+
+abbrev pub was_given : Text → List Row → Bool
+was_given id rows =
+    is_of_words (option_and_then (λ r. r.source) (find (λ r. bytes_eq r.id id) rows))
+
+-- Both a port and a socket were given.
+abbrev pub names_two : Option (Text × List Row) → Bool
+names_two None = false
+names_two (Some found) =
+    was_given (codes "port") found.1 && is_some (first_of (codes "socket") found.1)
+
+-- The place is the socket that was given. Where none was, it is the port that was given or is the
+-- default.
+abbrev pub IsPlace : List Row → Place → Type 0
+IsPlace rows (place.Socket path) = first_of (codes "socket") rows ≡ Some path.now
+IsPlace rows (place.Port port) = (first_of (codes "socket") rows ≡ None)
+    × IsNumber 16 8780 (one_of (codes "port") rows) port
+
 -- A job of this name, with its words.
 abbrev pub IsJob : Text → List Row → Job → Type 0
 IsJob name rows (job.Init owner group) = (name ≡ codes "init")
@@ -101,8 +128,8 @@ IsJob name rows job.Migrate = name ≡ codes "migrate"
 -- A subcommand of this name, with its words.
 abbrev pub IsMet : Text → List Row → Command → Type 0
 IsMet name rows command.Check = name ≡ codes "check"
-IsMet name rows (command.Serve file port count) = (name ≡ codes "serve")
-    × (file.now ≡ word (codes "FILE") rows) × IsNumber 16 8780 (one_of (codes "port") rows) port
+IsMet name rows (command.Serve file place count) = (name ≡ codes "serve")
+    × (file.now ≡ word (codes "FILE") rows) × IsPlace rows place
     × IsNumber 32 1 (one_of (codes "count") rows) count
 IsMet name rows (command.On file job) =
     (file.now ≡ word (codes "FILE") rows) × IsJob name rows job
@@ -124,18 +151,27 @@ abbrev pub IsCommand : Option (Text × List Row) → Command → Type 0
 IsCommand None command = ⊥
 IsCommand (Some found) command = IsMet found.0 found.1 command
 
--- The words are without fault, and this is the command that `clap` finds in them.
+-- The words are without fault, this is the command that `clap` finds in them, and it names one
+-- place at most.
 abbrev pub IsRead : List Text → Command → Type 0
 IsRead words command = (names : Bor (List (Bor Text))) × AreAttributes names
     × (fault_of (command_line names) words ≡ [])
+    × (names_two (subcommand_of (command_line names) words) ≡ false)
     × IsCommand (subcommand_of (command_line names) words) command
 
--- Memory ran out, or `clap` doesn't take the words, for a reason of this kind.
+-- `clap` doesn't take the words, for a reason of this kind. Or it takes them, and they name two
+-- places, which is a conflict.
+abbrev pub IsReason : App → List Text → ErrorKind → Type 0
+IsReason app words kind =
+    ((takes app words ≡ false) × IsAmong kind (fault_of app words))
+    ⊎ ((fault_of app words ≡ []) × (names_two (subcommand_of app words) ≡ true)
+    × (kind ≡ kinds.ArgumentConflict))
+
+-- Memory ran out, or the words are refused, for a reason of this kind.
 abbrev pub IsRefused : List Text → Failure CliFault → Type 0
 IsRefused words OutOfMemory = Unit {0}
 IsRefused words (Fault fault) = (names : Bor (List (Bor Text))) × AreAttributes names
-    × (takes (command_line names) words ≡ false)
-    × IsAmong fault.kind (fault_of (command_line names) words)
+    × IsReason (command_line names) words fault.kind
 
 -- Memory ran out, or the kind of `clap`'s error is answered.
 abbrev pub IsTold : ErrorKind → Failure CliFault → Type 0

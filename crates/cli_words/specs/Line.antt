@@ -39,8 +39,12 @@ port = number (codes "port") (codes "8780") (parser.Signed (pos 1) (pos 65535))
 abbrev pub count : Rule
 count = number (codes "count") (codes "1") (parser.Signed (pos 1) (pos 1000000))
 
+-- the path of a socket, in the place of a port
+abbrev pub socket : Rule
+socket = record (new_rule (codes "socket")) { long = Some (codes "socket") }
+
 abbrev pub serve : App
-serve = sub (codes "serve") (file ∷ port ∷ count ∷ [])
+serve = sub (codes "serve") (file ∷ port ∷ socket ∷ count ∷ [])
 
 -- the only user whose rows are written
 abbrev pub user : Rule
@@ -102,6 +106,11 @@ AreAttributes names = map (λ name. name.now) names.now ≡ codes "dacl" ∷ cod
 -- An argument that is read by this rule, and belongs to its own subcommand alone.
 abbrev pub IsArg : Rule → Arg → Type 0
 IsArg rule arg = (rule_of arg ≡ rule) × (arg.global ≡ false)
+
+-- The argument that names one of the two lists.
+abbrev pub IsListArg : Arg → Type 0
+IsListArg arg =
+    (names : Bor (List (Bor Text))) × AreAttributes names × IsArg (attribute names) arg
 
 -- A command that is read as this one.
 abbrev pub IsLine : App → Command → Type 0

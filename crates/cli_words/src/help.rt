@@ -42,13 +42,17 @@ Example: rooms init office.rooms alice staff";
 
 pub(crate) const SERVE: &str = "\
 It prints where it listens, as listening 127.0.0.1:8780, and ends after the last
-connection. Users send requests over HTTP.
+connection. Users send requests over HTTP. With --socket it prints that path, as
+listening office.socket. The socket's file is made there, and removed at the end;
+where something is there already, that is a fault. Whoever can reach the port, or
+may write to the socket's file, can ask in any user's name.
 
   0  it served them
   2  refused: why
   3  a fault, printed on standard error
 
-Example: rooms serve office.rooms --port 8781 --count 100";
+Examples: rooms serve office.rooms --port 8781 --count 100
+          rooms serve office.rooms --socket office.socket --count 100";
 
 pub(crate) const GROUPS: &str = "\
 The first row of the CSV file is group,user, and each further row a pair of two

@@ -19,6 +19,8 @@ pub(crate) const SACL: &str = "sacl";
 
 pub(crate) const PORT: &str = "port";
 
+pub(crate) const SOCKET: &str = "socket";
+
 pub(crate) const COUNT: &str = "count";
 
 pub(crate) const USER: &str = "user";

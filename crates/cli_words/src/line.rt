@@ -1,11 +1,13 @@
 //! The subcommands with their arguments, as they are declared to `clap`.
 ghost use Rattle.std.specs.Prelude.{IfOk, [], codes};
-ghost use Rattle.cli_words.specs.Line.{IsArg, IsCommandLine, IsLine, IsReset, all, count, file};
+ghost use Rattle.clap.specs.Words.{App, with_subcommand};
+ghost use Rattle.cli_words.specs.Line.{IsArg, IsCommandLine, IsLine, IsListArg, IsReset, all};
+ghost use Rattle.cli_words.specs.Line.{count, file};
 ghost use Rattle.cli_words.specs.Line.{groups, init, making, over_file, port, program, review};
-ghost use Rattle.cli_words.specs.Line.{serve, sub, telling, user, wanted, with_all};
+ghost use Rattle.cli_words.specs.Line.{serve, socket, sub, telling, user, wanted, with_all};
 
 use crate::help;
-use crate::ids::{ALL, COUNT, CSV, DACL, FILE, GROUP, LIST, OWNER, PATH, PORT, SACL, USER};
+use crate::ids::{ALL, COUNT, CSV, DACL, FILE, GROUP, LIST, OWNER, PATH, PORT, SACL, SOCKET, USER};
 use clap::{Arg, ArgAction, Command, value_parser};
 use std::alloc::{AllocError, Global};
 
@@ -47,10 +49,8 @@ pub(crate) fn over_file<'a>(
 fn init<'a>(alloc: Global) -> Result<Command<'a>, AllocError>
     ensures { IfOk result (IsLine init) }
 {
-    Command::new(alloc, "init")
-        .about("Makes a new file with an empty room")
-        .after_help(help::INIT)
-        .arg(file(alloc))?
+    let about = "Makes a new file with an empty room";
+    over_file(alloc, "init", about, help::INIT)?
         .arg(wanted(alloc, OWNER, "The user who owns the root"))?
         .arg(wanted(alloc, GROUP, "The group that owns the root"))
 }
@@ -63,6 +63,14 @@ fn port<'a>(alloc: Global) -> Arg<'a>
         .value_parser(value_parser!(u16).range(1..))
         .default_value("8780")
         .help("The port of 127.0.0.1 that it listens on")
+}
+
+fn socket<'a>(alloc: Global) -> Arg<'a>
+    ensures { IsArg socket result }
+{
+    Arg::new(alloc, SOCKET).long(SOCKET).help(
+        "The path of a socket that it listens on, in the place of a port",
+    )
 }
 
 fn count<'a>(alloc: Global) -> Arg<'a>
@@ -78,34 +86,38 @@ fn count<'a>(alloc: Global) -> Arg<'a>
 fn serve<'a>(alloc: Global) -> Result<Command<'a>, AllocError>
     ensures { IfOk result (IsLine serve) }
 {
-    Command::new(alloc, "serve")
-        .about("Serves connections, one after the other")
-        .after_help(help::SERVE)
-        .arg(file(alloc))?
+    let about = "Serves connections, one after the other";
+    over_file(alloc, "serve", about, help::SERVE)?
         .arg(port(alloc))?
+        .arg(socket(alloc))?
         .arg(count(alloc))
+}
+
+// Which list, by its name.
+fn list<'a>(alloc: Global) -> Arg<'a>
+    ensures { IsListArg result }
+{
+    wanted(alloc, LIST, "Which list").value_parser(ATTRIBUTES.as_slice())
 }
 
 fn reset<'a>(alloc: Global) -> Result<Command<'a>, AllocError>
     ensures { IfOk result IsReset }
 {
-    let list = wanted(alloc, LIST, "Which list").value_parser(ATTRIBUTES.as_slice());
-    Command::new(alloc, "reset")
-        .about("Sets a list from the standard input, without testing any right")
-        .after_help(help::RESET)
-        .arg(file(alloc))?
+    let about = "Sets a list from the standard input, without testing any right";
+    over_file(alloc, "reset", about, help::RESET)?
         .arg(wanted(alloc, PATH, "The path of the object"))?
-        .arg(list)
+        .arg(list(alloc))
 }
 
 fn groups<'a>(alloc: Global) -> Result<Command<'a>, AllocError>
     ensures { IfOk result (IsLine groups) }
 {
-    Command::new(alloc, "groups")
-        .about("Replaces the members by those of a CSV file")
-        .after_help(help::GROUPS)
-        .arg(file(alloc))?
-        .arg(wanted(alloc, CSV, "A file with the header group,user"))
+    let about = "Replaces the members by those of a CSV file";
+    over_file(alloc, "groups", about, help::GROUPS)?.arg(wanted(
+        alloc,
+        CSV,
+        "A file with the header group,user",
+    ))
 }
 
 fn user<'a>(alloc: Global) -> Arg<'a>
@@ -154,15 +166,25 @@ fn check<'a>(alloc: Global) -> Command<'a>
         .after_help(help::CHECK)
 }
 
+// Adds a subcommand that was made.
+fn with<'a>(
+    line: Command<'a>,
+    made: Result<Command<'a>, AllocError>,
+) -> Result<Command<'a>, AllocError>
+    ensures { IfOk result (λ new. (app one : App) → IsLine app line.entry
+        → IfOk made.entry (IsLine one) → IsLine (with_subcommand app one.top) new) }
+{
+    line.subcommand(made?)
+}
+
 // The subcommands that make a room and change what is in it.
 fn with_making<'a>(alloc: Global) -> Result<Command<'a>, AllocError>
     ensures { IfOk result (IsLine (with_all making program)) }
 {
-    program(alloc)
-        .subcommand(check(alloc))?
-        .subcommand(init(alloc)?)?
-        .subcommand(serve(alloc)?)?
-        .subcommand(groups(alloc)?)
+    let line = program(alloc).subcommand(check(alloc))?;
+    let line = with(line, init(alloc))?;
+    let line = with(line, serve(alloc))?;
+    with(line, groups(alloc))
 }
 
 // And those that print what is in it.
@@ -170,33 +192,25 @@ fn with_telling<'a>(alloc: Global) -> Result<Command<'a>, AllocError>
     ensures { IfOk result (IsLine (with_all telling (with_all making program))) }
 {
     let line = with_making(alloc)?;
-    line.subcommand(over_file(
-        alloc,
-        "groups-out",
-        "Writes the members as CSV",
-        help::GROUPS_OUT,
-    )?)?
-    .subcommand(over_file(alloc, "audit", "Writes the records as CSV", help::AUDIT)?)?
-    .subcommand(over_file(alloc, "dump", "Writes all objects and members", help::DUMP)?)?
-    .subcommand(review(alloc)?)
+    let about = "Writes the members as CSV";
+    let line = with(
+        line,
+        over_file(alloc, "groups-out", about, help::GROUPS_OUT),
+    )?;
+    let about = "Writes the records as CSV";
+    let line = with(line, over_file(alloc, "audit", about, help::AUDIT))?;
+    let about = "Writes all objects and members";
+    let line = with(line, over_file(alloc, "dump", about, help::DUMP))?;
+    with(line, review(alloc))
 }
 
 /// The program with all its subcommands.
 pub(crate) fn command_line<'a>(alloc: Global) -> Result<Command<'a>, AllocError>
     ensures { IfOk result IsCommandLine }
 {
-    let line = with_telling(alloc)?;
-    line.subcommand(reset(alloc)?)?
-        .subcommand(over_file(
-            alloc,
-            "verify",
-            "Looks for the first fault of the rows",
-            help::VERIFY,
-        )?)?
-        .subcommand(over_file(
-            alloc,
-            "migrate",
-            "Upgrades a file of the older schema",
-            help::MIGRATE,
-        )?)
+    let line = with_telling(alloc)?.subcommand(reset(alloc)?)?;
+    let about = "Looks for the first fault of the rows";
+    let line = with(line, over_file(alloc, "verify", about, help::VERIFY))?;
+    let about = "Upgrades a file of the older schema";
+    with(line, over_file(alloc, "migrate", about, help::MIGRATE))
 }

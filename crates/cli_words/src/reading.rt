@@ -1,20 +1,33 @@
 //! Words read as a command.
-ghost use Rattle.std.specs.Prelude.{◌≡◌, IfErr, IfOk, IfSome, IsSome, map};
+ghost use Rattle.std.specs.Prelude.{◌≡◌, IfErr, IfOk, IfSome, IsSome, false, map, true};
 ghost use Rattle.std.specs.Prelude.{codes, option_map};
 ghost use Rattle.clap.specs.Words.{first_of, found_of, kind_of, one_of, rows_of};
 ghost use Rattle.clap.specs.Words.{subcommand_rows_of};
+ghost use Rattle.clap.specs.declared.error.kind.ErrorKind.TheVariants.{ArgumentConflict};
 ghost use Rattle.cli_words.specs.Command.{HasNumber, HasWord, HasWords, IsCommand, IsFlag, IsJob};
 ghost use Rattle.cli_words.specs.Command.{IsList, IsMet, IsName, IsNumber, IsRead, IsRefused};
-ghost use Rattle.cli_words.specs.Command.{IsTold, IsWhole, which_in, word};
+ghost use Rattle.cli_words.specs.Command.{IsPlace, IsTold, IsWhole, is_of_words, names_two};
+ghost use Rattle.cli_words.specs.Command.{was_given, which_in, word};
 
 use crate::command::{CliFault, Command, Job};
-use crate::ids::{ALL, COUNT, CSV, DACL, FILE, GROUP, LIST, OWNER, PATH, PORT, SACL, USER};
+use crate::ids::{ALL, COUNT, CSV, DACL, FILE, GROUP, LIST, OWNER, PATH, PORT, SACL, SOCKET, USER};
 use crate::line::command_line;
 use clap::ArgMatches;
 use clap::error::{Error, ErrorKind};
+use clap::parser::ValueSource;
+use cli_outcome::Place;
 use room_entry::{Failure, Which};
 use std::alloc::Global;
 use std::convert::AsStr;
+
+// What is said of a port and a socket, in the words that `clap` has for such a conflict.
+const TWO_PLACES: &str = "\
+error: the argument '--port <port>' cannot be used with '--socket <socket>'
+
+Usage: rooms serve [OPTIONS] <FILE>
+
+For more information, try '--help'.
+";
 
 // The word that was given for an argument.
 fn word<'a>(words: &ArgMatches<'a>, id: &str) -> &'a str
@@ -49,6 +62,24 @@ fn port(words: &ArgMatches<'_>) -> u16
     }
 }
 
+// The path of the socket that was named, if one was.
+fn socket<'a>(words: &ArgMatches<'a>) -> Option<&'a str>
+    ensures { option_map (λ text. text.now) result
+        ≡ first_of (codes "socket") (rows_of (found_of words.now)) }
+{
+    words.get_str(SOCKET)
+}
+
+fn place<'a>(words: &ArgMatches<'a>) -> Place<'a>
+    requires { HasNumber (codes "port") 65535 (rows_of (found_of words.now)) }
+    ensures { IsPlace (rows_of (found_of words.now)) result }
+{
+    match socket(words) {
+        Some(path) => Place::Socket(path),
+        None => Place::Port(port(words)),
+    }
+}
+
 fn count(words: &ArgMatches<'_>) -> u32
     requires { HasNumber (codes "count") 1000000 (rows_of (found_of words.now)) }
     ensures { IsNumber 32 1 (one_of (codes "count") (rows_of (found_of words.now))) result }
@@ -75,7 +106,7 @@ fn serve<'a>(words: &ArgMatches<'a>) -> Command<'a>
 {
     Command::Serve {
         file: word(words, FILE),
-        port: port(words),
+        place: place(words),
         count: count(words),
     }
 }
@@ -146,6 +177,33 @@ fn met<'a>(name: &str, words: &ArgMatches<'a>) -> Option<Command<'a>>
     }
 }
 
+// Whether a value came from the words, and isn't a default.
+fn is_of_words(source: Option<ValueSource>) -> bool
+    ensures { result ≡ is_of_words source }
+{
+    match source {
+        None => false,
+        Some(ValueSource::DefaultValue) => false,
+        Some(ValueSource::CommandLine) => true,
+    }
+}
+
+fn was_given(words: &ArgMatches<'_>, id: &str) -> bool
+    ensures { result ≡ was_given id.now (rows_of (found_of words.now)) }
+{
+    is_of_words(words.value_source(id))
+}
+
+// Whether both a port and a socket were given.
+fn names_two(matches: &ArgMatches<'_>) -> bool
+    ensures { result ≡ names_two (subcommand_rows_of matches.now) }
+{
+    match matches.subcommand() {
+        Some((_, words)) => was_given(words, PORT) && socket(words).is_some(),
+        None => false,
+    }
+}
+
 // The command that the matches name.
 fn command_met<'a>(matches: &ArgMatches<'a>) -> Command<'a>
     requires { IsWhole (subcommand_rows_of matches.now) }
@@ -161,8 +219,35 @@ fn command_met<'a>(matches: &ArgMatches<'a>) -> Command<'a>
     }
 }
 
+// The command that the matches name, if it has one place at most.
+fn command_of<'a>(alloc: Global, matches: &ArgMatches<'a>) -> Result<Command<'a>, Failure<CliFault>>
+    requires { IsWhole (subcommand_rows_of matches.now) }
+    ensures ok { IfOk result (λ command. (names_two (subcommand_rows_of matches.now) ≡ false)
+        × IsCommand (subcommand_rows_of matches.now) command) }
+    ensures err { IfErr result (λ failure. (names_two (subcommand_rows_of matches.now) ≡ true)
+        × IsTold ArgumentConflict failure) }
+{
+    if names_two(matches) {
+        return Err(two_places(alloc));
+    }
+    Ok(command_met(matches))
+}
+
+// What is said of words that name two places.
+fn two_places(alloc: Global) -> Failure<CliFault>
+    ensures { IsTold ArgumentConflict result }
+{
+    match String::from_str(alloc, TWO_PLACES) {
+        Ok(text) => Failure::Fault(CliFault {
+            kind: ErrorKind::ArgumentConflict,
+            text,
+        }),
+        Err(_) => Failure::OutOfMemory,
+    }
+}
+
 /// The command of the words, of which the first is the program's name. The error is what `clap`
-/// says of them, or that memory ran out.
+/// says of them, that they name both a port and a socket, or that memory ran out.
 pub fn read_command<'a, S: AsStr>(
     alloc: Global,
     words: &'a [S],
@@ -172,7 +257,7 @@ pub fn read_command<'a, S: AsStr>(
 {
     let line = command_line(alloc)?;
     match line.try_get_matches_from(words) {
-        Ok(matches) => Ok(command_met(&matches)),
+        Ok(matches) => command_of(alloc, &matches),
         Err(error) => Err(refusal(alloc, &error)),
     }
 }

@@ -10,6 +10,7 @@ use Rattle.httparse.specs.Grammar.{RequestHead, print_request}
 use Rattle.http_message.specs.declared.head.Head.{Head}
 use Rattle.room_http.specs.Message.{print_message, BeginsWith, IsPart, head_of, field_of, body_size}
 use Rattle.room_http.specs.declared.ended.Cause.{Cause}
+use Rattle.room_http.specs.Limits.{max_body}
 use Rattle.room_http.specs.Spans.{AreSpansOf, head_at, StopsBody, StopsReading}
 use Rattle.room_http.specs.Turn.{WholeNext}
 
@@ -55,11 +56,11 @@ pub whole-next : (buf after more : List ℕ) (spans : List HeaderSpan) (r : Requ
     (h : RequestHead) (head : Head) (size : ℕ)
     → BeginsWith buf h (drop r.len buf) → AreSpansOf spans r h
     → head ≡ head_at (take r.len buf) spans r
-    → Ok size ≡ body_size head.fields
+    → Ok size ≡ body_size head.fields → size ≤ max_body
     → after ≡ buf ++ more → r.len + size ≤ length after
     → WholeNext after (record { head = head; start = r.len; end = r.len + size })
 unfolding print_message
-whole-next buf after more spans r h head size b s copied sized came fits =
+whole-next buf after more spans r h head size b s copied sized small came fits =
     let p = print_request h in
     let rest = drop r.len buf ++ more in
     let all : after ≡ p ++ rest = more-whole buf after more h r.len b came in
@@ -83,6 +84,7 @@ whole-next buf after more spans r h head size b s copied sized came fits =
           ∙ ap (λ t. take size rest ++ t) (sym tail))
           ∙ sym (append_assoc p (take size rest) (drop (r.len + size) after));
       ordered = omega arith;
+      small = let short = b.head.short in let same = s.len in omega (arith, short, same, small);
       in_range = fits;
       body = body-slice p rest after r.len size all s.len;
     }
@@ -116,12 +118,16 @@ pub stopped-next : (buf : List ℕ) (u v : Option (List ℕ)) (spans : List Head
     (size : ℕ) (cause : Cause)
     → BeginsWith buf h (drop r.len buf) → AreSpansOf spans r h
     → head ≡ head_at (take r.len buf) spans r
-    → Ok size ≡ body_size head.fields
+    → Ok size ≡ body_size head.fields → size ≤ max_body
     → StopsBody u v buf (r.len + size) cause → StopsReading u v buf cause
-stopped-next buf u v spans r h head size Cause.Read b s copied sized stop = (
+stopped-next buf u v spans r h head size Cause.Read b s copied sized small stop = (
   stop.0,
   stop.1,
   inr (part-next buf stop.0 stop.1.0 spans r h head size b s copied sized stop.1.2 stop.2),
 )
-stopped-next buf u v spans r h head size Cause.Write b s copied sized stop = absurd stop.2
-stopped-next buf u v spans r h head size Cause.Memory b s copied sized stop = (stop.0, stop.1, tt)
+stopped-next buf u v spans r h head size Cause.Write b s copied sized small stop = absurd stop.2
+stopped-next buf u v spans r h head size Cause.Memory b s copied sized small stop =
+    let short = b.head.short in
+    let len = s.len in
+    let near = stop.2 in
+    (stop.0, stop.1, omega (arith, short, len, small, near))

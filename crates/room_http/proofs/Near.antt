@@ -1,6 +1,7 @@
 -- How far the bytes that were read reach, and what is there where a read brings nothing.
-use Rattle.std.proofs.Common.{◌≡◌, ℕ, ◌+◌, ◌<◌, ◌≤◌, ◌⊎◌, List, [], ◌∷◌, ◌++◌, length, take, drop}
-use Rattle.std.proofs.Common.{refl, inl, inr, sym, ap, subst, ◌∙◌, arith, Option}
+use Rattle.std.proofs.Common.{◌≡◌, ℕ, ◌+◌, ◌-◌, ◌<◌, ◌≤◌, ◌⊎◌, List, [], ◌∷◌, ◌++◌, length, take}
+use Rattle.std.proofs.Common.{drop, max, refl, inl, inr, sym, ap, subst, ◌∙◌, arith, Option}
+use Rattle.std.specs.Io.KnownBytes.{Consumes}
 use Rattle.std.proofs.lemmas.Bool.{cases_lt}
 use Rattle.std.proofs.lemmas.List.{append-nil, length-append, length-drop, take-append-le}
 use Rattle.std.proofs.lemmas.List.{take-append-drop}
@@ -10,9 +11,9 @@ use Rattle.httparse.specs.declared.spans.RequestSpans.{RequestSpans}
 use Rattle.httparse.specs.declared.spans.HeaderSpan.{HeaderSpan}
 use Rattle.room_http.specs.declared.ended.Cause.{Cause}
 use Rattle.room_http.specs.declared.next.NextMessage.{NextMessage}
-use Rattle.room_http.specs.Limits.{max_head, read_size}
+use Rattle.room_http.specs.Limits.{max_head, max_unanswered, read_size}
 use Rattle.room_http.specs.Message.{print_message, BeginsWith, IsPart}
-use Rattle.room_http.specs.Serve.{IsNear, IsNearHead}
+use Rattle.room_http.specs.Serve.{IsNear}
 use Rattle.room_http.specs.Spans.{Came, Loses, MayGoOn, SpansHead, StopsBody, StopsReading}
 use Rattle.room_http.specs.Turn.{WholeNext}
 use Rattle.room_http.proofs.KnownBytes.{Came-then}
@@ -90,22 +91,32 @@ none-or-part (b ∷ rest) part =
       few = part.3;
     }))
 
-came-nothing : (u v w : Option (List ℕ)) (a b : List ℕ) → Came u v a b → Loses v w Cause.Read
+came-nothing : (u v w : Option (List ℕ)) (a b : List ℕ) → Came u v a b → Consumes v w []
     → Came u w a b
 came-nothing u v w a b x y = Came-then u v w a b b x ([], y, sym (append-nil b))
 
-pub stops-reading : (u v w : Option (List ℕ)) (a b : List ℕ) (cause : Cause) → Came u v a b
-    → Loses v w cause → (b ≡ []) ⊎ IsPart b
-    → StopsReading u w a cause
-stops-reading u v w a b Cause.Read x y part = (b, came-nothing u v w a b x y, part)
-stops-reading u v w a b Cause.Write x y part = absurd y
-stops-reading u v w a b Cause.Memory x y part =
-    (b ++ y.0, Came-then u v w a b (b ++ y.0) x (y.0, y.1, refl), tt)
+pub stops-reading : (u v w : Option (List ℕ)) (a b : List ℕ) (room : ℕ) (cause : Cause)
+    → Came u v a b → Loses room v w cause → (b ≡ []) ⊎ IsPart b
+    → length b + room < max_unanswered → StopsReading u w a cause
+stops-reading u v w a b room Cause.Read x y part few = (b, came-nothing u v w a b x y, part)
+stops-reading u v w a b room Cause.Write x y part few = absurd y
+stops-reading u v w a b room Cause.Memory x y part few =
+    let all = length-append b y.0 in
+    let more = y.1 in (
+      b ++ y.0,
+      Came-then u v w a b (b ++ y.0) x (y.0, y.2, refl),
+      omega (arith, all, more, few),
+    )
 
-pub stops-body : (u v w : Option (List ℕ)) (a b : List ℕ) (total : ℕ) (cause : Cause) → Came u v a b
-    → Loses v w cause → length b < total
-    → StopsBody u w a total cause
-stops-body u v w a b total Cause.Read x y short = (b, came-nothing u v w a b x y, short)
-stops-body u v w a b total Cause.Write x y short = absurd y
-stops-body u v w a b total Cause.Memory x y short =
-    (b ++ y.0, Came-then u v w a b (b ++ y.0) x (y.0, y.1, refl), tt)
+pub stops-body : (u v w : Option (List ℕ)) (a b : List ℕ) (total room : ℕ) (cause : Cause)
+    → Came u v a b → Loses room v w cause → length b < total
+    → room ≤ max read_size (total - length b) → StopsBody u w a total cause
+stops-body u v w a b total room Cause.Read x y short near = (b, came-nothing u v w a b x y, short)
+stops-body u v w a b total room Cause.Write x y short near = absurd y
+stops-body u v w a b total room Cause.Memory x y short near =
+    let all = length-append b y.0 in
+    let more = y.1 in (
+      b ++ y.0,
+      Came-then u v w a b (b ++ y.0) x (y.0, y.2, refl),
+      omega (arith, all, more, short, near),
+    )

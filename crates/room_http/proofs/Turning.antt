@@ -248,7 +248,8 @@ module _ {D : Type 0} (d : Ghosts D) (moment : ℤ) (n : ℕ) (old new : Snapsho
         near = tt;
         writes = ([], [], refl, nothing-sent old.sent new.sent wrote);
         acted = acted;
-        cause = subst (λ (k : Cause). BlamesBefore k buf) (sym why) tt;
+        cause = subst (λ (k : Cause). BlamesBefore k buf) (sym why)
+            (let small = w.small in omega (arith, small, near));
         did = subst (λ (desk : D). DeskRuns d old.desk [] [] desk) (sym a)
             (nothing-done d laws old.desk);
         faults = ap d.faults a;

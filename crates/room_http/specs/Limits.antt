@@ -1,5 +1,5 @@
 -- The limits of a connection (own).
-use Rattle.std.specs.Prelude.{ℕ}
+use Rattle.std.specs.Prelude.{ℕ, ◌+◌}
 
 -- the most bytes of a head
 abbrev pub max_head : ℕ
@@ -20,6 +20,11 @@ read_size = 16384
 -- the most bytes of a body that are read at once
 abbrev pub chunk_size : ℕ
 chunk_size = 65536
+
+-- fewer bytes than these are read before the next message is whole, and then memory runs out: those
+-- of a message, and of one read ahead of its end
+abbrev pub max_unanswered : ℕ
+max_unanswered = max_head + max_body + read_size
 
 -- the most messages of a connection
 abbrev pub max_messages : ℕ

@@ -8,7 +8,7 @@ use Rattle.room_http.specs.declared.ended.Cause.{Cause}
 use Rattle.room_http.specs.declared.ended.Ended.{Ended}
 use Rattle.room_http.specs.declared.ended.ServeFault.{ServeFault}
 use Rattle.room_http.specs.declared.refusal.Refusal.{Refusal}
-use Rattle.room_http.specs.Limits.{max_head, max_messages, read_size}
+use Rattle.room_http.specs.Limits.{max_head, max_messages, max_unanswered, read_size}
 use Rattle.room_http.specs.Message.{Message, print_message, IsMessage, IsRefusedHead, IsPart, asked}
 use Rattle.room_http.specs.Text.{refusal_reply, store_text}
 use Rattle.room_http.specs.Answer.{Rose}
@@ -128,11 +128,12 @@ NextRose (Next.Failing m) old new = Rose old new
 NextRose next old new = new ≡ old
 
 -- what failed before the next message was known, where these bytes are left: the reader is asked
--- only while no message is whole
+-- only while no message is whole, and where memory runs out, they are no more than a message and
+-- what is read ahead of its end
 abbrev pub BlamesBefore : Cause → List ℕ → Type 0
 BlamesBefore Cause.Read left = (left ≡ []) ⊎ IsPart left
 BlamesBefore Cause.Write left = ⊥
-BlamesBefore Cause.Memory left = ⊤
+BlamesBefore Cause.Memory left = length left < max_unanswered
 
 -- what failed once a text was due, of which this was written, and this was not: a writer fails
 -- only where something is not

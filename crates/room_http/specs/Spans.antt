@@ -70,22 +70,24 @@ abbrev pub Came : Option (List ℕ) → Option (List ℕ) → List ℕ → List 
 Came old_left new_left old new =
     (more : List ℕ) × Consumes old_left new_left more × (new ≡ old ++ more)
 
--- what a read that brought nothing took from the reader, by what failed
-abbrev pub Loses : Option (List ℕ) → Option (List ℕ) → Cause → Type 0
-Loses old new Cause.Read = Consumes old new []
-Loses old new Cause.Write = ⊥
-Loses old new Cause.Memory = (more : List ℕ) × Consumes old new more
+-- what a read of so many bytes that brought nothing took from the reader, by what failed
+abbrev pub Loses : ℕ → Option (List ℕ) → Option (List ℕ) → Cause → Type 0
+Loses room old new Cause.Read = Consumes old new []
+Loses room old new Cause.Write = ⊥
+Loses room old new Cause.Memory =
+    (more : List ℕ) × (length more ≤ room) × Consumes old new more
 
 -- these bytes came, and then a read brought nothing, which this explains
 abbrev pub StopsReading : Option (List ℕ) → Option (List ℕ) → List ℕ → Cause → Type 0
 StopsReading old_left new_left old cause =
     (all : List ℕ) × Came old_left new_left old all × BlamesBefore cause all
 
--- the same within a body: where a read failed, fewer bytes came than the body has
+-- the same within a body: where a read failed, fewer bytes came than up to its end, and where
+-- memory ran out, less than one read more
 abbrev pub BlamesBody : Cause → ℕ → List ℕ → Type 0
 BlamesBody Cause.Read total all = length all < total
 BlamesBody Cause.Write total all = ⊥
-BlamesBody Cause.Memory total all = ⊤
+BlamesBody Cause.Memory total all = length all < total + read_size
 
 abbrev pub StopsBody : Option (List ℕ) → Option (List ℕ) → List ℕ → ℕ → Cause → Type 0
 StopsBody old_left new_left old total cause =

@@ -8,7 +8,7 @@ use Rattle.room_http.specs.declared.server.Connection.{Connection}
 use Rattle.room_http.specs.declared.server.TurnFault.{TurnFault}
 use Rattle.room_http.specs.declared.next.NextMessage.{NextMessage}
 use Rattle.room_http.specs.declared.next.Upcoming.{Upcoming}
-use Rattle.room_http.specs.Limits.{max_messages, read_size}
+use Rattle.room_http.specs.Limits.{max_body, max_head, max_messages, read_size}
 use Rattle.room_http.specs.Message.{Message, print_message, IsMessage}
 use Rattle.room_http.specs.Message.{IsRefusedHead, IsPart, head_of}
 use Rattle.room_http.specs.Stream.{Exchange, IsOpen, exchange_text, Last}
@@ -37,6 +37,7 @@ pub record WholeNext (buf : List ℕ) (next : NextMessage) : Type 0 where
   pub head : next.head ≡ head_of message.head
   pub whole : buf ≡ print_message message ++ drop next.end buf
   pub ordered : next.start ≤ next.end
+  pub small : next.end ≤ max_head + max_body
   pub in_range : next.end ≤ length buf
   pub body : slice_range buf next.start next.end ≡ message.body
 

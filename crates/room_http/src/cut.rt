@@ -54,7 +54,7 @@ fn read_into<R: Read>(
     ensures end { result ≡ Ok false
         → (buf.new.items ≡ buf.old.items) × IsAtEnd (R.remaining r.new) }
     ensures size { length buf.new.items ≤ length buf.old.items + room }
-    ensures lost { IfErr result (Loses (R.remaining r.old) (R.remaining r.new)) }
+    ensures lost { IfErr result (Loses room (R.remaining r.old) (R.remaining r.new)) }
     ensures err { OnErr result (buf.new.items ≡ buf.old.items) }
 {
     let place = &mut chunk[..room];
@@ -95,7 +95,7 @@ impl Inbox {
         ensures end { result ≡ Ok false
             → (self.new.buf.items ≡ self.old.buf.items) × IsAtEnd (R.remaining r.new) }
         ensures size { length self.new.buf.items ≤ length self.old.buf.items + room }
-        ensures lost { IfErr result (Loses (R.remaining r.old) (R.remaining r.new)) }
+        ensures lost { IfErr result (Loses room (R.remaining r.old) (R.remaining r.new)) }
         ensures err { OnErr result (self.new.buf.items ≡ self.old.buf.items) }
     {
         // Two fields behind one reference can't be lent at once.

@@ -36,8 +36,9 @@ impl Inbox {
             → IfOk result (ComesNear self.new.buf.items) }
         ensures came { OnOk result
             (Came (R.remaining r.old) (R.remaining r.new) self.old.buf.items self.new.buf.items) }
-        ensures lost { IfErr result
-            (StopsReading (R.remaining r.old) (R.remaining r.new) self.old.buf.items) }
+        ensures lost { length self.old.buf.items < read_size
+            → IfErr result (StopsReading
+            (R.remaining r.old) (R.remaining r.new) self.old.buf.items) }
         ensures next { IfOk result (Coming self.new.buf.items (R.remaining r.new)) }
     {
         let mut spans = [EMPTY_HEADER_SPAN; MAX_FIELDS];
@@ -62,8 +63,9 @@ impl Inbox {
             → IfOk result (ComesNear self.new.buf.items) }
         ensures came { OnOk result
             (Came (R.remaining r.old) (R.remaining r.new) self.old.buf.items self.new.buf.items) }
-        ensures lost { IfErr result
-            (StopsReading (R.remaining r.old) (R.remaining r.new) self.old.buf.items) }
+        ensures lost { length self.old.buf.items < parts.len + read_size
+            → IfErr result (StopsReading
+            (R.remaining r.old) (R.remaining r.new) self.old.buf.items) }
         ensures next { IfOk result (Coming self.new.buf.items (R.remaining r.new)) }
     {
         let Ok(head) = copied_head(self.alloc, &self.buf[..parts.len], spans, parts) else {

@@ -1,11 +1,11 @@
 //! Reading a group file.
-ghost use Rattle.std.specs.Prelude.{◌≡◌};
+ghost use Rattle.std.specs.Prelude.{◌≡◌, []};
 ghost use Rattle.std.specs.Cmp.Lexicographic.{pointwise};
 ghost use Rattle.csv.specs.Records.{fields_of};
 ghost use Rattle.room_entry.specs.Gives.{Gives};
 ghost use Rattle.room_entry.specs.Pieces.{same_text};
-ghost use Rattle.room_import.specs.Groups.{group_header, groups_in, pair_of};
-ghost use Rattle.room_import.specs.Rows.{ReadsNextRow, HeaderTaken, PairTaken, named};
+ghost use Rattle.room_import.specs.Groups.{group_header, groups_in, pair_of, pairs_after};
+ghost use Rattle.room_import.specs.Rows.{ReadsNextRow, HeaderTaken, PairTaken, named, rows_left};
 
 use crate::fault::{CsvFault, CsvWhy};
 use crate::gathered::Gathered;
@@ -35,9 +35,21 @@ pub fn read_groups(alloc: Global, bytes: &[u8]) -> Result<Pairs, Failure<CsvFaul
     let mut reader = rows_of(alloc, bytes);
     let mut row = StringRecord::new(alloc);
     read_header(&mut reader, &mut row)?;
+    read_pairs(alloc, &mut reader, &mut row)
+}
+
+// The pairs of the rows below the header.
+fn read_pairs(
+    alloc: Global,
+    reader: &mut Reader<&[u8]>,
+    row: &mut StringRecord,
+) -> Result<Pairs, Failure<CsvFault>>
+    requires { ReadsNextRow reader.old }
+    ensures { Gives result (pairs_after [] 2 (rows_left reader.old)) }
+{
     let mut gathered = Gathered::new(alloc);
     let mut number = HEADER_ROW + 1;
-    'rows: while let Some(pair) = read_pair(alloc, number, &mut reader, &mut row)? {
+    'rows: while let Some(pair) = read_pair(alloc, number, reader, row)? {
         gathered = gathered.with(alloc, pair.0, pair.1)?;
         number += 1;
     }

@@ -33,7 +33,7 @@ not_called : (label : List ℕ) (party : Party) (name : List ℕ) (other : Party
 not_called label party name other isnt is same =
     absurd (false≢true (sym isnt ∙ ap is_name (sym (same_text-true name label same)) ∙ is))
 
-each_of : {A : Type 0} (p : A → Bool) (xs : List A) → list_all p xs ≡ true
+pub each_of : {A : Type 0} (p : A → Bool) (xs : List A) → list_all p xs ≡ true
     → Each (λ x. p x ≡ true) xs
 each_of p [] all = tt
 each_of p (x ∷ xs) all =

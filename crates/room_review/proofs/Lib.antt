@@ -24,3 +24,4 @@ pub mod Labels
 pub mod Below
 pub mod ReadAs
 pub mod Whole
+pub mod Worked

@@ -11,7 +11,8 @@ use Rattle.csv.proofs.RoundTrip.{read-write}
 use Rattle.room_import.specs.Exports.{rows_text}
 use Rattle.room_entry.proofs.Facts.Members.{each_weaker}
 use Rattle.room_rows.specs.Content.{Content}
-use Rattle.room_review.specs.LookedUp.{IsOfObject}
+use Rattle.room_review.specs.declared.question.Scope.{Scope}
+use Rattle.room_review.specs.LookedUp.{IsRow}
 
 -- a row has a column, so it is read as it was written
 abbrev pub HasColumn : List (List ℕ) → Type 0
@@ -47,12 +48,12 @@ read_as_rows rows all =
     all_read (length (rows_text rows) + 1) rows
     (let fewer = fewer_rows rows in omega (arith, fewer)) all
 
--- the rows of objects have columns
-pub all_columns : (room : Content) (path : List (List ℕ)) (table : List (List (List ℕ)))
-    → Each (IsOfObject room path) table → Each HasColumn table
-all_columns room path table all =
-    each_weaker (IsOfObject room path) HasColumn has_column table all
+-- the rows of a table have columns
+pub all_columns : (room : Content) (question : Scope) (whole table : List (List (List ℕ)))
+    → Each (IsRow room question whole) table → Each HasColumn table
+all_columns room question whole table all =
+    each_weaker (IsRow room question whole) HasColumn has_column table all
   where
-    has_column : (row : List (List ℕ)) → IsOfObject room path row → HasColumn row
-    has_column [] is = absurd (let none = is.3 in let wrong : ⊥ = cc in wrong)
+    has_column : (row : List (List ℕ)) → IsRow room question whole row → HasColumn row
+    has_column [] is = absurd (let none = is.begins in let wrong : ⊥ = cc in wrong)
     has_column (column ∷ columns) is = refl

@@ -1,17 +1,19 @@
 -- A table of a review is the room: what is looked up in it of each caller is what the room allows.
 use Rattle.std.proofs.Common.{◌≡◌, ℕ, Bool, true, false, List, [], ◌∷◌, ◌++◌}
 use Rattle.std.proofs.Common.{length, map, take, Option, Some, None, refl, sym, ap, subst}
-use Rattle.std.proofs.Common.{◌∙◌, codes}
+use Rattle.std.proofs.Common.{◌∙◌, codes, inl, inr}
 use Rattle.std.specs.List.{list_any, AllByRecursion as Each}
 use Rattle.std.specs.Option.{option_map, option_map_or, option_or}
 use Rattle.std.proofs.lemmas.Bool.{cond-false, cond-true}
 use Rattle.std.proofs.lemmas.Bool.{or_from, or_left}
 use Rattle.std.proofs.lemmas.List.Folds.{list_any-append}
 use Rattle.csv.specs.Reading.{default_config, records}
+use Rattle.room_entry.specs.Letters.{mask_text}
 use Rattle.room_entry.specs.Names.{is_name}
 use Rattle.room_entry.specs.Pieces.{same_text}
 use Rattle.room_entry.proofs.Alike.{text_itself}
 use Rattle.room_entry.proofs.Facts.Members.{any_map, each_append, each_back, each_map}
+use Rattle.room_entry.proofs.Facts.Members.{each_weaker}
 use Rattle.room_import.specs.Exports.{rows_text}
 use Rattle.room_rows.specs.declared.node.Node.{Node}
 use Rattle.room_rows.specs.Content.{Content, child_of, children_of, root_of}
@@ -22,7 +24,7 @@ use Rattle.room_rows.specs.Sound.{AreSound}
 use Rattle.room_desk.proofs.Sound.Filled.{site_filled, target_there}
 use Rattle.room_desk.proofs.Sound.Sites.{fill, sites_filled}
 use Rattle.room_desk.proofs.Sound.SoundParts.{sound_parts}
-use Rattle.room_dump.proofs.Counting.{each_always, each_both}
+use Rattle.room_dump.proofs.Counting.{each_always, each_both, each_filter}
 use Rattle.room_dump.proofs.Reached.{Reached, all_there, goes_down}
 use Rattle.room_machine.specs.Rights.{may_remove_at, rights_at}
 use Rattle.room_machine.specs.Site.{Site, site_at, sites_along}
@@ -35,13 +37,14 @@ use Rattle.room_review.specs.Laws.{SaysAlike, SaysAt, stored_above, told_at, tol
 use Rattle.room_review.specs.LookedUp.{is_row_of, label_in, looked_up, nearest}
 use Rattle.room_review.specs.Table.{AreAll, AreAsked, IsReviewAt, Place, header}
 use Rattle.room_review.specs.Table.{kind_word, named, nameless, other_name, place_below, place_of}
-use Rattle.room_review.specs.Table.{row, object_rows, site_of, table_rows}
+use Rattle.room_review.specs.Table.{row, object_rows, site_of, table_rows, yes_or_no}
 use Rattle.room_review.specs.Users.{is_listed}
-use Rattle.room_review.specs.LookedUp.{IsAskedFor, IsOfObject, SaysTheRoom, StandsAt}
+use Rattle.room_review.specs.LookedUp.{IsAskedFor, IsLabel, IsRow, SaysTheRoom, StandsAt}
 use Rattle.room_review.specs.LookedUp.{TableIsTheRoom}
 use Rattle.room_review.specs.LookedUp.{is_caller}
 use Rattle.room_review.proofs.Below as below
-use Rattle.room_review.proofs.Labels.{IsParty, no_label, nobody_party, star_party, user_party}
+use Rattle.room_review.proofs.Labels.{IsParty, each_of, no_label, nobody_party, star_party}
+use Rattle.room_review.proofs.Labels.{user_party}
 use Rattle.room_review.proofs.Lookups.{any_flat, found_from, has_none, has_row, or_none, printed}
 use Rattle.room_review.proofs.Lookups.{said_elsewhere, said_here}
 use Rattle.room_review.proofs.Named.{all_kids, all_named}
@@ -104,6 +107,12 @@ stored_there rows are sound path site stands =
     ap (λ l. site_at l path) (sym (sites_filled rows are (sound_parts rows sound) path))
     ∙ site_filled (sites_along (meaning rows.read) path) path ∙ ap (option_map fill) stands
 
+-- what holds of each member for each of some others
+each_for_all : {A B : Type 0} (P : A → B → Type 0) (xs : List A)
+    → ((b : B) → Each (λ x. P x b) xs) → Each (λ x. (b : B) → P x b) xs
+each_for_all P [] all = tt
+each_for_all P (x ∷ xs) all = ((λ b. (all b).0), each_for_all P xs (λ b. (all b).1))
+
 -- ---- the table of an object
 
 module _ (rows : Rows) (are : AreRows rows) (sound : AreSound rows) (question : Scope)
@@ -142,27 +151,132 @@ module _ (rows : Rows) (are : AreRows rows) (sound : AreSound rows) (question : 
       starts_reached rows are most path target.node
       (record { most_is = refl; is_there = found ∙ ap Some ends })
 
+  -- ---- whose rows are looked up for a caller
+
+  -- one of the parties is, and the table says of it what the room allows the caller
+  record Spoken (user : Option (List ℕ)) : Type 0 where
+    pub party : Party
+    pub is : IsParty parties party
+    pub labelled : label_in table user ≡ party.label
+    pub says : Each (λ it. told_there party.caller it ≡ answer user it.0.path)
+        (told_at rows path target)
+
+  -- one that is called by its name
+  by_name : (name : List ℕ) → IsParty parties (named content name) → Spoken (Some name)
+  by_name name is = record {
+    party = named content name;
+    is = is;
+    labelled = cond-true (list_any (is_row_of name) table) name (codes "*")
+        (list_any-append (is_row_of name) (object_rows true parties place target.node) _
+        ∙ or_left _ _ (has_row place.above (site_of place target.node) parties name is.among));
+    says = table_says_rights rows are sound (Some name) path target found;
+  }
+
+  -- a caller without a name
+  by_nobody : IsParty parties (nameless content) → Spoken None
+  by_nobody is = record {
+    party = nameless content;
+    is = is;
+    labelled = refl;
+    says = table_says_rights rows are sound None path target found;
+  }
+
+  -- a name that has no rows
+  no_rows_under : (name : List ℕ)
+      → list_any (λ (p : Party). same_text p.label name) parties ≡ false
+      → list_any (is_row_of name) (below.rows_under content (all_there rows are) most question.all
+      parties place target.node) ≡ false
+  no_rows_under name none =
+      let rows_below = λ (child : Node). below.rows_in content (all_there rows are) most
+      question.all parties most (place_below place target.node child) child in
+      any_flat (is_row_of name) rows_below (children_of content target.node.id)
+      (each_always (λ child. list_any (is_row_of name) (rows_below child) ≡ false)
+      (λ child. below.no_rows content (all_there rows are) most question.all parties most
+      (place_below place target.node child) child name none)
+      (children_of content target.node.id))
+
+  by_star : (name : List ℕ) (all : AreAll rows (users_on rows path target) parties)
+      → is_name name ≡ true → is_listed name all.users ≡ false → Spoken (Some name)
+  by_star name all is none =
+      let star = other_name content all.stranger in
+      let none_labelled : list_any (λ (p : Party). same_text p.label name) parties ≡ false =
+      ap (list_any (λ (p : Party). same_text p.label name)) all.parties_are
+      ∙ no_label content all.users all.stranger all.are.valid name is none in
+      record {
+        party = star;
+        is = subst (λ (ps : List Party). IsParty ps star) (sym all.parties_are)
+            (star_party content all.users all.stranger all.are.valid);
+        labelled = cond-false (list_any (is_row_of name) table) name (codes "*")
+            (list_any-append (is_row_of name) (object_rows true parties place target.node)
+            (below.rows_under content (all_there rows are) most question.all parties place
+            target.node)
+            ∙ or_from _ _
+            (has_none place.above (site_of place target.node) true parties name none_labelled)
+            (no_rows_under name none_labelled));
+        says = each_both (SaysAlike star.caller (caller_in content (Some name)))
+            (SaysAt rows (Some name))
+            (λ it. told_there star.caller it ≡ answer (Some name) it.0.path)
+            (λ it alike says. alike ∙ says) (told_at rows path target)
+            (star_speaks_for_others rows path target (map (named content) all.users) star
+            (nameless content) name found
+            (record {
+              users = all.users;
+              are = all.are;
+              stranger = all.stranger;
+              is_other = all.is_other;
+              parties_are = refl;
+            })
+            (any_map (λ (text : List ℕ). same_text text name) (λ (p : Party). p.label)
+            (map (named content) all.users)
+            ∙ any_map (λ (p : Party). same_text p.label name) (named content) all.users ∙ none)).1
+            (table_says_rights rows are sound (Some name) path target found);
+      }
+
+  -- each caller that is asked for
+  by_asked : (asked : Option (List ℕ))
+      → AreAsked asked rows (users_on rows path target) parties → (user : Option (List ℕ))
+      → is_caller user ≡ true → IsAskedFor asked user → Spoken user
+  by_asked None all None caller is_for =
+      by_nobody (subst (λ (ps : List Party). IsParty ps (nameless content)) (sym all.parties_are)
+      (nobody_party content all.users all.stranger all.are.valid))
+  by_asked None all (Some name) caller is_for = on (is_listed name all.users) refl
+    where
+      on : (t : Bool) → is_listed name all.users ≡ t → Spoken (Some name)
+      on true listed =
+          by_name name (subst (λ (ps : List Party). IsParty ps (named content name))
+          (sym all.parties_are)
+          (user_party content all.users all.stranger all.are.valid name caller listed))
+      on false none = by_star name all caller none
+  by_asked (Some name) alone user caller is_for =
+      subst Spoken (sym is_for)
+      (by_name name (subst (λ (ps : List Party). IsParty ps (named content name)) (sym alone)
+      (record {
+        one = ((λ same. refl), tt);
+        among = or_left (same_text name name) false (text_itself name);
+      })))
+
   module _ (more : List (List ℕ)) (site : Site) (stands : StandsAt room (path ++ more) site) where
     stored : site_at (stored_from content target.path target.node more) more ≡ Some (fill site)
     stored =
         along_target content more target (fill site) path found
         (stored_there rows are sound (path ++ more) site stands)
 
-    -- what is looked up of a party
-    at_party : (party : Party) → IsParty parties party → (user : Option (List ℕ))
-        → Each (λ it. told_there party.caller it ≡ answer user it.0.path)
-        (told_at rows path target)
-        → looked_up table (path ++ more) party.label
+    -- what is looked up of a caller
+    looked_up_of : (user : Option (List ℕ)) → Spoken user
+        → looked_up table (path ++ more) (label_in table user)
         ≡ Some (printed (answer user (path ++ more)))
-    at_party party is user says =
-        found_from party.label table path [] more (printed (answer user (path ++ more)))
+    looked_up_of user spoken =
+        let party = spoken.party in
+        let is = spoken.is in
+        ap (looked_up table (path ++ more)) spoken.labelled
+        ∙ found_from party.label table path [] more (printed (answer user (path ++ more)))
         (subst (λ p. nearest table party.label p more
         ≡ Some (printed (answer user (p ++ more)))) at_path
         (sym (or_none (nearest table party.label place.path more))
         ∙ below.finds_below content (all_there rows are) most question.all parties
         (λ id. all_kids rows are (sound_parts rows sound) id) party is.one is.among (answer user)
         more place target.node (object_rows true parties place target.node) None (fill site) reached
-        stored says
+        stored spoken.says
         (record {
           here = ap (λ o. option_or o None)
               (said_here place.above (site_of place target.node) party true parties is.one
@@ -172,152 +286,112 @@ module _ (rows : Rows) (are : AreRows rows) (sound : AreSound rows) (question : 
               apart;
         })))
 
-    -- one that is called by its name
-    by_name : (name : List ℕ) → IsParty parties (named content name)
-        → looked_up table (path ++ more) (label_in table (Some name))
-        ≡ Some (printed (answer (Some name) (path ++ more)))
-    by_name name is =
-        ap (looked_up table (path ++ more))
-        (cond-true (list_any (is_row_of name) table) name (codes "*")
-        (list_any-append (is_row_of name) (object_rows true parties place target.node) _
-        ∙ or_left _ _ (has_row place.above (site_of place target.node) parties name is.among)))
-        ∙ at_party (named content name) is (Some name)
-        (table_says_rights rows are sound (Some name) path target found)
+  -- ---- the rows
 
-    -- a caller without a name
-    by_nobody : IsParty parties (nameless content)
-        → looked_up table (path ++ more) (label_in table None)
-        ≡ Some (printed (answer None (path ++ more)))
-    by_nobody is =
-        at_party (nameless content) is None
-        (table_says_rights rows are sound None path target found)
+  module _ (asked : AreAsked question.user rows (users_on rows path target) parties) where
+    -- a caller that is asked for
+    abbrev Asked : Type 0
+    Asked = (user : Option (List ℕ)) × (is_caller user ≡ true) × IsAskedFor question.user user
 
-    -- a name that has no rows
-    no_rows_under : (name : List ℕ)
-        → list_any (λ (p : Party). same_text p.label name) parties ≡ false
-        → list_any (is_row_of name) (below.rows_under content (all_there rows are) most question.all
-        parties place target.node) ≡ false
-    no_rows_under name none =
-        let rows_below = λ (child : Node). below.rows_in content (all_there rows are) most
-        question.all parties most (place_below place target.node child) child in
-        any_flat (is_row_of name) rows_below (children_of content target.node.id)
-        (each_always (λ child. list_any (is_row_of name) (rows_below child) ≡ false)
-        (λ child. below.no_rows content (all_there rows are) most question.all parties most
-        (place_below place target.node child) child name none)
-        (children_of content target.node.id))
+    -- at an object, the party says of the caller what the room allows, if its rows are looked up
+    abbrev Speaks : Place × Node → Party → Asked → Type 0
+    Speaks it party by = label_in table by.0 ≡ party.label
+        → told_there party.caller it ≡ answer by.0 it.0.path
 
-    by_star : (name : List ℕ) (all : AreAll rows (users_on rows path target) parties)
-        → is_name name ≡ true → is_listed name all.users ≡ false
-        → looked_up table (path ++ more) (label_in table (Some name))
-        ≡ Some (printed (answer (Some name) (path ++ more)))
-    by_star name all is none =
-        let star = other_name content all.stranger in
-        let none_labelled : list_any (λ (p : Party). same_text p.label name) parties ≡ false =
-        ap (list_any (λ (p : Party). same_text p.label name)) all.parties_are
-        ∙ no_label content all.users all.stranger all.are.valid name is none in
-        ap (looked_up table (path ++ more))
-        (cond-false (list_any (is_row_of name) table) name (codes "*")
-        (list_any-append (is_row_of name) (object_rows true parties place target.node)
-        (below.rows_under content (all_there rows are) most question.all parties place target.node)
-        ∙ or_from _ _
-        (has_none place.above (site_of place target.node) true parties name none_labelled)
-        (no_rows_under name none_labelled)))
-        ∙ at_party star
-        (subst (λ (ps : List Party). IsParty ps star) (sym all.parties_are)
-        (star_party content all.users all.stranger all.are.valid)) (Some name)
-        (each_both (SaysAlike star.caller (caller_in content (Some name))) (SaysAt rows (Some name))
-        (λ it. told_there star.caller it ≡ answer (Some name) it.0.path)
-        (λ it alike says. alike ∙ says) (told_at rows path target)
-        (star_speaks_for_others rows path target (map (named content) all.users) star
-        (nameless content) name found
-        (record {
-          users = all.users;
-          are = all.are;
-          stranger = all.stranger;
-          is_other = all.is_other;
-          parties_are = refl;
-        })
-        (any_map (λ (text : List ℕ). same_text text name) (λ (p : Party). p.label)
-        (map (named content) all.users)
-        ∙ any_map (λ (p : Party). same_text p.label name) (named content) all.users ∙ none)).1
-        (table_says_rights rows are sound (Some name) path target found))
+    each_speaks : (by : Asked)
+        → Each (λ it. Each (λ party. Speaks it party by) parties) (told_at rows path target)
+    each_speaks by =
+        let spoken = by_asked question.user asked by.0 by.1 by.2 in
+        each_weaker (λ it. told_there spoken.party.caller it ≡ answer by.0 it.0.path)
+        (λ it. Each (λ party. Speaks it party by) parties)
+        (λ it says.
+        each_weaker (λ (other : Party). same_text other.label spoken.party.label ≡ true
+        → other ≡ spoken.party) (λ party. Speaks it party by)
+        (λ other same labelled. ap (λ (p : Party). told_there p.caller it)
+        (same (subst (λ (l : List ℕ). same_text other.label l ≡ true)
+        (sym labelled ∙ spoken.labelled) (text_itself other.label))) ∙ says) parties
+        spoken.is.one)
+        (told_at rows path target) spoken.says
 
-    -- each caller that is asked for
-    by_asked : (asked : Option (List ℕ))
-        → AreAsked asked rows (users_on rows path target) parties → (user : Option (List ℕ))
-        → is_caller user ≡ true → IsAskedFor asked user
-        → looked_up table (path ++ more) (label_in table user)
-        ≡ Some (printed (answer user (path ++ more)))
-    by_asked None all None caller is_for =
-        by_nobody (subst (λ (ps : List Party). IsParty ps (nameless content)) (sym all.parties_are)
-        (nobody_party content all.users all.stranger all.are.valid))
-    by_asked None all (Some name) caller is_for = on (is_listed name all.users) refl
-      where
-        on : (t : Bool) → is_listed name all.users ≡ t
-            → looked_up table (path ++ more) (label_in table (Some name))
-            ≡ Some (printed (answer (Some name) (path ++ more)))
-        on true listed =
-            by_name name (subst (λ (ps : List Party). IsParty ps (named content name))
-            (sym all.parties_are)
-            (user_party content all.users all.stranger all.are.valid name caller listed))
-        on false none = by_star name all caller none
-    by_asked (Some name) alone user caller is_for =
-        subst (λ (u : Option (List ℕ)). looked_up table (path ++ more) (label_in table u)
-        ≡ Some (printed (answer u (path ++ more)))) (sym is_for)
-        (by_name name (subst (λ (ps : List Party). IsParty ps (named content name)) (sym alone)
-        (record {
-          one = ((λ same. refl), tt);
-          among = or_left (same_text name name) false (text_itself name);
-        })))
+    labels : (user : Option (List ℕ)) → AreAsked user rows (users_on rows path target) parties
+        → Each (λ (party : Party). IsLabel user party.label) parties
+    labels None all =
+        subst (Each (λ (party : Party). IsLabel None party.label)) (sym all.parties_are)
+        (each_append (λ (party : Party). IsLabel None party.label) (map (named content) all.users) _
+        (each_map (λ (party : Party). IsLabel None party.label) (named content) all.users
+        (each_weaker (λ (name : List ℕ). is_name name ≡ true)
+        (λ (name : List ℕ). IsLabel None name) (λ name is. inr (inr is)) all.users
+        (each_of is_name all.users all.are.valid)))
+        (inl refl, (inr (inl refl), tt)))
+    labels (Some name) alone =
+        subst (Each (λ (party : Party). IsLabel (Some name) party.label)) (sym alone) (refl, tt)
 
-  -- ---- the objects of the table
+    abbrev IsPlaced : Place × Node → Type 0
+    IsPlaced it = GoesOn most target.path it × Stands content it.0 it.1
+        × ((by : Asked) → Each (λ party. Speaks it party by) parties)
 
-  abbrev IsPlaced : Place × Node → Type 0
-  IsPlaced it = GoesOn most target.path it × Stands content it.0 it.1
+    all_placed : Each IsPlaced (told_at rows path target)
+    all_placed =
+        let start : Stands content place target.node = record {
+          at = subst (λ (p : List (List ℕ)). site_at (stored_along content p) p
+              ≡ Some (stored_site p target.node)) (sym at_path) (found ∙ ap Some ends);
+          way = ap (λ (p : List (List ℕ)). take (length p) (stored_along content p)) at_path;
+        } in
+        each_both (GoesOn most target.path) (λ it. Stands content it.0 it.1
+        × ((by : Asked) → Each (λ party. Speaks it party by) parties)) IsPlaced
+        (λ it on stands. (on, stands.0, stands.1)) (told_at rows path target)
+        (all_go_on content most place target.node)
+        (each_both (λ it. Stands content it.0 it.1)
+        (λ it. (by : Asked) → Each (λ party. Speaks it party by) parties)
+        (λ it. Stands content it.0 it.1
+        × ((by : Asked) → Each (λ party. Speaks it party by) parties))
+        (λ it stands speaks. (stands, speaks)) (told_at rows path target)
+        (each_stands content (λ id. all_named rows are (sound_parts rows sound) id) most place
+        target.node start)
+        (each_for_all (λ it by. Each (λ party. Speaks it party by) parties)
+        (told_at rows path target) each_speaks))
 
-  all_placed : Each IsPlaced (told_at rows path target)
-  all_placed =
-      let start : Stands content place target.node = record {
-        at = subst (λ (p : List (List ℕ)). site_at (stored_along content p) p
-            ≡ Some (stored_site p target.node)) (sym at_path) (found ∙ ap Some ends);
-        way = ap (λ (p : List (List ℕ)). take (length p) (stored_along content p)) at_path;
-      } in
-      each_both (GoesOn most target.path) (λ it. Stands content it.0 it.1) IsPlaced
-      (λ it on stands. (on, stands)) (told_at rows path target)
-      (all_go_on content most place target.node)
-      (each_stands content (λ id. all_named rows are (sound_parts rows sound) id) most place
-      target.node start)
+    rows_placed : (all : Bool) (it : Place × Node) → IsPlaced it
+        → Each (IsRow room question table) (object_rows all parties it.0 it.1)
+    rows_placed all it placed =
+        let there = target_there rows are (sound_parts rows sound) it.0.path (site_of it.0 it.1)
+        placed.1.at in
+        let at : it.0.path ≡ path ++ placed.0.0 =
+        placed.0.1.0 ∙ ap (λ (p : List (List ℕ)). p ++ placed.0.0) at_path in
+        let kind = ap (λ (s : Site). kind_word s.node.kind) there.filled in
+        let row_of = row it.0.above (site_of it.0 it.1) in
+        each_map (IsRow room question table) row_of _
+        (each_filter (λ (party : Party). IsRow room question table (row_of party)) _ parties
+        (each_both (λ (party : Party). IsLabel question.user party.label)
+        (λ (party : Party). (by : Asked) → Speaks it party by)
+        (λ (party : Party). IsRow room question table (row_of party))
+        (λ party is speaks. record {
+          more = placed.0.0;
+          site = there.planned;
+          label = party.label;
+          stands = subst (λ (p : List (List ℕ)). StandsAt room p there.planned) at there.at;
+          is_asked = is;
+          begins = λ i. path_text (at i) ∷ sym kind i ∷ party.label ∷ [];
+          says = λ user caller is_for labelled.
+              let told = speaks (user, caller, is_for) labelled ∙ ap (answer user) at in
+              λ i. mask_text ((told i).0) ∷ yes_or_no ((told i).1) ∷ [];
+        }) parties (labels question.user asked)
+        (each_for_all (λ party by. Speaks it party by) parties placed.2)))
 
-  rows_placed : (all : Bool) (it : Place × Node) → IsPlaced it
-      → Each (IsOfObject room path) (object_rows all parties it.0 it.1)
-  rows_placed all it placed =
-      let there = target_there rows are (sound_parts rows sound) it.0.path (site_of it.0 it.1)
-      placed.1.at in
-      let at : it.0.path ≡ path ++ placed.0.0 =
-      placed.0.1.0 ∙ ap (λ (p : List (List ℕ)). p ++ placed.0.0) at_path in
-      let kind = ap (λ (s : Site). kind_word s.node.kind) there.filled in
-      each_map (IsOfObject room path) (row it.0.above (site_of it.0 it.1)) _
-      (each_always (λ (party : Party). IsOfObject room path
-      (row it.0.above (site_of it.0 it.1) party)) (λ party. (
-        placed.0.0,
-        there.planned,
-        subst (λ (p : List (List ℕ)). StandsAt room p there.planned) at there.at,
-        λ i. path_text (at i) ∷ sym kind i ∷ [],
-      )) _)
-
-  all_of_objects : Each (IsOfObject room path) table
-  all_of_objects =
-      let whole = subst (Each IsPlaced)
-      (goes_down content (all_there rows are) [] target.node most 0 reached place_below
-      (λ p n. (p, n) ∷ []) place) all_placed in
-      each_append (IsOfObject room path) (object_rows true parties place target.node) _
-      (rows_placed true (place, target.node) whole.0)
-      (each_back (IsOfObject room path) (object_rows question.all parties place target.node) _
-      (subst (Each (IsOfObject room path))
-      (goes_down content (all_there rows are) [] target.node most 0 reached place_below
-      (object_rows question.all parties) place)
-      (below.each_row content (all_there rows are) most question.all parties IsPlaced
-      (IsOfObject room path) (rows_placed question.all) most place target.node all_placed)))
+    all_rows : Each (IsRow room question table) table
+    all_rows =
+        let whole = subst (Each IsPlaced)
+        (goes_down content (all_there rows are) [] target.node most 0 reached place_below
+        (λ p n. (p, n) ∷ []) place) all_placed in
+        each_append (IsRow room question table) (object_rows true parties place target.node) _
+        (rows_placed true (place, target.node) whole.0)
+        (each_back (IsRow room question table)
+        (object_rows question.all parties place target.node) _
+        (subst (Each (IsRow room question table))
+        (goes_down content (all_there rows are) [] target.node most 0 reached place_below
+        (object_rows question.all parties) place)
+        (below.each_row content (all_there rows are) most question.all parties IsPlaced
+        (IsRow room question table) (rows_placed question.all) most place target.node all_placed)))
 
 -- ---- the law
 
@@ -331,7 +405,7 @@ table_is_the_room rows question reviewed site are sound review stands =
         (text : List ℕ) × (table : List (List (List ℕ))) × (reviewed ≡ Table text)
         × (text ≡ rows_text (header ∷ table)) × (records default_config text ≡ header ∷ table)
         × SaysTheRoom (meaning rows.read) question table
-        × Each (IsOfObject (meaning rows.read) question.path) table
+        × Each (IsRow (meaning rows.read) question table) table
 
     on : (o : Option Site) → site_at (stored_along rows.read question.path) question.path ≡ o
         → IsReviewAt rows.read.members question o rows reviewed
@@ -341,15 +415,16 @@ table_is_the_room rows question reviewed site are sound review stands =
         let parties = is.parties in
         let table = table_rows rows question.all parties
         (place_of (stored_above rows question.path) target) target.node in
-        let objects = all_of_objects rows are sound question target found parties in (
+        let all = all_rows rows are sound question target found parties is.are in (
           rows_text (header ∷ table),
           table,
           is.is,
           refl,
           read_as_rows (header ∷ table)
-              (refl, all_columns (meaning rows.read) question.path table objects),
+              (refl, all_columns (meaning rows.read) question table table all),
           λ user more at caller is_for stands.
-              by_asked rows are sound question target found parties more at stands question.user
-              is.are user caller is_for,
-          objects,
+              looked_up_of rows are sound question target found parties more at stands user
+              (by_asked rows are sound question target found parties question.user is.are user
+              caller is_for),
+          all,
         )

@@ -1,6 +1,6 @@
 -- What is looked up in a table, and the law that this is what the room allows (own).
-use Rattle.std.specs.Prelude.{◌≡◌, ℕ, ◌&&◌, Bool, true, false, List, [], ◌∷◌, ◌++◌, take, Option}
-use Rattle.std.specs.Prelude.{Some, None, codes, IsTrue, if◌then◌else◌}
+use Rattle.std.specs.Prelude.{◌≡◌, ◌⊎◌, ℕ, ◌&&◌, Bool, true, false, List, [], ◌∷◌, ◌++◌, take}
+use Rattle.std.specs.Prelude.{drop, Option, Some, None, codes, IsTrue, if◌then◌else◌}
 use Rattle.std.specs.List.{list_any, AllByRecursion as Each}
 use Rattle.std.specs.Option.{option_map_or, option_or}
 use Rattle.csv.specs.Reading.{default_config, records}
@@ -87,17 +87,35 @@ SaysTheRoom room question table =
       yes_or_no (may_remove_at room user (question.path ++ more)),
     )
 
--- the row is of an object from the path on that is there, and says its kind
-abbrev pub IsOfObject : Content → List (List ℕ) → List (List ℕ) → Type 0
-IsOfObject room path row =
-    (more : List (List ℕ)) × (site : Site) × StandsAt room (path ++ more) site
-    × (take 2 row ≡ path_text (path ++ more) ∷ kind_word site.node.kind ∷ [])
+-- the label of a caller that is asked for: of each, a name among them, or of the one
+abbrev pub IsLabel : Option (List ℕ) → List ℕ → Type 0
+IsLabel None label = (label ≡ codes "*")
+    ⊎ ((label ≡ codes "ANONYMOUS@") ⊎ IsTrue (is_name label))
+IsLabel (Some name) label = label ≡ name
+
+-- The row is of an object from the path on that is there, says its kind, and is of a caller that is
+-- asked for. It says what the room allows there to each caller for whom rows with its label are
+-- looked up.
+pub record IsRow (room : Content) (question : Scope) (table : List (List (List ℕ)))
+    (row : List (List ℕ)) : Type 0 where
+  pub more : List (List ℕ)
+  pub site : Site
+  pub label : List ℕ
+  pub stands : StandsAt room (question.path ++ more) site
+  pub is_asked : IsLabel question.user label
+  pub begins : take 3 row
+      ≡ path_text (question.path ++ more) ∷ kind_word site.node.kind ∷ label ∷ []
+  pub says : (user : Option (List ℕ)) → IsTrue (is_caller user) → IsAskedFor question.user user
+      → label_in table user ≡ label
+      → drop 3 row
+      ≡ mask_text (rights_at room user (question.path ++ more))
+      ∷ yes_or_no (may_remove_at room user (question.path ++ more)) ∷ []
 
 -- A review of sound rows is the room. At a path where an object stands it is a table, whose text is
 -- that of a header and rows, and is read as these. Each caller is found in them at each object with
 -- what the room allows. So no object is missing and no caller, a row that is left out would say
--- what is found in its place, and `*` speaks for all others. Each row is of an object that is
--- there.
+-- what is found in its place, and `*` speaks for all others. Each row is of an object that is there
+-- and of a caller that is asked for, and none says anything else than what the room allows.
 abbrev pub TableIsTheRoom : Type 0
 TableIsTheRoom =
     (rows : Rows) (question : Scope) (reviewed : Reviewed) (site : Site) →
@@ -106,4 +124,4 @@ TableIsTheRoom =
     (text : List ℕ) × (table : List (List (List ℕ))) × (reviewed ≡ Table text)
     × (text ≡ rows_text (header ∷ table)) × (records default_config text ≡ header ∷ table)
     × SaysTheRoom (meaning rows.read) question table
-    × Each (IsOfObject (meaning rows.read) question.path) table
+    × Each (IsRow (meaning rows.read) question table) table

@@ -109,6 +109,7 @@ stays_from_root rooms old new events leads lasts now sound is_open room keeps =
       rooms it.0 new.now (record {
         tables = room_of good.0 (lasts is_open).0;
         sound = good.1;
+        version = good.2;
         means = it.2 is_open;
       }),
     )

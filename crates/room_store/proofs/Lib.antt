@@ -1,3 +1,4 @@
+pub mod Versions
 mod Transact
 mod Failing
 mod Turning
@@ -9,7 +10,9 @@ mod Shutting
 mod Closing
 mod Recalled
 pub mod Outlasting
+mod Retaining
 mod Reviewed
 mod FromRoot
+mod Reopened
 mod Looking
 mod Writing

@@ -29,6 +29,7 @@ use Rattle.room_store.specs.declared.fault.StoreFault.{StoreFault}
 use Rattle.room_store.specs.Lasting.{nothing_tried, together}
 use Rattle.room_store.proofs.Leading.{IsEvent, leading}
 use Rattle.room_store.proofs.Shutting.{asked_keeps, asked_sound, not_shut}
+use Rattle.room_store.proofs.Versions.{same_version}
 
 -- what is seen over an open connection, where a crash leaves that and nothing else
 pub seen_is_left : (s : State) → IsSound s → IsTrue s.is_open → Lasts s → (room : Content)
@@ -37,7 +38,12 @@ seen_is_left s sound is_open lasts room keeps db left =
     let good = sound is_open in
     let safe = lasts is_open in (
       s.now,
-      record { tables = room_of good.0 safe.0; sound = good.1; means = keeps is_open },
+      record {
+        tables = room_of good.0 safe.0;
+        sound = good.1;
+        version = good.2;
+        means = keeps is_open;
+      },
       safe.1.only db left,
     )
 
@@ -129,7 +135,16 @@ module _ (old new : State) {X : Type 0} (Blames : Rows → Type 0)
         reply x,
         next,
         subst (λ (r : Content). Happens r (asking (reply x)) next) (keeps is_open) event.happens,
-        (it, record { tables = answered.room; sound = event.sound; means = refl }, is),
+        (
+          it,
+          record {
+            tables = answered.room;
+            sound = event.sound;
+            version = same_version old.now it answered.retains good.2;
+            means = refl;
+          },
+          is,
+        ),
       )
 
   -- what an answer leaves
@@ -151,7 +166,11 @@ module _ (old new : State) {X : Type 0} (Blames : Rows → Type 0)
             room_at it.0 it.1.tables it.2)
         | inr c ↦ (let it = c.1 good.0 in room_at it.1.0 it.1.1.room it.1.2)
       ] in
-      inl (new.now, record { tables = tables; sound = good'.1; means = keeps is_open.1 }, is))
+      inl (
+        new.now,
+        record { tables = tables; sound = good'.1; version = good'.2; means = keeps is_open.1 },
+        is,
+      ))
 
   -- what a fault leaves
   after_fault : (fault : StoreFault) → Ran {X = X} old new (Err fault) Blames Becomes

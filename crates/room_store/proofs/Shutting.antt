@@ -10,7 +10,7 @@ use Rattle.sqlite.specs.declared.error.Error.{Error}
 use Rattle.sqlite.specs.State.{State, HasCleanDisk, HasCause, IsNoStatement, IsNotRun, IsRolledBack}
 use Rattle.sqlite.specs.State.{IsUnchanged, store_error}
 use Rattle.room_machine.specs.Desk.{Agrees}
-use Rattle.room_store.specs.Asks.{Asks, says_shut}
+use Rattle.room_store.specs.Asks.{Asks, says_shut, told_by, told_if}
 use Rattle.sqlite.specs.Effect.{Database}
 use Rattle.room_rows.specs.Content.{Content}
 use Rattle.room_rows.specs.Meaning.{meaning}
@@ -19,7 +19,7 @@ use Rattle.room_rows.specs.Sound.{AreSound}
 use Rattle.store_tables.specs.Meaning.{rows_of}
 use Rattle.store_tables.specs.Shown.{HasTables}
 use Rattle.store_tables.proofs.Within.{CommitsNothing, as_before}
-use Rattle.room_store.specs.Kept.{IsShut, IsSound, Keeps, Stores}
+use Rattle.room_store.specs.Kept.{IsOfThisVersion, IsShut, IsSound, Keeps, Stores}
 use Rattle.room_store.specs.Ran.{Ran}
 use Rattle.room_store.specs.declared.fault.StoreFault.{StoreFault}
 
@@ -74,6 +74,20 @@ module _ (old new : State) where
   is_shut sql why dirty err says =
       clean_or_not new.is_clean new.is_open dirty (λ now. refused sql _ why (err now []) says)
 
+  -- what an error tells is so
+  pub tells_by : (sql : List ℕ) (why : Error) → (new.is_clean ≡ false → new.is_open ≡ false)
+      → (HasCleanDisk new → (params : Row) → IsNotRun old new sql params why)
+      → (told : Result Bool StoreFault) → told ≡ told_by why
+      → IfOk told (Agrees (HasCleanDisk new) (IsShut new))
+  tells_by sql why dirty err told is =
+      subst (λ (r : Result Bool StoreFault). IfOk r (Agrees (HasCleanDisk new) (IsShut new)))
+      (sym is) (tells_if (says_shut why) why (λ says. is_shut sql why dirty err says))
+    where
+      tells_if : (says : Bool) (why : Error) → (says ≡ true → IsShut new)
+          → IfOk (told_if says why) (Agrees (HasCleanDisk new) (IsShut new))
+      tells_if true why shut = shut refl
+      tells_if false why shut = tt
+
   -- a connection that was shut stays so
   pub stays : (new.is_clean ≡ false → new.is_open ≡ false)
       → (HasCleanDisk new → IsTrue new.is_open → IsTrue old.is_open) → IsShut old → IsShut new
@@ -124,7 +138,7 @@ module _ (old new : State) (result : Result Bool StoreFault) (asked : Asks old n
   -- and is still sound
   pub asked_sound : IsSound old → IsSound new
   asked_sound sound is_open =
-      subst (λ (db : Database). HasTables db × AreSound (rows_of db))
+      subst (λ (db : Database). HasTables db × AreSound (rows_of db) × IsOfThisVersion db)
       (sym (asked.same now is_open)) (sound (asked.leaves.was_open now is_open))
 
   -- and so are the rows, sound or not

@@ -13,7 +13,7 @@ use Rattle.room_machine.specs.declared.reply.Reply.{Reply}
 use Rattle.store_tables.specs.Meaning.{rows_of}
 use Rattle.store_tables.specs.Shown.{IsRoom}
 use Rattle.store_tables.specs.Within.{LeavesOnly, TreesOf}
-use Rattle.room_store.specs.Kept.{IsShut, IsSound, Keeps}
+use Rattle.room_store.specs.Kept.{IsOfThisVersion, IsShut, IsSound, Keeps}
 use Rattle.room_store.specs.Leads.{Leads}
 
 -- As long as the connection is open, the tables obey their schema, and a crash leaves them as they
@@ -23,13 +23,14 @@ Lasts s = IsTrue s.is_open → IsDatabase s.now × LeavesOnly s s.now
 
 -- ---- calls one after another, as a run of the room machine
 
--- the tables of a sound room of this content
+-- the tables of a sound room of this version, with this content
 pub record IsRoomOf (room : Content) (it : Database) : Type 0 where
   pub tables : IsRoom it
   pub sound : AreSound (rows_of it)
+  pub version : IsOfThisVersion it
   pub means : meaning (rows_of it).read ≡ room
 
--- What a crash left are the tables of a sound room of this content.
+-- What a crash left are the tables of such a room.
 abbrev pub HoldsRoom : Content → Trees → Type 0
 HoldsRoom room = TreesOf (IsRoomOf room)
 

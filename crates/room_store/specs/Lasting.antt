@@ -8,6 +8,7 @@ use Rattle.sqlite.specs.State.{State}
 use Rattle.room_machine.specs.Run.{Asking, Event, RunsMeet}
 use Rattle.room_store.specs.Crash.{IsOneMore, Outlasts}
 use Rattle.room_store.specs.Leads.{Leads}
+use Rattle.room_store.specs.Retained.{StillHolds}
 
 pub itself : (s : State) → Leads s [] s
 itself s =
@@ -98,3 +99,15 @@ nothing_tried s = record {
     leaves,
   );
 }
+
+-- ---- what is retained
+
+pub still_itself : (s : State) → StillHolds s s
+still_itself s now = (now, λ before holds. holds)
+
+pub still_on : (old mid new : State) → StillHolds old mid → StillHolds mid new
+    → StillHolds old new
+still_on old mid new p q now =
+    let then = q now in
+    let first = p then.0 in
+    (first.0, λ before holds. then.1 before (first.1 before holds))

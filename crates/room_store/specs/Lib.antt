@@ -4,6 +4,7 @@ pub mod Ran
 pub mod Turn
 pub mod Leads
 pub mod Crash
+pub mod Retained
 pub mod Lasting
 pub mod Opens
 pub mod Asks

@@ -1,13 +1,16 @@
 -- Worked examples of what is behind a folder: who is barred, and which requests tell.
-use Rattle.std.proofs.Common.{ℕ, ◌≡◌, List, [], ◌∷◌, Some, None, refl, true, false, codes, arith}
+use Rattle.std.proofs.Common.{ℕ, ◌≡◌, inl, inr, List, [], ◌∷◌, Some, None, refl, true}
+use Rattle.std.proofs.Common.{false, codes, arith}
 use Rattle.std.specs.Prelude.{pos}
 use Rattle.room_entry.specs.declared.entry.EntryKind.TheVariants.{Allow}
 use Rattle.room_entry.specs.declared.entry.Who.TheVariants.{User}
 use Rattle.room_entry.specs.declared.object.ObjKind.TheVariants.{Document, Folder}
-use Rattle.room_rows.specs.Content.{Content}
+use Rattle.room_entry.specs.declared.object.Which.TheVariants.{Dacl}
+use Rattle.room_ace.specs.Sent.{Sent}
+use Rattle.room_rows.specs.Content.{Content, with_members}
 use Rattle.room_rows.specs.declared.node.Node.{Node}
 use Rattle.room_machine.specs.Run.{Asked, Run}
-use Rattle.room_machine.specs.Step.{step}
+use Rattle.room_machine.specs.Step.{reset, step}
 use Rattle.room_machine.specs.declared.reply.Reason.TheVariants.{NotEmpty, Exists}
 use Rattle.room_machine.specs.declared.reply.Reply.{Reply}
 use Rattle.room_machine.specs.declared.reply.Reply.TheVariants.{Bytes, Names, Done, Denied, Refused}
@@ -16,8 +19,9 @@ use Rattle.room_machine.specs.declared.request.Request.TheVariants.{Read, List a
 use Rattle.room_machine.specs.declared.request.Request.TheVariants.{MakeFolder, Remove, Move, Put}
 use Rattle.room_machine.proofs.Worked.Worlds.{none, fd, entry, root, alice, everything, held, plain}
 use Rattle.room_machine.proofs.Worked.Worlds.{object, world, root_may_all}
-use Rattle.room_unseen.specs.Outside.{Barred}
-use Rattle.room_unseen.specs.Twins.{AreAlike, Turn, InFirst, InBoth, first_events, second_events}
+use Rattle.room_unseen.specs.Outside.{Barred, IsBehind, SameOutside}
+use Rattle.room_unseen.specs.Twins.{AnswersAlike, AreAlike, Turn, InFirst, InBoth, InBothReset}
+use Rattle.room_unseen.specs.Twins.{InBothReplaced, first_events, second_events}
 
 abbrev q : List (List ℕ)
 q = codes "q" ∷ []
@@ -145,3 +149,66 @@ they_live_alike = (
 
 the_other_room : Run bare (second_events turns) bare
 the_other_room = (bare, (9, (omega arith, refl), refl), refl)
+
+-- ---- the operator's steps in both rooms: p's list is reset, and then bob joins the staff
+
+abbrev sent : Sent
+sent = record {
+  flags = record { auto = true; protect = false };
+  entries = entry Allow none (User alice) (0x1 ∷ []) ∷ [];
+}
+
+abbrev pairs : List (List ℕ × List ℕ)
+pairs = (codes "staff", codes "bob") ∷ []
+
+abbrev steps : List Turn
+steps = InBothReset p Dacl sent Done Done ∷ InBothReplaced pairs ∷ []
+
+abbrev reset_p : Content → Content
+reset_p content = (reset content p Dacl sent).1
+
+abbrev joined : Content → Content
+joined content = with_members (reset_p content) pairs
+
+p_is_reset : Run bare_p (first_events steps) (joined bare_p)
+p_is_reset = (reset_p bare_p, refl, (joined bare_p, refl, refl))
+
+p_is_reset_there : Run full_p (second_events steps) (joined full_p)
+p_is_reset_there = (reset_p full_p, refl, (joined full_p, refl, refl))
+
+p_isnt_behind : IsBehind q p → ⊥
+p_isnt_behind (name, names, is) = absurd (let wrong : ⊥ = cc in wrong)
+
+they_are_reset_alike : AreAlike q steps bare_p (joined bare_p) p_is_reset
+unfolding p_is_reset
+they_are_reset_alike = (p_isnt_behind, tt)
+
+-- ---- names of another folder: two rooms that differ in these aren't the same outside
+
+abbrev top : List (List ℕ)
+top = []
+
+the_top_isnt_behind : IsBehind q top → ⊥
+the_top_isnt_behind (name, names, is) = absurd (let wrong : ⊥ = cc in wrong)
+
+names_show : SameOutside q bare bare_p → ⊥
+names_show same =
+    let names = same.names top the_top_isnt_behind (λ (is : top ≡ q). let wrong : ⊥ = cc in wrong)
+    in absurd (let wrong : ⊥ = cc in wrong)
+
+-- and a listing of it that tells them apart is no reply that is alike
+abbrev listed : List Turn
+listed =
+    InBoth (Some root) (pos 0) (pos 0) (ListFolder top) (Names ((codes "q", Folder) ∷ []))
+    (Names ((codes "p", Document) ∷ (codes "q", Folder) ∷ [])) ∷ []
+
+names_are_told : ((step bare (Some root) (pos 0) (ListFolder top) 9).0
+    ≡ Names ((codes "q", Folder) ∷ []))
+    × ((step bare_p (Some root) (pos 0) (ListFolder top) 9).0
+    ≡ Names ((codes "p", Document) ∷ (codes "q", Folder) ∷ []))
+names_are_told = (refl, refl)
+
+they_dont_answer_alike : AnswersAlike q listed → ⊥
+they_dont_answer_alike (inl same, rest) = absurd (let wrong : ⊥ = cc in wrong)
+they_dont_answer_alike (inr told, rest) =
+    absurd (let is = told.0 in let wrong : ⊥ = cc in wrong)

@@ -46,16 +46,13 @@ pub fn take_away(rt: &HostRuntime, file: &str, log: &str) {
     let _ = fs::remove_file(rt, log);
 }
 
-/// Opens the file of a room. The error is `NotRooms` where the file is empty, and else that of the
-/// file or of the database. What isn't a room is left as it was, without a log beside it.
-pub fn open<S: Start>(rt: &HostRuntime, file: &str, start: S) -> Result<FileConnection<S>, Stop>
-    ensures { IfOk result (λ conn. conn.in_transaction ≡ false) }
-{
-    test_file(rt, fs::canonicalize(rt, file)?.as_str())?;
-    connect(rt, file, start)
+/// Tests the file of a room before it is opened, which makes a log. The error is `NotRooms` where
+/// the file is empty, and else that of the file or of the database. What isn't a room is left as it
+/// was, without a log beside it.
+pub fn test_room(rt: &HostRuntime, file: &str) -> Result<(), Stop> {
+    test_file(rt, fs::canonicalize(rt, file)?.as_str())
 }
 
-// Tests a file before opening it makes a log.
 fn test_file(rt: &HostRuntime, path: &str) -> Result<(), Stop> {
     if is_blank(rt, path)? {
         return Err(Stop::NotRooms);

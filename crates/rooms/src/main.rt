@@ -7,7 +7,8 @@
 //! - `check` judges the list on standard input, and needs no room.
 //! - `init FILE OWNER GROUP` makes a new file with an empty room, and prints `ready`.
 //! - `serve FILE --port N --count N` listens on 127.0.0.1, prints `listening 127.0.0.1:N`, serves
-//!   this number of connections one after the other, and ends.
+//!   this number of connections one after the other, and ends. With `--socket PATH` it listens on a
+//!   socket in the file system, and prints `listening PATH`.
 //! - `groups FILE CSV` replaces all members by those of the CSV file, and prints how many.
 //! - `groups-out FILE` prints the members as CSV.
 //! - `audit FILE` prints the records as CSV.
@@ -80,7 +81,7 @@ fn run<S: Start>(rt: &HostRuntime, start: S) -> Result<u8, Stop> {
             &mut rt.stdout(),
             &mut rt.stderr(),
         )),
-        Command::Serve { file, port, count } => work::serve(rt, start, file, port, count),
+        Command::Serve { file, place, count } => work::serve(rt, start, file, place, count),
         Command::On(file, job) => work::carry_out(rt, start, file, &job),
     }
 }

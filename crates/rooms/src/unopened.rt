@@ -6,9 +6,7 @@ use crate::files::stop_of;
 use cli_outcome::Fault;
 use cli_words::Stop;
 use room_store::Store;
-use sqlite::Connection;
-use sqlite_disk::Memory;
-use sqlite_store::FileStore;
+use sqlite::{Alter, Connection};
 use std::fs;
 use std::io::{self, Read};
 use store_file::{FIRST_PAGE, is_database, may_be_room, open_copy};
@@ -48,7 +46,8 @@ fn judge(rt: &HostRuntime, path: &str) -> Result<(), Stop> {
     }
 }
 
-fn judge_database(conn: Connection<FileStore<Memory>>) -> Result<(), Stop>
+// Whether any database is a room. Nothing else of what `adopt` promises is asked for.
+fn judge_database<D: Alter + Drop>(conn: Connection<D>) -> Result<(), Stop>
     requires { conn.in_transaction ≡ false }
 {
     match Store::adopt(conn) {

@@ -10,6 +10,7 @@ ghost use Rattle.sqlite.specs.Start.{FindsIn};
 ghost use Rattle.sqlite.specs.Opening.{is_open_error};
 ghost use Rattle.sqlite.specs.Files.{FailsToOpenFiles, IsBlankAs, IsCleanLeft, IsOpened};
 ghost use Rattle.sqlite.specs.Files.{LeavesFiles, file_state};
+ghost use Rattle.store_file.specs.FileOptions.{IsHashed};
 
 use sqlite::{Connection, Error, ErrorCode, Leftover, Options};
 use sqlite_disk::{Files, Start};
@@ -89,6 +90,7 @@ fn open_pair<S: Start>(rt: &HostRuntime, path: &str, start: S) -> Result<Files<F
 // The library's options with this many pages, and a random number for the log.
 fn options_for(rt: &HostRuntime, pages: usize) -> Result<Options, Error>
     ensures ok { IfOk result (λ options. options ≡ record options { cache_pages = pages }) }
+    ensures salted { IfOk result (λ options. IsHashed options.seed) }
     ensures err { IfErr result (λ e. e ≡ CANNOT_OPEN) }
 {
     let random = match RandomState::new(rt) {

@@ -1,5 +1,6 @@
 //! How many pages of a file are kept in memory.
-ghost use Rattle.std.specs.Prelude.{◌≡◌, ◌≤◌, ◌/◌, IfOk, max, min};
+ghost use Rattle.std.specs.Prelude.{◌≡◌, IfOk};
+ghost use Rattle.store_file.specs.FileOptions.{IsWithin, kept_pages};
 
 use std::fs;
 use std::io::{self, Read};
@@ -21,7 +22,7 @@ const HEADER: &[u8] = b"SQLite format 3\0\x10\0";
 /// How many pages are kept of a file of this many bytes: all that it has, within both limits. Page
 /// n has the place n modulo this number, so with all of them none displaces another.
 pub fn pages_for(len: u64) -> usize
-    ensures { result ≡ max LEAST_PAGES (min MOST_PAGES (len / PAGE)) }
+    ensures { result ≡ kept_pages len }
 {
     let most = MOST_PAGES as u64;
     let pages = (len / PAGE).min(most) as usize;
@@ -32,7 +33,7 @@ pub fn pages_for(len: u64) -> usize
 /// another size, which only another program makes, it is the least number. Ask before the file is
 /// opened as a database.
 pub fn pages_of(rt: &HostRuntime, path: &str) -> usize
-    ensures { (LEAST_PAGES ≤ result) × (result ≤ MOST_PAGES) }
+    ensures { IsWithin result }
 {
     match pages_found(rt, path) {
         Ok(pages) => pages,
@@ -41,7 +42,7 @@ pub fn pages_of(rt: &HostRuntime, path: &str) -> usize
 }
 
 fn pages_found(rt: &HostRuntime, path: &str) -> io::Result<usize>
-    ensures { IfOk result (λ pages. (LEAST_PAGES ≤ pages) × (pages ≤ MOST_PAGES)) }
+    ensures { IfOk result IsWithin }
 {
     let found = fs::metadata(rt, path)?;
     let pages = pages_for(found.len());

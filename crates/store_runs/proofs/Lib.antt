@@ -1,3 +1,3 @@
-mod Rooms
+pub mod Rooms
 mod Alike
 mod Rights

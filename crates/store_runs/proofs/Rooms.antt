@@ -29,7 +29,7 @@ tidy tidies contents room it is =
     (contents (rows_of it) (room_rows it is.tables) is.sound))
 
 pub sound : (room : Content) (s : State) → IsRoomOf room s.now → IsSound s
-sound room s is = λ is_open. (tables_of is.tables, is.sound)
+sound room s is = λ is_open. (tables_of is.tables, is.sound, is.version)
 
 pub keeps : (room : Content) (s : State) → IsRoomOf room s.now → Keeps s room
 keeps room s is = λ is_open. is.means

@@ -1,6 +1,7 @@
 //! Which words the program takes.
 
 use clap::error::ErrorKind;
+use cli_outcome::Place;
 use cli_words::{Command, Job, read_command};
 use room_ace::{Failure, Which};
 use std::process::Abort;
@@ -117,7 +118,16 @@ fn words_of_a_file_are_read(rt: HostRuntime) -> Result<(), Fail> {
 fn serve(port: u16, count: u32) -> Command<'static> {
     Command::Serve {
         file: "a.db",
-        port,
+        place: Place::Port(port),
+        count,
+    }
+}
+
+// What `serve` is at this path.
+fn serve_at(path: &str, count: u32) -> Command<'_> {
+    Command::Serve {
+        file: "a.db",
+        place: Place::Socket(path),
         count,
     }
 }
@@ -133,6 +143,37 @@ fn port_and_count_have_defaults_and_ranges(rt: HostRuntime) -> Result<(), Fail> 
     expect_read(&rt, &most, serve(65_535, 1_000_000))?;
     let joined = ["rooms", "serve", "--count=7", "a.db"];
     expect_read(&rt, &joined, serve(8780, 7))
+}
+
+#[test]
+fn a_socket_has_the_place_of_a_port(rt: HostRuntime) -> Result<(), Fail> {
+    let words = ["rooms", "serve", "a.db", "--socket", "/run/a b"];
+    expect_read(&rt, &words, serve_at("/run/a b", 1))?;
+    let joined = ["rooms", "serve", "--socket=s", "--count", "7", "a.db"];
+    expect_read(&rt, &joined, serve_at("s", 7))?;
+    expect_read(
+        &rt,
+        &["rooms", "serve", "a.db", "--socket="],
+        serve_at("", 1),
+    )
+}
+
+#[test]
+fn a_socket_and_a_port_are_refused(rt: HostRuntime) -> Result<(), Fail> {
+    let kind = ErrorKind::ArgumentConflict;
+    let both = ["rooms", "serve", "a.db", "--port", "8780", "--socket", "s"];
+    expect_refused(&rt, &both, kind)?;
+    let turned = ["rooms", "serve", "--socket", "s", "--port=1", "a.db"];
+    expect_refused(&rt, &turned, kind)?;
+    let twice = ["rooms", "serve", "a.db", "--socket", "s", "--socket", "t"];
+    told(&rt, &twice, kind)?;
+    told(
+        &rt,
+        &["rooms", "serve", "a.db", "--socket"],
+        ErrorKind::InvalidValue,
+    )?;
+    let other = ["rooms", "dump", "a.db", "--socket", "s"];
+    expect_refused(&rt, &other, ErrorKind::UnknownArgument)
 }
 
 #[test]
@@ -181,7 +222,7 @@ fn help_tells_statuses_and_an_example(rt: HostRuntime) -> Result<(), Fail> {
     expect_help(
         &rt,
         "serve",
-        "Example: rooms serve office.rooms --port 8781",
+        "Examples: rooms serve office.rooms --port 8781",
     )?;
     expect_help(&rt, "groups", "  0  groups G, members M")?;
     expect_help(&rt, "groups-out", "Example: rooms groups-out office.rooms")?;

@@ -1,39 +1,55 @@
 //! The subcommand `serve` on a database in memory.
+ghost use Rattle.std.specs.Prelude.{⊤};
+
 use crate::meeting::{DONE, Full, MADE, PUT, gets, listens, same_bytes, sends};
-use cli_serve::{NetPorts, Seconds, Service, host};
+use cli_outcome::Place;
+use cli_serve::{NetListener, Ports, Seconds, Service, host};
 use room_ace::{Owners, read_name};
 use room_store::Store;
 use sqlite::{Connection, MemStore};
 use std::alloc::Global;
 use std::io;
 use std::io::Write;
-use std::net::{Ipv4Addr, Net, SocketAddr, SocketAddrV4, TcpListener, TcpStream};
+use std::net::{Ipv4Addr, TcpListener};
 use std::rt::Clock;
 use std::test::Fail;
 use std::time::Duration;
 
-// A network in which one port can be bound, at which clients wait already.
-#[derive(Clone, Copy)]
-struct OnePort<'a> {
+// The place of most tests.
+const PORT: Place<'static> = Place::Port(8780);
+
+// Where one place can be bound, at which clients wait already.
+#[derive(Clone, Copy, Drop)]
+struct OnePlace<'a> {
     listener: &'a TcpListener,
-    port: u16,
+    place: Place<'a>,
 }
 
-impl Net for OnePort<'_> {
-    type Stream = TcpStream;
-
-    type Listener = TcpListener;
-
-    fn bind(&self, address: SocketAddr) -> io::Result<TcpListener> {
-        if address == SocketAddr::V4(SocketAddrV4::new(Ipv4Addr::LOCALHOST, self.port)) {
-            self.listener.try_clone()
+impl OnePlace<'_> {
+    fn ask(&self, is_there: bool) -> io::Result<NetListener> {
+        if is_there {
+            Ok(NetListener::Tcp(self.listener.try_clone()?))
         } else {
             Err(io::Error::from(io::ErrorKind::AddrInUse))
         }
     }
+}
 
-    fn connect(&self, _address: SocketAddr) -> io::Result<TcpStream> {
-        Err(io::Error::from(io::ErrorKind::Unsupported))
+impl Ports for OnePlace<'_> {
+    type Listener = NetListener;
+
+    ghost did = { λ _ _. ⊤ };
+
+    fn bind(&mut self, address: Ipv4Addr, port: u16) -> io::Result<NetListener> {
+        self.ask(address == Ipv4Addr::LOCALHOST && self.place == Place::Port(port))
+    }
+
+    fn bind_path(&mut self, path: &str) -> io::Result<NetListener> {
+        self.ask(self.place == Place::Socket(path))
+    }
+
+    fn close(&mut self, listener: NetListener) {
+        drop(listener);
     }
 }
 
@@ -82,11 +98,12 @@ fn after(mut conn: Connection<MemStore>, text: &str) -> Result<Connection<MemSto
     Ok(conn)
 }
 
-// Hosts two connections at port 8780, and compares what is printed.
+// Hosts two connections at this place, and compares what is printed.
 fn hosts(
     alloc: Global,
     conn: Connection<MemStore>,
-    net: &OnePort<'_>,
+    ports: &OnePlace<'_>,
+    place: Place<'_>,
     wanted: &Wanted<'_>,
 ) -> Result<Connection<MemStore>, Fail> {
     if !conn.is_autocommit() {
@@ -96,9 +113,9 @@ fn hosts(
     let mut err = Vec::new(alloc);
     let still = Still;
     let mut service = Service {
-        ports: NetPorts::of(net),
+        ports: *ports,
         clock: Seconds::of(&still),
-        port: 8780,
+        place,
         count: 2,
     };
     let (conn, status) = host(alloc, conn, &mut service, &mut out, &mut err);
@@ -111,16 +128,20 @@ fn hosts(
 }
 
 // Hosts where standard output takes nothing.
-fn hosts_untold(alloc: Global, conn: Connection<MemStore>, net: &OnePort<'_>) -> Result<(), Fail> {
+fn hosts_untold(
+    alloc: Global,
+    conn: Connection<MemStore>,
+    ports: &OnePlace<'_>,
+) -> Result<(), Fail> {
     if !conn.is_autocommit() {
         return Err(Fail::from("in a transaction"));
     }
     let mut err = Vec::new(alloc);
     let still = Still;
     let mut service = Service {
-        ports: NetPorts::of(net),
+        ports: *ports,
         clock: Seconds::of(&still),
-        port: 8780,
+        place: PORT,
         count: 2,
     };
     let (_, status) = host(alloc, conn, &mut service, &mut Full, &mut err);
@@ -144,12 +165,12 @@ fn a_room_is_served_and_kept(rt: HostRuntime) -> Result<(), Fail> {
         err: "",
         status: 0,
     };
-    let net = OnePort {
+    let ports = OnePlace {
         listener: &listener,
-        port: 8780,
+        place: PORT,
     };
-    let conn = hosts(alloc, new_room(alloc)?, &net, &wanted)?;
-    let _conn = hosts(alloc, conn, &net, &wanted)?;
+    let conn = hosts(alloc, new_room(alloc)?, &ports, PORT, &wanted)?;
+    let _conn = hosts(alloc, conn, &ports, PORT, &wanted)?;
     gets(alloc, first, MADE)?;
     gets(alloc, second, DONE)?;
     gets(alloc, third, DONE)?;
@@ -157,39 +178,62 @@ fn a_room_is_served_and_kept(rt: HostRuntime) -> Result<(), Fail> {
 }
 
 #[test]
-fn a_port_that_is_taken(rt: HostRuntime) -> Result<(), Fail> {
+fn a_room_is_served_at_a_socket(rt: HostRuntime) -> Result<(), Fail> {
+    let alloc = rt.alloc();
     let listener = listens(&rt)?;
-    let net = OnePort {
+    let first = sends(&rt, &listener, PUT)?;
+    let second = sends(&rt, &listener, PUT)?;
+    let wanted = Wanted {
+        out: "listening /run/a room/socket\n",
+        err: "",
+        status: 0,
+    };
+    let place = Place::Socket("/run/a room/socket");
+    let ports = OnePlace {
         listener: &listener,
-        port: 8781,
+        place,
+    };
+    let _conn = hosts(alloc, new_room(alloc)?, &ports, place, &wanted)?;
+    gets(alloc, first, MADE)?;
+    gets(alloc, second, DONE)
+}
+
+#[test]
+fn a_place_that_is_taken(rt: HostRuntime) -> Result<(), Fail> {
+    let listener = listens(&rt)?;
+    let ports = OnePlace {
+        listener: &listener,
+        place: Place::Port(8781),
     };
     let wanted = Wanted {
         out: "",
         err: "fault: net\n",
         status: 3,
     };
-    let _conn = hosts(rt.alloc(), new_room(rt.alloc())?, &net, &wanted)?;
+    let _conn = hosts(rt.alloc(), new_room(rt.alloc())?, &ports, PORT, &wanted)?;
+    let socket = Place::Socket("room.socket");
+    let _conn = hosts(rt.alloc(), new_room(rt.alloc())?, &ports, socket, &wanted)?;
     Ok(())
 }
 
 // Tests that the database is refused, as this says.
-fn refuses(alloc: Global, net: &OnePort<'_>, text: &str, out: &str) -> Result<(), Fail> {
+fn refuses(alloc: Global, ports: &OnePlace<'_>, text: &str, out: &str) -> Result<(), Fail> {
     let conn = after(new_room(alloc)?, text)?;
     let wanted = Wanted {
         out,
         err: "",
         status: 2,
     };
-    let _conn = hosts(alloc, conn, net, &wanted)?;
+    let _conn = hosts(alloc, conn, ports, PORT, &wanted)?;
     Ok(())
 }
 
 #[test]
 fn no_room_of_this_version(rt: HostRuntime) -> Result<(), Fail> {
     let listener = listens(&rt)?;
-    let net = OnePort {
+    let ports = OnePlace {
         listener: &listener,
-        port: 8780,
+        place: PORT,
     };
     let cases = [
         ("DROP TABLE meta", "refused: not a rooms file\n"),
@@ -198,7 +242,7 @@ fn no_room_of_this_version(rt: HostRuntime) -> Result<(), Fail> {
         ("UPDATE meta SET value = 3", "refused: schema 3 is new\n"),
     ];
     'cases: for (text, out) in &cases {
-        refuses(rt.alloc(), &net, *text, *out)?;
+        refuses(rt.alloc(), &ports, *text, *out)?;
     }
     Ok(())
 }
@@ -207,10 +251,10 @@ fn no_room_of_this_version(rt: HostRuntime) -> Result<(), Fail> {
 fn lines_that_cannot_be_told(rt: HostRuntime) -> Result<(), Fail> {
     let alloc = rt.alloc();
     let listener = listens(&rt)?;
-    let net = OnePort {
+    let ports = OnePlace {
         listener: &listener,
-        port: 8780,
+        place: PORT,
     };
-    hosts_untold(alloc, new_room(alloc)?, &net)?;
-    hosts_untold(alloc, after(new_room(alloc)?, "DROP TABLE meta")?, &net)
+    hosts_untold(alloc, new_room(alloc)?, &ports)?;
+    hosts_untold(alloc, after(new_room(alloc)?, "DROP TABLE meta")?, &ports)
 }

@@ -1,5 +1,6 @@
 //! Clients that have sent everything before a connection is accepted, and writers that fail.
-use cli_serve::{Listening, Moments, ServingFault, serve_on};
+use cli_outcome::Place;
+use cli_serve::{Listening, Moments, NetListener, ServingFault, serve_on};
 use room_machine::Desk;
 use std::alloc::Global;
 use std::io;
@@ -78,10 +79,13 @@ impl Write for Full {
 }
 
 /// So many connections of the listener, as if it were at port 8780.
-pub fn listening(listener: &TcpListener, count: u32) -> Result<Listening<TcpListener>, Fail> {
+pub fn listening(
+    listener: &TcpListener,
+    count: u32,
+) -> Result<Listening<'static, NetListener>, Fail> {
     Ok(Listening {
-        listener: listener.try_clone()?,
-        port: 8780,
+        listener: NetListener::Tcp(listener.try_clone()?),
+        place: Place::Port(8780),
         count,
     })
 }

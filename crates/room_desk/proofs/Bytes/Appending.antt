@@ -3,7 +3,7 @@ use Rattle.std.proofs.Common.{◌≡◌, ℕ, ◌+◌, ◌==◌, Bool, true, fal
 use Rattle.std.proofs.Common.{length, Option, Some, None, Result, Ok, Err, refl, sym, ap, subst}
 use Rattle.std.proofs.Common.{◌∙◌, append_assoc, length-append, arith}
 use Rattle.std.specs.Prelude.{IfOk, unwrap_or, nat_lt, nat_le}
-use Rattle.std.proofs.lemmas.Bool.{eqb-true, ltb-false, le-leb}
+use Rattle.std.proofs.lemmas.Bool.{ltb-false, le-leb}
 use Rattle.std.proofs.lemmas.List.{append-nil}
 use Rattle.room_entry.specs.Rights.{append_data}
 use Rattle.room_entry.specs.Valid.{is_document}
@@ -38,30 +38,22 @@ use Rattle.room_desk.proofs.Bytes.SoundBytes.{sound_bytes}
 use Rattle.room_desk.proofs.Sound.Filled.{plan_judged, target_there}
 use Rattle.room_desk.proofs.Steps.Stepping.{refused_step, changed_step}
 use Rattle.room_desk.proofs.Steps.Serving.{DocumentAt, document_there, no_bytes}
+use Rattle.std.proofs.lemmas.Bool.Decides.{nat_tests}
 
 pub put_refused : (path : List (List ℕ)) (id : ℕ) (bytes : List ℕ) (old new : Rows) (reply : Reply)
     → nat_lt 1048576 (length bytes) ≡ true → reply ≡ Refused path TooLarge → new ≡ old
     → IsPut path id bytes old reply new
-put_refused path id bytes old new reply many replies same = record {
-  replies = replies ∙ ap (λ t. cond t (Refused path TooLarge) Done) (sym many);
-  becomes = subst (λ t. TakesBytes t id bytes old new) (sym many) same;
-}
+put_refused path id bytes old new reply many replies same = grind (arith, nat_tests)
 
 pub put_set : (path : List (List ℕ)) (id : ℕ) (bytes : List ℕ) (old new : Rows)
     → nat_lt 1048576 (length bytes) ≡ false → SetsBody id bytes old new
     → IsPut path id bytes old Done new
-put_set path id bytes old new few sets = record {
-  replies = ap (λ t. cond t (Refused path TooLarge) Done) (sym few);
-  becomes = subst (λ t. TakesBytes t id bytes old new) (sym few) sets;
-}
+put_set path id bytes old new few sets = grind (arith, nat_tests)
 
 pub no_bytes_more : (bytes items : List ℕ) (t : Bool) → items ≡ bytes → t ≡ (length items == 0)
     → t ≡ true → bytes ≡ []
 no_bytes_more [] items t same is holds = refl
-no_bytes_more (byte ∷ more) items t same is holds =
-    let none = eqb-true (length items) 0 (sym is ∙ holds) in
-    let long = sym (ap (λ (l : List ℕ). length l) same) ∙ none in
-    absurd (let wrong : ⊥ = omega (arith, long) in wrong)
+no_bytes_more (byte ∷ more) items t same is holds = grind (arith, nat_tests)
 
 -- adding no bytes changes nothing
 pub put_kept : (path : List (List ℕ)) (id : ℕ) (before bytes : List ℕ) (old new : Rows)
@@ -69,21 +61,12 @@ pub put_kept : (path : List (List ℕ)) (id : ℕ) (before bytes : List ℕ) (ol
     → reply ≡ sized_reply path (length before) → new ≡ old
     → IsPut path id (before ++ bytes) old reply new
 put_kept path id before bytes old new reply are were none replies same =
-    subst (λ (b : List ℕ). IsPut path id b old reply new)
-    (sym (ap (λ (b : List ℕ). before ++ b) none ∙ append-nil before))
-    (record { replies = replies; becomes = on (nat_lt 1048576 (length before)) })
-  where
-    on : (t : Bool) → TakesBytes t id before old new
-    on true = same
-    on false =
-        λ document. same ∙ sym (ap (with_content old) (with_body-there old are id before were))
+    grind (arith, nat_tests, append-nil, with_body-there)
 
 pub put_joined : (path : List (List ℕ)) (id : ℕ) (before bytes given : List ℕ) (old mid new : Rows)
     (reply : Reply) → given ≡ before ++ bytes → mid ≡ old → IsPut path id given mid reply new
     → IsPut path id (before ++ bytes) old reply new
-put_joined path id before bytes given old mid new reply is same put =
-    subst (λ (b : List ℕ). IsPut path id b old reply new) is
-    (subst (λ (r : Rows). IsPut path id given r reply new) same put)
+put_joined path id before bytes given old mid new reply is same put = grind (arith, nat_tests)
 
 pub if_ok : {X E P : Type 0} (r : Result X E) → P → IfOk r (λ x. P)
 if_ok (Ok x) p = p
@@ -100,12 +83,8 @@ module _ {S : Type 0} {rows : S → Rows} {failures writes : S → ℕ}
       → ((old new : Rows) → AreRows old → Before old new → Becomes old wanted new)
       → IsDone rows failures writes Follows IsTrusted extent a b (settled r) Blames
       (λ old outcome new. Becomes old (replied outcome) new)
-  answers Becomes before (Ok reply) wanted is becomes =
-      finish laws (Ok reply) before (λ old new are b.
-      subst (λ (x : Reply). Becomes old x new) (sym is) (becomes old new are b))
-  answers Becomes before (Err (Halted reply)) wanted is becomes =
-      finish laws (Err reply) before (λ old new are b.
-      subst (λ (x : Reply). Becomes old x new) (sym is) (becomes old new are b))
+  answers Becomes before (Ok reply) wanted is becomes = grind (arith, nat_tests, finish)
+  answers Becomes before (Err (Halted reply)) wanted is becomes = grind (arith, nat_tests, finish)
   answers Becomes before (Err (Fault fault)) wanted is becomes = memory laws before (Err fault) is
 
 -- ---- items after others at the target
@@ -197,12 +176,7 @@ module _ (asker : Asker) (path : List (List ℕ)) (bytes : List ℕ) where
 
     bytes_set : (after : List ℕ) (new : Rows) → SetsBody node.id after mid new
         → new ≡ with_content mid (with_body mid.read node.id after)
-    bytes_set after new sets =
-        sets (
-          node,
-          ap (λ (r : Rows). node_at r.read node.id) reached.judged.notes ∙ there.0,
-          there.1,
-        )
+    bytes_set after new sets = grind (arith, nat_tests, there)
 
     append_set : (before : List ℕ) (new : Rows) → body_of old.read node.id ≡ Some before
         → nat_lt 1048576 (length (before ++ bytes)) ≡ false

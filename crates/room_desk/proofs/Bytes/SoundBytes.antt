@@ -16,6 +16,8 @@ use Rattle.room_rows.proofs.InPlace.{body_of-with_body, body_of-with_body-other}
 use Rattle.room_rows.proofs.Lookups.{each_found}
 use Rattle.room_rows.specs.Sound.{AreSound, fits_kind, has_sound_body, reaches}
 use Rattle.room_desk.proofs.Sound.SoundParts.{sound_parts, parts_sound, find_same}
+use Rattle.std.proofs.Common.{arith}
+use Rattle.std.proofs.lemmas.Bool.Decides.{nat_tests}
 
 -- what passes one test passes another
 none_fails : (test other : Node → Bool) (P : Node → Type 0)
@@ -24,16 +26,7 @@ none_fails : (test other : Node → Bool) (P : Node → Type 0)
     → find (λ n. not (test n)) nodes ≡ None → find (λ n. not (other n)) nodes ≡ None
 none_fails test other P next [] each none = refl
 none_fails test other P next (x ∷ xs) each none =
-    on (test x) refl (none_fails test other P next xs each.1) none
-  where
-    on : (t : Bool) → test x ≡ t
-        → (find (λ n. not (test n)) xs ≡ None → find (λ n. not (other n)) xs ≡ None)
-        → cond (not t) (Some x) (find (λ n. not (test n)) xs) ≡ None
-        → cond (not (other x)) (Some x) (find (λ n. not (other n)) xs) ≡ None
-    on true passes rest none =
-        ap (λ t. cond (not t) (Some x) (find (λ n. not (other n)) xs)) (next x each.0 passes)
-        ∙ rest none
-    on false fails rest none = absurd (let wrong : ⊥ = cc in wrong)
+    grind (arith, nat_tests, none_fails test other P next xs each.1)
 
 reaches_bytes : (content : Content) (id : ℕ) (bytes : List ℕ) (n : ℕ) (parent : Option ℕ)
     → reaches_root n (with_body content id bytes) parent ≡ reaches_root n content parent

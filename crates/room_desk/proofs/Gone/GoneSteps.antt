@@ -1,10 +1,10 @@
 -- A request that removes an object is a step.
 use Rattle.std.proofs.Common.{◌≡◌, ℕ, ◌==◌, Bool, true, false, not, List, [], ◌∷◌, ◌++◌, map}
-use Rattle.std.proofs.Common.{length, take, Option, Some, None, refl, sym, ap, subst, ◌∙◌}
+use Rattle.std.proofs.Common.{length, Option, Some, None, refl, sym, ap, subst, ◌∙◌}
 use Rattle.std.proofs.Common.{arith}
 use Rattle.std.proofs.Common.{Err}
 use Rattle.std.proofs.Math.Seq.{take-length}
-use Rattle.std.proofs.lemmas.Bool.{eqb-true, false≢true}
+use Rattle.std.proofs.lemmas.Bool.{false≢true}
 use Rattle.std.specs.Option.{option_map, option_map_or}
 use Rattle.std.proofs.lemmas.List.{map-append}
 use Rattle.room_rows.specs.declared.node.Node.{Node}
@@ -21,10 +21,9 @@ use Rattle.room_machine.specs.declared.reply.Reply.{Reply}
 use Rattle.room_machine.specs.declared.reply.Reply.TheVariants.{Done, Refused}
 use Rattle.room_machine.specs.declared.reply.Reason.TheVariants.{NotEmpty, Root}
 use Rattle.room_machine.specs.declared.request.Request.TheVariants.{Remove}
-use Rattle.room_machine.specs.Site.{Site, sites_along, site_at, parent_at}
+use Rattle.room_machine.specs.Site.{Site, site_at, parent_at}
 use Rattle.room_machine.specs.Plan.{Item, Deletion, Refusal, plan_of, way, where_found}
 use Rattle.room_machine.specs.Judge.{records_of_plan}
-use Rattle.room_machine.specs.Effect.{with_site}
 use Rattle.room_judge.specs.Closed.{IsClosed, IsServed}
 use Rattle.room_machine.specs.Stored.{stored_along, stored_from, stored_plan, stored_site}
 use Rattle.room_judge.specs.Stored.{found_site}
@@ -45,26 +44,20 @@ use Rattle.room_desk.proofs.Sound.Filled.{way_filled}
 use Rattle.room_desk.proofs.Steps.Stepping.{changed_step, refused_step}
 use Rattle.room_desk.proofs.Steps.Serving.{along_there}
 use Rattle.room_desk.proofs.Made.FolderPlans.{parent_filled}
+use Rattle.std.proofs.lemmas.Bool.Decides.{nat_tests}
 
 pub no_names : (path names : List (List ℕ)) (t : Bool) → names ≡ path → t ≡ (length names == 0)
     → t ≡ true → path ≡ []
 no_names [] names t same is holds = refl
-no_names (name ∷ more) names t same is holds =
-    let none = eqb-true (length names) 0 (sym is ∙ holds) in
-    let long = sym (ap (λ (l : List (List ℕ)). length l) same) ∙ none in
-    absurd (let wrong : ⊥ = omega (arith, long) in wrong)
+no_names (name ∷ more) names t same is holds = grind (arith, nat_tests)
 
 -- what is stored and what is meant agree on whether there are children
 empty_kept : (content : Content) (id : ℕ)
     → is_empty (children_of content id) ≡ is_empty (children_of (meaning content) id)
 empty_kept content id =
-    sym (ap is_empty (children_of-with_each content (kept_node content)
+    let each = children_of-with_each content (kept_node content)
     (keeps_places content (kept_node content)
-    (λ n. record { number = refl; parent = refl; name = refl })) id) ∙ on (children_of content id))
-  where
-    on : (nodes : List Node) → is_empty (map (kept_node content) nodes) ≡ is_empty nodes
-    on [] = refl
-    on (x ∷ xs) = refl
+    (λ n. record { number = refl; parent = refl; name = refl })) id in grind arith
 
 module _ (asker : Asker) (path : List (List ℕ)) where
   -- the items at a target in a folder
@@ -75,35 +68,28 @@ module _ (asker : Asker) (path : List (List ℕ)) where
       (λ folder. Deletion target folder
       ∷ Refusal path NotEmpty (not (is_empty (children_of content target.node.id))) ∷ [])
 
+  abbrev items_behind : Content → List Site → List Item
+  items_behind content sites =
+      where_found (site_at sites path) (items_at content (parent_at sites path))
+
   abbrev items_along : Content → List Site → List Item
-  items_along content sites =
-      way false sites path
-      ++ where_found (site_at sites path) (items_at content (parent_at sites path))
+  items_along content sites = way false sites path ++ items_behind content sites
 
   items_filled : (content : Content) (sites : List Site)
       → items_along content (map fill sites) ≡ map fill_item (items_along (meaning content) sites)
   items_filled content sites =
-      ap (λ w. w ++ where_found (site_at (map fill sites) path)
-      (items_at content (parent_at (map fill sites) path))) (way_filled false sites path)
-      ∙ ap (λ o. map fill_item (way false sites path)
-      ++ where_found o (items_at content (parent_at (map fill sites) path)))
-      (site_filled sites path)
-      ∙ ap (λ o. map fill_item (way false sites path)
-      ++ where_found (option_map fill (site_at sites path)) (items_at content o))
-      (parent_filled sites path)
-      ∙ ap (λ rest. map fill_item (way false sites path) ++ rest)
-      (on (site_at sites path) (parent_at sites path))
-      ∙ sym (map-append fill_item (way false sites path)
-      (where_found (site_at sites path) (items_at (meaning content) (parent_at sites path))))
+      rw (
+        way_filled false sites path,
+        site_filled sites path,
+        parent_filled sites path,
+        on (site_at sites path) (parent_at sites path),
+        map-append,
+      )
     where
       on : (o p : Option Site)
           → where_found (option_map fill o) (items_at content (option_map fill p))
           ≡ map fill_item (where_found o (items_at (meaning content) p))
-      on None p = refl
-      on (Some target) None = refl
-      on (Some target) (Some folder) =
-          ap (λ t. Refusal path Root (is_empty path) ∷ Deletion (fill target) (fill folder)
-          ∷ Refusal path NotEmpty (not t) ∷ []) (empty_kept content target.node.id)
+      on = grind (arith, empty_kept content)
 
   -- what is judged at the stored lists is judged by the plan
   planned : (old new : Rows) (answer : Option Reply) → AreRows old → AreSound old
@@ -111,9 +97,7 @@ module _ (asker : Asker) (path : List (List ℕ)) where
       → IsJudged asker (plan_of (meaning old.read) (Remove path)) old answer new
   planned old new answer are sound judged =
       judged_filled asker (plan_of (meaning old.read) (Remove path)) old new answer
-      (subst (λ list. IsJudged asker list old answer new)
-      (ap (items_along old.read) (sym (sites_filled old are (sound_parts old sound) path))
-      ∙ items_filled old.read (sites_along (meaning old.read) path)) judged)
+      (rw (← sites_filled old are (sound_parts old sound) path, items_filled old.read) at judged)
 
   -- an item fails
   not_removed : (old new : Rows) (reply : Reply) → AreRows old
@@ -128,11 +112,7 @@ module _ (asker : Asker) (path : List (List ℕ)) where
   pub remove_halted : (old new : Rows) (reply : Reply) → AreRows old
       → IsPaired asker path old (Err reply) new → IsServed asker (Remove path) old reply new
   remove_halted old new reply are paired =
-      not_removed old new reply are
-      (fails_first asker (way false (stored_along old.read path) path)
-      (where_found (site_at (stored_along old.read path) path)
-      (items_at old.read (parent_at (stored_along old.read path) path))) old new reply
-      paired.judged)
+      not_removed old new reply are (fails_first asker _ _ old new reply paired.judged)
 
   module _ (old mid : Rows) (folder target : Found) (are : AreRows old)
       (named : is_empty path ≡ false)
@@ -149,30 +129,19 @@ module _ (asker : Asker) (path : List (List ℕ)) where
     removal rows site = Deletion site (found_site path folder) ∷ has_children rows ∷ []
 
     removal_is : removal mid (found_site path target) ≡ removal old (stored_site path target.node)
-    removal_is =
-        ap (λ (r : Rows). removal r (found_site path target)) paired.judged.notes
-        ∙ ap (λ (p : List (List ℕ)). removal old (stored_site p target.node))
-        (ap (λ (n : ℕ). take n path) paired.depth ∙ take-length path)
+    removal_is = rw (paired.judged.notes, paired.depth, take-length)
 
-    items_are : where_found (site_at (stored_along old.read path) path)
-        (items_at old.read (parent_at (stored_along old.read path) path))
+    items_are : items_behind old.read (stored_along old.read path)
         ≡ Refusal path Root (is_empty path) ∷ removal old (stored_site path target.node)
-    items_are =
-        ap (λ o. where_found o (items_at old.read (parent_at (stored_along old.read path) path)))
-        paired.target ∙ ap (λ o. items_at old.read o (stored_site path target.node)) paired.folder
+    items_are = rw (paired.target, paired.folder)
 
     at_stored : (new : Rows) (answer : Option Reply)
         → IsJudged asker (removal mid (found_site path target)) mid answer new
         → IsJudged asker (stored_plan old.read (Remove path)) old answer new
     at_stored new answer judged =
-        passes_first asker (way false (stored_along old.read path) path)
-        (where_found (site_at (stored_along old.read path) path)
-        (items_at old.read (parent_at (stored_along old.read path) path))) old mid new answer
-        paired.judged
-        (subst (λ list. IsJudged asker list mid answer new) (sym items_are)
-        (passes_on asker path Root (is_empty path)
-        (removal old (stored_site path target.node)) mid new answer named
-        (subst (λ list. IsJudged asker list mid answer new) removal_is judged)))
+        passes_first asker _ (items_behind old.read (stored_along old.read path)) old mid new answer
+        paired.judged (rw items_are (passes_on asker path Root (is_empty path)
+        (removal old (stored_site path target.node)) mid new answer named (rw removal_is at judged)))
 
     there : node_at old.read id ≡ Some target.node
     there = along_there old.read are.numbers path (stored_site path target.node) paired.target
@@ -189,10 +158,8 @@ module _ (asker : Asker) (path : List (List ℕ)) where
     denied last new refusal reply judged replies same =
         not_removed old new reply are
         (at_stored new (Some reply)
-        (fails_first asker (Deletion (found_site path target) (found_site path folder) ∷ [])
-        (has_children mid ∷ []) mid new reply
-        (judged_refused asker (Deletion (found_site path target) (found_site path folder) ∷ []) mid
-        last new refusal reply judged replies same)))
+        (fails_first asker _ (has_children mid ∷ []) mid new reply
+        (judged_refused asker _ mid last new refusal reply judged replies same)))
 
     -- the deletion is granted
     module _ (last : Rows) (granted : IsJudged asker
@@ -202,8 +169,7 @@ module _ (asker : Asker) (path : List (List ℕ)) where
           → IsJudged asker (stored_plan old.read (Remove path)) old answer new
       then_children new answer judged =
           at_stored new answer
-          (passes_first asker (Deletion (found_site path target) (found_site path folder) ∷ [])
-          (has_children mid ∷ []) mid last new answer granted judged)
+          (passes_first asker _ (has_children mid ∷ []) mid last new answer granted judged)
 
       -- where there are none, nothing fails
       none_fails : (new : Rows) → new ≡ last → is_empty (children_of mid.read id) ≡ true
@@ -215,8 +181,7 @@ module _ (asker : Asker) (path : List (List ℕ)) where
 
       childless_then : children_of last.read id ≡ [] → is_empty (children_of mid.read id) ≡ true
       childless_then none =
-          sym (ap (λ (r : Rows). is_empty (children_of r.read id)) granted.notes)
-          ∙ ap (λ (nodes : List Node). is_empty nodes) none
+          let same = rw granted.notes at none in rw same
 
       module _ (none : children_of last.read id ≡ []) where
         all : IsJudged asker (stored_plan old.read (Remove path)) old None last
@@ -225,7 +190,7 @@ module _ (asker : Asker) (path : List (List ℕ)) where
         may : CanRemove id last
         may = record {
           node = target.node;
-          is_there = ap (λ (r : Rows). node_at r.read id) all.notes ∙ there;
+          is_there = rw all.notes there;
           parent = folder.node.id;
           has_parent = below;
           no_children = none;
@@ -244,20 +209,14 @@ module _ (asker : Asker) (path : List (List ℕ)) where
               there = there;
               parent = folder.node.id;
               below = below;
-              none = childless old.read id
-                  (sym (ap (λ (r : Rows). children_of r.read id) all.notes) ∙ none);
+              none = childless old.read id (rw all.notes at none);
             } in
             changed_step asker (Remove path) old known sound last new Done
             (without_node (meaning old.read) id) plan
-            (λ number. ap (λ o. with_site (meaning old.read) o
-            (λ t. (Done, without_node (meaning old.read) t.node.id))) site.at
-            ∙ ap (λ (n : Node). (Done, without_node (meaning old.read) n.id)) site.kept)
-            (ap (λ (r : Rows). meaning r.read) (removes may)
-            ∙ ap (λ (r : Rows). meaning (without_node r.read id)) plan.notes
-            ∙ ap (λ (c : Content). with_records c records) (removed_means old.read id can))
-            (subst AreSound
-            (sym (removes may
-            ∙ ap (λ (r : Rows). with_content r (without_node r.read id)) plan.notes))
+            (λ number. rw (site.at, site.kept))
+            (rw (removes may, plan.notes)
+            (ap (λ (c : Content). with_records c records) (removed_means old.read id can)))
+            (rw (removes may, plan.notes)
             (sound_noted (with_content old (without_node old.read id)) records
             (sound_removed old id sound can)))
 
@@ -266,7 +225,7 @@ module _ (asker : Asker) (path : List (List ℕ)) where
         removed_closed new removes =
             closed_done asker (Remove path) old Done last new all refl refl
             (without_node old.read id) refl
-            (removes may ∙ ap (λ (r : Rows). with_content r (without_node r.read id)) all.notes)
+            (rw (removes may, all.notes))
             (stored_site path target.node, paired.target, refl)
             (stored_site path target.node, paired.target, refl)
 
@@ -275,11 +234,8 @@ module _ (asker : Asker) (path : List (List ℕ)) where
           → is_empty (children_of mid.read id) ≡ true → reply ≡ Refused path NotEmpty → new ≡ last
           → IsServed asker (Remove path) old reply new
       unread new reply answer none replies same =
-          let seen : last.unreadable ≡ old.unreadable =
-          ap (λ (r : Rows). r.unreadable) granted.notes
-          ∙ ap (λ (r : Rows). r.unreadable) paired.judged.notes in
-          let hidden : old.unreadable ≡ [] → ⊥ =
-          λ all_read. false≢true (sym (answer.1 (seen ∙ all_read)
+          let hidden : old.unreadable ≡ [] → ⊥ = λ all_read. false≢true (sym (answer.1
+          (rw (granted.notes, paired.judged.notes) all_read)
           ∙ ap (λ (r : Rows). not (is_empty (children_of r.read id))) granted.notes
           ∙ ap not none)) in (
             λ known sound. absurd (hidden (none_unreadable old (sound_parts old sound))),
@@ -291,8 +247,7 @@ module _ (asker : Asker) (path : List (List ℕ)) where
           → Ends Done (Removes id) (refused_where has_some path) last reply new
           → IsServed asker (Remove path) old reply new
       on_children false answer new reply ends =
-          subst (λ (r : Reply). IsServed asker (Remove path) old r new) (sym ends.0)
-          (removed (answer.0 refl) new ends.1, removed_closed (answer.0 refl) new ends.1)
+          rw ends.0 (removed (answer.0 refl) new ends.1, removed_closed (answer.0 refl) new ends.1)
       on_children true answer new reply ends =
           on (is_empty (children_of mid.read id)) refl
         where

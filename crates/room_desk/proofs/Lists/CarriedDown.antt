@@ -1,13 +1,12 @@
 -- What carrying down answers, as a call of a request.
-use Rattle.std.proofs.Common.{◌≡◌, ℕ, ◌+◌, ◌≤◌, Ok, Err, length, refl, sym, ap, subst, inl, inr}
+use Rattle.std.proofs.Common.{◌≡◌, ℕ, ◌+◌, ◌≤◌, Ok, Err, length, ap}
 use Rattle.std.proofs.Common.{arith}
 use Rattle.room_entry.specs.declared.object.Which.{Which}
 use Rattle.room_rows.specs.declared.keep.KeepFault.{KeepFault}
-use Rattle.room_rows.specs.declared.keep.KeepFault.TheVariants.{Memory, Store, Damaged}
 use Rattle.room_rows.specs.declared.node.Node.{Node}
-use Rattle.room_rows.specs.Keep.{HasCause, IsUnreadable, KeepLaws, capped}
+use Rattle.room_rows.specs.Keep.{KeepLaws, capped}
 use Rattle.room_rows.specs.Rows.{AreRows, Rows}
-use Rattle.room_inherit.specs.Spread.{HasSpreadCause, Holds, IsCarried, IsOwnAncestor, IsSpread}
+use Rattle.room_inherit.specs.Spread.{Holds, IsCarried, IsOwnAncestor, IsSpread}
 use Rattle.room_inherit.specs.declared.outcome.Spread.{Spread}
 use Rattle.room_inherit.specs.declared.outcome.SpreadFault.{SpreadFault}
 use Rattle.room_inherit.specs.declared.outcome.SpreadFault.TheVariants.{Keeper, Loop}
@@ -19,6 +18,7 @@ use Rattle.room_judge.specs.Judged.{IsDone}
 use Rattle.room_judge.proofs.Calls.{as_well}
 use Rattle.room_judge.proofs.Within.{written_up_to}
 use Rattle.room_desk.proofs.Writes.ChangedLists.{spread_changes}
+use Rattle.std.proofs.lemmas.Bool.Decides.{nat_tests}
 
 -- as many writes as lists are other now
 carried_writes : (which : Which) (id changed before after more : ℕ) (old new : Rows) → AreRows old
@@ -44,15 +44,7 @@ module _ {S : Type 0} {rows : S → Rows} {failures writes : S → ℕ}
       (λ _. UpTo (EachList which)) a b
       (Ok tt) (HasLoop id)
       (IsCarriedDown which id)
-  carried_ok spread carried =
-      record {
-        follows = carried.follows;
-        becomes = λ t. (spread.changed, carried.becomes t);
-        few =
-            λ t more enough. carried_writes which id spread.changed (writes a) (writes b) more
-            (rows a) (rows b) (laws.are a b t) (carried.becomes t) carried.written enough;
-        fault = tt;
-      }
+  carried_ok spread carried = grind (arith, nat_tests, carried_writes)
 
   pub carried_err : (fault : SpreadFault) (e : KeepFault) → e ≡ keeper_fault id fault
       → IsCarried rows failures writes Follows IsTrusted {X = Spread} (λ spread. spread.changed) a b
@@ -62,32 +54,8 @@ module _ {S : Type 0} {rows : S → Rows} {failures writes : S → ℕ}
       (λ _. UpTo (EachList which)) a b
       (Err e) (HasLoop id)
       (IsCarriedDown which id)
-  carried_err (Keeper f) e is carried =
-      let unread : IsDone rows failures writes Follows IsTrusted {X = Unit {0}}
-      (λ _. UpTo (EachList which)) a b (Err f) IsUnreadable
-      (IsCarriedDown which id) =
-      record { follows = carried.follows; becomes = λ t. tt; few = λ t. tt; fault = carried.fault }
-      in
-      let known : IsDone rows failures writes Follows IsTrusted {X = Unit {0}}
-      (λ _. UpTo (EachList which)) a b (Err f) (HasLoop id)
-      (IsCarriedDown which id) =
-      as_well unread (λ old at h. inl h) (λ old x new h. h) in
-      subst (λ (k : KeepFault). IsDone rows failures writes Follows IsTrusted {X = Unit {0}}
-      (λ _. UpTo (EachList which)) a b (Err k)
-      (HasLoop id) (IsCarriedDown which id)) (sym is) known
-  carried_err Loop e is carried =
-      let known : IsDone rows failures writes Follows IsTrusted {X = Unit {0}}
-      (λ _. UpTo (EachList which)) a b
-      (Err (keeper_fault id Loop)) (HasLoop id) (IsCarriedDown which id) =
-      record {
-        follows = carried.follows;
-        becomes = λ t. tt;
-        few = λ t. tt;
-        fault = λ t. inr (refl, carried.fault t);
-      } in
-      subst (λ (k : KeepFault). IsDone rows failures writes Follows IsTrusted {X = Unit {0}}
-      (λ _. UpTo (EachList which)) a b (Err k)
-      (HasLoop id) (IsCarriedDown which id)) (sym is) known
+  carried_err (Keeper f) e is carried = grind (arith, nat_tests, as_well)
+  carried_err Loop e is carried = grind (arith, nat_tests)
 
 -- the same from an object, where it stands so in the rows
 module _ {S : Type 0} {rows : S → Rows} {failures writes : S → ℕ}
@@ -102,16 +70,7 @@ module _ {S : Type 0} {rows : S → Rows} {failures writes : S → ℕ}
       → IsDone rows failures writes Follows IsTrusted {X = Unit {0}}
       (λ _. UpTo (Provided (Holds start) (EachList which))) a b (Ok tt) (HasLoopFrom start)
       (IsCarriedFrom which start)
-  given_ok spread carried =
-      record {
-        follows = carried.follows;
-        becomes = λ t there. (spread.changed, carried.becomes (t, there));
-        few =
-            λ t more enough. carried_writes which start.id spread.changed (writes a) (writes b) more
-            (rows a) (rows b) (laws.are a b t) (carried.becomes (t, enough.0)) carried.written
-            enough.1;
-        fault = tt;
-      }
+  given_ok spread carried = grind (arith, nat_tests, carried_writes)
 
   pub given_err : (fault : SpreadFault) (e : KeepFault) → e ≡ keeper_fault start.id fault
       → IsCarried rows failures writes Follows
@@ -121,31 +80,4 @@ module _ {S : Type 0} {rows : S → Rows} {failures writes : S → ℕ}
       → IsDone rows failures writes Follows IsTrusted {X = Unit {0}}
       (λ _. UpTo (Provided (Holds start) (EachList which))) a b (Err e) (HasLoopFrom start)
       (IsCarriedFrom which start)
-  given_err fault e is carried =
-      subst (λ (k : KeepFault). IsDone rows failures writes Follows IsTrusted {X = Unit {0}}
-      (λ _. UpTo (Provided (Holds start) (EachList which))) a b (Err k)
-      (HasLoopFrom start) (IsCarriedFrom which start)) (sym is)
-      (record {
-        follows = carried.follows;
-        becomes = λ t. tt;
-        few = λ t. tt;
-        fault = cause fault carried.fault;
-      })
-    where
-      kept : (f : KeepFault)
-          → HasCause (failures a) (failures b)
-          (λ at. IsTrusted a b × Holds start (rows a) → IsUnreadable (rows a) at) f
-          → HasCause (failures a) (failures b)
-          (λ at. IsTrusted a b → HasLoopFrom start (rows a) at) f
-      kept Memory h = h
-      kept Store h = h
-      kept (Damaged id) h = λ t there. inl (h (t, there))
-
-      cause : (fault : SpreadFault)
-          → HasSpreadCause (failures a) (failures b)
-          (λ at. IsTrusted a b × Holds start (rows a) → IsUnreadable (rows a) at)
-          (IsTrusted a b × Holds start (rows a) → IsOwnAncestor (rows a).read start.id) fault
-          → HasCause (failures a) (failures b) (λ at. IsTrusted a b → HasLoopFrom start (rows a) at)
-          (keeper_fault start.id fault)
-      cause (Keeper f) h = kept f h
-      cause Loop h = λ t there. inr (refl, h (t, there))
+  given_err fault e is carried = grind (arith, nat_tests)

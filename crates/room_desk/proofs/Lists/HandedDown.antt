@@ -3,7 +3,7 @@ use Rattle.std.proofs.Common.{◌≡◌, ℕ, zero, suc, ◌==◌, ◌||◌, ◌
 use Rattle.std.proofs.Common.{List, not, Option, Some, None, refl, sym, ap, ◌∙◌, ◌⊎◌, inl, inr}
 use Rattle.std.specs.Prelude.{IsTrue}
 use Rattle.std.specs.Option.{option_map, option_map_or}
-use Rattle.std.proofs.lemmas.Bool.{and_parts, cases_Bool, cond-false, cond-true, eqb-true}
+use Rattle.std.proofs.lemmas.Bool.{and_parts, cases_Bool, cond-false, cond-true}
 use Rattle.std.proofs.lemmas.Bool.{false≢true}
 use Rattle.std.proofs.lemmas.List.{map-id}
 use Rattle.room_entry.specs.Ace.{Ace}
@@ -35,6 +35,8 @@ use Rattle.room_desk.proofs.Lists.SetHeld.{each_same}
 use Rattle.room_desk.proofs.Lists.ValidDown.{all_found}
 use Rattle.room_desk.proofs.Placed.Climbing.{node_at-changed}
 use Rattle.room_desk.proofs.Sound.Anchored.{after_is}
+use Rattle.std.proofs.Common.{arith}
+use Rattle.std.proofs.lemmas.Bool.Decides.{nat_tests}
 
 -- ---- nothing is handed down
 
@@ -143,22 +145,7 @@ under_noted rows audits which id node (Further _ above linked is further) =
 pub handed_noted : (which : Which) (id : ℕ) (old new : Content) (audits : List AuditRow)
     → HandsDown which id (record old { audits = audits }) new
     → HandsDown which id old (record new { audits = old.audits })
-handed_noted which id old new audits hands = record {
-  lists = hands.lists;
-  becomes = ap (λ (c : Content). record c { audits = old.audits }) hands.becomes;
-  each = λ node there. on node (hands.each node there);
-}
-  where
-    on : (node : Node)
-        → (hands.lists node ≡ (held_of which node).inh)
-        ⊎ (IsLinkedUnder (record old { audits = audits }) which id node
-        × IsTrue (agrees new which (with_inh which (hands.lists node) node)))
-        → (hands.lists node ≡ (held_of which node).inh)
-        ⊎ (IsLinkedUnder old which id node
-        × IsTrue (agrees (record new { audits = old.audits }) which
-        (with_inh which (hands.lists node) node)))
-    on node (inl same) = inl same
-    on node (inr now) = inr (under_noted old audits which id node now.0, now.1)
+handed_noted which id old new audits hands = grind (arith, nat_tests, under_noted)
 
 handed_audits : (which : Which) (id : ℕ) (old new : Content) → HandsDown which id old new
     → new.audits ≡ old.audits
@@ -224,32 +211,13 @@ module _ (content : Content) (rises : Rises content) (id : ℕ) (node : Node)
   found = ap (node_at content) numbered ∙ there
 
   same_node : (n : Node) → node_at content n.id ≡ Some n → (n.id == id) ≡ true → n ≡ node
-  same_node n is same = same_some (sym is ∙ ap (node_at content) (eqb-true n.id id same) ∙ there)
-    where
-      same_some : Some n ≡ Some node → n ≡ node
-      same_some e = cc
+  same_node n is same = grind (arith, nat_tests)
 
   -- it is put in the place of the one that was there
   pub put_one : ((n : Node) → (change n).id ≡ n.id)
       → with_node content (change node) ≡ with_one id change content
   put_one number =
-      after_is content rises node (change node) found (number node)
-      ∙ each_same content rises (replaced (change node))
-      (λ n. cond (n.id == id) (change n) n) one
-    where
-      one : (n : Node) → node_at content n.id ≡ Some n
-          → replaced (change node) n ≡ cond (n.id == id) (change n) n
-      one n is =
-          ap (λ (i : ℕ). cond (n.id == i) (change node) n) (number node ∙ numbered)
-          ∙ elim (cases_Bool (n.id == id)) [
-            | inl same ↦
-                cond-true (n.id == id) (change node) n same
-                ∙ ap change (sym (same_node n is same))
-                ∙ sym (cond-true (n.id == id) (change n) n same)
-            | inr isnt ↦
-                cond-false (n.id == id) (change node) n isnt
-                ∙ sym (cond-false (n.id == id) (change n) n isnt)
-          ]
+      grind (arith, nat_tests, after_is, each_same, found, numbered, replaced, same_node)
 
   -- it is changed to what it is
   pub one_stays : change node ≡ node → with_one id change content ≡ content

@@ -1,8 +1,8 @@
 -- Rows in which the objects have other lists of one attribute, and else are as they were.
-use Rattle.std.proofs.Common.{◌≡◌, ℕ, ◌||◌, Bool, true, not, List, [], ◌∷◌, map, Option, Some}
-use Rattle.std.proofs.Common.{None, refl, ap, ◌∙◌}
+use Rattle.std.proofs.Common.{◌≡◌, ℕ, Bool, true, List, [], ◌∷◌, map, Some}
+use Rattle.std.proofs.Common.{refl, ap, ◌∙◌}
 use Rattle.std.specs.List.{list_all}
-use Rattle.std.specs.Option.{option_map, option_map_or}
+use Rattle.std.specs.Option.{option_map}
 use Rattle.std.proofs.lemmas.Bool.{and_parts, and_from}
 use Rattle.room_entry.specs.declared.object.Which.{Which}
 use Rattle.room_entry.specs.declared.object.Which.TheVariants.{Dacl, Sacl}
@@ -22,6 +22,8 @@ use Rattle.room_inherit.proofs.NoFault.{no_fault, sound_checked}
 use Rattle.room_inherit.proofs.Unmoved.{above, all_kept, folder_above, places, reach_all}
 use Rattle.room_inherit.proofs.Unmoved.{still_sound}
 use Rattle.room_entry.proofs.Facts.Lists.{all_implied}
+use Rattle.std.proofs.Common.{arith}
+use Rattle.std.proofs.lemmas.Bool.Decides.{nat_tests}
 
 -- ---- both attributes
 
@@ -41,10 +43,8 @@ other Sacl = Dacl
 
 pub both_agree : (which : Which) (rows : Content) (node : Node) → agrees rows which node ≡ true
     → agrees rows (other which) node ≡ true → keeps_law rows node ≡ true
-both_agree Dacl rows node here there =
-    and_from (agrees rows Dacl node) (agrees rows Sacl node) here there
-both_agree Sacl rows node here there =
-    and_from (agrees rows Dacl node) (agrees rows Sacl node) there here
+both_agree Dacl rows node here there = grind (arith, nat_tests)
+both_agree Sacl rows node here there = grind (arith, nat_tests)
 
 pub one_agrees : (which : Which) (rows : Content) (node : Node) → keeps_law rows node ≡ true
     → agrees rows which node ≡ true
@@ -55,21 +55,13 @@ pub both_lists : (which : Which) (node : Node)
     → is_sound_held which node.kind (held_of which node) ≡ true
     → is_sound_held (other which) node.kind (held_of (other which) node) ≡ true
     → has_sound_lists node ≡ true
-both_lists Dacl node here there =
-    and_from (is_sound_held Dacl node.kind node.dacl)
-    (is_sound_held Sacl node.kind node.sacl) here there
-both_lists Sacl node here there =
-    and_from (is_sound_held Dacl node.kind node.dacl)
-    (is_sound_held Sacl node.kind node.sacl) there here
+both_lists Dacl node here there = grind (arith, nat_tests)
+both_lists Sacl node here there = grind (arith, nat_tests)
 
 pub one_list : (which : Which) (node : Node) → has_sound_lists node ≡ true
     → is_sound_held which node.kind (held_of which node) ≡ true
-one_list Dacl node both =
-    (and_parts (is_sound_held Dacl node.kind node.dacl)
-    (is_sound_held Sacl node.kind node.sacl) both).0
-one_list Sacl node both =
-    (and_parts (is_sound_held Dacl node.kind node.dacl)
-    (is_sound_held Sacl node.kind node.sacl) both).1
+one_list Dacl node both = grind (arith, nat_tests)
+one_list Sacl node both = grind (arith, nat_tests)
 
 -- ---- one object
 
@@ -87,26 +79,13 @@ module _ (which : Which) (lists : Node → Held) where
   parent_kept node = (place_kept node).parent
 
   pub kind_kept : (node : Node) → (relist node).kind ≡ node.kind
-  kind_kept node = of_which which
-    where
-      of_which : (w : Which) → (with_held w (lists node) node).kind ≡ node.kind
-      of_which Dacl = refl
-      of_which Sacl = refl
+  kind_kept node = grind (arith, nat_tests)
 
   pub held_relisted : (node : Node) → held_of which (relist node) ≡ lists node
-  held_relisted node = of_which which
-    where
-      of_which : (w : Which) → held_of w (with_held w (lists node) node) ≡ lists node
-      of_which Dacl = refl
-      of_which Sacl = refl
+  held_relisted node = grind (arith, nat_tests)
 
   pub other_kept : (node : Node) → held_of (other which) (relist node) ≡ held_of (other which) node
-  other_kept node = of_which which
-    where
-      of_which : (w : Which)
-          → held_of (other w) (with_held w (lists node) node) ≡ held_of (other w) node
-      of_which Dacl = refl
-      of_which Sacl = refl
+  other_kept node = grind (arith, nat_tests)
 
   -- ---- all of them
 
@@ -135,61 +114,22 @@ module _ (which : Which) (lists : Node → Held) where
     other_linked : (node above : Node)
         → agrees_with (other which) (relist node) (relist above)
         ≡ agrees_with (other which) node above
-    other_linked node above =
-        ap (λ h. agreed h (held_of (other which) (relist above)) (relist node).kind)
-        (other_kept node)
-        ∙ ap (λ h. agreed (held_of (other which) node) h (relist node).kind) (other_kept above)
-        ∙ ap (λ k. agreed (held_of (other which) node) (held_of (other which) above) k)
-        (kind_kept node)
-      where
-        agreed : Held → Held → Rattle.room_entry.specs.declared.object.ObjKind.ObjKind → Bool
-        agreed held up kind =
-            not (is_linked held (Some up))
-            || Rattle.room_entry.specs.Same.same_entries held.inh
-            (Rattle.room_rows.specs.Pass.pass kind (Rattle.room_rows.specs.Held.full_of up))
+    other_linked node above = grind (arith, nat_tests, above, kind_kept, other_kept)
 
     other_agrees : (node : Node)
         → agrees relisted (other which) (relist node) ≡ agrees rows (other which) node
-    other_agrees node =
-        ap (λ o. option_map_or (agrees_with (other which) (relist node)) o true)
-        (parent_relisted node) ∙ on (parent_of rows node)
-      where
-        on : (o : Option Node)
-            → option_map_or (agrees_with (other which) (relist node)) (option_map relist o) true
-            ≡ option_map_or (agrees_with (other which) node) o true
-        on None = refl
-        on (Some above) = other_linked node above
+    other_agrees node = grind (arith, nat_tests, above, other_linked, parent_relisted)
 
     -- ---- which lists are linked
 
     pub linked_relisted : (node : Node)
         → is_linked_in relisted which (relist node)
         ≡ is_linked (lists node) (option_map lists (parent_of rows node))
-    linked_relisted node =
-        ap (λ h. is_linked h (option_map (held_of which) (parent_of relisted (relist node))))
-        (held_relisted node)
-        ∙ ap (λ o. is_linked (lists node) (option_map (held_of which) o)) (parent_relisted node)
-        ∙ ap (is_linked (lists node)) (on (parent_of rows node))
-      where
-        on : (o : Option Node)
-            → option_map (held_of which) (option_map relist o) ≡ option_map lists o
-        on None = refl
-        on (Some above) = ap (λ h. Some h) (held_relisted above)
+    linked_relisted node = grind (arith, nat_tests, above, held_relisted, parent_relisted)
 
     other_linked_in : (node : Node)
         → is_linked_in relisted (other which) (relist node) ≡ is_linked_in rows (other which) node
-    other_linked_in node =
-        ap (λ h. is_linked h
-        (option_map (held_of (other which)) (parent_of relisted (relist node)))) (other_kept node)
-        ∙ ap (λ o. is_linked (held_of (other which) node) (option_map (held_of (other which)) o))
-        (parent_relisted node)
-        ∙ ap (is_linked (held_of (other which) node)) (on (parent_of rows node))
-      where
-        on : (o : Option Node)
-            → option_map (held_of (other which)) (option_map relist o)
-            ≡ option_map (held_of (other which)) o
-        on None = refl
-        on (Some above) = ap (λ h. Some h) (other_kept above)
+    other_linked_in node = grind (arith, nat_tests, above, other_kept, parent_relisted)
 
     -- what the object means
     pub kept_relisted : (node : Node)

@@ -1,13 +1,10 @@
 -- The operator's reset of a list on rows that needn't be sound.
 use Rattle.std.proofs.Common.{◌≡◌, ℕ, zero, suc, List, [], ◌∷◌, ◌++◌, length, Option, Some, None}
 use Rattle.std.proofs.Common.{refl, sym, ap, subst, ◌∙◌, ◌⊎◌, inl, inr, append_assoc}
-use Rattle.std.specs.Prelude.{◌-◌, is_some, slice_get}
+use Rattle.std.specs.Prelude.{◌-◌, slice_get}
 use Rattle.std.specs.Option.{option_map_or}
-use Rattle.std.proofs.lemmas.Bool.{false≢true}
 use Rattle.std.proofs.lemmas.List.{append-nil}
-use Rattle.std.proofs.lemmas.Option.{same_Some}
 use Rattle.room_ace.specs.Sent.{Sent}
-use Rattle.room_entry.specs.Valid.{first_bad_entry}
 use Rattle.room_entry.specs.declared.fault.EntryFault.{EntryFault}
 use Rattle.room_entry.specs.declared.object.ObjKind.{ObjKind}
 use Rattle.room_entry.specs.declared.object.ObjKind.TheVariants.{Document, Folder}
@@ -18,17 +15,18 @@ use Rattle.room_rows.specs.Content.{Content, child_of, node_at, parent_of, root_
 use Rattle.room_rows.specs.Rows.{Rows, AreRows}
 use Rattle.room_rows.specs.Walk.{behind, walk_from, walk_of}
 use Rattle.room_machine.specs.Closed.{IsResetClosed, failure_told, listed_reply}
-use Rattle.room_machine.specs.declared.reply.Reason.TheVariants.{BadList}
 use Rattle.room_machine.specs.declared.reply.Reply.{Reply}
 use Rattle.room_machine.specs.declared.reply.Reply.TheVariants.{Done, Refused}
 use Rattle.room_machine.specs.Site.{Site, site_at}
 use Rattle.room_machine.specs.Stored.{stored_along, stored_from, stored_site}
 use Rattle.room_judge.specs.Judged.{Resets}
-use Rattle.room_desk.specs.Setting.{Beneath, IsResetAtEnd, IsSetOrRefused, SetUnless, ended_at}
+use Rattle.room_desk.specs.Setting.{Beneath, IsResetAtEnd, IsSetOrRefused, ended_at}
 use Rattle.room_desk.specs.Setting.{reason_of}
 use Rattle.room_desk.proofs.Lists.ResetWay.{same_last}
 use Rattle.room_desk.proofs.Lists.SetReset.{reset_done}
 use Rattle.room_desk.proofs.Sound.RootedWays.{above_end, stands_last}
+use Rattle.std.proofs.Common.{arith}
+use Rattle.std.proofs.lemmas.Bool.Decides.{nat_tests}
 
 -- ---- where a walk ends
 
@@ -135,42 +133,7 @@ module _ (path : List (List ℕ)) (which : Which) (sent : Sent) (last : Node) (o
       → site_at (stored_along old.read path) path ≡ Some (stored_site path last)
       → IsSetOrRefused path which sent last old reply new
       → IsResetClosed path which sent old reply new
-  at_object there found said =
-      on (first_bad_entry 1 which last.kind sent.entries) refl said.becomes
-    where
-      replies : reply
-          ≡ listed_reply path (first_bad_entry 1 which last.kind sent.entries)
-      replies = said.replies ∙ listed (first_bad_entry 1 which last.kind sent.entries)
-
-      found_reply : (target : Site) → site_at (stored_along old.read path) path ≡ Some target
-          → reply ≡ listed_reply path (first_bad_entry 1 which target.node.kind sent.entries)
-      found_reply target is =
-          subst (λ (s : Site). reply
-          ≡ listed_reply path (first_bad_entry 1 which s.node.kind sent.entries))
-          (same_Some (stored_site path last) target (sym found ∙ is)) replies
-
-      on : (faults : Option EntryFault)
-          → first_bad_entry 1 which last.kind sent.entries ≡ faults
-          → SetUnless (reason_of (first_bad_entry 1 which last.kind sent.entries)) which sent last
-          old new
-          → IsResetClosed path which sent old reply new
-      on None none becomes =
-          let set = (subst (λ (o : Option EntryFault). SetUnless (reason_of o) which sent last old
-          new) none becomes).0 there in
-          let done : reply ≡ Done = replies ∙ ap (listed_reply path) none in
-          record {
-            found = found_reply;
-            unchanged = λ told. absurd (false≢true
-                (sym (ap (λ (r : Reply). is_some (failure_told r)) done) ∙ told));
-            changed = λ _. (stored_site path last, found, (new.read, set.0, set.1));
-          }
-      on (Some fault) some becomes = record {
-        found = found_reply;
-        unchanged = λ _. subst (λ (o : Option EntryFault). SetUnless (reason_of o) which sent last
-            old new) some becomes;
-        changed = none_some reply (Refused path (BadList fault.place fault.why))
-            (ap failure_told (replies ∙ ap (listed_reply path) some));
-      }
+  at_object there found said = grind (arith, nat_tests, listed, none_some)
 
   at_end : (rest : ℕ) → node_at old.read last.id ≡ Some last
       → EndsAt [] path (stored_along old.read path) last rest
@@ -178,14 +141,8 @@ module _ (path : List (List ℕ)) (which : Which) (sent : Sent) (last : Node) (o
       → IsResetClosed path which sent old reply new
   at_end zero there (inl here) said = at_object there here.1 said
   at_end zero there (inr over) said = absurd (let wrong : ⊥ = (let e = over.1 in cc) in wrong)
-  at_end (suc rest) there (inl here) said =
-      absurd (let wrong : ⊥ = (let e = here.0 in cc) in wrong)
-  at_end (suc rest) there (inr over) said = record {
-    found = λ target is. absurd (let wrong : ⊥ = (let e = sym over.2 ∙ is in cc) in wrong);
-    unchanged = λ _. said.1;
-    changed = none_some reply (ended_at path last.kind (suc rest))
-        (ap failure_told said.0 ∙ ended_told last.kind (suc rest));
-  }
+  at_end (suc rest) there (inl here) said = grind (arith, nat_tests)
+  at_end (suc rest) there (inr over) said = grind (arith, nat_tests, ended_told, none_some)
 
 -- ---- in terms of the calls
 

@@ -1,12 +1,14 @@
 -- Lists that are the same are equal.
 use Rattle.std.proofs.Common.{◌≡◌, ◌&&◌, Bool, true, false, refl, sym, ap, ◌∙◌}
-use Rattle.std.proofs.lemmas.Bool.{and_parts, and_from, false≢true}
+use Rattle.std.proofs.lemmas.Bool.{and_parts, false≢true}
 use mathlib.Core.Bool.{beq}
 use Rattle.room_entry.specs.Same.{same_entries}
 use Rattle.room_entry.specs.declared.flags.ListFlags.{ListFlags}
 use Rattle.room_entry.proofs.Same.{entries_equal}
 use Rattle.room_rows.specs.HeldList.{Held}
 use Rattle.room_entry.proofs.Alike.{entries_themselves}
+use Rattle.std.proofs.Common.{arith}
+use Rattle.std.proofs.lemmas.Bool.Decides.{nat_tests}
 
 abbrev pub flags_same : ListFlags → ListFlags → Bool
 flags_same a b = beq a.auto b.auto && beq a.protect b.protect
@@ -37,9 +39,7 @@ held_equal held other flags own inh =
     }
 
 pub flags_itself : (held other : Held) → held ≡ other → flags_same held.flags other.flags ≡ true
-flags_itself held other same =
-    ap (λ (h : Held). flags_same held.flags h.flags) (sym same)
-    ∙ and_from _ _ (beq_itself held.flags.auto) (beq_itself held.flags.protect)
+flags_itself held other same = grind (arith, nat_tests, beq_itself)
 
 pub own_itself : (held other : Held) → held ≡ other → same_entries held.own other.own ≡ true
 own_itself held other same =

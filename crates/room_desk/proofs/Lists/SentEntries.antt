@@ -7,6 +7,8 @@ use mathlib.Core.Bool.{beq}
 use Rattle.room_entry.specs.Ace.{Ace}
 use Rattle.room_entry.specs.declared.flags.EntryFlags.{EntryFlags}
 use Rattle.room_desk.specs.Setting.{entries_marked}
+use Rattle.std.proofs.Common.{arith}
+use Rattle.std.proofs.lemmas.Bool.Decides.{nat_tests}
 
 module _ (entries : List Ace) (i : ℕ) (entry : Ace) (below : i < length entries)
     (is : entry ≡ get_or entries i entry) where
@@ -30,10 +32,7 @@ module _ (entries : List Ace) (i : ℕ) (entry : Ace) (below : i < length entrie
     pub leaves_entry : wanted entry.flags.inherited ≡ false
         → taken ++ entries_marked inherited (drop (i + 1) entries) ≡ taken
         ++ entries_marked inherited (drop i entries)
-    leaves_entry isnt =
-        ap (λ t. taken ++ cond t (entry ∷ entries_marked inherited (drop (i + 1) entries))
-        (entries_marked inherited (drop (i + 1) entries))) (sym isnt)
-        ∙ ap (λ es. taken ++ entries_marked inherited es) (sym next)
+    leaves_entry isnt = grind (arith, nat_tests, next)
 
 pub same_mark : (inherited mark : Bool) → beq mark inherited ≡ true
     → cond inherited mark (not mark) ≡ true
@@ -63,20 +62,8 @@ module _ (entries items : List Ace) (same : items ≡ entries) (i : ℕ) (entry 
       → grown ≡ taken ++ copy ∷ [] → copy ≡ entry
       → grown ++ entries_marked inherited (drop (i + 1) entries) ≡ entries_marked inherited entries
   takes_next copy grown marks adds copied =
-      ap (λ es. es ++ entries_marked inherited (drop (i + 1) entries))
-      (adds ∙ ap (λ e. taken ++ e ∷ []) copied)
-      ∙ ap (λ es. (taken ++ entry ∷ []) ++ entries_marked inherited (drop (i + 1) es)) (sym same)
-      ∙ takes_entry items i entry below is inherited taken
-      (same_mark inherited entry.flags.inherited
-      (ap (λ (f : EntryFlags). beq f.inherited inherited) (sym of_entry) ∙ marks))
-      ∙ sofar_items
+      grind (arith, nat_tests, same_mark, sofar_items, takes_entry)
 
   pub leaves_next : (still : List Ace) → beq flags.inherited inherited ≡ false → still ≡ taken
       → still ++ entries_marked inherited (drop (i + 1) entries) ≡ entries_marked inherited entries
-  leaves_next still marks stays =
-      ap (λ es. es ++ entries_marked inherited (drop (i + 1) entries)) stays
-      ∙ ap (λ es. taken ++ entries_marked inherited (drop (i + 1) es)) (sym same)
-      ∙ leaves_entry items i entry below is inherited taken
-      (other_mark inherited entry.flags.inherited
-      (ap (λ (f : EntryFlags). beq f.inherited inherited) (sym of_entry) ∙ marks))
-      ∙ sofar_items
+  leaves_next still marks stays = grind (arith, nat_tests, leaves_entry, other_mark, sofar_items)

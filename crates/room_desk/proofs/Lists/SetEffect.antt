@@ -1,5 +1,5 @@
 -- What a request that sets a list makes of what the rows mean.
-use Rattle.std.proofs.Common.{◌≡◌, ℕ, ◌&&◌, Bool, true, false, cond, not, List, [], ◌∷◌, Option}
+use Rattle.std.proofs.Common.{◌≡◌, ℕ, ◌&&◌, Bool, cond, not, List, [], ◌∷◌, Option}
 use Rattle.std.proofs.Common.{Some, None, refl, sym, ap, ◌∙◌}
 use Rattle.std.specs.Option.{option_map}
 use Rattle.room_ace.specs.Sent.{Sent, inherited_of, own_of}
@@ -8,21 +8,22 @@ use Rattle.room_entry.specs.declared.object.Which.TheVariants.{Dacl, Sacl}
 use Rattle.room_entry.specs.declared.parties.Caller.{Caller}
 use Rattle.room_rows.specs.HeldList.{Held}
 use Rattle.room_rows.specs.declared.node.Node.{Node}
-use Rattle.room_rows.specs.Content.{Content, has_parent, is_linked_in, parent_of, with_each}
-use Rattle.room_rows.specs.Content.{with_node}
-use Rattle.room_rows.specs.Held.{held_of, with_held}
-use Rattle.room_rows.specs.Meaning.{kept_held, kept_node, meaning}
+use Rattle.room_rows.specs.Content.{Content, parent_of}
+use Rattle.room_rows.specs.Held.{held_of}
+use Rattle.room_rows.specs.Meaning.{meaning}
 use Rattle.room_rows.specs.Rows.{Rows, AreRows}
 use Rattle.room_machine.specs.declared.reply.Reply.TheVariants.{Done}
 use Rattle.room_machine.specs.declared.request.Request.TheVariants.{SetList}
-use Rattle.room_machine.specs.Effect.{effect, kept_by_child, sent_held, set_list, with_site}
+use Rattle.room_machine.specs.Effect.{effect, sent_held, set_list, with_site}
 use Rattle.room_desk.specs.Setting.{kept_site}
-use Rattle.room_machine.specs.Site.{Site, front, full_at, parent_at, site_at, sites_along}
+use Rattle.room_machine.specs.Site.{Site, front, parent_at, site_at, sites_along}
 use Rattle.room_machine.specs.Stored.{stored_along, stored_site}
 use Rattle.room_desk.proofs.Sound.Filled.{IsTarget, site_filled, target_there}
 use Rattle.room_desk.proofs.Sound.Sites.{fill, sites_filled}
 use Rattle.room_desk.proofs.Sound.SoundParts.{SoundParts}
 use Rattle.room_desk.proofs.Made.Uplink.{IsAbove, root_alone, target_above}
+use Rattle.std.proofs.Common.{arith}
+use Rattle.std.proofs.lemmas.Bool.Decides.{nat_tests}
 
 -- of the parent, only the flag AUTO_INHERIT counts
 abbrev sent_under : Option Bool → Sent → Held
@@ -56,44 +57,19 @@ auto_kept : (which : Which) (rows : Content) (o : Option Node)
     → option_map (auto_at which) (option_map (kept_site rows) o)
     ≡ option_map (λ n. (held_of which n).flags.auto) o
 auto_kept which rows None = refl
-auto_kept which rows (Some n) = ap (λ t. Some t) (of_which which)
-  where
-    flag : (b : Bool) (h : Held) → (kept_held b h).flags.auto ≡ h.flags.auto
-    flag true h = refl
-    flag false h = refl
-
-    of_which : (w : Which) → (held_of w (kept_node rows n)).flags.auto ≡ (held_of w n).flags.auto
-    of_which Dacl = flag (is_linked_in rows Dacl n) n.dacl
-    of_which Sacl = flag (is_linked_in rows Sacl n) n.sacl
-
-abbrev set_with : Content → Which → Site → Held → Content
-set_with content which target new =
-    let old = held_of which target.node in
-    let child : Node → Node = λ node. with_held which
-    (kept_by_child old.flags.auto new.flags.auto node.kind (full_at which target)
-    (held_of which node)) node in
-    with_node (with_each content (λ node. cond (has_parent target.node.id node) (child node) node))
-    (with_held which new target.node)
+auto_kept which rows (Some n) = grind (arith, nat_tests)
 
 -- two folders with the same flag, and two targets with the same object and entries
 same_folder : (content : Content) (which : Which) (sent : Sent) (a b : Option Site) (target : Site)
     → option_map (auto_at which) a ≡ option_map (auto_at which) b
     → set_list content which sent a target ≡ set_list content which sent b target
-same_folder content which sent a b target same =
-    ap (set_with content which target)
-    (by_auto sent (option_map (λ site. held_of which site.node) a)
-    ∙ ap (λ o. sent_under o sent) (of_sites which a ∙ same ∙ sym (of_sites which b))
-    ∙ sym (by_auto sent (option_map (λ site. held_of which site.node) b)))
+same_folder content which sent a b target same = grind (arith, nat_tests, by_auto, of_sites)
 
 same_site : (content : Content) (which : Which) (sent : Sent) (folder : Option Site) (a b : Site)
     → a.node ≡ b.node → a.dacl ≡ b.dacl → a.sacl ≡ b.sacl
     → set_list content which sent folder a ≡ set_list content which sent folder b
-same_site content Dacl sent folder a b nodes dacls sacls =
-    λ i. set_list content Dacl sent folder
-    (record { path = []; node = nodes i; dacl = dacls i; sacl = [] })
-same_site content Sacl sent folder a b nodes dacls sacls =
-    λ i. set_list content Sacl sent folder
-    (record { path = []; node = nodes i; dacl = []; sacl = sacls i })
+same_site content Dacl sent folder a b nodes dacls sacls = grind (arith, nat_tests)
+same_site content Sacl sent folder a b nodes dacls sacls = grind (arith, nat_tests)
 
 module _ (old : Rows) (are : AreRows old) (parts : SoundParts old) (which : Which) (sent : Sent)
     (node : Node) where

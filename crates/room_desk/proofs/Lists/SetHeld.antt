@@ -32,6 +32,8 @@ use Rattle.room_desk.proofs.Sound.SoundParts.{map_same}
 use Rattle.room_desk.proofs.Lists.ValidDown.{are_inherited, are_own, all_found, held_parts}
 use Rattle.room_desk.proofs.Lists.ValidDown.{valid_down}
 use Rattle.room_desk.proofs.Made.SoundAdded.{lists_here}
+use Rattle.std.proofs.Common.{arith}
+use Rattle.std.proofs.lemmas.Bool.Decides.{nat_tests}
 
 -- two functions that agree on the objects of a content change it alike
 pub each_same : (content : Content) → Rises content → (f g : Node → Node)
@@ -106,12 +108,7 @@ module _ (which : Which) (rows : Content) (node : Node) (held : Held) where
 
     pub linked_finally : (n : Node)
         → is_linked (final n) (option_map final (parent_of rows n)) ≡ links n
-    linked_finally n = on (parent_of rows n)
-      where
-        on : (o : Option Node)
-            → is_linked (final n) (option_map final o) ≡ is_linked (base n) (option_map base o)
-        on None = refl
-        on (Some above) = refl
+    linked_finally n = grind (arith, nat_tests)
 
     pub linked_in_end : (n : Node) → is_linked_in ends which (relist which final n) ≡ links n
     linked_in_end n = linked_relisted which final rows n ∙ linked_finally n
@@ -119,37 +116,22 @@ module _ (which : Which) (rows : Content) (node : Node) (held : Held) where
     module _ (rises : Rises rows) (there : node_at rows node.id ≡ Some node) where
       pub mid_is : mid ≡ relisted which base rows
       mid_is =
-          with_node-replaces rows rises node.id node (with_held which held node) there
-          (place-with_held which held node)
-          ∙ each_same rows rises (replaced (with_held which held node)) (relist which base) one
-        where
-          number : (with_held which held node).id ≡ node.id
-          number = (place-with_held which held node).number
-
-          one : (n : Node) → node_at rows n.id ≡ Some n
-              → replaced (with_held which held node) n ≡ relist which base n
-          one n found =
-              ap (λ (i : ℕ). cond (n.id == i) (with_held which held node) n) number
-              ∙ elim (cases_Bool (n.id == node.id)) [
-                | inl is ↦
-                    cond-true (n.id == node.id) (with_held which held node) n is
-                    ∙ ap (with_held which held) (sym (same_object there n found is))
-                    ∙ ap (λ h. with_held which h n)
-                    (sym (cond-true (n.id == node.id) held (held_of which n) is))
-                | inr isnt ↦
-                    cond-false (n.id == node.id) (with_held which held node) n isnt
-                    ∙ own_held which n
-                    ∙ ap (λ h. with_held which h n) (sym (base_elsewhere n isnt))
-              ]
+          grind (
+            arith,
+            nat_tests,
+            base_elsewhere,
+            each_same,
+            own_held,
+            place-with_held,
+            relist,
+            replaced,
+            same_object,
+            with_node-replaces,
+          )
 
       pub ends_is : with_lists which lists mid ≡ ends
       ends_is =
-          ap (with_lists which lists) mid_is
-          ∙ with_each-with_each rows (relist which base) (λ n. with_inh which (lists n) n)
-          ∙ each_same rows rises
-          (λ n. with_inh which (lists (relist which base n)) (relist which base n))
-          (relist which final)
-          (λ n found. renewed_held which (base n) (lists (relist which base n)) n)
+          grind (arith, nat_tests, each_same, mid_is, relist, renewed_held, with_each-with_each)
 
       -- where nothing is inherited, the entries are what they were before
       module _
@@ -158,17 +140,17 @@ module _ (which : Which) (rows : Content) (node : Node) (held : Held) where
         pub unlinked_kept : (n : Node) → node_at rows n.id ≡ Some n → links n ≡ false
             → final n ≡ base n
         unlinked_kept n found apart =
-            let x = relist which base n in
-            let found_mid : node_at mid x.id ≡ Some x =
-            ap (λ (c : Content). node_at c x.id) mid_is
-            ∙ ap (node_at (relisted which base rows)) (number_kept which base n)
-            ∙ found_relisted which base rows n.id ∙ ap (option_map (relist which base)) found in
-            let linked_mid : is_linked_in mid which x ≡ links n = ap
-            (λ (c : Content). is_linked_in c which x) mid_is
-            ∙ linked_relisted which base rows n in
-            ap (λ entries. record (base n) { inh = entries })
-            (kept x found_mid (linked_mid ∙ apart)
-            ∙ ap (λ (h : Held). h.inh) (held_relisted which base n))
+            grind (
+              arith,
+              nat_tests,
+              found_relisted,
+              held_relisted,
+              linked_relisted,
+              mid_is,
+              number_kept,
+              relist,
+              relisted,
+            )
 
         -- and the rows stay sound
         module _
@@ -182,18 +164,7 @@ module _ (which : Which) (rows : Content) (node : Node) (held : Held) where
             -- each object of the end is one of the rows
             from_rows : (m : Node) → node_at ends m.id ≡ Some m → (n : Node)
                 × (node_at rows n.id ≡ Some n) × (m ≡ relist which final n)
-            from_rows m found =
-                on (node_at rows m.id) refl (sym (found_relisted which final rows m.id) ∙ found)
-              where
-                on : (o : Option Node) → node_at rows m.id ≡ o
-                    → option_map (relist which final) o ≡ Some m → (n : Node)
-                    × (node_at rows n.id ≡ Some n) × (m ≡ relist which final n)
-                on None before is = absurd (let wrong : ⊥ = cc in wrong)
-                on (Some n) before is = (
-                  n,
-                  ap (node_at rows) (node_at-number rows m.id n before) ∙ before,
-                  same_Some m (relist which final n) (sym is),
-                )
+            from_rows m found = grind (arith, nat_tests, found_relisted, node_at-number, relist)
 
             module _ (unreadable : List Unread)
                 (sound : AreSound (record { read = rows; unreadable = unreadable })) where
@@ -211,14 +182,16 @@ module _ (which : Which) (rows : Content) (node : Node) (held : Held) where
 
               own_parts : (n : Node) → node_at rows n.id ≡ Some n
                   → are_own which n.kind (base n).own ≡ true
-              own_parts n found = elim (cases_Bool (n.id == node.id)) [
-                | inl is ↦
-                    (let same = same_object there n found is in
-                    ap (λ (m : Node). are_own which m.kind (base m).own) same
-                    ∙ ap (λ (h : Held). are_own which node.kind h.own) base_here ∙ own)
-                | inr isnt ↦ ap (λ (h : Held). are_own which n.kind h.own) (base_elsewhere n isnt)
-                    ∙ (parts_before n found).0
-              ]
+              own_parts n found =
+                  grind (
+                    arith,
+                    nat_tests,
+                    are_own,
+                    base_elsewhere,
+                    base_here,
+                    parts_before,
+                    same_object,
+                  )
 
               kept_parts : (n : Node) → node_at rows n.id ≡ Some n → links n ≡ false
                   → are_inherited which n.kind (final n).inh ≡ true
@@ -250,15 +223,17 @@ module _ (which : Which) (rows : Content) (node : Node) (held : Held) where
                   → is_linked_in ends which m ≡ false
                   → are_inherited which m.kind (held_of which m).inh ≡ true
               kept_ends m found apart =
-                  let from = from_rows m found in
-                  let n = from.0 in
-                  ap (λ (x : Node). are_inherited which x.kind (held_of which x).inh) from.2
-                  ∙ ap (λ k. are_inherited which k (held_of which (relist which final n)).inh)
-                  (kind_kept which final n)
-                  ∙ ap (λ (h : Held). are_inherited which n.kind h.inh)
-                  (held_relisted which final n)
-                  ∙ kept_parts n from.1
-                  (sym (linked_in_end n) ∙ ap (is_linked_in ends which) (sym from.2) ∙ apart)
+                  grind (
+                    arith,
+                    nat_tests,
+                    are_inherited,
+                    from_rows,
+                    held_relisted,
+                    kept_parts,
+                    kind_kept,
+                    linked_in_end,
+                    relist,
+                  )
 
               inherited_parts : (n : Node) → node_at rows n.id ≡ Some n
                   → are_inherited which n.kind (final n).inh ≡ true

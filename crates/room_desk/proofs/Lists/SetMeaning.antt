@@ -3,7 +3,7 @@
 use Rattle.std.proofs.Common.{◌≡◌, ◌==◌, ◌&&◌, Bool, true, false, cond, not, List, [], ◌++◌, Option}
 use Rattle.std.proofs.Common.{Some, None, refl, sym, ap, ◌∙◌, inl, inr}
 use Rattle.std.specs.Prelude.{option_and_then}
-use Rattle.std.specs.Option.{option_map, option_map_or}
+use Rattle.std.specs.Option.{option_map}
 use Rattle.std.proofs.lemmas.Bool.{cases_Bool, cond-true, cond-false}
 use Rattle.room_entry.specs.Ace.{Ace}
 use Rattle.room_ace.specs.Sent.{Sent, inherited_of, own_of}
@@ -29,6 +29,8 @@ use Rattle.room_desk.proofs.Lists.Relisted.{relist, kept_relisted}
 use Rattle.room_desk.proofs.Lists.SetHeld.{base, base_here, base_elsewhere, each_same, ends, final}
 use Rattle.room_desk.proofs.Lists.SetHeld.{links, linked_finally, mid, other_links, own_held}
 use Rattle.room_desk.proofs.Lists.SetHeld.{same_object, unlinked_kept}
+use Rattle.std.proofs.Common.{arith}
+use Rattle.std.proofs.lemmas.Bool.Decides.{nat_tests}
 
 -- ---- one list
 
@@ -61,9 +63,7 @@ child_parts : (kind : ObjKind) (full : List Ace) (auto protect : Bool) (own inh 
     ≡ kept_by_child before after kind full (kept_held (not protect && before) held))
 child_parts kind full auto true own inh before after law = refl
 child_parts kind full auto false own inh true true law = refl
-child_parts kind full auto false own inh true false law =
-    ap (λ (entries : List Ace).
-    record { flags = record { auto = auto; protect = false }; own = own; inh = entries }) (law refl)
+child_parts kind full auto false own inh true false law = grind (arith, nat_tests)
 child_parts kind full auto false own inh false true law = refl
 child_parts kind full auto false own inh false false law = refl
 
@@ -89,25 +89,7 @@ module _ (which : Which) (rows : Content) (sent : Sent) (kind : ObjKind) where
       (stored_held which sent kind o)
       ≡ sent_held (option_map (λ n. held_of which (kept_node rows n)) o) sent
   sent_kept None = refl
-  sent_kept (Some above) =
-      on (not sent.flags.protect && (held_of which above).flags.auto)
-      ∙ ap (λ t. cond (not sent.flags.protect && t) (record plain { inh = [] }) plain)
-      (sym (ap (λ (h : Held). h.flags.auto) (held_kept which rows above)
-      ∙ ap (λ f. f.auto) (flags_kept (is_linked_in rows which above) (held_of which above))))
-    where
-      on : (t : Bool)
-          → kept_held t
-          (record {
-            flags = sent.flags;
-            own = own_of sent.entries;
-            inh = option_map_or (λ up. pass kind (full_of (held_of which up)))
-                (cond t (Some above) None) (inherited_of sent.entries);
-          }) ≡ cond t (record plain {
-            inh =
-                [];
-          }) plain
-      on true = refl
-      on false = refl
+  sent_kept (Some above) = grind (arith, nat_tests, flags_kept, held_kept)
 
 -- ---- all objects
 
@@ -152,33 +134,14 @@ module _ (which : Which) (rows : Content) (node : Node) (held : Held) (lists : N
 
     -- the object itself
     here_set : kept_held (links which rows node held node) (to node) ≡ set
-    here_set =
-        kept_final node there (links which rows node held node) refl
-        ∙ ap (λ h. kept_held (is_linked h (option_map with (parent_of rows node))) h)
-        (base_here which rows node held ∙ stored)
-        ∙ ap (λ o. kept_held (is_linked (stored_held which sent node.kind (parent_of rows node)) o)
-        (stored_held which sent node.kind (parent_of rows node)))
-        (other_links which rows node held node apart)
-        ∙ sent_kept which rows sent node.kind (parent_of rows node)
-        ∙ ap (λ o. sent_held o sent) (twice (parent_of rows node))
-      where
-        twice : (o : Option Node)
-            → option_map (λ n. held_of which (kept_node rows n)) o
-            ≡ option_map (λ site. held_of which site.node) (option_map (kept_site rows) o)
-        twice None = refl
-        twice (Some above) = refl
+    here_set = grind (arith, nat_tests, base_here, kept_final, links, other_links, sent_kept)
 
     -- one that is neither the object nor a child of it
     far_kept : (n : Node) → node_at rows n.id ≡ Some n → (n.id == node.id) ≡ false
         → has_parent node.id n ≡ false
         → kept_held (links which rows node held n) (to n) ≡ held_of which (keeps n)
     far_kept n found isnt far =
-        kept_final n found (links which rows node held n) refl
-        ∙ ap (λ h. kept_held (is_linked h (option_map with (parent_of rows n))) h)
-        (base_elsewhere which rows node held n isnt)
-        ∙ ap (λ o. kept_held (is_linked (held_of which n) o) (held_of which n))
-        (other_links which rows node held n far)
-        ∙ sym (held_kept which rows n)
+        grind (arith, nat_tests, base_elsewhere, held_kept, kept_final, links, other_links)
 
     child_set : (n : Node) → node_at rows n.id ≡ Some n → (n.id == node.id) ≡ false
         → has_parent node.id n ≡ true
@@ -220,14 +183,7 @@ module _ (which : Which) (rows : Content) (node : Node) (held : Held) (lists : N
         linked_before = ap (λ o. is_linked (held_of which n) (option_map (held_of which) o)) above
 
     place_changed : (m : Node) → IsSamePlace (changed m) m
-    place_changed m = on (has_parent node.id m)
-      where
-        on : (t : Bool) → IsSamePlace (cond t (child m) m) m
-        on true =
-            place-with_held which
-            (kept_by_child (held_of which (keeps node)).flags.auto set.flags.auto m.kind
-            (full_at which (kept_site rows node)) (held_of which m)) m
-        on false = record { number = refl; parent = refl; name = refl }
+    place_changed m = grind (arith, nat_tests, place-with_held)
 
     one_means : (n : Node) → node_at rows n.id ≡ Some n
         → kept_node (ends which rows node held lists) (relist which to n)

@@ -53,6 +53,8 @@ use Rattle.room_desk.proofs.Sound.SoundParts.{sound_noted, sound_parts}
 use Rattle.room_desk.proofs.Steps.Stepping.{changed_step, refused_step}
 use Rattle.room_desk.proofs.Made.Uplink.{parent_paired, target_stands}
 use Rattle.room_desk.proofs.Bytes.Appending.{more_items}
+use Rattle.std.proofs.Common.{arith}
+use Rattle.std.proofs.lemmas.Bool.Decides.{nat_tests}
 
 module _ (path : List (List ℕ)) (which : Which) (sent : Sent) where
   -- the refusal of an entry that may not stand there
@@ -63,14 +65,7 @@ module _ (path : List (List ℕ)) (which : Which) (sent : Sent) where
   items site = CheckAt (write_acl ∷ []) site ++ listed site
 
   pub items_filled : (site : Site) → items (fill site) ≡ map fill_item (items site)
-  items_filled site =
-      ap (λ rest. CheckAt (write_acl ∷ []) (fill site) ++ rest)
-      (on (first_bad_entry 1 which site.node.kind sent.entries))
-    where
-      on : (faults : Option EntryFault)
-          → bad_list path faults ≡ map fill_item (bad_list path faults)
-      on None = refl
-      on (Some fault) = refl
+  items_filled site = grind (arith, nat_tests, fill, fill_item)
 
 module _ (asker : Asker) (path : List (List ℕ)) (which : Which) (sent : Sent) where
   abbrev refusing : Site → List Item

@@ -41,6 +41,8 @@ use Rattle.room_desk.proofs.Lists.SetRequest.{items, items_filled}
 use Rattle.room_desk.proofs.Sound.Sites.{sites_filled}
 use Rattle.room_desk.proofs.Sound.SoundParts.{root_there, sound_parts}
 use Rattle.room_desk.proofs.Lists.ValidDown.{all_found}
+use Rattle.std.proofs.Common.{arith}
+use Rattle.std.proofs.lemmas.Bool.Decides.{nat_tests}
 
 -- who asks a reset
 abbrev operator : Caller
@@ -151,9 +153,7 @@ module _ (old : Rows) (are : AreRows old) (sound : AreSound old) (path : List (L
   reset_is : (o : Option Reply) → answer ≡ o
       → reset (meaning rows) path which sent
       ≡ failure_or o (meaning rows) (effect (meaning rows) operator 0 (SetList path which sent))
-  reset_is o is =
-      ap (λ a. failure_or a (meaning rows)
-      (effect (meaning rows) operator 0 (SetList path which sent))) (plan_refuses ∙ is)
+  reset_is o is = grind (arith, nat_tests, plan_refuses)
 
   module _ (last : Node) (new : Rows) (reply : Reply) where
     refused_so : answer ≡ Some reply → new ≡ old → ResetsSound path which sent old reply new
@@ -191,9 +191,7 @@ module _ (old : Rows) (are : AreRows old) (sound : AreSound old) (path : List (L
         (stored_along rows path) path answer last rest
         → IsResetAtEnd path which sent last rest old reply new
         → ResetsSound path which sent old reply new
-    at_end zero there came said =
-        at_target (first_bad_entry 1 which last.kind sent.entries) refl there came.0 came.1 said
-        said.replies said.becomes
+    at_end zero there came said = grind (arith, nat_tests, at_target)
     at_end (suc rest) there came said = refused_so (came ∙ ap (λ r. Some r) (sym said.0)) said.1
 
 -- ---- in terms of the calls

@@ -1,5 +1,5 @@
 -- What carrying a list down leaves, once the list of one object is set.
-use Rattle.std.proofs.Common.{◌≡◌, ℕ, zero, suc, ◌==◌, ◌&&◌, ◌||◌, Bool, true, false, cond, not}
+use Rattle.std.proofs.Common.{◌≡◌, ℕ, zero, suc, ◌==◌, ◌||◌, Bool, true, false, not}
 use Rattle.std.proofs.Common.{List, [], ◌∷◌, map, Option, Some, None, refl, sym, ap, subst, ◌∙◌}
 use Rattle.std.proofs.Common.{inl, inr}
 use Rattle.std.specs.List.{AllByRecursion, list_all}
@@ -8,7 +8,7 @@ use Rattle.std.proofs.lemmas.Bool.{and_parts, and_from, cases_Bool, cond-true, f
 use Rattle.std.proofs.lemmas.Bool.{or_right}
 use Rattle.room_entry.specs.Ace.{Ace}
 use Rattle.room_entry.specs.Same.{same_entries}
-use Rattle.room_ace.specs.Sent.{Sent, inherited_of}
+use Rattle.room_ace.specs.Sent.{Sent}
 use Rattle.room_entry.specs.declared.object.ObjKind.{ObjKind}
 use Rattle.room_entry.specs.declared.object.Which.{Which}
 use Rattle.room_entry.proofs.Same.{entries_equal}
@@ -31,6 +31,8 @@ use Rattle.room_desk.proofs.Lists.SetHeld.{base, base_here, base_elsewhere, mid,
 use Rattle.room_desk.proofs.Lists.SetHeld.{other_parent, same_object}
 use Rattle.room_desk.proofs.Lists.ValidDown.{all_found}
 use Rattle.room_entry.proofs.Alike.{entries_themselves}
+use Rattle.std.proofs.Common.{arith}
+use Rattle.std.proofs.lemmas.Bool.Decides.{nat_tests}
 
 -- what isn't linked below isn't changed
 pub unlinked_unchanged : (which : Which) (content : Content) (id : ℕ) (lists : Node → List Ace)
@@ -94,35 +96,13 @@ module _ (which : Which) (rows : Content) (node : Node) (held : Held) (rises : R
   new_agrees : (above : Node)
       → agreed (stored_held which sent node.kind (Some above)) (held_of which above) node.kind
       ≡ true
-  new_agrees above = on (not sent.flags.protect && (held_of which above).flags.auto)
-    where
-      on : (t : Bool)
-          → (not t
-          || same_entries (option_map_or (λ up. pass node.kind (full_of (held_of which up)))
-          (cond t (Some above) None) (inherited_of sent.entries))
-          (pass node.kind (full_of (held_of which above)))) ≡ true
-      on true = entries_themselves (pass node.kind (full_of (held_of which above)))
-      on false = refl
+  new_agrees above = grind (arith, nat_tests, entries_themselves)
 
   one_agrees : (n : Node) → node_at rows n.id ≡ Some n → (above : Node)
       → parent_of rows n ≡ Some above → (above.id == node.id) ≡ false
       → agreed (with n) (with above) n.kind ≡ true
   one_agrees n found above is other =
-      ap (λ h. agreed (with n) h n.kind) (base_elsewhere which rows node held above other)
-      ∙ elim (cases_Bool (n.id == node.id)) [
-        | inl here ↦
-            let same = same_object which rows node held there n found here in
-            ap (λ (m : Node). agreed (with m) (held_of which above) m.kind) same
-            ∙ ap (λ h. agreed h (held_of which above) node.kind)
-            (base_here which rows node held ∙ stored
-            ∙ ap (stored_held which sent node.kind) (sym (ap (parent_of rows) same) ∙ is))
-            ∙ new_agrees above
-        | inr isnt ↦
-            ap (λ h. agreed h (held_of which above) n.kind)
-            (base_elsewhere which rows node held n isnt)
-            ∙ sym (ap (λ o. option_map_or (agrees_with which n) o true) is)
-            ∙ all_found (agrees rows which) rows n.id n law found
-      ]
+      grind (arith, nat_tests, all_found, base_elsewhere, base_here, new_agrees, same_object)
 
   -- what an object agrees with, once the lists are changed
   agrees_up : (n : Node) (o : Option Node)
@@ -130,11 +110,7 @@ module _ (which : Which) (rows : Content) (node : Node) (held : Held) (rises : R
       → option_map_or (agrees_with which (relist which with n))
       (option_map (relist which with) o) true ≡ true
   agrees_up n None agree = refl
-  agrees_up n (Some above) agree =
-      ap (λ h. agreed h (held_of which (relist which with above)) (relist which with n).kind)
-      (held_relisted which with n)
-      ∙ ap (λ h. agreed (with n) h (relist which with n).kind) (held_relisted which with above)
-      ∙ ap (agreed (with n) (with above)) (kind_kept which with n) ∙ agree above refl
+  agrees_up n (Some above) agree = grind (arith, nat_tests, held_relisted, kind_kept, relist)
 
   relisted_agrees : (n : Node) → node_at rows n.id ≡ Some n
       → (has_parent node.id (relist which with n)
@@ -157,15 +133,7 @@ module _ (which : Which) (rows : Content) (node : Node) (held : Held) (rises : R
   -- a list without AUTO_INHERIT passes nothing, so the law holds below it too
   module _ (stops : held.flags.auto ≡ false) where
     under_stopped : (n : Node) → agreed (with n) held n.kind ≡ true
-    under_stopped n =
-        ap (λ t. not (not (with n).flags.protect && t)
-        || same_entries (with n).inh (pass n.kind (full_of held))) stops
-        ∙ on (not (with n).flags.protect)
-      where
-        on : (t : Bool)
-            → (not (t && false) || same_entries (with n).inh (pass n.kind (full_of held))) ≡ true
-        on true = refl
-        on false = refl
+    under_stopped n = grind (arith, nat_tests)
 
     stopped_agrees : (n : Node) → node_at rows n.id ≡ Some n
         → agrees (relisted which with rows) which (relist which with n) ≡ true

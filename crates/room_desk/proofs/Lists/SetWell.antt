@@ -1,18 +1,14 @@
 -- Where a list is set and carried down, what the rows mean changes likewise, and they stay sound.
-use Rattle.std.proofs.Common.{◌≡◌, ℕ, ◌+◌, ◌==◌, ◌&&◌, Bool, true, false, cond, not, List, [], ◌∷◌}
+use Rattle.std.proofs.Common.{◌≡◌, ℕ, ◌+◌, Bool, true, false, not, List, [], ◌∷◌}
 use Rattle.std.proofs.Common.{filter, length, Option, Some, None, refl, sym, ap, subst, ◌∙◌, inl}
 use Rattle.std.proofs.Common.{inr}
-use Rattle.std.specs.Prelude.{is_none, nat_le, nat_lt}
+use Rattle.std.specs.Prelude.{nat_le}
 use Rattle.std.specs.List.{list_all}
-use Rattle.std.specs.Option.{option_map, option_map_or}
-use Rattle.std.proofs.lemmas.Bool.{and_from, and_parts, false≢true, le-leb, ltb-false}
+use Rattle.std.specs.Option.{option_map}
 use Rattle.std.proofs.lemmas.List.{map-id}
 use Rattle.std.proofs.lemmas.Option.{same_Some}
 use Rattle.room_entry.specs.Ace.{Ace}
 use Rattle.room_ace.specs.Sent.{Sent, inherited_of, limit_fault, own_of}
-use Rattle.room_entry.specs.Valid.{entry_fault, first_bad_entry}
-use Rattle.room_entry.specs.declared.fault.ListFault.{ListFault}
-use Rattle.room_entry.specs.declared.fault.ListFault.TheVariants.{TooManyEntries, TooManyOwn}
 use Rattle.room_entry.specs.declared.object.ObjKind.{ObjKind}
 use Rattle.room_entry.specs.declared.object.Which.{Which}
 use Rattle.room_rows.specs.HeldList.{Held}
@@ -31,104 +27,60 @@ use Rattle.room_inherit.specs.Spread.{IsSpread, with_lists}
 use Rattle.room_inherit.proofs.Kinship.{with_own}
 use Rattle.room_inherit.proofs.NoFault.{no_fault}
 use Rattle.room_desk.specs.Setting.{IsNewInh, IsSet, IsSetOnly, IsSetWell, Stores, fault_in}
-use Rattle.room_desk.specs.Setting.{held_with, reason_of}
+use Rattle.room_desk.specs.Setting.{held_with}
 use Rattle.room_machine.specs.Changed.{HandsDown, stored_held}
 use Rattle.room_desk.specs.Carrying.{GoesDown}
 use Rattle.room_desk.proofs.Lists.HandedDown.{nothing_handed, only_read, spread_handed}
 use Rattle.room_desk.proofs.Lists.Relisted.{held_relisted, one_agrees, relist}
 use Rattle.room_desk.proofs.Lists.SetHeld.{base, base_here, each_same, ends, ends_is, final, links}
-use Rattle.room_desk.proofs.Lists.SetHeld.{mid, other_links, own_held, same_object, set_sound}
+use Rattle.room_desk.proofs.Lists.SetHeld.{mid, other_links, own_held, set_sound}
 use Rattle.room_desk.proofs.Lists.SetMeaning.{set_means}
 use Rattle.room_desk.proofs.Lists.SetSpread.{agree_all, agree_but, not_own_parent}
 use Rattle.room_desk.proofs.Lists.SetSpread.{unlinked_unchanged}
 use Rattle.room_desk.proofs.Lists.ValidDown.{all_found, are_inherited, are_own, linked_above}
 use Rattle.room_entry.proofs.Facts.Lists.{all_implied}
+use Rattle.std.proofs.Common.{arith}
+use Rattle.std.proofs.lemmas.Bool.Decides.{nat_tests}
 
 -- ---- the sent entries
 
 all_filtered : {X : Type 0} (p q : X → Bool) (xs : List X) → list_all p xs ≡ true
     → list_all p (filter q xs) ≡ true
 all_filtered p q [] all = refl
-all_filtered p q (x ∷ xs) all = let parts = and_parts (p x) (list_all p xs) all in
-    on (q x) parts.0 (all_filtered p q xs parts.1)
-  where
-    on : (t : Bool) → p x ≡ true → list_all p (filter q xs) ≡ true
-        → list_all p (cond t (x ∷ filter q xs) (filter q xs)) ≡ true
-    on true here rest = and_from (p x) (list_all p (filter q xs)) here rest
-    on false here rest = rest
+all_filtered p q (x ∷ xs) all = grind (arith, all_filtered p q xs)
 
 each_filtered : {X : Type 0} (q : X → Bool) (xs : List X) → list_all q (filter q xs) ≡ true
 each_filtered q [] = refl
-each_filtered q (x ∷ xs) = on (q x) refl (each_filtered q xs)
-  where
-    on : (t : Bool) → q x ≡ t → list_all q (filter q xs) ≡ true
-        → list_all q (cond t (x ∷ filter q xs) (filter q xs)) ≡ true
-    on true is rest = and_from (q x) (list_all q (filter q xs)) is rest
-    on false is rest = rest
+each_filtered q (x ∷ xs) = grind (arith, each_filtered q xs)
 
 valid_entries : (which : Which) (kind : ObjKind) (place : ℕ) (entries : List Ace)
     → fault_in place which kind entries ≡ None → are_valid which kind entries ≡ true
 valid_entries which kind place [] none = refl
 valid_entries which kind place (entry ∷ entries) none =
-    on (entry_fault entry which kind) (valid_entries which kind (place + 1) entries) none
-  where
-    on : (o : Option ListFault)
-        → (fault_in (place + 1) which kind entries ≡ None → are_valid which kind entries ≡ true)
-        → reason_of
-        (option_map_or (λ (why : ListFault). Some (record { place = place; why = why })) o
-        (first_bad_entry (place + 1) which kind entries)) ≡ None
-        → (is_none o && are_valid which kind entries) ≡ true
-    on None rest none = rest none
-    on (Some fault) rest none = absurd (let wrong : ⊥ = cc in wrong)
+    grind (arith, valid_entries which kind (place + 1) entries)
 
 few_own : (entries : List Ace) → limit_fault entries ≡ None
     → nat_le (length (own_of entries)) 64 ≡ true
-few_own entries none =
-    le-leb (length (own_of entries)) 64
-    (ltb-false 64 (length (own_of entries))
-    (on (nat_lt 4096 (length entries)) (nat_lt 64 (length (own_of entries))) none))
-  where
-    on : (t u : Bool) → cond t (Some TooManyEntries) (cond u (Some TooManyOwn) None) ≡ None
-        → u ≡ false
-    on true u is = absurd (let wrong : ⊥ = cc in wrong)
-    on false true is = absurd (let wrong : ⊥ = cc in wrong)
-    on false false is = refl
+few_own entries none = grind (arith, nat_tests)
 
 own_sound : (which : Which) (kind : ObjKind) (entries : List Ace)
     → fault_in 1 which kind entries ≡ None → limit_fault entries ≡ None
     → are_own which kind (own_of entries) ≡ true
 own_sound which kind entries valid few =
-    and_from (nat_le (length (own_of entries)) 64)
-    (list_all (λ entry. not entry.flags.inherited) (own_of entries)
-    && are_valid which kind (own_of entries)) (few_own entries few)
-    (and_from (list_all (λ entry. not entry.flags.inherited) (own_of entries))
-    (are_valid which kind (own_of entries))
-    (each_filtered (λ entry. not entry.flags.inherited) entries)
-    (all_filtered (λ entry. is_none (entry_fault entry which kind))
-    (λ entry. not entry.flags.inherited) entries (valid_entries which kind 1 entries valid)))
+    rw (few_own entries few, each_filtered (λ entry. not entry.flags.inherited) entries)
+    (all_filtered _ _ entries (valid_entries which kind 1 entries valid))
 
 inherited_sound : (which : Which) (kind : ObjKind) (entries : List Ace)
     → fault_in 1 which kind entries ≡ None → are_inherited which kind (inherited_of entries) ≡ true
 inherited_sound which kind entries valid =
-    and_from (list_all (λ entry. entry.flags.inherited) (inherited_of entries))
-    (are_valid which kind (inherited_of entries))
-    (each_filtered (λ entry. entry.flags.inherited) entries)
-    (all_filtered (λ entry. is_none (entry_fault entry which kind))
-    (λ entry. entry.flags.inherited) entries (valid_entries which kind 1 entries valid))
+    rw (each_filtered (λ entry. entry.flags.inherited) entries)
+    (all_filtered _ _ entries (valid_entries which kind 1 entries valid))
 
 -- what isn't linked keeps the sent entries
 unlinked_sent : (which : Which) (sent : Sent) (kind : ObjKind) (o : Option Node)
     → is_linked (stored_held which sent kind o) (option_map (held_of which) o) ≡ false
     → (stored_held which sent kind o).inh ≡ inherited_of sent.entries
-unlinked_sent which sent kind None apart = refl
-unlinked_sent which sent kind (Some above) apart =
-    on (not sent.flags.protect && (held_of which above).flags.auto) apart
-  where
-    on : (t : Bool) → t ≡ false
-        → option_map_or (λ up. pass kind (full_of (held_of which up))) (cond t (Some above) None)
-        (inherited_of sent.entries) ≡ inherited_of sent.entries
-    on true is = absurd (false≢true (sym is))
-    on false is = refl
+unlinked_sent which sent kind o apart = grind arith
 
 -- ---- the rows
 
@@ -155,32 +107,23 @@ module _ (which : Which) (sent : Sent) (node : Node) (old : Rows) (are : AreRows
       → (held_of which n).inh ≡ pass n.kind (full_of (held_of which node))
   child_law n found is linked =
       let above = linked_above which rows law_before (no_fault old sound).parents n found linked in
-      above.2 ∙ ap (λ (m : Node). pass n.kind (full_of (held_of which m)))
-      (same_Some above.0 node (sym above.1 ∙ is))
+      let same : above.0 ≡ node = same_Some above.0 node (sym above.1 ∙ is) in rw (← same) above.2
 
   linked_stored : links which rows node held node
       ≡ is_linked (stored_held which sent node.kind (parent_of rows node))
       (option_map (held_of which) (parent_of rows node))
-  linked_stored =
-      ap (λ h. is_linked h (option_map (base which rows node held) (parent_of rows node)))
-      (base_here which rows node held ∙ stored)
-      ∙ ap (is_linked (stored_held which sent node.kind (parent_of rows node)))
-      (other_links which rows node held node apart)
+  linked_stored = rw (base_here which rows node held, other_links which rows node held node apart, stored)
 
   module _ (valid : fault_in 1 which node.kind sent.entries ≡ None)
       (few : limit_fault sent.entries ≡ None) where
     own : are_own which node.kind held.own ≡ true
-    own =
-        ap (λ (h : Held). are_own which node.kind h.own) stored
-        ∙ own_sound which node.kind sent.entries valid few
+    own = rw stored (own_sound which node.kind sent.entries valid few)
 
     inherited : links which rows node held node ≡ false
         → are_inherited which node.kind held.inh ≡ true
     inherited isnt =
-        ap (λ (h : Held). are_inherited which node.kind h.inh) stored
-        ∙ ap (are_inherited which node.kind)
-        (unlinked_sent which sent node.kind (parent_of rows node) (sym linked_stored ∙ isnt))
-        ∙ inherited_sound which node.kind sent.entries valid
+        rw (stored, unlinked_sent which sent node.kind (parent_of rows node) (sym linked_stored ∙ isnt))
+        (inherited_sound which node.kind sent.entries valid)
 
     -- with lists below that agree, and that are what they were where nothing is inherited
     set_ends : (lists : Node → List Ace)
@@ -210,13 +153,7 @@ module _ (which : Which) (sent : Sent) (node : Node) (old : Rows) (are : AreRows
 
         with_before : (n : Node) → node_at rows n.id ≡ Some n
             → base which rows node held n ≡ held_of which n
-        with_before n found = on (n.id == node.id) refl
-          where
-            on : (t : Bool) → (n.id == node.id) ≡ t
-                → cond t held (held_of which n) ≡ held_of which n
-            on true is =
-                same ∙ ap (held_of which) (sym (same_object which rows node held there n found is))
-            on false is = refl
+        with_before n found = grind (arith, nat_tests, there, same)
 
         one : (n : Node) → node_at rows n.id ≡ Some n
             → relist which (final which rows node held stay) n ≡ n
@@ -227,9 +164,7 @@ module _ (which : Which) (sent : Sent) (node : Node) (old : Rows) (are : AreRows
             ∙ ap (λ h. relist which (λ m. h) n) (with_before n found) ∙ sym (own_held which n)
 
         as_before : ends which rows node held stay ≡ rows
-        as_before =
-            each_same rows are.numbers (relist which (final which rows node held stay)) (λ n. n) one
-            ∙ ap (λ (nodes : List Node). record rows { nodes = nodes }) (map-id rows.nodes)
+        as_before = each_same rows are.numbers _ (λ n. n) one ∙ simp map-id
 
     -- the list is written, and passes nothing on
     pub set_still : (new : Rows) → held.flags.auto ≡ false
@@ -246,21 +181,15 @@ module _ (which : Which) (sent : Sent) (node : Node) (old : Rows) (are : AreRows
         stay x = (held_of which x).inh
 
         unmoved : with_lists which stay (mid which rows node held) ≡ mid which rows node held
-        unmoved =
-            (λ i. with_each (mid which rows node held) (λ n. with_own which n i))
-            ∙ ap (λ (nodes : List Node). record (mid which rows node held) { nodes = nodes })
-            (map-id (mid which rows node held).nodes)
+        unmoved = (λ i. with_each (mid which rows node held) (λ n. with_own which n i)) ∙ simp map-id
 
     -- the list is written, and carried down
     pub set_spread : (mid_rows new : Rows) (changed : ℕ)
         → mid_rows ≡ with_content old (mid which rows node held)
         → IsSpread which node.id mid_rows new changed → IsSetWell which sent node old new
     set_spread mid_rows new changed written carried =
-        let spread : IsSpread which node.id
-        (with_content old (mid which rows node held)) new changed =
-        subst (λ (r : Rows). IsSpread which node.id r new changed) written carried in
-        let law : AllAgree (with_lists which spread.lists (mid which rows node held)) which =
-        subst (λ (r : Rows). AllAgree r.read which) spread.becomes
+        let spread = rw written at carried in
+        let law = rw spread.becomes at
         (spread.law (agree_but which rows node held are.numbers there sent stored law_before)) in
         subst (IsSetWell which sent node old)
         (ap (with_content old) (sym (ends_is which rows node held spread.lists are.numbers there))
@@ -286,12 +215,9 @@ module _ (which : Which) (sent : Sent) (node : Node) (inh : List Ace) (old new :
       → (t : Bool) → GoesDown t which node.id half new
       → HandsDown which node.id (listed list) new.read
   hands_down list same half is true goes =
-      subst (λ (c : Content). HandsDown which node.id c new.read)
-      (is ∙ ap listed same) (spread_handed which node.id goes.0 half new goes.1)
+      rw (← same, ← is) (spread_handed which node.id goes.0 half new goes.1)
   hands_down list same half is false goes =
-      subst (λ (c : Content). HandsDown which node.id c new.read)
-      (ap (λ (r : Rows). r.read) goes ∙ is ∙ ap listed same)
-      (nothing_handed which node.id new.read)
+      rw (← same, ← is, ← goes) (nothing_handed which node.id new.read)
 
   still_unread : (half : Rows) (t : Bool) → GoesDown t which node.id half new
       → new.unreadable ≡ half.unreadable

@@ -1,13 +1,11 @@
 -- The calls that set a list.
-use Rattle.std.proofs.Common.{◌≡◌, ℕ, Bool, true, false, List, Option, Result, Ok, Err, IfOk, refl}
+use Rattle.std.proofs.Common.{◌≡◌, ℕ, Bool, true, false, List, Option, refl}
 use Rattle.std.proofs.Common.{◌+◌, ◌≤◌, sym, ap, subst, ◌∙◌, arith}
-use Rattle.std.specs.Result.{IsErrAnd}
 use Rattle.room_entry.specs.Ace.{Ace}
 use Rattle.room_ace.specs.Sent.{Sent}
 use Rattle.room_entry.specs.declared.flags.ListFlags.{ListFlags}
 use Rattle.room_entry.specs.declared.object.Which.{Which}
 use Rattle.room_rows.specs.HeldList.{Held}
-use Rattle.room_rows.specs.declared.keep.KeepFault.{KeepFault}
 use Rattle.room_rows.specs.declared.node.Node.{Node}
 use Rattle.room_rows.specs.Content.{node_at}
 use Rattle.room_rows.specs.Held.{with_held}
@@ -28,12 +26,7 @@ use Rattle.room_desk.proofs.Writes.ChangedLists.{fewer}
 use Rattle.room_desk.proofs.Writes.Sufficing.{rooted_recorded}
 use Rattle.room_desk.proofs.Sound.Anchored.{changed_unread}
 use Rattle.room_desk.proofs.Lists.SetWell.{well_stored}
-
--- there is no answer
-pub no_answer : (before after : ℕ) (r : Result (Unit {0}) KeepFault) (f : KeepFault)
-    → IsErrAnd r (λ x. x ≡ f) → IfOk r (λ _. after ≡ before)
-no_answer before after (Ok x) f is = absurd is
-no_answer before after (Err g) f is = tt
+use Rattle.std.proofs.lemmas.Bool.Decides.{nat_tests}
 
 -- a row that can't be read, before anything is written
 pub unread_before : (node : Node) (old mid : Rows) (row : ℕ) → mid ≡ old → IsUnreadable mid row
@@ -118,15 +111,11 @@ module _ (which : Which) (node : Node) (held : Held) (old mid : Rows)
 -- the same from an equal object
 pub loop_as : (start node : Node) (old mid : Rows) (row : ℕ) → start ≡ node → mid ≡ old
     → HasLoopFrom start mid row → HasLoopFrom node old row
-loop_as start node old mid row same unread loop =
-    subst (λ (r : Rows). HasLoopFrom node r row) unread
-    (subst (λ (n : Node). HasLoopFrom n mid row) same loop)
+loop_as start node old mid row same unread loop = grind (arith, nat_tests)
 
 pub carried_as : (which : Which) (start node : Node) (old mid new : Rows) → start ≡ node → mid ≡ old
     → IsCarriedFrom which start mid tt new → IsCarriedFrom which node old tt new
-carried_as which start node old mid new same unread down =
-    subst (λ (r : Rows). IsCarriedFrom which node r tt new) unread
-    (subst (λ (n : Node). IsCarriedFrom which n mid tt new) same down)
+carried_as which start node old mid new same unread down = grind (arith, nat_tests)
 
 -- the list of the parts that are sent
 pub list_sent : (sent : Sent) (flags : ListFlags) (own inh : List Ace) → flags ≡ sent.flags
@@ -137,9 +126,7 @@ list_sent sent flags own inh flags_are own_are =
 pub written_as : (which : Which) (node : Node) (held other : Held) (old mid new : Rows)
     → held ≡ other → mid ≡ old → IsWrittenDown which node held mid tt new
     → IsWrittenDown which node other old tt new
-written_as which node held other old mid new same unread written =
-    subst (λ (r : Rows). IsWrittenDown which node other r tt new) unread
-    (subst (λ (h : Held). IsWrittenDown which node h mid tt new) same written)
+written_as which node held other old mid new same unread written = grind (arith, nat_tests)
 
 pub set_from : (which : Which) (sent : Sent) (node : Node) (above : Option Node) (inh : List Ace)
     (old mid new : Rows) → AreRows old → IsNewInh which sent node above inh → mid ≡ old

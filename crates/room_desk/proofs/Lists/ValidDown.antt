@@ -5,10 +5,8 @@ use Rattle.std.proofs.Common.{inl, inr}
 use Rattle.std.specs.Prelude.{is_none, nat_le, option_and_then}
 use Rattle.std.specs.List.{list_all, cons_option}
 use Rattle.std.specs.Option.{option_map, option_map_or}
-use Rattle.std.proofs.lemmas.Bool.{and_parts, and_from, cases_Bool, false≢true}
+use Rattle.std.proofs.lemmas.Bool.{and_parts, cases_Bool, false≢true}
 use Rattle.room_entry.specs.Ace.{Ace}
-use Rattle.room_entry.specs.Valid.{entry_fault}
-use Rattle.room_entry.specs.declared.flags.EntryFlags.{EntryFlags}
 use Rattle.room_entry.specs.declared.object.ObjKind.{ObjKind}
 use Rattle.room_entry.specs.declared.object.ObjKind.TheVariants.{Folder}
 use Rattle.room_entry.specs.declared.object.Which.{Which}
@@ -17,15 +15,17 @@ use Rattle.room_rows.specs.HeldList.{Held}
 use Rattle.room_rows.specs.declared.node.Node.{Node}
 use Rattle.room_rows.specs.Content.{Content, node_at, parent_of, is_folder, has_folder_above}
 use Rattle.room_rows.specs.Content.{reaches_root, is_linked_in}
-use Rattle.room_rows.specs.Held.{held_of, full_of, is_linked}
+use Rattle.room_rows.specs.Held.{held_of, full_of}
 use Rattle.room_rows.proofs.Frames.{node_at-number}
-use Rattle.room_rows.specs.Law.{AllAgree, agrees, agrees_with}
+use Rattle.room_rows.specs.Law.{AllAgree}
 use Rattle.room_inherit.specs.Laws.{are_valid}
-use Rattle.room_rows.specs.Pass.{pass, passed_flags}
+use Rattle.room_rows.specs.Pass.{pass}
 use Rattle.room_rows.specs.Sound.{is_sound_held}
 use Rattle.room_inherit.proofs.Valid.{pass_is_valid}
 use Rattle.room_inherit.proofs.Migrated.{folder_is, marked_flags}
 use Rattle.room_entry.proofs.Facts.Booleans.{implied}
+use Rattle.std.proofs.Common.{arith}
+use Rattle.std.proofs.lemmas.Bool.Decides.{nat_tests}
 
 -- ---- own and inherited entries apart
 
@@ -41,12 +41,7 @@ are_inherited which kind inh =
 pub all_append : {X : Type 0} (p : X → Bool) (xs ys : List X)
     → list_all p (xs ++ ys) ≡ (list_all p xs && list_all p ys)
 all_append p [] ys = refl
-all_append p (x ∷ xs) ys = on (p x) (all_append p xs ys)
-  where
-    on : (t : Bool) → list_all p (xs ++ ys) ≡ (list_all p xs && list_all p ys)
-        → (t && list_all p (xs ++ ys)) ≡ ((t && list_all p xs) && list_all p ys)
-    on true rest = rest
-    on false rest = refl
+all_append p (x ∷ xs) ys = grind (arith, nat_tests, all_append p xs ys)
 
 regroup : (a b c d e : Bool) → (((a && b) && c) && (d && e)) ≡ ((a && (b && d)) && (c && e))
 regroup true true true d e = refl
@@ -59,14 +54,7 @@ regroup false b c d e = refl
 pub held_parts : (which : Which) (kind : ObjKind) (held : Held)
     → is_sound_held which kind held
     ≡ (are_own which kind held.own && are_inherited which kind held.inh)
-held_parts which kind held =
-    ap (λ t.
-    ((nat_le (length held.own) 64 && list_all (λ entry. not entry.flags.inherited) held.own)
-    && list_all (λ entry. entry.flags.inherited) held.inh) && t)
-    (all_append (λ entry. is_none (entry_fault entry which kind)) held.own held.inh)
-    ∙ regroup (nat_le (length held.own) 64) (list_all (λ entry. not entry.flags.inherited) held.own)
-    (list_all (λ entry. entry.flags.inherited) held.inh) (are_valid which kind held.own)
-    (are_valid which kind held.inh)
+held_parts which kind held = grind (arith, nat_tests, all_append, regroup)
 
 -- ---- what is passed has the flag
 
@@ -74,23 +62,11 @@ pub passed_marked : (kind : ObjKind) (entries : List Ace)
     → list_all (λ entry. entry.flags.inherited) (pass kind entries) ≡ true
 passed_marked kind [] = refl
 passed_marked kind (entry ∷ entries) =
-    on (passed_flags kind entry.flags) (marked_flags kind entry.flags) (passed_marked kind entries)
-  where
-    on : (o : Option EntryFlags) → option_map_or (λ f. f.inherited) o true ≡ true
-        → list_all (λ e. e.flags.inherited) (pass kind entries) ≡ true
-        → list_all (λ e. e.flags.inherited)
-        (cons_option (option_map (λ flags. record entry { flags = flags }) o)
-        (pass kind entries)) ≡ true
-    on None marked rest = rest
-    on (Some flags) marked rest =
-        and_from flags.inherited (list_all (λ e. e.flags.inherited) (pass kind entries)) marked rest
+    grind (arith, nat_tests, marked_flags, passed_marked kind entries)
 
 pub pass_inherited : (which : Which) (kind : ObjKind) (entries : List Ace)
     → are_valid which Folder entries ≡ true → are_inherited which kind (pass kind entries) ≡ true
-pass_inherited which kind entries valid =
-    and_from (list_all (λ e. e.flags.inherited) (pass kind entries))
-    (are_valid which kind (pass kind entries)) (passed_marked kind entries)
-    (pass_is_valid which kind entries valid)
+pass_inherited which kind entries valid = grind (arith, nat_tests, pass_is_valid, passed_marked)
 
 -- ---- down from the root
 
@@ -119,24 +95,7 @@ module _ (which : Which) (content : Content) (law : AllAgree content which)
       → is_linked_in content which node ≡ true
       → (above : Node) × (parent_of content node ≡ Some above)
       × ((held_of which node).inh ≡ pass node.kind (full_of (held_of which above)))
-  linked_above node there linked = on (parent_of content node) refl linked
-    where
-      on : (o : Option Node) → parent_of content node ≡ o
-          → is_linked (held_of which node) (option_map (held_of which) o) ≡ true → (above : Node)
-          × (parent_of content node ≡ Some above)
-          × ((held_of which node).inh ≡ pass node.kind (full_of (held_of which above)))
-      on None is linked = absurd (false≢true linked)
-      on (Some above) is linked =
-          let agree : agrees_with which node above ≡ true =
-          sym (ap (λ o. option_map_or (agrees_with which node) o true) is)
-          ∙ all_found (agrees content which) content node.id node law there in (
-            above,
-            is,
-            entries_equal (held_of which node).inh
-                (pass node.kind (full_of (held_of which above)))
-                (implied (is_linked (held_of which node) (Some (held_of which above))) _ agree
-                linked),
-          )
+  linked_above node there linked = grind (arith, nat_tests, all_found, entries_equal, implied)
 
   parent_there : (id : Option ℕ) (above : Node) → option_and_then (node_at content) id ≡ Some above
       → node_at content above.id ≡ Some above
@@ -171,20 +130,7 @@ module _ (which : Which) (content : Content) (law : AllAgree content which)
       full_valid : (above : Node) → node_at content above.id ≡ Some above → is_folder above ≡ true
           → are_inherited which above.kind (held_of which above).inh ≡ true
           → are_valid which Folder (full_of (held_of which above)) ≡ true
-      full_valid above there folder inherited =
-          let is = folder_is above.kind folder in
-          let owned = and_parts (nat_le (length (held_of which above).own) 64) _
-          (own above there) in
-          all_append (λ entry. is_none (entry_fault entry which Folder)) (held_of which above).own
-          (held_of which above).inh
-          ∙ and_from (are_valid which Folder (held_of which above).own)
-          (are_valid which Folder (held_of which above).inh)
-          (ap (λ k. are_valid which k (held_of which above).own) (sym is)
-          ∙ (and_parts (list_all (λ entry. not entry.flags.inherited) (held_of which above).own)
-          (are_valid which above.kind (held_of which above).own) owned.1).1)
-          (ap (λ k. are_valid which k (held_of which above).inh) (sym is)
-          ∙ (and_parts (list_all (λ entry. entry.flags.inherited) (held_of which above).inh)
-          (are_valid which above.kind (held_of which above).inh) inherited).1)
+      full_valid above there folder inherited = grind (arith, nat_tests, all_append, folder_is)
 
       -- an object at most n steps below the root
       pub valid_down : (n : ℕ) (node : Node) → node_at content node.id ≡ Some node

@@ -1,21 +1,20 @@
 -- Rows to which an object is added whose number wasn't in use.
-use Rattle.std.proofs.Common.{◌≡◌, ℕ, zero, suc, ◌+◌, ◌==◌, Bool, true, false, cond, ◌||◌, List, []}
+use Rattle.std.proofs.Common.{◌≡◌, ℕ, zero, suc, ◌+◌, ◌==◌, Bool, true, false, cond, List, []}
 use Rattle.std.proofs.Common.{◌∷◌, ◌++◌, filter, length, Option, Some, None, nat_lt, refl, sym, ap}
 use Rattle.std.proofs.Common.{subst, ◌∙◌, arith, length-append}
-use Rattle.std.specs.Prelude.{is_none, option_and_then}
 use Rattle.std.specs.List.{list_all, AllByRecursion as Each}
 use Rattle.std.specs.Option.{option_map_or}
 use Rattle.std.proofs.lemmas.Bool.{false≢true}
 use Rattle.std.proofs.lemmas.List.Elements.{filter-append}
-use Rattle.std.proofs.lemmas.Option.{none-some}
 use Rattle.room_rows.specs.declared.node.Node.{Node}
 use Rattle.room_rows.specs.Content.{Content, node_at, parent_of, put_node, has_folder_above}
-use Rattle.room_rows.specs.Content.{is_folder, reaches_root}
+use Rattle.room_rows.specs.Content.{reaches_root}
 use Rattle.room_rows.specs.Finding.{find_id}
 use Rattle.room_rows.specs.Rows.{Rows, AreRows}
 use Rattle.room_rows.proofs.Lookups.{find-put_same, find-put_other}
 use Rattle.room_entry.proofs.Facts.Members.{each_append, each_front, each_back, all_each}
 use Rattle.room_inherit.proofs.Children.{each_there, apart_rising}
+use Rattle.std.proofs.lemmas.Bool.Decides.{nat_tests}
 
 -- ---- where it is put
 
@@ -90,9 +89,7 @@ module _ (old : Rows) (are : AreRows old) (new : Node) (bodies : List (ℕ × Li
   after = record old.read { nodes = put_node new old.read.nodes; bodies = bodies }
 
   pub stays : (id : ℕ) (n : Node) → node_at old.read id ≡ Some n → node_at after id ≡ Some n
-  stays id n found =
-      find-put_other new old.read.nodes id
-      (λ same. absurd (none-some n (sym unused ∙ ap (node_at old.read) (sym same) ∙ found))) ∙ found
+  stays id n found = grind (arith, nat_tests, find-put_other)
 
   pub comes : node_at after new.id ≡ Some new
   comes = find-put_same new old.read.nodes
@@ -112,18 +109,7 @@ module _ (old : Rows) (are : AreRows old) (new : Node) (bodies : List (ℕ × Li
   -- each has its parent as before
   pub same_above : (n : Node) → has_folder_above old.read n ≡ true
       → parent_of after n ≡ parent_of old.read n
-  same_above n above = on n.parent above
-    where
-      at : (id : ℕ) (p : Option Node) → node_at old.read id ≡ p
-          → option_map_or is_folder p false ≡ true → node_at after id ≡ p
-      at id None found is = absurd (false≢true is)
-      at id (Some q) found is = stays id q found
-
-      on : (o : Option ℕ)
-          → (is_none o || option_map_or is_folder (option_and_then (node_at old.read) o) false)
-          ≡ true → option_and_then (node_at after) o ≡ option_and_then (node_at old.read) o
-      on None is = refl
-      on (Some id) is = at id (node_at old.read id) refl is
+  same_above n above = grind (arith, nat_tests, stays)
 
   -- the parents lead to the root as before
   pub reaches_still : (k : ℕ) (parent : Option ℕ) → reaches_root k old.read parent ≡ true

@@ -1,11 +1,10 @@
 -- A request that makes a folder is a step.
-use Rattle.std.proofs.Common.{◌≡◌, ℕ, ◌<◌, Bool, true, cond, List, [], ◌∷◌, length, take, Option}
+use Rattle.std.proofs.Common.{◌≡◌, ℕ, ◌<◌, Bool, true, cond, List, [], length, take, Option}
 use Rattle.std.proofs.Common.{Some, None, refl, sym, ap, subst, ◌∙◌}
 use Rattle.std.specs.Prelude.{is_none, is_some}
 use Rattle.std.proofs.Common.{Err}
 use Rattle.std.specs.Option.{option_map}
 use Rattle.std.proofs.lemmas.Bool.{false≢true}
-use Rattle.room_entry.specs.Rights.{append_data}
 use Rattle.room_entry.specs.declared.object.ObjKind.TheVariants.{Folder}
 use Rattle.room_rows.specs.declared.node.Node.{Node}
 use Rattle.room_rows.specs.Content.{child_of, with_node}
@@ -18,9 +17,9 @@ use Rattle.room_machine.specs.declared.reply.Reply.TheVariants.{Made, Refused}
 use Rattle.room_machine.specs.declared.reply.Reason.TheVariants.{Exists}
 use Rattle.room_machine.specs.declared.request.Request.TheVariants.{MakeFolder}
 use Rattle.room_machine.specs.Site.{Site, last_name, parent_at, site_at}
-use Rattle.room_machine.specs.Plan.{Check, Refusal, plan_of, way, where_found}
+use Rattle.room_machine.specs.Plan.{plan_of, way, where_found}
 use Rattle.room_machine.specs.Effect.{new_node, with_site}
-use Rattle.room_machine.specs.Judge.{failure, first_failure, records_of_plan}
+use Rattle.room_machine.specs.Judge.{records_of_plan}
 use Rattle.room_judge.specs.Closed.{IsClosed, IsServed}
 use Rattle.room_machine.specs.Stored.{stored_site, stored_along, stored_plan}
 use Rattle.room_judge.specs.Stored.{found_site}
@@ -39,6 +38,8 @@ use Rattle.room_desk.proofs.Made.NewStep.{made_adds, made_new}
 use Rattle.room_desk.proofs.Made.PutMade.{is_none_none}
 use Rattle.room_desk.proofs.Made.ServedItems.{judged_refused}
 use Rattle.room_desk.proofs.Steps.Stepping.{made_step, refused_step}
+use Rattle.std.proofs.Common.{arith}
+use Rattle.std.proofs.lemmas.Bool.Decides.{nat_tests}
 
 not_there : (path : List (List ℕ)) (o : Option Node)
     → None ≡ cond (is_some o) (Some (Refused path Exists)) None → is_none o ≡ true
@@ -99,11 +100,7 @@ module _ (asker : Asker) (path : List (List ℕ)) where
     items_are : where_found (parent_at (stored_along old.read path) path)
         (making path (is_some (site_at (stored_along old.read path) path)))
         ≡ making path (is_some child) (found_site path folder)
-    items_are =
-        ap (λ o. where_found o (making path (is_some (site_at (stored_along old.read path) path))))
-        spotted.folder
-        ∙ ap (λ t. making path t (found_site path folder))
-        (ap is_some spotted.child ∙ same_there path child)
+    items_are = grind (arith, nat_tests, making, same_there)
 
     at_stored : (new : Rows) (answer : Option Reply)
         → IsJudged asker (making path (is_some child) (found_site path folder)) mid answer new
@@ -121,22 +118,12 @@ module _ (asker : Asker) (path : List (List ℕ)) where
     no_child : (last : Rows)
         → IsJudged asker (making path (is_some child) (found_site path folder)) mid None last
         → is_none child ≡ true
-    no_child last judged =
-        let first = none_both
-        (failure asker.caller (Check (found_site path folder) (append_data ∷ [])))
-        (first_failure asker.caller (Refusal path Exists (is_some child) ∷ [])) judged.answers
-        in
-        let second = none_both
-        (failure asker.caller (Refusal path Exists (is_some child))) None first.1 in
-        not_there path child second.0
+    no_child last judged = grind (arith, nat_tests, none_both, not_there)
 
     absent : (last : Rows)
         → IsJudged asker (making path (is_some child) (found_site path folder)) mid None last
         → child_of old.read folder.node.id name ≡ None
-    absent last judged =
-        ap (child_of old.read folder.node.id) named.last
-        ∙ is_none_none (child_of old.read folder.node.id (last_name path))
-        (found.lacks ∙ no_child last judged)
+    absent last judged = grind (arith, nat_tests, found, is_none_none, no_child)
 
     folder_made : (last new : Rows)
         → IsJudged asker (making path (is_some child) (found_site path folder)) mid None last

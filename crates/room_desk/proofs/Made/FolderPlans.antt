@@ -1,7 +1,7 @@
 -- Plans that ask for the folder of a path's last name, over stored sites and over sites computed
 -- from the root.
 use Rattle.std.proofs.Common.{◌≡◌, ℕ, ◌<◌, Bool, true, List, [], ◌∷◌, ◌++◌, map, length, Option}
-use Rattle.std.proofs.Common.{Some, None, refl, sym, ap, subst, ◌∙◌, arith}
+use Rattle.std.proofs.Common.{Some, None, refl, arith}
 use Rattle.std.specs.Prelude.{is_some}
 use Rattle.std.specs.Option.{option_map}
 use Rattle.std.proofs.lemmas.List.{map-append}
@@ -37,8 +37,7 @@ planned_of (Some planned) site is =
     record { planned = planned; at = refl; filled = (let e : fill planned ≡ site = cc in e) }
 
 pub none_planned : (found : Option Site) → option_map fill found ≡ None → found ≡ None
-none_planned None is = refl
-none_planned (Some planned) is = absurd (let wrong : ⊥ = cc in wrong)
+none_planned = grind arith
 
 pub parent_filled : (sites : List Site) (path : List (List ℕ))
     → parent_at (map fill sites) path ≡ option_map fill (parent_at sites path)
@@ -49,16 +48,12 @@ module _ (old : Rows) (are : AreRows old) (parts : SoundParts old) (path : List 
   pub planned_parent : (site : Site) → parent_at (stored_along old.read path) path ≡ Some site
       → IsPlanned (parent_at (sites_along (meaning old.read) path) path) site
   planned_parent site is =
-      planned_of (parent_at (sites_along (meaning old.read) path) path) site
-      (sym (parent_filled (sites_along (meaning old.read) path) path)
-      ∙ ap (λ sites. parent_at sites path) (sites_filled old are parts path) ∙ is)
+      planned_of _ site (rw (← parent_filled, sites_filled old are parts path) is)
 
   pub planned_none : site_at (stored_along old.read path) path ≡ None
       → site_at (sites_along (meaning old.read) path) path ≡ None
   planned_none is =
-      none_planned (site_at (sites_along (meaning old.read) path) path)
-      (sym (site_filled (sites_along (meaning old.read) path) path)
-      ∙ ap (λ sites. site_at sites path) (sites_filled old are parts path) ∙ is)
+      none_planned _ (rw (← site_filled, sites_filled old are parts path) is)
 
   pub by_sites : (asker : Asker) (items : List Site → List Item)
       → ((sites : List Site) → items (map fill sites) ≡ map fill_item (items sites))
@@ -67,9 +62,7 @@ module _ (old : Rows) (are : AreRows old) (parts : SoundParts old) (path : List 
       → IsJudged asker (items (sites_along (meaning old.read) path)) old answer new
   by_sites asker items same new answer judged =
       judged_filled asker (items (sites_along (meaning old.read) path)) old new answer
-      (subst (λ list. IsJudged asker list old answer new)
-      (ap items (sym (sites_filled old are parts path))
-      ∙ same (sites_along (meaning old.read) path)) judged)
+      (rw (← sites_filled old are parts path, same) at judged)
 
 -- ---- two plans
 
@@ -94,47 +87,21 @@ folder_plan along content (name ∷ names) some = refl
 put_items_filled : (path : List (List ℕ)) (size : ℕ) (target parent : Option Site)
     → put_items path size (option_map fill target) (option_map fill parent)
     ≡ map fill_item (put_items path size target parent)
-put_items_filled path size (Some target) parent = refl
-put_items_filled path size None None = refl
-put_items_filled path size None (Some parent) = refl
+put_items_filled = grind arith
 
 put_filled : (path : List (List ℕ)) (size : ℕ) (sites : List Site)
     → put_at path size (map fill sites) ≡ map fill_item (put_at path size sites)
 put_filled path size sites =
-    ap (λ w. w ++ put_items path size (site_at (map fill sites) path)
-    (parent_at (map fill sites) path)) (way_filled true sites path)
-    ∙ ap (λ o. map fill_item (way true sites path)
-    ++ put_items path size o (parent_at (map fill sites) path)) (site_filled sites path)
-    ∙ ap (λ o. map fill_item (way true sites path)
-    ++ put_items path size (option_map fill (site_at sites path)) o) (parent_filled sites path)
-    ∙ ap (λ l. map fill_item (way true sites path) ++ l)
-    (put_items_filled path size (site_at sites path) (parent_at sites path))
-    ∙ sym (map-append fill_item (way true sites path)
-    (put_items path size (site_at sites path) (parent_at sites path)))
+    rw (way_filled, site_filled, parent_filled, put_items_filled, map-append)
 
 making_filled : (path : List (List ℕ)) (target parent : Option Site)
     → where_found (option_map fill parent) (making path (is_some (option_map fill target)))
     ≡ map fill_item (where_found parent (making path (is_some target)))
-making_filled path None None = refl
-making_filled path None (Some parent) = refl
-making_filled path (Some target) None = refl
-making_filled path (Some target) (Some parent) = refl
+making_filled = grind arith
 
 folder_filled : (path : List (List ℕ)) (sites : List Site)
     → folder_at path (map fill sites) ≡ map fill_item (folder_at path sites)
-folder_filled path sites =
-    ap (λ w. w ++ where_found (parent_at (map fill sites) path)
-    (making path (is_some (site_at (map fill sites) path)))) (way_filled true sites path)
-    ∙ ap (λ o. map fill_item (way true sites path)
-    ++ where_found (parent_at (map fill sites) path) (making path (is_some o)))
-    (site_filled sites path)
-    ∙ ap (λ o. map fill_item (way true sites path)
-    ++ where_found o (making path (is_some (option_map fill (site_at sites path)))))
-    (parent_filled sites path)
-    ∙ ap (λ l. map fill_item (way true sites path) ++ l)
-    (making_filled path (site_at sites path) (parent_at sites path))
-    ∙ sym (map-append fill_item (way true sites path)
-    (where_found (parent_at sites path) (making path (is_some (site_at sites path)))))
+folder_filled path sites = rw (way_filled, site_filled, parent_filled, making_filled, map-append)
 
 module _ (asker : Asker) (old new : Rows) (answer : Option Reply) (are : AreRows old)
     (parts : SoundParts old) (path : List (List ℕ)) where
@@ -149,6 +116,5 @@ module _ (asker : Asker) (old new : Rows) (answer : Option Reply) (are : AreRows
       → IsJudged asker (folder_at path (stored_along old.read path)) old answer new
       → IsJudged asker (plan_of (meaning old.read) (MakeFolder path)) old answer new
   folder_judged some judged =
-      subst (λ list. IsJudged asker list old answer new)
-      (sym (folder_plan (sites_along (meaning old.read)) (meaning old.read) path some))
+      rw (folder_plan (sites_along (meaning old.read)) (meaning old.read) path some)
       (by_sites old are parts path asker (folder_at path) (folder_filled path) new answer judged)

@@ -1,12 +1,11 @@
 -- What a new object stores is sound, and what the rows mean that it is added to.
-use Rattle.std.proofs.Common.{◌≡◌, ℕ, ◌==◌, Bool, true, false, cond, not, ◌&&◌, ◌||◌, List, [], ◌∷◌}
-use Rattle.std.proofs.Common.{map, length, Option, Some, None, nat_lt, refl, sym, ap, ◌∙◌}
+use Rattle.std.proofs.Common.{◌≡◌, ℕ, ◌==◌, Bool, true, false, cond, not, List, [], ◌∷◌}
+use Rattle.std.proofs.Common.{map, length, Option, Some, None, refl, sym, ap, ◌∙◌}
 use Rattle.std.specs.Prelude.{nat_le}
 use Rattle.std.specs.List.{list_all}
 use Rattle.std.specs.Option.{option_map}
-use Rattle.std.proofs.lemmas.Bool.{false≢true, and_parts, and_from, or_right, eqb-true}
+use Rattle.std.proofs.lemmas.Bool.{false≢true, and_parts, or_right, eqb-true}
 use Rattle.std.proofs.lemmas.Option.{none-some}
-use Rattle.room_entry.specs.Ace.{Ace}
 use Rattle.room_entry.specs.Pieces.{is_among}
 use Rattle.room_entry.specs.Valid.{is_document}
 use Rattle.room_entry.specs.declared.object.ObjKind.{ObjKind}
@@ -26,7 +25,6 @@ use Rattle.room_rows.specs.Meaning.{kept_held, kept_node, meaning}
 use Rattle.room_rows.specs.Paths.{is_object_name}
 use Rattle.room_rows.specs.Rows.{Rows, AreRows, numbers_of, put_numbers}
 use Rattle.room_rows.proofs.InPlace.{body_of-with_body, body_of-with_body-other}
-use Rattle.room_inherit.specs.Laws.{are_valid}
 use Rattle.room_rows.specs.Pass.{pass}
 use Rattle.room_rows.specs.Sound.{AreSound, fits_kind, has_sound_lists, is_sound_held}
 use Rattle.room_inherit.proofs.Children.{ids_of, each_there, apart_rising}
@@ -39,35 +37,22 @@ use Rattle.room_desk.proofs.Made.SoundAdded.{above_new, above_old, lists_here, s
 use Rattle.room_desk.proofs.Sound.SoundParts.{none_numbered, none_unreadable, sound_parts}
 use Rattle.room_desk.proofs.Lists.ValidDown.{passed_marked}
 use Rattle.room_inherit.proofs.Migrated.{folder_is}
+use Rattle.std.proofs.Common.{arith}
+use Rattle.std.proofs.lemmas.Bool.Decides.{nat_tests}
 
 -- ---- its lists
 
 passed_sound : (which : Which) (kind : ObjKind) (parent : Held)
     → is_sound_held which Folder parent ≡ true
     → is_sound_held which kind (passed_held kind parent) ≡ true
-passed_sound which kind parent is =
-    let others : Bool = nat_le (length parent.own) 64
-    && list_all (λ (entry : Ace). not entry.flags.inherited) parent.own
-    && list_all (λ (entry : Ace). entry.flags.inherited) parent.inh in
-    let valid = and_parts others (are_valid which Folder (full_of parent)) is in
-    and_from (list_all (λ (entry : Ace). entry.flags.inherited) (pass kind (full_of parent)))
-    (are_valid which kind (pass kind (full_of parent))) (passed_marked kind (full_of parent))
-    (pass_is_valid which kind (full_of parent) valid.1)
+passed_sound which kind parent is = grind (arith, nat_tests, pass_is_valid, passed_marked)
 
 -- the lists of a new object are sound if its parent's are
 child_sound : (caller : Caller) (kind : ObjKind) (parent : Node) (name bytes : List ℕ) (id : ℕ)
     → is_folder parent ≡ true → has_sound_lists parent ≡ true
     → has_sound_lists (node_of id (new_child caller kind parent name bytes)) ≡ true
 child_sound caller kind parent name bytes id folder valid =
-    let at : (is_sound_held Dacl Folder parent.dacl && is_sound_held Sacl Folder parent.sacl)
-    ≡ true =
-    ap (λ k. is_sound_held Dacl k parent.dacl && is_sound_held Sacl k parent.sacl)
-    (sym (folder_is parent.kind folder)) ∙ valid in
-    let parts = and_parts (is_sound_held Dacl Folder parent.dacl)
-    (is_sound_held Sacl Folder parent.sacl) at in
-    and_from (is_sound_held Dacl kind (passed_held kind parent.dacl))
-    (is_sound_held Sacl kind (passed_held kind parent.sacl))
-    (passed_sound Dacl kind parent.dacl parts.0) (passed_sound Sacl kind parent.sacl parts.1)
+    grind (arith, nat_tests, folder_is, passed_sound)
 
 -- ---- bytes belong to a number in use
 
@@ -91,12 +76,7 @@ no_bytes_in numbers (row ∷ rows) id unused all =
 not_listed : (nodes : List Node) (id : ℕ) → find_id id nodes ≡ None
     → is_among (ids_of nodes) id ≡ false
 not_listed [] id none = refl
-not_listed (x ∷ xs) id none = on (x.id == id) (not_listed xs id) none
-  where
-    on : (t : Bool) → (find_id id xs ≡ None → is_among (ids_of xs) id ≡ false)
-        → cond t (Some x) (find_id id xs) ≡ None → (t || is_among (ids_of xs) id) ≡ false
-    on true rest none = absurd (let wrong : ⊥ = cc in wrong)
-    on false rest none = rest none
+not_listed (x ∷ xs) id none = grind (arith, nat_tests, ids_of, not_listed xs id)
 
 no_bytes_unused : (rows : Rows) → AreRows rows → AreSound rows → (id : ℕ)
     → node_at rows.read id ≡ None → body_at rows.read.bodies id ≡ None
@@ -132,18 +112,7 @@ map_put : (content : Content) (new : Node) (nodes : List Node)
     → map (kept_node content) (put_node new nodes)
     ≡ put_node (kept_node content new) (map (kept_node content) nodes)
 map_put content new [] = refl
-map_put content new (x ∷ xs) = on (nat_lt x.id new.id) (x.id == new.id) (map_put content new xs)
-  where
-    on : (t u : Bool) → map (kept_node content) (put_node new xs)
-        ≡ put_node (kept_node content new) (map (kept_node content) xs)
-        → map (kept_node content) (cond t (x ∷ put_node new xs) (cond u (new ∷ xs) (new ∷ x ∷ xs)))
-        ≡ cond t (kept_node content x ∷ put_node (kept_node content new)
-        (map (kept_node content) xs))
-        (cond u (kept_node content new ∷ map (kept_node content) xs)
-        (kept_node content new ∷ kept_node content x ∷ map (kept_node content) xs))
-    on true u rest = ap (λ l. kept_node content x ∷ l) rest
-    on false true rest = refl
-    on false false rest = refl
+map_put content new (x ∷ xs) = grind (arith, nat_tests, map_put content new xs)
 
 -- an object below a parent, or without one
 abbrev kept_under : Option Node → Node → Node

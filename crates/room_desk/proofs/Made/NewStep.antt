@@ -1,5 +1,5 @@
 -- What becomes of the rows where an object is made.
-use Rattle.std.proofs.Common.{◌≡◌, ℕ, Bool, true, false, cond, List, length, Option, Some, None}
+use Rattle.std.proofs.Common.{◌≡◌, ℕ, true, List, length, Option, Some, None}
 use Rattle.std.proofs.Common.{refl, sym, ap, subst, ◌∙◌}
 use Rattle.std.specs.Prelude.{is_none, nat_le}
 use Rattle.std.specs.Option.{option_map}
@@ -10,8 +10,8 @@ use Rattle.room_entry.specs.declared.parties.Caller.{Caller}
 use Rattle.room_rows.specs.declared.node.AuditRow.{AuditRow}
 use Rattle.room_rows.specs.declared.node.NewNode.{NewNode}
 use Rattle.room_rows.specs.declared.node.Node.{Node}
-use Rattle.room_rows.specs.Content.{Content, node_at, child_of, is_folder, put_node, with_body}
-use Rattle.room_rows.specs.Content.{with_node, with_records}
+use Rattle.room_rows.specs.Content.{Content, node_at, child_of, is_folder, put_node}
+use Rattle.room_rows.specs.Content.{with_records}
 use Rattle.room_rows.specs.Keep.{CanAdd, IsAdded, node_of, with_content, with_new}
 use Rattle.room_rows.specs.Meaning.{kept_node, meaning}
 use Rattle.room_rows.specs.Paths.{is_object_name}
@@ -26,6 +26,8 @@ use Rattle.room_machine.specs.Step.{IsFree}
 use Rattle.room_machine.specs.Stored.{stored_site}
 use Rattle.room_desk.proofs.Made.NewObject.{added, added_means, added_sound, bodies_then}
 use Rattle.room_desk.proofs.Sound.SoundParts.{sound_noted}
+use Rattle.std.proofs.Common.{arith}
+use Rattle.std.proofs.lemmas.Bool.Decides.{nat_tests}
 
 new_rows : (content : Content) (id : ℕ) (kind : ObjKind) (new : NewNode) → new.kind ≡ kind
     → with_new content id new
@@ -33,47 +35,18 @@ new_rows : (content : Content) (id : ℕ) (kind : ObjKind) (new : NewNode) → n
       nodes = put_node (node_of id new) content.nodes;
       bodies = bodies_then kind id new.bytes content.bodies;
     }
-new_rows content id Document new is =
-    ap (λ (k : ObjKind). cond (is_document k)
-    (record content {
-      nodes = put_node (node_of id new) content.nodes;
-      bodies = bodies_then Document id new.bytes content.bodies;
-    })
-    (record content { nodes = put_node (node_of id new) content.nodes })) is
-new_rows content id Folder new is =
-    ap (λ (k : ObjKind). cond (is_document k)
-    (record content {
-      nodes = put_node (node_of id new) content.nodes;
-      bodies = bodies_then Document id new.bytes content.bodies;
-    })
-    (record content { nodes = put_node (node_of id new) content.nodes })) is
+new_rows content id Document new is = grind (arith, nat_tests, bodies_then)
+new_rows content id Folder new is = grind (arith, nat_tests, bodies_then)
 
 pub new_audits : (content : Content) (id : ℕ) (new : NewNode)
     → (with_new content id new).audits ≡ content.audits
-new_audits content id new = on (is_document new.kind)
-  where
-    on : (t : Bool)
-        → (cond t (with_body (with_node content (node_of id new)) id new.bytes)
-        (with_node content (node_of id new))).audits ≡ content.audits
-    on true = refl
-    on false = refl
+new_audits content id new = grind (arith, nat_tests)
 
 -- it comes beside records that were added
 new_noted : (content : Content) (id : ℕ) (new : NewNode) (records : List AuditRow)
     → with_new (with_records content records) id new
     ≡ with_records (with_new content id new) records
-new_noted content id new records = on (is_document new.kind)
-  where
-    noted : Content
-    noted = with_records content records
-
-    on : (t : Bool)
-        → cond t (with_body (with_node noted (node_of id new)) id new.bytes)
-        (with_node noted (node_of id new))
-        ≡ with_records (cond t (with_body (with_node content (node_of id new)) id new.bytes)
-        (with_node content (node_of id new))) records
-    on true = refl
-    on false = refl
+new_noted content id new records = grind (arith, nat_tests)
 
 -- An object is made by this name, and the records come after the others.
 pub record AddsNoted (node : NewNode) (old : Rows) (records : List AuditRow) (new : Rows)
@@ -85,13 +58,7 @@ pub record AddsNoted (node : NewNode) (old : Rows) (records : List AuditRow) (ne
 
 noted_adds : (node : NewNode) (old new : Rows) (records : List AuditRow) (id : ℕ)
     → IsAdded node (with_notes old records) id new → AddsNoted node old records new
-noted_adds node old new records id added = record {
-  next = with_new old.read id node;
-  audits = new_audits old.read id node;
-  becomes = added.becomes
-      ∙ ap (with_content (with_notes old records)) (new_noted old.read id node records);
-  adds = (id, added.from_one, added.is_new, added.is_free, refl);
-}
+noted_adds node old new records id added = grind (arith, nat_tests, added, new_audits, new_noted)
 
 pub made_adds : (caller : Caller) (kind : ObjKind) (folder : Node) (name last bytes : List ℕ)
     (old mid new : Rows) (records : List AuditRow) → node_at old.read folder.id ≡ Some folder
@@ -175,15 +142,4 @@ module _ (old : Rows) (are : AreRows old) (were : AreSound old) (caller : Caller
       → mid ≡ with_notes old records → is_object_name name ≡ true
       → (is_document kind ≡ true → nat_le (length bytes) 1048576 ≡ true)
       → IsMade (new_child caller kind folder name bytes) mid new → IsNew records q new
-  made_new records q mid new notes named few made =
-      let here : IsMade (new_child caller kind folder name bytes)
-      (with_notes old records) new = subst
-      (λ (r : Rows). IsMade (new_child caller kind folder name bytes) r new) notes made in
-      is_added records q here.0 new named few
-      (here.1
-      (record {
-        parent = folder.id;
-        parent_is = refl;
-        folder = (folder, there, is_above);
-        name_is_free = absent;
-      }))
+  made_new records q mid new notes named few made = grind (arith, nat_tests, is_added)

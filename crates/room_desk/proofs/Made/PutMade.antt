@@ -1,9 +1,8 @@
 -- A request that puts a document is a step.
 use Rattle.std.proofs.Common.{◌≡◌, ℕ, Bool, true, false, cond, List, [], ◌∷◌, ◌++◌, length, take}
-use Rattle.std.proofs.Common.{Option, Some, None, nat_lt, refl, sym, ap, subst, ◌∙◌, inl, inr}
+use Rattle.std.proofs.Common.{Option, Some, None, nat_lt, refl, sym, ap, ◌∙◌, inl, inr}
 use Rattle.std.specs.Prelude.{is_none, nat_le}
 use Rattle.std.proofs.Common.{Ok, Err}
-use Rattle.std.proofs.lemmas.Bool.{false≢true, ltb-false, le-leb}
 use Rattle.std.proofs.Math.Seq.{take-length}
 use Rattle.room_entry.specs.Rights.{write_data}
 use Rattle.room_entry.specs.Valid.{is_document}
@@ -13,7 +12,6 @@ use Rattle.room_rows.specs.Content.{node_at, child_of, with_body, with_node}
 use Rattle.room_rows.specs.Keep.{SetsBody, with_content}
 use Rattle.room_rows.specs.Meaning.{meaning}
 use Rattle.room_rows.specs.Rows.{Rows, AreRows}
-use Rattle.room_rows.specs.Sound.{AreSound}
 use Rattle.room_judge.specs.declared.arrival.Found.{Found}
 use Rattle.room_judge.specs.declared.asker.Asker.{Asker}
 use Rattle.room_machine.specs.declared.reply.Reply.{Reply}
@@ -24,7 +22,7 @@ use Rattle.room_machine.specs.Site.{Site, last_name, parent_at, site_at, sites_a
 use Rattle.room_machine.specs.Plan.{Item, Check, no_folder, not_over, plan_of, put_items, way}
 use Rattle.room_machine.specs.Plan.{where_found}
 use Rattle.room_machine.specs.Effect.{new_node, put_bytes}
-use Rattle.room_machine.specs.Judge.{failure, first_failure, records_of_plan}
+use Rattle.room_machine.specs.Judge.{records_of_plan}
 use Rattle.room_judge.specs.Closed.{IsClosed, IsServed}
 use Rattle.room_machine.specs.Stored.{stored_site, stored_along, to_stored}
 use Rattle.room_judge.specs.Stored.{found_site}
@@ -43,21 +41,21 @@ use Rattle.room_desk.proofs.Made.FolderPlans.{planned_none, planned_parent, put_
 use Rattle.room_desk.proofs.Made.NewStep.{made_adds, made_new}
 use Rattle.room_desk.proofs.Made.ServedItems.{judged_refused}
 use Rattle.room_desk.proofs.Steps.Stepping.{changed_step, made_step, refused_step}
+use Rattle.std.proofs.Common.{arith}
+use Rattle.std.proofs.lemmas.Bool.Decides.{nat_tests}
 
 -- ---- what passes
 
 pub is_none_none : (o : Option Node) → is_none o ≡ true → o ≡ None
-is_none_none None is = refl
-is_none_none (Some node) is = absurd (false≢true is)
+is_none_none = grind arith
 
 not_too_large : (path : List (List ℕ)) (t : Bool)
     → None ≡ cond t (Some (Refused path TooLarge)) None → t ≡ false
-not_too_large path true passes = absurd (let wrong : ⊥ = cc in wrong)
-not_too_large path false passes = refl
+not_too_large = grind arith
 
 pub few_bytes : (bytes : List ℕ) → nat_lt 1048576 (length bytes) ≡ false
     → nat_le (length bytes) 1048576 ≡ true
-few_bytes bytes few = le-leb (length bytes) 1048576 (ltb-false 1048576 (length bytes) few)
+few_bytes bytes few = grind (arith, nat_tests)
 
 module _ (asker : Asker) (path : List (List ℕ)) (bytes : List ℕ) where
   abbrev size : ℕ
@@ -86,17 +84,19 @@ module _ (asker : Asker) (path : List (List ℕ)) (bytes : List ℕ) where
       → IsSpotted asker path old (Err reply) new → IsServed asker (Put path bytes) old reply new
   put_barred old new reply are spotted = not_reached old new reply are spotted.judged
 
+  -- the items behind the way
+  abbrev items : Rows → List Item
+  items old =
+      put_items path size (site_at (stored_along old.read path) path)
+      (parent_at (stored_along old.read path) path)
+
   -- what is judged after the way
-  at_stored : (old mid new : Rows) (items : List Item) (answer : Option Reply)
+  at_stored : (old mid new : Rows) (list : List Item) (answer : Option Reply)
       → IsJudged asker (way true (stored_along old.read path) path) old None mid
-      → put_items path size (site_at (stored_along old.read path) path)
-      (parent_at (stored_along old.read path) path) ≡ items → IsJudged asker items mid answer new
+      → items old ≡ list → IsJudged asker list mid answer new
       → IsJudged asker (put_at path size (stored_along old.read path)) old answer new
-  at_stored old mid new items answer before same judged =
-      passes_first asker (way true (stored_along old.read path) path)
-      (put_items path size (site_at (stored_along old.read path) path)
-      (parent_at (stored_along old.read path) path)) old mid new answer before
-      (subst (λ list. IsJudged asker list mid answer new) (sym same) judged)
+  at_stored old mid new list answer before same judged =
+      passes_first asker _ (items old) old mid new answer before (rw same judged)
 
   -- ---- a document that is there
 
@@ -106,9 +106,8 @@ module _ (asker : Asker) (path : List (List ℕ)) (bytes : List ℕ) where
   module _ (old mid : Rows) (node : Node) (are : AreRows old)
       (before : IsJudged asker (way true (stored_along old.read path) path) old None mid)
       (is : site_at (stored_along old.read path) path ≡ Some (stored_site path node)) where
-    items_there : put_items path size (site_at (stored_along old.read path) path)
-        (parent_at (stored_along old.read path) path) ≡ there_items (stored_site path node)
-    items_there = ap (λ o. put_items path size o (parent_at (stored_along old.read path) path)) is
+    items_there : items old ≡ there_items (stored_site path node)
+    items_there = rw is
 
     there : node_at old.read node.id ≡ Some node
     there = along_there old.read are.numbers path (stored_site path node) is
@@ -117,14 +116,8 @@ module _ (asker : Asker) (path : List (List ℕ)) (bytes : List ℕ) where
     passed : (last : Rows) → IsJudged asker (there_items (stored_site path node)) mid None last
         → (is_document node.kind ≡ true) × (nat_lt 1048576 (length bytes) ≡ false)
     passed last judged =
-        let first = none_both (failure asker.caller (no_folder (stored_site path node)))
-        (first_failure asker.caller
-        (Check (stored_site path node) (write_data ∷ []) ∷ not_over path size ∷ []))
-        judged.answers in
-        let second = none_both
-        (failure asker.caller (Check (stored_site path node) (write_data ∷ [])))
-        (first_failure asker.caller (not_over path size ∷ [])) first.1 in
-        let third = none_both (failure asker.caller (not_over path size)) None second.1 in (
+        let first = none_both _ _ judged.answers in let second = none_both _ _ first.1 in
+        let third = none_both _ _ second.1 in (
           folder_fails asker.caller (stored_site path node) first.0,
           not_too_large path (nat_lt 1048576 size) third.0,
         )
@@ -143,7 +136,7 @@ module _ (asker : Asker) (path : List (List ℕ)) (bytes : List ℕ) where
     bytes_set last new judged sets =
         sets (
           node,
-          ap (λ (r : Rows). node_at r.read node.id) (all_judged last None judged).notes ∙ there,
+          rw (all_judged last None judged).notes there,
           (passed last judged).0,
         )
 
@@ -158,18 +151,12 @@ module _ (asker : Asker) (path : List (List ℕ)) (bytes : List ℕ) where
         (stored_site path node) is in
         changed_step asker (Put path bytes) old known sound last new Done
         (with_body (meaning old.read) node.id bytes) plan
-        (λ id. ap (λ o. put_bytes (meaning old.read) asker.caller id path bytes o
-        (parent_at (sites_along (meaning old.read) path) path)) target.at
-        ∙ ap (λ (s : Site). (Done, with_body (meaning old.read) s.node.id bytes)) target.filled)
-        (ap (λ (r : Rows). meaning r.read) new_is
-        ∙ ap (λ (r : Rows). meaning
-        (with_content r (with_body r.read node.id bytes)).read) plan.notes)
-        (subst AreSound
-        (sym (new_is
-        ∙ ap (λ (r : Rows). with_content r (with_body r.read node.id bytes)) plan.notes))
+        (λ id. rw target.at
+        (ap (λ (s : Site). (Done, with_body (meaning old.read) s.node.id bytes)) target.filled))
+        (rw (new_is, plan.notes))
+        (rw (new_is, plan.notes)
         (sound_noted (with_content old (with_body old.read node.id bytes)) _
-        (sound_bytes old node.id node bytes are sound there passing.0
-        (few_bytes bytes passing.1))))
+        (sound_bytes old node.id node bytes are sound there passing.0 (few_bytes bytes passing.1))))
 
     set_closed : (last new : Rows)
         → IsJudged asker (there_items (stored_site path node)) mid None last
@@ -177,9 +164,7 @@ module _ (asker : Asker) (path : List (List ℕ)) (bytes : List ℕ) where
     set_closed last new judged sets =
         closed_done asker (Put path bytes) old Done last new (all_judged last None judged) refl refl
         (with_body old.read node.id bytes) refl
-        (bytes_set last new judged sets
-        ∙ ap (λ (r : Rows). with_content r (with_body r.read node.id bytes))
-        (all_judged last None judged).notes)
+        (rw (bytes_set last new judged sets, (all_judged last None judged).notes))
         (inl (stored_site path node, is, refl)) (inl (stored_site path node, is, refl))
 
     on_answer : (answer : Option Reply) (last new : Rows) (reply : Reply)
@@ -187,8 +172,7 @@ module _ (asker : Asker) (path : List (List ℕ)) (bytes : List ℕ) where
         → Ends Done (SetsBody node.id bytes) answer last reply new
         → IsServed asker (Put path bytes) old reply new
     on_answer None last new reply judged ends =
-        subst (λ (r : Reply). IsServed asker (Put path bytes) old r new) (sym ends.0)
-        (put_set last new judged ends.1, set_closed last new judged ends.1)
+        rw ends.0 (put_set last new judged ends.1, set_closed last new judged ends.1)
     on_answer (Some refusal) last new reply judged ends =
         not_put old new reply are
         (all_judged new (Some reply)
@@ -200,10 +184,8 @@ module _ (asker : Asker) (path : List (List ℕ)) (bytes : List ℕ) where
         (there_items (found_site path (record { node = node; depth = depth }))) Done
         (SetsBody node.id bytes) mid reply new → IsServed asker (Put path bytes) old reply new
     put_over depth deep new reply served =
-        let here : take depth path ≡ path = ap (λ (d : ℕ). take d path) deep ∙ take-length path in
-        on_answer served.answer served.mid new reply
-        (subst (λ p. IsJudged asker (there_items (stored_site p node)) mid served.answer served.mid)
-        here served.judged) served.ends
+        on_answer served.answer served.mid new reply (rw (deep, take-length) at served.judged)
+        served.ends
 
   pub put_on : (old mid : Rows) (folder : Found) (node : Node) → AreRows old
       → IsSpotted asker path old (spot_of folder (Some node)) mid → (depth : ℕ)
@@ -219,9 +201,7 @@ module _ (asker : Asker) (path : List (List ℕ)) (bytes : List ℕ) where
   module _ (root : path ≡ []) where
     no_way : (old : Rows) → to_stored old.read path (λ _. [])
         ≡ way true (stored_along old.read path) path
-    no_way old =
-        subst (λ p. to_stored old.read p (λ _. []) ≡ way true (stored_along old.read p) p)
-        (sym root) (on (stored_along old.read []))
+    no_way old = rw root (on (stored_along old.read []))
       where
         on : (sites : List Site)
             → way false sites [] ++ where_found (site_at sites []) (λ _. []) ≡ way true sites []
@@ -233,7 +213,7 @@ module _ (asker : Asker) (path : List (List ℕ)) (bytes : List ℕ) where
         → IsServed asker (Put path bytes) old reply new
     root_barred old new reply are reached =
         not_reached old new reply are
-        (subst (λ list. IsJudged asker list old (Some reply) new) (no_way old) reached.judged)
+        (rw no_way at reached.judged)
 
     -- where the root is a document, it is put as any that is there
     pub put_root : (old mid : Rows) (node : Node) → AreRows old
@@ -243,8 +223,7 @@ module _ (asker : Asker) (path : List (List ℕ)) (bytes : List ℕ) where
         (SetsBody node.id bytes) mid reply new → IsServed asker (Put path bytes) old reply new
     put_root old mid node are reached =
         put_over old mid node are
-        (subst (λ list. IsJudged asker list old None mid) (no_way old) reached.judged) reached.found
-        0 (sym (ap (λ (p : List (List ℕ)). length p) root))
+        (rw no_way at reached.judged) reached.found 0 (rw root)
 
   -- ---- a new document
 
@@ -253,11 +232,8 @@ module _ (asker : Asker) (path : List (List ℕ)) (bytes : List ℕ) where
 
   module _ (old mid : Rows) (folder : Found) (name : List ℕ) (named : IsNameOf path name)
       (are : AreRows old) (spotted : IsSpotted asker path old (spot_of folder None) mid) where
-    items_new : put_items path size (site_at (stored_along old.read path) path)
-        (parent_at (stored_along old.read path) path) ≡ new_items (found_site path folder)
-    items_new =
-        ap (λ o. put_items path size o (parent_at (stored_along old.read path) path)) spotted.child
-        ∙ ap (λ o. put_items path size None o) spotted.folder
+    items_new : items old ≡ new_items (found_site path folder)
+    items_new = rw (spotted.child, spotted.folder)
 
     new_judged : (last : Rows) (answer : Option Reply)
         → IsJudged asker (new_items (found_site path folder)) mid answer last
@@ -271,18 +247,19 @@ module _ (asker : Asker) (path : List (List ℕ)) (bytes : List ℕ) where
 
     absent : child_of old.read folder.node.id name ≡ None
     absent =
-        ap (child_of old.read folder.node.id) named.last
-        ∙ is_none_none (child_of old.read folder.node.id (last_name path)) found.lacks
+        rw named.last (is_none_none _ found.lacks)
+
+    few_new : (last : Rows) → IsJudged asker (new_items (found_site path folder)) mid None last
+        → nat_le size 1048576 ≡ true
+    few_new last judged =
+        let first = none_both _ _ judged.answers in let second = none_both _ _ first.1 in
+        few_bytes bytes (not_too_large path (nat_lt 1048576 size) second.0)
 
     put_made : (last new : Rows) → IsJudged asker (new_items (found_site path folder)) mid None last
         → IsMade (new_child asker.caller Document folder.node name bytes) last new
         → CarriesOut asker (Put path bytes) old Made new
     put_made last new judged made known sound =
-        let first = none_both
-        (failure asker.caller (Check (found_site path folder) (write_data ∷ [])))
-        (first_failure asker.caller (not_over path size ∷ [])) judged.answers in
-        let second = none_both (failure asker.caller (not_over path size)) None first.1 in
-        let few = few_bytes bytes (not_too_large path (nat_lt 1048576 size) second.0) in
+        let few = few_new last judged in
         let plan = put_judged asker old last None are (sound_parts old sound) path bytes
         (new_judged last None judged) in
         let new_step =
@@ -337,8 +314,7 @@ module _ (asker : Asker) (path : List (List ℕ)) (bytes : List ℕ) where
         reply new
         → IsServed asker (Put path bytes) old reply new
     new_on None last new reply judged ends =
-        subst (λ (r : Reply). IsServed asker (Put path bytes) old r new) (sym ends.0)
-        (put_made last new judged ends.1, made_closed last new judged ends.1)
+        rw ends.0 (put_made last new judged ends.1, made_closed last new judged ends.1)
     new_on (Some refusal) last new reply judged ends =
         not_put old new reply are
         (new_judged new (Some reply)

@@ -1,6 +1,6 @@
 -- What is judged before an object is changed or made, in terms of the calls.
-use Rattle.std.proofs.Common.{◌≡◌, ℕ, ◌+◌, Bool, true, false, cond, List, [], ◌∷◌, ◌++◌, length}
-use Rattle.std.proofs.Common.{Option, Some, None, nat_lt, refl, sym, ap, subst, ◌∙◌, inl, arith}
+use Rattle.std.proofs.Common.{◌≡◌, ℕ, ◌+◌, Bool, true, false, List, [], ◌∷◌, ◌++◌, length}
+use Rattle.std.proofs.Common.{Option, Some, None, refl, sym, ap, subst, ◌∙◌, inl, arith}
 use Rattle.std.proofs.Common.{length-append}
 use Rattle.std.proofs.Common.{Result}
 use Rattle.room_entry.specs.Rights.{write_data}
@@ -10,18 +10,18 @@ use Rattle.room_rows.specs.Paths.{is_object_name}
 use Rattle.room_rows.specs.Rows.{Rows}
 use Rattle.room_judge.specs.declared.asker.Asker.{Asker}
 use Rattle.room_machine.specs.declared.reply.Reply.{Reply}
-use Rattle.room_machine.specs.declared.reply.Reply.TheVariants.{Done, Made, Refused}
+use Rattle.room_machine.specs.declared.reply.Reply.TheVariants.{Done, Made}
 use Rattle.room_machine.specs.declared.reply.Reason.{Reason}
-use Rattle.room_machine.specs.declared.reply.Reason.TheVariants.{TooLarge}
 use Rattle.room_machine.specs.Site.{Site, last_name}
 use Rattle.room_machine.specs.Plan.{Check, Item, Refusal, no_folder, not_over}
 use Rattle.room_judge.specs.Judged.{IsJudged}
 use Rattle.room_desk.specs.Made.{IsMade, IsNameOf, IsJudgedAndDone}
 use Rattle.room_judge.specs.Spot.{IsSpotted}
-use Rattle.room_desk.specs.Written.{IsPut, TakesBytes}
+use Rattle.room_desk.specs.Written.{IsPut}
 use Rattle.room_judge.proofs.Judging.{blames_first, judged_none, passes_first, passes_on, refuses}
 use Rattle.room_judge.proofs.Spots.{last_of}
 use Rattle.room_judge.specs.declared.arrival.Under.{Under}
+use Rattle.std.proofs.lemmas.Bool.Decides.{nat_tests}
 
 -- the last part of a path that was split
 pub name_of_parts : (path names : List (List ℕ)) (name : List ℕ) → path ≡ names ++ name ∷ []
@@ -52,9 +52,7 @@ module _ (asker : Asker) where
   pub judged_refused : (items : List Item) (old mid new : Rows) (refusal reply : Reply)
       → IsJudged asker items old (Some refusal) mid → reply ≡ refusal → new ≡ mid
       → IsJudged asker items old (Some reply) new
-  judged_refused items old mid new refusal reply judged replies same =
-      subst (λ (r : Reply). IsJudged asker items old (Some r) new) (sym replies)
-      (subst (λ (r : Rows). IsJudged asker items old (Some refusal) r) (sym same) judged)
+  judged_refused items old mid new refusal reply judged replies same = grind (arith, nat_tests)
 
   -- a check passed, and what a refusal asks for isn't so
   pub added_behind : (site : Site) (mask bits : List ℕ) (path : List (List ℕ)) (why : Reason)
@@ -87,36 +85,4 @@ module _ (asker : Asker) where
       (no_folder site ∷ Check site (write_data ∷ []) ∷ not_over path (length bytes) ∷ []) Done
       (SetsBody id bytes) old reply new
   put_behind site mask path id bytes given old mid new answer reply same passes are judged put =
-      let first = subst (λ (b : List ℕ). IsJudged asker
-      (no_folder site ∷ Check site b ∷ []) old None mid) same
-      (subst (λ (o : Option Reply). IsJudged asker
-      (no_folder site ∷ Check site mask ∷ []) old o mid) passes judged) in
-      let done = subst (λ (b : List ℕ). IsPut path id b mid reply new) are put in
-      on (nat_lt 1048576 (length bytes)) refl first done.replies done.becomes
-    where
-      on : (t : Bool) → nat_lt 1048576 (length bytes) ≡ t
-          → IsJudged asker (no_folder site ∷ Check site (write_data ∷ []) ∷ []) old None mid
-          → reply ≡ cond t (Refused path TooLarge) Done → TakesBytes t id bytes mid new
-          → IsJudgedAndDone asker
-          (no_folder site ∷ Check site (write_data ∷ []) ∷ not_over path (length bytes) ∷ []) Done
-          (SetsBody id bytes) old reply new
-      on true many first replies takes = record {
-        answer = Some (Refused path TooLarge);
-        mid = mid;
-        judged =
-            passes_first asker (no_folder site ∷ Check site (write_data ∷ []) ∷ [])
-            (not_over path (length bytes) ∷ []) old mid mid (Some (Refused path TooLarge)) first
-            (refuses asker path TooLarge (nat_lt 1048576 (length bytes)) [] mid mid
-            (Refused path TooLarge) refl many refl);
-        ends = (replies, takes);
-      }
-      on false few first replies takes = record {
-        answer = None;
-        mid = mid;
-        judged =
-            passes_first asker (no_folder site ∷ Check site (write_data ∷ []) ∷ [])
-            (not_over path (length bytes) ∷ []) old mid mid None first
-            (passes_on asker path TooLarge (nat_lt 1048576 (length bytes)) [] mid mid None few
-            (judged_none asker mid mid refl));
-        ends = (replies, takes);
-      }
+      grind (arith, nat_tests, judged_none, passes_first, passes_on, refuses)

@@ -1,11 +1,11 @@
 -- Rows stay sound where an object is added.
-use Rattle.std.proofs.Common.{◌≡◌, ℕ, suc, Bool, true, false, cond, not, ◌&&◌, ◌||◌, List, [], ◌∷◌}
-use Rattle.std.proofs.Common.{filter, length, Option, Some, None, nat_lt, refl, sym, ap, ◌∙◌, inl}
-use Rattle.std.proofs.Common.{inr, arith}
+use Rattle.std.proofs.Common.{◌≡◌, ℕ, suc, Bool, true, false, not, ◌&&◌, ◌||◌, List, [], ◌∷◌}
+use Rattle.std.proofs.Common.{filter, length, Option, Some, None, nat_lt, refl, sym, ap, ◌∙◌}
+use Rattle.std.proofs.Common.{arith}
 use Rattle.std.specs.Prelude.{is_none}
 use Rattle.std.specs.List.{find, list_all, list_any, AllByRecursion as Each}
 use Rattle.std.specs.Option.{option_map_or}
-use Rattle.std.proofs.lemmas.Bool.{cases_Bool, false≢true, and_parts, and_from, or_right, eqb-true}
+use Rattle.std.proofs.lemmas.Bool.{false≢true, and_from, or_right, eqb-true}
 use Rattle.std.proofs.lemmas.Bool.{le-ltb}
 use Rattle.std.proofs.lemmas.List.Folds.{list_all-map}
 use Rattle.std.proofs.lemmas.Slice.Eq.{bytes_eq-Decides}
@@ -33,6 +33,7 @@ use Rattle.room_desk.proofs.Made.Added.{after, stays, comes, each_after, all_aft
 use Rattle.room_desk.proofs.Made.Added.{reaches_still, reaches_more, length_put, filter_put}
 use Rattle.room_desk.proofs.Made.Added.{each_put}
 use Rattle.room_desk.proofs.Sound.SoundParts.{none_numbered, none_unreadable, sound_parts}
+use Rattle.std.proofs.lemmas.Bool.Decides.{nat_tests}
 
 -- each object that is found passes a test that all pass
 pub found_passes : (test : Node → Bool) (nodes : List Node) (id : ℕ) (node : Node)
@@ -44,12 +45,7 @@ found_passes test nodes id node all found =
 none_passes : (test : Node → Bool) (nodes : List Node) → find test nodes ≡ None
     → Each (λ n. test n ≡ false) nodes
 none_passes test [] none = tt
-none_passes test (x ∷ xs) none = on (test x) refl (none_passes test xs) none
-  where
-    on : (t : Bool) → test x ≡ t → (find test xs ≡ None → Each (λ n. test n ≡ false) xs)
-        → cond t (Some x) (find test xs) ≡ None → (test x ≡ false) × Each (λ n. test n ≡ false) xs
-    on true is rest none = absurd (let wrong : ⊥ = cc in wrong)
-    on false is rest none = (is, rest none)
+none_passes test (x ∷ xs) none = grind (arith, nat_tests, none_passes test xs)
 
 -- ---- lists of all numbers
 
@@ -62,16 +58,12 @@ lists_of : (content : Content) (unreadable : List ℕ) → unreadable ≡ []
     → list_all (λ id. not (bad_at content unreadable id))
     (put_numbers unreadable (ids_of content.nodes))
     ≡ list_all (λ n. not (bad_at content [] n.id)) content.nodes
-lists_of content unreadable none =
-    ap (λ l. list_all (λ id. not (bad_at content l id)) (put_numbers l (ids_of content.nodes))) none
-    ∙ list_all-map (λ id. not (bad_at content [] id)) (λ (n : Node). n.id) content.nodes
+lists_of content unreadable none = grind (arith, nat_tests, ids_of, list_all-map)
 
 -- where an object is found by its number, its lists are what counts
 bad_found : (content : Content) (node : Node) → node_at content node.id ≡ Some node
     → not (bad_at content [] node.id) ≡ has_sound_lists node
-bad_found content node found =
-    ap (λ o. not (option_map_or (λ n. not (has_sound_lists n)) o false)) found
-    ∙ not-not (has_sound_lists node)
+bad_found content node found = grind (arith, nat_tests, not-not)
 
 -- the lists of an object of sound rows
 pub lists_here : (rows : Rows) → AreSound rows → (node : Node)
@@ -104,9 +96,7 @@ module _ (old : Rows) (are : AreRows old) (were : AreSound old) (new folder : No
 
   pub above_old : (n : Node) → node_at old.read n.id ≡ Some n
       → parent_of (after old are new bodies unused) n ≡ parent_of old.read n
-  above_old n found =
-      same_above old are new bodies unused n
-      (found_passes (has_folder_above old.read) old.read.nodes n.id n whole.parents found)
+  above_old n found = grind (arith, nat_tests, found_passes, same_above, whole)
 
   new_root : is_root new ≡ false
   new_root = ap is_none below
@@ -170,22 +160,10 @@ module _ (old : Rows) (are : AreRows old) (were : AreSound old) (new folder : No
       ((bytes_eq-Decides n.name new.name).1 named))
 
   placed_before : (n : Node) → node_at old.read n.id ≡ Some n → same_place n new ≡ false
-  placed_before n found = elim (cases_Bool (same_place n new)) [
-    | inl same ↦
-        (let parts = and_parts (same_parent n.parent new.parent) (same_text n.name new.name) same in
-        absurd (not_placed n found (other_number n.parent new.parent folder.id parts.0 below)
-        ((bytes_eq-Decides n.name new.name).0 parts.1)))
-    | inr isnt ↦ isnt
-  ]
+  placed_before n found = grind (arith, nat_tests, bytes_eq-Decides, not_placed, other_number)
 
   placed_behind : (n : Node) → node_at old.read n.id ≡ Some n → same_place new n ≡ false
-  placed_behind n found = elim (cases_Bool (same_place new n)) [
-    | inl same ↦
-        (let parts = and_parts (same_parent new.parent n.parent) (same_text new.name n.name) same in
-        absurd (not_placed n found (same_number new.parent n.parent folder.id parts.0 below)
-        (sym ((bytes_eq-Decides new.name n.name).0 parts.1))))
-    | inr isnt ↦ isnt
-  ]
+  placed_behind n found = grind (arith, nat_tests, bytes_eq-Decides, not_placed, same_number)
 
   both_false : (t u : Bool) → u ≡ false → (t && u) ≡ false
   both_false true u is = is
@@ -197,28 +175,8 @@ module _ (old : Rows) (are : AreRows old) (were : AreSound old) (new folder : No
 
   name_stays : (n : Node) → node_at old.read n.id ≡ Some n → has_sound_name old.read n ≡ true
       → has_sound_name (after old are new bodies unused) n ≡ true
-  name_stays n found is = on (is_root n) is
-    where
-      on : (t : Bool)
-          → (t
-          || (is_object_name n.name
-          && not (list_any (λ other. nat_lt other.id n.id && same_place other n) old.read.nodes)))
-          ≡ true
-          → (t
-          || (is_object_name n.name
-          && not (list_any (λ other. nat_lt other.id n.id && same_place other n)
-          (put_node new old.read.nodes)))) ≡ true
-      on true is = refl
-      on false is =
-          let parts = and_parts (is_object_name n.name) _ is in
-          and_from (is_object_name n.name) _ parts.0
-          (ap not (any_none (λ other. nat_lt other.id n.id && same_place other n)
-          (put_node new old.read.nodes)
-          (each_put (λ other. (nat_lt other.id n.id && same_place other n) ≡ false) new
-          old.read.nodes unused
-          (each_fails (λ other. nat_lt other.id n.id && same_place other n) old.read.nodes
-          (not_false _ parts.1))
-          (both_false (nat_lt new.id n.id) (same_place new n) (placed_behind n found)))))
+  name_stays n found is =
+      grind (arith, nat_tests, any_none, both_false, each_fails, each_put, not_false, placed_behind)
 
   module _ (named : is_object_name new.name ≡ true) where
     new_named : has_sound_name (after old are new bodies unused) new ≡ true

@@ -3,11 +3,13 @@ use Rattle.std.proofs.Common.{◌≡◌, ℕ, List, [], ◌∷◌, ◌++◌, Opt
 use Rattle.std.specs.Prelude.{option_and_then}
 use Rattle.std.specs.Option.{option_map, option_map_or}
 use Rattle.room_rows.specs.declared.node.Node.{Node}
-use Rattle.room_rows.specs.Content.{Content, child_of, node_at, parent_of, root_of}
+use Rattle.room_rows.specs.Content.{Content, child_of, node_at, parent_of}
 use Rattle.room_rows.proofs.Frames.{Rises, child_of-is_there, child_of-parent, root_of-is_there}
 use Rattle.room_rows.proofs.Frames.{root_of-parent}
 use Rattle.room_machine.specs.Site.{Site, front, parent_at, site_at}
 use Rattle.room_machine.specs.Stored.{stored_along, stored_from, stored_site}
+use Rattle.std.proofs.Common.{arith}
+use Rattle.std.proofs.lemmas.Bool.Decides.{nat_tests}
 
 -- an object that is there
 abbrev pub Stands : Content → Node → Type 0
@@ -93,42 +95,17 @@ module _ (rows : Content) (rises : Rises rows) where
   -- along a path from the root
   pub target_stands : (path q : List (List ℕ)) (target : Node)
       → site_at (stored_along rows path) path ≡ Some (stored_site q target) → Stands rows target
-  target_stands path q target is =
-      on (root_of rows) (λ root found. root_of-is_there rows rises root found) is
-    where
-      on : (o : Option Node) → ((root : Node) → o ≡ Some root → Stands rows root)
-          → site_at (option_map_or (λ root. stored_from rows [] root path) o []) path
-          ≡ Some (stored_site q target) → Stands rows target
-      on None known is = absurd (let wrong : ⊥ = cc in wrong)
-      on (Some root) known is = end_stands path [] q root target (known root refl) is
+  target_stands path q target is = grind (arith, nat_tests, end_stands, root_of-is_there)
 
   pub target_above : (name : List ℕ) (names q : List (List ℕ)) (target : Node)
       → site_at (stored_along rows (name ∷ names)) (name ∷ names) ≡ Some (stored_site q target)
       → IsAbove (stored_along rows (name ∷ names)) (name ∷ names) target
-  target_above name names q target is =
-      on (root_of rows) (λ root found. root_of-is_there rows rises root found) is
-    where
-      on : (o : Option Node) → ((root : Node) → o ≡ Some root → Stands rows root)
-          → site_at (option_map_or (λ root. stored_from rows [] root (name ∷ names)) o [])
-          (name ∷ names) ≡ Some (stored_site q target)
-          → IsAbove (option_map_or (λ root. stored_from rows [] root (name ∷ names)) o [])
-          (name ∷ names) target
-      on None known is = absurd (let wrong : ⊥ = cc in wrong)
-      on (Some root) known is = end_above name names [] q root target (known root refl) is
+  target_above name names q target is = grind (arith, nat_tests, end_above, root_of-is_there)
 
   pub root_alone : (q : List (List ℕ)) (target : Node)
       → site_at (stored_along rows []) [] ≡ Some (stored_site q target)
       → parent_of rows target ≡ None
-  root_alone q target is = on (root_of rows) (λ root found. root_of-parent rows root found) is
-    where
-      on : (o : Option Node) → ((root : Node) → o ≡ Some root → root.parent ≡ None)
-          → site_at (option_map_or (λ root. stored_from rows [] root []) o []) []
-          ≡ Some (stored_site q target) → parent_of rows target ≡ None
-      on None known is = absurd (let wrong : ⊥ = cc in wrong)
-      on (Some root) known is =
-          ap (λ (n : Node). option_and_then (node_at rows) n.parent)
-          (sym (same_target [] q root target is))
-          ∙ ap (option_and_then (node_at rows)) (known root refl)
+  root_alone q target is = grind (arith, nat_tests, root_of-parent, same_target)
 
   -- the folder of the last name is what is above
   pub parent_paired : (path : List (List ℕ)) (folder : Site) (target : Node)

@@ -17,6 +17,8 @@ use Rattle.room_judge.specs.Judged.{IsJudged, name_after}
 use Rattle.room_desk.specs.Moving.{IsTaken, JudgesAll, begins, free_place}
 use Rattle.room_judge.proofs.Judging.{judged_none, passes_first, passes_on, refuses}
 use Rattle.room_judge.proofs.Spots.{name_is_last, take_front}
+use Rattle.std.proofs.Common.{arith}
+use Rattle.std.proofs.lemmas.Bool.Decides.{nat_tests}
 
 -- ---- in terms of the calls
 
@@ -26,16 +28,12 @@ module _ (to : List (List ℕ)) (is_below : Bool) (folder : Node) where
 
   whole : (why : Reason) (reply : Reply) (names : List (List ℕ)) → names ≡ to
       → reply ≡ Refused (take (length names) to) why → reply ≡ Refused to why
-  whole why reply names are replies =
-      replies ∙ ap (λ (l : List (List ℕ)). Refused (take (length l) to) why) are
-      ∙ ap (λ (p : List (List ℕ)). Refused p why) (take-length to)
+  whole why reply names are replies = grind (arith, nat_tests, take-length)
 
   taken_is : (depth : ℕ) (name : List ℕ) (old : Rows) (taken : Bool) → length to ≡ depth + 1
       → name ≡ name_after to depth → IsTaken folder.id name old taken
       → is_some (child_of old.read folder.id (last_name to)) ≡ taken
-  taken_is depth name old taken deep named is =
-      sym (is ∙ ap (λ (n : List ℕ). is_some (child_of old.read folder.id n))
-      (named ∙ name_is_last to depth deep))
+  taken_is depth name old taken deep named is = grind (arith, nat_tests, name_is_last)
 
   pub exists_refused : (old new : Rows) (reply : Reply) (taken : Bool) (names : List (List ℕ))
       (depth : ℕ) (name : List ℕ) → length to ≡ depth + 1 → name ≡ name_after to depth

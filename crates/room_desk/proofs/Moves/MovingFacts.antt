@@ -1,12 +1,11 @@
 -- What is known of a new folder once all that is judged there has passed.
-use Rattle.std.proofs.Common.{◌≡◌, ℕ, suc, ◌<◌, ◌==◌, Bool, true, false, cond, not, List, [], ◌∷◌}
+use Rattle.std.proofs.Common.{◌≡◌, ℕ, suc, ◌<◌, ◌==◌, Bool, true, false, cond, List, [], ◌∷◌}
 use Rattle.std.proofs.Common.{◌++◌, length, Option, Some, None, refl, sym, ap, ◌∙◌}
 use Rattle.std.specs.Prelude.{is_some}
 use Rattle.std.specs.List.{list_any}
 use Rattle.std.specs.Option.{option_map, option_map_or, option_and_then}
-use Rattle.std.proofs.lemmas.Bool.{and_from, or_parts, false≢true, not-false}
+use Rattle.std.proofs.lemmas.Bool.{or_parts, false≢true}
 use Rattle.std.proofs.lemmas.Option.{same_Some}
-use Rattle.room_entry.specs.Rights.{execute}
 use Rattle.room_entry.specs.declared.parties.Caller.{Caller}
 use Rattle.room_rows.specs.declared.node.Node.{Node}
 use Rattle.room_rows.specs.declared.node.AuditRow.{AuditRow}
@@ -17,19 +16,18 @@ use Rattle.room_rows.proofs.Frames.{Rises, child_of-is_there, child_of-parent, r
 use Rattle.room_rows.proofs.Frames.{root_of-parent}
 use Rattle.room_rows.specs.Sound.{AreSound}
 use Rattle.room_machine.specs.declared.reply.Reply.{Reply}
-use Rattle.room_machine.specs.declared.reply.Reply.TheVariants.{Refused}
-use Rattle.room_machine.specs.declared.reply.Reason.TheVariants.{Exists, Loop, NotFolder}
-use Rattle.room_machine.specs.Judge.{failure, first_failure, or_else}
+use Rattle.room_machine.specs.Judge.{first_failure}
 use Rattle.room_machine.specs.Site.{Site, site_at, parent_at, front, last_name}
-use Rattle.room_machine.specs.Plan.{Check, Deletion, Refusal, right_to_add}
 use Rattle.room_machine.specs.Stored.{stored_site, stored_from, stored_along}
 use Rattle.room_judge.specs.Judged.{with_notes}
-use Rattle.room_desk.specs.Moving.{CanGo, CanPlace, at_place, begins, free_place, goes_past}
+use Rattle.room_desk.specs.Moving.{CanGo, CanPlace, at_place, begins, goes_past}
 use Rattle.room_desk.proofs.Moves.MovingPlan.{along_noted}
 use Rattle.room_desk.proofs.Moves.OnePath.{met_by_names}
 use Rattle.room_desk.proofs.Steps.Serving.{along_there, none_both}
 use Rattle.room_desk.proofs.Sound.SoundParts.{sound_noted}
 use Rattle.room_judge.proofs.Spots.{below_of, folder_found, target_found}
+use Rattle.std.proofs.Common.{arith}
+use Rattle.std.proofs.lemmas.Bool.Decides.{nat_tests}
 
 -- ---- nothing failed
 
@@ -53,35 +51,7 @@ pub all_passed : (caller : Caller) (rows : Content) (to : List (List ℕ)) (is_b
     → None ≡ first_failure caller (at_place rows to is_below target from folder)
     → IsFree rows to is_below folder.node
 all_passed caller rows to is_below target from folder none =
-    let last : Option Reply = first_failure caller (Refusal to Loop is_below ∷ []) in
-    let fifth_rest : Option Reply = first_failure caller
-    (free_place rows to is_below folder.node) in
-    let fourth_rest : Option Reply = or_else
-    (failure caller (Check folder (right_to_add target.node ∷ []))) fifth_rest in
-    let third_rest : Option Reply = or_else (failure caller (Deletion target from)) fourth_rest in
-    let second_rest : Option Reply = or_else
-    (failure caller (Check folder (execute ∷ []))) third_rest in
-    let first = none_both
-    (failure caller (Refusal folder.path NotFolder (not (is_folder folder.node)))) second_rest
-    none in
-    let second = none_both (failure caller (Check folder (execute ∷ []))) third_rest first.1 in
-    let third = none_both (failure caller (Deletion target from)) fourth_rest second.1 in
-    let fourth = none_both
-    (failure caller (Check folder (right_to_add target.node ∷ []))) fifth_rest third.1 in
-    let fifth = none_both
-    (failure caller (Refusal to Exists (is_some (child_of rows folder.node.id (last_name to)))))
-    last fourth.1 in
-    let sixth = none_both (failure caller (Refusal to Loop is_below)) None fifth.1 in
-    record {
-      folder_is =
-          not-false (is_folder folder.node)
-          (refused_not (not (is_folder folder.node)) (Refused folder.path NotFolder) first.0);
-      name_is_free =
-          none_there (child_of rows folder.node.id (last_name to))
-          (refused_not (is_some (child_of rows folder.node.id (last_name to)))
-          (Refused to Exists) fifth.0);
-      none_above = refused_not is_below (Refused to Loop) sixth.0;
-    }
+    grind (arith, nat_tests, none_both, none_there, refused_not)
 
 -- ---- the way up from the folder
 
@@ -89,11 +59,7 @@ module _ (rows : Content) (rises : Rises rows) (t : ℕ) where
   -- from an object that isn't the other one up
   one_up : (node : Node) (n : ℕ) → node_at rows node.id ≡ Some node → (node.id == t) ≡ false
       → goes_past n rows t node.parent ≡ true → goes_past (suc n) rows t (Some node.id) ≡ true
-  one_up node n there isnt past =
-      and_from (not (node.id == t))
-      (option_map_or (λ (a : Node). goes_past n rows t a.parent) (node_at rows node.id) false)
-      (ap not isnt)
-      (ap (λ o. option_map_or (λ (a : Node). goes_past n rows t a.parent) o false) there ∙ past)
+  one_up node n there isnt past = grind (arith, nat_tests)
 
   past_from : (names path : List (List ℕ)) (node : Node) (n : ℕ) (site : Site)
       → goes_past n rows t node.parent ≡ true → node_at rows node.id ≡ Some node
@@ -213,16 +179,5 @@ pub placeable : (old : Rows) (records : List AuditRow) (path to : List (List ℕ
     → is_object_name (last_name to) ≡ true
     → CanGo target folder (last_name to) (with_notes old records)
     → CanPlace target folder (last_name to) (with_notes old records)
-placeable old records path to from target folder sound some above found named can = record {
-  are = can.are;
-  sound = sound_noted old records sound;
-  target_there = can.target_there;
-  folder_there = can.folder_there;
-  folder_is = can.folder_is;
-  parent = from.node.id;
-  has_parent = below_parent old.read path from (stored_site path target) some above found;
-  is_name = named;
-  is_free = can.is_free;
-  steps = can.steps;
-  past = can.past;
-}
+placeable old records path to from target folder sound some above found named can =
+    grind (arith, nat_tests, below_parent, sound_noted)

@@ -1,13 +1,13 @@
 -- The plan of a move, with the lists as rows store them.
 use Rattle.std.proofs.Common.{◌≡◌, ℕ, ◌==◌, Bool, true, false, List, [], ◌∷◌, ◌++◌, map, Option}
-use Rattle.std.proofs.Common.{Some, None, refl, sym, ap, subst, ◌∙◌}
+use Rattle.std.proofs.Common.{Some, None, refl, sym, ap, ◌∙◌}
 use Rattle.std.specs.Prelude.{is_some}
 use Rattle.std.specs.List.{list_any}
-use Rattle.std.specs.Option.{option_map, option_map_or}
+use Rattle.std.specs.Option.{option_map}
 use Rattle.std.proofs.lemmas.List.{map-append}
 use Rattle.room_rows.specs.declared.node.Node.{Node}
 use Rattle.room_rows.specs.declared.node.AuditRow.{AuditRow}
-use Rattle.room_rows.specs.Content.{Content, child_of, is_empty, root_of, with_records}
+use Rattle.room_rows.specs.Content.{Content, child_of, is_empty, with_records}
 use Rattle.room_rows.specs.Meaning.{kept_node, meaning}
 use Rattle.room_rows.specs.Rows.{Rows, AreRows}
 use Rattle.room_rows.proofs.InPlace.{child_of-with_each, keeps_places}
@@ -19,7 +19,7 @@ use Rattle.room_machine.specs.declared.request.Request.TheVariants.{Move}
 use Rattle.room_machine.specs.Site.{Site, site_at, sites_along, parent_at, front, last_name}
 use Rattle.room_machine.specs.Plan.{Item, Deletion, Refusal, plan_of, move_items, way, where_found}
 use Rattle.room_machine.specs.Plan.{to_target}
-use Rattle.room_machine.specs.Stored.{stored_site, stored_from, stored_along, to_stored}
+use Rattle.room_machine.specs.Stored.{stored_from, stored_along, to_stored}
 use Rattle.room_machine.specs.Stored.{stored_plan}
 use Rattle.room_judge.specs.Judged.{IsJudged, through, with_notes}
 use Rattle.room_desk.specs.Moving.{at_place, begins, rights_to_move}
@@ -29,6 +29,7 @@ use Rattle.room_desk.proofs.Steps.Serving.{along_there}
 use Rattle.room_desk.proofs.Sound.Sites.{fill, sites_filled}
 use Rattle.room_desk.proofs.Sound.SoundParts.{SoundParts}
 use Rattle.room_desk.proofs.Made.FolderPlans.{parent_filled}
+use Rattle.std.proofs.Common.{arith}
 
 -- ---- items over stored sites
 
@@ -68,9 +69,8 @@ module _ (old : Rows) (are : AreRows old) where
       ≡ move_items along old.read to target from
   items_stored path [] target from found = refl
   items_stored path (name ∷ names) target from found =
-      ap (λ t. stored_items old.read (name ∷ names) t target from)
-      (sym (met_by_names old.read are.numbers path (front (name ∷ names)) target
-      (along_there old.read are.numbers path target found) found))
+      rw (met_by_names old.read are.numbers path (front (name ∷ names)) target
+      (along_there old.read are.numbers path target found) found)
 
   move_stored_is : (path to : List (List ℕ))
       → stored_move old.read path to ≡ stored_plan old.read (Move path to)
@@ -89,7 +89,7 @@ module _ (old : Rows) (are : AreRows old) where
       → IsJudged asker (stored_move old.read path to) old answer new
       → IsJudged asker (stored_plan old.read (Move path to)) old answer new
   move_stored asker path to new answer judged =
-      subst (λ items. IsJudged asker items old answer new) (move_stored_is path to) judged
+      rw move_stored_is at judged
 
 -- ---- records don't matter
 
@@ -98,31 +98,11 @@ from_noted : (content : Content) (records : List AuditRow) (names path : List (L
     ≡ stored_from content path node names
 from_noted content records [] path node = refl
 from_noted content records (name ∷ names) path node =
-    ap (λ sites. stored_site path node ∷ sites)
-    (on (child_of content node.id name)
-    (λ child. from_noted content records names (path ++ name ∷ []) child))
-  where
-    on : (o : Option Node)
-        → ((child : Node) → stored_from (with_records content records)
-        (path ++ name ∷ []) child names ≡ stored_from content (path ++ name ∷ []) child names)
-        → option_map_or (λ child. stored_from (with_records content records)
-        (path ++ name ∷ []) child names) o []
-        ≡ option_map_or (λ child. stored_from content (path ++ name ∷ []) child names) o []
-    on None same = refl
-    on (Some child) same = same child
+    let next = from_noted content records names (path ++ name ∷ []) in grind arith
 
 pub along_noted : (content : Content) (records : List AuditRow) (path : List (List ℕ))
     → stored_along (with_records content records) path ≡ stored_along content path
-along_noted content records path =
-    on (root_of content) (λ root. from_noted content records path [] root)
-  where
-    on : (o : Option Node)
-        → ((root : Node) → stored_from (with_records content records) [] root path
-        ≡ stored_from content [] root path)
-        → option_map_or (λ root. stored_from (with_records content records) [] root path) o []
-        ≡ option_map_or (λ root. stored_from content [] root path) o []
-    on None same = refl
-    on (Some root) same = same root
+along_noted content records path = let each = from_noted content records path [] in grind arith
 
 pub way_noted : (old : Rows) (records : List AuditRow) (to : List (List ℕ)) (is_below : Bool)
     (target from : Site)
@@ -130,9 +110,7 @@ pub way_noted : (old : Rows) (records : List AuditRow) (to : List (List ℕ)) (i
     (at_place (with_notes old records).read to is_below target from)
     ≡ to_stored old.read (front to) (at_place old.read to is_below target from)
 way_noted old records to is_below target from =
-    ap (λ sites. way false sites (front to)
-    ++ where_found (site_at sites (front to)) (at_place old.read to is_below target from))
-    (along_noted old.read records (front to))
+    rw along_noted
 
 -- ---- the plan
 
@@ -151,30 +129,20 @@ module _ (old : Rows) (are : AreRows old) (parts : SoundParts old) where
       → items (fill site) ≡ map fill_item (others site))
       → to_stored old.read path items ≡ map fill_item (to_target means path others)
   filled_with path items others same =
-      ap (λ sites. way false sites path ++ where_found (site_at sites path) items)
-      (sym (sites_filled old are parts path))
-      ∙ ap (λ w. w ++ where_found (site_at (map fill (sites_along means path)) path) items)
-      (way_filled false (sites_along means path) path)
-      ∙ ap (λ o. map fill_item (way false (sites_along means path) path) ++ where_found o items)
-      (site_filled (sites_along means path) path)
-      ∙ ap (λ rest. map fill_item (way false (sites_along means path) path) ++ rest)
-      (found_filled (site_at (sites_along means path) path) items others same)
-      ∙ sym (map-append fill_item (way false (sites_along means path) path)
-      (where_found (site_at (sites_along means path) path) others))
+      rw (
+        ← sites_filled old are parts path,
+        way_filled,
+        site_filled,
+        found_filled (site_at (sites_along means path) path) items others same,
+        map-append,
+      )
 
   child_kept : (id : ℕ) (name : List ℕ)
       → is_some (child_of old.read id name) ≡ is_some (child_of means id name)
   child_kept id name =
-      sym (ap is_some (child_of-with_each old.read kept
-      (keeps_places old.read kept (λ n. record { number = refl; parent = refl; name = refl })) id
-      name) ∙ on (child_of old.read id name))
-    where
-      kept : Node → Node
-      kept node = kept_node old.read node
-
-      on : (o : Option Node) → is_some (option_map kept o) ≡ is_some o
-      on None = refl
-      on (Some child) = refl
+      let same = child_of-with_each old.read (kept_node old.read)
+      (keeps_places old.read (kept_node old.read)
+      (λ n. record { number = refl; parent = refl; name = refl })) id name in grind arith
 
   -- the way to the new folder meets the object exactly if it begins with its path
   met_kept : (path others : List (List ℕ)) (target : Site)
@@ -182,14 +150,11 @@ module _ (old : Rows) (are : AreRows old) (parts : SoundParts old) where
       → begins path others
       ≡ list_any (λ (site : Site). site.node.id == target.node.id) (sites_along means others)
   met_kept path others target found =
-      let stored : site_at (stored_along old.read path) path ≡ Some (fill target) = ap
-      (λ sites. site_at sites path) (sym (sites_filled old are parts path))
-      ∙ site_filled (sites_along means path) path ∙ ap (option_map fill) found in
+      let stored : site_at (stored_along old.read path) path ≡ Some (fill target) =
+      rw (← sites_filled old are parts path, site_filled, found) in
       sym (met_by_names old.read are.numbers path others (fill target)
       (along_there old.read are.numbers path (fill target) stored) stored)
-      ∙ ap (list_any (λ (site : Site). site.node.id == target.node.id))
-      (sym (sites_filled old are parts others))
-      ∙ any_map (λ (site : Site). site.node.id == target.node.id) fill (sites_along means others)
+      ∙ rw (← sites_filled old are parts others, any_map)
 
   abbrev planned_place : List (List ℕ) → Site → Site → Site → List Item
   planned_place to target from folder =
@@ -204,12 +169,7 @@ module _ (old : Rows) (are : AreRows old) (parts : SoundParts old) where
       → at_place old.read to is_below (fill target) (fill from) (fill folder)
       ≡ map fill_item (planned_place to target from folder)
   place_filled to is_below target from folder below =
-      ap (λ t. (through (fill folder) ++ rights_to_move (fill target) (fill from) (fill folder))
-      ++ Refusal to Exists t ∷ Refusal to Loop is_below ∷ [])
-      (child_kept folder.node.id (last_name to))
-      ∙ ap (λ t. (through (fill folder) ++ rights_to_move (fill target) (fill from) (fill folder))
-      ++ Refusal to Exists (is_some (child_of means folder.node.id (last_name to)))
-      ∷ Refusal to Loop t ∷ []) below
+      rw (child_kept folder.node.id (last_name to), below)
 
   items_filled : (to : List (List ℕ)) (is_below : Bool) (target from : Site)
       → is_below ≡ list_any (λ (site : Site). site.node.id == target.node.id)
@@ -229,25 +189,21 @@ module _ (old : Rows) (are : AreRows old) (parts : SoundParts old) where
       ≡ map fill_item (Refusal path Root (is_empty path)
       ∷ where_found (parent_at (sites_along means path) path) (move_items (sites_along means) means to target))
   found_here path to target found =
-      ap (λ items. Refusal path Root (is_empty path) ∷ items)
-      (ap (λ sites. where_found (parent_at sites path)
-      (stored_items old.read to (begins path (front to)) (fill target)))
-      (sym (sites_filled old are parts path))
-      ∙ ap (λ o. where_found o (stored_items old.read to (begins path (front to)) (fill target)))
-      (parent_filled (sites_along means path) path)
-      ∙ found_filled (parent_at (sites_along means path) path)
-      (stored_items old.read to (begins path (front to)) (fill target)) (move_items (sites_along means) means to target)
-      (λ from known. items_filled to (begins path (front to)) target from
-      (met_kept path (front to) target found)))
+      rw (
+        ← sites_filled old are parts path,
+        parent_filled,
+        found_filled (parent_at (sites_along means path) path)
+            (stored_items old.read to (begins path (front to)) (fill target)) (move_items (sites_along means) means to target)
+            (λ from known. items_filled to (begins path (front to)) target from
+            (met_kept path (front to) target found)),
+      )
 
   pub move_judged : (asker : Asker) (path to : List (List ℕ)) (new : Rows) (answer : Option Reply)
       → IsJudged asker (stored_move old.read path to) old answer new
       → IsJudged asker (plan_of means (Move path to)) old answer new
   move_judged asker path to new answer judged =
       judged_filled asker (plan_of means (Move path to)) old new answer
-      (subst (λ items. IsJudged asker items old answer new)
-      (filled_with path (at_found old.read path to)
+      (rw (filled_with path (at_found old.read path to)
       (λ target. Refusal path Root (is_empty path)
       ∷ where_found (parent_at (sites_along means path) path) (move_items (sites_along means) means to target))
-      (found_here path to))
-      judged)
+      (found_here path to)) at judged)

@@ -3,7 +3,6 @@ use Rattle.std.proofs.Common.{◌≡◌, ℕ, ◌<◌, ◌==◌, Bool, true, fal
 use Rattle.std.proofs.Common.{take, Option, Some, None, refl, sym, ap, subst, ◌∙◌, arith}
 use Rattle.std.proofs.Common.{Result, Ok, Err}
 use Rattle.std.specs.Option.{option_map_or}
-use Rattle.std.proofs.lemmas.Bool.{eqb-true}
 use Rattle.std.proofs.Math.Seq.{take-length}
 use Rattle.room_rows.specs.declared.node.Node.{Node}
 use Rattle.room_rows.specs.declared.node.AuditRow.{AuditRow}
@@ -46,6 +45,7 @@ use Rattle.room_desk.proofs.Sound.SoundParts.{sound_parts}
 use Rattle.room_desk.proofs.Steps.Stepping.{changed_step, refused_step}
 use Rattle.room_judge.proofs.Spots.{last_of}
 use Rattle.room_judge.specs.declared.arrival.Both.{Both}
+use Rattle.std.proofs.lemmas.Bool.Decides.{nat_tests}
 
 -- ---- at the root, and where the way ends
 
@@ -126,11 +126,7 @@ module _ (asker : Asker) (path to : List (List ℕ)) (from target : Found) (old 
   target_is = paired.target ∙ ap (λ p. Some (stored_site p target.node)) (sym whole)
 
   not_root : is_empty path ≡ false
-  not_root = on path some
-    where
-      on : (p : List (List ℕ)) → 0 < length p → is_empty p ≡ false
-      on [] some = absurd (let wrong : ⊥ = omega arith in wrong)
-      on (name ∷ names) some = refl
+  not_root = grind (arith, nat_tests, some)
 
   with_items : (new : Rows) (answer : Option Reply)
       → IsJudged asker (stored_items old.read to is_below target_site from_site) mid answer new
@@ -174,10 +170,7 @@ module _ (asker : Asker) (path to : List (List ℕ)) (from target : Found) (old 
   module _ (some_to : 0 < length to) where
     at_first : to_stored mid.read (front to) (at_place mid.read to is_below target_site from_site)
         ≡ to_stored old.read (front to) (at_place old.read to is_below target_site from_site)
-    at_first =
-        ap (λ (r : Rows). to_stored r.read (front to)
-        (at_place r.read to is_below target_site from_site)) paired.judged.notes
-        ∙ way_noted old on_way to is_below target_site from_site
+    at_first = grind (arith, nat_tests, way_noted)
 
     pub place_ended : (new : Rows) (reply : Reply)
         → IsReached asker (front to) (at_place mid.read to is_below target_site from_site) mid
@@ -197,10 +190,7 @@ module _ (asker : Asker) (path to : List (List ℕ)) (from target : Found) (old 
       folder_site = stored_site (front to) folder
 
       folder_is : site_at (stored_along old.read (front to)) (front to) ≡ Some folder_site
-      folder_is =
-          sym (ap (λ (r : Rows). site_at (stored_along r.read (front to)) (front to))
-          paired.judged.notes ∙ ap (λ sites. site_at sites (front to))
-          (along_noted old.read on_way (front to))) ∙ reached.found
+      folder_is = grind (arith, nat_tests, along_noted)
 
       judged_here : IsJudged asker
           (to_stored old.read (front to) (at_place old.read to is_below target_site from_site)) mid
@@ -244,9 +234,7 @@ module _ (asker : Asker) (path to : List (List ℕ)) (from target : Found) (old 
           paired.target (ap is_object_name (sym is_last) ∙ named) can_go))
 
       go_on : CanGo target.node folder name last
-      go_on =
-          subst (λ (r : Rows). CanGo target.node folder name r) (sym judged_all.notes)
-          (subst (λ n. CanGo target.node folder n (with_notes old judgements)) (sym is_last) can_go)
+      go_on = grind (arith, nat_tests, can_go, judged_all)
 
       pub never_unplaced : (row : ℕ) → FailsToPlace target.node folder name last row
           → IsDamaged old row
@@ -322,9 +310,7 @@ module _ (asker : Asker) (path to : List (List ℕ)) (from target : Found) (old 
 pub empty_path : (path : List (List ℕ)) (is_root : Bool) → is_root ≡ (length path == 0)
     → is_root ≡ true → path ≡ []
 empty_path [] is_root is root = refl
-empty_path (name ∷ names) is_root is root = let none : length (name ∷ names) ≡ 0 =
-    eqb-true (length (name ∷ names)) 0 (sym is ∙ root) in
-    absurd (let wrong : ⊥ = omega arith in wrong)
+empty_path (name ∷ names) is_root is root = grind (arith, nat_tests)
 
 pub some_last : (to rest : List (List ℕ)) (name : List ℕ) → to ≡ rest ++ name ∷ [] → 0 < length to
 some_last to rest name is = subst (λ (p : List (List ℕ)). 0 < length p) (sym is) (on rest)
@@ -341,9 +327,7 @@ name_is to rest name text is same = same ∙ sym (ap last_name is ∙ last_of re
 pub rooted_pair : (asker : Asker) (path : List (List ℕ)) (root : Node) (pair : Result Both Reply)
     (old mid new : Rows) → root_of old.read ≡ Some root → mid ≡ old
     → FromRoot root (IsPaired asker path) mid pair new → IsPaired asker path old pair new
-rooted_pair asker path root pair old mid new is same paired =
-    subst (λ (r : Rows). IsPaired asker path r pair new) same
-    (paired (ap (λ (r : Rows). root_of r.read) same ∙ is))
+rooted_pair asker path root pair old mid new is same paired = grind (arith, nat_tests)
 
 -- records leave the root where it was
 pub root_after : (asker : Asker) (path : List (List ℕ)) (root : Node) (pair : Result Both Reply)

@@ -14,15 +14,15 @@ use Rattle.room_judge.specs.Judged.{IsJudged, IsReached}
 use Rattle.room_desk.specs.Moving.{at_place}
 use Rattle.room_judge.proofs.Spots.{take_front}
 use Rattle.room_judge.proofs.Ways.{reaches_with, unless}
+use Rattle.std.proofs.Common.{arith}
+use Rattle.std.proofs.lemmas.Bool.Decides.{nat_tests}
 
 -- the way without the last name
 pub front_reached : (asker : Asker) (to : List (List ℕ)) (depth : ℕ) (outcome : Result Node Reply)
     (old new : Rows) → length to ≡ depth + 1
     → IsReached asker (take depth to) (λ _. []) old outcome new
     → IsReached asker (front to) (λ _. []) old outcome new
-front_reached asker to depth outcome old new deep reached =
-    subst (λ (p : List (List ℕ)). IsReached asker p (λ _. []) old outcome new)
-    (take_front to depth deep) reached
+front_reached asker to depth outcome old new deep reached = grind (arith, nat_tests, take_front)
 
 -- the walk comes to the folder, or ends with the reply of what is judged there
 pub place_reached : (asker : Asker) (to : List (List ℕ)) (is_below : Bool) (target from : Site)

@@ -5,7 +5,7 @@ use Rattle.std.proofs.Common.{ap, subst, ◌∙◌, inl, inr, append_assoc, arit
 use Rattle.std.specs.Prelude.{option_and_then}
 use Rattle.std.specs.List.{list_any}
 use Rattle.std.specs.Option.{option_map_or}
-use Rattle.std.proofs.lemmas.Bool.{and_from, and_parts, eq-eqb, eqb-true, false≢true, and_right}
+use Rattle.std.proofs.lemmas.Bool.{and_parts, eq-eqb, eqb-true, false≢true, and_right}
 use Rattle.std.proofs.lemmas.Bool.{or_cases, or_left, or_right}
 use Rattle.std.proofs.lemmas.List.{append-nil, drop_more, get_or_read}
 use Rattle.std.proofs.Math.Seq.{drop-length}
@@ -22,12 +22,11 @@ use Rattle.room_machine.specs.Site.{Site, site_at}
 use Rattle.room_machine.specs.Stored.{stored_site, stored_from, stored_along}
 use Rattle.room_desk.specs.Moving.{begins}
 use Rattle.room_entry.proofs.Facts.Booleans.{same_truth}
+use Rattle.std.proofs.lemmas.Bool.Decides.{nat_tests}
 
 begins_more : (names rest : List (List ℕ)) → begins names (names ++ rest) ≡ true
 begins_more [] rest = refl
-begins_more (name ∷ names) rest =
-    and_from (same_text name name) (begins names (names ++ rest)) (text_itself name)
-    (begins_more names rest)
+begins_more (name ∷ names) rest = grind (arith, nat_tests, text_itself, begins_more names rest)
 
 -- ---- comparing name by name
 
@@ -42,9 +41,7 @@ too_many (name ∷ names) (other ∷ others) more =
 module _ (names others : List (List ℕ)) (i : ℕ)
     (sofar : begins (drop i names) (drop i others) ≡ begins names others) where
   pub all_compared : i ≡ length names → true ≡ begins names others
-  all_compared end =
-      sym (ap (λ l. begins l (drop i others))
-      (ap (λ (n : ℕ). drop n names) end ∙ drop-length names)) ∙ sofar
+  all_compared end = grind (arith, nat_tests, drop-length)
 
   module _ (below : i < length names) (fits : length names ≤ length others) (name other : List ℕ)
       (name_is : name ≡ get_or names i name) (other_is : other ≡ get_or others i other) where
@@ -53,24 +50,14 @@ module _ (names others : List (List ℕ)) (i : ℕ)
 
     one_further : begins (drop i names) (drop i others)
         ≡ (same_text name other && begins (drop (i + 1) names) (drop (i + 1) others))
-    one_further =
-        ap (λ l. begins l (drop i others))
-        (drop_more names i [] below
-        ∙ ap (λ n. n ∷ drop (i + 1) names) (sym (get_or_read names i name below name_is [])))
-        ∙ ap (λ l. begins (name ∷ drop (i + 1) names) l)
-        (drop_more others i [] within
-        ∙ ap (λ n. n ∷ drop (i + 1) others) (sym (get_or_read others i other within other_is [])))
+    one_further = grind (arith, nat_tests, drop_more, get_or_read, within)
 
     pub one_differs : false ≡ same_text name other → false ≡ begins names others
-    one_differs differs =
-        ap (λ t. t && begins (drop (i + 1) names) (drop (i + 1) others)) differs ∙ sym one_further
-        ∙ sofar
+    one_differs differs = grind (arith, nat_tests, one_further)
 
     pub one_same : true ≡ same_text name other
         → begins (drop (i + 1) names) (drop (i + 1) others) ≡ begins names others
-    one_same same =
-        ap (λ t. t && begins (drop (i + 1) names) (drop (i + 1) others)) same ∙ sym one_further
-        ∙ sofar
+    one_same same = grind (arith, nat_tests, one_further)
 
 -- ---- one path
 
@@ -163,16 +150,7 @@ module _ (rows : Content) (rises : Rises rows) where
     pub met_along : (path : List (List ℕ)) → meets (stored_along rows path) ≡ true
         → begins front path ≡ true
     met_along path met =
-        on (root_of rows) (λ root is. met_from path [] root (root_of-is_there rows rises root is)
-        (up_root root (root_of-parent rows root is))) met
-      where
-        on : (o : Option Node)
-            → ((root : Node) → o ≡ Some root → meets (stored_from rows [] root path) ≡ true
-            → begins front path ≡ true)
-            → meets (option_map_or (λ root. stored_from rows [] root path) o []) ≡ true
-            → begins front path ≡ true
-        on None known met = absurd (false≢true met)
-        on (Some root) known met = known root refl met
+        grind (arith, nat_tests, met_from, root_of-is_there, root_of-parent, up_root)
 
   -- ---- where an object is found
 
@@ -253,14 +231,7 @@ module _ (rows : Content) (rises : Rises rows) where
   begun_along : (names others : List (List ℕ)) (site : Site)
       → site_at (stored_along rows names) names ≡ Some site → begins names others ≡ true
       → list_any (λ (s : Site). s.node.id == site.node.id) (stored_along rows others) ≡ true
-  begun_along names others site is begun = on (root_of rows) is
-    where
-      on : (o : Option Node)
-          → site_at (option_map_or (λ root. stored_from rows [] root names) o []) names ≡ Some site
-          → list_any (λ (s : Site). s.node.id == site.node.id)
-          (option_map_or (λ root. stored_from rows [] root others) o []) ≡ true
-      on None is = absurd (let wrong : ⊥ = cc in wrong)
-      on (Some root) is = begun_from names others [] root site is begun
+  begun_along names others site is begun = grind (arith, nat_tests, begun_from)
 
   -- A way meets the object of a path exactly if it begins with the path.
   pub met_by_names : (path others : List (List ℕ)) (site : Site)
@@ -269,6 +240,4 @@ module _ (rows : Content) (rises : Rises rows) where
       → list_any (λ (s : Site). s.node.id == site.node.id) (stored_along rows others)
       ≡ begins path others
   met_by_names path others site there is =
-      same_truth (list_any (λ (s : Site). s.node.id == site.node.id) (stored_along rows others))
-      (begins path others) (met_along site.node there path (up_along path site is) others)
-      (begun_along path others site is)
+      grind (arith, nat_tests, begun_along, met_along, same_truth, up_along)

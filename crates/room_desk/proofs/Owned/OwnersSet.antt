@@ -2,7 +2,6 @@
 use Rattle.std.proofs.Common.{◌≡◌, ℕ, ◌⊎◌, ◌&&◌, true, List, [], ◌∷◌, Some, None, refl, sym, ap}
 use Rattle.std.proofs.Common.{subst, ◌∙◌, inl, inr}
 use Rattle.std.proofs.Common.{Ok}
-use Rattle.std.proofs.lemmas.Bool.{and_from, and_parts}
 use Rattle.std.proofs.lemmas.Slice.Eq.{bytes_eq-Decides}
 use Rattle.std.specs.Option.{option_map}
 use Rattle.room_entry.specs.Pieces.{same_text}
@@ -30,36 +29,25 @@ use Rattle.room_desk.proofs.Owned.SoundOwners.{owned, owned_means, put_owned, so
 use Rattle.room_desk.proofs.Sound.Filled.{plan_judged, target_there}
 use Rattle.room_desk.proofs.Steps.Stepping.{changed_step}
 use Rattle.room_desk.proofs.Steps.Serving.{CheckAt, along_there}
+use Rattle.std.proofs.Common.{arith}
+use Rattle.std.proofs.lemmas.Bool.Decides.{nat_tests}
 
 -- ---- owners that are the same
 
 pub equal_owners : (a b : Owners) → (same_text a.owner b.owner && same_text a.group b.group) ≡ true
     → a ≡ b
-equal_owners a b same =
-    let parts = and_parts (same_text a.owner b.owner) (same_text a.group b.group) same in
-    λ i. record {
-      owner = (bytes_eq-Decides a.owner b.owner).0 parts.0 i;
-      group = (bytes_eq-Decides a.group b.group).0 parts.1 i;
-    }
+equal_owners a b same = grind (arith, nat_tests, bytes_eq-Decides)
 
 pub owners_themselves : (a b : Owners) → a ≡ b
     → (same_text a.owner b.owner && same_text a.group b.group) ≡ true
-owners_themselves a b same =
-    and_from (same_text a.owner b.owner) (same_text a.group b.group)
-    ((bytes_eq-Decides a.owner b.owner).1 (ap (λ (o : Owners). o.owner) same))
-    ((bytes_eq-Decides a.group b.group).1 (ap (λ (o : Owners). o.group) same))
+owners_themselves a b same = grind (arith, nat_tests, bytes_eq-Decides)
 
 -- to give an object the owners that it has changes nothing
 unchanged : (rows new : Rows) (owners : Owners) (node : Node) → Rises rows.read
     → node_at rows.read node.id ≡ Some node → owners ≡ node.owners → new ≡ rows
     → Changes node.id (with_owners owners) rows new
 unchanged rows new owners node rises there same stays other found =
-    let it : Some node ≡ Some other = sym there ∙ found in
-    let here : node ≡ other = cc in
-    stays
-    ∙ ap (with_content rows) (sym (with_node-there rows.read rises node there))
-    ∙ ap (λ (o : Owners). with_content rows (with_node rows.read (with_owners o node))) (sym same)
-    ∙ ap (λ (n : Node). with_content rows (with_node rows.read (with_owners owners n))) here
+    grind (arith, nat_tests, with_node-there)
 
 -- ---- the request
 

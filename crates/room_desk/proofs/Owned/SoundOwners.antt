@@ -1,5 +1,5 @@
 -- Rows stay sound where an object gets other owners, and what they mean changes likewise.
-use Rattle.std.proofs.Common.{◌≡◌, ℕ, ◌==◌, Bool, true, cond, ◌&&◌, List, [], ◌∷◌, map}
+use Rattle.std.proofs.Common.{◌≡◌, ℕ, ◌==◌, Bool, cond, List, [], ◌∷◌, map}
 use Rattle.std.proofs.Common.{Option, Some, None, refl, sym, ap, ◌∙◌, inl, inr}
 use Rattle.std.specs.Prelude.{if◌then◌else◌}
 use Rattle.std.specs.Option.{option_map, option_map_or}
@@ -8,7 +8,6 @@ use Rattle.room_entry.specs.declared.object.Which.{Which}
 use Rattle.room_entry.specs.declared.object.Which.TheVariants.{Dacl, Sacl}
 use Rattle.room_entry.specs.declared.parties.Owners.{Owners}
 use Rattle.room_rows.specs.declared.node.Node.{Node}
-use Rattle.room_rows.specs.Held.{held_of, is_linked}
 use Rattle.room_rows.specs.Content.{Content, node_at, parent_of, is_linked_in, with_each, with_node}
 use Rattle.room_rows.specs.Finding.{find_id}
 use Rattle.room_rows.specs.Keep.{with_content, with_owners}
@@ -19,11 +18,12 @@ use Rattle.room_rows.proofs.InPlace.{with_node-replaces, place-with_owners}
 use Rattle.room_rows.proofs.Lookups.{each_found}
 use Rattle.room_rows.proofs.SamePlace.{IsSamePlace, replaced, replaced_here}
 use Rattle.room_rows.proofs.SamePlace.{replaced_elsewhere}
-use Rattle.room_rows.specs.Law.{agrees_with, agrees}
 use Rattle.room_rows.specs.Sound.{AreSound, keeps_law}
 use Rattle.room_inherit.proofs.NoFault.{no_fault, sound_checked}
 use Rattle.room_inherit.proofs.Unmoved.{above, all_kept, still_sound}
 use Rattle.room_desk.proofs.Sound.SoundParts.{map_same}
+use Rattle.std.proofs.Common.{arith}
+use Rattle.std.proofs.lemmas.Bool.Decides.{nat_tests}
 
 -- the object, with these owners where it has the number
 abbrev pub owned : ℕ → Owners → Node → Node
@@ -86,41 +86,19 @@ module _ (content : Content) (id : ℕ) (owners : Owners) where
   above_kept : {A : Type 0} (f g : Node → A) → ((n : Node) → f (change n) ≡ g n)
       → (d : A) (n : Node)
       → option_map_or f (parent_of after (change n)) d ≡ option_map_or g (parent_of content n) d
-  above_kept f g same d n =
-      ap (λ o. option_map_or f o d) (above_changed n)
-      ∙ test_kept change f g same d (parent_of content n)
+  above_kept f g same d n = grind (arith, nat_tests, above_changed, test_kept)
 
   -- ---- the law
 
   laws : (n : Node) → keeps_law after (change n) ≡ keeps_law content n
-  laws n =
-      ap (λ t. t && agrees after Sacl (change n))
-      (above_kept (agrees_with Dacl (change n)) (agrees_with Dacl n) (λ m. refl) true n)
-      ∙ ap (λ t. agrees content Dacl n && t)
-      (above_kept (agrees_with Sacl (change n)) (agrees_with Sacl n) (λ m. refl) true n)
+  laws n = grind (arith, nat_tests, above_kept)
 
   -- ---- what the rows mean
 
   links : (which : Which) (n : Node)
       → is_linked_in after which (change n) ≡ is_linked_in content which n
-  links Dacl n =
-      ap (λ o. is_linked n.dacl (option_map (held_of Dacl) o))
-      (above_changed n) ∙ on (parent_of content n)
-    where
-      on : (o : Option Node)
-          → is_linked n.dacl (option_map (held_of Dacl) (option_map change o))
-          ≡ is_linked n.dacl (option_map (held_of Dacl) o)
-      on None = refl
-      on (Some m) = refl
-  links Sacl n =
-      ap (λ o. is_linked n.sacl (option_map (held_of Sacl) o))
-      (above_changed n) ∙ on (parent_of content n)
-    where
-      on : (o : Option Node)
-          → is_linked n.sacl (option_map (held_of Sacl) (option_map change o))
-          ≡ is_linked n.sacl (option_map (held_of Sacl) o)
-      on None = refl
-      on (Some m) = refl
+  links Dacl n = grind (arith, nat_tests, above_changed)
+  links Sacl n = grind (arith, nat_tests, above_changed)
 
   kept : (n : Node) → kept_node after (change n) ≡ change (kept_node content n)
   kept n =

@@ -1,5 +1,5 @@
 -- Ways up to the root, where one object gets another parent.
-use Rattle.std.proofs.Common.{◌≡◌, ℕ, zero, suc, ◌==◌, Bool, true, false, cond, not, List, [], ◌∷◌}
+use Rattle.std.proofs.Common.{◌≡◌, ℕ, zero, suc, ◌==◌, Bool, true, false, not, List, [], ◌∷◌}
 use Rattle.std.proofs.Common.{map, Option, Some, None, refl, ap, ◌∙◌, inl, inr}
 use Rattle.std.specs.List.{find}
 use Rattle.std.specs.Option.{option_map, option_map_or}
@@ -8,6 +8,8 @@ use Rattle.room_rows.specs.declared.node.Node.{Node}
 use Rattle.room_rows.specs.Content.{Content, node_at, reaches_root, with_each}
 use Rattle.room_rows.proofs.Frames.{node_at-number}
 use Rattle.room_desk.specs.Moving.{goes_past}
+use Rattle.std.proofs.Common.{arith}
+use Rattle.std.proofs.lemmas.Bool.Decides.{nat_tests}
 
 -- an object of this number, and the rest of the way
 pub step_up : (p : Node → Bool) (o : Option Node) → option_map_or p o false ≡ true → (node : Node)
@@ -21,17 +23,7 @@ module _ (content : Content) (change : Node → Node)
       → find (λ (n : Node). n.id == id) (map change nodes)
       ≡ option_map change (find (λ (n : Node). n.id == id) nodes)
   find_changed id [] = refl
-  find_changed id (x ∷ xs) =
-      ap (λ (i : ℕ). cond (i == id) (Some (change x))
-      (find (λ (n : Node). n.id == id) (map change xs))) (number x)
-      ∙ on (x.id == id) (find_changed id xs)
-    where
-      on : (t : Bool) → find (λ (n : Node). n.id == id) (map change xs)
-          ≡ option_map change (find (λ (n : Node). n.id == id) xs)
-          → cond t (Some (change x)) (find (λ (n : Node). n.id == id) (map change xs))
-          ≡ option_map change (cond t (Some x) (find (λ (n : Node). n.id == id) xs))
-      on true rest = refl
-      on false rest = rest
+  find_changed id (x ∷ xs) = grind (arith, nat_tests, find_changed id xs)
 
   -- the same numbers are found
   pub node_at-changed : (id : ℕ)

@@ -1,8 +1,7 @@
 -- What rows mean where an object gets another place, and lists that aren't linked are as before.
 use Rattle.std.proofs.Common.{◌≡◌, ℕ, ◌==◌, Bool, true, false, cond, List, [], map, Some, refl, sym}
-use Rattle.std.proofs.Common.{ap, ◌∙◌, inl, inr}
+use Rattle.std.proofs.Common.{ap, ◌∙◌}
 use Rattle.std.specs.Option.{option_map}
-use Rattle.std.proofs.lemmas.Bool.{cases_Bool, eqb-true, eqb-false}
 use Rattle.room_entry.specs.Ace.{Ace}
 use Rattle.room_entry.specs.declared.object.Which.{Which}
 use Rattle.room_entry.specs.declared.object.Which.TheVariants.{Dacl, Sacl}
@@ -24,6 +23,8 @@ use Rattle.room_desk.proofs.Placed.Climbing.{node_at-changed}
 use Rattle.room_desk.proofs.Placed.PlacedLinks.{linked_elsewhere, linked_here}
 use Rattle.room_desk.proofs.Placed.PlacedParts.{apart, lists}
 use Rattle.room_desk.proofs.Placed.PlacedTree.{after, change, is_target}
+use Rattle.std.proofs.Common.{arith}
+use Rattle.std.proofs.lemmas.Bool.Decides.{nat_tests}
 
 -- ---- the entries that one list keeps
 
@@ -31,16 +32,12 @@ use Rattle.room_desk.proofs.Placed.PlacedTree.{after, change, is_target}
 pub kept_same : (l m : Bool) (held : Held) (x : List Ace) → l ≡ m → (l ≡ false → x ≡ held.inh)
     → kept_held l (record held { inh = x }) ≡ kept_held m held
 kept_same l true held x same known = ap (λ b. kept_held b (record held { inh = x })) same
-kept_same l false held x same known =
-    ap (λ b. kept_held b (record held { inh = x })) same
-    ∙ ap (λ (e : List Ace). record held { inh = e }) (known same)
+kept_same l false held x same known = grind (arith, nat_tests)
 
 pub kept_moved : (l m : Bool) (held : Held) (x : List Ace) → l ≡ m → (l ≡ false → x ≡ held.inh)
     → kept_held l (record held { inh = x }) ≡ record held { inh = cond m [] held.inh }
 kept_moved l true held x same known = ap (λ b. kept_held b (record held { inh = x })) same
-kept_moved l false held x same known =
-    ap (λ b. kept_held b (record held { inh = x })) same
-    ∙ ap (λ (e : List Ace). record held { inh = e }) (known same)
+kept_moved l false held x same known = grind (arith, nat_tests)
 
 module _ (old : Rows) (target folder : Node) (name : List ℕ) (can : CanPlace target folder name old)
     (d s : Node → List Ace)
@@ -140,13 +137,16 @@ module _ (old : Rows) (target folder : Node) (name : List ℕ) (can : CanPlace t
 
   each_kept : (n : Node) → is_there n
       → kept_node now (moved n) ≡ replaced placed_node (kept_node before n)
-  each_kept n there = elim (cases_Bool (n.id == target.id)) [
-    | inl is ↦ kept_here n there is
-        ∙ ap placed_as (is_target old target folder name can d s n there is)
-        ∙ sym (replaced_here placed_node (kept_node before n) (eqb-true n.id target.id is))
-    | inr isnt ↦ kept_elsewhere n there isnt
-        ∙ sym (replaced_elsewhere placed_node (kept_node before n) (eqb-false n.id target.id isnt))
-  ]
+  each_kept n there =
+      grind (
+        arith,
+        nat_tests,
+        is_target,
+        kept_elsewhere,
+        kept_here,
+        replaced_elsewhere,
+        replaced_here,
+      )
 
   abbrev kept_before : Node → Node
   kept_before n = kept_node before n

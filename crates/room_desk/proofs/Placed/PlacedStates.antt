@@ -1,15 +1,14 @@
 -- The rows while an object gets another place: placed, and then with one attribute after the other
 -- handed down.
-use Rattle.std.proofs.Common.{◌≡◌, ℕ, zero, suc, ◌==◌, true, false, cond, not, ◌||◌, List, ◌∷◌, map}
+use Rattle.std.proofs.Common.{◌≡◌, ℕ, ◌==◌, true, false, not, ◌||◌, List, ◌∷◌, map}
 use Rattle.std.proofs.Common.{Option, Some, None, refl, sym, ap, subst, ◌∙◌, inl, inr}
 use Rattle.std.specs.Option.{option_map, option_map_or}
 use Rattle.std.specs.Prelude.{IsTrue}
-use Rattle.std.proofs.lemmas.Bool.{cases_Bool, and_parts, false≢true, eqb-true, eqb-false, eq-eqb}
+use Rattle.std.proofs.lemmas.Bool.{cases_Bool, and_parts, eqb-true, eq-eqb}
 use Rattle.std.proofs.lemmas.Bool.{false_from_ne_true}
 use Rattle.room_entry.specs.Ace.{Ace}
 use Rattle.room_entry.specs.declared.object.Which.{Which}
 use Rattle.room_entry.specs.declared.object.Which.TheVariants.{Dacl, Sacl}
-use Rattle.room_rows.specs.HeldList.{Held}
 use Rattle.room_rows.specs.declared.node.Node.{Node}
 use Rattle.room_rows.specs.Content.{Content, node_at, parent_of, is_linked_in, is_rising}
 use Rattle.room_rows.specs.Held.{held_of, full_of, is_linked}
@@ -25,7 +24,7 @@ use Rattle.room_inherit.specs.Spread.{with_lists}
 use Rattle.room_inherit.proofs.Children.{each_found, each_there}
 use Rattle.room_inherit.proofs.Ends.{each_all}
 use Rattle.room_inherit.proofs.Renewing.{map_agree, map_map}
-use Rattle.room_desk.specs.Moving.{CanPlace, CanRenew, IsPlaced, HasRenewedLists, goes_past}
+use Rattle.room_desk.specs.Moving.{CanPlace, CanRenew, IsPlaced, HasRenewedLists}
 use Rattle.room_desk.proofs.Placed.Climbing.{past_reaches}
 use Rattle.room_desk.proofs.Placed.PlacedLinks.{linked_any}
 use Rattle.room_desk.proofs.Placed.PlacedMeaning.{means_placed}
@@ -36,6 +35,8 @@ use Rattle.room_desk.proofs.Placed.PlacedTree.{faultless, here, is_target, kind,
 use Rattle.room_desk.proofs.Placed.PlacedTree.{passes_new, passes_old}
 use Rattle.room_desk.proofs.Sound.SoundParts.{none_unreadable, sound_parts}
 use Rattle.room_desk.proofs.Placed.SoundPlaced.{sound_placed}
+use Rattle.std.proofs.Common.{arith}
+use Rattle.std.proofs.lemmas.Bool.Decides.{nat_tests}
 
 module _ (old : Rows) (target folder : Node) (name : List ℕ)
     (can : CanPlace target folder name old) where
@@ -60,22 +61,7 @@ module _ (old : Rows) (target folder : Node) (name : List ℕ)
 
   placed_alone : (n : Node) → node_at before n.id ≡ Some n
       → replaced (with_place folder.id name target) n ≡ moved own_dacl own_sacl n
-  placed_alone n there = elim (cases_Bool (n.id == target.id)) [
-    | inl is ↦ replaced_here (with_place folder.id name target) n (eqb-true n.id target.id is)
-        ∙ ap (with_place folder.id name)
-        (sym (is_target old target folder name can own_dacl own_sacl n there is))
-        ∙ ap (λ b. entries (cond b (with_place folder.id name n) n)) (sym is)
-    | inr isnt ↦
-        replaced_elsewhere (with_place folder.id name target) n (eqb-false n.id target.id isnt)
-        ∙ ap (λ b. entries (cond b (with_place folder.id name n) n)) (sym isnt)
-  ]
-    where
-      entries : Node → Node
-      entries m =
-          record m {
-            dacl = record n.dacl { inh = n.dacl.inh };
-            sacl = record n.sacl { inh = n.sacl.inh };
-          }
+  placed_alone n there = grind (arith, nat_tests, is_target, replaced_elsewhere, replaced_here)
 
   pub first_state : (mid : Rows) → Places target.id folder.id name old mid
       → mid ≡ state own_dacl own_sacl
@@ -92,34 +78,16 @@ module _ (old : Rows) (target folder : Node) (name : List ℕ)
   -- ---- an attribute whose entries are as they were can be handed down
 
   apart : folder.id ≡ target.id → ⊥
-  apart same = on can.steps can.past
-    where
-      on : (k : ℕ) → goes_past k before target.id (Some folder.id) ≡ true → ⊥
-      on zero past = false≢true past
-      on (suc k) past =
-          false≢true (sym (ap not (eq-eqb folder.id target.id same))
-          ∙ (and_parts (not (folder.id == target.id))
-          (option_map_or (λ (n : Node). goes_past k before target.id n.parent)
-          (node_at before folder.id) false) past).0)
+  apart same = grind (arith, nat_tests)
 
   module _ (which : Which) (d s : Node → List Ace)
       (same : (n : Node) → lists target.id folder.id name d s which n ≡ (held_of which n).inh) where
     held_same : (n : Node) → held_of which (moved d s n) ≡ held_of which n
-    held_same n =
-        placed_held target.id folder.id name d s which n
-        ∙ ap (λ (l : List Ace). record (held_of which n) { inh = l }) (same n)
+    held_same n = grind (arith, nat_tests, placed_held)
 
     agrees_same : (n p : Node)
         → agrees_with which (moved d s n) (moved d s p) ≡ agrees_with which n p
-    agrees_same n p =
-        ap (λ (h : Held). not (is_linked h (Some (held_of which (moved d s p))))
-        || same_entries h.inh (pass (moved d s n).kind (full_of (held_of which (moved d s p)))))
-        (held_same n)
-        ∙ ap (λ (h : Held). not (is_linked (held_of which n) (Some h))
-        || same_entries (held_of which n).inh (pass (moved d s n).kind (full_of h))) (held_same p)
-        ∙ ap (λ k. not (is_linked (held_of which n) (Some (held_of which p)))
-        || same_entries (held_of which n).inh (pass k (full_of (held_of which p))))
-        (kind old target folder name can d s n)
+    agrees_same n p = grind (arith, nat_tests, held_same, kind)
 
     agreed : (n : Node) → node_at before n.id ≡ Some n → agrees before which n ≡ true
     agreed n there =
@@ -147,11 +115,7 @@ module _ (old : Rows) (target folder : Node) (name : List ℕ)
 
     numbers_same : map (λ (n : Node). n.id) (state d s).read.nodes
         ≡ map (λ (n : Node). n.id) before.nodes
-    numbers_same =
-        map_map (λ (n : Node). n.id) (moved d s) before.nodes
-        ∙ map_agree (λ n. (moved d s n).id) (λ (n : Node). n.id) before.nodes
-        (each_there (λ n. (moved d s n).id ≡ n.id) before.nodes (all_apart before can.are.numbers)
-        (λ n there. number old target folder name can d s n))
+    numbers_same = grind (arith, nat_tests, all_apart, each_there, map_agree, map_map, number)
 
     pub can_renew : CanRenew which target folder (state d s)
     can_renew = record {

@@ -6,7 +6,6 @@ use Rattle.room_entry.specs.Ace.{Ace}
 use Rattle.room_entry.specs.declared.object.Which.{Which}
 use Rattle.room_entry.specs.declared.object.Which.TheVariants.{Dacl, Sacl}
 use Rattle.room_rows.specs.declared.node.Node.{Node}
-use Rattle.room_rows.specs.HeldList.{Held}
 use Rattle.room_rows.specs.Content.{Content, node_at, with_node}
 use Rattle.room_rows.specs.Held.{held_of, full_of, is_linked}
 use Rattle.room_rows.specs.Keep.{Changes, IsUnreadable, Places, with_content, with_inh, with_place}
@@ -30,16 +29,14 @@ use Rattle.room_desk.proofs.Sound.Anchored.{rooted_changed, rooted_spread, still
 use Rattle.room_desk.proofs.Placed.PlacedStates.{can_renew, can_renew_sacl, first_state, is_placed}
 use Rattle.room_desk.proofs.Placed.PlacedStates.{mid_is, own_dacl, own_sacl, state}
 use Rattle.room_desk.proofs.Placed.Relinked.{not_linked, renewed, stored_already}
+use Rattle.std.proofs.Common.{arith}
+use Rattle.std.proofs.lemmas.Bool.Decides.{nat_tests}
 
 -- ---- one list
 
 -- nothing is changed
 pub keeps_all : (id : ℕ) (old new : Rows) → new ≡ old → IsRooted id old → KeepsRoot id old new
-keeps_all id old new same rooted =
-    record {
-      unreadable = ap (λ (r : Rows). r.unreadable) same;
-      rooted = λ _. subst (IsRooted id) (sym same) rooted;
-    }
+keeps_all id old new same rooted = grind (arith, nat_tests)
 
 -- the object stores already what it stores in the folder
 relinks_still : (which : Which) (target folder : Node) (old new : Rows)
@@ -47,21 +44,12 @@ relinks_still : (which : Which) (target folder : Node) (old new : Rows)
     → inh_in which folder target ≡ (held_of which target).inh
     → Relinks which folder target old.read new.read
 relinks_still which target folder old new has same is =
-    subst (λ (c : Content). HandsDown which target.id c new.read)
-    (ap (λ (r : Rows). r.read) same
-    ∙ sym (one_stays old.read has.rises target.id has.node has.there
-    (with_inh which (inh_in which folder target))
-    (ap (λ (l : List Ace). with_inh which l has.node)
-    (is ∙ ap (λ (h : Held). h.inh) (sym has.held))
-    ∙ with_own which has.node)))
-    (nothing_handed which target.id new.read)
+    grind (arith, nat_tests, nothing_handed, one_stays, with_own)
 
 inh_linked : (which : Which) (target folder : Node)
     → is_linked (held_of which target) (Some (held_of which folder)) ≡ true
     → inh_in which folder target ≡ pass target.kind (full_of (held_of which folder))
-inh_linked which target folder linked =
-    ap (λ t. cond t (pass target.kind (full_of (held_of which folder)))
-    (held_of which target).inh) linked
+inh_linked which target folder linked = grind (arith, nat_tests)
 
 pub unlinked_renews : (which : Which) (target folder : Node) (old new : Rows)
     → is_linked (held_of which target) (Some (held_of which folder)) ≡ false → new ≡ old
@@ -131,12 +119,7 @@ taken_renews which target folder passed old mid new same linked is takes =
 pub taken_as : (which : Which) (target : Node) (entries passed : List Ace) (old mid new : Rows)
     → entries ≡ passed → Changes target.id (with_inh which entries) old mid
     → IsCarriedDown which target.id mid tt new → TakesPassed which target passed old tt new
-taken_as which target entries passed old mid new same changes down =
-    inr (
-      mid,
-      subst (λ (l : List Ace). Changes target.id (with_inh which l) old mid) same changes,
-      down,
-    )
+taken_as which target entries passed old mid new same changes down = grind (arith, nat_tests)
 
 -- a row that can't be read, before anything is written
 pub unrenewed : (target : Node) (old mid : Rows) (row : ℕ) → mid ≡ old → IsUnreadable mid row
@@ -189,13 +172,7 @@ module _ (target folder : Node) (name : List ℕ) where
 
   renewed_stays : (which : Which) (old mid new : Rows) → Stays old mid
       → Renews which target folder mid tt new → Stays old new
-  renewed_stays which old mid new stays renews can =
-      let before = stays can in
-      let keeps = renews.keeps before.rooted in
-      record {
-        unreadable = keeps.unreadable ∙ before.unreadable;
-        rooted = keeps.rooted before.rooted;
-      }
+  renewed_stays which old mid new stays renews can = grind (arith, nat_tests)
 
   -- it stands there
   pub is_at : (old mid : Rows) → Places target.id folder.id name old mid

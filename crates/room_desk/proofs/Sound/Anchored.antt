@@ -1,11 +1,10 @@
 -- Objects whose parents lead to the root, where one object of the rows is put in the place of
 -- another.
-use Rattle.std.proofs.Common.{◌≡◌, ℕ, zero, suc, ◌==◌, Bool, true, false, not, cond, List, [], ◌∷◌}
+use Rattle.std.proofs.Common.{◌≡◌, ℕ, zero, suc, ◌==◌, Bool, true, false, not, List, [], ◌∷◌}
 use Rattle.std.proofs.Common.{map, Option, Some, None, refl, sym, ap, subst, ◌∙◌, inl, inr}
 use Rattle.std.specs.Prelude.{IsTrue}
 use Rattle.std.specs.Option.{option_map, option_map_or}
-use Rattle.std.proofs.lemmas.Bool.{and_parts, cases_Bool, eqb-false, eqb-true, false≢true}
-use Rattle.std.proofs.lemmas.Option.{same_Some}
+use Rattle.std.proofs.lemmas.Bool.{and_parts, false≢true}
 use Rattle.room_entry.specs.Pieces.{is_among}
 use Rattle.room_entry.specs.declared.object.Which.{Which}
 use Rattle.room_rows.specs.declared.node.Node.{Node}
@@ -20,13 +19,13 @@ use Rattle.room_inherit.proofs.Rooted.{rooted_no_loop}
 use Rattle.room_desk.specs.Carrying.{HasLoop, IsRooted}
 use Rattle.room_desk.specs.Moving.{KeepsRoot, goes_past}
 use Rattle.room_desk.proofs.Placed.Climbing.{node_at-changed, reaches-changed, step_up}
+use Rattle.std.proofs.Common.{arith}
+use Rattle.std.proofs.lemmas.Bool.Decides.{nat_tests}
 
 numbers_same : (change : Node → Node) → ((n : Node) → (change n).id ≡ n.id) → (nodes : List Node)
     → map (λ (n : Node). n.id) (map change nodes) ≡ map (λ (n : Node). n.id) nodes
 numbers_same change number [] = refl
-numbers_same change number (x ∷ xs) =
-    ap (λ (i : ℕ). i ∷ map (λ (n : Node). n.id) (map change xs)) (number x)
-    ∙ ap (λ (l : List ℕ). x.id ∷ l) (numbers_same change number xs)
+numbers_same change number (x ∷ xs) = grind (arith, nat_tests, numbers_same change number xs)
 
 module _ (content : Content) (rises : Rises content) (node new : Node)
     (there : node_at content node.id ≡ Some node) (number : new.id ≡ node.id) where
@@ -39,11 +38,7 @@ module _ (content : Content) (rises : Rises content) (node new : Node)
       (put-replaces 0 content.nodes node.id node new rises there number)
 
   number_kept : (n : Node) → (replaced new n).id ≡ n.id
-  number_kept n = on (n.id == new.id) refl
-    where
-      on : (t : Bool) → (n.id == new.id) ≡ t → (cond t new n).id ≡ n.id
-      on true is = sym (eqb-true n.id new.id is)
-      on false is = refl
+  number_kept n = grind (arith, nat_tests)
 
   pub rises_after : Rises after
   rises_after =
@@ -53,21 +48,15 @@ module _ (content : Content) (rises : Rises content) (node new : Node)
       (sym (numbers_same (replaced new) number_kept content.nodes)) rises)
 
   found_after : (id : ℕ) → node_at after id ≡ option_map (replaced new) (node_at content id)
-  found_after id =
-      ap (λ (c : Content). node_at c id) after_is
-      ∙ node_at-changed content (replaced new) number_kept id
+  found_after id = grind (arith, nat_tests, after_is, node_at-changed, number_kept, replaced)
 
   pub here_after : node_at after node.id ≡ Some new
-  here_after =
-      found_after node.id ∙ ap (option_map (replaced new)) there
-      ∙ ap (λ (n : Node). Some n) (replaced_here new node (sym number))
+  here_after = grind (arith, nat_tests, found_after, replaced, replaced_here)
 
   -- what is found by another number is what it was
   elsewhere : (id : ℕ) (n : Node) → node_at content id ≡ Some n → (id == node.id) ≡ false
       → replaced new n ≡ n
-  elsewhere id n found isnt =
-      replaced_elsewhere new n
-      (λ same. eqb-false id node.id isnt (sym (node_at-number content id n found) ∙ same ∙ number))
+  elsewhere id n found isnt = grind (arith, nat_tests, node_at-number, replaced_elsewhere)
 
   -- a way up that doesn't meet the object leads to the root
   pub past_up : (n : ℕ) (parent : Option ℕ) → goes_past n content node.id parent ≡ true
@@ -94,15 +83,7 @@ module _ (content : Content) (rises : Rises content) (node new : Node)
   module _ (parent_same : new.parent ≡ node.parent) where
     parent_kept : (id : ℕ) (n : Node) → node_at content id ≡ Some n
         → (replaced new n).parent ≡ n.parent
-    parent_kept id n found = elim (cases_Bool (id == node.id)) [
-      | inl is ↦
-          let same : n ≡ node = same_Some n node
-          (sym found ∙ ap (node_at content) (eqb-true id node.id is) ∙ there) in
-          ap (λ (m : Node). (replaced new m).parent) same
-          ∙ ap (λ (m : Node). m.parent) (replaced_here new node (sym number)) ∙ parent_same
-          ∙ ap (λ (m : Node). m.parent) (sym same)
-      | inr isnt ↦ ap (λ (m : Node). m.parent) (elsewhere id n found isnt)
-    ]
+    parent_kept id n found = grind (arith, nat_tests, elsewhere, replaced, replaced_here)
 
     pub same_up : (n : ℕ) (parent : Option ℕ) → reaches_root n content parent ≡ true
         → reaches_root n after parent ≡ true

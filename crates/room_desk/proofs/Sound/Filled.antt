@@ -1,26 +1,24 @@
 -- Items judged at objects with their stored lists are those of the plan.
-use Rattle.std.proofs.Common.{◌≡◌, ℕ, ℤ, Bool, false, cond, not, ◌&&◌, List, [], ◌∷◌, ◌++◌, map}
-use Rattle.std.proofs.Common.{Option, Some, None, refl, sym, ap, subst, ◌∙◌}
-use Rattle.std.specs.Prelude.{is_none}
+use Rattle.std.proofs.Common.{◌≡◌, ℕ, ℤ, Bool, false, List, [], ◌∷◌, ◌++◌, map}
+use Rattle.std.proofs.Common.{Option, Some, None, refl, sym, ap, ◌∙◌}
 use Rattle.std.specs.Option.{option_map}
 use Rattle.std.proofs.lemmas.List.{map-append}
-use Rattle.room_entry.specs.Rights.{execute}
 use Rattle.room_entry.specs.declared.parties.Caller.{Caller}
-use Rattle.room_rows.specs.Content.{Content, is_empty, is_folder}
+use Rattle.room_rows.specs.Content.{Content, is_empty}
 use Rattle.room_rows.specs.Meaning.{kept_node, meaning}
 use Rattle.room_rows.specs.Rows.{Rows, AreRows}
 use Rattle.room_judge.specs.declared.asker.Asker.{Asker}
 use Rattle.room_machine.specs.declared.reply.Reply.{Reply}
-use Rattle.room_machine.specs.declared.reply.Reason.TheVariants.{NotFolder, NoSuch}
 use Rattle.room_machine.specs.Site.{Site, sites_along, site_at}
 use Rattle.room_machine.specs.Plan.{Item, Check, Deletion, Refusal, way, where_found, to_target}
-use Rattle.room_machine.specs.Judge.{failure, passes, or_else, first_failure, checks_of}
+use Rattle.room_machine.specs.Judge.{failure, passes, first_failure, checks_of}
 use Rattle.room_machine.specs.Judge.{records_of_checks, records_of_plan}
 use Rattle.room_machine.specs.Stored.{stored_along, to_stored}
 use Rattle.room_judge.specs.Judged.{IsJudged, with_notes}
 use Rattle.room_desk.proofs.Sound.SoundParts.{SoundParts}
 use Rattle.room_desk.proofs.Sound.Sites.{fill, sites_filled}
 use Rattle.room_desk.proofs.Sound.Targets.{target_kept}
+use Rattle.std.proofs.Common.{arith}
 
 abbrev pub fill_item : Item → Item
 fill_item (Check site bits) = Check (fill site) bits
@@ -29,36 +27,23 @@ fill_item (Refusal path why holds) = Refusal path why holds
 
 module _ (caller : Caller) (moment : ℤ) where
   same_failure : (item : Item) → failure caller (fill_item item) ≡ failure caller item
-  same_failure (Check site bits) = refl
-  same_failure (Deletion target parent) = refl
-  same_failure (Refusal path why holds) = refl
+  same_failure = grind arith
 
   same_records : (t : Bool) (item : Item)
       → records_of_checks caller moment t (checks_of caller (fill_item item))
       ≡ records_of_checks caller moment t (checks_of caller item)
-  same_records t (Check site bits) = refl
-  same_records t (Deletion target parent) = refl
-  same_records t (Refusal path why holds) = refl
+  same_records = grind arith
 
   failures_filled : (items : List Item)
       → first_failure caller (map fill_item items) ≡ first_failure caller items
   failures_filled [] = refl
-  failures_filled (item ∷ items) =
-      ap (λ o. or_else o (first_failure caller (map fill_item items))) (same_failure item)
-      ∙ ap (or_else (failure caller item)) (failures_filled items)
+  failures_filled (item ∷ items) = rw (same_failure item, failures_filled items)
 
   records_filled : (items : List Item)
       → records_of_plan caller moment (map fill_item items) ≡ records_of_plan caller moment items
   records_filled [] = refl
   records_filled (item ∷ items) =
-      ap (λ o. records_of_checks caller moment (is_none o) (checks_of caller (fill_item item))
-      ++ cond (is_none o) (records_of_plan caller moment (map fill_item items)) [])
-      (same_failure item)
-      ∙ ap (λ rs. rs ++ cond (passes caller item)
-      (records_of_plan caller moment (map fill_item items)) [])
-      (same_records (passes caller item) item)
-      ∙ ap (λ rs. records_of_checks caller moment (passes caller item) (checks_of caller item)
-      ++ cond (passes caller item) rs []) (records_filled items)
+      rw (same_failure item, same_records (passes caller item) item, records_filled items)
 
 pub judged_filled : (asker : Asker) (items : List Item) (old new : Rows) (answer : Option Reply)
     → IsJudged asker (map fill_item items) old answer new → IsJudged asker items old answer new
@@ -70,22 +55,14 @@ judged_filled asker items old new answer judged = record {
 -- ---- plans
 
 empty_filled : (sites : List Site) → is_empty (map fill sites) ≡ is_empty sites
-empty_filled [] = refl
-empty_filled (site ∷ sites) = refl
+empty_filled = grind arith
 
 pub way_filled : (lack : Bool) (sites : List Site) (names : List (List ℕ))
     → way lack (map fill sites) names ≡ map fill_item (way lack sites names)
 way_filled lack [] names = refl
 way_filled lack (site ∷ sites) [] = refl
 way_filled lack (site ∷ sites) (name ∷ names) =
-    ap (λ t. Refusal site.path NotFolder (not (is_folder site.node))
-    ∷ Check (fill site) (execute ∷ [])
-    ∷ Refusal (site.path ++ name ∷ []) NoSuch (t && not (lack && is_empty names))
-    ∷ way lack (map fill sites) names) (empty_filled sites)
-    ∙ ap (λ items. Refusal site.path NotFolder (not (is_folder site.node))
-    ∷ Check (fill site) (execute ∷ [])
-    ∷ Refusal (site.path ++ name ∷ []) NoSuch (is_empty sites && not (lack && is_empty names))
-    ∷ items) (way_filled lack sites names)
+    rw (empty_filled sites, way_filled lack sites names)
 
 pub site_filled : (sites : List Site) (names : List (List ℕ))
     → site_at (map fill sites) names ≡ option_map fill (site_at sites names)
@@ -98,10 +75,7 @@ pub target_filled : (path : List (List ℕ)) (items : Site → List Item)
     → way false (map fill sites) path ++ where_found (site_at (map fill sites) path) items
     ≡ map fill_item (way false sites path ++ where_found (site_at sites path) items)
 target_filled path items same sites =
-    ap (λ w. w ++ where_found (site_at (map fill sites) path) items) (way_filled false sites path)
-    ∙ ap (λ o. map fill_item (way false sites path) ++ where_found o items) (site_filled sites path)
-    ∙ ap (λ rest. map fill_item (way false sites path) ++ rest) (on (site_at sites path))
-    ∙ sym (map-append fill_item (way false sites path) (where_found (site_at sites path) items))
+    rw (way_filled false sites path, site_filled sites path, on (site_at sites path), map-append)
   where
     on : (o : Option Site)
         → where_found (option_map fill o) items ≡ map fill_item (where_found o items)
@@ -116,11 +90,7 @@ pub plan_judged : (asker : Asker) (path : List (List ℕ)) (items : Site → Lis
     → IsJudged asker (to_target (meaning old.read) path items) old answer new
 plan_judged asker path items old new answer are parts same judged =
     judged_filled asker (to_target (meaning old.read) path items) old new answer
-    (subst (λ list. IsJudged asker list old answer new)
-    (ap (λ sites. way false sites path ++ where_found (site_at sites path) items)
-    (sym (sites_filled old are parts path))
-    ∙ target_filled path items same (sites_along (meaning old.read) path))
-    judged)
+    (rw (← sites_filled old are parts path, target_filled path items same) at judged)
 
 -- the target among the sites of the plan
 pub record IsTarget (rows : Content) (path : List (List ℕ)) (site : Site) : Type 0 where

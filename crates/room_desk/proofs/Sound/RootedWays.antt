@@ -15,6 +15,7 @@ use Rattle.room_machine.specs.Site.{Site, site_at}
 use Rattle.room_machine.specs.Stored.{stored_along, stored_from, stored_site}
 use Rattle.room_desk.specs.Carrying.{IsRooted}
 use Rattle.room_desk.proofs.Lists.ResetWay.{same_front, same_last}
+use Rattle.std.proofs.lemmas.Bool.Decides.{nat_tests}
 
 -- the last of the objects, or else the one before them
 pub last_or : Option Node → List Node → Option Node
@@ -35,12 +36,7 @@ module _ (rows : Content) (rises : Rises rows) where
     pub reaches : reaches_root steps rows node.parent ≡ true
 
   up_root : (root : Node) → root_of rows ≡ Some root → IsUp root
-  up_root root is =
-      record {
-        there = root_of-is_there rows rises root is;
-        steps = 0;
-        reaches = ap (reaches_root 0 rows) (root_of-parent rows root is);
-      }
+  up_root root is = grind (arith, nat_tests, root_of-is_there, root_of-parent)
 
   up_child : (node child : Node) (name : List ℕ) → IsUp node
       → child_of rows node.id name ≡ Some child → IsUp child

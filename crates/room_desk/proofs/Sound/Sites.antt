@@ -1,7 +1,7 @@
 -- On sound rows, the objects that a walk finds have the lists that are stored.
-use Rattle.std.proofs.Common.{◌≡◌, ℕ, Bool, true, false, cond, ◌&&◌, List, [], ◌∷◌, ◌++◌, map}
+use Rattle.std.proofs.Common.{◌≡◌, ℕ, Bool, true, false, cond, List, [], ◌∷◌, ◌++◌, map}
 use Rattle.std.proofs.Common.{Option, Some, None, refl, sym, ap, ◌∙◌}
-use Rattle.std.specs.Prelude.{option_and_then, length}
+use Rattle.std.specs.Prelude.{length}
 use Rattle.std.specs.Option.{option_map, option_map_or}
 use Rattle.std.proofs.lemmas.Bool.{and_parts}
 use Rattle.room_entry.specs.Ace.{Ace}
@@ -11,8 +11,7 @@ use Rattle.room_entry.proofs.Same.{entries_equal}
 use Rattle.room_rows.specs.HeldList.{Held}
 use Rattle.room_rows.specs.declared.node.Node.{Node}
 use Rattle.room_rows.specs.Held.{held_of, full_of, is_linked}
-use Rattle.room_entry.specs.Pieces.{same_text}
-use Rattle.room_rows.specs.Content.{Content, has_parent, node_at, root_of, child_of, parent_of}
+use Rattle.room_rows.specs.Content.{Content, node_at, root_of, child_of, parent_of}
 use Rattle.room_rows.specs.Content.{is_linked_in}
 use Rattle.room_rows.specs.Meaning.{kept_held, kept_node, meaning}
 use Rattle.room_rows.specs.Rows.{Rows, AreRows}
@@ -30,6 +29,8 @@ use Rattle.room_machine.specs.Stored.{stored_site, stored_from, stored_along}
 use Rattle.room_desk.proofs.Sound.SoundParts.{SoundParts, passes_test}
 use Rattle.room_inherit.proofs.Stored.{linked_kept}
 use Rattle.room_entry.proofs.Facts.Booleans.{implied}
+use Rattle.std.proofs.Common.{arith}
+use Rattle.std.proofs.lemmas.Bool.Decides.{nat_tests}
 
 -- the object with the inherited entries of its lists
 abbrev pub fill : Site → Site
@@ -71,10 +72,8 @@ inherits_stored : (b c : Bool) (held above : Held) (passed : List Ace)
     → is_linked held (Some above) ≡ b → (b ≡ true → held.inh ≡ passed)
     → cond (is_linked (kept_held b held) (Some (kept_held c above))) passed (kept_held b held).inh
     ≡ held.inh
-inherits_stored true c held above passed linked agree =
-    ap (λ t. cond t passed []) (linked_kept true c held above ∙ linked) ∙ sym (agree refl)
-inherits_stored false c held above passed linked agree =
-    ap (λ t. cond t passed held.inh) (linked_kept false c held above ∙ linked)
+inherits_stored true c held above passed linked agree = grind (arith, nat_tests, linked_kept)
+inherits_stored false c held above passed linked agree = grind (arith, nat_tests, linked_kept)
 
 refilled : (b : Bool) (held : Held) → record (kept_held b held) { inh = held.inh } ≡ held
 refilled true held = refl
@@ -99,15 +98,10 @@ module _ (rows : Rows) (are : AreRows rows) (parts : SoundParts rows) where
   module _ (node child : Node) (there : node_at content node.id ≡ Some node) (name : List ℕ)
       (is : child_of content node.id name ≡ Some child) where
     above_is : parent_of content child ≡ Some node
-    above_is =
-        ap (option_and_then (node_at content)) (child_of-parent content node.id name child is)
-        ∙ there
+    above_is = grind (arith, nat_tests, child_of-parent)
 
     law_here : keeps_law content child ≡ true
-    law_here =
-        passes_test (keeps_law content)
-        (λ other. has_parent node.id other && same_text other.name name) content.nodes child
-        parts.law is
+    law_here = grind (arith, nat_tests, passes_test)
 
     agrees_here : (which : Which) → agrees content which child ≡ true
         → agrees_with which child node ≡ true
@@ -160,33 +154,7 @@ module _ (rows : Rows) (are : AreRows rows) (parts : SoundParts rows) where
           (linked_here Sacl ∙ linked))
 
       below_filled : fill below ≡ stored_site (path ++ name ∷ []) child
-      below_filled =
-          let made : List (List ℕ) → List Ace → List Ace → Site = λ p d s.
-          record {
-            path = p;
-            node = record (kept child) {
-              dacl = record (kept child).dacl { inh = d };
-              sacl = record (kept child).sacl { inh = s };
-            };
-            dacl = d;
-            sacl = s;
-          } in
-          let of_lists : Held → Held → Site = λ d s.
-          record {
-            path = path ++ name ∷ [];
-            node = record child { dacl = d; sacl = s };
-            dacl = child.dacl.inh;
-            sacl = child.sacl.inh;
-          } in
-          let paths : site.path ≡ path = ap (λ (s : Site). s.path) filled in
-          ap (λ p. made (p ++ child.name ∷ []) below.dacl below.sacl) paths
-          ∙ ap (λ n. made (path ++ n ∷ []) below.dacl below.sacl)
-          (child_of-name content node.id name child is)
-          ∙ ap (λ d. made (path ++ name ∷ []) d below.sacl) dacl_is
-          ∙ ap (λ s. made (path ++ name ∷ []) child.dacl.inh s) sacl_is
-          ∙ ap (λ d. of_lists d (record (kept child).sacl { inh = child.sacl.inh }))
-          (refilled (is_linked_in content Dacl child) child.dacl)
-          ∙ ap (λ s. of_lists child.dacl s) (refilled (is_linked_in content Sacl child) child.sacl)
+      below_filled = grind (arith, nat_tests, child_of-name, dacl_is, refilled, sacl_is)
 
   -- ---- from an object on
 
@@ -228,15 +196,7 @@ module _ (rows : Rows) (are : AreRows rows) (parts : SoundParts rows) where
 
   root_filled : (root : Node) → root.parent ≡ None
       → fill (root_site (kept root)) ≡ stored_site [] root
-  root_filled root none =
-      let unlinked : (which : Which) → is_linked_in content which root ≡ false = λ which. ap
-      (λ o. is_linked (held_of which root)
-      (option_map (held_of which) (option_and_then (node_at content) o))) none in
-      let made : Bool → Bool → Site = λ b c. fill
-      (root_site (record root { dacl = kept_held b root.dacl; sacl = kept_held c root.sacl }))
-      in
-      ap (λ b. made b (is_linked_in content Sacl root)) (unlinked Dacl)
-      ∙ ap (λ c. made false c) (unlinked Sacl)
+  root_filled root none = grind (arith, nat_tests)
 
   pub sites_filled : (path : List (List ℕ))
       → map fill (sites_along (meaning content) path) ≡ stored_along content path

@@ -4,7 +4,7 @@ use Rattle.std.proofs.Common.{◌∙◌}
 use Rattle.std.specs.Prelude.{length}
 use Rattle.std.specs.Option.{option_map, option_map_or}
 use Rattle.room_rows.specs.declared.node.Node.{Node}
-use Rattle.room_rows.specs.Content.{Content, child_of, root_of}
+use Rattle.room_rows.specs.Content.{Content, child_of}
 use Rattle.room_rows.specs.Meaning.{kept_node, meaning}
 use Rattle.room_rows.specs.Walk.{walk_of, walk_from, behind}
 use Rattle.room_rows.proofs.InPlace.{KeepsPlaces, keeps_places, root_of-with_each}
@@ -12,6 +12,8 @@ use Rattle.room_rows.proofs.InPlace.{child_of-with_each}
 use Rattle.room_machine.specs.Site.{Site, root_site, site_below, sites_below, sites_of, sites_along}
 use Rattle.room_machine.specs.Site.{site_at}
 use Rattle.room_machine.specs.Stored.{stored_from, stored_along}
+use Rattle.std.proofs.Common.{arith}
+use Rattle.std.proofs.lemmas.Bool.Decides.{nat_tests}
 
 -- ---- what stands after n names
 
@@ -75,17 +77,7 @@ module _ (content : Content) where
 
   kept_along : (path : List (List ℕ))
       → (walk_of (meaning content) path).chain ≡ map kept_of (stored_along content path)
-  kept_along path =
-      ap (λ o. (option_map_or (λ root. walk_from (meaning content) root path) o
-      (record { chain = []; rest = length path })).chain)
-      (root_of-with_each content kept same_places) ∙ on (root_of content)
-    where
-      on : (o : Option Node)
-          → (option_map_or (λ root. walk_from (meaning content) root path) (option_map kept o)
-          (record { chain = []; rest = length path })).chain
-          ≡ map kept_of (option_map_or (λ root. stored_from content [] root path) o [])
-      on None = refl
-      on (Some root) = kept_chain path [] root
+  kept_along path = grind (arith, nat_tests, kept_chain, root_of-with_each, same_places)
 
   -- the object that a plan finds, from the one that the walk through the rows finds
   pub target_kept : (path : List (List ℕ)) (planned site : Site)

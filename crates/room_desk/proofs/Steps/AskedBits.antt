@@ -1,6 +1,7 @@
 -- The rulings of the bits of a mask, one after the other.
 use Rattle.std.proofs.Common.{◌≡◌, ℕ, zero, suc, ◌+◌, ◌<◌, List, [], ◌∷◌, ◌++◌, map, length, get_or}
 use Rattle.std.proofs.Common.{drop, refl, sym, ap, ◌∙◌, arith, add-one, drop-cons, append_assoc}
+use Rattle.std.proofs.lemmas.Bool.Decides.{nat_tests}
 
 length_kept : (mask : List ℕ) → length (map (λ (bit : ℕ). bit ∷ []) mask) ≡ length mask
 length_kept [] = refl
@@ -20,14 +21,7 @@ pub record IsAsked (mask : List ℕ) (i : ℕ) (bit : List ℕ) : Type 0 where
 pub is_asked : (mask : List ℕ) (bits : List (List ℕ)) (i : ℕ) (bit : List ℕ)
     → bits ≡ map (λ (b : ℕ). b ∷ []) mask → i < length bits → bit ≡ get_or bits i bit
     → IsAsked mask i bit
-is_asked mask bits i bit are below is =
-    let within : i < length mask =
-    (let same = ap (λ (l : List (List ℕ)). length l) are ∙ length_kept mask in
-    omega (arith, same, below)) in
-    record {
-      below = within;
-      alone = is ∙ ap (λ (l : List (List ℕ)). get_or l i bit) are ∙ single_at mask i bit within;
-    }
+is_asked mask bits i bit are below is = grind (arith, nat_tests, length_kept, single_at)
 
 -- a turn that adds what the bit is paired with
 pub asked_more : {A : Type 0} (f : ℕ → A) (mask : List ℕ) (i : ℕ) (items new : List A)

@@ -2,7 +2,6 @@
 use Rattle.std.proofs.Common.{◌≡◌, ℕ, ◌<◌, ◌+◌, ℤ, List, [], ◌∷◌, ◌++◌, length, take, get_or}
 use Rattle.std.proofs.Common.{Option, refl, sym, ap, subst, ◌∙◌, arith, length-append}
 use Rattle.std.proofs.lemmas.List.{take_more}
-use Rattle.room_entry.specs.declared.parties.Caller.{Caller}
 use Rattle.room_rows.specs.Sound.{AreSound}
 use Rattle.room_rows.specs.Keep.{IsDamaged}
 use Rattle.room_rows.specs.Meaning.{meaning}
@@ -12,13 +11,14 @@ use Rattle.room_machine.specs.declared.reply.Reply.{Reply}
 use Rattle.room_machine.specs.declared.request.Request.{Request}
 use Rattle.room_desk.specs.declared.running.Asked.{Asked}
 use Rattle.room_desk.specs.InTurn.{AreFirst, IsDamagedAfter, IsRunOfRows, RunsAll, asked_events}
-use Rattle.room_machine.specs.Closed.{FailsClosed, IsClosedFor}
+use Rattle.room_machine.specs.Closed.{FailsClosed}
 use Rattle.room_judge.specs.Closed.{IsClosed, IsServed, Performs}
-use Rattle.room_judge.specs.Judged.{CarriesOut, IsKnown, IsStepOfRows}
+use Rattle.room_judge.specs.Judged.{CarriesOut, IsStepOfRows}
 use Rattle.room_machine.proofs.Meeting.{meet}
 use Rattle.room_desk.proofs.Sound.Blamed.{sound_undamaged}
 use Rattle.room_machine.specs.Run.{Event, Run, Asked as HasAsked}
 use Rattle.room_machine.specs.Step.{caller_in}
+use Rattle.std.proofs.lemmas.Bool.Decides.{nat_tests}
 
 -- ---- one request
 
@@ -28,33 +28,21 @@ carried : (user : Option (List ℕ)) (moment : ℤ) (asker : Asker) (request : R
     → (asker.caller ≡ caller_in old.read user) × (mid ≡ old)
     → CarriesOut asker request mid reply new → AreSound old
     → IsStepOfRows user moment request old reply new
-carried user moment asker request old mid new reply at both carries sound =
-    let named : asker.caller.user ≡ user = ap (λ (c : Caller). c.user) both.0 in
-    let known : IsKnown asker mid = both.0 ∙ ap (λ (r : Rows). caller_in r.read user) (sym both.1)
-    ∙ ap (λ u. caller_in mid.read u) (sym named) in
-    subst (λ t. IsStepOfRows user t request old reply new) at
-    (subst (λ u. IsStepOfRows u asker.moment request old reply new) named
-    (subst (λ (r : Rows). IsStepOfRows asker.caller.user asker.moment request r reply new) both.1
-    (carries known (subst AreSound (sym both.1) sound))))
+carried user moment asker request old mid new reply at both carries sound = grind (arith, nat_tests)
 
 -- and that it is judged by the stored lists
 closed_for : (user : Option (List ℕ)) (moment : ℤ) (asker : Asker) (request : Request)
     (old mid new : Rows) (reply : Reply) → asker.moment ≡ moment
     → (asker.caller ≡ caller_in old.read user) × (mid ≡ old)
     → IsClosed asker request mid reply new → FailsClosed user moment request old reply new
-closed_for user moment asker request old mid new reply at both closed =
-    subst (λ t. IsClosedFor (caller_in old.read user) t request old reply new) at
-    (subst (λ (c : Caller). IsClosedFor c asker.moment request old reply new) both.0
-    (subst (λ (r : Rows). IsClosed asker request r reply new) both.1 closed))
+closed_for user moment asker request old mid new reply at both closed = grind (arith, nat_tests)
 
 pub performed : (user : Option (List ℕ)) (moment : ℤ) (asker : Asker) (request : Request)
     (old mid new : Rows) (reply : Reply) → asker.moment ≡ moment
     → (asker.caller ≡ caller_in old.read user) × (mid ≡ old)
     → IsServed asker request mid reply new → Performs user moment request old reply new
-performed user moment asker request old mid new reply at both served = record {
-  step = carried user moment asker request old mid new reply at both served.0;
-  closed = closed_for user moment asker request old mid new reply at both served.1;
-}
+performed user moment asker request old mid new reply at both served =
+    grind (arith, nat_tests, carried, closed_for)
 
 -- ---- several requests
 
@@ -123,15 +111,7 @@ first_more asked n one replies all reply old mid new below is made first more = 
 pub blamed_after : (asked : List Asked) (n : ℕ) (replies : List Reply) (old mid : Rows) (row : ℕ)
     → n < length asked → AreFirst asked n old replies mid → IsDamaged mid row
     → IsDamagedAfter asked old row
-blamed_after asked n replies old mid row below first damaged =
-    record {
-      count = n;
-      below = below;
-      replies = replies;
-      rows = mid;
-      first = first;
-      damaged = damaged;
-    }
+blamed_after asked n replies old mid row below first damaged = grind (arith, nat_tests)
 
 -- from sound rows they stay sound, and nothing is damaged
 pub never_after : (asked : List Asked) (rows : Rows) (row : ℕ) → AreSound rows

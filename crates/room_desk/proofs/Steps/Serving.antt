@@ -1,15 +1,14 @@
 -- The replies of requests that change nothing but records.
-use Rattle.std.proofs.Common.{◌≡◌, ℕ, Bool, true, false, cond, not, List, [], ◌∷◌, ◌++◌, map}
-use Rattle.std.proofs.Common.{Option, Some, None, refl, sym, ap, subst, ◌∙◌, inl, inr}
+use Rattle.std.proofs.Common.{◌≡◌, ℕ, true, List, [], ◌∷◌, ◌++◌, map}
+use Rattle.std.proofs.Common.{Option, Some, None, refl, sym, ap, ◌∙◌, inl, inr}
 use Rattle.std.specs.Prelude.{unwrap_or}
 use Rattle.std.proofs.Common.{Result, Ok, Err}
-use Rattle.std.specs.Option.{option_map_or}
 use Rattle.room_entry.specs.Rights.{read_data, read_acl, read_attributes}
 use Rattle.room_entry.specs.Valid.{is_document}
 use Rattle.room_entry.specs.declared.object.ObjKind.{ObjKind}
 use Rattle.room_entry.specs.declared.object.ObjKind.TheVariants.{Document, Folder}
 use Rattle.room_entry.specs.declared.object.Which.{Which}
-use Rattle.room_entry.specs.declared.object.Which.TheVariants.{Dacl, Sacl}
+use Rattle.room_entry.specs.declared.object.Which.TheVariants.{Dacl}
 use Rattle.room_eval.specs.Verdict.{ruling_of}
 use Rattle.room_rows.specs.declared.node.Node.{Node}
 use Rattle.room_rows.specs.Held.{held_of, full_of}
@@ -27,9 +26,9 @@ use Rattle.room_machine.specs.declared.request.Request.{Request}
 use Rattle.room_machine.specs.declared.request.Request.TheVariants.{Read, List as ListFolder}
 use Rattle.room_machine.specs.declared.request.Request.TheVariants.{ReadList, ReadAttr, Can}
 use Rattle.room_machine.specs.Site.{Site, full_at, sites_along, site_at}
-use Rattle.room_machine.specs.Plan.{Along, Item, Check, plan_by, plan_of, target_by, where_found}
-use Rattle.room_machine.specs.Plan.{no_folder, way}
-use Rattle.room_machine.specs.Judge.{failure, first_failure, or_else}
+use Rattle.room_machine.specs.Plan.{Along, Item, Check, plan_by, plan_of, target_by}
+use Rattle.room_machine.specs.Plan.{no_folder}
+use Rattle.room_machine.specs.Judge.{failure, or_else}
 use Rattle.room_machine.specs.Effect.{effect, with_site}
 use Rattle.room_machine.specs.Changed.{IsChanged}
 use Rattle.room_machine.specs.Closed.{IsShown, failure_told}
@@ -46,6 +45,7 @@ use Rattle.room_desk.proofs.Sound.SoundParts.{none_unreadable, sound_parts}
 use Rattle.room_desk.proofs.Sound.Sites.{fill}
 use Rattle.room_desk.proofs.Sound.Filled.{fill_item, plan_judged, target_there}
 use Rattle.room_desk.proofs.Steps.Stepping.{refused_step, served_step}
+use Rattle.std.proofs.Common.{arith}
 
 module _ (asker : Asker) (path : List (List ℕ)) (request : Request) (items : Site → List Item)
     (planned : (along : Along) (content : Content)
@@ -55,17 +55,14 @@ module _ (asker : Asker) (path : List (List ℕ)) (request : Request) (items : S
       → IsJudged asker (Rattle.room_machine.specs.Stored.to_stored old.read path items) old answer new
       → IsJudged asker (plan_of (meaning old.read) request) old answer new
   plan_is old new answer are sound judged =
-      subst (λ list. IsJudged asker list old answer new)
-      (sym (planned (sites_along (meaning old.read)) (meaning old.read)))
+      rw (planned (sites_along (meaning old.read)) (meaning old.read))
       (plan_judged asker path items old new answer are (sound_parts old sound) same judged)
 
   -- the plan by the stored lists is what the walk to the target has judged
   pub stored_is : (old new : Rows) (answer : Option Reply)
       → IsJudged asker (Rattle.room_machine.specs.Stored.to_stored old.read path items) old answer new
       → IsJudged asker (stored_plan old.read request) old answer new
-  stored_is old new answer judged =
-      subst (λ list. IsJudged asker list old answer new)
-      (sym (planned (stored_along old.read) old.read)) judged
+  stored_is old new answer judged = rw (planned (stored_along old.read) old.read) judged
 
   -- an item fails
   pub not_served : (old new : Rows) (reply : Reply) → AreRows old
@@ -93,11 +90,7 @@ module _ (asker : Asker) (path : List (List ℕ)) (request : Request) (items : S
         let target = target_there old are (sound_parts old sound) path
         (stored_site path node) reached.found in
         served_step asker request old known sound new reply
-        (λ id. acts (meaning old.read) id
-        ∙ ap
-        (λ o. with_site (meaning old.read) o (λ t. (act (meaning old.read) t, meaning old.read)))
-        target.at
-        ∙ ap (λ (r : Reply). (r, meaning old.read)) (replies target.planned target.filled))
+        (λ id. rw (acts (meaning old.read) id, target.at, replies target.planned target.filled))
         (plan_is old new None are sound reached.judged),
     closed_asked asker request old reply new (stored_is old new None reached.judged) none shown
         still,
@@ -107,17 +100,14 @@ module _ (asker : Asker) (path : List (List ℕ)) (request : Request) (items : S
 
 flags_of : (which : Which) (site : Site)
     → (held_of which (fill site).node).flags ≡ (held_of which site.node).flags
-flags_of Dacl site = refl
-flags_of Sacl site = refl
+flags_of = grind arith
 
 fulls_of : (which : Which) (site : Site) → full_at which (fill site) ≡ full_at which site
-fulls_of Dacl site = refl
-fulls_of Sacl site = refl
+fulls_of = grind arith
 
 stored_full : (which : Which) (path : List (List ℕ)) (node : Node)
     → full_at which (stored_site path node) ≡ full_of (held_of which node)
-stored_full Dacl path node = refl
-stored_full Sacl path node = refl
+stored_full = grind arith
 
 -- what is listed of a child
 abbrev pub shown : Node → List ℕ × ObjKind
@@ -126,8 +116,7 @@ shown node = (node.name, node.kind)
 names_kept : (content : Content) (nodes : List Node)
     → map shown (map (kept_node content) nodes) ≡ map shown nodes
 names_kept content [] = refl
-names_kept content (node ∷ nodes) =
-    ap (λ rest. (node.name, node.kind) ∷ rest) (names_kept content nodes)
+names_kept content (node ∷ nodes) = rw (names_kept content nodes)
 
 module _ (asker : Asker) (path : List (List ℕ)) where
   pub served_bytes : (old new : Rows) (node : Node) (bytes : List ℕ) → AreRows old
@@ -136,13 +125,10 @@ module _ (asker : Asker) (path : List (List ℕ)) where
       → Some bytes ≡ body_of old.read node.id
       → IsServed asker (Read path) old (Bytes bytes) new
   served_bytes old new node bytes are reached body =
-      served asker path (Read path)
-      (λ target. of_kind Document target ∷ Check target (read_data ∷ []) ∷ []) (λ along content. refl)
-      (λ site. refl)
+      served asker path (Read path) _ (λ along content. refl) (λ site. refl)
       (λ content target. Bytes (unwrap_or (body_of content target.node.id) []))
       (λ content id. refl) old new node (Bytes bytes) are reached
-      (λ target filled. ap (λ (s : Site). Bytes (unwrap_or (body_of old.read s.node.id) [])) filled
-      ∙ ap (λ (o : Option (List ℕ)). Bytes (unwrap_or o [])) (sym body)) refl
+      (λ target filled. grind (arith, filled, body)) refl
       (stored_site path node, reached.found, (bytes, refl, sym body)) refl
 
   pub served_names : (old new : Rows) (node : Node) (names : List (List ℕ × ObjKind)) → AreRows old
@@ -159,64 +145,54 @@ module _ (asker : Asker) (path : List (List ℕ)) where
       sound_names : names ≡ map shown (children_of old.read node.id)
           → IsServed asker (ListFolder path) old (Names names) new
       sound_names listed =
-          served asker path (ListFolder path)
-          (λ target. of_kind Folder target ∷ Check target (read_data ∷ []) ∷ [])
-          (λ along content. refl) (λ site. refl)
+          served asker path (ListFolder path) _ (λ along content. refl) (λ site. refl)
           (λ content target. Names (map shown (children_of content target.node.id)))
           (λ content id. refl) old new node (Names names) are reached
           (λ target filled. ap
           (λ (s : Site). Names (map shown (children_of (meaning old.read) s.node.id))) filled
-          ∙ ap (λ (nodes : List Node). Names (map shown nodes))
-          (children_of-with_each old.read (kept_node old.read)
-          (keeps_places old.read (kept_node old.read)
-          (λ n. record { number = refl; parent = refl; name = refl })) node.id)
-          ∙ ap (λ (l : List (List ℕ × ObjKind)). Names l)
-          (names_kept old.read (children_of old.read node.id) ∙ sym listed)) refl
-          (stored_site path node, reached.found, (names, refl, named)) refl
+          ∙ rw (
+            children_of-with_each old.read (kept_node old.read)
+                (keeps_places old.read (kept_node old.read)
+                (λ n. record { number = refl; parent = refl; name = refl })) node.id,
+            names_kept,
+            listed,
+          ))
+          refl (stored_site path node, reached.found, (names, refl, named)) refl
 
   pub served_list : (which : Which) (old new : Rows) (node : Node) (reply : Reply) → AreRows old
       → IsReached asker path (λ target. Check target (read_acl ∷ []) ∷ []) old (Ok node) new
       → reply ≡ Lists (held_of which node).flags (full_of (held_of which node))
       → IsServed asker (ReadList path which) old reply new
   served_list which old new node reply are reached replies =
-      served asker path (ReadList path which) (λ target. Check target (read_acl ∷ []) ∷ [])
-      (λ along content. refl) (λ site. refl)
+      served asker path (ReadList path which) _ (λ along content. refl) (λ site. refl)
       (λ content target. Lists (held_of which target.node).flags (full_at which target))
       (λ content id. refl) old new node reply are reached
-      (λ target filled. ap (λ f. Lists f (full_at which target)) (sym (flags_of which target))
-      ∙ ap (λ l. Lists (held_of which (fill target).node).flags l) (sym (fulls_of which target))
-      ∙ ap (λ (s : Site). Lists (held_of which s.node).flags (full_at which s)) filled
-      ∙ ap (λ l. Lists (held_of which node).flags l) (stored_full which path node) ∙ sym replies)
-      (ap failure_told replies) (
-        stored_site path node,
-        reached.found,
-        replies ∙ ap (λ l. Lists (held_of which node).flags l) (sym (stored_full which path node)),
-      ) refl
+      (λ target filled. let flags = flags_of which target in let fulls = fulls_of which target in
+      let full = stored_full which path node in grind (arith, filled, replies))
+      (rw replies) (stored_site path node, reached.found, rw (replies, stored_full which path node))
+      refl
 
   pub served_attr : (old new : Rows) (node : Node) (reply : Reply) → AreRows old
       → IsReached asker path (λ target. Check target (read_attributes ∷ []) ∷ []) old (Ok node) new
       → reply ≡ Attr node.kind node.owners → IsServed asker (ReadAttr path) old reply new
   served_attr old new node reply are reached replies =
-      served asker path (ReadAttr path) (λ target. Check target (read_attributes ∷ []) ∷ [])
-      (λ along content. refl) (λ site. refl)
-      (λ content target. Attr target.node.kind target.node.owners)
-      (λ content id. refl) old new node reply are reached
-      (λ target filled. ap (λ (s : Site). Attr s.node.kind s.node.owners) filled ∙ sym replies)
-      (ap failure_told replies) (stored_site path node, reached.found, replies) refl
+      served asker path (ReadAttr path) _ (λ along content. refl) (λ site. refl)
+      (λ content target. Attr target.node.kind target.node.owners) (λ content id. refl)
+      old new node reply are reached (λ target filled. grind (arith, filled, replies)) (rw replies)
+      (stored_site path node, reached.found, replies) refl
 
   pub served_rulings : (mask : List ℕ) (old new : Rows) (node : Node) (reply : Reply) → AreRows old
       → IsReached asker path (λ _. []) old (Ok node) new
       → reply ≡ Rulings (rulings_at asker node mask)
       → IsServed asker (Can path mask) old reply new
   served_rulings mask old new node reply are reached replies =
-      served asker path (Can path mask) (λ _. []) (λ along content. refl) (λ site. refl)
+      served asker path (Can path mask) _ (λ along content. refl) (λ site. refl)
       (λ content target. Rulings
       (map (λ bit. (bit ∷ [], ruling_of (full_at Dacl target) asker.caller target.node.owners bit))
       mask)) (λ content id. refl) old new node reply are reached
-      (λ target filled. ap
-      (λ (s : Site). Rulings
+      (λ target filled. ap (λ (s : Site). Rulings
       (map (λ bit. (bit ∷ [], ruling_of (full_at Dacl s) asker.caller s.node.owners bit)) mask))
-      filled ∙ sym replies) (ap failure_told replies)
+      filled ∙ sym replies) (rw replies)
       (stored_site path node, reached.found, replies) refl
 
 -- ---- the same in terms of the calls
@@ -235,99 +211,53 @@ pub reached_as : (asker : Asker) (path : List (List ℕ)) (items : List ℕ → 
     (bits named : List ℕ) (outcome : Result Node Reply) (old new : Rows) → bits ≡ named
     → IsReached asker path (items bits) old outcome new
     → IsReached asker path (items named) old outcome new
-reached_as asker path items bits named outcome old new same reached =
-    subst (λ (b : List ℕ). IsReached asker path (items b) old outcome new) same reached
+reached_as asker path items bits named outcome old new same reached = rw same at reached
 
 -- a row that can't be read afterwards couldn't be read before
 pub reached_damaged : (asker : Asker) (path : List (List ℕ)) (items : Site → List Item)
     (outcome : Result Node Reply) (old mid : Rows) (row : ℕ)
     → IsReached asker path items old outcome mid → IsUnreadable mid row → IsDamaged old row
 reached_damaged asker path items outcome old mid row reached h =
-    inl (inl (subst (λ (r : Rows). IsUnreadable r row) reached.judged.notes h))
-
--- nothing is changed after the walk
-pub reached_then : (asker : Asker) (path : List (List ℕ)) (items : Site → List Item)
-    (outcome : Result Node Reply) (old mid new : Rows) → new ≡ mid
-    → IsReached asker path items old outcome mid → IsReached asker path items old outcome new
-reached_then asker path items outcome old mid new same reached =
-    subst (λ (r : Rows). IsReached asker path items old outcome r) (sym same) reached
+    inl (inl (rw reached.judged.notes at h))
 
 -- ---- a document has bytes
 
 pub none_both : (a b : Option Reply) → None ≡ or_else a b → (None ≡ a) × (None ≡ b)
-none_both None b is = (refl, is)
-none_both (Some reply) b is = absurd (let wrong : ⊥ = cc in wrong)
+none_both = grind arith
 
 site_there : (content : Content) → Rises content
     → (path names : List (List ℕ)) (node : Node) (site : Site) → node_at content node.id ≡ Some node
     → site_at (stored_from content path node names) names ≡ Some site
     → node_at content site.node.id ≡ Some site.node
-site_there content rises path [] node site there is =
-    ap (λ (s : Site). node_at content s.node.id) (sym (same is)) ∙ there
-    ∙ ap (λ (s : Site). Some s.node) (same is)
-  where
-    same : Some (stored_site path node) ≡ Some site → stored_site path node ≡ site
-    same is = cc
+site_there content rises path [] node site there is = grind arith
 site_there content rises path (name ∷ names) node site there is =
-    on (child_of content node.id name)
-    (λ child found at. site_there content rises (path ++ name ∷ []) names child site
-    (child_of-is_there content rises node.id name child found) at) is
-  where
-    on : (o : Option Node)
-        → ((child : Node) → o ≡ Some child
-        → site_at (stored_from content (path ++ name ∷ []) child names) names ≡ Some site
-        → node_at content site.node.id ≡ Some site.node)
-        → site_at (option_map_or (λ child. stored_from content (path ++ name ∷ []) child names) o
-        []) names ≡ Some site → node_at content site.node.id ≡ Some site.node
-    on None known is = absurd (let wrong : ⊥ = cc in wrong)
-    on (Some child) known is = known child refl is
+    let next = λ (child : Node) (found : child_of content node.id name ≡ Some child).
+    site_there content rises (path ++ name ∷ []) names child site
+    (child_of-is_there content rises node.id name child found) in grind arith
 
 -- what was reached is there
 pub along_there : (content : Content) → Rises content → (path : List (List ℕ)) (site : Site)
     → site_at (stored_along content path) path ≡ Some site
     → node_at content site.node.id ≡ Some site.node
 along_there content rises path site is =
-    on (root_of content) (λ root found. root_of-is_there content rises root found) is
-  where
-    on : (o : Option Node) → ((root : Node) → o ≡ Some root → node_at content root.id ≡ Some root)
-        → site_at (option_map_or (λ root. stored_from content [] root path) o []) path ≡ Some site
-        → node_at content site.node.id ≡ Some site.node
-    on None known is = absurd (let wrong : ⊥ = cc in wrong)
-    on (Some root) known is = site_there content rises [] path root site (known root refl) is
+    let next = λ (root : Node) (found : root_of content ≡ Some root).
+    site_there content rises [] path root site (root_of-is_there content rises root found) in
+    grind arith
 
 pub folder_fails : (caller : Rattle.room_entry.specs.declared.parties.Caller.Caller) (site : Site)
     → None ≡ failure caller (no_folder site) → is_document site.node.kind ≡ true
-folder_fails caller site passes = on (is_document site.node.kind) passes
-  where
-    on : (t : Bool)
-        → None
-        ≡ cond (not t)
-        (Some (Rattle.room_machine.specs.declared.reply.Reply.TheVariants.Refused site.path
-        Rattle.room_machine.specs.declared.reply.Reason.TheVariants.WrongKind)) None → t ≡ true
-    on true passes = refl
-    on false passes = absurd (let wrong : ⊥ = cc in wrong)
+folder_fails caller site passes = grind arith
 
 -- a document that was reached is there, and is one
 pub document_there : (asker : Asker) (path : List (List ℕ)) (bits : List ℕ) (old new : Rows)
     (node : Node) → AreRows old → IsReached asker path (DocumentAt bits) old (Ok node) new
     → (node_at old.read node.id ≡ Some node) × (is_document node.kind ≡ true)
 document_there asker path bits old new node are reached =
-    let site : Site = stored_site path node in
-    let judged : None ≡ first_failure asker.caller
-    (way false (stored_along old.read path) path ++ (no_folder site ∷ Check site bits ∷ [])) =
-    reached.judged.answers
-    ∙ ap
-    (λ o. first_failure asker.caller
-    (way false (stored_along old.read path) path
-    ++ where_found o (λ target. no_folder target ∷ Check target bits ∷ []))) reached.found in
-    let at_site = none_both
-    (first_failure asker.caller (way false (stored_along old.read path) path)) _
-    (judged ∙ failure_of_parts asker.caller asker.moment
-    (way false (stored_along old.read path) path) (no_folder site ∷ Check site bits ∷ [])) in (
+    let site = stored_site path node in
+    let parts = none_both _ _ (rw (reached.found, failure_of_parts asker.caller asker.moment)
+    at reached.judged.answers) in (
       along_there old.read are.numbers path site reached.found,
-      folder_fails asker.caller site
-          (none_both (failure asker.caller (no_folder site))
-          (first_failure asker.caller (Check site bits ∷ [])) at_site.1).0,
+      folder_fails asker.caller site (none_both _ _ parts.1).0,
     )
 
 -- a document that lacks bytes, after the records of the way to it
@@ -335,15 +265,14 @@ pub no_bytes : (asker : Asker) (path : List (List ℕ)) (bits : List ℕ) (old m
     (row : ℕ) → AreRows old → IsReached asker path (DocumentAt bits) old (Ok node) mid
     → HasNoBytes node.id mid row → IsDamaged old row
 no_bytes asker path bits old mid node row are reached (inl unreadable) =
-    inl (inl (subst (λ (r : Rows). IsUnreadable r row) reached.judged.notes unreadable))
+    inl (inl (rw reached.judged.notes at unreadable))
 no_bytes asker path bits old mid node row are reached (inr lacks) =
     let document = document_there asker path bits old mid node are reached in
     inr (
       node,
-      ap (node_at old.read) lacks.0 ∙ document.0,
+      rw lacks.0 document.0,
       document.1,
-      ap (body_of old.read) lacks.0
-          ∙ sym (ap (λ (r : Rows). body_of r.read node.id) reached.judged.notes) ∙ lacks.1,
+      rw lacks.0 (rw reached.judged.notes at lacks.1),
     )
 
 -- ---- what is answered after the walk
@@ -353,16 +282,12 @@ module _ (asker : Asker) (path : List (List ℕ)) where
       → IsReached asker path (DocumentAt (read_data ∷ [])) old (Ok node) mid
       → IsBytesOf node.id mid reply → new ≡ mid → IsServed asker (Read path) old reply new
   bytes_answered old mid new node reply are reached told same =
-      subst (λ (r : Reply). IsServed asker (Read path) old r new) (sym told.reply_is)
-      (served_bytes asker path old new node told.bytes are
-      (reached_then asker path (DocumentAt (read_data ∷ [])) (Ok node) old mid new same reached)
-      (sym told.are ∙ ap (λ (r : Rows). body_of r.read node.id) reached.judged.notes))
+      rw told.reply_is (served_bytes asker path old new node told.bytes are (rw same reached)
+      (sym (rw reached.judged.notes at told.are)))
 
   pub names_answered : (old mid new : Rows) (node : Node) (reply : Reply) → AreRows old
       → IsReached asker path (FolderAt (read_data ∷ [])) old (Ok node) mid
       → AreNamesOf node.id mid reply → new ≡ mid → IsServed asker (ListFolder path) old reply new
   names_answered old mid new node reply are reached told same =
-      subst (λ (r : Reply). IsServed asker (ListFolder path) old r new) (sym told.reply_is)
-      (served_names asker path old new node told.names are
-      (reached_then asker path (FolderAt (read_data ∷ [])) (Ok node) old mid new same reached)
-      (subst (λ (r : Rows). AreNamedUnder node.id r told.names) reached.judged.notes told.are))
+      rw told.reply_is (served_names asker path old new node told.names are (rw same reached)
+      (rw reached.judged.notes at told.are))

@@ -1,5 +1,5 @@
 -- A request that changes nothing but records is a step.
-use Rattle.std.proofs.Common.{◌≡◌, ℕ, List, Option, Some, None, refl, sym, ap, subst, ◌∙◌}
+use Rattle.std.proofs.Common.{◌≡◌, ℕ, List, Option, Some, None, refl, sym, ap, ◌∙◌}
 use Rattle.room_entry.specs.declared.parties.Caller.{Caller}
 use Rattle.room_rows.specs.Content.{Content, with_records}
 use Rattle.room_rows.specs.Meaning.{meaning}
@@ -15,6 +15,8 @@ use Rattle.room_machine.specs.Step.{Step, caller_in, failure_or, done_with_recor
 use Rattle.room_judge.specs.Judged.{IsJudged, IsKnown, IsStepOfRows, with_notes}
 use Rattle.room_machine.proofs.Free.{some_free}
 use Rattle.room_desk.proofs.Sound.SoundParts.{sound_noted}
+use Rattle.std.proofs.Common.{arith}
+use Rattle.std.proofs.lemmas.Bool.Decides.{nat_tests}
 
 -- the rows and what they mean have the same pairs
 caller_kept : (rows : Content) (user : Option (List ℕ))
@@ -44,15 +46,7 @@ module _ (asker : Asker) (request : Request) (old : Rows) (known : IsKnown asker
       )
       → new ≡ with_notes old (records_of_plan asker.caller asker.moment (plan_of content request))
       → IsStepOfRows asker.caller.user asker.moment request old reply new
-  by_records id free new reply makes notes = record {
-    step = (
-      id,
-      free,
-      ap (made id) (caller_kept old.read asker.caller.user ∙ sym known) ∙ makes
-          ∙ ap (λ (r : Rows). (reply, meaning r.read)) (sym notes),
-    );
-    sound = subst AreSound (sym notes) (sound_noted old _ sound);
-  }
+  by_records id free new reply makes notes = grind (arith, nat_tests, caller_kept, sound_noted)
 
   pub refused_step : (new : Rows) (reply : Reply)
       → IsJudged asker (plan_of content request) old (Some reply) new
@@ -88,22 +82,8 @@ module _ (asker : Asker) (request : Request) (old : Rows) (known : IsKnown asker
       → meaning new.read
       ≡ with_records after (records_of_plan asker.caller asker.moment (plan_of content request))
       → AreSound new → IsStepOfRows asker.caller.user asker.moment request old reply new
-  made_step id free mid new reply after judged changes means stays = record {
-    step = (
-      id,
-      free,
-      ap (made id) (caller_kept old.read asker.caller.user ∙ sym known)
-          ∙ ap (λ o. done_with_records
-          (failure_or o content (effect content asker.caller id request))
-          (records_of_plan asker.caller asker.moment (plan_of content request)))
-          (sym judged.answers)
-          ∙ ap (λ d. done_with_records d
-          (records_of_plan asker.caller asker.moment (plan_of content request)))
-          changes
-          ∙ ap (λ (c : Content). (reply, c)) (sym means),
-    );
-    sound = stays;
-  }
+  made_step id free mid new reply after judged changes means stays =
+      grind (arith, nat_tests, caller_kept)
 
   -- the same, where the number doesn't matter
   pub changed_step : (mid new : Rows) (reply : Reply) (after : Content)

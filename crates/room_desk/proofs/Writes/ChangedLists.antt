@@ -3,7 +3,7 @@ use Rattle.std.proofs.Common.{◌≡◌, ◌∙◌, ℕ, ◌+◌, ◌≤◌, ◌
 use Rattle.std.proofs.Common.{◌∷◌, map, Option, Some, None, refl, sym, ap, subst, inl, inr, arith}
 use Rattle.std.specs.Prelude.{zero, suc, ◌||◌, ◌⊎◌, count_by}
 use Rattle.std.specs.List.{AllByRecursion as Each}
-use Rattle.std.specs.Option.{option_map, option_map_or}
+use Rattle.std.specs.Option.{option_map_or}
 use Rattle.std.proofs.lemmas.Bool.{and_parts, cases_Bool, cond-false, cond-true, false≢true}
 use Rattle.std.proofs.lemmas.Bool.{false_from_ne_true, or_cases, or_left, or_right, eq-eqb}
 use Rattle.std.proofs.lemmas.Bool.{eqb-true}
@@ -13,7 +13,6 @@ use Rattle.room_entry.specs.Same.{same_entries}
 use Rattle.room_entry.specs.declared.object.Which.{Which}
 use Rattle.room_entry.proofs.Facts.Members.{count, count-is, one_if}
 use Rattle.room_entry.proofs.Same.{entries_equal}
-use Rattle.room_rows.specs.HeldList.{Held}
 use Rattle.room_rows.specs.declared.node.Node.{Node}
 use Rattle.room_rows.specs.Content.{Content, has_parent, is_linked_in, node_at, parent_of}
 use Rattle.room_rows.specs.Content.{with_each}
@@ -32,6 +31,7 @@ use Rattle.room_desk.specs.Counted.{changed_lists, has_other_list}
 use Rattle.room_desk.proofs.Lists.HandedDown.{put_one}
 use Rattle.room_desk.proofs.Placed.Climbing.{node_at-changed}
 use Rattle.room_desk.proofs.Sound.Anchored.{rooted_changed}
+use Rattle.std.proofs.lemmas.Bool.Decides.{nat_tests}
 
 -- ---- counts
 
@@ -89,43 +89,22 @@ each_here content rises P all =
 
 -- ---- other lists
 
--- with this list stored before
-abbrev other_than : Which → List Ace → Option Node → Bool
-other_than which inh now =
-    option_map_or (λ (n : Node). not (same_entries (held_of which n).inh inh)) now false
-
 module _ (which : Which) (change : Node → Node) (number : (n : Node) → (change n).id ≡ n.id)
     (same : (n : Node) → (held_of which (change n)).inh ≡ (held_of which n).inh) where
   each_before : (new : Content) (xs : List Node)
       → Each (λ n. has_other_list which new (change n) ≡ has_other_list which new n) xs
   each_before new [] = tt
-  each_before new (n ∷ xs) = (
-    ap (λ (i : ℕ). other_than which (held_of which (change n)).inh (node_at new i)) (number n)
-        ∙ ap (λ (l : List Ace). other_than which l (node_at new n.id)) (same n),
-    each_before new xs,
-  )
+  each_before new (n ∷ xs) = grind (arith, nat_tests, each_before new xs)
 
   -- before a change that leaves these lists
   pub changed_before : (old mid new : Rows) → mid.read ≡ with_each old.read change
       → changed_lists which mid new ≡ changed_lists which old new
   changed_before old mid new is =
-      ap (λ (c : Content). count_by (has_other_list which new.read) c.nodes) is
-      ∙ count-is (has_other_list which new.read) (map change old.read.nodes)
-      ∙ count_map (has_other_list which new.read) change old.read.nodes
-      ∙ count_same (λ n. has_other_list which new.read (change n)) (has_other_list which new.read)
-      old.read.nodes (each_before new.read old.read.nodes)
-      ∙ sym (count-is (has_other_list which new.read) old.read.nodes)
+      grind (arith, nat_tests, count-is, count_map, count_same, each_before)
 
   after_it : (content : Content) (n : Node)
       → has_other_list which (with_each content change) n ≡ has_other_list which content n
-  after_it content n =
-      ap (other_than which (held_of which n).inh) (node_at-changed content change number n.id)
-      ∙ on (node_at content n.id)
-    where
-      on : (o : Option Node) → other_than which (held_of which n).inh (option_map change o)
-          ≡ other_than which (held_of which n).inh o
-      on None = refl
-      on (Some m) = ap (λ (l : List Ace). not (same_entries l (held_of which n).inh)) (same m)
+  after_it content n = grind (arith, nat_tests, node_at-changed)
 
   each_after : (content : Content) (xs : List Node)
       → Each (λ n. has_other_list which (with_each content change) n
@@ -160,11 +139,7 @@ module _ (which : Which) (id changed : ℕ) (old new : Rows)
       → has_other_list which new.read n
       ≡ not (same_entries (spread.lists m) (held_of which n).inh)
   now_other n m there =
-      ap (other_than which (held_of which n).inh)
-      (ap (λ (c : Content). node_at c n.id) read_is
-      ∙ node_at-changed old.read change spread_number n.id ∙ ap (option_map change) there)
-      ∙ ap (λ (h : Held). not (same_entries h.inh (held_of which n).inh))
-      (held_of-with_inh which (spread.lists m) m)
+      grind (arith, nat_tests, held_of-with_inh, node_at-changed, read_is, spread_number)
 
   -- as many are other as are counted
   pub spread_changes : Rises old.read → changed_lists which old new ≡ changed
@@ -221,11 +196,7 @@ module _ (which : Which) (id : ℕ) (change : Node → Node)
       ∙ put_one old.read rooted.rises id node rooted.there change number
 
   first_number : (n : Node) → (first n).id ≡ n.id
-  first_number n = on (n.id == id)
-    where
-      on : (t : Bool) → (cond t (change n) n).id ≡ n.id
-      on true = number n
-      on false = refl
+  first_number n = grind (arith, nat_tests)
 
   named : node.id ≡ id
   named = node_at-number old.read id node rooted.there
@@ -236,9 +207,7 @@ module _ (which : Which) (id : ℕ) (change : Node → Node)
 
   -- it stands there with the changed list, and isn't below itself
   now_there : node_at mid.read id ≡ Some (change node)
-  now_there =
-      ap (λ (c : Content). node_at c id) mid_is ∙ node_at-changed old.read first first_number id
-      ∙ ap (option_map first) rooted.there ∙ ap (λ (n : Node). Some n) is_here
+  now_there = grind (arith, nat_tests, first_number, is_here, mid_is, node_at-changed)
 
   abbrev lists : Node → List Ace
   lists = down.1.lists
@@ -256,13 +225,7 @@ module _ (which : Which) (id : ℕ) (change : Node → Node)
 
   -- so it has that list in the end
   kept : lists (change node) ≡ (held_of which (change node)).inh
-  kept = on (same_entries (lists (change node)) (held_of which (change node)).inh) refl
-    where
-      on : (t : Bool) → same_entries (lists (change node)) (held_of which (change node)).inh ≡ t
-          → lists (change node) ≡ (held_of which (change node)).inh
-      on true same =
-          entries_equal (lists (change node)) (held_of which (change node)).inh same
-      on false isnt = absurd (false≢true (sym unchanged ∙ ap not isnt))
+  kept = grind (arith, nat_tests, entries_equal, unchanged)
 
   other_first : has_other_list which new.read (first node) ≡ false
   other_first =
@@ -302,26 +265,13 @@ module _ (which : Which) (id : ℕ) (change : Node → Node)
   -- the lists below it
   below_it : changed_lists which mid new
       ≡ count (λ n. has_other_list which new.read (first n)) old.read.nodes
-  below_it =
-      ap (λ (c : Content). count_by (has_other_list which new.read) c.nodes) mid_is
-      ∙ count-is (has_other_list which new.read) (map first old.read.nodes)
-      ∙ count_map (has_other_list which new.read) first old.read.nodes
+  below_it = grind (arith, nat_tests, count-is, count_map, mid_is)
 
   pub fewer : changed_lists which mid new ≤ changed_lists which old new
-  fewer =
-      let less = count_less (λ n. has_other_list which new.read (first n))
-      (has_other_list which new.read) old.read.nodes each_less in
-      let all = count-is (has_other_list which new.read) old.read.nodes in
-      let below = below_it in
-      omega arith
+  fewer = grind (arith, nat_tests, below_it, count-is, count_less, each_less)
 
   -- and its own, where that is another one
   pub one_fewer : has_other_list which new.read node ≡ true
       → changed_lists which mid new + 1 ≤ changed_lists which old new
   one_fewer other =
-      let less = count_one_less (λ n. has_other_list which new.read (first n))
-      (has_other_list which new.read) id node old.read.nodes each_less rooted.there other_first
-      other in
-      let all = count-is (has_other_list which new.read) old.read.nodes in
-      let below = below_it in
-      omega arith
+      grind (arith, nat_tests, below_it, count-is, count_one_less, each_less, other_first)

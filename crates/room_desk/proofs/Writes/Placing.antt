@@ -1,5 +1,5 @@
 -- How many writes suffice to give an object another place.
-use Rattle.std.proofs.Common.{◌≡◌, ◌∙◌, ℕ, ◌+◌, ◌≤◌, ◌==◌, Bool, true, false, cond, not, List, []}
+use Rattle.std.proofs.Common.{◌≡◌, ◌∙◌, ℕ, ◌+◌, ◌≤◌, ◌==◌, false, cond, not, List, []}
 use Rattle.std.proofs.Common.{◌++◌}
 use Rattle.std.proofs.Common.{Option, Some, None, Ok, length, refl, sym, ap, subst, arith}
 use Rattle.std.specs.Prelude.{zero, suc, ◌&&◌}
@@ -36,6 +36,7 @@ use Rattle.room_desk.proofs.Placed.PlacingCalls.{FirstDone, is_at, placed_has, p
 use Rattle.room_desk.proofs.Steps.Serving.{none_both}
 use Rattle.room_desk.proofs.Writes.ChangedLists.{changed_after, changed_before}
 use Rattle.room_desk.proofs.Writes.Sufficing.{rooted_unrecorded}
+use Rattle.std.proofs.lemmas.Bool.Decides.{nat_tests}
 
 -- ---- whatever the records are
 
@@ -62,33 +63,13 @@ goes_beside (suc n) content audits other (Some id) =
 can_go_beside : (target folder : Node) (name : List ℕ) (old : Rows) (audits : List AuditRow)
     → CanGo target folder name old
     → CanGo target folder name (with_content old (with_audits old.read audits))
-can_go_beside target folder name old audits can = record {
-  are =
-      record {
-        numbers = can.are.numbers;
-        unreadable = can.are.unreadable;
-        apart = can.are.apart;
-        body_numbers = can.are.body_numbers;
-        bodies = can.are.bodies;
-        members = can.are.members;
-      };
-  target_there = can.target_there;
-  folder_there = can.folder_there;
-  folder_is = can.folder_is;
-  is_free = can.is_free;
-  steps = can.steps;
-  past = goes_beside can.steps old.read audits target.id (Some folder.id) ∙ can.past;
-}
+can_go_beside target folder name old audits can = grind (arith, nat_tests, goes_beside)
 
 pub stands_unrecorded : (path : List (List ℕ)) (root node : Node) (old : Rows)
     → root_of old.read ≡ Some root
     → site_at (stored_along old.read path) path ≡ Some (stored_site path node)
     → StandsAlong path root node (unrecorded old)
-stands_unrecorded path root node old is found = (
-  is,
-  ap (λ sites. site_at sites path)
-      (sym (along_noted (unrecorded old).read old.read.audits path)) ∙ found,
-)
+stands_unrecorded path root node old is found = grind (arith, nat_tests, along_noted)
 
 -- ---- where the walk came to the new folder, the object can go there
 
@@ -140,20 +121,12 @@ module _ (id : ℕ) (change : Node → Node) where
   single n = cond (n.id == id) (change n) n
 
   single_number : ((n : Node) → (change n).id ≡ n.id) → (n : Node) → (single n).id ≡ n.id
-  single_number number n = on (n.id == id)
-    where
-      on : (t : Bool) → (cond t (change n) n).id ≡ n.id
-      on true = number n
-      on false = refl
+  single_number number n = grind (arith, nat_tests)
 
   single_list : (which : Which)
       → ((n : Node) → (held_of which (change n)).inh ≡ (held_of which n).inh) → (n : Node)
       → (held_of which (single n)).inh ≡ (held_of which n).inh
-  single_list which same n = on (n.id == id)
-    where
-      on : (t : Bool) → (held_of which (cond t (change n) n)).inh ≡ (held_of which n).inh
-      on true = same n
-      on false = refl
+  single_list which same n = grind (arith, nat_tests)
 
 -- ---- the place, and both lists
 

@@ -1,15 +1,15 @@
 -- How many calls read: calls of a keeper one after the other.
 use Rattle.std.proofs.Common.{◌≡◌, ℕ, ◌+◌, ◌*◌, ◌≤◌, ◌<◌, ◌^◌, ◌-◌, Bool, true, false, Result}
-use Rattle.std.proofs.Common.{Ok, Err, IfOk, arith, subst, sym}
+use Rattle.std.proofs.Common.{Ok, Err, IfOk, arith}
 use Rattle.std.specs.Result.{IsErrAnd}
 use Rattle.room_rows.specs.declared.keep.Keep.{Ghosts}
 use Rattle.room_rows.specs.declared.keep.KeepFault.{KeepFault}
 use Rattle.room_rows.specs.Keep.{capped}
 use Rattle.room_machine.specs.declared.reply.Reply.{Reply}
 use Rattle.room_judge.specs.declared.halt.Halt.{Halt}
-use Rattle.room_judge.specs.declared.halt.Halt.TheVariants.{Refused, Fault}
 use Rattle.room_judge.specs.Halted.{reply_of, settled}
 use Rattle.room_desk.specs.Called.{ReadsBeside, ReadsFew}
+use Rattle.std.proofs.lemmas.Bool.Decides.{nat_tests}
 
 module _ {S : Type 0} (k : Ghosts S) where
   -- nothing is said where there is no answer
@@ -42,10 +42,7 @@ module _ {S : Type 0} (k : Ghosts S) where
   pub reads_carried : (a b : S) (count changed : ℕ)
       → (changed < 2 ^ 64 - 1 → k.reads b ≤ k.reads a + (2 * changed + count))
       → k.writes b ≡ capped (k.writes a + changed) → ReadsBeside k count a b
-  reads_carried a b count changed reads written = λ below.
-      let fits : changed < 2 ^ 64 - 1 = omega (arith, written, below) in
-      let few = reads fits in
-      omega (arith, few, written, below)
+  reads_carried a b count changed reads written = grind (arith, nat_tests)
 
   -- so many calls read before those of a request
   pub reads_before : {X : Type 0} (down : Bool) (r : Result X KeepFault) (a b c : S)
@@ -61,11 +58,4 @@ module _ {S : Type 0} (k : Ghosts S) where
       (r : Result Reply KeepFault) → r ≡ reply_of outcome
       → ReadsFew k down count a b (settled outcome) → ReadsFew k down count a b r
   reads_replied false count a b outcome r is few = few
-  reads_replied true count a b outcome r is few =
-      subst (λ x. IfOk x (λ _. ReadsBeside k count a b)) (sym is) (on outcome few)
-    where
-      on : (o : Result Reply Halt) → IfOk (settled o) (λ _. ReadsBeside k count a b)
-          → IfOk (reply_of o) (λ _. ReadsBeside k count a b)
-      on (Ok reply) few = few
-      on (Err (Refused reply)) few = few
-      on (Err (Fault fault)) few = tt
+  reads_replied true count a b outcome r is few = grind (arith, nat_tests)

@@ -10,15 +10,14 @@ use Rattle.room_entry.specs.declared.object.Which.{Which}
 use Rattle.room_entry.specs.declared.object.Which.TheVariants.{Dacl, Sacl}
 use Rattle.room_rows.specs.declared.node.NewNode.{NewNode}
 use Rattle.room_rows.specs.declared.node.Node.{Node}
-use Rattle.room_rows.specs.Content.{child_of, node_at, reaches_root}
+use Rattle.room_rows.specs.Content.{node_at, reaches_root}
 use Rattle.room_rows.specs.HeldList.{Held}
 use Rattle.room_rows.specs.Held.{held_of}
 use Rattle.room_rows.specs.Keep.{Adds, CanAdd, Changes, IsDocumentAt, SetsBody, with_inh}
 use Rattle.room_rows.specs.Rows.{Rows, AreRows}
 use Rattle.room_rows.proofs.InPlace.{held_of-with_inh, place-with_inh}
-use Rattle.room_machine.specs.Judge.{failure, first_failure}
 use Rattle.room_machine.specs.Plan.{Check, no_folder}
-use Rattle.room_machine.specs.Site.{Site, last_name, site_at}
+use Rattle.room_machine.specs.Site.{Site, site_at}
 use Rattle.room_machine.specs.Stored.{stored_along, stored_site}
 use Rattle.room_judge.specs.Extent.{unrecorded}
 use Rattle.room_judge.specs.Judged.{IsJudged}
@@ -41,6 +40,7 @@ use Rattle.room_desk.proofs.Moves.MovingSteps.{some_name}
 use Rattle.room_desk.proofs.Sound.RootedWays.{rooted_along}
 use Rattle.room_desk.proofs.Steps.Serving.{along_there, folder_fails, none_both}
 use Rattle.room_desk.proofs.Writes.ChangedLists.{one_fewer, other_node}
+use Rattle.std.proofs.lemmas.Bool.Decides.{nat_tests}
 
 -- ---- one call that writes one object leaves the records
 
@@ -55,20 +55,11 @@ one_changed id change node old new more changes there enough =
 pub one_put : (id : ℕ) (bytes : List ℕ) (old new : Rows) (more : ℕ) → SetsBody id bytes old new
     → Provided (λ rows. IsDocumentAt rows id) OneWrite (unrecorded old) (unrecorded new) more
     → 1 + length old.read.audits ≤ length new.read.audits + more
-one_put id bytes old new more sets enough =
-    let document : IsDocumentAt old id = enough.0 in
-    let same : length new.read.audits ≡ length old.read.audits = ap
-    (λ (r : Rows). length r.read.audits) (sets document) in
-    let one = enough.1 in
-    omega arith
+one_put id bytes old new more sets enough = grind (arith, nat_tests)
 
 pub one_added : (node : NewNode) (id : ℕ) (old new : Rows) (more : ℕ) → Adds node old id new
     → CanAdd node old → 1 ≤ more → 1 + length old.read.audits ≤ length new.read.audits + more
-one_added node id old new more adds can enough =
-    let same : length new.read.audits ≡ length old.read.audits = ap
-    (λ (r : Rows). length r.read.audits) (adds can).becomes
-    ∙ ap length (new_audits old.read id node) in
-    omega arith
+one_added node id old new more adds can enough = grind (arith, nat_tests, new_audits)
 
 -- ---- what suffices for both lists suffices for less
 
@@ -87,33 +78,18 @@ one_of_each which old new more enough = omega arith
 -- ---- what a walk found
 
 pub can_recorded : (node : NewNode) (old : Rows) → CanAdd node (unrecorded old) → CanAdd node old
-can_recorded node old can = record {
-  parent = can.parent;
-  parent_is = can.parent_is;
-  folder = can.folder;
-  name_is_free = can.name_is_free;
-}
+can_recorded node old can = grind (arith, nat_tests)
 
 pub document_passed : (asker : Asker) (site : Site) (mask : List ℕ) (old mid : Rows)
     → IsJudged asker (no_folder site ∷ Check site mask ∷ []) old None mid
     → is_document site.node.kind ≡ true
-document_passed asker site mask old mid judged =
-    folder_fails asker.caller site
-    (none_both (failure asker.caller (no_folder site))
-    (first_failure asker.caller (Check site mask ∷ [])) judged.answers).0
+document_passed asker site mask old mid judged = grind (arith, nat_tests, folder_fails, none_both)
 
 -- nothing has the name in the folder
 pub can_make : (path : List (List ℕ)) (folder : Node) (child : Option Node) (node : NewNode)
     (old : Rows) → node.parent ≡ Some folder.id → IsNameOf path node.name
     → IsFoundFolder old path folder child → is_none child ≡ true → CanAdd node (unrecorded old)
-can_make path folder child node old above named found none = record {
-  parent = folder.id;
-  parent_is = above;
-  folder = (folder, found.there, found.folds);
-  name_is_free =
-      ap (child_of old.read folder.id) named.last
-      ∙ is_none_none (child_of old.read folder.id (last_name path)) (found.lacks ∙ none);
-}
+can_make path folder child node old above named found none = grind (arith, nat_tests, is_none_none)
 
 pub none_if : (child : Option Node) → is_some child ≡ false → is_none child ≡ true
 none_if None is = refl
@@ -150,22 +126,10 @@ reaches_beside (suc n) old (Some id) =
     on (Some m) rest = rest m.parent
 
 pub rooted_unrecorded : (id : ℕ) (old : Rows) → IsRooted id old → IsRooted id (unrecorded old)
-rooted_unrecorded id old rooted = record {
-  rises = rooted.rises;
-  node = rooted.node;
-  there = rooted.there;
-  steps = rooted.steps;
-  reaches = reaches_beside rooted.steps old rooted.node.parent ∙ rooted.reaches;
-}
+rooted_unrecorded id old rooted = grind (arith, nat_tests, reaches_beside)
 
 pub rooted_recorded : (id : ℕ) (old : Rows) → IsRooted id (unrecorded old) → IsRooted id old
-rooted_recorded id old rooted = record {
-  rises = rooted.rises;
-  node = rooted.node;
-  there = rooted.there;
-  steps = rooted.steps;
-  reaches = sym (reaches_beside rooted.steps old rooted.node.parent) ∙ rooted.reaches;
-}
+rooted_recorded id old rooted = grind (arith, nat_tests, reaches_beside)
 
 pub stands_along : (path : List (List ℕ)) (node : Node) (old : Rows) → AreRows old
     → site_at (stored_along old.read path) path ≡ Some (stored_site path node)

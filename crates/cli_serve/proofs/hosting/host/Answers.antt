@@ -1,11 +1,11 @@
-use Rattle.std.proofs.Common.{[], inl, inr, subst, sym}
+use Rattle.std.proofs.Common.{[], inl, inr, refl, subst, sym}
 use Rattle.sqlite.specs.Held.{Held, state}
 use Rattle.room_store.specs.Crash.{Lasts}
 use Rattle.cli_serve.specs.Hosts.{Hosts}
-use Rattle.cli_serve.specs.Peers.{DoneBy, NothingDone}
-use Rattle.cli_serve.specs.Visits.{requests_of, sources, unanswered_of}
-use Rattle.cli_serve.proofs.Hosted.{after, asks_none, closed_from, leaves_requests, left_shut}
-use Rattle.cli_serve.proofs.Hosted.{opened, served}
+use Rattle.cli_serve.specs.Visits.{requests_of, unanswered_of}
+use Rattle.cli_serve.proofs.Hosted.{after, closed_from, leaves_requests, left_shut, opened, served}
+use Rattle.cli_serve.proofs.Hosted.{stays_room}
+use Rattle.cli_serve.proofs.Receiving.{no_more}
 use Rattle.cli_serve.proofs.hosting.host.Goals as goal
 
 pub returns : goal.returns
@@ -18,33 +18,34 @@ returns g c =
     let at = c.serve_at-end.ensures.served in
     let r = at.served.receives in
     let all = after old mid _ (unanswered_of r.visits) (requests_of r.visits)
-    (opened old mid _ c.in-Ok.ensures.opened) r.did.outlasts in
-    subst (λ (conn : Held g.row.S.Denot). Hosts shown service.port service.count
-    (g.P.Ports.asked service.ports) (g.P.Ports.asked c.serve_at-end.new.service.ports)
-    (sources (g.M.Moments.told service.clock) NothingDone)
-    (sources (g.M.Moments.told c.serve_at-end.new.service.clock) (DoneBy g.P.Listener.Listens.did))
+    (opened old mid _ c.in-Ok.ensures.opened) r.did.outlasts.0 in
+    subst (λ (conn : Held g.row.S.Denot). Hosts shown service.place service.count
+    (g.M.Moments.told service.clock) (g.M.Moments.told c.serve_at-end.new.service.clock)
+    (g.P.Ports.did service.ports) (g.P.Ports.did c.serve_at-end.new.service.ports)
     c.args.conn conn (g.O.Write.contents c.args.out.now)
     (g.O.Write.contents c.serve_at-end.new.out) (g.E.Write.contents c.args.err.now)
     (g.E.Write.contents c.tell_end-status.new.err) c.tell_end-status.result)
-    (sym c.into_conn.ensures.same)
+    (sym c.into_conn-conn.ensures.same)
     (inr (record {
       mid = c.in-Ok.store.conn;
       opens = c.in-Ok.ensures.opened;
-      asked_one = c.serve_at-end.ensures.asked;
       served =
-          served service.port service.count _ _ mid _ _ _ _ _ _ c.tell_end-status.result r.visits
-          c.serve_at-end.result r.few r.each r.moments r.acts r.did.trusted r.did.sound r.did.run at.served.end_says
+          served service.place service.count _ _ _ _ mid _ _ _ _ _ _ c.tell_end-status.result
+          r.visits c.serve_at-end.result r.few r.each r.moments (r.acts [] refl) r.did.trusted r.did.sound r.did.run at.served.end_says
           (left_shut _ _ c.in-Ok.store c.serve_at-end.new.desk _ (λ is. is)
           c.serve_at-end.result at.served.stays)
           c.tell_end-status.ensures.status c.serve_at-end.ensures.told at.first at.served.faults
           c.tell_end-status.ensures.told c.what_is_seen_lasts.ensures
-          (subst (λ (conn : Held g.row.S.Denot). Lasts (shown conn)) c.into_conn.ensures.same
-          c.into_conn.ensures.lasts) r.did.outlasts;
+          (subst (λ (conn : Held g.row.S.Denot). Lasts (shown conn)) c.into_conn-conn.ensures.same
+          c.into_conn-conn.ensures.lasts) r.did.outlasts.0;
       closed =
           closed_from old mid _ (requests_of r.visits) _ _ c.in-Ok.ensures.opened r.did.trusted
           r.did.closed;
       outlasts = all;
       leaves = leaves_requests old _ r.visits all c.what_is_committed_lasts.ensures;
+      stays =
+          stays_room old mid _ c.in-Ok.ensures.opened r.did.outlasts.1
+          c.what_is_committed_lasts.ensures;
     }))
 
 pub returns-in-Err : goal.returns-in-Err
@@ -58,5 +59,5 @@ returns-in-Err g c =
       told = c.tell_opening-status.ensures;
       outlasts = all;
       leaves = leaves_requests old new [] all c.what_is_committed_lasts.ensures;
-      asked_none = asks_none _;
+      asked_none = no_more _;
     })

@@ -10,18 +10,18 @@ pub returns-in_default-clause-served : goal.returns-in_default-clause-served
 returns-in_default-clause-served g c =
     let told = g.M.Moments.told c.args.clock.now in
     let did = g.L.Listens.did c.args.listening.now.listener in
-    unserved g.D.Desk g.met.D.Desk.laws c.args.listening.now.port c.args.listening.now.count
+    unserved g.D.Desk g.met.D.Desk.laws c.args.listening.now.place c.args.listening.now.count
     (sources told did) (sources told did) c.args.desk.now ServingFault.Memory _ _ _
     (no_more told) (no_more did) (writes_none _ _) refl refl
 
-pub returns-then-tell_port-clause-served : goal.returns-then-tell_port-clause-served
-returns-then-tell_port-clause-served g c =
-    record { served = c.serve_each.ensures; first = inr (c.tell_port.ensures.whole c.if-tell_port.true) }
+pub returns-then-tell_place-clause-served : goal.returns-then-tell_place-clause-served
+returns-then-tell_place-clause-served g c =
+    record { served = c.serve_each.ensures; first = inr (c.tell_place.ensures.whole c.if-tell_place.true) }
 
 pub returns-clause-served : goal.returns-clause-served
 returns-clause-served g c =
     let told = g.M.Moments.told c.args.clock.now in
     let did = g.L.Listens.did c.args.listening.now.listener in
-    unserved g.D.Desk g.met.D.Desk.laws c.args.listening.now.port c.args.listening.now.count
+    unserved g.D.Desk g.met.D.Desk.laws c.args.listening.now.place c.args.listening.now.count
     (sources told did) (sources told did) c.args.desk.now ServingFault.File _ _ _
-    (no_more told) (no_more did) c.tell_port.ensures.some (inr refl) refl
+    (no_more told) (no_more did) c.tell_place.ensures.some (inr refl) refl

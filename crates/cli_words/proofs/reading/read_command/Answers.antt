@@ -1,4 +1,6 @@
-use Rattle.std.proofs.Common.{◌≡◌, refl, sym, subst, map, true, [], List, Option, inl, inr}
+use Rattle.std.proofs.Common.{◌≡◌, ◌∙◌, refl, sym, ap, subst, map, true, false, [], List, Option}
+use Rattle.std.proofs.Common.{Result, Ok, Err, IfOk, inl, inr}
+use Rattle.std.specs.Prelude.{IfErr}
 use Rattle.std.proofs.lemmas.Bool.{false_from_ne_true}
 use Rattle.std.specs.Borrow.{Bor}
 use Rattle.clap.specs.Simple.{HasMatchesOf, is_simple}
@@ -13,9 +15,10 @@ use Rattle.room_entry.specs.declared.failure.Failure.{Failure}
 use Rattle.room_entry.specs.declared.failure.Failure.TheVariants.{OutOfMemory, Fault}
 use Rattle.cli_words.proofs.Named.{is_whole}
 use Rattle.cli_words.proofs.reading.read_command.Goals as goal
-use Rattle.cli_words.specs.Command.{IsWhole, IsCommand, IsRefused, IsTold}
+use Rattle.cli_words.specs.Command.{IsWhole, IsCommand, IsRead, IsRefused, IsTold, names_two}
 use Rattle.cli_words.specs.Line.{AreAttributes, command_line}
 use Rattle.cli_words.specs.declared.command.CliFault.{CliFault}
+use Rattle.cli_words.specs.declared.command.Command.{Command}
 
 is_exact : (names : Bor (List (Bor Text))) → is_simple_and_free (command_line names) ≡ true
 unfolding clap_on_literals
@@ -39,23 +42,63 @@ the_rows : (names : Bor (List (Bor Text))) (words : List Text) (app : App) (matc
 the_rows names words app matches same given =
     (subst (λ (a : App). HasMatchesOf a words matches) same given (is_plain names)).1
 
-pub command_met-requires : goal.command_met-requires
-command_met-requires g c =
+pub command_of-requires : goal.command_of-requires
+command_of-requires g c =
     let line = c.in_ok-line.ensures in
     let words = map g.S.AsStr.text c.args.words.now in
     subst IsWhole (sym (the_rows line.0 words _ _ line.2.0 c.in-Ok.ensures.matches))
     (is_whole line.0 words line.1 (no_fault line.0 words _ line.2.0 c.in-Ok.ensures.kinds))
 
+-- what was read of the matches is what the words are
+read_by : (names : Bor (List (Bor Text))) (words : List Text) (found : Option (Text × List Row))
+    (result : Result Command (Failure CliFault)) → AreAttributes names
+    → fault_of (command_line names) words ≡ []
+    → found ≡ subcommand_of (command_line names) words
+    → IfOk result (λ command. (names_two found ≡ false) × IsCommand found command)
+    → IfOk result (IsRead words)
+read_by names words found (Ok command) two none is read = (
+  names,
+  two,
+  none,
+  sym (ap names_two is) ∙ read.0,
+  subst (λ (rows : Option (Text × List Row)). IsCommand rows command) is read.1,
+)
+read_by names words found (Err failure) two none is read = tt
+
+refused_by : (names : Bor (List (Bor Text))) (words : List Text)
+    (found : Option (Text × List Row)) (failure : Failure CliFault) → AreAttributes names
+    → fault_of (command_line names) words ≡ []
+    → found ≡ subcommand_of (command_line names) words → names_two found ≡ true
+    → IsTold kinds.ArgumentConflict failure → IsRefused words failure
+refused_by names words found OutOfMemory two none is both told = tt
+refused_by names words found (Fault fault) two none is both told =
+    (names, two, inr (none, sym (ap names_two is) ∙ both, told.0))
+
+named_two : (names : Bor (List (Bor Text))) (words : List Text) (found : Option (Text × List Row))
+    (result : Result Command (Failure CliFault)) → AreAttributes names
+    → fault_of (command_line names) words ≡ []
+    → found ≡ subcommand_of (command_line names) words
+    → IfErr result (λ failure. (names_two found ≡ true) × IsTold kinds.ArgumentConflict failure)
+    → IfErr result (IsRefused words)
+named_two names words found (Ok command) two none is named = tt
+named_two names words found (Err failure) two none is named =
+    refused_by names words found failure two none is named.0 named.1
+
 pub returns-in-Ok-clause-ok : goal.returns-in-Ok-clause-ok
 returns-in-Ok-clause-ok g c =
     let line = c.in_ok-line.ensures in
-    let words = map g.S.AsStr.text c.args.words.now in (
-      line.0,
-      line.1,
-      no_fault line.0 words _ line.2.0 c.in-Ok.ensures.kinds,
-      subst (λ (found : Option (Text × List Row)). IsCommand found c.command_met.result)
-          (the_rows line.0 words _ _ line.2.0 c.in-Ok.ensures.matches) c.command_met.ensures,
-    )
+    let words = map g.S.AsStr.text c.args.words.now in
+    read_by line.0 words _ c.command_of.result line.1
+    (no_fault line.0 words _ line.2.0 c.in-Ok.ensures.kinds)
+    (the_rows line.0 words _ _ line.2.0 c.in-Ok.ensures.matches) c.command_of.ensures.ok
+
+pub returns-in-Ok-clause-err : goal.returns-in-Ok-clause-err
+returns-in-Ok-clause-err g c =
+    let line = c.in_ok-line.ensures in
+    let words = map g.S.AsStr.text c.args.words.now in
+    named_two line.0 words _ c.command_of.result line.1
+    (no_fault line.0 words _ line.2.0 c.in-Ok.ensures.kinds)
+    (the_rows line.0 words _ _ line.2.0 c.in-Ok.ensures.matches) c.command_of.ensures.err
 
 told_fault : (names : Bor (List (Bor Text))) (words : List Text) (error : Error)
     (failure : Failure CliFault) → AreAttributes names
@@ -66,13 +109,15 @@ told_fault names words error OutOfMemory two passes has told = tt
 told_fault names words error (Fault fault) two passes has told = (
   names,
   two,
-  false_from_ne_true (takes (command_line names) words) (λ taken. told.1 (passes taken)),
-  elim has [
-    | inl memory ↦ absurd (told.1 memory)
-    | inr among ↦
-        subst (λ (kind : ErrorKind). IsAmong kind (fault_of (command_line names) words))
-        (sym told.0) among
-  ],
+  inl (
+    false_from_ne_true (takes (command_line names) words) (λ taken. told.1 (passes taken)),
+    elim has [
+      | inl memory ↦ absurd (told.1 memory)
+      | inr among ↦
+          subst (λ (kind : ErrorKind). IsAmong kind (fault_of (command_line names) words))
+          (sym told.0) among
+    ],
+  ),
 )
 
 told_by : (names : Bor (List (Bor Text))) (words : List Text) (app : App) (error : Error)

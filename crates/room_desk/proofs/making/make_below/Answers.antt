@@ -1,16 +1,9 @@
-use Rattle.std.proofs.Common.{ℕ, List, refl, subst}
+use Rattle.std.proofs.Common.{refl}
 use Rattle.std.specs.Prelude.{is_some}
-use Rattle.room_entry.specs.declared.object.ObjKind.TheVariants.{Folder}
-use Rattle.room_machine.specs.declared.reply.Reply.TheVariants.{Made}
 use Rattle.room_judge.specs.Halted.{replied}
-use Rattle.room_judge.specs.Stored.{found_site}
-use Rattle.room_judge.specs.declared.asker.Asker.{Asker}
 use Rattle.room_judge.proofs.Calls.{done}
 use Rattle.room_judge.proofs.Halts.{halts_first}
-use Rattle.room_desk.specs.Made.{IsJudgedAndDone, IsMade}
-use Rattle.room_machine.specs.Changed.{new_child}
 use Rattle.room_desk.proofs.Made.FolderMade.{folder_barred, make_in}
-use Rattle.room_desk.proofs.Made.FolderPlans.{making}
 use Rattle.room_desk.proofs.Made.ServedItems.{spotted_blames}
 use Rattle.room_desk.proofs.Sound.Blamed.{rootless_damaged}
 use Rattle.room_desk.proofs.Made.FolderFound.{found_folder}
@@ -22,9 +15,7 @@ pub returns-in_err-spot-clause-done : goal.returns-in_err-spot-clause-done
 returns-in_err-spot-clause-done g c =
     halts_first g.met.K.Keep.laws _ c.in_err-spot.ensures.done
     (λ old at h. rootless_damaged old old at refl h)
-    (λ old new reply are spotted.
-    folder_barred c.args.walk.now.asker.now c.args.path.now c.requires.some old new reply are
-    spotted)
+    (folder_barred c.args.walk.now.asker.now c.args.path.now c.requires.some)
     c.from_residual.result c.from_residual.ensures.1
 
 pub returns-clause-done : goal.returns-clause-done
@@ -39,13 +30,7 @@ returns-clause-done g c =
     (λ old mid outcome new are spotted served.
     make_in asker path old mid folder child name c.requires are spotted (is_some child) refl new
     (replied outcome)
-    (subst (λ (b : List ℕ). IsJudgedAndDone asker
-    (making path (is_some child) (found_site path folder)) Made
-    (IsMade (new_child asker.caller Folder folder.node name b)) mid (replied outcome) new)
-    c.new-bytes.ensures
-    (subst (λ (a : Asker). IsJudgedAndDone a (making path (is_some child) (found_site path folder))
-    Made (IsMade (new_child a.caller Folder folder.node name c.new-bytes.result)) mid
-    (replied outcome) new) c.in_ok-spot.ensures.same_asker served)))
+    (rw (c.in_ok-spot.ensures.same_asker, c.new-bytes.ensures) at served))
     (λ old mid new more are spotted enough. (
       λ none. can_make path folder.node child _ old refl c.requires
           (found_folder asker path c.requires.some old mid folder child are spotted)

@@ -1,9 +1,8 @@
-use Rattle.std.proofs.Common.{ℕ, Bool, List, [], ◌∷◌, ◌++◌, ◌∙◌, None, Some, subst}
+use Rattle.std.proofs.Common.{Bool, List, [], ◌∷◌, ◌++◌, ◌∙◌, None, Some}
 use Rattle.room_machine.specs.Plan.{Check, Deletion, Item, right_to_add}
 use Rattle.room_machine.specs.Site.{Site, front}
-use Rattle.room_judge.specs.Judged.{IsJudged, refusal_of, through}
+use Rattle.room_judge.specs.Judged.{refusal_of, through}
 use Rattle.room_judge.specs.Stored.{found_site}
-use Rattle.room_judge.specs.declared.asker.Asker.{Asker}
 use Rattle.room_judge.proofs.Calls.{done, tail, then}
 use Rattle.room_judge.proofs.Halts.{halts, halts_first}
 use Rattle.room_judge.proofs.Judging.{blames_first, fails_first, passes_first}
@@ -45,8 +44,7 @@ returns-in_err-check_deletion-clause-done g c =
     (Some reply) passed
     (fails_first asker (leave ∷ [])
     (come ∷ free_place old.read to (begins path (front to)) folder.node) mid new reply
-    (subst (λ (a : Asker). IsJudged a (leave ∷ []) mid (Some reply) new)
-    c.in_ok-pass_through.ensures.same_asker judged)))
+    (rw c.in_ok-pass_through.ensures.same_asker at judged)))
     c.from_residual-in_err-check_deletion.result c.from_residual-in_err-check_deletion.ensures.1
 
 pub returns-in_err-check-clause-done : goal.returns-in_err-check-clause-done
@@ -66,8 +64,7 @@ returns-in_err-check-clause-done g c =
     (done c.in_ok-check_deletion.ensures.done)
     (λ old mid new passed judged.
     passes_first asker (through site) (leave ∷ []) old mid new None passed
-    (subst (λ (a : Asker). IsJudged a (leave ∷ []) mid None new)
-    c.in_ok-pass_through.ensures.same_asker judged)))
+    (rw c.in_ok-pass_through.ensures.same_asker at judged)))
     c.in_err-check.ensures.done (λ old mid at are passed never. absurd never)
     (λ old mid new reply are passed judged.
     passes_first asker (through site ++ leave ∷ [])
@@ -75,10 +72,7 @@ returns-in_err-check-clause-done g c =
     ∷ free_place old.read to (begins path (front to)) folder.node) old mid new (Some reply) passed
     (fails_first asker (Check site (right_to_add target.node ∷ []) ∷ [])
     (free_place old.read to (begins path (front to)) folder.node) mid new reply
-    (subst (λ (b : List ℕ). IsJudged asker (Check site b ∷ []) mid (Some reply) new)
-    c.right_to_add.ensures
-    (subst (λ (a : Asker).
-    IsJudged a (Check site c.right_to_add.result ∷ []) mid (Some reply) new) same judged))))
+    (rw (same, c.right_to_add.ensures) at judged)))
     c.from_residual-in_err-check.result c.from_residual-in_err-check.ensures.1
 
 pub returns-clause-done : goal.returns-clause-done
@@ -99,16 +93,12 @@ returns-clause-done g c =
     (done c.in_ok-check_deletion.ensures.done)
     (λ old mid new passed judged.
     passes_first asker (through site) (leave ∷ []) old mid new None passed
-    (subst (λ (a : Asker). IsJudged a (leave ∷ []) mid None new)
-    c.in_ok-pass_through.ensures.same_asker judged)))
+    (rw c.in_ok-pass_through.ensures.same_asker at judged)))
     (done c.in_ok-check.ensures.done)
     (λ old mid new passed judged.
     passes_first asker (through site ++ leave ∷ [])
     (Check site (right_to_add target.node ∷ []) ∷ []) old mid new None passed
-    (subst (λ (b : List ℕ). IsJudged asker (Check site b ∷ []) mid None new)
-    c.right_to_add.ensures
-    (subst (λ (a : Asker). IsJudged a (Check site c.right_to_add.result ∷ []) mid None new) same
-    judged))))
+    (rw (same, c.right_to_add.ensures) at judged)))
     c.check_free.ensures.done (λ old mid at passed h. blames_first asker _ None old mid at passed h)
     (λ old mid outcome new passed free.
     free_after to below folder.node asker

@@ -1,14 +1,6 @@
-use Rattle.std.proofs.Common.{◌≡◌, true, [], ◌∷◌, Some, sym, ap, subst, ◌∙◌}
+use Rattle.std.proofs.Common.{◌≡◌, true, ap, ◌∙◌}
 use Rattle.room_rows.specs.Paths.{is_object_name}
-use Rattle.room_rows.specs.Rows.{Rows}
-use Rattle.room_machine.specs.Plan.{Deletion, Refusal}
-use Rattle.room_machine.specs.declared.reply.Reply.{Reply}
-use Rattle.room_machine.specs.declared.reply.Reason.TheVariants.{Exists}
-use Rattle.room_machine.specs.declared.request.Request.TheVariants.{Move}
 use Rattle.room_judge.specs.Halted.{replied}
-use Rattle.room_judge.specs.Closed.{IsServed}
-use Rattle.room_judge.specs.Judged.{IsJudged}
-use Rattle.room_judge.specs.Stored.{found_site}
 use Rattle.room_judge.proofs.Calls.{done, none_done, tail}
 use Rattle.room_judge.proofs.Halts.{faults, halts_first}
 use Rattle.room_desk.proofs.Moves.MovingSteps.{moves, name_is, never_unread, never_unplaced}
@@ -30,9 +22,7 @@ returns-in-None-clause-done g c =
     (λ old mid outcome new same judged rooted first are paired.
     root_refused asker path c.args.to.now from target first old are paired new (replied outcome)
     c.in-None.ensures.parts
-    (subst (λ (r : Rows). IsJudged asker
-    (Deletion (found_site path target) (found_site path from) ∷ Refusal [] Exists true ∷ []) r
-    (Some (replied outcome)) new) same judged))
+    (rw same at judged))
 
 pub returns-in_err-folder-in-Some-clause-done : goal.returns-in_err-folder-in-Some-clause-done
 returns-in_err-folder-in-Some-clause-done g c =
@@ -90,7 +80,7 @@ returns-in_ok-place_at-in-Some-clause-done g c =
     finish_up_to m.laws _ (then_provided m.laws (done c.in_ok-folder-in-Some.ensures.done)
     (done c.in_ok-place_at-in-Some.ensures.done)
     (λ mid end new are_mid reached places rooted first are paired.
-    subst (λ (r : Reply). IsServed asker (Move path to) first r new) (sym places.0)
+    rw places.0
     (moves asker path to from target first mid are paired some c.in_ok-folder-in-Some.folder end
     c.as_str.result.now last named (reached rooted) new places.1 places.2))
     (λ mid end new more are reached enough. (

@@ -1,14 +1,11 @@
-use Rattle.std.proofs.Common.{[], ◌∷◌, refl, sym, subst}
-use Rattle.std.proofs.Common.{Ok, Err}
-use Rattle.room_entry.specs.Rights.{write_owner}
-use Rattle.room_machine.specs.declared.reply.Reply.{Reply}
+use Rattle.std.proofs.Common.{refl}
+use Rattle.std.proofs.Common.{Ok}
 use Rattle.room_machine.specs.declared.request.Request.TheVariants.{SetOwners}
-use Rattle.room_judge.specs.Closed.{IsServed}
 use Rattle.room_judge.proofs.Calls.{done}
 use Rattle.room_judge.proofs.Halts.{faults, halts_first}
 use Rattle.room_desk.proofs.Owned.OwnersSet.{owners_set}
 use Rattle.room_desk.proofs.Sound.Blamed.{rootless_damaged}
-use Rattle.room_desk.proofs.Steps.Serving.{CheckAt, along_there, not_served, reached_as}
+use Rattle.room_desk.proofs.Steps.Serving.{along_there, not_served}
 use Rattle.room_desk.proofs.Steps.Serving.{reached_damaged}
 use Rattle.room_machine.specs.Stored.{stored_site}
 use Rattle.room_judge.proofs.UpTo.{finish_up_to, then_provided}
@@ -22,10 +19,9 @@ returns-in_err-node-clause-done g c =
     halts_first g.met.K.Keep.laws _ c.in_err-node.ensures.done
     (λ old at h. rootless_damaged old old at refl h)
     (λ old new reply are reached.
-    not_served asker path (SetOwners path c.args.owners.now) (CheckAt (write_owner ∷ []))
+    not_served asker path (SetOwners path c.args.owners.now) _
     (λ along content. refl) (λ site. refl) old new reply are
-    (reached_as asker path CheckAt c.write_owner.result (write_owner ∷ []) (Err reply) old new
-    c.write_owner.ensures reached))
+    (rw c.write_owner.ensures at reached))
     c.from_residual.result c.from_residual.ensures.1
 
 pub returns-in_err-set_at-clause-done : goal.returns-in_err-set_at-clause-done
@@ -45,10 +41,8 @@ returns-clause-done g c =
     finish_up_to m.laws _ (then_provided m.laws (done c.in_ok-node.ensures.done)
     (done c.in_ok-set_at.ensures.done)
     (λ old mid new are reached set.
-    subst (λ (r : Reply). IsServed asker (SetOwners path owners) old r new) (sym set.0)
-    (owners_set asker path owners old mid new c.in_ok-node.node are
-    (reached_as asker path CheckAt c.write_owner.result (write_owner ∷ [])
-    (Ok c.in_ok-node.node) old mid c.write_owner.ensures reached) set.1))
+    rw set.0 (owners_set asker path owners old mid new c.in_ok-node.node are
+    (rw c.write_owner.ensures at reached) set.1))
     (λ old mid new more are reached enough. (
       along_there old.read are.numbers path (stored_site path c.in_ok-node.node) reached.found,
       one_of_both old new more enough,

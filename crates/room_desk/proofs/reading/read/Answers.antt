@@ -1,11 +1,9 @@
 use Rattle.std.proofs.Common.{[], ◌∷◌, refl}
-use Rattle.std.proofs.Common.{Ok, Err}
 use Rattle.room_entry.specs.Rights.{read_data}
 use Rattle.room_machine.specs.declared.request.Request.TheVariants.{Read}
 use Rattle.room_judge.proofs.Calls.{done, finish, of_read, then_known}
 use Rattle.room_desk.proofs.Sound.Blamed.{rootless_damaged}
-use Rattle.room_desk.proofs.Steps.Serving.{DocumentAt, bytes_answered, no_bytes, not_served}
-use Rattle.room_desk.proofs.Steps.Serving.{reached_as}
+use Rattle.room_desk.proofs.Steps.Serving.{bytes_answered, no_bytes, not_served}
 use Rattle.room_judge.proofs.Halts.{faults, halts_first}
 use Rattle.room_desk.proofs.reading.read.Goals as goal
 
@@ -16,10 +14,9 @@ returns-in_err-node-clause-done g c =
     halts_first g.met.K.Keep.laws _ c.in_err-node.ensures.done
     (λ old at h. rootless_damaged old old at refl h)
     (λ old new reply are reached.
-    not_served asker path (Read path) (DocumentAt (read_data ∷ [])) (λ along content. refl) (λ site. refl)
+    not_served asker path (Read path) _ (λ along content. refl) (λ site. refl)
     old new reply are
-    (reached_as asker path DocumentAt c.read_data.result (read_data ∷ []) (Err reply) old new
-    c.read_data.ensures reached))
+    (rw c.read_data.ensures at reached))
     c.from_residual.result c.from_residual.ensures.1
 
 pub returns-in_err-read_at-clause-done : goal.returns-in_err-read_at-clause-done
@@ -30,8 +27,7 @@ returns-in_err-read_at-clause-done g c =
     (of_read c.in_err-read_at.ensures.read)
     (λ old mid at are reached h.
     no_bytes asker path (read_data ∷ []) old mid c.in_ok-node.node at are
-    (reached_as asker path DocumentAt c.read_data.result (read_data ∷ []) (Ok c.in_ok-node.node)
-    old mid c.read_data.ensures reached) h)
+    (rw c.read_data.ensures at reached) h)
     c.from_residual-in_err-read_at.result c.from_residual-in_err-read_at.ensures.1
 
 pub returns-clause-done : goal.returns-clause-done
@@ -43,5 +39,4 @@ returns-clause-done g c =
     (done (of_read c.in_ok-read_at.ensures.read))
     (λ old mid new are reached told.
     bytes_answered asker path old mid new c.in_ok-node.node _ are
-    (reached_as asker path DocumentAt c.read_data.result (read_data ∷ []) (Ok c.in_ok-node.node)
-    old mid c.read_data.ensures reached) told.0 told.1)) (λ old new are h. h)
+    (rw c.read_data.ensures at reached) told.0 told.1)) (λ old new are h. h)

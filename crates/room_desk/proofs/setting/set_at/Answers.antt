@@ -1,81 +1,39 @@
-use Rattle.std.proofs.Common.{List, refl, sym, ap, ◌∙◌, inl, inr, arith}
+use Rattle.std.proofs.Common.{List, refl, sym, ap, ◌∙◌, inl, inr}
 use Rattle.std.proofs.lemmas.Bool.{false≢true}
 use Rattle.std.specs.Option.{option_copied}
 use Rattle.room_entry.specs.Ace.{Ace}
 use Rattle.room_judge.proofs.Calls.{none_done, memory, finish, tail_known}
 use Rattle.room_desk.specs.Setting.{held_with}
-use Rattle.room_desk.proofs.Lists.SettingCalls.{fails_before, list_sent, no_answer, set_from}
+use Rattle.room_desk.proofs.Lists.SettingCalls.{fails_before, list_sent, set_from}
 use Rattle.room_desk.proofs.Lists.SettingCalls.{written_as}
-use Rattle.room_desk.proofs.Writes.Reading.{reads_few, unanswered}
 use Rattle.room_desk.proofs.setting.set_at.Goals as goal
 
-pub returns-in_err-inh : goal.returns-in_err-inh
-returns-in_err-inh g c =
-    let k = g.K.Keep in
-    let m = g.met.K.Keep in
-    record {
-      done =
-          memory m.laws (none_done m.laws c.args.keep.now) c.from_residual.result
-          c.from_residual.ensures.1;
-      quiet =
-          λ same. no_answer (k.writes c.args.keep.now)
-          (k.writes c.args.keep.now) c.from_residual.result _ c.from_residual.ensures.1;
-      counted = unanswered k c.args.keep.now c.args.keep.now 2
-          c.from_residual.result _ c.from_residual.ensures.1;
-    }
+pub returns-in_err-inh-clause-done : goal.returns-in_err-inh-clause-done
+returns-in_err-inh-clause-done g c =
+    let laws = g.met.K.Keep.laws in
+    memory laws (none_done laws c.args.keep.now) c.from_residual.result c.from_residual.ensures.1
 
-pub returns-in_err-own : goal.returns-in_err-own
-returns-in_err-own g c =
-    let k = g.K.Keep in
-    let m = g.met.K.Keep in
-    record {
-      done =
-          memory m.laws (none_done m.laws c.args.keep.now) c.from_residual-in_err-own.result
-          c.from_residual-in_err-own.ensures.1;
-      quiet =
-          λ same. no_answer (k.writes c.args.keep.now)
-          (k.writes c.args.keep.now) c.from_residual-in_err-own.result _
-          c.from_residual-in_err-own.ensures.1;
-      counted = unanswered k c.args.keep.now c.args.keep.now 2
-          c.from_residual-in_err-own.result _ c.from_residual-in_err-own.ensures.1;
-    }
+pub returns-in_err-own-clause-done : goal.returns-in_err-own-clause-done
+returns-in_err-own-clause-done g c =
+    let laws = g.met.K.Keep.laws in
+    memory laws (none_done laws c.args.keep.now) c.from_residual-in_err-own.result c.from_residual-in_err-own.ensures.1
 
-pub returns-then-is_same_list : goal.returns-then-is_same_list
-returns-then-is_same_list g c =
-    let k = g.K.Keep in
-    let m = g.met.K.Keep in
+pub returns-then-is_same_list-clause-done : goal.returns-then-is_same_list-clause-done
+returns-then-is_same_list-clause-done g c =
+    let laws = g.met.K.Keep.laws in
     let setting = c.args.setting.now in
-    let node = setting.target.now.node in
     let sent =
     list_sent setting.sent.now c.flags-flags.result c.in_ok-own.own c.in_ok-inh.inh
     c.flags-flags.ensures c.in_ok-own.ensures in
-    record {
-      done =
-          finish m.laws tt (none_done m.laws c.args.keep.now)
-          (λ old new are same.
-          set_from setting.which setting.sent.now node (option_copied setting.above)
-          c.in_ok-inh.inh old old new are c.in_ok-inh.ensures refl
-          (inl
-          (sym sent ∙ c.is_same_list.ensures.0 c.if-is_same_list.true ∙ c.held.ensures, same)));
-      quiet = λ same. refl;
-      counted = reads_few k c.args.keep.now c.args.keep.now 2 (omega arith) (omega arith);
-    }
+    finish laws tt (none_done laws c.args.keep.now) (λ old new are same.
+    set_from setting.which setting.sent.now setting.target.now.node (option_copied setting.above)
+    c.in_ok-inh.inh old old new are c.in_ok-inh.ensures refl
+    (inl (sym sent ∙ c.is_same_list.ensures.0 c.if-is_same_list.true ∙ c.held.ensures, same)))
 
-pub returns-in_err-held : goal.returns-in_err-held
-returns-in_err-held g c =
-    let k = g.K.Keep in
-    let m = g.met.K.Keep in
-    record {
-      done =
-          memory m.laws (none_done m.laws c.args.keep.now) c.from_residual-in_err-held.result
-          c.from_residual-in_err-held.ensures.1;
-      quiet =
-          λ same. no_answer (k.writes c.args.keep.now)
-          (k.writes c.args.keep.now) c.from_residual-in_err-held.result _
-          c.from_residual-in_err-held.ensures.1;
-      counted = unanswered k c.args.keep.now c.args.keep.now 2
-          c.from_residual-in_err-held.result _ c.from_residual-in_err-held.ensures.1;
-    }
+pub returns-in_err-held-clause-done : goal.returns-in_err-held-clause-done
+returns-in_err-held-clause-done g c =
+    let laws = g.met.K.Keep.laws in
+    memory laws (none_done laws c.args.keep.now) c.from_residual-in_err-held.result c.from_residual-in_err-held.ensures.1
 
 pub returns : goal.returns
 returns g c =

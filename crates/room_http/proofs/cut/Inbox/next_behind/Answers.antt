@@ -12,7 +12,7 @@ returns-in-Ok-true-clause-next g c =
     whole-next c.args.self.now.buf.items _ _ spans at found.0 c.in-Ok.head _ found.1 found.2
     (c.in-Ok.ensures ∙ ap (λ (t : List ℕ). head_at (take at.len t) spans at) c.deref.ensures.value)
     (c.in-Ok-declared_size.ensures.value ∙ ap body_size c.as_slice.ensures)
-    c.in-Ok-true.ensures.came.2
+    c.in-Ok-declared_size.ensures.small c.in-Ok-true.ensures.came.2
     (c.read_body.ensures.whole (c.in-Ok-true.is ∙ ap Ok c.in-Ok-true.field-0-test))
 
 pub returns-in-Ok-false-clause-next : goal.returns-in-Ok-false-clause-next
@@ -30,7 +30,7 @@ returns-in-Ok-false-clause-next g c =
     )
 
 pub returns-in-Err-read_body-clause-lost : goal.returns-in-Err-read_body-clause-lost
-returns-in-Err-read_body-clause-lost g c =
+returns-in-Err-read_body-clause-lost g c = λ near.
     let at = c.args.parts in
     let spans = c.args.spans.now in
     let found = c.requires in
@@ -38,4 +38,4 @@ returns-in-Err-read_body-clause-lost g c =
     found.1 found.2
     (c.in-Ok.ensures ∙ ap (λ (t : List ℕ). head_at (take at.len t) spans at) c.deref.ensures.value)
     (c.in-Ok-declared_size.ensures.value ∙ ap body_size c.as_slice.ensures)
-    c.in-Err-read_body.ensures.lost
+    c.in-Ok-declared_size.ensures.small c.in-Err-read_body.ensures.lost

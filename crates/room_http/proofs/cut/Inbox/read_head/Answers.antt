@@ -1,4 +1,4 @@
-use Rattle.std.proofs.Common.{◌≡◌, ◌+◌, ◌≤◌, ◌++◌, subst, sym, ap, ◌∙◌, inr, List, ℕ, Ok, length}
+use Rattle.std.proofs.Common.{◌≡◌, ◌+◌, ◌≤◌, subst, sym, ap, ◌∙◌, inr, List, ℕ, Ok, length}
 use Rattle.std.proofs.Common.{arith}
 use Rattle.std.proofs.lemmas.List.{length-append}
 use Rattle.room_http.specs.Limits.{read_size}
@@ -29,8 +29,9 @@ returns-in-Err-clause-lost g c =
     let buf = c.reading.self.buf.items in
     let part = subst (λ (b : List ℕ). Scans b c.scan_head.new.spans HeadScan.Part)
     c.as_slice.ensures.value c.in-Part.ensures in
-    stops-reading _ _ _ _ buf _ c.reading.invariant.0 c.in-Err.ensures.lost
-    (none-or-part buf part)
+    let short = part.0 in
+    stops-reading _ _ _ _ buf read_size _ c.reading.invariant.0 c.in-Err.ensures.lost
+    (none-or-part buf part) (omega (arith, short))
 
 pub returns-in-Ok-false-clause-came : goal.returns-in-Ok-false-clause-came
 returns-in-Ok-false-clause-came g c =

@@ -1,13 +1,13 @@
-use Rattle.std.proofs.Common.{◌≡◌, ◌≤◌, ◌-◌}
-use Rattle.room_import.specs.Groups.{groups_in, pairs_after}
+use Rattle.std.proofs.Common.{◌≡◌, ◌≤◌, ◌-◌, []}
+use Rattle.room_import.specs.Groups.{pairs_after}
 use Rattle.room_import.specs.Rows.{ReadsNextRow, rows_left}
-use Rattle.room_import.proofs.reading.read_groups.Given as goal
+use Rattle.room_import.proofs.reading.read_pairs.Given as goal
 
 -- the pairs so far, and then those of the rows that are left
 abbrev pub invariant-rows : goal.invariant-rows
 invariant-rows l = record {
   goes : ReadsNextRow l.reader;
-  pairs : groups_in l.fn.bytes ≡ pairs_after l.gathered l.number (rows_left l.reader);
+  pairs : pairs_after [] 2 (rows_left l.fn.reader) ≡ pairs_after l.gathered l.number (rows_left l.reader);
   within : l.number ≤ 20002;
 }
 

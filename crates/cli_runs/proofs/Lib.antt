@@ -1,0 +1,4 @@
+mod Gains
+mod Agreed
+mod Alike
+mod Sent

@@ -1,0 +1,59 @@
+//! Laws of a room that is served.
+ghost use Rattle.std.specs.Prelude.{List, ℕ};
+ghost use Rattle.sqlite.specs.Held.{Held, state};
+ghost use Rattle.cli_outcome.specs.declared.place.Place.{Place};
+ghost use Rattle.cli_serve.specs.Hosts.{IsHosted};
+ghost use Rattle.cli_runs.specs.Alike.{ServersAnswerAlike};
+ghost use Rattle.cli_runs.specs.Gains.{ServingGainsNothing};
+ghost use Rattle.cli_runs.specs.Sent.{ExchangesAreBytes};
+
+use cli_serve::{Moments, Ports};
+use room_changed::laws::nothing_gained;
+use room_inherit::laws::sound_is_content;
+use room_unseen::laws::{content_is_tidy, unseen};
+use sqlite::Alter;
+use std::io::Write;
+use store_runs::laws::{nothing_gained_by_a_crash, nothing_gained_in_a_store};
+
+/// As long as the connections of a server carry no message of anybody who may change a list, an
+/// owner or the place of anything at a path or above it, nobody's rights at that path change: not in
+/// the room that is seen then, and not in what a power cut leaves.
+pub fn nothing_gained_by_serving<S: Alter, P: Ports, M: Moments, O: Write, E: Write>()
+    ensures { (path : List (List ℕ)) (place : Place) (count : ℕ) (clock after : M) (ports closed : P)
+        (old new : Held S) (out printed : O) (err told : E) (status : ℕ)
+        (hosted : IsHosted (state S.Store) place count (M.told clock) (M.told after) (P.did ports)
+        (P.did closed) old new (O.contents out) (O.contents printed) (E.contents err)
+        (E.contents told) status)
+        → ServingGainsNothing path (state S.Store old) hosted.served.visits (state S.Store new) }
+{
+    nothing_gained_in_a_store::<S>();
+    nothing_gained_by_a_crash::<S>();
+}
+
+/// Two servers whose rooms differ behind a folder alone, to whom the same messages come, connection
+/// by connection, from callers who are barred from that folder or ask for nothing behind it, answer
+/// each of them the same, but for the names in the folder to who lists it.
+pub fn unseen_by_serving<S: Alter, T: Alter, P: Ports, M: Moments, O: Write, E: Write>()
+    ensures { (front : List (List ℕ)) (place : Place) (count : ℕ) (clock after : M) (ports closed : P)
+        (old new : Held S) (out printed : O) (err told : E) (status : ℕ)
+        (hosted : IsHosted (state S.Store) place count (M.told clock) (M.told after) (P.did ports)
+        (P.did closed) old new (O.contents out) (O.contents printed) (E.contents err)
+        (E.contents told) status)
+        (place' : Place) (count' : ℕ) (clock' after' : M) (ports' closed' : P) (other later : Held T)
+        (out' printed' : O) (err' told' : E) (status' : ℕ)
+        (beside : IsHosted (state T.Store) place' count' (M.told clock') (M.told after')
+        (P.did ports') (P.did closed') other later (O.contents out') (O.contents printed')
+        (E.contents err') (E.contents told') status')
+        → ServersAnswerAlike front (state S.Store old) hosted.served.visits (state S.Store new)
+        (state T.Store other) beside.served.visits (state T.Store later) }
+{
+    unseen();
+    content_is_tidy();
+    sound_is_content();
+}
+
+/// The same messages with the same replies are the same bytes, unless a fault, a message that is
+/// refused or a failure of the desk ends one of the two connections.
+pub fn replies_are_bytes()
+    ensures { ExchangesAreBytes }
+{}

@@ -1,0 +1,56 @@
+-- What calls retain.
+use Rattle.std.proofs.Common.{Bool, Result, inl, inr, subst, sym}
+use Rattle.sqlite.specs.Effect.{Database}
+use Rattle.sqlite.specs.State.{State}
+use Rattle.room_rows.specs.Rows.{Rows}
+use Rattle.store_tables.specs.Shown.{HasTables, Retains}
+use Rattle.store_tables.proofs.Calls.{retains_on}
+use Rattle.room_store.specs.Asks.{Asks}
+use Rattle.room_store.specs.Premise.{StorePremise}
+use Rattle.room_store.specs.Ran.{Ran}
+use Rattle.room_store.specs.Retained.{StillHolds}
+use Rattle.room_store.specs.declared.fault.StoreFault.{StoreFault}
+
+-- a call that writes
+pub ran_retains : {X : Type 0} (old new : State) (result : Result X StoreFault)
+    (Blames : Rows → Type 0) (Becomes : Rows → X → Rows → Type 0)
+    → Ran old new result Blames Becomes → StillHolds old new
+ran_retains old new result Blames Becomes ran now = (
+  ran.leaves.clean now,
+  λ before holds. record {
+    seen = λ is_open.
+        let was = holds.seen (ran.leaves.was_open now is_open) in
+        let premise : StorePremise old new = record { disk = now; tables = was.0 } in (
+          ran.tables premise is_open,
+          retains_on before old.now.trees new.now.trees was.1 (ran.retains premise is_open),
+        );
+    left = λ db left.
+        elim (ran.crash now db left) [
+          | inl was ↦ holds.left db was
+          | inr (is_open, commits) ↦
+              let was = holds.seen is_open in
+              let c = commits was.0 in
+              let it = c.1.0 in (
+                it,
+                record {
+                  room = c.1.1.room;
+                  retains = retains_on before old.now.trees it.trees was.1 c.1.1.retains;
+                },
+                c.1.2,
+              )
+        ];
+  },
+)
+
+-- a test whether the connection is shut
+pub asked_retains : (old new : State) (result : Result Bool StoreFault) → Asks old new result
+    → StillHolds old new
+asked_retains old new result asked now = (
+  asked.leaves.clean now,
+  λ before holds. record {
+    seen = λ is_open.
+        subst (λ (db : Database). HasTables db × Retains before db.trees)
+        (sym (asked.same now is_open)) (holds.seen (asked.leaves.was_open now is_open));
+    left = λ db left. holds.left db (asked.crash now db left);
+  },
+)
