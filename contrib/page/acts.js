@@ -13,18 +13,44 @@ import { form, question, showDialog, tell, tellFault, waitFor } from './notice.j
 import { preview } from './preview.js';
 import { counted, isolated, nameFault, placeWords, sentenceOf } from './words.js';
 
+const TAKEN = 'There is already something of this name. Choose another one.';
+
+// Asks again, with what was typed, as long as something of that name is there already. Returns what
+// was typed at last, or null.
+async function untilFree(ask, does) {
+  let [typed, wrong] = [undefined, null];
+  for (;;) {
+    typed = await ask(typed, wrong);
+    if (!typed) return null;
+    try {
+      return await does(typed) ? typed : null;
+    } catch (fault) {
+      if (fault.body?.why !== 'exists') throw fault;
+      wrong = TAKEN;
+    }
+  }
+}
+
 export async function makeFolder(folder) {
-  const names = await form('New folder', [{ label: 'Name', fault: nameFault }], 'Make it');
-  if (!names) return null;
-  await waitFor(api.makeFolder(api.join(folder, names[0])));
-  tell('good', `The folder ${isolated(names[0])} was made.`);
-  return { name: names[0] };
+  const ask = async (value, wrong) =>
+    (await form('New folder', [{ label: 'Name', value, fault: nameFault, wrong }], 'Make it'))?.[0];
+  const name = await untilFree(ask, async (typed) => {
+    await waitFor(api.makeFolder(api.join(folder, typed)));
+    return true;
+  });
+  if (name === null) return null;
+  tell('good', `The folder ${isolated(name)} was made.`);
+  return { name };
 }
 
 export async function move(path, kind) {
-  const to = await askMove(path, kind);
-  if (!to || to === path || !(await accepted([{ path, kind }], api.parentOf(to)))) return null;
-  await waitFor(api.move(path, to));
+  const ask = (typed, wrong) => askMove(path, kind, typed, wrong);
+  const to = await untilFree(ask, async (typed) => {
+    const is = typed !== path && await accepted([{ path, kind }], api.parentOf(typed));
+    if (is) await waitFor(api.move(path, typed));
+    return is;
+  });
+  if (to === null) return null;
   tell('good', `${isolated(api.nameOf(path))} is now ${placeWords(to)}.`);
   return { name: api.parentOf(to) === api.parentOf(path) ? api.nameOf(to) : null };
 }

@@ -9,11 +9,14 @@ import { showFolder } from './folder.js';
 import { linkTo, pathLinks, whereIs } from './links.js';
 import { showList } from './listview.js';
 import { clearNotices, notShown, showWaiting, tellFault, waitFor } from './notice.js';
+import { arrived } from './people.js';
 import { kindOf, showRights } from './rights.js';
+import { showAccess } from './share.js';
 import { marked } from './signs.js';
 import { isUploading } from './upload.js';
 
-const TABS = [['rights', 'My rights'], ['dacl', 'Who may do what'], ['sacl', 'What is recorded']];
+const TABS = [['access', 'Who has access'], ['rights', 'My rights'], ['dacl', 'Advanced'],
+  ['sacl', 'What is recorded']];
 const main = document.querySelector('main');
 
 // Each visit of a place has a number, so that a slow reply isn't shown at a later place.
@@ -44,7 +47,9 @@ async function showObject(path, view, isCurrent) {
   if (!isCurrent()) return;
   const box = element('div', { class: 'sheet padded' });
   main.replaceChildren(element('section', { 'aria-label': 'Access' }, objectHead(path, view, kind), box));
-  if (view === 'rights') await showRights(path, kind, box, isCurrent);
+  if (kind === 'document') arrived(path, kind);
+  if (view === 'access') await showAccess(path, kind, box, isCurrent);
+  else if (view === 'rights') await showRights(path, kind, box, isCurrent);
   else await showList(path, view, kind, box, isCurrent);
 }
 

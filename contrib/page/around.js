@@ -49,3 +49,42 @@ export async function protectedBelow(path) {
   }
   return { found, all };
 }
+
+// No request tells more than whether it is granted, so a list that names nobody by what they own
+// needs no owner.
+const namesOwners = (list) => list.entries.some(({ who }) => who === 'OWNER@' || who === 'GROUP@');
+
+async function nodeAt(path, kind) {
+  const list = await listAt(path);
+  const object = list !== null && namesOwners(list) ? await attributesAt(path) : UNKNOWN;
+  return { path, kind, list, object };
+}
+
+// What lies below a folder, each with its list, from the top down: {nodes: [{path, kind, list,
+// object}], unread: [path], all}. A list is null where it can't be read. 'unread' are the folders
+// whose contents can't be listed and the objects whose lists can't be read; 'all' is false where
+// there may be more than was looked at. Folders come first, since more depends on them.
+export async function nodesBelow(path) {
+  const [nodes, unread, waiting, documents] = [[], [], [path], []];
+  let all = true;
+  const lookAt = async (objects) => {
+    const some = objects.slice(0, MOST_FOLDERS - nodes.length);
+    all = all && some.length === objects.length;
+    const found = await Promise.all(some.map((one) => nodeAt(one.path, one.kind)));
+    nodes.push(...found);
+    unread.push(...found.filter(({ list }) => list === null).map((one) => one.path));
+    return found;
+  };
+  while (waiting.length > 0) {
+    const folder = waiting.shift();
+    const children = await api.list(folder).catch(() => null);
+    if (children === null) unread.push(folder);
+    const inside = (children ?? []).map(({ name, kind }) => (
+      { kind, path: api.join(folder, name) }));
+    documents.push(...inside.filter(({ kind }) => kind === 'document'));
+    const folders = await lookAt(inside.filter(({ kind }) => kind === 'folder'));
+    waiting.push(...folders.map((one) => one.path));
+  }
+  await lookAt(documents);
+  return { nodes, unread: [...new Set(unread)], all };
+}

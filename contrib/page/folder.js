@@ -2,11 +2,12 @@
 
 import * as acts from './acts.js';
 import * as api from './api.js';
-import { closedFolder } from './closed.js';
+import { closedFolder, placesBelow } from './closed.js';
 import { button, element, icon, nameText } from './dom.js';
 import { acceptDrops } from './drop.js';
 import { linkTo } from './links.js';
 import { notShown, tell, tellFault, waitFor } from './notice.js';
+import { arrived } from './people.js';
 import { chosenOf, drawRows, newLook } from './rows.js';
 import { treeOfFiles } from './tree.js';
 import { uploadAll } from './upload.js';
@@ -46,12 +47,14 @@ function bar(path, send, make) {
       act('w', 'upload', 'Upload', () => files.click(), 'primary'),
       act('a', 'upload', 'Upload a folder', () => whole.click()),
       act('a', 'plus', 'New folder', make),
-      element('a', { class: 'button', href: linkTo(path, 'rights') }, icon('key'), 'Access')),
+      element('a', { class: 'button', href: linkTo(path, 'access') }, icon('key'), 'Access')),
     files, whole);
-  const grant = (may) => {
+  // In a folder whose contents aren't shown, what isn't granted isn't offered.
+  const grant = (may, isClosed = false) => {
     for (const [letter, made] of needs) {
       const lacks = may !== null && may[letter].ruling !== 'allowed';
       made.setAttribute('aria-disabled', String(lacks));
+      made.hidden = lacks && isClosed;
       if (lacks) made.title = MAY_NOT[letter];
       else made.removeAttribute('title');
     }
@@ -104,13 +107,14 @@ class FolderView {
   constructor(path, box, isCurrent) {
     Object.assign(this, { path, box, isCurrent, look: newLook() });
     this.body = element('div', { class: 'sheet' });
+    this.places = element('div', { class: 'more-places' });
     const send = (files, trees, folder) => uploadAll(files, trees, folder, () => {
       if (isCurrent()) this.refresh();
     });
     this.bar = bar(path, send, () => this.doing(() => acts.makeFolder(path)));
     this.tools = tools(this.look, (what) => this.withChosen(what), () => this.draw());
     this.area = element('section', { class: 'folder-view', 'aria-label': 'Folder' },
-      this.bar.shown, this.tools.shown, this.body);
+      this.bar.shown, this.tools.shown, this.body, this.places);
     acceptDrops(this.area, path, send);
   }
 
@@ -164,6 +168,8 @@ class FolderView {
       this.look.chosen = new Set([...this.look.chosen].filter((name) => names.has(name)));
       this.tools.shown.hidden = children.length === 0;
       this.draw(focus);
+      arrived(this.path, 'folder');
+      if (this.path === '/') this.showPlaces();
       // The button that had the focus may be gone.
       if (document.activeElement === document.body) this.box.focus({ preventScroll: true });
     } catch (fault) {
@@ -171,12 +177,25 @@ class FolderView {
     }
   }
 
+  // What can't be seen from the top, below its list.
+  async showPlaces() {
+    const places = await placesBelow(this.path, true);
+    const shown = places.length === 0 ? [] : [element('div', { class: 'sheet closed' }, places)];
+    if (this.isCurrent()) this.places.replaceChildren(...shown);
+  }
+
+  async showClosed(fault, may) {
+    this.places.replaceChildren();
+    const shown = await closedFolder(fault, may, this.path);
+    if (this.isCurrent()) this.body.replaceChildren(shown);
+  }
+
   fail(fault, may) {
     if (!this.isCurrent()) return;
-    this.bar.grant(may);
+    this.bar.grant(may, fault.status === 403);
     this.tools.shown.hidden = true;
-    if (fault.body?.why === 'wrong-kind') location.replace(linkTo(this.path, 'rights'));
-    else if (fault.status === 403) this.body.replaceChildren(closedFolder(fault, may));
+    if (fault.body?.why === 'wrong-kind') location.replace(linkTo(this.path, 'access'));
+    else if (fault.status === 403) this.showClosed(fault, may).catch(tellFault);
     else {
       const words = 'What is in this folder can’t be shown.';
       this.body.replaceChildren(notShown(words, () => this.refresh()));

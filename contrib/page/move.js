@@ -34,9 +34,12 @@ function chooser(chosen, moved) {
 }
 
 // Returns the new path, or null.
-export async function askMove(path, kind) {
-  const chosen = { path: api.parentOf(path) };
-  const name = { label: 'Name', value: api.nameOf(path), fault: nameFault };
+// 'typed' is the path that was chosen before, and 'wrong' what is wrong with it.
+export async function askMove(path, kind, typed = path, wrong = null) {
+  const chosen = { path: api.parentOf(typed) };
+  const name = {
+    label: 'Name', value: api.nameOf(typed), fault: nameFault, isFile: kind === 'document', wrong,
+  };
   const names = await form(`Rename or move the ${kind}`, [name], 'Move it',
     chooser(chosen, [path]));
   return names && api.join(chosen.path, names[0]);

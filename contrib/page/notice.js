@@ -1,17 +1,36 @@
 // Messages at a fixed place, and questions in a dialog.
 
 import { button, element, field, icon } from './dom.js';
-import { sentenceOf } from './words.js';
+import { askedFor } from './managers.js';
+import { ASK, denialWords, sentenceOf } from './words.js';
 
 const place = () => document.getElementById('notices');
 
 // 'kind' is 'good' or 'bad'. Good news disappears by itself, bad news stays until it is closed.
 export function tell(kind, text, ...actions) {
   const close = button(icon('cross'), () => notice.remove(), { class: 'plain', 'aria-label': 'Close this message' });
-  const notice = element('div', { class: `notice ${kind}`, role: kind === 'bad' ? 'alert' : 'status' },
-    icon(kind === 'bad' ? 'cross' : 'check'), element('p', {}, text), actions, close);
+  const said = element('p', {}, text);
+  const notice = element('div', {
+    class: `notice ${kind}`, role: kind === 'bad' ? 'alert' : 'status', 'data-text': text,
+  }, icon(kind === 'bad' ? 'cross' : 'check'), said, actions, close);
   place().append(notice);
   if (kind === 'good') setTimeout(() => notice.remove(), 6000);
+  return said;
+}
+
+// The entry that denies it, for those who want to know.
+function reasonOf({ status, body, asked }) {
+  const why = status === 403 ? denialWords(body, asked).why : null;
+  return why === null ? [] : [element('details', {}, element('summary', {}, 'Why'),
+    element('p', { class: 'hint' }, why))];
+}
+
+// Whom to ask is known a little later.
+function nameManagers(said, { status, body }) {
+  if (status !== 403 || !body?.at) return;
+  askedFor(body.at).then((words) => {
+    said.textContent = said.textContent.replace(ASK, words);
+  }, () => {});
 }
 
 export function tellFault(fault) {
@@ -20,9 +39,9 @@ export function tellFault(fault) {
     ? [button('Sign in again', () => location.reload(), { class: 'small' })] : [];
   const text = sentenceOf(fault);
   for (const old of place().querySelectorAll('.notice.bad')) {
-    if (old.querySelector('p').textContent === text) old.remove();
+    if (old.dataset.text === text) old.remove();
   }
-  tell('bad', text, ...again);
+  nameManagers(tell('bad', text, ...again, ...reasonOf(fault)), fault);
 }
 
 export function clearNotices() {
@@ -64,10 +83,15 @@ export function showDialog(title, build, look = null) {
     });
     document.body.append(dialog);
     dialog.showModal();
-    // What is in the first field is there to be changed.
     const first = document.activeElement;
-    if (first.matches('dialog input[type="text"]')) first.select();
+    if (first.matches('dialog input[type="text"]')) selectName(first);
   });
+}
+
+// What is in a field is there to be changed, except the extension of a document.
+function selectName(input) {
+  const dot = input.dataset.isFile === undefined ? -1 : input.value.lastIndexOf('.');
+  input.setSelectionRange(0, dot > 0 ? dot : input.value.length);
 }
 
 // A question with one button for each answer: [['replace', 'Replace it', 'danger'], ..].
@@ -80,14 +104,18 @@ export function question(title, text, answers) {
   ]);
 }
 
-// A form of text fields: [{label, value, hint, fault: text => sentence or null}]. Returns the
-// values, or null.
+// A form of text fields: [{label, value, hint, wrong, isFile, fault: text => sentence or null}].
+// 'wrong' is what was wrong with the value. Returns the values, or null.
 export function form(title, fields, submit, ...more) {
   return showDialog(title, (finish) => {
     const inputs = fields.map((one) => element('input', {
       type: 'text', value: one.value ?? '', autocomplete: 'off', spellcheck: 'false', dir: 'auto',
+      'data-is-file': one.isFile ?? null,
     }));
     const boxes = fields.map((one, index) => field(one.label, inputs[index], one.hint));
+    fields.forEach((one, index) => {
+      if (one.wrong) showFault(inputs[index], boxes[index], one.wrong, one.hint);
+    });
     const send = (event) => {
       event.preventDefault();
       const faults = fields.map((one, index) => one.fault(inputs[index].value));

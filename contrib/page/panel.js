@@ -12,6 +12,20 @@ export function newPanel(label, title, ...buttons) {
   const head = element('div', { class: 'head' }, element('div', { class: 'bar' },
     element('h2', {}, title), count, element('div', { class: 'actions' }, buttons)), bar, told);
   const rows = element('ul', {});
+  // Folded to its head when another place is opened, so that it covers nothing there.
+  const fold = (isFolded) => {
+    rows.hidden = isFolded;
+    more.textContent = isFolded ? 'Details' : 'Fold';
+    more.setAttribute('aria-expanded', String(!isFolded));
+  };
+  const more = button('Fold', () => fold(!rows.hidden),
+    { class: 'small plain', 'aria-expanded': 'true' });
+  head.querySelector('.actions').prepend(more);
+  const away = () => {
+    if (panel.isConnected) fold(true);
+    else window.removeEventListener('hashchange', away);
+  };
+  window.addEventListener('hashchange', away);
   const panel = element('section', { class: 'uploads', 'aria-label': label }, head, rows);
   document.getElementById('uploads').append(panel);
 

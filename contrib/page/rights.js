@@ -17,13 +17,14 @@ async function entriesOf(path) {
 }
 
 // The entry that decided, as far as I may see it.
-function reason(ruling, entries, where = '') {
-  if (ruling.ruling === 'silent') return 'No entry grants it.';
+function reason(ruling, entries, where = ' of its list') {
+  if (ruling.ruling === 'silent') return 'Nobody gave it to you.';
   const entry = entries[ruling.place - 1];
-  if (!entry) return `By entry ${ruling.place}${where}.`;
+  if (!entry) return `By line ${ruling.place}${where}.`;
   const verb = ruling.ruling === 'allowed' ? 'allows' : 'denies';
   const from = isInherited(entry) ? ', from a folder above' : '';
-  return [`By entry ${ruling.place}${from}, which ${verb} it to ${whoWords(entry)}. `, element('code', {}, printEntry(entry))];
+  return element('span', { title: printEntry(entry) },
+    `By line ${ruling.place}${where}${from}, which ${verb} it to ${whoWords(entry)}.`);
 }
 
 // The rule of deleting: the object's list and its folder's list decide together.
@@ -39,7 +40,7 @@ function removal(own, above, entries, folder) {
     const why = `Nothing says otherwise, and you may put documents into ${placeWords(folder)}.`;
     return { may: true, why };
   }
-  return { may: false, why: 'No entry here or at the folder above grants it.' };
+  return { may: false, why: 'Nobody gave it to you, here or at the folder above.' };
 }
 
 function line(may, words, why) {

@@ -42,9 +42,9 @@ const RIGHTS = {
 
 export const rightWords = (letter, kind = 'both') => RIGHTS[letter][kind] ?? RIGHTS[letter].both;
 
-export function listed(words) {
+export function listed(words, last = 'and') {
   if (words.length < 2) return words.join('');
-  return `${words.slice(0, -1).join(', ')} and ${words.at(-1)}`;
+  return `${words.slice(0, -1).join(', ')} ${last} ${words.at(-1)}`;
 }
 
 export const counted = (count, word) =>
@@ -183,15 +183,23 @@ function mayNotWords(denial, asked) {
   return [...denial.bits].map((letter) => here[letter] ?? rightWords(letter, kind)).join(' or ');
 }
 
-// What I may not do, where, and what says so. 'asked' is the request.
-export function denialSentence(denial, asked) {
-  if (!denial?.bits) return 'The front end refused this, as if another site had asked for it. Load the page again.';
-  const said = denial.entry === null
+// What I may not do and where, and what says so, or null: {text, why}. 'asked' is the request.
+export function denialWords(denial, asked) {
+  if (!denial?.bits) {
+    return {
+      text: 'The front end refused this, as if another site had asked for it. Load the page again.',
+      why: null,
+    };
+  }
+  const why = denial.entry === null
     ? 'No entry of its access list grants that.'
     : `Entry ${denial.entry} of its access list denies it: it ${entryWords(denial.text)} (${isolated(denial.text)}).`;
   const what = mayNotWords(denial, asked);
-  return `At ${placeWords(denial.at)} you may not ${what}. ${said} Ask whoever manages it.`;
+  return { text: `At ${placeWords(denial.at)} you may not ${what}. ${ASK}`, why };
 }
+
+// Where it is known whom to ask, their names take its place.
+export const ASK = 'Ask whoever manages it.';
 
 const SENTENCES = {
   0: 'The connection was lost. The request may or may not have been carried out: look, and repeat it if it wasn’t.',
@@ -223,7 +231,7 @@ function answerWords(fault) {
   if (status === undefined) return `The page itself failed: ${fault.message}. Load it again.`;
   const at = body?.at ? placeWords(body.at) : 'that place';
   if (status === 400) return badRequest(body);
-  if (status === 403) return denialSentence(body, fault.asked);
+  if (status === 403) return denialWords(body, fault.asked).text;
   if (status === 404) return `There is nothing at ${at}. It may have been removed, renamed or moved: load its folder again.`;
   if (status === 409) return CONFLICTS[body?.why]?.(at) ?? 'What is there doesn’t fit. Load the folder again.';
   if (status === 413) return tooLarge(body?.at ? at : 'This');

@@ -1,35 +1,11 @@
 # The page of contrib/page behind nginx, in Chromium: an office of two users, and another site.
 
 . "$here/front.sh"
-for python in python3 /usr/bin/python3 ''; do
-  [ -z "$python" ] || ! "$python" -c 'import selenium' 2>/dev/null || break
-done
-lacking=
-[ -n "$nginx" ] || lacking='nginx'
-has curl || lacking="$lacking curl"
-has chromium || has chromium-browser || has google-chrome || lacking="$lacking chromium"
-has chromedriver || lacking="$lacking chromedriver"
-[ -n "$python" ] || lacking="$lacking python3-selenium"
+. "$here/browsers.sh"
 if [ -n "$lacking" ]; then
   skip 'the page' "missing: $lacking"
   return
 fi
-
-# Runs a play, and counts each check that it prints. A play that ends before its last line has
-# failed.
-play() { # NAME SCRIPT ARGUMENT ..
-  local name=$1 word check why ended=
-  shift
-  while IFS=$'\t' read -r word check why; do
-    case $word in
-      pass) pass ;;
-      fail) fail "$check" "$why" ;;
-      end) ended=yes ;;
-    esac
-  done < <(LC_ALL=C.UTF-8 PYTHONDONTWRITEBYTECODE=1 timeout -k 10 900 \
-    "$python" "$here/page/$1" "${@:2}" 2>play.err)
-  [ -n "$ended" ] || fail "$name" "it broke off: $(tail -c 600 play.err)"
-}
 
 printf 'alice:{PLAIN}a\nbob:{PLAIN}b\n' >rooms.htpasswd
 
@@ -79,15 +55,13 @@ stop_proxy
 gives 'sound after restarts' 0 'sound\n' '' verify R
 
 # A room at a path, whose page is the same files. Its server listens before nginx's file is made.
-"$here/../contrib/install" --destdir "$PWD/machine" --program "$rooms" >installed 2>&1 </dev/null
-holds 'a room at a path' "$here/../contrib/rooms-add" --destdir "$PWD/machine" --title 'Invoices & <orders>' invoices >said 2>&1
+admin add --title 'Invoices & <orders>' invoices
+holds 'a room at a path' [ "$status" = 0 ]
 open_room H
 set_list H / dacl list:a "A:fd:carol:$ALL"
 start_server H 10000 || return
 printf 'carol:{PLAIN}c\n' >rooms-invoices.htpasswd
-for file in machine/etc/nginx/rooms.d/*; do
-  for_here "$file" | sed "s/127.0.0.1:[0-9]*\\\$room_target/127.0.0.1:$port\$room_target/" >"rooms.d/${file##*/}"
-done
+sets invoices PORT "$port"
 start_front 'a room at a path' || return
 play 'a room at a path' several.py "$PWD" "$front"
 stop_server

@@ -96,6 +96,13 @@ class Browser:
         # A list may be drawn anew after the button is found and before it is clicked.
         self.until(lambda: self.click(self.button(words, within)), words)
 
+    def press_choice(self, words):
+        """The choice below a field that has these words."""
+        self.until(lambda: self.script("""const one = [...document.querySelectorAll('[role=option]')]
+            .find((each) => each.innerText.replace(/\\s+/g, ' ').includes(arguments[0]));
+            one?.dispatchEvent(new Event('pointerdown', { cancelable: true }));
+            return Boolean(one);""", words), f'the choice {words}')
+
     def act(self, words, name):
         """Does this with the object of a row, by its menu."""
         self.press(f'Actions: {name}')

@@ -79,14 +79,31 @@ class Documents:
         """The name is shown in the views of access too, and in sentences of the room."""
         alice = self.alice
         alice.press('Access')
-        alice.until(lambda: 'By entry' in alice.one('.sheet').text, 'rights')
+        alice.until(lambda: alice.texts('.holders .name') == ['alice'], 'who has access')
+        assert alice.one('h1').text == STRANGE
+        alice.press('My rights')
+        alice.until(lambda: 'By line' in alice.one('.sheet').text, 'rights')
         assert alice.one('h1').text == STRANGE
         alice.press('All documents', '#path')
         alice.press('letters')
         alice.press('New folder')
         alice.write('dialog input', STRANGE)
         alice.press('Make it', 'dialog')
-        alice.says(STRANGE, 'already')
+        # What was typed stays, to be changed.
+        alice.says('There is already something of this name', css='dialog .wrong .hint')
+        assert alice.one('dialog input').get_attribute('value') == STRANGE
+        alice.press('Cancel', 'dialog')
+
+    def move_taken(self):
+        """Where a name is taken, the question stays, with what was chosen and why it can't be."""
+        alice = self.alice
+        alice.act('Rename or move', 'Report 2.txt')
+        alice.write('dialog input', 'Report 10.txt')
+        alice.press('Move it', 'dialog')
+        alice.says('There is already something of this name', css='dialog .wrong .hint')
+        assert alice.one('dialog input').get_attribute('value') == 'Report 10.txt'
+        alice.press('Cancel', 'dialog')
+        assert self.ask('GET', '/doc/letters/Report%202.txt') == 'two'
 
     def move_strange(self):
         alice = self.alice

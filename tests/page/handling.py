@@ -59,7 +59,7 @@ class Handling:
         """A document's own address offers it, and its link."""
         alice = self.alice
         alice.open('#/desk/plan.csv')
-        alice.until(lambda: alice.all('.owners'), 'the rights')
+        alice.until(lambda: alice.all('.holders'), 'who has access')
         alice.press('Download')
         assert alice.downloaded('plan.csv') == b'a;b'
         alice.driver.execute_cdp_cmd('Browser.grantPermissions', {
@@ -76,13 +76,13 @@ class Handling:
         alice.press('Close', 'dialog')
 
     def rename(self):
-        """The name is selected, so that typing replaces it; then the focus is in the row."""
+        """The name without its extension is selected, so that typing replaces that; then the focus is in the row."""
         alice = self.alice
         alice.open('#/desk')
         alice.act('Rename or move', 'plan.csv')
         field = "return document.activeElement.matches('dialog input')"
         alice.until(lambda: alice.script(field), 'the field')
-        alice.driver.switch_to.active_element.send_keys('budget.csv', Keys.ENTER)
+        alice.driver.switch_to.active_element.send_keys('budget', Keys.ENTER)
         alice.says('plan.csv is now “/desk/budget.csv”')
         alice.until(lambda: self.focus() == ['menu', 'budget.csv'], 'the focus in the row')
 
@@ -166,7 +166,8 @@ class Handling:
         alice.says('Remove 1 document and 1 folder?', 'what is in them, 2 documents,', css='dialog')
         alice.press('Remove them', 'dialog')
         alice.says('1 document and 1 folder were removed')
-        assert 'old' not in alice.names() and 'Note 3.txt' in alice.names()
+        alice.until(lambda: 'old' not in alice.names(), 'the listing anew')
+        assert 'Note 3.txt' in alice.names()
         # What the filter hides isn't removed with the rest.
         self.pick('Note 3.txt', 'Note 4.txt')
         alice.one('.tools input').send_keys('Note 3')
@@ -198,16 +199,13 @@ class Handling:
         with open(self.log, encoding='utf-8') as log:
             before = len(log.readlines())
         bob.open('')
-        bob.says('At the top of the room you may not see what is in it', 'What you may do here',
-                 'Pass through to what is in it', css='.closed')
+        bob.says('You can’t see the list of what is in the room, only what was shared with you', 'Ask root, who owns it',
+                 css='.closed')
         with open(self.log, encoding='utf-8') as log:
             asked = [line for line in log.readlines()[before:] if ' /can/' in line]
         assert len(asked) == 1, asked
-        for words, told in (('Upload', 'You may not put documents here'),
-                            ('New folder', 'You may not make folders here')):
-            assert bob.button(words).get_attribute('aria-disabled') == 'true'
-            bob.press(words)
-            bob.says(told)
+        # What isn't granted isn't offered there.
+        assert bob.texts('.bar :is(button, a)') == ['Access'], bob.texts('.bar :is(button, a)')
         bob.write('.opener input', '/letters')
         bob.press('Open', '.opener')
         bob.until(lambda: bob.texts('h1') == ['letters'], 'the folder')

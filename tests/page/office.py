@@ -10,6 +10,7 @@ import base64
 import os
 import signal
 import sys
+import time
 import urllib.request
 
 from browser import PATIENCE, Browser, Checks
@@ -53,7 +54,7 @@ class Office(Documents, Dropping, Handling, Readers, Lists, Warned, Recommended,
     def fits_a_phone(self):
         alice = self.alice
         alice.resize(360, 740)
-        for place in ('#/letters', '#/letters?rights', '#/letters?dacl', '#/letters?sacl'):
+        for place in ('#/letters', '#/letters?access', '#/letters?rights', '#/letters?dacl', '#/letters?sacl'):
             alice.open(place)
             assert not alice.is_wider(), place
         alice.open('#/letters?dacl')
@@ -63,7 +64,7 @@ class Office(Documents, Dropping, Handling, Readers, Lists, Warned, Recommended,
 
     def labels(self):
         alice = self.alice
-        for place in ('#/letters', '#/letters?rights', '#/letters?dacl'):
+        for place in ('#/letters', '#/letters?access', '#/letters?rights', '#/letters?dacl'):
             alice.open(place)
             assert alice.unnamed() == [], alice.unnamed()
 
@@ -79,6 +80,8 @@ class Office(Documents, Dropping, Handling, Readers, Lists, Warned, Recommended,
         alice = self.alice
         for name in ('contracts', 'minutes', 'policies'):
             self.ask('POST', f'/folder/{name}')
+        self.ask('PUT', '/dacl/minutes', b'list:a\nA:fd:alice:rwanNxDtThHdcCoy\nD:d:EVERYONE@:Dd\nA:fdg:staff:rwaxtc\n'
+                 b'A:fd:carol:rxtc\nA::kim:x\nA:fi:OWNER@:d\n')
         for name in ('Holiday plan 2026.csv', 'House rules.pdf', 'Größere Räume.txt',
                      'Report 2.txt', 'Report 10.txt'):
             self.ask('PUT', '/doc/' + urllib.request.quote(name), b'x')
@@ -88,6 +91,14 @@ class Office(Documents, Dropping, Handling, Readers, Lists, Warned, Recommended,
             alice.resize(1200, height)
             alice.open(place)
             alice.picture(f'{self.pictures}/{name}.png')
+        alice.open('#/minutes?access')
+        alice.resize(1200, 900)
+        alice.write('.picker input', 'dana')
+        alice.press_choice('as a person')
+        alice.until(lambda: alice.all('.adding .outcome'), 'what comes of it')
+        alice.picture(f'{self.pictures}/share.png')
+        alice.resize(1200, 1000)
+        alice.open('#/contracts?dacl')
         alice.press('Ready-made lists')
         alice.write('dialog input[type=text]', 'staff')
         alice.picture(f'{self.pictures}/ready.png')
@@ -114,6 +125,8 @@ class Office(Documents, Dropping, Handling, Readers, Lists, Warned, Recommended,
         cancel_prompts(bob.debugger)
         with open(f'{self.folder}/rooms.htpasswd', 'w', encoding='utf-8') as file:
             file.write('alice:{PLAIN}a\nbob:{PLAIN}other\n')
+        # Until then nginx remembers the old one.
+        time.sleep(12)
         bob.press('Report 2.txt')
         bob.says('Your password isn’t accepted any more', 'sign in')
 
@@ -140,6 +153,7 @@ PLAY = [
     ('over the limit', Office.too_large),
     ('a strange name is shown as text', Office.strange_name),
     ('a strange name in other views', Office.strange_list),
+    ('a name that is taken', Office.move_taken),
     ('a strange name is moved', Office.move_strange),
     ('a strange name is removed', Office.remove_strange),
     ('a full folder is removed', Office.full_folder),

@@ -10,11 +10,13 @@ class Readers:
         bob = self.bob
         bob.open('#/letters')
         assert bob.one('#me').text == 'bob'
-        bob.says('At “/letters” you may not see what is in it', 'No entry', css='.closed')
+        bob.says('At “/letters” you may not see what is in it', 'Ask your administrator', css='.closed')
         bob.open('#/letters?rights')
-        assert 'No entry grants it.' in bob.one('.may-not .why').text
+        assert 'Nobody gave it to you.' in bob.one('.may-not .why').text
         bob.open('#/letters?dacl')
         assert 'you may not see its access lists' in bob.one('.empty').text
+        bob.open('#/letters?access')
+        bob.says('You can’t read this folder. You may not see who else has access', css='.empty')
 
     def give_access(self):
         alice = self.alice
@@ -56,9 +58,9 @@ class Readers:
         bob = self.bob
         bob.act('Remove', 'Report 2.txt')
         bob.press('Remove it', 'dialog')
-        bob.says('“/letters”', 'you may not remove what is in it', 'No entry')
+        bob.says('“/letters”', 'you may not remove what is in it', 'Ask alice, who can change that')
         bob.script(DROP, 'new.txt')
-        bob.says('At “/letters” you may not put documents here', 'No entry', css='.uploads .bad')
+        bob.says('At “/letters” you may not put documents here', css='.uploads .bad')
 
     def deny(self):
         """An entry that denies is added, and moved above the one that allows."""
@@ -79,11 +81,12 @@ class Readers:
         bob = self.bob
         bob.act('Remove', 'Report 2.txt')
         bob.press('Remove it', 'dialog')
+        bob.click(bob.one('.notice summary'))
         bob.says('Entry 1 of its access list denies it', 'denies the user bob', 'D:I:bob:waDd', '“/letters/Report 2.txt”')
         bob.open('#/letters/Report%202.txt?rights')
         told = bob.one('.rights').text
         assert 'remove it or move it away' in told.lower(), told
-        assert 'By entry 1, from a folder above, which denies it to the user bob.' in told, told
-        assert 'By entry 2, from a folder above, which allows it to the group staff.' in told, told
+        assert 'By line 1 of its list, from a folder above, which denies it to the user bob.' in told, told
+        assert 'By line 2 of its list, from a folder above, which allows it to the group staff.' in told, told
         bob.open('#/letters?dacl')
         assert 'You may look at this list' in bob.one('.sheet').text and not bob.all('.entries select')

@@ -170,6 +170,20 @@ class Restarts:
         driver.get(f'{self.base}/{place}')
         return driver.current_window_handle
 
+    def shared(self):
+        """The server ends when somebody is given access: the page waits for it, and sends the list."""
+        alice = self.alice
+        alice.open('#/many?access')
+        alice.write('.picker input', 'kim')
+        alice.press_choice('as a person')
+        alice.until(lambda: alice.all('.adding .outcome'), 'what comes of it')
+        self.kill()
+        alice.press('Share', '.adding')
+        alice.says('The room doesn’t answer. The page tries again for half a minute.')
+        self.start()
+        alice.says('kim can now read “many” and what is in it')
+        assert b'A:fd:kim:rxtc\n' in self.ask('GET', '/dacl/many')
+
     def gone_for_long(self):
         """After half a minute the page gives up, and offers another try: of an upload, of a removal of several, of a
         folder that isn't shown."""
@@ -247,6 +261,7 @@ PLAY = [
     ('an upload while the server is killed and restarted', Restarts.interrupted),
     ('the panel of an upload goes by itself', Restarts.goes_by_itself),
     ('an upload while the room is set back', Restarts.set_back),
+    ('access while the server restarts', Restarts.shared),
     ('a server that is gone for long', Restarts.gone_for_long),
     ('a room that is full', Restarts.full),
 ]

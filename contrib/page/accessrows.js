@@ -1,0 +1,126 @@
+// The lines of those who have access, and what is changed by the menu of a line.
+
+import { nameOf } from './api.js';
+import { offered, select } from './adder.js';
+import { element, nameText } from './dom.js';
+import { confirm } from './grant.js';
+import { RANKS, keyOf, withLevel } from './levels.js';
+import { linkTo } from './links.js';
+import { endWords } from './ends.js';
+import { isInherited } from './list.js';
+import { tell, tellFault } from './notice.js';
+import { levelWords, placeName } from './told.js';
+import { below, mark, some, whoName } from './who.js';
+import { capital, isolated, maskWords } from './words.js';
+
+const rank = (level) => RANKS.indexOf(level);
+
+// The folder that an inherited entry stands on as its own, or null where that can't be seen.
+function sourceOf(entry, folders) {
+  const isIt = (one) => one.type === entry.type && one.mask === entry.mask
+    && keyOf(one) === keyOf(entry) && !isInherited(one);
+  for (const { path, list } of [...folders].reverse()) {
+    if (list === null) return null;
+    if (list.entries.some(isIt)) return path;
+  }
+  return null;
+}
+
+function sourceWords({ list, folders }, row) {
+  if (!row.inherited) return [];
+  if (list.protect) return ['kept from the folder above'];
+  const path = sourceOf(row.entries[0], folders);
+  if (path === null) return ['from a folder above'];
+  const name = path === '/' ? 'All documents' : nameText(nameOf(path));
+  return ['from ', element('a', { href: linkTo(path, 'access') }, name)];
+}
+
+// What is said of a line that is taken away.
+function goneWords(name, row, changes) {
+  const gone = `${name} is taken off the list.`;
+  if (row.isGroup) return `${gone} Members who have access in another way keep that.`;
+  const change = changes.find(({ user }) => user === row.who);
+  const stays = change === undefined || change.to !== 'none';
+  return stays ? `${gone} What a group or a folder above gives stays.` : gone;
+}
+
+// What is picked in the menu of a line. 'back' shows the line as it was.
+async function change(state, row, value, again, back) {
+  const { kind, path, known, list } = state;
+  const isGone = value === 'gone';
+  const name = (row.isGroup ? 'the group ' : '')
+    + isolated(whoName(known, row.who, row.isGroup));
+  // A date stays with the one who has it, as asked for by whoever changes the level.
+  const until = row.until === null ? null : { day: row.until, asker: state.me };
+  const next = withLevel(list, kind, row, isGone ? null : value, row.level === 'pass', until);
+  if (next === null) {
+    tell('bad', 'This can’t be said by levels. Change it under “Advanced”.');
+    back();
+    return;
+  }
+  const subject = { who: row.who, isGroup: row.isGroup, name, isLeaving: isGone };
+  const done = await confirm(state, next, isGone
+    ? { title: `Remove access to ${placeName(path)}?`, words: 'Remove access', subject,
+      sentence: ({ changes }) => goneWords(capital(name), row, changes) }
+    : { title: 'Change access?', words: 'Change it', subject,
+      sentence: () => `In the list of ${placeName(path)} ${name} goes from “${
+        levelWords(row.level, kind)}” to “${levelWords(value, kind)}”.` });
+  if (done) await again();
+  else back();
+}
+
+function levelControl(state, row, again) {
+  const { kind, edits, model } = state;
+  const words = row.level === 'custom' ? 'Custom' : levelWords(row.level, kind);
+  const plain = element('span', { class: 'level' }, words);
+  if (!edits || row.inherited || row.level === 'custom') return plain;
+  const hasBoth = model.rows.some((one) => one.inherited && one.key === row.key);
+  // What was carried here from above is changed there.
+  if (hasBoth && ['manage', 'remove'].includes(row.level)) return plain;
+  const levels = row.level === 'pass' ? ['pass'] : [...new Set([...offered(kind), row.level])];
+  const options = levels.sort((one, other) => rank(one) - rank(other))
+    .map((one) => [one, levelWords(one, kind)]);
+  const label = `What ${row.isGroup ? 'the group ' : ''}${row.who} can do`;
+  return select(label, hasBoth ? options : [...options, ['gone', 'Remove access']], row.level,
+    (value, made) => {
+      const back = () => { made.value = row.level; };
+      change(state, row, value, again, back).catch((fault) => {
+        tellFault(fault);
+        back();
+      });
+    });
+}
+
+const customWords = (row, kind) => row.entries.map((entry) =>
+  `${entry.type === 'A' ? 'may' : 'may not'} ${maskWords(entry.mask, kind)}`).join('; ');
+
+function line(state, row, again) {
+  const { known, kind, me } = state;
+  return element('li', { class: row.inherited ? 'from-above' : null },
+    mark(known, row.who, row.isGroup),
+    element('div', { class: 'name-of' }, nameText(whoName(known, row.who, row.isGroup)),
+      below(known, row, me, sourceWords(state, row)),
+      row.until === null ? null
+        : element('p', { class: 'hint' }, `until ${endWords(row.until)}`),
+      row.level === 'custom' ? element('p', { class: 'hint' }, customWords(row, kind)) : null),
+    levelControl(state, row, again));
+}
+
+// Own lines first, those who may do the most above. What comes from above too is said once, and
+// those who only pass through stand apart.
+export function accessRows(state, again) {
+  const { rows } = state.model;
+  const own = rows.filter(({ inherited }) => !inherited);
+  const above = rows.filter((row) => row.inherited
+    && !own.some((one) => one.key === row.key && one.level === row.level));
+  const sorted = (those) => [...those].sort((one, other) => rank(other.level) - rank(one.level));
+  const isWay = ({ level, who }) => level === 'pass' && !who.endsWith('@');
+  const list = (those) => element('ul', { class: 'holders' },
+    those.map((row) => line(state, row, again)));
+  const all = [...sorted(own), ...sorted(above)];
+  const way = all.filter(isWay);
+  if (way.length === 0) return [list(all)];
+  const names = some(way.map(({ who, isGroup }) => whoName(state.known, who, isGroup)), 3);
+  return [list(all.filter((row) => !isWay(row))), element('details', { class: 'on-the-way' },
+    element('summary', {}, `Only on the way to something further down: ${names}`), list(way))];
+}

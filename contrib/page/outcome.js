@@ -1,0 +1,113 @@
+// What a new list would bring about: who gains and who loses, here and further down, who can't get
+// here, and whether I keep it. 'tellOutcome' of told.js says it in sentences.
+
+import { nodesBelow } from './around.js';
+import {
+  callersFor, changesBelow, changesOf, isException, isGranted, meantIn, reached, statesBelow,
+} from './effects.js';
+import { afterSending, grantsNobody } from './judge.js';
+import { isOwn } from './levels.js';
+import { isGroup } from './list.js';
+import { removalOf } from './removers.js';
+import { lossOf } from './warnings.js';
+import { leftovers, openings, waysAfter } from './ways.js';
+
+const NOTHING = { nodes: [], unread: [], all: true };
+
+// What lies below the object, looked at once for all that is asked of this state.
+export function belowOf(state) {
+  state.below ??= state.kind === 'folder' ? nodesBelow(state.path) : Promise.resolve(NOTHING);
+  return state.below;
+}
+
+const isBelow = (path, folder) => path === folder || path.startsWith(`${folder}/`);
+
+// What opening the way lets these get at beside the object: {changes, unread, all}.
+async function besideOf(state, opening, callers) {
+  const first = opening.find(({ next }) => next !== null);
+  if (first === undefined) return { changes: [], unread: [], all: true };
+  const { nodes, unread, all } = await nodesBelow(first.path);
+  const depth = state.folders.findIndex(({ path }) => path === first.path);
+  const above = state.folders.slice(0, depth);
+  const others = new Map(opening.filter(({ next }) => next).map(({ path, next }) => [path, next]));
+  const states = statesBelow(nodes, { path: first.path, object: first.folder.object,
+    lists: [first.folder.list, first.next], ways: [above, above] }, others);
+  const isBeside = ({ path }) => !isBelow(path, state.path) && !others.has(path);
+  return { changes: changesBelow(states, callers, []).filter(isBeside), unread, all };
+}
+
+// Whoever changes at the top or is let pass, and whom lines further down mean.
+function affectedBy(nodes, opening, callers, changes) {
+  const names = new Set([...changes, ...opening.flatMap((one) => one.callers),
+    ...meantIn(nodes, callers)].map(({ name }) => name));
+  return callers.filter(({ name }) => names.has(name));
+}
+
+// Who gains and who loses below the object.
+async function changesFor(state, next, opening, callers, changes) {
+  const { path, list, object, folders } = state;
+  if (state.kind === 'document') return { ...NOTHING, below: [], apart: [] };
+  const found = await belowOf(state);
+  const affected = affectedBy(found.nodes, opening, callers, changes);
+  const states = statesBelow(found.nodes, { path, object, lists: [list, next],
+    ways: [folders, waysAfter(folders, opening)] });
+  return { ...found, below: changesBelow(states, affected, changes),
+    apart: found.nodes.filter((one) => isException(one) && one.list.protect) };
+}
+
+// Whether I lose the list by this: null, or {title, text, exact, givers, nobody}.
+function lockOf(state, after, callers, reach) {
+  const { list, object, me, known } = state;
+  const exact = known?.members ? callers.find(({ user }) => user === me) : undefined;
+  const isKept = exact && [...'Cc'].every((letter) =>
+    isGranted(after.entries, letter, exact, object));
+  const loss = isKept ? null
+    : lossOf('C', list, after, me, object) ?? lossOf('c', list, after, me, object);
+  return loss && { ...loss, exact: exact !== undefined, nobody: grantsNobody(after.entries, 'C'),
+    givers: callers.filter((caller) => reach(caller) === 'manage') };
+}
+
+const isMeant = (subject) => ({ user, groups }) => subject !== null
+  && (subject.isGroup ? groups.includes(subject.who) : user === subject.who);
+
+// Those who have to be let pass: whoever gains something here, and whom this is about. Everyone at
+// once is no caller who could be.
+function comingTo(gains, callers, subject) {
+  const gaining = gains.filter(({ user, groups }) => user !== null || groups.length > 0);
+  if (subject?.isLeaving) return gaining;
+  const names = new Set(gaining.map(({ name }) => name));
+  return [...gaining, ...callers.filter((one) => isMeant(subject)(one) && !names.has(one.name))];
+}
+
+// 'state' is {path, kind, list, text, object, me, known, folders}, 'next' the list that would be
+// sent, and 'subject' the one whom it is about, or null: {who, isGroup, isLeaving}. Returns all
+// that tellOutcome takes.
+export async function outcomeOf(state, next, subject = null) {
+  const { path, kind, list, object, known, folders } = state;
+  const last = folders.at(-1);
+  const after = afterSending(next, list, path === '/' ? null : last.list ?? undefined, kind);
+  const callers = callersFor([list, next, after], known, object);
+  const folder = last?.list ? { entries: last.list.entries, object: last.object } : null;
+  const side = ({ entries }) => ({ target: { entries, object, kind }, folder });
+  const changes = changesOf(side(list), side(after), callers);
+  const gains = changes.filter(({ more }) => more);
+  const opening = await openings(state, comingTo(gains, callers, subject), subject);
+  const [inside, beside, left, warned] = await Promise.all([
+    changesFor(state, { ...next, entries: after.entries }, opening, callers, changes),
+    besideOf(state, opening, callers),
+    subject?.isLeaving ? leftovers(state, next, subject) : [],
+    removalOf(kind, { path, entries: list.entries, object },
+      { path, entries: after.entries, object, protect: next.protect }),
+  ]);
+  const hasOwn = (entries) => entries.some((entry) => isOwn(entry, kind));
+  const reach = (caller) => reached({ entries: after.entries, object, kind }, folder, caller);
+  return {
+    changes, gains, losses: changes.filter(({ more }) => !more), opening, left, warned,
+    isOwnNew: hasOwn(after.entries) && !hasOwn(list.entries),
+    isKnown: after.known, hasGroups: [list, after].some(({ entries }) => 
+      entries.some((entry) => isGroup(entry) && entry.mask !== '')),
+    below: [...inside.below, ...beside.changes], apart: inside.apart,
+    isAll: inside.all && beside.all, unread: [...new Set([...inside.unread, ...beside.unread])],
+    lock: lockOf(state, after, callers, reach),
+  };
+}

@@ -1,0 +1,129 @@
+// The way to an object: the folders above it, which have to let somebody pass, and the lines there
+// that do nothing else.
+
+import * as api from './api.js';
+import { attributesAt, nodesBelow } from './around.js';
+import { barring, callersFor, isGranted, isNeeded, passes, statesBelow } from './effects.js';
+import { entriesOf, keyOf, readLevels } from './levels.js';
+import { isInherited, printList, readListText } from './list.js';
+import { isUnanswered } from './again.js';
+
+// The folders on the way, from the top down: [{path, text, list, object}].
+export async function wayTo(path) {
+  const names = api.namesOf(path);
+  return Promise.all(names.map(async (_, index) => {
+    const above = `/${names.slice(0, index).join('/')}`;
+    const [text, object] = await Promise.all([
+      api.readList('dacl', above).catch(() => null), attributesAt(above)]);
+    const list = text === null ? null : readListText(text).list ?? null;
+    return { path: above, text, object, list };
+  }));
+}
+
+const mayChange = async (path) =>
+  (await api.can(path, 'C').catch(() => null))?.C.ruling === 'allowed';
+
+// The list with a line that lets somebody pass, at the end of its own ones.
+function opened(list, { who, isGroup }) {
+  const own = list.entries.filter((entry) => !isInherited(entry));
+  return { ...list, entries: [...own, ...entriesOf('pass', who, isGroup, 'folder'),
+    ...list.entries.filter(isInherited)] };
+}
+
+// The folders that bar those who gain something, and what would let them pass, from the top down:
+// [{path, callers, next, before, folder}]. 'next' is null where I may not change the list, or where
+// that won't do.
+export async function openings({ folders }, gaining, subject) {
+  const barred = new Map();
+  for (const caller of gaining) {
+    for (const path of barring(folders, caller)) {
+      barred.set(path, [...barred.get(path) ?? [], caller]);
+    }
+  }
+  return Promise.all(folders.filter(({ path }) => barred.has(path)).map(async (folder) => {
+    const { path } = folder;
+    const callers = barred.get(path);
+    const next = subject !== null && await mayChange(path) ? opened(folder.list, subject) : null;
+    const lets = next !== null && callers.every((caller) =>
+      isGranted(next.entries, 'x', caller, folder.object));
+    return { path, callers, folder, before: folder.text, next: lets ? next : null };
+  }));
+}
+
+// The folders above as they are once these are opened.
+export const waysAfter = (folders, opening) => folders.map((folder) => (
+  { ...folder, list: opening.find(({ path }) => path === folder.path)?.next ?? folder.list }));
+
+function withoutLine(list, subject) {
+  const key = keyOf({ who: subject.who, flags: subject.isGroup ? 'g' : '' });
+  const row = readLevels(list, 'folder').rows.find((one) => one.key === key && !one.inherited
+    && one.level === 'pass');
+  return row && { ...list, entries: list.entries.filter((entry) => !row.entries.includes(entry)) };
+}
+
+async function leftoverAt(folder, state, next, subject) {
+  const without = folder.list && withoutLine(folder.list, subject);
+  if (!without || !(await mayChange(folder.path))) return null;
+  const { nodes, unread, all } = await nodesBelow(folder.path);
+  const states = statesBelow(nodes, { path: folder.path, object: folder.object,
+    lists: [folder.list, folder.list], ways: [[], []] }, new Map([[state.path, next]]));
+  const callers = callersFor([folder.list], state.known, folder.object).filter(({ user, groups }) =>
+    (subject.isGroup ? groups.includes(subject.who) : user === subject.who));
+  const isRedundant = callers.every((caller) => passes([{ ...folder, list: without }], caller));
+  if (!isRedundant && isNeeded(states, callers)) return null;
+  return { path: folder.path, before: folder.text, next: without,
+    sure: isRedundant || (all && unread.length === 0) };
+}
+
+// The lines on the way to an object that only let somebody pass, and that nobody needs any more
+// once its list is this one: [{path, before, next, sure}]. 'sure' is false where not everything
+// below could be looked at.
+export async function leftovers(state, next, subject) {
+  const found = await Promise.all(state.folders.map((folder) =>
+    leftoverAt(folder, state, next, subject)));
+  return found.filter((one) => one !== null);
+}
+
+const textAt = (path) => api.readList('dacl', path).catch(() => null);
+const ownText = (text) => {
+  const { list } = readListText(text ?? '');
+  return list && printList({ ...list, entries: list.entries.filter((one) => !isInherited(one)) });
+};
+
+// Whether a list was sent although its answer was lost.
+const hasArrived = async ({ path, next }, fault) => (isUnanswered(fault) || fault.status === 500)
+  && ownText(await textAt(path)) === ownText(printList(next));
+
+// Takes back what was sent, unless somebody changed it since. Returns the paths where it stays.
+async function takeBack(sent) {
+  const left = [];
+  for (const { path, before, after } of [...sent].reverse()) {
+    const isDone = after !== null && await textAt(path) === after
+      && await api.setList('dacl', path, before).then(() => true, () => false);
+    if (!isDone) left.push(path);
+  }
+  return left;
+}
+
+// Sends lists one after the other: [{path, before, next}]. Returns {done, left}: nothing is sent
+// unless each list is the one that was judged, and what was sent is taken back if a later one
+// fails. 'left' are the paths where that failed too; a fault has it as well.
+export async function sendAll(steps) {
+  const isSame = async ({ path, before }) => await api.readList('dacl', path) === before;
+  for (const step of steps) if (!(await isSame(step))) return { done: false, left: [] };
+  const sent = [];
+  for (const step of steps) {
+    try {
+      if (sent.length > 0 && !(await isSame(step))) {
+        return { done: false, left: await takeBack(sent) };
+      }
+      await api.setList('dacl', step.path, printList(step.next));
+    } catch (fault) {
+      if (!(await hasArrived(step, fault))) {
+        throw Object.assign(fault, { left: await takeBack(sent), taken: sent.length });
+      }
+    }
+    sent.push({ ...step, after: step === steps.at(-1) ? null : await textAt(step.path) });
+  }
+  return { done: true, left: [] };
+}
