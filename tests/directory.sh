@@ -73,27 +73,23 @@ stop_directory() {
 }
 as_root_of_directory() { "$1" -x -H "ldap://127.0.0.1:$ldap" -D cn=root,dc=example,dc=net -w root-word "${@:2}" >said 2>&1; }
 
-# Passwords that it checks: contrib/install below ./machine, an Apache at $apache, and the front end of front.sh in this folder.
+# Passwords that it checks: rooms-admin below ./machine, an Apache at $apache, and the front end of front.sh in this folder.
 apache2=$(command -v apache2 || ls /usr/sbin/apache2 2>/dev/null)
 modules=/usr/lib/apache2/modules
 
-installs() {
-  "$contrib/install" --destdir "$PWD/machine" --program "$rooms" "$@" </dev/null >"$work/out" 2>"$work/err"
-  status=$?
-}
 good() {
   printf '%s\n' '# where it is' "URI=ldap://127.0.0.1:${ldap-389}" 'BASE=ou=people,dc=example,dc=net' \
     'BIND=uid=reader,ou=people,dc=example,dc=net' "SECRET=$PWD/secret" 'USERS=(&(objectClass=person)(!(employeeType=gone)))'
 }
 start_apache() { # FILE-OF-SETTINGS
   local began
-  installs --directory "$1"
+  admin setup --directory "$1"
   # Who may enter a further room, as directory.md says it.
   mkdir -p directory.d
   awk '/^cat >.*invoices.apache/ { on = 1; next } /^END/ { on = 0 } on' "$here/../docs/directory.md" >directory.d/invoices.apache
   sed -e "s#/etc/rooms/directory.d#$PWD/directory.d#" \
     -e "s#/run/rooms-directory#$PWD/run#; s#127.0.0.1:8778#127.0.0.1:$apache#; s#^ErrorLog .*#ErrorLog $PWD/apache.log#" \
-    -e "s#/usr/local/share/rooms#$PWD/machine/usr/local/share/rooms#" machine/etc/rooms/directory.apache >apache.conf
+    machine/etc/rooms/directory.apache >apache.conf
   mkdir -p run
   chmod 755 "$work" . machine
   rm -f run/pid
@@ -106,13 +102,11 @@ start_apache() { # FILE-OF-SETTINGS
   kill -0 "$httpd" 2>/dev/null
 }
 ask_directory() {
-  local file
-  for file in rooms-server rooms-remembered rooms-directory; do
-    for_here "machine/etc/nginx/snippets/$file.conf" >"snippets/$file.conf"
-  done
-  ln -s ../snippets/rooms-directory.conf conf.d/rooms-remember.conf
+  take_front
   reload_front
 }
+# Apache answers only who sends what nginx sends.
+key_of_nginx() { sed -n 's/^proxy_set_header \(Rooms-Key\) \(.*\);$/\1: \2/p' machine/etc/rooms/passwords.key; }
 answers() { [ "$(curl -s -m 20 -o "$work/body" -w '%{http_code}' ${2:+-u "$2"} "$base$3")" = "$1" ]; }
 awaits() { # SECONDS COMMAND ..: until it succeeds
   local began=$SECONDS most=$1

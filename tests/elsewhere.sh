@@ -75,7 +75,7 @@ start_sshd() {
 }
 stands_there() {
   echo 0 >"$stand/count"
-  PATH=$stand/bin:$PATH there "$contrib/rooms-standby" "$PWD/conf" </dev/null >"$work/out" 2>"$work/err"
+  PATH=$stand/bin:$PATH there "$contrib/rooms-admin" standby "$PWD/conf" </dev/null >"$work/out" 2>"$work/err"
   status=$?
 }
 arrived() { # NAME

@@ -1,4 +1,4 @@
-# A front end before the server: nginx by the files of contrib, with other ports and files.
+# A front end before the server: nginx by the file that rooms-admin writes, with other ports and files.
 
 nginx=$(command -v nginx || ls /usr/sbin/nginx 2>/dev/null)
 
@@ -8,49 +8,69 @@ has_six() {
   why=$( (exec 3<>/dev/tcp/::1/1) 2>&1) || [[ $why = *refused* ]]
 }
 
-# A file for nginx with the ports and the files of a case.
+# The site with the ports and the files of a case: passwords are ./rooms.htpasswd and so on, what is
+# remembered is in ./remembered, the socket in ./checks, all else below ./machine.
 for_here() { # FILE
   local six='/listen \[::\]/d'
   if has_six; then six="s/listen \[::\]:80;/listen [::1]:$front;/; s/listen \[::\]:443 /listen [::1]:$secure /"; fi
   sed -e "s/listen 80;/listen 127.0.0.1:$front;/" -e "s/listen 443 /listen 127.0.0.1:$secure /" \
-    -e "$six" -e "s/127.0.0.1:8780/127.0.0.1:$port/" -e "s/127.0.0.1:8779/127.0.0.1:$checker/" \
-    -e "s/127.0.0.1:8778/127.0.0.1:$apache/" \
-    -e "s|/etc/nginx/|$PWD/|; s|/run/rooms-passwords|$PWD/remembered|; s|/run/rooms-full|$PWD/run/rooms-full|" \
-    -e "s|/usr/local/share/rooms/page|$here/../contrib/page|" "$1"
+    -e "$six" -e "s/127.0.0.1:8778/127.0.0.1:$apache/" -e "s/127.0.0.1:8777/127.0.0.1:$apache/" \
+    -e "s|/run/rooms-front/remembered|$PWD/remembered|; s|/run/rooms-front|$PWD/checks|; s|/run/rooms-full|$PWD/run/rooms-full|" \
+    -e "s|/var/lib/rooms-web|$PWD/root/var/lib/rooms-web|g" \
+    -e "s|/etc/nginx/|$PWD/|; s|/etc/rooms/|$PWD/machine/etc/rooms/|; s|/var/lib/rooms-front|$PWD/machine/var/lib/rooms-front|" "$1"
 }
 
-# nginx's file, which includes a site as Debian's does.
-write_front() { # SITE
+# nginx's file, which includes the site as Debian's does.
+write_front() {
   echo "daemon off; pid $PWD/nginx.pid; error_log $PWD/error.log; worker_processes 1;"
   [ "$(id -u)" != 0 ] || echo 'user root;'
   echo 'events { worker_connections 256; }'
   echo "http { log_format short '\$status \$request_method \$request_uri \$remote_user \$http_origin';"
   echo "access_log $PWD/access.log short; client_body_temp_path $PWD/t1; proxy_temp_path $PWD/t2;"
   echo "fastcgi_temp_path $PWD/t3; uwsgi_temp_path $PWD/t4; scgi_temp_path $PWD/t5;"
-  for_here "$here/../contrib/$1"
-  echo 'include conf.d/*.conf; include sites-enabled/*; }'
+  echo 'include sites-enabled/*; }'
 }
 
-# Starts nginx with contrib's nginx.conf, or with nginx-tls.conf for 'tls', whose certificate and
-# key are ./rooms.pem and ./rooms.key. The ports $front, $secure and $checker are free if $port is. It
-# asks for the passwords of ./rooms.htpasswd, serves the page of contrib, and writes the status, method,
-# target, user and origin of each request into ./access.log.
+# Runs a verb for the machine of the case, which is below ./machine.
+admin() { # VERB ARGUMENT ..
+  "$contrib/rooms-admin" "$1" --destdir "$PWD/machine" "${@:2}" </dev/null >"$work/out" 2>"$work/err"
+  status=$?
+}
+# A setting of a room, or of the site where the room is '-'.
+sets() { # ROOM NAME VALUE
+  local file=machine/etc/rooms/$1.conf
+  [ "$1" != - ] || file=machine/etc/rooms/site
+  sed -i "s|^$2=.*|$2=$3|" "$file"
+}
+# nginx has what rooms-admin has written.
+take_front() { for_here machine/etc/nginx/sites-available/rooms >sites-enabled/rooms; }
+
+# Starts nginx with the site of the room office, whose server is at $port; with TLS for 'tls', whose
+# certificate and key are ./rooms.pem and ./rooms.key. The ports $front and $secure are free if $port
+# is. It asks for the passwords of ./rooms.htpasswd, serves the page of contrib, and writes the status,
+# method, target, user and origin of each request into ./access.log.
 start_front() { # NAME [tls]
-  local began=$SECONDS part
+  local began=$SECONDS
   front=$((port + 1))
   secure=$((port + 2))
-  checker=$((port + 3))
   apache=$((port + 4))
   base=http://127.0.0.1:$front
   chmod 755 "$work" .
   chmod 644 rooms.htpasswd
-  mkdir -p snippets sites-enabled conf.d rooms.d
+  mkdir -p sites-enabled checks machine/etc/nginx
+  [ "$(id -u)" != 0 ] || chown root:www-data checks
+  chmod 710 checks
   rm -f nginx.pid
-  for part in http server host page proxy remember remembered directory; do
-    for_here "$here/../contrib/nginx-$part.conf" >"snippets/rooms-$part.conf"
-  done
-  echo "ssl_certificate $PWD/rooms.pem; ssl_certificate_key $PWD/rooms.key;" >snippets/rooms-tls.conf
-  write_front "nginx${2:+-$2}.conf" >nginx.conf
+  [ -e machine/etc/rooms/site ] || admin setup
+  sets office PORT "$port"
+  if [ -n "${2-}" ]; then
+    sets - CERTIFICATE "$PWD/rooms.pem"
+    sets - KEY "$PWD/rooms.key"
+  fi
+  admin setup
+  [ "$status" = 0 ] || fail "$1: setup" "status $status: $(tail -n 2 "$work/err")"
+  take_front
+  write_front >nginx.conf
   "$nginx" -p "$PWD" -c "$PWD/nginx.conf" >nginx.out 2>&1 &
   proxy=$!
   until [ -s nginx.pid ] || ! kill -0 "$proxy" 2>/dev/null ||

@@ -2,6 +2,7 @@
 
 # Below the ports that systems hand out by themselves.
 port=$((10000 + RANDOM % 20000))
+place=
 
 # Whether this shell opens sockets, and there is a loopback: port 1 then takes or refuses a connection.
 has_loopback() {
@@ -22,6 +23,7 @@ start_server() { # FILE COUNT
     : >"$work/server.out"
     "$rooms" serve "$1" --port "$port" --count "$2" </dev/null >"$work/server.out" 2>"$work/server.err" &
     server=$!
+    place=127.0.0.1:$port
     if await_line; then return 0; fi
     wait "$server"
     server=
@@ -29,6 +31,19 @@ start_server() { # FILE COUNT
     grep -q '^fault: net$' "$work/server.err" || break
   done
   fail "server on $1" "it doesn't listen: $(cat "$work/server.err")"
+  return 1
+}
+
+# The same on a socket in the file system.
+start_at_socket() { # FILE PATH COUNT
+  : >"$work/server.out"
+  "$rooms" serve "$1" --socket "$2" --count "$3" </dev/null >"$work/server.out" 2>"$work/server.err" &
+  server=$!
+  place=$2
+  if await_line; then return 0; fi
+  wait "$server"
+  server=
+  fail "server at $2" "it doesn't listen: $(cat "$work/server.err")"
   return 1
 }
 
@@ -48,7 +63,7 @@ await_line() {
 server_ends() { # NAME STATUS ERR
   local wanted=$2
   printf '%b' "$3" >"$work/want.err"
-  printf 'listening 127.0.0.1:%s\n' "$port" >"$work/want.out"
+  printf 'listening %s\n' "$place" >"$work/want.out"
   wait_for "$server" || { fail "$1" "it doesn't end"; stop_server; return; }
   wait "$server"
   status=$?

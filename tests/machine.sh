@@ -6,12 +6,15 @@ copy_machine() { # NAME OF WHAT IS SKIPPED
   local folder=${ROOMS_DEBIAN:-$work/debian}
   if [ ! -d "$folder" ]; then
     has debootstrap || { skip "$1" 'no debootstrap, and ROOMS_DEBIAN names no folder'; return 1; }
-    timeout 600 debootstrap --variant=minbase --include=systemd,nginx,apache2-utils,openssl,curl \
+    timeout 600 debootstrap --variant=minbase --include=systemd,dbus,nftables,nginx,apache2-utils,openssl,curl,python3,python3-ldap \
       bookworm "$folder.part" >"$work/debootstrap" 2>&1 </dev/null ||
       { skip "$1" "debootstrap fails: $(tail -n 1 "$work/debootstrap")"; rm -rf "$folder.part"; return 1; }
     mv "$folder.part" "$folder"
   fi
   cp -a "$folder" "$machine" || { skip "$1" "$folder can't be copied"; return 1; }
+  # There is no network from which what is only recommended could be brought.
+  mkdir -p "$machine/etc/apt/apt.conf.d"
+  echo 'APT::Install-Recommends "false";' >"$machine/etc/apt/apt.conf.d/90recommends"
 }
 # The folder, without what runs in it. It is started, if the machine allows that.
 make_machine() { # NAME OF WHAT IS SKIPPED [FOLDER]
@@ -22,7 +25,7 @@ make_machine() { # NAME OF WHAT IS SKIPPED [FOLDER]
   fi
   machine=$PWD/${2:-machine}
   copy_machine "$1" || return 1
-  for file in usr/sbin/nginx usr/bin/htpasswd usr/bin/openssl usr/bin/curl usr/bin/systemctl; do
+  for file in usr/sbin/nginx usr/bin/htpasswd usr/bin/openssl usr/bin/curl usr/bin/python3 usr/bin/systemctl; do
     [ -x "$machine/$file" ] || { skip "$1" "/$file isn't in it"; return 1; }
   done
   start_machine || { skip "$1" "no network of its own: $(head -c 200 said)"; return 1; }
@@ -85,20 +88,21 @@ unit() { # NAME: its file, which for an instance is that of the template
 alive() { [ -s "/run/$1.pid" ] && kill -0 "$(cat "/run/$1.pid")" 2>/dev/null; } # NAME
 command_of() { # NAME: what the unit starts, with its instance and its settings
   local line file
-  line=$(sed -n 's/^ExecStart=//p' "$(unit "$1")")
+  line=$(sed -n '/^ExecStart=/{:a; /\\$/{N; s/\\\n *//; ba}; s/^ExecStart=//p}' "$(unit "$1")")
   file=$(sed -n 's/^EnvironmentFile=//p' "$(unit "$1")")
   line=${line//%i/${1#*@}}
   file=${file//%i/${1#*@}}
-  for name in FILE PORT; do
-    [ -z "$file" ] || line=${line//"\${$name}"/$(sed -n "s/^$name=//p" "$file")}
-  done
-  echo "$line"
+  echo "${line//\$\$/\$}"
 }
 start() { # NAME
   alive "$1" && return
   [ -n "$(unit "$1")" ] || { echo "Unit $1.service not found." >&2; return 5; }
   : >"/run/$1.line"
-  setpriv --reuid=rooms --regid=rooms --clear-groups $(command_of "$1") \
+  settings=$(sed -n 's/^EnvironmentFile=//p' "$(unit "$1")")
+  settings=${settings//%i/${1#*@}}
+  mapfile -t settings < <(grep -E '^(FILE|PORT|SOCKET)=' "$settings")
+  eval "set -- \"$1\" $(command_of "$1")"
+  env "${settings[@]}" setpriv --reuid=rooms --regid=rooms --clear-groups "${@:2}" \
     >"/run/$1.line" 2>"/run/$1.fault" </dev/null &
   echo $! >"/run/$1.pid"
   for turn in {1..500}; do [ ! -s "/run/$1.line" ] || return 0; alive "$1" || return 1; sleep 0.02; done
@@ -115,6 +119,8 @@ all() { # NAME: it, or those that run
     echo "$1"
   fi
 }
+# What a package enables when it is installed.
+[ "$1" != --root=/ ] || exec /usr/bin/systemctl "$@"
 verb=$1
 shift
 if [ "$verb" = show ] && [ "$3" = --value ]; then # -p PROPERTY --value UNIT
@@ -162,7 +168,7 @@ for name in "${units[@]}"; do
       ;;
     is-active:*) if alive "$name"; then echo active; else echo inactive; exit 3; fi ;;
     *:*.timer) ;;
-    *:rooms-full@*) ;;
+    *:rooms-full@* | *:rooms-firewall) ;;
     start:rooms-nightly* | start:rooms-directory*) $(command_of "$name") || exit ;;
     stop:rooms-nightly* | stop:rooms-directory*) ;;
     stop:rooms-passwords | stop:rooms-session) ! alive "$name" || kill "$(cat "/run/$name.pid")" ;;

@@ -8,7 +8,8 @@ stand=
 # that.
 make_stand() {
   stand=$PWD/stand
-  mkdir "$stand" "$stand/bin" run office backups
+  mkdir "$stand" "$stand/bin" run office
+  mkdir -m 700 backups
   echo 0 >"$stand/count"
   : >"$stand/pid"
   echo "$port" >"$stand/port"
@@ -152,16 +153,14 @@ unit() { PATH=$stand/bin:$PATH KILL_AT=0 systemctl "$@" rooms; }
 
 stop_unit() { if [ -n "$stand" ] && [ -s "$stand/pid" ]; then unit stop; fi; }
 
-# A script of contrib/ with the stand-ins; its status is in $status, and its output in $work/out and
+# A verb of rooms-admin with the stand-ins; its status is in $status, and its output in $work/out and
 # $work/err. KILL_AT and KILL_HOW name the call at which it is interrupted.
-script() { # SCRIPT WORD ..
+verb() { # VERB WORD ..
   echo 0 >"$stand/count"
   : >"$stand/steps"
   : >"$stand/messages"
-  local name=$contrib/$1
-  shift
   # shellcheck disable=SC2016
-  { PATH=$stand/bin:$PATH bash -c 'echo $$ >"$STAND/script"; exec "$@"' script "$name" "$@" \
+  { PATH=$stand/bin:$PATH bash -c 'echo $$ >"$STAND/script"; exec "$@"' script /usr/bin/python3 -I "$here/admin/hooked.py" "$@" \
     </dev/null >"$work/out" 2>"$work/err"; } 2>/dev/null
   status=$?
 }

@@ -6,6 +6,9 @@ if ! has shellcheck; then
 fi
 top=$here/..
 cd "$top" || return
+# The gate takes files and folders alone.
+find . -name .git -prune -o -name out -prune -o -type l -print >"$work/found"
+same 'no link in the repository' "$work/found" /dev/null
 while IFS= read -r file; do
   shellcheck -x "$file" >"$work/found" 2>&1
   same "$file" "$work/found" /dev/null

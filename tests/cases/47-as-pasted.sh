@@ -32,11 +32,23 @@ if [ "\$1" = -B ] && [ -n "$(command -v htpasswd)" ]; then exec "$(command -v ht
 if [ -n "$(command -v htpasswd)" ]; then exec "$(command -v htpasswd)" "\$@"; fi
 echo "htpasswd \$*" >>"$PWD/asked"
 END
-stand_in rooms-full <<'END'
-[ "$*" = --look ] && echo '0 MB of 384 are in use'
+# The administrator's command, on this room. A password that isn't piped in is typed.
+mkdir -p run root/etc/nginx root/etc/rooms
+stand_in rooms-admin <<END
+export ROOMS_RUN=$PWD/run ROOMS_ROOT=$PWD/root ROOMS_SETTINGS=$PWD/root/etc/rooms
+case \$1 in
+  full) [ "\$*" = 'full --look' ] && echo '0 MB of 384 are in use' && exit ;;
+  get | restore)
+    verb=\$1
+    shift
+    set -- "\$verb" --conf "$PWD/conf" "\$@"
+    ;;
+esac
+if [ "\$1 \$2" = 'user add' ] && [ ! -p /dev/stdin ]; then exec <<<typed; fi
+exec "$here/../contrib/rooms-admin" "\$@"
 END
 stand_in systemctl <<END
-if [ "\$*" = 'start rooms-nightly@office' ]; then exec "$here/../contrib/rooms-nightly" "$PWD/conf"; fi
+if [ "\$*" = 'start rooms-nightly@office' ]; then exec "$here/../contrib/rooms-admin" backup "$PWD/conf"; fi
 case \$1 in
   is-active) [ -e "$PWD/pid" ] && echo active || echo inactive ;;
   restart) "\$0" stop && "\$0" start ;;
@@ -86,7 +98,13 @@ PATH=$PWD/bin:$PATH rooms init room/office.rooms alice staff >/dev/null
 printf 'group,user\nstaff,bob\nstaff,a.bob\nsales,carol\nsales,bob\n' >members.csv
 gives 'the members' 0 'groups 2, members 4\n' '' groups room/office.rooms members.csv
 set_list room/office.rooms / dacl list:a "A:fd:alice:$ALL" A:fdg:staff:rwaxtc A::AUTHENTICATED@:xt
-: >passwords
+: >root/etc/nginx/rooms.htpasswd
+ln -s root/etc/nginx/rooms.htpasswd passwords
+printf '%s\n' "FILE=$PWD/room/office.rooms" "PORT=$((port + 1))" "BACKUPS=$PWD/backups" UNIT=rooms "PROGRAM=$rooms" >root/etc/rooms/office.conf
+if ! has htpasswd || [ ! -x /usr/bin/python3 ]; then
+  skip 'what is pasted' 'htpasswd or python3 is missing'
+  return
+fi
 bin/systemctl start rooms || { fail 'what is pasted' "no server: $(cat err)"; return; }
 answers 'a folder' ' 201' alice POST /folder/letters
 answers 'a document of bob' ' 201' bob PUT /doc/letters/reply 'Dear Sir'
@@ -94,19 +112,20 @@ answers 'a folder for others' ' 201' alice POST /folder/projects
 answers 'and one in it' ' 201' alice POST /folder/projects/bridge
 answers 'an entry that names bob' ' 204' alice PUT /dacl/projects/bridge $'list:a\nA:fd:bob:r\nA:fd:a.bob:r\n'
 
-paste_in "$(blocks people.md 'htpasswd -B /etc/nginx/rooms.htpasswd dana')
-$(blocks people.md sales,dana)"
-prints 'somebody joins' 'groups 2, members 5'
+paste_in "$(blocks people.md 'user add dana')"
+prints 'somebody joins' "a password for dana, in $PWD/root/etc/nginx/rooms.htpasswd" 'groups 2, members 5'
 bin/systemctl stop rooms
 gives 'she is in her group' 0 'group,user\nsales,bob\nsales,carol\nsales,dana\nstaff,a.bob\nstaff,bob\n' '' groups-out room/office.rooms
 bin/systemctl start rooms
-if has htpasswd; then holds 'and has a password' grep -q '^dana:' passwords; fi
+htpasswd -vb passwords dana typed >said 2>&1
+holds 'and has a password' grep -q correct said
+holds 'of cost 10' grep -q '^dana:$2y$10\$' passwords
 
-paste_in "$(blocks people.md 'htpasswd -B /etc/nginx/rooms.htpasswd eve')
+paste_in "$(blocks people.md 'user add eve')
 $(blocks people.md 'A::eve:x')
 $(blocks people.md 'can/projects/bridge')
 $(blocks people.md '18:00')"
-prints 'somebody from outside' 204 204 '{"r":"allowed 3","w":"silent","x":"allowed 3"}'
+prints 'somebody from outside' "a password for eve, in $PWD/root/etc/nginx/rooms.htpasswd" 204 204 '{"r":"allowed 3","w":"silent","x":"allowed 3"}'
 answers 'she sees her folder' '[] 200' eve GET /folder/projects/bridge
 answers 'but not the one above' '{"at":"/projects","bits":"r","entry":null,"text":null} 403' eve GET /folder/projects
 answers 'nor any other' '{"at":"/letters","bits":"r","entry":null,"text":null} 403' eve GET /folder/letters
@@ -123,32 +142,39 @@ prints 'who can have changed it' "/,folder,alice,$ALL,no" /projects,folder,a.bob
 rm -r backups/2026-11-26.030000
 holds 'and what is done then' grep -q "htpasswd -D .*passwords 'eve'" due
 
-paste_in "htpasswd -B $PWD/passwords bob; : >asked
-$(blocks people.md 'htpasswd -D /etc/nginx/rooms.htpasswd bob')"
-prints 'somebody leaves' 'groups 2, members 3' 'document bob staff 8 /letters/reply' 'folder alice staff /projects/bridge' 'A:fd:bob:r'
-if has htpasswd; then holds 'he has no password' [ "$(grep -c '^bob:' passwords)" = 0 ]; fi
+cp -L passwords before
+htpasswd -bB passwords bob secret 2>/dev/null
+chmod 640 root/etc/nginx/rooms.htpasswd
+paste_in "$(blocks people.md 'user remove bob' | head -n 1)"
+prints 'somebody leaves' "no password for bob any more, in $PWD/root/etc/nginx/rooms.htpasswd" 'groups 2, members 3' \
+  'document bob staff 8 /letters/reply' 'folder alice staff /projects/bridge' 'A:fd:bob:r'
+same 'he has no password, and nobody else has another' passwords before
+holds 'the mode of the file stays' [ -n "$(find -L passwords -perm 640)" ]
+answers 'the room is served' '{"group":"staff","kind":"document","owner":"bob"} 200' alice GET /attr/letters/reply
 bin/systemctl stop rooms
 gives 'and is in no group' 0 'group,user\nsales,carol\nsales,dana\nstaff,a.bob\n' '' groups-out room/office.rooms
 bin/systemctl start rooms
-stand_in rooms-handover <<END
-exec "$here/../contrib/rooms-handover" "\$@"
-END
-paste_in "$(blocks people.md 'rooms-handover --dry-run')"
+bin/systemctl stop rooms
+mkdir backups/2026-11-26.030000
+"$rooms" dump room/office.rooms >backups/2026-11-26.030000/lists.txt
+bin/systemctl start rooms
+paste_in "$(blocks people.md 'rooms-admin handover --dry-run')"
+rm -r backups/2026-11-26.030000
 prints 'what would be his' 'would: /letters/reply' 'would be given 1, of others by now 0, left out 0'
 answers 'still is' '{"group":"staff","kind":"document","owner":"bob"} 200' alice GET /attr/letters/reply
-paste_in "$(blocks people.md 'rooms-handover --as')"
-prints 'all that is his' 'given 1, of others by now 0, left out 0'
+paste_in "$(blocks people.md 'user remove bob --to')"
+tail -n 1 "$work/out" >got
+echo 'given 1, of others by now 0, left out 0' >wanted
+same 'all that is his' got wanted
 answers 'is alices' '{"group":"staff","kind":"document","owner":"alice"} 200' alice GET /attr/letters/reply
 answers 'it goes back' ' 204' alice PUT /attr/letters/reply '{"group":"staff","owner":"bob"}'
 paste_in "$(blocks people.md '/attr/letters/reply')"
 prints 'another owner' 204
 answers 'who it is' '{"group":"staff","kind":"document","owner":"alice"} 200' alice GET /attr/letters/reply
-if has htpasswd; then
-  paste_in "$(blocks people.md 'tr -dc')"
-  holds 'a new password is printed' [ "$(wc -c <"$work/out")" = 17 ]
-  htpasswd -vb passwords bob "$(cat "$work/out")" >said 2>&1
-  holds 'and counts' grep -q correct said
-fi
+paste_in "$(blocks people.md 'tr -dc')"
+holds 'a new password is printed' [ "$(tail -n 1 "$work/out" | wc -c)" = 17 ]
+htpasswd -vb passwords bob "$(tail -n 1 "$work/out")" >said 2>&1
+holds 'and counts' grep -q correct said
 
 # Somebody is locked out, who would have seen it before.
 printf '%s\n' list:ap A:fdg:staff:rxtc >list.txt
@@ -162,15 +188,7 @@ prints 'the operator sets another' 'done'
 answers 'and she gets in' '[{"kind":"document","name":"reply"}] 200' alice GET /folder/letters
 answers 'the list of before' ' 204' alice PUT /dacl/letters 'list:a'
 
-paste_in "$(blocks capacity.md 'can/?')"
-prints 'a room that is well' '{} 200'
-paste_in "$(blocks capacity.md 'no backup')"
-prints 'no backup' 'no backup'
-mkdir backups/2026-11-20.030000 backups/2026-11-20.030000.unsound
-paste_in "$(blocks capacity.md 'no backup')"
-prints 'a backup' "$PWD/backups/2026-11-20.030000"
-paste_in "$(blocks capacity.md 'df -h')"
-holds 'sizes' [ "$status" = 0 ]
+mkdir backups/2026-11-20.030000
 
 # One document out of a backup: it is changed meanwhile, and comes back.
 bin/systemctl stop rooms
@@ -178,10 +196,7 @@ cp room/office.rooms* backups/2026-11-20.030000/
 bin/systemctl start rooms
 answers 'it is overwritten' ' 204' alice PUT /doc/letters/reply 'Dear Madam'
 printf '%s\n' "FILE=$PWD/room/office.rooms" "BACKUPS=$PWD/backups" KEEP=0 MAIL= UNIT=rooms "PROGRAM=$rooms" >conf
-stand_in rooms-get <<END
-exec "$here/../contrib/rooms-get" --conf "$PWD/conf" "\$@"
-END
-paste_in "$(blocks backup.md 'rooms-get 2026')"
+paste_in "$(blocks backup.md 'rooms-admin get 2026')"
 prints 'one document out of a backup' 204
 answers 'is the old one' 'Dear Sir 200' alice GET /doc/letters/reply
 paste_in "cd $PWD && $(blocks backup.md '@reply' | sed 's#/letters/reply >#/letters/none >#')"
@@ -197,7 +212,7 @@ chmod 755 contrib/install
 stand_in nginx <<'END'
 END
 stand_in rooms-restore <<END
-exec "$here/../contrib/rooms-restore" --conf "$PWD/conf" "\$@"
+exec "$here/../contrib/rooms-admin" restore --conf "$PWD/conf" "\$@"
 END
 rm -rf backups/2026-11-20.030000*
 export ROOMS_RUN=$PWD/run
@@ -217,13 +232,13 @@ else
 fi
 paste_in "$(blocks upgrading.md 'contrib/install' | head -n 1)"
 holds 'the new files' cmp -s machine/usr/local/bin/rooms "$rooms"
-paste_in "$(blocks upgrading.md 'sleep 1; curl')
+paste_in "$(blocks upgrading.md '127.0.0.1:8780/can')
 $(blocks upgrading.md 'nginx -t')"
 prints 'the new program serves' '{} 200'
 answers 'what was there before' 'Dear Sir 200' alice GET /doc/letters/reply
-echo '# older' >>machine/usr/local/sbin/rooms-restore
+echo '# older' >>machine/usr/local/sbin/rooms-admin
 paste_in "$(blocks upgrading.md 'contrib/install' | sed -n 2p)"
-same 'the files of the version before' machine/usr/local/sbin/rooms-restore "$here/../contrib/rooms-restore"
+same 'the files of the version before' machine/usr/local/sbin/rooms-admin "$here/../contrib/rooms-admin"
 paste_in "$(blocks upgrading.md "systemctl restart 'rooms" | tail -n 1)"
 prints_nothing() { if [ "$status" = 0 ] && [ ! -s "$work/out" ]; then pass; else fail "$1" "status $status"; fi; }
 prints_nothing 'its program runs'
@@ -267,26 +282,42 @@ for at in "${!odd_users[@]}"; do
   answers "of ${odd_users[at]}" ' 204' alice PUT "/attr/letters/odd$at" "{\"group\":\"staff\",\"owner\":\"${odd_users[at]//\\/\\\\}\"}"
 done
 bin/systemctl stop rooms
-leaving=$(blocks people.md 'htpasswd -D /etc/nginx/rooms.htpasswd bob')
+for at in "${!odd_users[@]}"; do
+  name=${odd_users[at]}
+  all_members
+  paste_in "rooms-admin user remove '$name'"
+  sed -n '1p; / \/letters\/odd/p' "$work/out" >got
+  printf '%s\n' 'groups 1, members 11' "document $name staff 5 /letters/odd$at" >wanted
+  same "$name leaves" got wanted
+  grep -vxF -e "staff,$name" members.csv >rest.csv
+  members_are 'and nobody else' rest.csv
+done
+paste_in "rooms-admin user add 'OFFICE\\tdana' --groups staff"
+{ cat rest.csv && printf '%s\n' 'staff,OFFICE\tdana'; } >more.csv
+members_are 'a name that joins' more.csv
+holds 'and has a password' grep -qF 'OFFICE\tdana:$2y$' passwords
+refuses_user() { # NAME TEXT WORD ..: nothing is changed
+  cp -L passwords before
+  bin/rooms-admin user "${@:3}" </dev/null >"$work/out" 2>"$work/err"
+  status=$?
+  told "$1" 2 "$2"
+  same "$1: no password is changed" passwords before
+  members_are "$1: nor a member" more.csv
+}
+refuses_user 'no words' 'bad arguments'
+refuses_user 'another verb' 'bad arguments' rename bob
+refuses_user 'a name that is none' "'b ob' can't be the name of a user" add 'b ob'
+refuses_user 'a group that is none' "'a:b' can't be the name of a user" add bob --groups a:b
+refuses_user 'a user who would inherit from themselves' 'bob would give to bob' remove bob --to bob
+refuses_user 'a room that is not there' 'no settings' add bob nowhere
+ROOMS_RUN=$PWD/run "$here/../contrib/rooms-admin" user add bob "$PWD/root/etc/rooms/office.conf" </dev/null >"$work/out" 2>"$work/err"
+status=$?
+told 'no password' 2 'bad password'
 awks=0
 for awk in mawk gawk original-awk; do
   [ -n "$(command -v "$awk")" ] || continue
   awks=$((awks + 1))
   ln -sf "$(command -v "$awk")" bin/awk
-  for at in "${!odd_users[@]}"; do
-    name=${odd_users[at]}
-    all_members
-    paste_in "$(named "$leaving" bob "$name")"
-    sed -n '1p; / \/letters\/odd/p' "$work/out" >got
-    printf '%s\n' 'groups 1, members 11' "document $name staff 5 /letters/odd$at" >wanted
-    same "$name leaves, by $awk" got wanted
-    grep -vxF -e "staff,$name" members.csv >rest.csv
-    members_are "and nobody else, by $awk" rest.csv
-  done
-  paste_in "$(named "$(blocks people.md sales,dana)" sales,dana 'staff,OFFICE\tdana')"
-  { cat rest.csv && printf '%s\n' 'staff,OFFICE\tdana'; } >more.csv
-  members_are "a name that joins, by $awk" more.csv
-
   # What a night leaves of a path and of a user.
   night=backups/9999-12-31.030000
   mkdir "$night"
@@ -318,10 +349,12 @@ stand_in rooms <<END
 [ "\$1" != groups-out ] || { "$rooms" "\$@" | head -n 3; echo 'fault: store' >&2; exit 3; }
 exec "$rooms" "\$@"
 END
-for text in sales,dana 'export name='; do
-  paste_in "$(blocks people.md "$text" | grep -v ^htpasswd)"
-  holds "no members in part, by the block with $text" grep -q '^fault: store$' "$work/err"
-  holds 'nothing is imported' [ ! -s "$work/out" ]
+sed -i "s#^PROGRAM=.*#PROGRAM=$PWD/bin/rooms#" root/etc/rooms/office.conf
+for text in 'user add dana' 'user remove bob'; do
+  bin/systemctl start rooms
+  paste_in "$(blocks people.md "$text" | head -n 1)"
+  told "no members in part, by $text" 1 'groups-out failed: ' 'fault: store'
+  holds 'nothing is imported' [ "$(grep -c '^groups' "$work/out")" = 0 ]
   answers 'the room is served' '{"group":"staff","kind":"document","owner":"user"} 200' alice GET /attr/letters/odd7
   bin/systemctl stop rooms
   members_are 'all members are there' members.csv
@@ -350,16 +383,13 @@ if [ -n "$smbd" ] && has smbclient && has smbpasswd && has setsid && [ "$(id -u)
   stand_in smbclient <<END
 exec "$(command -v smbclient)" -s "$PWD/samba/conf" -p $((port + 2)) "\${@/#alice/root%\$(cat "$PWD/samba/word")}"
 END
-  stand_in rooms-import <<END
-exec "$here/../contrib/rooms-import" "\$@"
-END
   fetching="mkdir \$PWD/fetch; cd \$PWD/fetch && $(blocks in-and-out.md smbclient | sed 's/SERVER/127.0.0.1/')"
   echo word >samba/word
   paste_in "$fetching"
   holds 'a share comes' [ "$(tail -n 1 "$work/out")" = 3 ]
   diff -r samba/share fetch/share >found 2>&1
   same 'all of it' found /dev/null
-  paste_in "cd $PWD/fetch && $(blocks in-and-out.md 'rooms-import --as')"
+  paste_in "cd $PWD/fetch && $(blocks in-and-out.md 'rooms-admin import --as')"
   prints 'and goes into the room' 'made 7, replaced 0, there already 0, left out 0'
   rm -r fetch
   echo wrong >samba/word

@@ -95,6 +95,86 @@ json '431 Request Header Fields Too Large' '{"why":"too-many-fields"}' >"$work/w
 same 'a head without an end' "$work/reply" "$work/want.reply"
 server_ends 'the server ends after all of them' 0 ''
 
+# A socket in the file system, in the place of a port. The path of one has at most 107 bytes.
+at_socket() { # NAME PATH WANTED ARGUMENT ..
+  local got
+  got=$(curl -s --max-time "$patience" --unix-socket "$2" -H 'Room-User: root' -w ' %{http_code}' "${@:4}" 2>&1)
+  holds "$1: $got" [ "$got" = "$3" ]
+}
+long=$(printf 'x%.0s' {1..107})
+if has curl; then
+  for path in s './s t' "$long"; do
+    start_at_socket F "$path" 3 || continue
+    holds "a socket is made at $path" [ -S "$path" ]
+    at_socket 'a change through a socket' "$path" ' 204' -X PUT -H Expect: --data-binary socket http://room/doc/f
+    at_socket 'a document through a socket' "$path" 'socket 200' http://room/doc/f
+    at_socket 'two messages on a connection of a socket' "$path" 'socket 200socket 200' http://room/doc/f http://room/doc/f
+    server_ends "the server ends at $path" 0 ''
+    holds "its socket is gone from $path" is_missing "$path"
+  done
+
+  # What is there by the end isn't the server's.
+  if start_at_socket F s 1; then
+    mv s moved
+    echo other >s
+    at_socket 'a socket that was moved' moved 'socket 200' http://room/doc/f
+    server_ends 'the server ends where its socket was moved' 0 ''
+    holds 'the file in its place stays' [ "$(cat s)" = other ]
+    rm s moved
+  fi
+else
+  skip 'requests through a socket' 'no curl'
+fi
+
+# A path at which no socket can be made is a fault, and whatever is there stays.
+cp F before
+no_socket() { # NAME PATH
+  gives "$1" 3 '' 'fault: net\n' serve F --socket "$2"
+  same "$1: the room is as it was" F before
+}
+echo mine >taken
+no_socket 'a file in the place of the socket' taken
+holds 'the file stays' [ "$(cat taken)" = mine ]
+mkdir folder
+no_socket 'a folder in the place of the socket' folder
+ln -s nowhere link
+no_socket 'a link in the place of the socket' link
+holds 'no link was followed' is_missing nowhere
+no_socket 'a path of 108 bytes' "x$long"
+no_socket 'a path of 300 bytes' "$long$long$long"
+no_socket 'an empty path' ''
+no_socket 'a missing folder' missing/s
+no_socket 'below a document of the system' taken/s
+if [ "$(id -u)" != 0 ]; then
+  mkdir -m 555 closed
+  no_socket 'a folder that may not be written' closed/s
+  rmdir closed
+elif has setpriv; then
+  # Another user has a copy of the room, and a folder of root's.
+  mkdir -m 755 closed theirs
+  cp F theirs/F
+  chown -R 65534:65534 theirs
+  chmod a+x "$work" . 2>/dev/null
+  setpriv --reuid=65534 --regid=65534 --clear-groups "$rooms" serve theirs/F --socket closed/s </dev/null >"$work/out" 2>"$work/err"
+  status=$?
+  wants 'a folder that is not ours' 3 '' 'fault: net\n'
+  holds 'nothing is made there' is_missing closed/s
+else
+  skip 'a folder that is not ours' 'root without setpriv'
+fi
+
+# A server that is killed leaves its socket, which the next one refuses until it is removed.
+if start_at_socket F s 1; then
+  stop_server
+  holds 'the socket of a killed server stays' [ -S s ]
+  no_socket 'the socket of a killed server' s
+  holds 'it is not removed' [ -S s ]
+  rm s
+  start_at_socket F s 1 && stop_server
+  rm -f s
+fi
+gives 'sound after the sockets' 0 'sound\n' '' verify F
+
 # A path of `reset` that leads through a document.
 from_lines list:
 gives 'reset below a document' 2 'refused: N2 not-folder at /f\n' '' reset F /f/q dacl

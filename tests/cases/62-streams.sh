@@ -38,6 +38,29 @@ asks 'and it is still there' "json '200 OK' '{\"group\":\"staff\",\"kind\":\"doc
 server_ends 'nothing is told of callers who break off in order' 0 ''
 gives 'sound' 0 'sound\n' '' verify F
 
+# A caller who has sent more than is served, and reads slowly, gets the whole of the last reply: what it sent behind that is read
+# before its connection is closed. It is more than the server reads at once.
+if start_server F 2; then
+  { printf 'HTTP/1.1 200 OK\r\nContent-Type: application/octet-stream\r\nContent-Length: 1048576\r\nConnection: close\r\n\r\n'; cat big; } >"$work/want.reply"
+  for turn in 1 2; do
+    { last_message GET /doc/big root; head -c 100000 /dev/zero | tr '\0' x; } >"$work/sent"
+    exec 3<>"/dev/tcp/127.0.0.1/$port"
+    cat "$work/sent" >&3
+    : >"$work/reply"
+    : >"$work/broken"
+    before=
+    until [ "$before" = "$(wc -c <"$work/reply")" ]; do
+      before=$(wc -c <"$work/reply")
+      timeout "$patience" head -c 65536 <&3 >>"$work/reply" 2>>"$work/broken"
+      sleep 0.02
+    done
+    exec 3>&- 3<&-
+    same "all of the last reply, to a caller who sent more ($turn)" "$work/reply" "$work/want.reply"
+    same "its connection is not reset ($turn)" "$work/broken" /dev/null
+  done
+  server_ends 'nothing is told of what was sent behind the end' 0 ''
+fi
+
 # A caller who resets: the first connection has bytes that nobody reads when it is closed. They are
 # more than the system buffers, so the server is writing.
 if start_server F 2; then

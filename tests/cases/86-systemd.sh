@@ -84,7 +84,49 @@ shows 'its watch' rooms-full@office ActiveState active
 does 'units with faults' 'systemctl list-units --state=failed --no-legend --plain "rooms*"'
 holds 'there are none' [ ! -s "$work/out" ]
 does 'when the nightly run begins' 'systemctl show rooms-nightly@office.timer -p NextElapseUSecRealtime --value'
-holds 'at three' grep -q ' 03:00:00 ' "$work/out"
+holds 'at four' grep -q ' 04:00:00 ' "$work/out"
+# Who reaches what: the folder for a socket is passed through by nginx alone, and the ports are closed to others.
+does 'the folder for its socket' 'stat -c "%U %G %a" /run/rooms /run/rooms/office'
+printf '%s\n' 'root root 755' 'rooms www-data 710' >wanted
+same 'is for it and nginx' "$work/out" wanted
+does 'the firewall' 'systemctl is-active rooms-firewall && systemctl is-enabled rooms-firewall && nft list table inet rooms | grep -c "tcp dport"'
+printf '%s\n' active enabled 1 >wanted
+same 'has one rule' "$work/out" wanted
+does 'loaded again' 'systemctl restart rooms-firewall && systemctl reload rooms-firewall && nft list table inet rooms | grep -c "tcp dport"'
+holds 'it has one rule' grep -qx 1 "$work/out"
+does 'who gets there' 'for user in root www-data rooms nobody; do
+  ! setpriv --reuid=$user --regid=nogroup --clear-groups bash -c "exec 3<>/dev/tcp/127.0.0.1/8780" 2>/dev/null || echo $user; done'
+printf '%s\n' root www-data >wanted
+same 'are root and nginx' "$work/out" wanted
+# The unit has started when the server answers.
+for turn in 1 2 3; do
+  does "a restart, $turn" 'systemctl restart rooms@office && curl -s -w " %{http_code}\n" "http://127.0.0.1:8780/can/?"'
+  holds "is followed by an answer, $turn" grep -qx '{} 200' "$work/out"
+done
+does 'how long runs may take' 'for unit in nightly standby directory; do systemctl show rooms-$unit@office -p TimeoutStartUSec --value; done'
+printf '%s\n' 4h 1h 1h >wanted
+same 'ends' "$work/out" wanted
+
+# A unit that fails is told of, by a mail program that another user runs.
+mkdir -m 777 "$machine/srv/mailed"
+cat >"$machine/usr/local/bin/mail" <<'END'
+#!/bin/sh
+{ id -un; echo "$*"; cat; } >"/srv/mailed/$(date +%s.%N)"
+END
+chmod 755 "$machine/usr/local/bin/mail"
+inside 'systemctl start rooms-directory@office'
+holds 'groups without settings fail' [ "$status" = 1 ]
+until_inside 'somebody is told' 'cat /srv/mailed/*'
+for text in rooms-mail 'root$' 'rooms-directory@office.service on .* failed (exit-code)' 'no settings: /etc/rooms/office.groups' \
+  'systemctl status rooms-directory@office.service'; do
+  holds "somebody is told ($text): $(head -c 300 "$work/out")" grep -q -e "$text" "$work/out"
+done
+inside 'systemctl start rooms-directory@office; systemctl start rooms-directory@office'
+until_inside 'they have failed again' 'systemctl is-failed rooms-directory@office && systemctl show rooms-tell@rooms-directory@office.service -p ActiveState --value | grep -qx inactive'
+does 'how often' 'ls /srv/mailed | wc -l'
+holds 'once' grep -qx 1 "$work/out"
+does 'what failed is forgotten' 'systemctl reset-failed; rm /srv/mailed/*'
+
 answers() { # NAME
   until_inside "$1: the room answers" '[ "$(curl -s -m 20 "http://127.0.0.1:8780/can/?")" = "{}" ]'
 }
@@ -141,27 +183,25 @@ does 'the timer is switched off' 'systemctl disable --now rooms-standby@office.t
 
 # A room for another machine's front end, and the place of a room that is on another machine, by the
 # blocks of machines.md.
-does 'certificates' "$(block docs/machines.md 'Authority of the machines')
-$(block docs/machines.md 'subj /CN=rooms-front')
-$(block docs/machines.md 'name=b.example')
-cp b.example.pem machine.pem && cp b.example.key machine.key"
-does 'a room for another front end' "$(block docs/machines.md 'rooms-add --behind')"
+does 'certificates' "$(block docs/machines.md 'certificate --machine b.example')
+cd /etc/rooms/machines && cp b.example.pem machine.pem && cp b.example.key machine.key"
+does 'a room for another front end' "$(block docs/machines.md 'rooms-admin add --behind')"
 shows 'its server' rooms@invoices ActiveState active
 front='--cert /etc/rooms/machines/front.pem --key /etc/rooms/machines/front.key'
 there='--cacert /etc/rooms/machines/authority.pem --resolve b.example:8443:127.0.0.1 -H Room-User:carol'
 answer_is 'the front end gets there' 200 "$web $front $there https://b.example:8443/invoices/folder/"
 answer_is 'nobody else does' 400 "$web $there https://b.example:8443/invoices/folder/"
 answer_is 'its own site does not show it' 404 "$web http://127.0.0.1/invoices/folder/"
-inside 'rooms-add --on nowhere.example other'
+inside 'rooms-admin add --on nowhere.example other'
 holds 'a machine that has no address fails' [ "$status" = 1 ]
 holds 'by its name' grep -q 'host not found in upstream' "$work/err"
-does 'and leaves nothing' '! ls -d /etc/rooms/other* /etc/nginx/rooms.d/other* /etc/nginx/rooms-other* 2>/dev/null && nginx -t -q'
-does 'a place' 'echo 127.0.0.9 c.example >>/etc/hosts && rooms-add --on c.example other &&
+does 'and leaves nothing' '! ls -d /etc/rooms/other* /etc/nginx/rooms-other* 2>/dev/null && nginx -t -q'
+does 'a place' 'echo 127.0.0.9 c.example >>/etc/hosts && rooms-admin add --on c.example other &&
   htpasswd -bB /etc/nginx/rooms-other.htpasswd alice a'
 until_inside 'is there' "[ \"\$($web http://127.0.0.1/other/)\" = 200 ]"
 until_inside 'and a machine of another name gets nothing' "[ \"\$($web http://127.0.0.1/other/folder/)\" = 502 ]"
 does 'timers that somebody enabled' 'systemctl enable --now rooms-directory@invoices.timer rooms-standby@invoices.timer'
-does 'both are taken away' 'rooms-add --remove other && rooms-add --remove invoices'
+does 'both are taken away' 'rooms-admin remove other && rooms-admin remove invoices'
 for timer in nightly standby directory; do shows "with the timer of rooms-$timer" "rooms-$timer@invoices.timer" ActiveState inactive; done
 does 'no unit of it is enabled' '! ls -d /etc/systemd/system/*.wants/*invoices* 2>/dev/null'
 shows 'with the server' rooms@invoices ActiveState inactive
@@ -202,14 +242,18 @@ inside 'systemctl start rooms-nightly@office'
 holds 'the nightly run reports it' [ "$status" != 0 ]
 does 'by its name' 'journalctl --no-pager -u rooms-nightly@office'
 holds 'LIMIT' grep -q "bad settings: LIMIT in /etc/rooms/office.conf" "$work/out"
-inside "$(block docs/capacity.md is-failed)"
-holds 'and so do the units' [ "$status" = 0 ]
-holds 'one of them' grep -qx failed "$work/out"
+checks() { # NAME STATUS TEXT ..
+  local text
+  inside "$(block docs/capacity.md 'rooms-admin check')"
+  holds "$1: $2 and not $status, $(head -c 400 "$work/out" "$work/err")" [ "$status" = "$2" ]
+  for text in "${@:3}"; do holds "$1 ($text): $(head -c 400 "$work/out")" grep -qF -e "$text" "$work/out"; done
+}
+checks 'and so does the check' 2 'rooms CRITICAL - ' 'failed: rooms-full@office.service rooms-nightly@office.service' \
+  'bad settings: LIMIT in /etc/rooms/office.conf'
 does 'the setting is mended' 'sed -i "s/^LIMIT=.*/LIMIT=/" /etc/rooms/office.conf; systemctl restart rooms@office'
 shows 'and the watch is back' rooms-full@office ActiveState active
 does 'and the nightly run' 'systemctl start rooms-nightly@office'
-inside "$(block docs/capacity.md is-failed)"
-holds 'no unit has failed' [ "$status" = 1 ]
+checks 'the check has nothing to say' 0 'rooms OK - office: answers, nginx answers, ' 'of 2 MB in use'
 
 # A server that can't start: by MemoryMax where this machine has that, otherwise by a limit of the process.
 does 'more documents' 'for n in $(seq 30); do
@@ -221,9 +265,10 @@ else
   skip 'a server that is killed by MemoryMax' 'systemd has no such limit here; LimitAS= is used'
   limit_memory LimitAS=20M
 fi
-inside 'systemctl restart rooms@office; timeout 100 rooms-nightly'
+inside 'systemctl restart rooms@office'
+inside 'timeout 110 rooms-nightly'
 holds 'a server that can not start: the nightly run fails' [ "$status" = 1 ]
-holds 'a server that can not start: it says so' grep -q "rooms@office doesn't \(answer at port 8780\|stay\)" "$work/err"
+holds 'a server that can not start: it says so' grep -q "rooms@office doesn't \(answer at port 8780\|stay\|start\)" "$work/err"
 does 'the limit is taken away' 'rm /etc/systemd/system/rooms@office.service.d/memory.conf; systemctl daemon-reload; systemctl restart rooms@office'
 answers 'with more memory'
 does 'a nightly run after all' 'systemctl start rooms-nightly@office'

@@ -1,14 +1,14 @@
-# contrib/rooms-doctor: each cause for which a room can't be opened is made, the program fails by it, the script names it, and what
+# rooms-admin doctor: each cause for which a room can't be opened is made, the program fails by it, the script names it, and what
 # the script says mends it.
 
 contrib=$here/../contrib
-if ! has findmnt || ! has setpriv || ! has find; then
-  skip 'what a doctor finds' 'findmnt, setpriv or find is missing'
+if ! has findmnt || ! has setpriv || [ ! -x /usr/bin/python3 ]; then
+  skip 'what a doctor finds' 'findmnt, setpriv or python3 is missing'
   return
 fi
 
 # The room belongs to another user where the machine allows that, since root may do everything.
-mkdir var settings bin
+mkdir var settings bin run
 user=$(id -un)
 program=$rooms
 other=no
@@ -30,7 +30,7 @@ new_file() {
   as_user "$rooms" init "$file" root staff >/dev/null
 }
 doctor() { # FILE
-  ROOMS_SETTINGS=$PWD/settings PATH=$PWD/bin:$PATH "$contrib/rooms-doctor" --user "$user" --program "$program" "$1" \
+  ROOMS_SETTINGS=$PWD/settings ROOMS_RUN=$PWD/run PATH=$PWD/bin:$PATH "$contrib/rooms-admin" doctor --user "$user" --program "$program" "$1" \
     </dev/null >"$work/out" 2>"$work/err"
   status=$?
 }
@@ -50,18 +50,24 @@ well() { # NAME
   told "$1" 0 "nothing is wrong: $user can open $file, and it is sound"
 }
 
-"$contrib/rooms-doctor" >"$work/out" 2>"$work/err"
+"$contrib/rooms-admin" doctor >"$work/out" 2>"$work/err"
 status=$?
-told 'without a file' 2 'bad arguments: rooms-doctor'
-"$contrib/rooms-doctor" --paint x F >"$work/out" 2>"$work/err"
+told 'without a file' 2 'bad arguments: rooms-admin doctor'
+"$contrib/rooms-admin" doctor --paint x F >"$work/out" 2>"$work/err"
 status=$?
 told 'an option that is none' 2 'no such option: --paint'
-"$contrib/rooms-doctor" --program "$PWD/none" F >"$work/out" 2>"$work/err"
+"$contrib/rooms-admin" doctor --program "$PWD/none" F >"$work/out" 2>"$work/err"
 status=$?
 told 'no program' 2 'no program'
-"$contrib/rooms-doctor" --program "$rooms" --user nobody-here F >"$work/out" 2>"$work/err"
+"$contrib/rooms-admin" doctor --program "$rooms" --user nobody-here F >"$work/out" 2>"$work/err"
 status=$?
 told 'no user' 2 'there is no user nobody-here'
+
+# By its name of before.
+ln -s "$contrib/rooms-admin" rooms-doctor
+./rooms-doctor --program "$rooms" --user nobody-here F >"$work/out" 2>"$work/err"
+status=$?
+told 'the old name' 2 'rooms-doctor: its name is now rooms-admin doctor' 'there is no user nobody-here'
 
 new_file
 state() { ls -l --time-style=full-iso var && cksum var/*; }
@@ -69,6 +75,18 @@ state >before
 well 'a room that is well'
 state >after
 same 'is not touched' after before
+# The program runs as the room's user alone, on whatever the file holds.
+if [ "$other" = yes ]; then
+  printf '#!/bin/sh\nid -u >>%s/as; exec "%s" "$@"\n' "$PWD" "$program" >bin/noted
+  chmod 755 bin/noted
+  : >as
+  chmod 666 as
+  real=$program
+  program=$PWD/bin/noted
+  well 'and by whom it is looked at'
+  program=$real
+  holds 'is its user' [ "$(sort -u as)" = 65534 ]
+fi
 
 # No file.
 finds_file() { # NAME CAUSE TEXT FILE
@@ -80,7 +98,7 @@ finds_file 'a wrong name' 'no file' "$PWD/var/G isn't there" "$PWD/var/G"
 finds_file 'a folder that is missing' 'no file' "the folder $PWD/gone isn't there" "$PWD/gone/F"
 mkdir var/restoring.G
 doctor "$PWD/var/G"
-told 'a restore that was cut off' 1 'rooms-restore --undo'
+told 'a restore that was cut off' 1 'rooms-admin restore --undo'
 rm -r var/restoring.G
 ln -s nowhere var/G
 doctor "$PWD/var/G"
@@ -151,7 +169,7 @@ cat sound >var/F
 size=$(stat -c %s sound)
 head -c $((size - 4096)) /dev/zero | tr '\0' x | dd of=var/F bs=4096 seek=1 conv=notrunc 2>/dev/null
 doctor "$file"
-told 'a damaged file' 1 'damaged: verify gives status' 'rooms-restore'
+told 'a damaged file' 1 'damaged: verify gives status' 'rooms-admin restore'
 new_file
 if has_sqlite; then
   sqlite3 var/F "INSERT INTO audits (at, user, path, bits, granted, entry) VALUES (1, 'bob', 'no path', 1, 1, 1)"
@@ -173,6 +191,28 @@ if start_server var/F 1; then
   stop_server
   well 'which is no longer'
 fi
+# Served by its own unit, which answers, it is well.
+serve_one() { # COUNT
+  printf 'FILE=%s\nPORT=%s\n' "$file" "$((port + 1))" >settings/one.conf
+  start_server var/F "$1" || return
+  sed -i "s/^PORT=.*/PORT=$port/" settings/one.conf
+  # The process of the room's user.
+  served=$server
+  printf '#!/bin/sh\ncase "$*" in *MainPID*) echo %s ;; *ReadWritePaths*) echo %s ;; esac\n' "$served" "$PWD/var" >bin/systemctl
+  chmod 755 bin/systemctl
+}
+if serve_one 100; then
+  doctor "$file"
+  told 'a room that its unit serves' 0 "nothing is wrong: rooms@one serves $file, and answers"
+  holds 'which goes on' kill -0 "$server"
+  kill -STOP "$served"
+  sed -i 's/^PORT=.*/PORT=1/' settings/one.conf
+  doctor "$file"
+  told 'one whose unit does not answer' 1 "busy: rooms@one has it open, and doesn't answer"
+  kill -CONT "$served"
+  stop_server
+fi
+rm -f bin/systemctl settings/one.conf
 rooms=$program
 echo "FILE=$file" >settings/one.conf
 echo "FILE=$file" >settings/two.conf

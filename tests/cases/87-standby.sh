@@ -6,7 +6,7 @@ if [ "$loopback" = no ] || ! has flock || ! has setpriv || ! has setsid || ! has
   return
 fi
 make_stand
-stands() { script rooms-standby "$PWD/conf"; }
+stands() { verb standby "$PWD/conf"; }
 set_value() { # NAME VALUE
   grep -v "^$1=" conf >conf.new
   echo "$1=$2" >>conf.new
@@ -72,7 +72,7 @@ copies=0
 for turn in {1..20}; do
   cp answered before
   if ((turn % 5 == 0)); then
-    script rooms-nightly "$PWD/conf"
+    verb backup "$PWD/conf"
     copy=$(find backups -maxdepth 1 -name '????-??-??.??????' | sort | tail -n 1)
   else
     stands
@@ -127,7 +127,7 @@ unit_rests 'it stays stopped'
 holds 'the copy has what was answered' has_document backups/standby before-the-stop
 unit start
 hooks stop
-script rooms-nightly "$PWD/conf"
+verb backup "$PWD/conf"
 says 'a server that is stopped at night' 0 'so the room is copied again'
 unit_rests 'stays stopped'
 holds 'the backup has what was answered' has_document "backups/$(cd backups && echo 20*)" before-the-stop
@@ -142,7 +142,7 @@ unit start
 stands
 says 'a server that has not opened the room' 1 "can't be held"
 holds 'the last copy stays' has_document backups/standby before-the-stop
-script rooms-nightly "$PWD/conf"
+verb backup "$PWD/conf"
 holds 'rooms-nightly stops such a server' grep -q ' systemctl stop' "$stand/steps"
 holds 'and has a backup' has_document "backups/$(cd backups && echo 20*)" before-the-stop
 rm -rf backups/20* "$stand/no-answer"
@@ -162,8 +162,8 @@ for line in 'STANDBY=b' 'STANDBY=a b:/x' 'STANDBY=-x:/y' 'STANDBY=b:' 'STANDBY=b
   says "settings with $line" 2 'bad settings: '
 done
 cp kept conf
-script rooms-standby --other
-says 'an unknown word' 2 'bad words'
+verb standby --other
+says 'an unknown word' 2 'bad arguments'
 set_value BACKUPS "$PWD/not-mounted"
 stands
 says 'no folder of backups' 2 'no folder'
@@ -198,7 +198,7 @@ if mkdir small && mount -t tmpfs -o size=1m,mode=700 none small 2>/dev/null; the
 else
   skip 'a standby copy on a full disk' 'no leave to mount'
 fi
-exec 8<conf
+exec 8<>run/.rooms-admin/rooms
 flock 8
 stands
 says 'rooms-nightly at work' 0 'at work'
@@ -232,7 +232,7 @@ if has rsync; then
   unit stop
   cp -Rp office lost
   as_user rm office/F office/F-wal
-  script rooms-restore --conf "$PWD/conf" "$PWD/there"
+  verb restore --conf "$PWD/conf" "$PWD/there"
   says 'it is restored' 0 "restored $PWD/office/F"
   unit start
   read -r port <"$stand/port"
@@ -254,11 +254,11 @@ for how in TERM KILL; do
     name="$how at $(cat "$stand/hit")"
     name=${name//$PWD\//}
     [ "$how" = KILL ] || answers "$name"
-    if ((number % 2)); then script rooms-standby --after "$PWD/conf"; else stands; fi
+    if ((number % 2)); then verb standby --after "$PWD/conf"; else stands; fi
     answers "$name, and after"
     cp backups/standby/F look
     holds "$name: there is a copy" [ "$("$rooms" verify look 2>&1)" = sound ]
-    holds "$name: nothing else is left" [ "$(ls -A backups) $(ls -A run)" = 'standby ' ]
+    holds "$name: nothing else is left" [ "$(ls -A backups) $(ls run)" = 'standby ' ]
   done
   holds "$how: the calls came to an end" [ "$number" -gt 10 -a "$number" -lt 60 ]
 done

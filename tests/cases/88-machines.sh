@@ -62,7 +62,8 @@ pasted() { # MACHINE TEXT-IN-THE-BLOCK
   awk -v text="$2" '
     /^```/ { if (inside && found) printf "%s", kept; inside = !inside; found = 0; kept = ""; next }
     inside { kept = kept $0 "\n"; if (index($0, text)) found = 1 }' "$top/docs/machines.md" |
-    sed -e "s#/etc/#$PWD/$1/etc/#g" -e "s#^rooms-add#$top/contrib/rooms-add --destdir $PWD/$1#" \
+    sed -e "s#/etc/#$PWD/$1/etc/#g" -e "s#^rooms-admin certificate#ROOMS_ROOT=$PWD/$1 ROOMS_RUN=$PWD/run $top/contrib/&#" \
+      -e "s#^rooms-admin \([a-z]*\)#$top/contrib/rooms-admin \1 --destdir $PWD/$1#" \
       -e "s#^systemctl disable --now#systemctl --root=$PWD/$1 -q disable#" >block
   [ -s block ] || echo "echo no block with: $2 >&2; exit 1" >block
   bash -eu block >"$work/out" 2>"$work/err" </dev/null
@@ -70,27 +71,38 @@ pasted() { # MACHINE TEXT-IN-THE-BLOCK
 done_so() { # NAME MACHINE TEXT
   if pasted "$2" "$3"; then pass; else fail "$1" "$(head -c 400 "$work/out" "$work/err")"; fi
 }
-done_so 'an authority' A 'Authority of the machines'
-done_so "the front end's certificate" A 'subj /CN=rooms-front'
-done_so "the other machine's certificate" A 'name=b.example'
+mkdir run
+done_so 'certificates' A 'certificate --machine b.example'
+holds 'it says what is brought where' grep -qF 'bring to b.example, into /etc/rooms/machines: /etc/rooms/machines/authority.pem, /etc/rooms/machines/b.example.pem as machine.pem, /etc/rooms/machines/b.example.key as machine.key' "$work/out"
+# Another machine later: the authority and the front end's certificate stay.
+cp -r A/etc/rooms/machines before
+ROOMS_ROOT=$PWD/A ROOMS_RUN=$PWD/run "$top/contrib/rooms-admin" certificate --machine c.example >"$work/out" 2>"$work/err" </dev/null
+status=$?
+told 'one for a further machine' 0 'certificate /etc/rooms/machines/c.example.pem for c.example'
+rm A/etc/rooms/machines/c.example.*
+holds 'leaves the others' diff -r before A/etc/rooms/machines
 mkdir -p -m 700 B/etc/rooms/machines
 for file in authority.pem machine.pem machine.key; do
   cp "A/etc/rooms/machines/${file/machine/b.example}" "B/etc/rooms/machines/$file"
 done
 holds 'nobody else reads the keys' [ -z "$(find A/etc/rooms/machines B/etc/rooms/machines -name '*.key' -perm /077)" ]
-adds() { # MACHINE WORD ..
-  "$top/contrib/rooms-add" --destdir "$PWD/$1" "${@:2}" </dev/null >"$work/out" 2>"$work/err"
+verb() { # VERB MACHINE WORD ..
+  "$top/contrib/rooms-admin" "$1" --destdir "$PWD/$2" "${@:3}" </dev/null >"$work/out" 2>"$work/err"
   status=$?
 }
+adds() { verb add "$@"; }
+site() { echo "$1/etc/nginx/sites-available/rooms"; } # MACHINE
 refuses() { # NAME TEXT MACHINE WORD ..
   adds "${@:3}"
   if [ "$status" = 2 ] && grep -qF -e "$2" "$work/err"; then pass; else
     fail "$1" "status $status, wanted 2 and '$2': $(head -c 400 "$work/out" "$work/err")"
   fi
 }
-refuses 'a room behind no front end' 'no front end' B --behind invoices
-done_so 'the front end is let in, and a room made for it' B 'rooms-front.conf'
-holds 'its place is for the front end alone' [ -e B/etc/nginx/rooms.d/invoices.front -a ! -e B/etc/nginx/rooms.d/invoices.path ]
+mv B/etc/rooms/machines machines
+refuses 'a room behind no front end' 'no certificate' B --behind invoices
+mv machines B/etc/rooms/machines
+done_so 'the front end is let in, and a room made for it' B 'rooms-admin add --behind'
+holds 'its place is for the front end alone' [ "$(grep -c 'listen 8443 ssl;\|"~^/invoices(/|\$)" invoices;\|"~^.^ .+ /invoices' "$(site B)")" = 2 ]
 refuses 'without a certificate' 'no certificate' B --on b.example other
 refuses 'a name that is none' 'bad host' A --on 'b;c' other
 refuses 'a host beside it' 'bad arguments' A --on b.example --host other.example other
@@ -99,11 +111,11 @@ refuses 'both at once' 'bad arguments' A --on b.example --behind other
 refuses 'a port that is none' 'bad port' A --on b.example --port 0 other
 adds A --dry-run --on b.example invoices
 holds 'what would be made' grep -qx 'would: file /etc/rooms/invoices.on' "$work/out"
-holds 'is not made' [ ! -e A/etc/rooms/invoices.on -a ! -e A/etc/nginx/rooms.d/invoices.path ]
-done_so 'its place at the front end' A 'rooms-add --on'
+holds 'is not made' [ ! -e A/etc/rooms/invoices.on -a "$(grep -c invoices "$(site A)")" = 0 ]
+done_so 'its place at the front end' A 'rooms-admin add --on'
 refuses 'the same name again' 'room exists: /etc/rooms/invoices.on' A --on b.example invoices
 refuses 'a room of that name there' 'room exists: /etc/rooms/invoices.on' A invoices carol accounting
-holds 'the start page has it' grep -qF '<a href="/invoices/">Invoices of the year</a>' A/etc/nginx/rooms.d/start.html
+holds 'the start page has it' grep -qF '<a href="/invoices/">Invoices of the year</a>' A/var/lib/rooms-front/start.html
 
 # nginx of both, with their files; the ports are this case's own.
 front=$((port + 1))
@@ -114,7 +126,7 @@ write_nginx() { # MACHINE ADDRESS
   local file
   find "$1/etc/nginx" -type f | while IFS= read -r file; do
     sed -i -e '/listen \[::\]/d' -e "s/listen 80;/listen $2:$front;/" -e "s/listen 8443 /listen $secure /" \
-      -e "s#/etc/#$PWD/$1/etc/#g" -e "s#/usr/local/share/#$PWD/$1/usr/local/share/#g" \
+      -e "s#/etc/#$PWD/$1/etc/#g" -e "s#/run/rooms-front#$PWD/$1/t#; s#/var/lib/rooms-front#$PWD/$1&#" \
       -e "s#b.example:8443#b.example:$secure#" -e "s#127.0.0.1:$room_b#127.0.0.1:$room#" \
       -e "s#/run/rooms-full#$PWD/$1/full#" "$file"
   done
@@ -122,7 +134,7 @@ write_nginx() { # MACHINE ADDRESS
     echo "daemon off; pid $PWD/$1.pid; error_log $PWD/$1.log; user root; worker_processes 1; events { }"
     echo "http { access_log off; client_body_temp_path $PWD/$1/t/1; proxy_temp_path $PWD/$1/t/2;"
     echo "fastcgi_temp_path $PWD/$1/t/3; uwsgi_temp_path $PWD/$1/t/4; scgi_temp_path $PWD/$1/t/5;"
-    echo 'include conf.d/*.conf; include sites-enabled/*; }'
+    echo 'include sites-enabled/*; }'
   } >"$1/etc/nginx/nginx.conf"
 }
 write_nginx A "$address_a"
@@ -268,13 +280,15 @@ else
 fi
 
 # It is taken away again.
-adds A --remove --dry-run invoices
-holds 'what would be removed' grep -q '^would: /etc/nginx/rooms.d/invoices.path is removed$' "$work/out"
+# (What this case has done with nginx's files isn't what was written.)
+for machine in A B; do rm "$(site "$machine")"; verb setup "$machine"; done
+verb remove A --dry-run invoices
+holds 'what would be removed' grep -q '^would: /etc/rooms/invoices.on is removed$' "$work/out"
 holds 'is there' [ -e A/etc/rooms/invoices.on ]
-adds A --remove invoices
-holds 'the place is removed' [ "$status" = 0 -a ! -e A/etc/nginx/rooms.d/invoices.path -a ! -e A/etc/rooms/invoices.on ]
+verb remove A invoices
+holds 'the place is removed' [ "$status" = 0 -a ! -e A/etc/rooms/invoices.on -a "$(grep -c invoices "$(site A)")" = 0 ]
 holds 'the passwords stay' [ -s A/etc/nginx/rooms-invoices.htpasswd ]
-holds 'the start page has it no more' [ -z "$(grep invoices A/etc/nginx/rooms.d/start.html)" ]
-adds B --remove invoices
-holds 'the room is taken away at B' [ "$status" = 0 -a ! -e B/etc/nginx/rooms.d/invoices.front ]
+holds 'the start page has it no more' [ -z "$(grep invoices A/var/lib/rooms-front/start.html)" ]
+verb remove B invoices
+holds 'the room is taken away at B' [ "$status" = 0 -a "$(grep -c 'invoices\|8443' "$(site B)")" = 0 ]
 gives 'its file is sound' 0 'sound\n' '' verify F

@@ -62,7 +62,7 @@ mkdir -p /etc/letsencrypt/live/rooms.example
 cp /etc/ssl/rooms.pem /etc/letsencrypt/live/rooms.example/fullchain.pem
 cp /etc/ssl/private/rooms.key /etc/letsencrypt/live/rooms.example/privkey.pem
 END
-for name in apache2-bin ldap-utils libapache2-mod-auth-gssapi libapache2-mod-auth-openidc; do
+for name in apache2-bin ldap-utils python3-ldap libapache2-mod-auth-gssapi libapache2-mod-auth-openidc; do
   stand_in_package "$name" </dev/null || fail 'what is typed' "no stand-in: $(cat said)"
 done
 # Of Apache and of a directory there is just enough that they are asked: 95-directory, 95-kerberos and 95-session try what they do.
@@ -70,6 +70,39 @@ mkdir -p "$machine/usr/lib/apache2/modules"
 echo >"$machine/usr/lib/apache2/modules/mod_authnz_ldap.so"
 printf '#!/bin/sh\n[ "$1" = -t ] || exec sleep 3600\n' >"$machine/usr/sbin/apache2"
 chmod 755 "$machine/usr/sbin/apache2"
+# What Python asks a directory with, by the program below.
+mkdir -p "$machine/usr/local/lib/python3.11/dist-packages/ldap"
+cat >"$machine/usr/local/lib/python3.11/dist-packages/ldap/__init__.py" <<'END'
+import subprocess
+OPT_REFERRALS = OPT_NETWORK_TIMEOUT = OPT_TIMEOUT = OPT_X_TLS_REQUIRE_CERT = OPT_X_TLS_DEMAND = 0
+OPT_X_TLS_NEWCTX = OPT_X_TLS_CACERTFILE = SCOPE_SUBTREE = SCOPE_BASE = 0
+class LDAPError(Exception): pass
+class TIMEOUT(LDAPError): pass
+class TIMELIMIT_EXCEEDED(LDAPError): pass
+class NO_SUCH_OBJECT(LDAPError): pass
+class DECODING_ERROR(LDAPError): pass
+class Link:
+    def set_option(self, *_given): pass
+    start_tls_s = simple_bind_s = set_option
+    def search_ext(self, base, _scope, text, wanted, **_named):
+        words = ["ldapsearch", "-b", base, text, *wanted]
+        self.said = subprocess.run(words, capture_output=True, text=True).stdout
+    def result3(self, *_given, **_named):
+        rows = []
+        for entry in self.said.strip().split("\n\n"):
+            lines = [line.split(": ", 1) for line in entry.split("\n") if ": " in line]
+            found = {}
+            for name, value in lines[1:]:
+                found.setdefault(name, []).append(value.encode())
+            rows += [(lines[0][1], found)] if lines else []
+        return 0, rows, 0, []
+def initialize(_uri): return Link()
+END
+printf 'class SimplePagedResultsControl:\n    controlType = "x"\n    def __init__(self, *a, **b): pass\n' \
+  >"$machine/usr/local/lib/python3.11/dist-packages/ldap/controls.py"
+printf 'def str2dn(text): return text\ndef dn2str(text): return text\n' \
+  >"$machine/usr/local/lib/python3.11/dist-packages/ldap/dn.py"
+echo 'def escape_filter_chars(text): return text' >"$machine/usr/local/lib/python3.11/dist-packages/ldap/filter.py"
 stand_in ldapsearch <<'END'
 groups=ou=groups,dc=example,dc=net
 case "$*" in
@@ -87,13 +120,11 @@ END
 # A firewall, unless the machine has one: 95-front tries what the rule does.
 if [ ! -e "$machine/usr/sbin/nft" ]; then
   stand_in_package nftables </dev/null || fail 'what is typed' "no stand-in: $(cat said)"
-  printf '%s\n' '[Service]' 'ExecStart=/bin/true' '[Install]' WantedBy=sysinit.target >"$machine/etc/systemd/system/nftables.service"
-  echo 'type filter hook output priority filter;' >"$machine/etc/nftables.conf"
 fi
 for name in nft update-ca-certificates journalctl; do stand_in "$name" </dev/null; done
 mkdir -p "$machine/root/contrib" "$machine/usr/local/share/ca-certificates"
 # At the top of a repository. What it does is tried by 99-install.
-printf '#!/bin/sh\n[ $# = 0 ] || exec rooms-setup "$@"\n' >"$machine/root/contrib/install"
+printf '#!/bin/sh\nexec rooms-admin setup "$@"\n' >"$machine/root/contrib/install"
 chmod 755 "$machine/root/contrib/install"
 if ! furnish_terminal 2>said; then
   skip 'what is typed' "no terminals: $(head -c 200 said)"
@@ -182,19 +213,19 @@ shows 'is made' 201
 types 'groups and lists' docs/operating 'runuser -u rooms bash' docs/operating 'cat >groups.csv' \
   docs/operating 'office.rooms / dacl' docs/operating 'office.rooms / sacl'
 shows 'are taken' 'groups 2, members 3' 'done'
-types 'the ports' docs/operating 'install -y nftables' docs/operating 'hook output'
-holds 'are closed at each start' [ -L "$machine/etc/systemd/system/sysinit.target.wants/nftables.service" ]
+does 'the rule is there' 'nft -f /usr/share/rooms/rooms.nft'
+types 'the ports' docs/operating 'nft list table'
+holds 'are closed at each start' [ -L "$machine/etc/systemd/system/multi-user.target.wants/rooms-firewall.service" ]
 does 'the server starts' 'systemctl start rooms@office'
 
 # TLS, and back.
-types 'an authority' docs/operating '/root/authority/authority.key -out' docs/operating '-keyout /etc/ssl/private/rooms.key' \
-  docs/operating CAcreateserial docs/operating 'rooms-setup --tls /etc/ssl' docs/operating '=nginx -t && systemctl reload nginx' \
+types 'an authority' docs/operating '=rooms-admin certificate rooms.example' docs/operating 'rooms-admin setup --tls /etc/ssl' docs/operating '=nginx -t && systemctl reload nginx' \
   docs/operating update-ca-certificates
 does 'the site with TLS' 'curl -sf --cacert /root/authority/authority.pem --resolve rooms.example:443:127.0.0.1 -u alice:typed \
   https://rooms.example/me >/dev/null'
 types 'a public name' docs/operating 'install -y certbot' docs/operating certonly docs/operating letsencrypt/live
-holds 'its certificate is used' grep -q letsencrypt "$machine/etc/nginx/snippets/rooms-tls.conf"
-types 'back' docs/operating 'ln -sfn ../sites-available/rooms '
+holds 'its certificate is used' grep -q letsencrypt "$machine/etc/nginx/sites-available/rooms"
+types 'back' docs/operating '/etc/rooms/site && rooms-admin setup'
 does 'without TLS' 'curl -sf -u alice:typed http://127.0.0.1/me >/dev/null'
 
 # Lists.
@@ -218,22 +249,24 @@ types 'a list that is judged' docs/check input.txt
 shows 'is' granted
 
 # People.
-types 'somebody joins' docs/people 'rooms.htpasswd dana' docs/people sales,dana
+types 'somebody joins' docs/people '=rooms-admin user add dana --groups sales'
+holds 'she has a password' grep -q '^dana:$2y$10\$' "$machine/etc/nginx/rooms.htpasswd"
 shows 'she is in her group' 'groups 2, members 4'
 does 'bob has a password' 'htpasswd -bB /etc/nginx/rooms.htpasswd bob secret'
 for path in reply ' odd '; do asks_as 201 bob PUT "/doc/letters/${path// /%20}" x; done
-types 'somebody leaves' docs/people 'htpasswd -D /etc/nginx/rooms.htpasswd bob'
+types 'somebody leaves' docs/people '=rooms-admin user remove bob'
 shows 'what is his' 'document bob staff 1 /letters/ odd ' 'document bob staff 1 /letters/reply'
 holds 'he has no password' [ "$(grep -c '^bob:' "$machine/etc/nginx/rooms.htpasswd")" = 0 ]
-types 'what would be given' docs/people 'rooms-handover --dry-run'
+does 'lists of a night' 'systemctl start rooms-nightly@office'
+types 'what would be given' docs/people 'rooms-admin handover --dry-run'
 shows 'is told' "would: /letters/\\ odd\\ " 'would be given 2, of others by now 0, left out 0'
-types 'all of it' docs/people '=rooms-handover --as alice http://127.0.0.1:8780 /var/lib/rooms/lists.txt bob alice'
+types 'all of it' docs/people '=rooms-admin user remove bob --to alice'
 shows 'is given' 'given 2, of others by now 0, left out 0'
 types 'a single one' docs/people '/attr/letters/reply'
 shows 'is given too' 204
 asks_as 201 alice POST /folder/projects
 asks_as 201 alice POST /folder/projects/bridge
-types 'somebody from outside' docs/people 'rooms.htpasswd eve' docs/people 'A::eve:x' docs/people 'can/projects/bridge' docs/people 'at 18:00'
+types 'somebody from outside' docs/people '=rooms-admin user add eve' docs/people 'A::eve:x' docs/people 'can/projects/bridge' docs/people 'at 18:00'
 shows 'may read' '"r":"allowed'
 holds 'until a day' grep -q '^at 18:00 2027-01-31$' "$machine/root/due"
 holds 'at which her password goes' grep -q '^htpasswd -D /etc/nginx/rooms.htpasswd '\''eve'\''$' "$machine/root/due"
@@ -247,84 +280,85 @@ shows 'is printed' A:fdg:staff:rwaxtc A:fi:OWNER@:d
 types 'who can read this folder' docs/people 'rooms review'
 shows 'alice, and staff' '/letters,folder,alice,rwanNxDtThHdcCoy,yes'
 types 'who could change it' docs/people "at='/projects'"
-types 'a new password' docs/people '=htpasswd -B /etc/nginx/rooms.htpasswd bob' docs/people 'tr -dc'
+types 'a new password' docs/people '=rooms-admin user add bob' docs/people 'tr -dc'
 
 # In and out.
 types 'a share of Windows' docs/in-and-out smbclient
 edit=s#https://rooms.example#http://127.0.0.1#
-types 'it comes in' docs/in-and-out 'rooms-import --user alice' docs/in-and-out 'rooms-import --as alice'
+types 'it comes in' docs/in-and-out 'rooms-admin import --user alice' docs/in-and-out 'rooms-admin import --as alice'
 shows 'all of it' 'left out 0' 'there already 3'
-types 'it goes out' docs/in-and-out rooms-export
+types 'it goes out' docs/in-and-out 'rooms-admin export'
 does 'as it was' 'cmp "share/ a /b " "out/ a /b "'
 
-# Several rooms, and passwords that are remembered.
-types 'a second room' docs/several 'rooms-add --title'
-types 'remembered' docs/passwords '#include snippets/rooms-remembered' docs/passwords 'rooms.d/invoices.path'
+# Several rooms.
+types 'a second room' docs/several 'rooms-admin add --title'
 does 'a password counts' 'curl -sf -u carol:typed http://127.0.0.1/invoices/me >/dev/null'
-types 'and not' docs/passwords '^include snippets/rooms-remembered'
 types 'a program' docs/passwords 'openssl rand'
 
 # A directory, tickets, sessions.
-answers_as() { # NAME STATUS: what alice gets with the password of nginx's own file
-  inside 'curl -s -o /dev/null -w "%{http_code}" -u alice:typed http://127.0.0.1/me'
+answers_as() { # NAME STATUS: what alice gets with the password of nginx's own file, once nobody remembers anything
+  inside 'sleep 11; curl -s -k -L --location-trusted -o /dev/null -w "%{http_code}" -u alice:typed http://127.0.0.1/me'
   holds "$1: $(<"$work/out")" [ "$(<"$work/out")" = "$2" ]
 }
 types 'where it is' docs/directory 'ldap-utils' docs/directory URI=
 does 'the password that was asked for' '[ "$(cat /etc/rooms/directory.secret)" = typed ] && [ "$(stat -c %a /etc/rooms/directory.secret)" = 600 ]'
-types 'passwords' docs/directory 'rooms-directory --names' docs/directory 'rooms-setup --directory /etc'
+types 'passwords' docs/directory 'rooms-admin groups --names' docs/directory 'rooms-admin setup --directory /etc'
 shows 'are asked there' 'the directory has 2 users' 'file /etc/rooms/directory.apache'
 answers_as 'nothing answers in its place' 503
-types 'of a further room' docs/directory invoices.path docs/directory invoices.apache
-types 'groups' docs/directory 'MOST=10' docs/directory '=rooms-directory
+types 'of a further room' docs/directory rooms/invoices.conf docs/directory invoices.apache
+types 'groups' docs/directory 'MOST=10' docs/directory '=rooms-admin groups
 systemctl enable --now rooms-directory@office.timer'
 shows 'come in' '+ hr,alice'
 types 'tickets' docs/directory krb5.conf
 does 'a key' 'echo key >keytab'
 types 'are taken' docs/directory 'install -o www-data' docs/directory mod_auth_gssapi docs/directory 'map "$status'
-holds 'a password is offered beside' grep -q '^add_header WWW-Authenticate ' "$machine/etc/nginx/snippets/rooms-server.conf"
+holds 'a password is offered beside' grep -q '^add_header WWW-Authenticate ' "$machine/etc/rooms/nginx/server.d/tickets.conf"
 types 'and no more' docs/directory 'rm /etc/rooms/directory.d/kerberos.apache'
-types 'the way back' docs/directory 'rooms-setup --directory none'
+types 'the way back' docs/directory 'rooms-admin setup --directory none'
 answers_as 'the file counts' 200
+does 'TLS for sessions' 'rooms-admin setup --tls /etc/ssl/rooms.pem /etc/ssl/private/rooms.key'
 types 'sessions' docs/directory libapache2-mod-auth-openidc docs/directory OIDCProviderMetadataURL docs/directory '[Service]' \
-  docs/directory 'auth_request_set $room_user'
+  docs/directory PASSWORDS=session
 answers_as 'nothing answers in its place either' 503
 types 'passwords again' docs/directory 'disable --now rooms-session'
 answers_as 'the file counts again' 200
 
-types 'taken away' docs/several 'rooms-add --remove'
+types 'taken away' docs/several 'rooms-admin remove'
 
 # What is watched, and what is done when something is wrong.
-types 'what to watch' docs/capacity 'can/?' docs/capacity 'no backup' docs/capacity MemoryCurrent
-shows 'it answers' '{} 200'
+statuses='[12]'
+types 'what to watch' docs/capacity '=rooms-admin check'
+shows 'it says what there is' 'rooms WARNING - ' 'office: '
+types 'how much memory it has' docs/capacity MemoryCurrent
 statuses=1
 types 'how full it is' docs/capacity 'restart rooms-full@office'
 shows 'is said' '0 MB of 384 are in use'
-statuses=1
-types 'what has failed' docs/capacity is-failed
 types 'who was here' docs/capacity records.csv
 statuses=1
 types 'by the log too' docs/capacity 'zgrep'
 types 'old records' docs/capacity 'DELETE FROM audits'
 shows 'the room stays sound' sound
-statuses=1
-types 'which cause it is' docs/messages '=rooms-doctor /var/lib/rooms/office.rooms'
-shows 'the server has it' 'busy: process'
+types 'which cause it is' docs/messages '=rooms-admin doctor /var/lib/rooms/office.rooms'
+shows 'the server has it, and answers' 'nothing is wrong: rooms@office serves /var/lib/rooms/office.rooms, and answers'
 types 'a unit that gave up' docs/messages reset-failed
 types 'a full disk' docs/messages 'df -h' docs/messages vacuum docs/messages 'rooms verify'
 shows 'the room is sound' sound
 backup=$(basename "$(printf '%s\n' "$machine"/var/backups/rooms/????-??-??.?????? | tail -n 1)")
 edit=s/2026-11-20.030000/$backup/
-types 'a restore' docs/backup 'rooms-restore 2026'
+types 'a restore' docs/backup 'rooms-admin restore --start 2026'
 shows 'is done' "restored /var/lib/rooms/office.rooms from /var/backups/rooms/$backup"
 edit=s/2026-11-20.030000/$backup/
-types 'one document' docs/backup 'rooms-get 2026' docs/backup @reply
+types 'one document' docs/backup 'rooms-admin get 2026' docs/backup @reply
 shows 'is put back' 204
+edit=s/2026-11-20.030000/$backup/
+types 'a folder of it' docs/backup 'rooms-admin export --backup'
+shows 'is written' 'left out 0'
 where=/var/backups/rooms/$backup
 types 'the longest list' docs/operating 'where = at'
 
 # Upgrades, and the way back.
 types 'a newer version' docs/upgrading '=apt-get install -y ./rooms_VERSION_amd64.deb -o Dpkg::Options::=--force-confold </dev/null' \
-  docs/upgrading '=contrib/install' docs/upgrading 'sleep 1; curl' docs/upgrading 'nginx -t'
+  docs/upgrading '=contrib/install' docs/upgrading '127.0.0.1:8780/can'
 shows 'serves' '{} 200'
 types 'an older one' docs/upgrading allow-downgrades docs/upgrading "=systemctl restart 'rooms@*'"
 edit=s/2026-11-20.030000/$backup/
@@ -335,26 +369,20 @@ does 'is the room' 'chown rooms: /var/lib/rooms/office.rooms'
 types 'is upgraded and served' docs/upgrading 'rooms migrate'
 shows 'and so on' migrated
 does 'the room of before' 'systemctl stop rooms@office; rm /var/lib/rooms/office.rooms*; mv kept/* /var/lib/rooms'
-for name in rooms.service rooms-nightly.service rooms-nightly.timer; do
-  sed 's#/usr/local/#/usr/#g' "$data/single/$name" >"$machine/etc/systemd/system/$name"
-done
-types 'units of one room' docs/upgrading 'disable --now rooms@office' docs/upgrading 'enable --now rooms rooms-nightly.timer'
-asks_as 200 alice GET /folder/letters
-does 'those of several' 'systemctl disable --now rooms rooms-nightly.timer; rm /etc/systemd/system/rooms{,-nightly}.*'
 does 'what contrib/install has beside' 'sed -i s#/usr/share/rooms#/usr/local/share/rooms# /etc/rooms/*.apache
   systemctl enable --now rooms-passwords rooms-standby@office.timer'
 types 'from an install by hand' docs/upgrading 'rm -f bin/rooms' docs/upgrading 'enable --now "$unit"'
 asks_as 200 alice GET /folder/letters
 holds 'no file of Apache looks below /usr/local' [ -z "$(grep -l /usr/local "$machine"/etc/rooms/*.apache)" ]
 does 'what was enabled is so' 'systemctl is-active rooms-passwords rooms-standby@office.timer'
-does 'the same command again' 'rooms-setup --directory /etc/rooms/directory'
+does 'the same command again' 'rooms-admin setup --directory /etc/rooms/directory'
 holds 'has nothing to add' [ "$(grep -c directory.apache "$work/out")" = 0 ]
 
 # The blocks of the README for who builds the program.
 block_of README tools/build >>typed
 block_of README .ci/run >>typed
 # Blocks of a new machine, and of what is copied for it: 94-new-machine pastes them.
-for text in './rooms_' 'cp -a /mnt' 'do rooms-restore' reload-or-restart machine/about 'rooms-offsite <<' 'openssl rand' \
+for text in './rooms_' 'cp -a /mnt' 'do rooms-admin restore' reload-or-restart machine/about 'rooms-offsite <<' 'openssl rand' \
   'restore latest' 'mkdir -m 700 /mnt' 'head -n -90' ssh-keygen useradd; do
   block_of docs/backup "$text"
 done >>typed

@@ -1,4 +1,4 @@
-# contrib/rooms-handover: all that belongs to one user goes to another, whatever its names, and nothing else does.
+# rooms-admin handover: all that belongs to one user goes to another, whatever its names, and nothing else does.
 
 if [ "$loopback" = no ] || ! has curl; then
   skip 'what is handed over' 'no loopback, or no curl'
@@ -8,7 +8,7 @@ contrib=$here/../contrib
 . "$here/names.sh"
 
 hands() { # ARGUMENT ..
-  LC_ALL=C.UTF-8 "$contrib/rooms-handover" "$@" </dev/null >"$work/out" 2>"$work/err"
+  LC_ALL=C.UTF-8 "$contrib/rooms-admin" handover "$@" </dev/null >"$work/out" 2>"$work/err"
   status=$?
 }
 asked() { # STATUS USER METHOD TARGET [BODY]
@@ -28,7 +28,7 @@ while IFS= read -r name; do printf x >"tree/$name"; done <names
 printf x >'tree/folder/ below '
 start_server F 100000 || return
 room=http://127.0.0.1:$port
-LC_ALL=C.UTF-8 "$contrib/rooms-import" --replace --as bob "$room" tree /bobs >said 2>&1 </dev/null
+LC_ALL=C.UTF-8 "$contrib/rooms-admin" import --replace --as bob "$room" tree /bobs >said 2>&1 </dev/null
 holds "documents of bob: $(tail -n 1 said)" grep -q 'left out 0' said
 asked 201 alice PUT /doc/dans x
 asked 204 alice PUT /attr/dans '{"owner":"dan","group":"sales"}'
@@ -50,7 +50,7 @@ asked 204 alice DELETE /object/bobs/plan
 asked 204 alice PUT /attr/bobs/Plan '{"owner":"carol","group":"staff"}'
 
 hands
-told 'without arguments' 2 'bad arguments: rooms-handover'
+told 'without arguments' 2 'bad arguments: rooms-admin handover'
 hands --as alice "$room" lists bob bob
 told 'to the same user' 2 'bob would give to bob'
 hands --as alice "$room" lists 'b ob' alice

@@ -225,6 +225,7 @@ open_room W
 told=no
 for ((limit = 8000; limit <= 40000; limit += 500)); do
   port=$((port + 1))
+  place=127.0.0.1:$port
   : >"$work/server.out"
   (ulimit -v "$limit" && exec "$rooms" serve W --port "$port" --count 2) </dev/null >"$work/server.out" 2>"$work/server.err" &
   server=$!

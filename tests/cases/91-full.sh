@@ -1,12 +1,11 @@
-# contrib/rooms-full: how much of a room is in use, what it refuses, and what nginx answers while a
+# rooms-admin full: how much of a room is in use, what it refuses, and what nginx answers while a
 # room is full. systemctl is a stand-in that says what MemoryMax is.
 
 . "$here/front.sh"
-if [ "$loopback" = no ] || ! has flock || ! has setpriv || ! has perl; then
-  skip 'a full room' 'no loopback, or no flock, setpriv, perl'
+if [ "$loopback" = no ] || ! has flock || ! has setpriv || ! has python3; then
+  skip 'a full room' 'no loopback, or no flock, setpriv, python3'
   return
 fi
-full=$here/../contrib/rooms-full
 mkdir bin room run backups
 printf '%s\n' '#!/bin/sh' "cat '$PWD/memory'" >bin/systemctl
 chmod 755 bin/systemctl
@@ -15,7 +14,7 @@ write_conf() { # LIMIT
     "PROGRAM=$rooms" >conf
 }
 fulls() { # WORD ..
-  PATH=$PWD/bin:$PATH ROOMS_RUN=$PWD/run timeout "$patience" "$full" "$@" "$PWD/conf" \
+  PATH=$PWD/bin:$PATH ROOMS_RUN=$PWD/run timeout "$patience" "$contrib/rooms-admin" full "$@" "$PWD/conf" \
     </dev/null >"$work/out" 2>"$work/err"
   status=$?
 }
@@ -45,7 +44,7 @@ fulls --look
 told 'no port' 2 'bad settings: PORT in'
 write_conf 5
 fulls --other
-told 'an unknown word' 2 'bad words'
+told 'an unknown word' 2 'bad arguments'
 means() { # MEMORYMAX LIMIT TEXT
   echo "$1" >memory
   write_conf "$2"
@@ -91,7 +90,10 @@ if has_sqlite; then
   cp room/F-wal counted-wal
   wanted=$(sqlite3 counted 'SELECT (page_count - freelist_count) * page_size
     FROM pragma_page_count, pragma_freelist_count, pragma_page_size')
-  holds 'it is what sqlite3 counts' [ "$(perl "$here/../contrib/pages.pl" room/F)" = "$wanted" ]
+  holds 'it is what sqlite3 counts' [ "$(python3 -IBc 'import sys
+sys.path.insert(0, sys.argv[1])
+from rooms_admin.used import Used
+print(Used().look(sys.argv[2]))' "$contrib" room/F)" = "$wanted" ]
   start_server room/F 100000 || return
 else
   skip 'what sqlite3 counts' 'no sqlite3, or one that is too old'
@@ -102,7 +104,7 @@ flag=run/rooms-full/127.0.0.1:$port
 watcher=
 watch() {
   write_conf "$1"
-  PATH=$PWD/bin:$PATH ROOMS_RUN=$PWD/run "$full" "$PWD/conf" </dev/null 2>>watched &
+  PATH=$PWD/bin:$PATH ROOMS_RUN=$PWD/run "$contrib/rooms-admin" full "$PWD/conf" </dev/null 2>>watched &
   watcher=$!
 }
 unwatch() { # SIGNAL
@@ -119,8 +121,23 @@ holds 'no flag before' is_missing "$flag"
 watch 2
 within 'a LIMIT below what is in use' is_there "$flag"
 holds 'it says so' grep -qF 'the room is full: 3 MB are in use, and LIMIT is 2' watched
+# A look starts no process, and reads of the log what is new.
+spent() { # hundredths of a second, of the watch and whatever it started
+  local one fields all=0
+  for one in "$watcher" $(cat "/proc/$watcher/task/"*/children 2>/dev/null); do
+    read -r -a fields <"/proc/$one/stat" 2>/dev/null || continue
+    all=$((all + fields[13] + fields[14] + fields[15] + fields[16]))
+  done
+  echo "$all"
+}
+before=$(spent)
+sleep 5
+holds "five looks take less than 0.06 s: $before, $(spent)" [ $(($(spent) - before)) -lt 6 ]
+# root's locks are where nobody else gets to.
+if [ "$(id -u)" = 0 ]; then locks=run/.rooms-admin; else locks=run/rooms-full/locks; fi
+holds 'its lock is in a folder of its own' [ "$(stat -c '%a %u' "$locks")" = "700 $(id -u)" ]
 fulls
-told 'a second one for the same port' 2 'busy: another rooms-full'
+told 'a second one for the same port' 2 'busy: another verb of rooms-admin is at work with full'
 holds 'leaves the flag' is_there "$flag"
 unwatch KILL
 holds 'the flag stays after a kill' is_there "$flag"
@@ -190,9 +207,8 @@ ask 'a move' 204 '' root:r /move/f/d -X POST --data-binary '{"to":"/doc/d"}'
 ask 'another site still is one' 403 - root:r /doc/new -X PUT --data-binary x -H 'Origin: http://elsewhere.example'
 ask 'nobody without a password reads' 401 - '' /doc/doc/d
 # Another room of the same nginx isn't full, and the flag is that of a port.
-"$here/../contrib/install" --destdir "$PWD/machine" --program "$rooms" >installed 2>&1 </dev/null
-"$here/../contrib/rooms-add" --destdir "$PWD/machine" --port $((port + 5)) invoices >said 2>&1
-for_here machine/etc/nginx/rooms.d/invoices.path >rooms.d/invoices.path
+admin add --port $((port + 5)) invoices
+take_front
 printf 'root:{PLAIN}r\n' >rooms-invoices.htpasswd
 second() { [ "$(curl -s -o "$work/body" -w '%{http_code}' -u root:r "$base/invoices/doc/f")" = 502 ]; }
 reloaded second
@@ -205,12 +221,7 @@ ask 'nor with one of the room office' 401 - bob:b /invoices/folder/new -X POST
 ask 'nothing is at its address either' 404 - root:r /invoices/rooms/full
 ask 'what it removes goes to the server' 502 - root:r /invoices/object/f -X DELETE
 ask 'a list of it too' 502 - root:r /invoices/dacl/doc -X PUT --data-binary x
-# The same where passwords are remembered, by the blocks of passwords.md.
-page_block passwords 'Remembered for ten seconds' 1 >remember
-page_block passwords 'Remembered for ten seconds' 2 >>remember
-grep -v '^nginx -t' remember | bash -eu
-remembers() { [ "$(curl -s -o "$work/body" -w '%{http_code}' -u root:r "$base/doc/doc/d")" = 200 ] && grep -q auth_request snippets/rooms-server.conf; }
-reloaded remembers
+# Who is remembered is told so too.
 for place in '' /invoices; do
   ask "who is remembered, at '$place'" 507 - root:r "$place/folder/new" -X POST
   ask "who isn't, at '$place'" 401 - root:x "$place/folder/new" -X POST

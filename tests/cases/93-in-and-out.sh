@@ -1,4 +1,4 @@
-# contrib/rooms-import, rooms-export and rooms-get: a tree goes into a room and comes out equal.
+# rooms-admin import, export and get: a tree goes into a room and comes out equal.
 
 if [ "$loopback" = no ] || ! has curl || ! has find || ! has sort; then
   skip 'in and out' 'no loopback, curl, find or sort'
@@ -6,11 +6,9 @@ if [ "$loopback" = no ] || ! has curl || ! has find || ! has sort; then
 fi
 contrib=$here/../contrib
 
-# A script of contrib/; its status is in $status, its output in $work/out and $work/err.
-transfers() { # SCRIPT ARGUMENT ..
-  local script=$contrib/$1
-  shift
-  "$script" "$@" </dev/null >"$work/out" 2>"$work/err"
+# A verb of rooms-admin; its status is in $status, its output in $work/out and $work/err.
+transfers() { # VERB ARGUMENT ..
+  "$contrib/rooms-admin" "$@" </dev/null >"$work/out" 2>"$work/err"
   status=$?
 }
 
@@ -31,30 +29,30 @@ printf x >all/$'line\nbreak'
 printf x >all/$'no\xfftext'
 
 # Bad arguments: nothing is sent, and no server is needed.
-transfers rooms-import
+transfers import
 told 'import without arguments' 2 'bad arguments'
-transfers rooms-import ftp://x tree /
+transfers import ftp://x tree /
 told 'import to no address' 2 'bad arguments'
-transfers rooms-import http://127.0.0.1:1 none /
+transfers import http://127.0.0.1:1 none /
 told 'import of no folder' 2 'no folder'
-transfers rooms-import http://127.0.0.1:1 tree x
+transfers import http://127.0.0.1:1 tree x
 told 'import to no path' 2 'bad arguments'
-transfers rooms-import --paint http://127.0.0.1:1 tree /
+transfers import --paint http://127.0.0.1:1 tree /
 told 'import with an unknown option' 2 'no such option'
-transfers rooms-import --as root http://127.0.0.1:1 tree /
+transfers import --as root http://127.0.0.1:1 tree /
 told 'import to a room that is not there' 1 'no reply'
-transfers rooms-export http://127.0.0.1:1 / tree
+transfers export http://127.0.0.1:1 / tree
 told 'export over something' 2 'there is something at tree'
-transfers rooms-export --as root http://127.0.0.1:1 / new
+transfers export --as root http://127.0.0.1:1 / new
 told 'export of a room that is not there' 1 'no reply'
 holds 'which writes nothing' is_missing new
 
 # A password and documents go to another machine by TLS alone, unless the option asks for it. What is sent all the same ends at the
 # first reply that names another address. Such a site is played: as a proxy, it is asked for every name.
-asks_for() { # NAME STATUS TEXT ARGUMENT ..: rooms-import, with a password and a proxy
+asks_for() { # NAME STATUS TEXT ARGUMENT ..: import, with a password and a proxy
   local name=$1 wanted=$2 text=$3
   shift 3
-  env -u no_proxy -u NO_PROXY http_proxy="http://127.0.0.1:$site" "$contrib/rooms-import" "$@" <<<'se"cr\et' >"$work/out" 2>"$work/err"
+  env -u no_proxy -u NO_PROXY http_proxy="http://127.0.0.1:$site" "$contrib/rooms-admin" import "$@" <<<'se"cr\et' >"$work/out" 2>"$work/err"
   status=$?
   told "$name" "$wanted" "$text"
 }
@@ -124,18 +122,18 @@ else
 fi
 
 start_server F 5 || return
-transfers rooms-import --as root "http://127.0.0.1:$port" all /in
+transfers import --as root "http://127.0.0.1:$port" all /in
 told 'an import that is cut off' 1 'no reply' 'goes on where this one stopped'
 stop_server
 start_server F 1000 || return
 room=http://127.0.0.1:$port
-transfers rooms-import --as root --log log "$room" all /in
+transfers import --as root --log log "$room" all /in
 told 'what does not go in' 1 'larger: more than 1048576 bytes' 'link: a link' 'pipe: neither a file nor a folder' \
   "\$'line\\nbreak': not sent: 400 {\"why\":\"bad-target P1\"}" 'bad-target P3' 'left out 5'
 holds 'is in the log too' [ "$(wc -l <log)" = 5 ]
-transfers rooms-import --as root "$room" tree /in
+transfers import --as root "$room" tree /in
 told 'the same once more' 0 'made 0, replaced 0, there already 13, left out 0'
-transfers rooms-export --as root "$room" /in out
+transfers export --as root "$room" /in out
 told 'export' 1 '/in/-x/x' 'documents 7, left out 1'
 diff -r -x '*.acl' tree out >found 2>&1
 same 'the tree that comes out' found /dev/null
@@ -145,33 +143,33 @@ same 'the lists beside it' out/empty.acl wanted
 
 # Nothing is replaced unasked.
 printf 'other' >tree/ümlaut
-transfers rooms-import --as root "$room" tree /in
+transfers import --as root "$room" tree /in
 told 'another document is there' 1 'not replaced: another document is there' 'left out 1'
-transfers rooms-export --as root --no-lists "$room" /in/ümlaut kept
+transfers export --as root --no-lists "$room" /in/ümlaut kept
 holds 'and stays' [ "$(cat kept)" = ä ]
-transfers rooms-import --as root --replace "$room" tree /in
+transfers import --as root --replace "$room" tree /in
 told 'unless asked to' 0 'made 0, replaced 7,' 'left out 0'
-transfers rooms-export --as root --no-lists "$room" /in again
+transfers export --as root --no-lists "$room" /in again
 told 'a round trip' 0 'documents 7, left out 0'
 diff -r tree again >found 2>&1
 same 'is equal' found /dev/null
-transfers rooms-export --as eve "$room" / eve
+transfers export --as eve "$room" / eve
 told 'export by a stranger' 1 '403'
-transfers rooms-import --as eve "$room" tree /in
-told 'import by a stranger' 1 '/in: not made: 403' 'nothing of ./tree was sent: there is no folder /in' 'made 0, replaced 0, there already 0, left out 1'
+transfers import --as eve "$room" tree /in
+told 'import by a stranger' 1 '/in: not made: 403' 'nothing of tree was sent: there is no folder /in' 'made 0, replaced 0, there already 0, left out 1'
 
 # The folders above PATH come with it. Where one can't be made, that is told once.
-transfers rooms-import --as root "$room" 'tree/a b' '/new/a b/%2F'
+transfers import --as root "$room" 'tree/a b' '/new/a b/%2F'
 told 'a path whose folders are missing' 0 'made 6, replaced 0, there already 0, left out 0'
-transfers rooms-import --as root "$room" 'tree/a b' '/new/a b/%2F'
+transfers import --as root "$room" 'tree/a b' '/new/a b/%2F'
 told 'and are there' 0 'made 0, replaced 0, there already 4, left out 0'
-transfers rooms-export --as root --no-lists "$room" '/new/a b/%2F' below
+transfers export --as root --no-lists "$room" '/new/a b/%2F' below
 diff -r 'tree/a b' below >found 2>&1
 same 'all of it is there' found /dev/null
-transfers rooms-import --as root --log log2 "$room" tree /in/ümlaut/x/y
+transfers import --as root --log log2 "$room" tree /in/ümlaut/x/y
 told 'a path through a document' 1 'not made, since a document is in the way' 'made 0, replaced 0, there already 0, left out 1'
 holds 'is told once' [ "$(wc -l <log2)" = 1 ]
-transfers rooms-import --as root "$room" tree /in/ümlaut
+transfers import --as root "$room" tree /in/ümlaut
 told 'a document where the folder should be' 1 'not made, since a document is in the way' 'left out 1'
 stop_server
 
@@ -181,12 +179,12 @@ if has_sqlite; then
   [ ! -e F-wal ] || cp F-wal damaged-wal
   sqlite3 damaged "UPDATE nodes SET dacl_own = 'A::alice' WHERE name = 'nothing'"
   if start_server damaged 1000; then
-    transfers rooms-export --as root --no-lists "http://127.0.0.1:$port" /in rest
+    transfers export --as root --no-lists "http://127.0.0.1:$port" /in rest
     told 'export of a damaged room' 1 "/in/a\\ b/%2F/nothing: not read: 500 {\"why\":\"store\"}" 'documents 6, left out 1'
     diff -r tree rest >found 2>&1
     echo 'Only in tree/a b/%2F: nothing' >wanted
     same 'all else comes out' found wanted
-    transfers rooms-import --as root "http://127.0.0.1:$port" tree /in
+    transfers import --as root "http://127.0.0.1:$port" tree /in
     told 'an import ends there' 1 'status 500: the room is out of order; the same command goes on where this one stopped'
     stop_server
   fi
@@ -200,16 +198,16 @@ mv F backup/F
 mv F-wal backup/F-wal
 cksum backup/* >sums
 printf '%s\n' "FILE=$PWD/F" "BACKUPS=$PWD" KEEP=0 MAIL= UNIT=rooms "PROGRAM=$rooms" >conf
-transfers rooms-get --conf conf backup '/in/a b/100%?#&+'
+transfers get --conf conf backup '/in/a b/100%?#&+'
 told 'a document out of a backup' 0
 holds 'its bytes' [ "$(cat "$work/out")" = hello ]
-transfers rooms-get --conf conf backup /in/none
+transfers get --conf conf backup /in/none
 told 'one that is not there' 1 'no-such'
-transfers rooms-get --conf conf backup /in
+transfers get --conf conf backup /in
 told 'a folder' 1 'wrong-kind'
-transfers rooms-get --conf conf none /in
+transfers get --conf conf none /in
 told 'no backup' 2 'no backup'
-transfers rooms-get --conf conf backup in
+transfers get --conf conf backup in
 told 'no path' 2 'bad arguments'
 cksum backup/* >sums.now
 same 'the backup is as it was' sums.now sums

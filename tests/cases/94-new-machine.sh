@@ -48,10 +48,10 @@ does 'a room' "$(block README.md 'runuser')"
 does 'another one' "$(block docs/several.md 'invoices carol accounting')"
 does 'a certificate' 'openssl req -x509 -newkey ec -pkeyopt ec_paramgen_curve:P-256 -noenc -days 9 -subj /CN=rooms.example \
   -keyout /etc/ssl/private/rooms.key -out /etc/ssl/rooms.pem 2>/dev/null
-  rooms-setup --tls /etc/ssl/rooms.pem /etc/ssl/private/rooms.key && systemctl reload nginx'
-does 'passwords are remembered' "$(block docs/passwords.md '^auth_basic ".*;#include')"
+  rooms-admin setup --tls /etc/ssl/rooms.pem /etc/ssl/private/rooms.key'
 does 'settings' 'sed -i "s/^KEEP=.*/KEEP=7/" /etc/rooms/office.conf
-  sed -i "s/rooms.example/rooms.example rooms.office.example/" /etc/nginx/sites-available/rooms-tls
+  sed -i "s/^HOSTS=.*/HOSTS=rooms.example rooms.office.example/" /etc/rooms/site
+  echo "# mine" >/etc/rooms/nginx/server.d/mine.conf; rooms-admin setup
   mkdir /etc/systemd/system/rooms@office.service.d
   printf "[Service]\nMemoryMax=4G\n" >/etc/systemd/system/rooms@office.service.d/override.conf
   echo "5 4 * * * root rooms-export" >/etc/cron.d/rooms-export; nginx -t -q && systemctl reload nginx'
@@ -147,9 +147,9 @@ does 'the backups' "$(block docs/backup.md 'cp -a /mnt/rooms')"
 holds 'are of root' [ -z "$(find "$machine/var/backups/rooms" ! -user root)" ]
 does 'a look at what would be done' 'rooms-restore --machine --dry-run latest'
 holds 'names the passwords' grep -qx 'would: new /etc/nginx/rooms.htpasswd' "$work/out"
-does 'the machine and its rooms' "$(block docs/backup.md 'do rooms-restore --conf')"
+does 'the machine and its rooms' "$(block docs/backup.md 'do rooms-admin restore --conf')"
 holds 'it says that passwords may be back' grep -q '^Passwords are those of 20' "$work/out"
-holds 'it says what is left' grep -q '^  rooms-restore --conf /etc/rooms/invoices.conf latest$' "$work/out"
+holds 'it says what is left' grep -q '^  rooms-admin restore --conf /etc/rooms/invoices.conf latest$' "$work/out"
 holds 'the rooms are restored' [ "$(grep -c '^restored /var/lib/rooms/' "$work/out")" = 2 ]
 does 'what else the old machine had' "$(block docs/backup.md machine/about)"
 does 'the start' "$(block docs/backup.md reload-or-restart)"
@@ -163,14 +163,16 @@ does 'everybody signs in as before' "$(got $named -u alice:typed $site/doc/lette
   $(got $named -u alice:typed $site/invoices/doc/one)
   $(got http://127.0.0.1/)
   $(got $named $site/rooms/); cat body"
-{ printf '%s\n' 200 hello 200 first 401 401 301 200; cat "$machine/etc/nginx/rooms.d/start.html"; } >wanted
+{ printf '%s\n' 200 hello 200 first 401 401 301 200; cat "$machine/var/lib/rooms-front/start.html"; } >wanted
 same 'as on the old machine' "$work/out" wanted
 does 'who has what' 'stat -c "%U %G %a %n" /etc/nginx/rooms.htpasswd /etc/ssl/private/rooms.key /var/lib/rooms/office.rooms
   cat /etc/systemd/system/rooms@office.service.d/override.conf; grep ^KEEP /etc/rooms/office.conf
   systemctl is-active rooms@office rooms@invoices rooms-nightly@office.timer rooms-nightly@invoices.timer'
 prints 'as on the old machine' 'root www-data 640 /etc/nginx/rooms.htpasswd' 'root root 600 /etc/ssl/private/rooms.key' \
   'rooms rooms 600 /var/lib/rooms/office.rooms' '[Service]' MemoryMax=4G KEEP=7 active active active active
-does 'a run of rooms-setup' rooms-setup
+holds 'its names and its own lines' grep -q 'server_name rooms.example rooms.office.example;' "$machine/etc/nginx/sites-available/rooms"
+holds 'which are there' [ -e "$machine/etc/rooms/nginx/server.d/mine.conf" ]
+does 'a run of setup' 'rooms-admin setup'
 holds 'has nothing to change' grep -qx 'nothing to change' "$work/out"
 does 'the machine once more, while it serves' 'rooms-restore --machine latest'
 prints 'has nothing to change either' 'nothing to change'

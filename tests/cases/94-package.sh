@@ -1,5 +1,5 @@
 # tools/package: what the package has in it, and a machine of its own on which it is installed over a
-# version that had one room, serves two, and is removed and purged, while the rooms stay. The machine is a copy of the folder
+# version that had many files of nginx, serves two rooms, and is removed and purged, while the rooms stay. The machine is a copy of the folder
 # ROOMS_DEBIAN, which debootstrap has made by the command below; without that variable it is made
 # anew. It has a network of its own, without a way out.
 
@@ -44,28 +44,26 @@ dpkg-deb -e "$package" control
 units=usr/lib/systemd/system
 docs=usr/share/doc/rooms
 for file in usr/bin/rooms usr/bin/rooms-import usr/bin/rooms-export usr/sbin/rooms-nightly \
-  usr/sbin/rooms-restore usr/sbin/rooms-get usr/sbin/rooms-add usr/sbin/rooms-setup \
+  usr/sbin/rooms-restore usr/sbin/rooms-get usr/sbin/rooms-add usr/sbin/rooms-setup usr/sbin/rooms-admin \
   usr/sbin/rooms-doctor usr/bin/rooms-handover usr/share/man/man8/rooms-doctor.8.gz \
-  usr/sbin/rooms-standby usr/lib/rooms/copying.sh $units/rooms-standby@.service $units/rooms-standby@.timer \
-  usr/share/man/man8/rooms-standby.8.gz usr/share/rooms/room/on etc/nginx/snippets/rooms-front.conf \
-  usr/sbin/rooms-full usr/lib/rooms/pages.pl $units/rooms-full@.service usr/share/man/man8/rooms-full.8.gz \
-  usr/lib/rooms/upkeep.sh usr/lib/rooms/transfer.sh usr/lib/rooms/several.sh usr/lib/rooms/machine.sh \
-  usr/lib/rooms/single.sh usr/lib/rooms/directory.sh usr/lib/rooms/passwords.sh usr/sbin/rooms-directory \
+  usr/sbin/rooms-standby usr/bin/rooms-admin usr/share/rooms/rooms_admin/__main__.py usr/share/man/man8/rooms-admin.8.gz \
+  $units/rooms-standby@.service $units/rooms-standby@.timer \
+  usr/share/man/man8/rooms-standby.8.gz usr/share/rooms/rooms_admin/site.py usr/share/rooms/site.conf.in \
+  usr/sbin/rooms-full $units/rooms-full@.service usr/share/man/man8/rooms-full.8.gz \
+  usr/share/rooms/before.txt usr/sbin/rooms-directory usr/share/rooms/room.conf.in \
   usr/share/rooms/directory.apache usr/share/rooms/signed-in $units/rooms-passwords.service \
   $units/rooms-directory@.service $units/rooms-directory@.timer usr/share/man/man8/rooms-directory.8.gz \
-  $units/rooms@.service $units/rooms-nightly@.service \
-  $units/rooms-nightly@.timer usr/share/rooms/page/index.html usr/share/rooms/room/settings \
-  usr/share/rooms/office.conf usr/share/man/man1/rooms.1.gz usr/share/man/man8/rooms-add.8.gz \
-  usr/share/man/man8/rooms-setup.8.gz usr/lib/rooms/site.sh usr/share/bash-completion/completions/rooms \
+  $units/rooms@.service $units/rooms-nightly@.service $units/nginx.service.d/rooms.conf usr/lib/tmpfiles.d/rooms.conf \
+  $units/rooms-nightly@.timer usr/share/rooms/page/index.html \
+  usr/share/man/man1/rooms.1.gz usr/share/man/man8/rooms-add.8.gz \
+  usr/share/man/man8/rooms-setup.8.gz usr/share/bash-completion/completions/rooms \
   usr/share/bash-completion/completions/rooms-setup usr/share/bash-completion/completions/rooms-nightly \
-  $docs/docs/operating.md $docs/CHANGELOG.md $docs/copyright \
-  etc/nginx/sites-available/rooms etc/nginx/sites-available/rooms-tls; do
+  $docs/docs/operating.md $docs/CHANGELOG.md $docs/copyright; do
   holds "$file is in it" [ -s "files/$file" ]
 done
 same 'the program is the one that was built' files/usr/bin/rooms "$rooms"
-(cd files && find etc -type f | sort | sed 's|^|/|') >wanted
-same 'each setting is a conffile' control/conffiles wanted
-grep -rlE '/usr/local/(s?bin|lib|share)/rooms' files | grep -vE '(sbin/rooms-setup|lib/rooms/single.sh)$' >found
+holds 'no setting is a conffile, which no script may edit' [ ! -e files/etc -a ! -e control/conffiles ]
+grep -rlE '/usr/local/(s?bin|lib|share)/rooms' files >found
 : >nothing
 same 'no file looks below /usr/local' found nothing
 holds 'nothing is in a room' is_missing files/var
@@ -82,42 +80,53 @@ else
   skip 'what lintian says' 'lintian is missing'
 fi
 
-# A package of a version that had one room: its units, its settings, nginx's files of then.
+# A package of the form of 1.0.0: nginx's files are conffiles, and its script enables one of two sites.
 single_package() {
-  local file part
+  local part
   dpkg-deb -R "$older" one || return
-  rm -rf one/$units/* one/usr/sbin/rooms-add one/usr/lib/rooms/{several,single}.sh \
-    one/usr/share/rooms/{room,office.conf} one/etc/nginx/{snippets,rooms.d}
-  mkdir one/etc/nginx/snippets
-  for file in rooms.service rooms-nightly.service rooms-nightly.timer; do
-    sed 's#/usr/local/#/usr/#g' "$data/single/$file" >"one/$units/$file"
+  rm -rf one/usr/sbin/rooms-{add,setup} one/usr/share/rooms/{site.conf.in,room.conf.in,before.txt} \
+    one/usr/lib/tmpfiles.d one/$units/nginx.service.d
+  mkdir -p one/etc/nginx/{snippets,sites-available}
+  for part in http server host page proxy remember remembered machine front directory; do
+    sed 's#/usr/local/#/usr/#g' "$data/before/nginx-$part.conf" >"one/etc/nginx/snippets/rooms-$part.conf"
   done
-  sed 's#/usr/local/#/usr/#g' "$data/single/rooms.conf" >one/etc/rooms/rooms.conf
-  for part in http server; do
-    sed 's#/usr/local/#/usr/#g' "$data/single/nginx-$part.conf" >"one/etc/nginx/snippets/rooms-$part.conf"
-  done
-  cp "$data/single/nginx.conf" one/etc/nginx/sites-available/rooms
-  cp "$data/single/nginx-tls.conf" one/etc/nginx/sites-available/rooms-tls
-  cp "$data/single/rooms-setup" one/usr/sbin/rooms-setup
-  chmod 755 one/usr/sbin/rooms-setup
-  sed -i 's#/etc/rooms/office.conf#/etc/rooms/rooms.conf#g' one/usr/sbin/rooms-{nightly,restore,get}
+  sed 's#/usr/local/#/usr/#g' "$data/before/nginx.conf" >one/etc/nginx/sites-available/rooms
+  sed 's#/usr/local/#/usr/#g' "$data/before/nginx-tls.conf" >one/etc/nginx/sites-available/rooms-tls
+  cat >one/DEBIAN/postinst <<'END'
+#!/bin/sh
+set -e
+getent passwd rooms >/dev/null || useradd --system --user-group --home-dir /var/lib/rooms --shell /usr/sbin/nologin rooms
+mkdir -p /etc/rooms /etc/nginx/rooms.d /var/lib/rooms /var/backups/rooms
+chown rooms:rooms /var/lib/rooms
+chmod 700 /var/lib/rooms /var/backups/rooms
+[ -e /etc/rooms/office.conf ] || printf '%s\n' FILE=/var/lib/rooms/office.rooms PORT=8780 TITLE=office \
+  BACKUPS=/var/backups/rooms KEEP=30 MAIL=root UNIT=rooms@office PROGRAM=/usr/bin/rooms >/etc/rooms/office.conf
+[ -e /etc/nginx/rooms.htpasswd ] || { : >/etc/nginx/rooms.htpasswd; chgrp www-data /etc/nginx/rooms.htpasswd; chmod 640 /etc/nginx/rooms.htpasswd; }
+rm -f /etc/nginx/sites-enabled/default
+ln -sfn ../sites-available/rooms /etc/nginx/sites-enabled/rooms
+echo '<!doctype html>' >/etc/nginx/rooms.d/start.html
+END
+  rm -f one/DEBIAN/{preinst,prerm,postrm}
   (cd one && find etc -type f | sort | sed 's|^|/|' >DEBIAN/conffiles &&
     find usr -type f -print0 | sort -z | xargs -0 md5sum >DEBIAN/md5sums &&
     sed -i 's/^Version: .*/Version: 0.0.8/' DEBIAN/control) &&
     dpkg-deb --root-owner-group --build one "$single" >said 2>&1
 }
-holds 'a package of a version with one room' single_package
+holds 'a package with many files of nginx' single_package
 
 make_machine 'a machine with the package' || return
+if [ ! -x "$machine/usr/bin/python3" ]; then
+  skip 'a machine with the package' "/usr/bin/python3 isn't in it"
+  return
+fi
 furnish_machine
 cp "$single" "$machine/root/"
 
-# A version that had one room, and the README's commands as that one had them.
-one_unit() { sed 's/rooms@office rooms-nightly@office/rooms rooms-nightly/; s/rooms-nightly@office/rooms-nightly/'; }
-does 'a version with one room' "apt-get install -y ./$single"
+# That version, with the README's commands, and a further room by its file of nginx.
+does 'a version with many files of nginx' "apt-get install -y ./$single"
 does 'its files are whole' 'dpkg -V rooms'
 holds 'nothing differs' [ ! -s "$work/out" ]
-does 'the three commands' "$(block README.md 'runuser' | one_unit)"
+does 'the three commands' "$(block README.md 'runuser') && systemctl reload nginx"
 holds 'the room is made' grep -q '^ready$' "$work/out"
 does 'a folder' \
   "$(block docs/operating.md 'rooms.example:80' | sed 's/-u alice/-s -u alice:typed/')"
@@ -131,62 +140,56 @@ replies() { # NAME
   printf hello >wanted
   same "$1: what it has" "$work/out" wanted
 }
+before=$machine/etc/nginx
+sed -e 's/@NAME@/hr/g; s/@PORT@/8781/g; s/@HOST@/hr.example/g' "$data/before/room/host" >"$before/rooms.d/hr.host"
+printf '%s\n' FILE=/var/lib/rooms/hr.rooms PORT=8781 TITLE=hr BACKUPS=/var/backups/rooms UNIT=rooms@hr PROGRAM=/usr/bin/rooms \
+  >"$machine/etc/rooms/hr.conf"
+# What somebody wrote into it: passwords that are remembered, by the block of then, a name, and a line of their own.
+does 'what was set' "cd /etc/nginx && ln -s ../snippets/rooms-remember.conf conf.d/rooms-remember.conf
+  sed -i 's#^auth_basic \".*;#include snippets/rooms-remembered.conf;#
+    s#^auth_basic_user_file /etc/nginx/\\(.*\\).htpasswd;#auth_request /password/\\1;#' snippets/rooms-server.conf
+  sed -i 's/rooms.example/rooms.example files.example/' sites-available/rooms
+  sed -i '/^client_max_body_size/a access_log /var/log/nginx/rooms.log;' snippets/rooms-host.conf; systemctl reload nginx"
+replies 'it is so'
 
-# An upgrade from there, by the blocks of upgrading.md: the room is office then.
-echo '# mine' >>"$machine/etc/rooms/rooms.conf"
-sed -i 's/^KEEP=.*/KEEP=7/' "$machine/etc/rooms/rooms.conf"
-mkdir "$machine/etc/systemd/system/rooms.service.d"
-printf '[Service]\nMemoryMax=3G\n' >"$machine/etc/systemd/system/rooms.service.d/override.conf"
-echo '# mine' >>"$machine/etc/nginx/sites-available/rooms-tls"
-cp "$machine/etc/rooms/rooms.conf" old.conf
+# An upgrade from there, by the blocks of upgrading.md: nginx has one file then.
 cp "$package" "$machine/root/"
-does 'a backup' "$(block docs/upgrading.md 'start rooms-nightly' | one_unit)"
+does 'a backup' "$(block docs/upgrading.md 'start rooms-nightly')"
 backup=$(cat "$work/out")
 holds 'has the room' [ -s "$machine/$backup/office.rooms" ]
 replies 'the server runs after it'
 does 'the newer package' "$(block docs/upgrading.md 'install -y ./rooms_VERSION' | head -n 1)"
-for line in 'file /etc/rooms/office.conf, with the values of rooms.conf' "systemctl restart 'rooms@\*'" \
-  'rooms@office.service is enabled instead of rooms.service' \
-  'rooms-nightly@office.timer is enabled instead of rooms-nightly.timer' \
-  'systemctl stop rooms.service rooms-nightly.timer, and start of the same for office'; do
-  holds "it says: $line" grep -q "^.*$line" "$work/out"
+for line in "systemctl restart 'rooms@\*'" '/etc/nginx/snippets/rooms-server.conf is removed' \
+  'new file /etc/rooms/hr.conf, with HOST=hr.example' '/etc/nginx/conf.d/rooms-remember.conf is removed' \
+  '/etc/nginx/snippets/rooms-host.conf is now /etc/nginx/snippets/rooms-host.conf.dpkg-bak' \
+  'no version had: access_log /var/log/nginx/rooms.log;'; do
+  holds "it says: $line" grep -q "$line" "$work/out"
 done
-replies 'the same room by its new unit'
-tls=$machine/etc/nginx/sites-available/rooms-tls
-holds 'a file that was changed is kept' grep -q '^# mine' "$tls"
-same 'and the new one is beside it' "$tls.dpkg-dist" files/etc/nginx/sites-available/rooms-tls
-mv "$tls.dpkg-dist" "$tls"
-does 'which units are there' 'systemctl is-active rooms@office; systemctl is-active rooms
-  cd /etc/systemd/system && ls *.wants/*rooms* && cat rooms@office.service.d/override.conf
-  grep -E "^(UNIT|PORT|KEEP|FILE|BACKUPS)=" /etc/rooms/office.conf'
-prints 'the new ones, with what was set' active inactive multi-user.target.wants/rooms@office.service \
-  timers.target.wants/rooms-nightly@office.timer '[Service]' MemoryMax=3G \
-  FILE=/var/lib/rooms/office.rooms PORT=8780 BACKUPS=/var/backups/rooms KEEP=7 UNIT=rooms@office
-same 'the settings of before stay' "$machine/etc/rooms/rooms.conf" old.conf
-does 'the restart' "$(block docs/upgrading.md 'sleep 1; curl')"
+replies 'the same room by one file'
+(cd "$machine/etc/nginx" && find . ! -type d | grep -E 'rooms|default' | sort) >found
+printf './%s\n' rooms.htpasswd sites-available/default sites-available/rooms sites-enabled/rooms \
+  snippets/rooms-host.conf.dpkg-bak | sort >wanted
+same 'it is all that nginx has of rooms' found wanted
+does 'its names' "grep -E '^HOSTS=' /etc/rooms/site; curl -s -o /dev/null -w '%{http_code}\n' -H 'Host: hr.example' http://127.0.0.1/doc/x
+  curl -s -o /dev/null -w '%{http_code}\n' -u alice:no 'http://127.0.0.1/doc/x?[1-120]' | sort -u"
+prints 'with tries that are limited' 'HOSTS=rooms.example files.example' 401 401 429
+does 'a second run' 'rooms-admin setup'
+holds 'has nothing to change' grep -qx 'nothing to change' "$work/out"
+does 'the restart' "$(block docs/upgrading.md '127.0.0.1:8780/can')"
 prints 'and the check' '{} 200'
-does 'nginx' "$(block docs/upgrading.md 'nginx -t' | head -n 1)"
+sleep 10
 replies 'the room after an upgrade'
 does 'its next backup' "$(block docs/upgrading.md 'start rooms-nightly')"
 holds 'is beside the others' [ "$(cat "$work/out")" != "$backup" ]
 does 'the start page' 'curl -s http://127.0.0.1/rooms/'
-same 'has the room' "$work/out" "$machine/etc/nginx/rooms.d/start.html"
-
-# Back to the version with one room, and forth again.
-does 'the units change back' "$(block docs/upgrading.md 'disable --now rooms@office' | head -n 1)"
-does 'the version with one room' "$(block docs/upgrading.md allow-downgrades 0.0.8)"
-does 'starts its own' "$(block docs/upgrading.md 'enable --now rooms rooms-nightly.timer') && systemctl reload nginx"
-replies 'the room after the way back'
-does 'which unit runs' 'systemctl is-active rooms; systemctl is-active rooms@office || :'
-prints 'the old one' active inactive
-does 'forth again' "apt-get install -y ./$package && systemctl reload nginx"
-replies 'the room once more'
-does 'which unit runs then' 'systemctl is-active rooms@office; systemctl is-active rooms || :'
-prints 'the new one' active inactive
+same 'has the rooms' "$work/out" "$machine/var/lib/rooms-front/start.html"
 does 'all of it goes' 'systemctl stop rooms@office; apt-get purge -y rooms
   rm -rf /var/lib/rooms /var/backups/rooms /etc/nginx/rooms.htpasswd /etc/systemd/system/rooms*'
 holds 'no settings are left' is_missing "$machine/etc/rooms"
-holds 'nor files of nginx' is_missing "$machine/etc/nginx/rooms.d"
+(cd "$machine/etc/nginx" && find . ! -type d | grep rooms | sort) >found
+echo ./snippets/rooms-host.conf.dpkg-bak >wanted
+same 'nor files of nginx, but what somebody edited' found wanted
+rm "$machine/etc/nginx/snippets/rooms-host.conf.dpkg-bak"
 ls "$machine"/etc/systemd/system/*.wants/*rooms* >found 2>/dev/null
 : >nothing
 same 'nor units' found nothing
@@ -239,7 +242,7 @@ holds 'all of it' grep -q 'left out 0$' "$work/out"
 does 'and goes out' 'echo typed | rooms-export --user carol --no-lists http://127.0.0.1/invoices /archive out &&
   diff -r share out'
 refused() { # NAME TEXT ARGUMENT ..
-  inside "rooms-add ${*:3}"
+  inside "rooms-admin add ${*:3}"
   holds "$1 is refused" [ "$status" = 2 ]
   holds "$1 is refused by its name" grep -qF "$2" "$work/err"
 }
@@ -247,7 +250,7 @@ refused 'a room that is there' 'room exists' invoices
 refused 'a port of nginx' 'port in use: something listens' --port 80 other dora staff
 refused 'a port of a room' 'port in use: /etc/rooms/office.conf has 8780' --port 8780 other dora staff
 refused 'a room without an owner' 'OWNER and GROUP are needed' other
-inside 'rooms-add other "no name" staff'
+inside 'rooms-admin add other "no name" staff'
 holds 'an owner that is none fails' [ "$status" = 1 ]
 holds 'by its name' grep -q 'refused: A3 bad who' "$work/err"
 find "$machine"/etc/{rooms,nginx} "$machine/var/lib/rooms" "$machine/var/backups" -name '*other*' >found
@@ -260,23 +263,41 @@ does 'its own file' 'sed -i "s/office.rooms/invoices.rooms/" /etc/rooms/invoices
 second 'brings it back'
 does 'timers that somebody enabled' 'systemctl enable --now rooms-directory@invoices.timer rooms-standby@invoices.timer
   echo MOST=1 >/etc/rooms/invoices.groups'
-does 'it is taken away' "$(block docs/several.md 'rooms-add --remove')"
+does 'it is taken away' "$(block docs/several.md 'rooms-admin remove')"
 holds 'its file stays' grep -qx 'kept /var/lib/rooms/invoices.rooms' "$work/out"
 holds 'what it takes from a directory too' grep -qx 'kept /etc/rooms/invoices.groups' "$work/out"
 does 'no unit of it is enabled' 'rm /etc/rooms/invoices.groups; ! ls -d /etc/systemd/system/*.wants/*invoices* 2>/dev/null'
 does 'nobody gets there' "curl -s -o /dev/null -w '%{http_code}\n' -u carol:typed $invoice; systemctl is-active rooms@invoices || :"
 prints 'and no server runs' 401 inactive
-does 'the same room again' 'rooms-add --title "Invoices & more" invoices'
+does 'the same room again, by the name that the verb had' 'rooms-add --title "Invoices & more" invoices'
 holds 'with its users' grep -q '^kept /etc/nginx/rooms-invoices.htpasswd: its 1 users may sign in$' "$work/out"
 second 'it is back'
-does 'passwords that are remembered' "$(block docs/passwords.md '^auth_basic ".*;#include')"
-replies 'office is so'
-second 'it is as before'
-does 'those of the other room' "$(block docs/passwords.md 'rooms.d/invoices.path')"
-second 'it is so too'
-does 'where they are' 'stat -c "%U %a" /run/rooms-passwords'
-prints 'for one user' 'www-data 700'
-does 'not remembered any more' "$(block docs/passwords.md '^include snippets/rooms-remembered')"
+# Passwords are remembered, where nginx alone reads them, and checked where it alone enters.
+does 'where they are' 'stat -c "%U %G %a" /run/rooms-front /run/rooms-front/remembered'
+prints 'for one user' 'root www-data 710' 'www-data root 700'
+does 'nobody else has passwords checked' 'setpriv --reuid=65534 --regid=65534 --clear-groups curl -s -o /dev/null -w "%{http_code}\n" \
+  --unix-socket /run/rooms-front/passwords.sock -u alice:typed http://x/password/rooms || :'
+prints 'not even with the right one' 000
+# A killed nginx leaves its socket, and the next one starts by what is done before.
+does 'nginx is killed, and starts again' 'master=$(cat /run/nginx.pid); workers=$(cat /proc/$master/task/*/children)
+  kill -9 $master $workers; while kill -0 $master 2>/dev/null; do sleep 0.05; done; rm -f /run/nginx.pid
+  [ -S /run/rooms-front/passwords.sock ] && ! nginx 2>/dev/null
+  sed -n "s/^ExecStartPre=-//p" /usr/lib/systemd/system/nginx.service.d/rooms.conf | bash -e && nginx'
+replies 'office after that'
+# Files that nginx refuses, and a site that somebody has edited: what was there goes on.
+inside 'sed -i "s/^HOSTS=.*/HOSTS=rooms.example hr.example/" /etc/rooms/site; echo "nonsense;" >/etc/rooms/nginx/server.d/x.conf; rooms-admin setup'
+holds 'files that nginx refuses' [ "$status" = 1 ]
+holds 'by its words' grep -q 'nginx refuses its files, and they are as before' "$work/err"
+holds 'the site is the old one' eval '! grep -q "server_name rooms.example hr.example" "$machine/etc/nginx/sites-available/rooms"'
+does 'once they are mended' 'rm /etc/rooms/nginx/server.d/x.conf; rooms-admin setup && nginx -t -q'
+holds 'the site is new' grep -q 'server_name rooms.example hr.example' "$machine/etc/nginx/sites-available/rooms"
+echo '# mine' >>"$machine/etc/nginx/sites-available/rooms"
+inside 'sed -i "s/^HOSTS=.*/HOSTS=rooms.example/" /etc/rooms/site; rooms-admin setup'
+holds 'a site that somebody edited' [ "$status" = 1 ]
+holds 'stays' grep -q '^# mine' "$machine/etc/nginx/sites-available/rooms"
+inside 'rooms-admin add more dora staff'
+holds 'no room is added to it' [ "$status" = 2 -a ! -e "$machine/etc/rooms/more.conf" ]
+does 'the new one in its place' 'cd /etc/nginx/sites-available && mv rooms.new rooms && rooms-admin setup && nginx -t -q'
 second 'nothing else has changed'
 
 # An upgrade to the same form.
@@ -287,7 +308,7 @@ holds 'it says what is left' grep -q "systemctl restart 'rooms@\*'" "$work/out"
 room >after
 same 'no room is touched' after before
 holds 'settings stay' grep -q '^# mine' "$machine/etc/rooms/office.conf"
-does 'the restart' "$(block docs/upgrading.md 'sleep 1; curl')"
+does 'the restart' "$(block docs/upgrading.md '127.0.0.1:8780/can')"
 prints 'and the check' '{} 200'
 replies 'the room after an upgrade'
 second 'the other room too'
@@ -323,7 +344,19 @@ else
   skip 'a full disk while installing' "no mount: $(head -c 200 said)"
 fi
 
-# It is removed, installed again, and purged.
+# It is removed, installed again, and purged. Beside these rooms there is one for the front end of
+# another machine, and a place of one that is there.
+does 'certificates of machines' "mkdir -p -m 700 /etc/rooms/machines && cd /etc/rooms/machines &&
+  openssl req -x509 -newkey rsa:2048 -noenc -days 9 -subj /CN=localhost -keyout machine.key -out machine.pem 2>/dev/null &&
+  cp machine.pem authority.pem && cp machine.pem front.pem && cp machine.key front.key"
+does 'a room behind another front end, and one on another machine' \
+  'rooms-admin add --behind ledger dora staff && rooms-admin add --on 127.0.0.1 archive'
+behind() { # NAME: who has no certificate gets no further
+  does "$1" "curl -sk -o /dev/null -w '%{http_code}\n' https://localhost:8443/ledger/doc/x"
+  prints "$1, which asks for a certificate" 400
+}
+behind 'the port of the other front end'
+does 'systemctl stops' 'systemctl stop rooms@ledger'
 does 'systemctl stops' 'systemctl stop rooms@office rooms@invoices'
 room >before
 does 'it is removed' 'apt-get remove -y rooms'
@@ -334,6 +367,9 @@ holds 'the program is gone' is_missing "$machine/usr/bin/rooms"
 holds 'nginx shows it no more' is_missing "$machine/etc/nginx/sites-enabled/rooms"
 holds 'no unit is enabled' [ -z "$(find "$machine/etc/systemd/system" -name 'rooms*')" ]
 does 'nginx takes the rest' 'nginx -t -q'
+# Nothing makes the folder of its socket when the machine starts.
+does 'nginx starts with the rest' "nginx -s stop; while [ -e /run/nginx.pid ]; do sleep 0.05; done
+  rm -rf /run/rooms-front; nginx"
 room >after
 same 'the room stays' after before
 does 'it is installed again' "$(block docs/upgrading.md 'enable --now "$unit"')"
@@ -341,20 +377,26 @@ for room in office invoices; do
   holds "it says how $room is served again" grep -qF \
     "the room $room isn't served, or has no backups, until: systemctl enable --now rooms@$room rooms-nightly@$room.timer" "$work/out"
 done
+behind 'it is there again'
+does 'so is the check of passwords' 'stat -c "%U %G %a" /run/rooms-front; cd /run/rooms-front && ls *.sock'
+prints 'where nginx alone enters' 'root www-data 710' passwords.sock
+does 'those two rooms go' "systemctl stop rooms@ledger; rooms-admin remove ledger && rooms-admin remove archive &&
+  rm -r /etc/rooms/machines /etc/nginx/rooms-archive.htpasswd /var/lib/rooms/ledger.rooms* /var/backups/rooms/ledger"
+room >before
 holds 'settings have stayed' grep -q '^# mine' "$machine/etc/rooms/office.conf"
 replies 'the room is served again'
 second 'the other one too'
 does 'a certificate' 'openssl req -x509 -newkey rsa:2048 -noenc -days 9 \
-  -subj /CN=rooms.example -keyout k.pem -out c.pem 2>/dev/null && rooms-setup --tls c.pem k.pem'
+  -subj /CN=rooms.example -keyout k.pem -out c.pem 2>/dev/null && rooms-admin setup --tls c.pem k.pem'
 does 'removed with TLS' 'systemctl stop rooms@office rooms@invoices; apt-get remove -y rooms'
 does 'installed with TLS' \
-  "apt-get install -y /root/$package && readlink /etc/nginx/sites-enabled/rooms >link"
-holds 'TLS stays' [ "$(cat "$machine/root/link")" = ../sites-available/rooms-tls ]
+  "apt-get install -y /root/$package && curl -sk -o /dev/null -w '%{http_code}\n' https://127.0.0.1/ && grep -c 'listen 443' /etc/nginx/sites-available/rooms"
+holds 'TLS stays' grep -qx 401 "$work/out"
 room >before
 # What somebody has put there, as other pages say.
-own='/etc/rooms/directory.secret /etc/rooms/machines /etc/rooms/office.groups /etc/rooms/restic.password /etc/rooms/session.apache
-  /etc/nginx/conf.d/rooms-tickets.conf /etc/nginx/snippets/rooms-session.conf /etc/systemd/system/rooms-session.service'
-does 'what is beside the settings' "mkdir /etc/rooms/machines; : | tee $(echo $own | sed 's# /etc/rooms/machines##')"
+own='/etc/rooms/directory.secret /etc/rooms/machines /etc/rooms/nginx /etc/rooms/office.groups /etc/rooms/restic.password /etc/rooms/session.apache
+  /etc/systemd/system/rooms-session.service'
+does 'what is beside the settings' "mkdir /etc/rooms/machines; : | tee /etc/rooms/nginx/http.d/mine.conf $(echo $own | sed 's# /etc/rooms/\(machines\|nginx\)##g')"
 does 'purged' 'apt-get purge -y rooms'
 printf '%s\n' /var/lib/rooms /var/backups/rooms $own /etc/nginx/rooms.htpasswd /etc/nginx/rooms-invoices.htpasswd | sort >wanted
 # It is removed first, which says that all of /etc/rooms stays.
@@ -363,7 +405,7 @@ same 'it says what stays, and where' found wanted
 does 'it stays' "ls -d $(echo $own)"
 does 'until it is removed' "rm -r $(echo $own)"
 holds 'the settings are gone' [ -z "$(ls -A "$machine/etc/rooms")" ]
-holds "and nginx's files of rooms" is_missing "$machine/etc/nginx/rooms.d"
+holds "and nginx's file of rooms" is_missing "$machine/etc/nginx/sites-available/rooms"
 holds 'the passwords stay' [ -s "$machine/etc/nginx/rooms.htpasswd" ]
 holds 'those of the other room too' [ -s "$machine/etc/nginx/rooms-invoices.htpasswd" ]
 does 'nginx takes what is left' 'nginx -t -q'
@@ -389,16 +431,14 @@ top=$PWD/files/usr/share/doc/rooms
 does 'the install by hand is taken away' "$(block docs/upgrading.md 'rm -f bin/rooms')"
 find "$machine/usr/local" "$machine/etc/systemd" -name 'rooms*' >found
 same 'nothing of it is left' found nothing
-for file in sites-available/rooms sites-available/rooms-tls snippets/rooms-{server,host,page,remember}.conf; do
-  same "/etc/nginx/$file is the package's" "$machine/etc/nginx/$file" "files/etc/nginx/$file"
-done
-same 'and so are the settings' "$machine/etc/rooms/office.conf" files/usr/share/rooms/office.conf
 does 'the package after it' "$(block docs/upgrading.md 'enable --now "$unit"')"
 replies 'the same room by the package'
+holds 'its page is the package'\''s' grep -q 'alias /usr/share/rooms/page/' "$machine/etc/nginx/sites-available/rooms"
+holds 'and its program' grep -qx PROGRAM=/usr/bin/rooms "$machine/etc/rooms/office.conf"
 cat "$machine"/etc/rooms/{directory,session}.apache >found
 printf 'AliasMatch ^/password/ /usr/share/rooms/signed-in\n%.0s' 1 2 >wanted
 same 'Apache is told where the file is now' found wanted
 holds 'the file is there' [ -s "$machine/usr/share/rooms/signed-in" ]
 does 'what was enabled' "[ ! -e rooms.units ] && readlink -e /etc/systemd/system/*.wants/rooms* | sed 's#.*/systemd/system/##'"
-prints 'is so again, by the units of the package' rooms-passwords.service rooms@.service rooms-directory@.timer rooms-nightly@.timer \
+prints 'is so again, by the units of the package' rooms-firewall.service rooms-passwords.service rooms@.service rooms-directory@.timer rooms-nightly@.timer \
   rooms-standby@.timer

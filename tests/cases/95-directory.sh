@@ -1,4 +1,4 @@
-# Passwords that a directory checks: contrib/install --directory, and a room behind nginx, Apache and slapd.
+# Passwords that a directory checks: rooms-admin setup --directory, and a room behind nginx, Apache and slapd.
 
 . "$here/front.sh"
 . "$here/directory.sh"
@@ -14,10 +14,11 @@ tree() { (cd machine && find . -exec ls -ld --time-style=full-iso {} + && find .
 # The settings, and what is made of them.
 echo 'reader-word' >secret
 chmod 600 secret
-installs
+mkdir -p machine/etc/nginx
+admin setup
 tree >before
 refuses() { # NAME TEXT: what is in 'settings'
-  installs --directory "$PWD/settings"
+  admin setup --directory "$PWD/settings"
   says "$1" 2 "$2"
   tree >after
   same "$1: nothing is changed" after before
@@ -39,38 +40,38 @@ chmod 600 secret
 rm settings
 refuses 'no settings' 'no settings'
 good >settings
-installs --directory
-says 'no file' 2 'needs a value'
-installs --directory "$PWD/settings" --dry-run
-says 'what would be done' 0 'would: link /etc/nginx/conf.d/rooms-remember.conf to ../snippets/rooms-directory.conf'
+admin setup --directory
+says 'no file' 2 'bad arguments'
+admin setup --directory "$PWD/settings" --dry-run
+says 'what would be done' 0 'would: file /etc/rooms/directory.apache'
 tree >after
 same 'is not done' after before
-cp machine/etc/nginx/snippets/rooms-server.conf server.before
-"$contrib/rooms-add" --destdir "$PWD/machine" invoices >/dev/null
-installs --directory "$PWD/settings"
+admin add invoices
+site=machine/etc/nginx/sites-available/rooms
+cp "$site" site.before
+admin setup --directory "$PWD/settings"
 says 'a directory' 0 'file /etc/rooms/directory.apache'
 says 'a room with passwords of its own' 0 'invoices keeps its own passwords'
-holds 'the site asks no file' [ "$(grep -c '^auth_basic' machine/etc/nginx/snippets/rooms-server.conf)" = 0 ]
+holds 'nobody else reads the key' [ "$(stat -c %a machine/etc/rooms/directory.apache machine/etc/rooms/passwords.key | tr '\n' ' ')" = '600 600 ' ]
+holds 'the site asks no file' grep -qF 'location ~ ^/password/(?<room_file>rooms)$' "$site"
 tree >before
-installs --directory "$PWD/settings"
+admin setup --directory "$PWD/settings"
 says 'the same again' 0 'nothing to change'
-installs
+admin setup
 tree >after
 same 'and later runs keep it' after before
 echo 'WAIT=5' >>settings
-installs --directory "$PWD/settings"
-says 'other settings' 0 'new /etc/rooms/directory, the old one is'
+admin setup --directory "$PWD/settings"
+says 'other settings' 0 'new file /etc/rooms/directory'
 cp -Rp machine kept
 # A further room was told to ask the directory too.
-cp machine/etc/nginx/rooms.d/invoices.path room.before
-block docs/directory.md rooms.d/invoices.path | sed -e "s#/etc/nginx/rooms.d#$PWD/machine&#" -e '/^nginx -t/d' >pasted
-bash -eu pasted
-holds 'a further room asks it' grep -qxF '    auth_request /password/rooms-invoices;' machine/etc/nginx/rooms.d/invoices.path
-installs --directory none
-says 'none' 0 'link /etc/nginx/conf.d/rooms-remember.conf is removed'
-says 'none for a further room' 0 'new /etc/nginx/rooms.d/invoices.path'
-same 'the site asks its file again' machine/etc/nginx/snippets/rooms-server.conf server.before
-same 'and a further room its own' machine/etc/nginx/rooms.d/invoices.path room.before
+block docs/directory.md rooms/invoices.conf | sed -e "s#/etc/rooms#$PWD/machine&#; s#rooms-admin setup#$contrib/& --destdir $PWD/machine#" >pasted
+bash -eu pasted >/dev/null
+holds 'a further room asks it' grep -qF '(?<room_file>rooms-invoices|rooms)$' "$site"
+admin setup --directory none
+says 'none' 0 'new file /etc/rooms/office.conf, with PASSWORDS='
+says 'none for a further room' 0 'new file /etc/rooms/invoices.conf, with PASSWORDS='
+same 'the site is what it was' "$site" site.before
 rm -rf machine
 mv kept machine
 
@@ -128,7 +129,7 @@ for field in 'Room-User: root' 'room-user: root' 'Room-User:'; do
 done
 ask 'nobody asks for a check from outside' 404 - bob:bob-word /password/rooms
 ask 'a change by another site' 403 - alice:alice-word /doc/f -X PUT --data-binary x -H 'Origin: http://elsewhere.example'
-ask 'the start page asks for none' 404 - '' /rooms/
+ask 'the start page asks for none' 200 - '' /rooms/
 ask 'its style neither' 200 - '' /rooms/style.css
 # Apache itself answers nothing else.
 for target in / /password /password/ /password/none /password/rooms/.. /rooms /server-status; do
@@ -136,29 +137,37 @@ for target in / /password /password/ /password/none /password/rooms/.. /rooms /s
   holds "Apache has no $target: $got" [ "$got" != 200 ]
 done
 
-by_apache() { curl -s -o /dev/null -w '%{http_code}' -u "$1" "http://127.0.0.1:$apache/password/$2"; } # USER:PASSWORD ROOM
+by_apache() { curl -s -o /dev/null -w '%{http_code}' -H "$(key_of_nginx)" -u "$1" "http://127.0.0.1:$apache/password/$2"; } # USER:PASSWORD ROOM
+# Who isn't nginx tries no password there, right or wrong.
+for who in bob:bob-word bob:x; do
+  for key in 'x: y' 'Rooms-Key:' "Rooms-Key: $(printf '%048d' 0)"; do
+    got=$(curl -s -o /dev/null -w '%{http_code}' -H "$key" -u "$who" "http://127.0.0.1:$apache/password/rooms")
+    holds "Apache answers $who without the key: $got" [ "$got" = 403 ]
+  done
+done
 for who in bob:bob-word=200 BOB:bob-word=200 bob:x=401 alice:alice-word=401; do
   holds "${who%=*} in a room for a group" [ "$(by_apache "${who%=*}" rooms-invoices)" = "${who#*=}" ]
   holds "and in another one, ${who%=*}" [ "$(by_apache "${who%=*}" rooms-hr)" = "$([[ $who = *word* ]] && echo 200 || echo 401)" ]
 done
 
 # A further room keeps its own passwords and names, until it is told otherwise as directory.md says.
-for_here machine/etc/nginx/rooms.d/invoices.path >rooms.d/invoices.path
 printf 'Carol:{PLAIN}c\n' >rooms-invoices.htpasswd
 chmod 644 rooms-invoices.htpasswd
+take_front
 reload_front
 holds 'a further room' awaits "$patience" answers 200 Carol:c /invoices/me
 answer Carol:c /invoices/me
 holds 'has names of its own' grep -qx $'Room-User: Carol\r' "$work/head"
 ask 'and passwords of its own' 401 - carol:carol-word /invoices/me
-block docs/directory.md rooms.d/invoices.path | sed -e "s#/etc/nginx/#$PWD/#g" -e '/^nginx -t/d' >pasted
-bash -eu pasted
+block docs/directory.md rooms/invoices.conf | sed -e "s#/etc/rooms#$PWD/machine&#; s#rooms-admin setup#$contrib/& --destdir $PWD/machine#" >pasted
+bash -eu pasted >/dev/null
+take_front
 reload_front
 holds 'then it asks the directory' awaits "$patience" answers 200 bob:bob-word /invoices/me
 answer BOB:bob-word /invoices/me
 holds 'and has its names' grep -qx $'Room-User: bob\r' "$work/head"
 ask 'for the group that may enter' 401 - carol:carol-word /invoices/me
-ask 'its own passwords count no more' 401 - Carol:c /invoices/me
+holds 'its own passwords count no more, once they are forgotten' awaits 60 answers 401 Carol:c /invoices/me
 ask 'the room office lets carol in' 200 - carol:carol-word /me
 
 # A password that is changed: the old one counts for as long as two memories of ten seconds.

@@ -1,6 +1,7 @@
-# A room behind nginx, by contrib/nginx.conf: passwords, the caller's name, other sites, slow callers and large ones.
+# A room behind nginx, by the file that rooms-admin writes: passwords, the caller's name, other sites, slow callers and large ones.
 
 . "$here/front.sh"
+top=$here/..
 if [ -z "$nginx" ] || ! has curl; then
   skip 'behind nginx' 'nginx or curl is missing'
   return
@@ -202,13 +203,11 @@ fi
 
 ask 'a document for later' 204 '' alice:a /doc/f -X PUT --data-binary kept
 
-# Further rooms, by rooms-add: invoices at a path, hr at a host. Users of one are no users of another.
-"$here/../contrib/install" --destdir "$PWD/machine" --program "$rooms" >installed 2>&1 </dev/null
-adds() { "$here/../contrib/rooms-add" --destdir "$PWD/machine" "$@" </dev/null >said 2>&1; }
-take_front() { rm -f rooms.d/*; for file in machine/etc/nginx/rooms.d/*; do for_here "$file" >"rooms.d/${file##*/}"; done; }
+# Further rooms: invoices at a path, hr at a host. Users of one are no users of another.
 answers() { [ "$(curl -s -o "$work/body" -w '%{http_code}' ${reach[@]+"${reach[@]}"} ${2:+-u "$2"} "$base$3")" = "$1" ]; }
-holds 'a room at a path' adds --port $((port + 5)) --title 'Invoices & <orders>' invoices
-holds 'a room at a host' adds --port $((port + 6)) --host hr.example hr
+adds() { admin "$@"; [ "$status" = 0 ]; }
+holds 'a room at a path' adds add --port $((port + 5)) --title 'Invoices & <orders>' invoices
+holds 'a room at a host' adds add --port $((port + 6)) --host hr.example hr
 take_front
 printf 'carol:{PLAIN}c\nbob:{PLAIN}x\n' >rooms-invoices.htpasswd
 printf 'dora:{PLAIN}d\n' >rooms-hr.htpasswd
@@ -257,7 +256,7 @@ for field in 'Sec-Fetch-Site: cross-site' 'Origin: http://elsewhere.example'; do
   ask "PUT at a path, $field" 403 - carol:c /invoices/doc/f -X PUT --data-binary x -H "$field"
 done
 ask 'the start page, without a password' 200 - '' /rooms/
-same 'has the rooms' "$work/body" machine/etc/nginx/rooms.d/start.html
+same 'has the rooms' "$work/body" machine/var/lib/rooms-front/start.html
 holds 'by their titles' grep -qF '<a href="/invoices/">Invoices &amp; &lt;orders&gt;</a>' "$work/body"
 ask 'its style' 200 - '' /rooms/style.css
 ask 'the start page without a slash' 301 - '' /rooms
@@ -266,26 +265,13 @@ reach=(-H 'Host: hr.example')
 ask 'the room at a host, of which no server runs' 502 - dora:d /doc/f
 ask 'carol is nobody there' 401 - carol:c /doc/f
 ask 'nor is alice' 401 - alice:a /doc/f
-ask 'there is no other room at that host' 404 - dora:d /invoices/doc/f
+ask 'a path at that host is its own' 502 - dora:d /invoices/doc/f
 reach=(-H 'Host: another.example')
 ask 'the site answers for all other names' 200 kept bob:b /doc/f
 reach=()
 
-# Passwords that are remembered, by the commands of passwords.md.
-pasted() { page_block passwords 'Remembered for ten seconds' "$1" | sed -e '/nginx -t/d' >pasted; bash -eu pasted; } # BLOCK
-cp snippets/rooms-server.conf server.before
+# Passwords are remembered.
 cp rooms.htpasswd all.htpasswd
-pasted 1
-reloaded eval 'answers 404 "" /password/rooms && [ -d remembered ]'
-ask 'the other room is as before' 200 invoice bob:x /invoices/doc/f
-ask 'bob of office is nobody there as before' 401 - bob:b /invoices/doc/f
-pasted 2
-holds 'nothing else asks for a password of office' [ "$(grep -c '^auth_basic' snippets/rooms-server.conf)" = 0 ]
-checked() {
-  curl -s -o "$work/body" -D "$work/head" "$base/invoices/doc/f"
-  grep -q 'realm="rooms-invoices"' "$work/head"
-}
-reloaded checked
 for turn in 1 2; do
   ask "alice, remembered $turn" 200 kept alice:a /doc/f
   ask "bob, remembered $turn" 200 kept bob:b /doc/f
@@ -315,8 +301,30 @@ grep -rlF -e "$word" . 2>/dev/null | grep -v '^\./remembered/' >found
 same 'no password is kept elsewhere' found nothing
 holds 'it is where the page says' eval 'grep -rqF -e "$word" remembered'
 holds 'which only one user reads' [ -z "$(find remembered -perm /077)" ]
-holds 'and which is in memory as installed' grep -q '^proxy_cache_path /run/' "$here/../contrib/nginx-remember.conf"
-holds 'without a way over the disk' grep -q 'use_temp_path=off' "$here/../contrib/nginx-remember.conf"
+holds 'and which is in memory as installed' grep -q '^proxy_cache_path /run/' machine/etc/nginx/sites-available/rooms
+holds 'without a way over the disk' grep -q 'use_temp_path=off' machine/etc/nginx/sites-available/rooms
+# Nobody else reaches what checks passwords: no port does, and the socket's folder is nginx's.
+listening() { # PROCESS: the addresses at which it listens
+  local inodes
+  inodes=$(find "/proc/$1/fd" -printf '%l\n' | sed -n 's/^socket:\[\(.*\)\]$/\1/p' | tr '\n' ' ')
+  awk -v inodes=" $inodes " '$4 == "0A" && index(inodes, " " $10 " ") { print substr($2, length($2) - 3) }' \
+    /proc/net/tcp
+}
+listening "$proxy" | sort -u >found
+printf '%04X\n' "$front" >wanted
+same 'nginx listens at the port of the site alone' found wanted
+asks_there() { # USER NAME:PASSWORD: what 80 tries in the name of another address are answered
+  setpriv --reuid="$1" --regid="$1" --clear-groups curl -s -m 9 -o /dev/null -w '%{http_code}\n' \
+    --unix-socket checks/passwords.sock -u "$2" -H 'X-Real-IP: 192.0.2.7' 'http://x/password/rooms?[1-80]' |
+    sort | uniq -c | awk '{ print $2 }'
+}
+if [ "$(id -u)" = 0 ] && has setpriv; then
+  holds 'nobody has passwords checked there' [ "$(asks_there 65534 alice:x)" = 000 ]
+  holds 'nor shuts another address out' [ "$(asks_there 65534 alice:a)" = 000 ]
+  holds 'and nginx does' grep -q 204 <<<"$(asks_there 33 alice:a)"
+else
+  skip 'other users at the socket' 'no root, or no setpriv'
+fi
 # Who is removed gets in for ten seconds more, and no longer.
 ask 'bob, before he is removed' 200 kept bob:b /doc/f
 sed -i '/^bob:/d' rooms.htpasswd
@@ -343,25 +351,14 @@ holds 'a page that asks for much meets no limit' [ "$(awk '{ print $1, $2 }' ask
 curl -s -o "$work/body" -w '%{http_code}\n' "$base/doc/f?[1-100]" | sort | uniq -c >asked
 holds 'what has no password is asked for one' [ "$(awk '{ print $1, $2 }' asked)" = '100 401' ]
 says_all bob:b /doc/f
-pasted 3
-same 'switched off, the file is as it was' snippets/rooms-server.conf server.before
-unchecked() { answers 401 '' /password/rooms; }
-reloaded unchecked
-ask 'bob once more' 200 kept bob:b /doc/f
-ask 'bob of the other room once more' 200 invoice bob:x /invoices/doc/f
-sed -i '/^bob:/d' rooms.htpasswd
-ask 'bob, removed at once' 401 - bob:b /doc/f
-cp all.htpasswd rooms.htpasswd
-
 # A room is taken away: nobody gets to it, and its file stays.
-holds 'it is taken away' adds --remove invoices
+holds 'it is taken away' adds remove invoices
 take_front
 reloaded answers 404 alice:a /invoices/doc/f
 ask 'it is not there any more' 404 - alice:a /invoices/doc/f
 kill -9 "$second"
 wait "$second" 2>/dev/null
 gives 'its file is sound' 0 'sound\n' '' verify G
-rm -f rooms.d/*
 
 stop_server
 ask 'no server behind it' 502 - bob:b /doc/f
@@ -376,18 +373,38 @@ if ! has openssl; then
   return
 fi
 
-for n in 3 4 5; do page_block operating TLS "$n"; done >certify
+mkdir own run
+on_own() { ROOMS_ROOT=$PWD/own ROOMS_RUN=$PWD/run "$top/contrib/rooms-admin" "$@"; }
+{ echo "top='$top'"; declare -f on_own; page_block operating TLS 3 | sed 's/^rooms-admin/on_own/'; } >certify
 if ! bash -eu certify >certify.out 2>&1; then
   fail 'a certificate' "it can't be made: $(tail -c 400 certify.out)"
   return
 fi
+ln -s own/etc/ssl/rooms.pem own/etc/ssl/private/rooms.key .
+ln -s own/root/authority .
 authority=$PWD/authority/authority
 certified() { openssl verify -x509_strict -verify_hostname "$1" -CAfile "$authority.pem" "$2" >verified 2>&1; }
 holds 'the authority certifies the name' certified rooms.example rooms.pem
 holds 'nobody else reads its key' [ -n "$(find "$authority.key" -perm 600)" ]
-holds 'nor that of the site' [ -n "$(find rooms.key -perm 600)" ]
-sed 's|rooms\.\([kcp]\)|other.\1|g' certify | sed '1,/authority.pem$/d' >certify-other
-name=bank.test bash -eu certify-other >certify.out 2>&1
+holds 'nor that of the site' [ -n "$(find -L rooms.key -perm 600)" ]
+holds 'it says what is left' grep -qx 'to use it: rooms-admin setup --tls /etc/ssl/rooms.pem /etc/ssl/private/rooms.key && nginx -t && systemctl reload nginx' certify.out
+refuses_host() { # NAME TEXT HOST ..
+  on_own certificate "${@:3}" >"$work/out" 2>"$work/err" </dev/null
+  status=$?
+  told "$1" 2 "$2"
+  same "$1: nothing is changed" rooms.pem rooms.pem.before
+}
+cp rooms.pem rooms.pem.before
+refuses_host 'a name of another domain' 'not for bank.test: /root/authority/authority.pem can'"'"'t certify it' bank.test
+refuses_host 'one of several' 'not for rooms.example, bank.test: ' rooms.example bank.test
+refuses_host 'an address' "'127.0.0.1' isn't the name of a machine" 127.0.0.1
+refuses_host 'a name with a line end' "isn't the name of a machine" $'rooms.example\nDNS:bank.test'
+refuses_host 'no name' 'bad arguments'
+# Whoever has the key can't either.
+openssl req -new -key rooms.key -subj /CN=bank.test -out other.csr
+openssl x509 -req -in other.csr -days 9 -set_serial 7 -CA "$authority.pem" -CAkey "$authority.key" \
+  -extfile <(printf '%s\n' subjectAltName=DNS:bank.test basicConstraints=critical,CA:false keyUsage=critical,digitalSignature \
+    subjectKeyIdentifier=hash authorityKeyIdentifier=keyid) -out other.pem 2>/dev/null
 holds 'a certificate for another domain' [ -s other.pem ]
 holds 'counts for nothing' eval '! certified bank.test other.pem && grep -q "permitted subtree" verified'
 
@@ -441,11 +458,9 @@ fi
 curl -s -o "$work/body" "${reach[@]}" --tls-max 1.1 --ciphers 'ALL:@SECLEVEL=0' -u bob:b "$base/doc/tls"
 holds 'older versions of TLS are refused' [ $? = 35 ]
 
-# A room at a host has TLS with the site. (The certificate isn't for it, which rooms-add would refuse.)
-for_here machine/etc/nginx/rooms.d/hr.host-tls >rooms.d/hr.host-tls
+# A room at a host has TLS with the site. (The certificate isn't for it, which 'add' refuses.)
 base=https://hr.example:$secure
 reach=(--resolve "hr.example:$secure:127.0.0.1" -k)
-reloaded answers 502 dora:d /doc/f
 ask 'the room at a host, with TLS' 502 - dora:d /doc/f
 ask 'alice is nobody there, with TLS' 401 - alice:a /doc/f
 answer dora:d /doc/f
@@ -456,15 +471,11 @@ ask 'and no password without TLS' 301 - '' /doc/f
 base=https://rooms.example:$secure
 reach=(--resolve "rooms.example:$secure:127.0.0.1" --cacert "$authority.pem")
 ask 'the first room beside it' 200 hello bob:b /doc/tls
-rm rooms.d/hr.host-tls
 
 # A renewal: the same key, and another certificate, which nginx takes when it reloads its files.
 serial() { openssl s_client -connect "127.0.0.1:$secure" -servername rooms.example </dev/null 2>/dev/null | openssl x509 -noout -serial; }
 serial >before
-{
-  page_block operating TLS 3 | head -n 1
-  page_block operating TLS 5
-} >renew
+cp certify renew
 cp rooms.pem rooms.pem.before
 mv authority/authority.key away.key
 holds "without the authority's key none is made" eval '! bash -eu renew >certify.out 2>&1'
@@ -487,26 +498,19 @@ if [ "$(id -u)" != 0 ] || ! has nft || ! has ip || ! has setpriv || ! getent pas
   skip 'ports that are closed to other users' 'no root, or no nft, ip, setpriv, www-data, or network of its own'
   return
 fi
-{
-  # As Debian's package has it.
-  printf '%s\n' '#!/usr/sbin/nft -f' '' 'flush ruleset' '' 'table inet filter {'
-  for chain in input forward output; do
-    printf '\tchain %s {\n\t\ttype filter hook %s priority filter;\n\t}\n' $chain $chain
-  done
-  echo '}'
-} >nftables.conf
-page_block operating 'What runs' 2 |
-  sed "s#/etc/nftables.conf#$PWD/nftables.conf#; s#systemctl enable.*#nft -f $PWD/nftables.conf#" >close
-for n in 8780 8998 8999; do open_room "P$n"; done
+page_block operating 'What runs' 1 >close
+# It is loaded again, as after an upgrade, and where nothing of it is loaded.
+printf '%s\n' "nft -f '$top/contrib/rooms.nft'" "nft -f '$top/contrib/rooms.nft'" "$(<close) >listed" >close
+for n in 8777 8780 8998 8999; do open_room "P$n"; done
 cat >tried <<'END'
 ip link set lo up
-for n in 8780 8998 8999; do
+for n in 8777 8780 8998 8999; do
   "$1" serve "P$n" --port "$n" --count 100 >"listens.$n" 2>/dev/null &
   for turn in {1..500}; do [ ! -s "listens.$n" ] || break; sleep 0.02; done
 done
 reached() {
   for user in root www-data 65534; do
-    for n in 8780 8998 8999; do
+    for n in 8777 8780 8998 8999; do
       ! setpriv --reuid=$user --regid=0 --clear-groups bash -c "exec 3<>/dev/tcp/127.0.0.1/$n" 2>/dev/null || echo -n "$user $n, "
     done
   done
@@ -518,6 +522,7 @@ reached
 kill $(jobs -p)
 END
 unshare --net bash tried "$rooms" >got 2>said
-printf '%s\n' 'root 8780, root 8998, root 8999, www-data 8780, www-data 8998, www-data 8999, 65534 8780, 65534 8998, 65534 8999, ' \
-  'root 8780, root 8998, root 8999, www-data 8780, www-data 8998, www-data 8999, 65534 8999, ' >wanted
+both='root 8777, root 8780, root 8998, root 8999, www-data 8777, www-data 8780, www-data 8998, www-data 8999, '
+printf '%s\n' "${both}65534 8777, 65534 8780, 65534 8998, 65534 8999, " "${both}65534 8999, " >wanted
 same "the rule closes them to all but root and the front end: $(head -c 200 said)" got wanted
+holds 'loaded twice it is one rule' [ "$(grep -c 'tcp dport 8777-8998' listed)" = 1 ]

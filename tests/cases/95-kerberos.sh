@@ -15,7 +15,8 @@ if [ "${#missing[@]}" != 0 ] || [ "$(id -u)" != 0 ] || [ "$loopback" = no ] || !
 fi
 PATH=$PATH:/usr/sbin:/sbin
 pasted() { # TEXT-IN-THE-BLOCK: a block of the page, in this folder
-  block docs/directory.md "$1" | sed -e "s#/etc/\(nginx\|rooms\)/#$PWD/#g; s#/etc/krb5.conf#$PWD/krb5.conf#g" \
+  block docs/directory.md "$1" | sed -e "s#/etc/rooms/nginx/#@OWN@/#g; s#/etc/rooms/#$PWD/#g; s#/etc/krb5.conf#$PWD/krb5.conf#g" \
+    -e "s#@OWN@#$PWD/machine/etc/rooms/nginx#g" \
     -e '/^apt-get /d; /^systemctl /d; /^nginx -t/d' >block
   [ -s block ] || echo "echo no block with: $1 >&2; exit 1" >block
   bash -eu block >"$work/out" 2>"$work/err" </dev/null || fail "the block with $1" "$(head -c 400 "$work/out" "$work/err")"
@@ -155,12 +156,15 @@ holds 'is asked for either' [ "$(challenges)" = 'Negotiate Basic ' ]
 by_apache() { # STATUS NAME ROOM
   ticket "$2"
   holds "$2 at $3 gets $1" \
-    [ "$(curl -s -o "$work/body" -w '%{http_code}' "${reach[@]}" --negotiate -u : "http://rooms.example:$apache/password/$3")" = "$1" ]
+    [ "$(curl -s -o "$work/body" -w '%{http_code}' "${reach[@]}" --negotiate -u : -H "$(key_of_nginx)" "http://rooms.example:$apache/password/$3")" = "$1" ]
 }
 by_apache 200 bob rooms-invoices
 by_apache 401 alice rooms-invoices
 by_apache 200 alice rooms-hr
 by_apache 401 carol@OTHER.NET rooms-invoices
+# Apache answers nginx alone, by a ticket too.
+ticket bob
+holds 'a ticket without the key' [ "$(curl -s -o "$work/body" -w '%{http_code}' "${reach[@]}" --negotiate -u : "http://rooms.example:$apache/password/rooms")" = 403 ]
 
 # Tickets aren't counted, each counts once, and long ones are taken.
 ticket bob

@@ -1,4 +1,4 @@
-# contrib/rooms-directory: groups of a directory, what it refuses, and an interruption at each of its calls.
+# rooms-admin groups: groups of a directory, what it refuses, and an interruption at each of its calls.
 
 . "$here/directory.sh"
 if [ "$loopback" = no ] || ! has flock || ! has setpriv || ! has setsid || ! has timeout; then
@@ -45,7 +45,7 @@ chmod 600 secret
 where() { printf '%s\n' "URI=ldap://127.0.0.1:$ldap" BASE=dc=example,dc=net 'USERS=(&(objectClass=inetOrgPerson)(!(employeeType=gone)))' MEMBERS=member "$@"; }
 where >directory
 asked() { printf '%s\n' "$@" >office.groups; }
-brings() { script rooms-directory "$@" "$PWD/office.conf"; }
+brings() { verb groups "$@" "$PWD/office.conf"; }
 members() { as_user "$rooms" groups-out "$PWD/office/F" >got; }
 stopped() { unit stop; members; unit start; }
 new_office() {
@@ -124,7 +124,7 @@ has_members 'is done' "${all[@]}"
 # A restore brings back who has left. A later backup doesn't know of it, so a run looks into the room, and the next one needn't.
 back_up 2020-01-02.030000
 unit stop
-script rooms-restore --conf "$PWD/office.conf" 2020-01-01.030000
+verb restore --conf "$PWD/office.conf" 2020-01-01.030000
 says 'a restore' 0 'restored '
 unit start
 brings --dry-run
@@ -140,7 +140,7 @@ holds 'and the next run has nothing to do' [ "$status" = 0 -a ! -s "$work/out" ]
 holds 'for which it stops nothing' eval '! was_stopped'
 # What is refused after a restore is read from the room once.
 unit stop
-script rooms-restore --conf "$PWD/office.conf" "$PWD/backups/2020-01-01.030000"
+verb restore --conf "$PWD/office.conf" "$PWD/backups/2020-01-01.030000"
 says 'another restore' 0 'restored '
 unit start
 asked 'MOST=0' 'group staff = staff'
@@ -224,7 +224,7 @@ holds 'is no mail' [ ! -s "$stand/messages" ]
 echo mail >"$stand/no-tool"
 brings
 rm "$stand/no-tool"
-holds 'without mail it is in the log' grep -qF -e "logger -p daemon.err -t rooms-directory -- no group: the directory has 0 groups 'nothere'" "$stand/messages"
+holds 'without mail it is in the log' grep -qF -e "logger -p daemon.err -t rooms-admin-groups -- no group: the directory has 0 groups 'nothere'" "$stand/messages"
 asked "group staff = $(group_dn nothere)"
 brings
 unchanged 'a DN that is not there' 2 'no group: the directory has no'
@@ -286,8 +286,8 @@ start_directory
 where >directory
 for words in '--other' '--after --dry-run' '--names --force' '--names --after' 'a b'; do
   # shellcheck disable=SC2086
-  script rooms-directory $words
-  says "the words '$words'" 2 'bad words'
+  verb groups $words
+  says "the words '$words'" 2 'bad arguments'
 done
 stopped
 same 'no member is changed by any of them' got before
@@ -314,7 +314,7 @@ brings
 says 'a server that does not start' 1 "doesn't start"
 holds 'is in a mail' grep -qF -e "rooms doesn't start" "$stand/messages"
 rm "$stand/no-start"
-script rooms-directory --after "$PWD/office.conf"
+verb groups --after "$PWD/office.conf"
 says 'is started after it' 1 'interrupted'
 holds 'which is in a mail' grep -qF -e 'interrupted: a run that had stopped rooms was cut off' "$stand/messages"
 unit_runs 'a second start'
@@ -329,7 +329,8 @@ unit start
 for how in TERM KILL; do
   for number in {1..60}; do
     rm -f "$stand/hit"
-    asked 'MOST=9' "group staff = $([ $((number % 2)) = 0 ] && echo staff || echo Human Resources)"
+    stopped
+    asked 'MOST=9' "group staff = $([ "$(grep -c '^staff,' got)" = 1 ] && echo staff || echo Human Resources)"
     export KILL_AT=$number KILL_HOW=$how
     brings
     unset KILL_AT
@@ -337,7 +338,7 @@ for how in TERM KILL; do
     name="$how at $(cat "$stand/hit")"
     name=${name//$PWD\//}
     [ "$how" = KILL ] || unit_runs "$name"
-    script rooms-directory --after "$PWD/office.conf"
+    verb groups --after "$PWD/office.conf"
     unit_runs "$name, and after"
     holds "$name: nothing is owed" [ -z "$(ls run)" ]
     holds "$name: nothing is left in the folder" [ -z "$(ls office | grep groups)" ]

@@ -1,11 +1,11 @@
-# contrib/rooms-nightly: what a good night leaves, each thing that may go wrong in it, and an interruption at each of its calls.
+# rooms-admin backup: what a good night leaves, each thing that may go wrong in it, and an interruption at each of its calls.
 
 if [ "$loopback" = no ] || ! has flock || ! has setpriv || ! has setsid; then
   skip 'the nightly run' 'no loopback, or no flock, setpriv, setsid'
   return
 fi
 make_stand
-night() { script rooms-nightly "$PWD/conf"; }
+night() { verb backup "$PWD/conf"; }
 # Only root keeps what the machine has beside its rooms.
 tar=
 [ "$(id -u)" != 0 ] || tar='machine.tar '
@@ -46,7 +46,7 @@ same 'the review is there' "backups/$good/review.csv" wanted
 holds 'nobody else may read it' [ -z "$(find backups/* -perm /077)" ]
 holds 'the room is still its users' [ -z "$(find office -not -user "$STAND_USER")" ]
 holds 'nothing is owed' [ -z "$(ls run)" ]
-holds 'nothing else is left' [ "$(cd "backups/$good" && echo *)" = "F F-wal lists.txt ${tar}records.csv review.csv" ]
+holds 'nothing else is left' [ "$(cd "backups/$good" && echo *)" = "F F-wal lists.txt ${tar}records.csv review.csv run" ]
 if [ -n "$tar" ]; then
   tar -xOf "backups/$good/machine.tar" etc/rooms/office.conf >got
   same 'what the machine has beside its rooms is there' got root/etc/rooms/office.conf
@@ -154,10 +154,9 @@ fi
 
 # The site's certificate: one that ends soon is told, and the run is good all the same.
 if [ -n "$tar" ] && has openssl; then
-  mkdir -p root/etc/nginx/snippets root/etc/nginx/sites-enabled root/etc/ssl
-  ln -s ../sites-available/rooms-tls root/etc/nginx/sites-enabled/rooms
+  mkdir -p root/etc/ssl
   certified() { # DAYS FILE
-    printf '%s\n' "ssl_certificate $2;" "ssl_certificate_key /etc/ssl/rooms.key;" >root/etc/nginx/snippets/rooms-tls.conf
+    printf '%s\n' "CERTIFICATE=$2" KEY=/etc/ssl/rooms.key >root/etc/rooms/site
     mkdir -p "root${2%/*}"
     openssl req -x509 -newkey ec -pkeyopt ec_paramgen_curve:P-256 -noenc -days "$1" -subj /CN=rooms.example \
       -keyout root/etc/ssl/rooms.key -out "root$2" 2>/dev/null
@@ -185,18 +184,19 @@ if [ -n "$tar" ] && has openssl; then
   certified 31 /etc/ssl/rooms.pem
   : >root/etc/ssl/rooms.pem
   night
-  says 'an empty one' 0 "the certificate /etc/ssl/rooms.pem can't be used"
-  ln -sfn ../sites-available/rooms root/etc/nginx/sites-enabled/rooms
+  says 'an empty one' 1 "the certificate /etc/ssl/rooms.pem can't be used"
+  holds 'an empty one: mail' grep -q "^the certificate /etc/ssl/rooms.pem can't be used" "$stand/messages"
+  printf '%s\n' CERTIFICATE= KEY= >root/etc/rooms/site
   night
   untold 'a site without TLS'
-  ln -sfn ../sites-available/rooms-tls root/etc/nginx/sites-enabled/rooms
+  printf '%s\n' CERTIFICATE=/etc/ssl/rooms.pem KEY=/etc/ssl/rooms.key >root/etc/rooms/site
   setting PROGRAM /bin/false
   night
   says 'a night without a backup fails' 1 'verify of'
   says 'and tells it too' 1 "the certificate /etc/ssl/rooms.pem can't be used"
   setting PROGRAM "$stand/bin/rooms"
   setting UNIT rooms
-  rm -rf backups/* root/etc/{nginx,ssl,letsencrypt}
+  rm -rf backups/* root/etc/{rooms/site,ssl,letsencrypt}
 else
   skip 'a certificate that ends' 'no root, or no openssl'
 fi
@@ -274,7 +274,7 @@ for word in audit dump review; do
   kept=$(backups)
   holds "its $word fails: the older one goes, and tonight's stays" grep -qxE '20[2-9][0-9]-[0-9]{2}-[0-9]{2}\.[0-9]{6}' <<<"$kept"
   gives "its $word fails: the copy is sound" 0 'sound\n' '' verify "backups/$kept/F"
-  wanted=" F F-wal lists.txt ${tar}records.csv review.csv "
+  wanted=" F F-wal lists.txt ${tar}records.csv review.csv run "
   same_words "its $word fails: the others are there" " $(cd "backups/$kept" && echo *) " "${wanted/ ${beside[$word]} / }"
   rm -rf backups/*
 done
@@ -287,7 +287,7 @@ if [ -n "$tar" ]; then
   says 'a night that can not keep the machine' 1 'but it has no machine.tar'
   rm "$stand/no-tool"
   unit_runs 'no machine.tar: the server runs'
-  holds 'no machine.tar: the rest is there' [ "$(cd "backups/$(backups | tail -n 1)" && echo *)" = 'F F-wal lists.txt records.csv review.csv' ]
+  holds 'no machine.tar: the rest is there' [ "$(cd "backups/$(backups | tail -n 1)" && echo *)" = 'F F-wal lists.txt records.csv review.csv run' ]
   ln -s /nowhere/at/all root/etc/rooms/lost
   sleep 1
   night
@@ -390,7 +390,7 @@ kill -KILL "$(cat "$stand/pid")"
 night
 says 'a server that does not start' 1 "doesn't start"
 rm "$stand/no-start"
-script rooms-nightly --after "$PWD/conf"
+verb backup --after "$PWD/conf"
 says 'is started after it' 1 'interrupted'
 unit_runs 'a second start'
 rm -rf backups/*
@@ -461,11 +461,11 @@ printf '%s\n' "# /dev/none $PWD/backups ext4 noauto 0 0" 'proc /proc proc defaul
 night
 holds 'disks that have nothing to do with it' [ "$status" = 0 ]
 rm root/etc/fstab
-script rooms-nightly "$PWD/nothing"
+verb backup "$PWD/nothing"
 refused 'no settings' 'no settings'
-script rooms-nightly --other
-refused 'an unknown word' 'bad words'
-exec 8<conf
+verb backup --other
+says 'an unknown word' 2 'bad arguments'
+exec 8<>run/.rooms-admin/rooms
 flock 8
 night
 refused 'another run at work' 'busy'
@@ -473,7 +473,7 @@ exec 8<&-
 
 # An interruption at each call, alone and followed by what the unit does after each run.
 for how in TERM KILL; do
-  for number in {1..60}; do
+  for number in {1..150}; do
     rm -rf backups/* "$stand/hit"
     export KILL_AT=$number KILL_HOW=$how
     night
@@ -482,7 +482,7 @@ for how in TERM KILL; do
     name="$how at $(cat "$stand/hit")"
     name=${name//$PWD\//}
     [ "$how" = KILL ] || unit_runs "$name"
-    script rooms-nightly --after "$PWD/conf"
+    verb backup --after "$PWD/conf"
     unit_runs "$name, and after"
     for copy in backups/*; do
       case $copy in
@@ -494,7 +494,7 @@ for how in TERM KILL; do
     holds "$name: no copy is half made" [ -z "$(find backups -name '*.part')" ]
     holds "$name: no text is half written" [ -z "$(find backups -name unfinished)" ]
   done
-  holds "$how: the calls came to an end" [ "$number" -gt 10 -a "$number" -lt 60 ]
+  holds "$how: the calls came to an end" [ "$number" -gt 10 -a "$number" -lt 150 ]
   night
   holds "$how: a good night after all" [ "$status" = 0 ]
 done

@@ -1,11 +1,11 @@
-# contrib/rooms-restore: its bad input, and an interruption at each of its calls.
+# rooms-admin restore: its bad input, and an interruption at each of its calls.
 
 if [ "$loopback" = no ] || ! has flock || ! has setpriv || ! has setsid; then
   skip 'restoring' 'no loopback, or no flock, setpriv, setsid'
   return
 fi
 make_stand
-restores() { script rooms-restore --conf "$PWD/conf" "$@"; }
+restores() { verb restore --conf "$PWD/conf" "$@"; }
 made_by_user() { as_user "$rooms" "$@" >/dev/null; }
 # The old room has carol as its root's owner and the backup has dave; the backup's last writes are
 # in its log.
@@ -66,15 +66,15 @@ for bad in nowhere empty "$PWD/conf"; do
   says "a backup that isn't there: ${bad##*/}" 2 'no backup'
   unchanged "${bad##*/}"
 done
-script rooms-restore --conf "$PWD/nothing" good
+verb restore --conf "$PWD/nothing" good
 says 'no settings' 2 'no settings'
 restores
-says 'no words' 2 'bad words'
+says 'no words' 2 'bad arguments'
 restores --other
-says 'an unknown word' 2 'bad words'
+says 'an unknown word' 2 'bad arguments'
 restores good more
-says 'two backups' 2 'bad words'
-exec 8<conf
+says 'two backups' 2 'bad arguments'
+exec 8<>run/.rooms-admin/rooms
 flock 8
 restores good
 says 'beside another run' 2 'busy'

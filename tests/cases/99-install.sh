@@ -4,23 +4,30 @@ installs() {
   "$contrib/install" --destdir "$PWD/machine" --program "$rooms" "$@" </dev/null >"$work/out" 2>"$work/err"
   status=$?
 }
+sets_up() {
+  "$contrib/rooms-admin" setup --destdir "$PWD/machine" "$@" </dev/null >"$work/out" 2>"$work/err"
+  status=$?
+}
 tree() { (cd machine && find . -exec ls -ld --time-style=full-iso {} + && find . -type f -exec cksum {} +) 2>/dev/null; }
 installs --dry-run
 says 'what would be done' 0 'would: file /usr/local/bin/rooms'
 holds 'is not done' is_missing machine
 installs
 says 'an install' 0 'file /etc/systemd/system/rooms-nightly@.timer'
-for file in /usr/local/bin/rooms /usr/local/sbin/rooms-nightly /usr/local/sbin/rooms-restore /usr/local/lib/rooms/upkeep.sh /usr/local/lib/rooms/machine.sh \
-  /usr/local/sbin/rooms-get /usr/local/sbin/rooms-add /usr/local/sbin/rooms-doctor /usr/local/bin/rooms-handover /usr/local/bin/rooms-import /usr/local/bin/rooms-export /usr/local/lib/rooms/transfer.sh \
+for file in /usr/local/bin/rooms /usr/local/sbin/rooms-nightly /usr/local/sbin/rooms-restore /usr/local/sbin/rooms-admin /usr/local/bin/rooms-admin /usr/local/share/rooms/rooms_admin/__main__.py /usr/local/share/man/man8/rooms-admin.8 \
+  /usr/local/sbin/rooms-get /usr/local/sbin/rooms-add /usr/local/sbin/rooms-doctor /usr/local/bin/rooms-handover /usr/local/bin/rooms-import /usr/local/bin/rooms-export \
   /usr/local/share/man/man1/rooms.1 /usr/local/share/man/man8/rooms-get.8 /usr/share/bash-completion/completions/rooms \
   /etc/rooms/office.conf /etc/systemd/system/rooms@.service /usr/share/doc/rooms/docs/operating.md /etc/nginx/sites-enabled/rooms \
-  /etc/nginx/sites-available/rooms-tls /etc/nginx/snippets/rooms-http.conf /etc/nginx/snippets/rooms-server.conf /etc/nginx/snippets/rooms-host.conf \
-  /usr/local/sbin/rooms-standby /usr/local/lib/rooms/copying.sh /etc/systemd/system/rooms-standby@.timer /etc/nginx/snippets/rooms-machine.conf \
-  /usr/local/sbin/rooms-full /usr/local/lib/rooms/pages.pl /etc/systemd/system/rooms-full@.service /usr/local/share/man/man8/rooms-full.8 \
-  /usr/local/sbin/rooms-directory /usr/local/lib/rooms/directory.sh /usr/local/share/rooms/directory.apache /usr/local/share/rooms/signed-in \
-  /etc/systemd/system/rooms-passwords.service /etc/systemd/system/rooms-directory@.timer /etc/nginx/snippets/rooms-directory.conf \
+  /usr/local/sbin/rooms-standby /etc/systemd/system/rooms-standby@.timer /etc/rooms/site \
+  /usr/local/sbin/rooms-full /etc/systemd/system/rooms-full@.service /usr/local/share/man/man8/rooms-full.8 \
+  /usr/local/sbin/rooms-directory /usr/local/share/rooms/directory.apache /usr/local/share/rooms/signed-in \
+  /etc/systemd/system/rooms-passwords.service /etc/systemd/system/rooms-directory@.timer /etc/systemd/system/nginx.service.d/rooms.conf \
+  /etc/tmpfiles.d/rooms.conf /usr/local/sbin/rooms-admin /usr/local/sbin/rooms-setup /usr/local/share/rooms/rooms_admin/site.py \
+  /usr/local/share/rooms/site.conf.in /usr/local/share/rooms/room.conf.in /usr/local/share/rooms/before.txt \
   /usr/share/bash-completion/completions/rooms-add /usr/share/bash-completion/completions/rooms-handover \
-  /usr/local/lib/rooms/several.sh /usr/local/share/rooms/room/path /etc/nginx/rooms.d/start.html; do
+  /usr/local/share/rooms/rooms_admin/check.py /usr/local/share/rooms/rooms.nft /etc/sysusers.d/rooms.conf \
+  /etc/systemd/system/rooms-firewall.service /etc/systemd/system/rooms-tell@.service \
+  /var/lib/rooms-front/start.html; do
   holds "$file is there" [ -s "machine$file" ]
 done
 holds 'nobody else reads the passwords' [ -n "$(find machine/etc/nginx/rooms.htpasswd -perm 600)" ]
@@ -33,21 +40,27 @@ says 'a second install' 0 'nothing to change'
 tree >after
 same 'changes nothing' after before
 echo '# mine' >>machine/etc/rooms/office.conf
-echo '# mine' >>machine/usr/local/sbin/rooms-restore
+echo '# mine' >>machine/etc/systemd/system/rooms@.service
+echo '# mine' >>machine/usr/local/sbin/rooms-admin
+rm machine/usr/local/sbin/rooms-get
+echo '# older' >machine/usr/local/sbin/rooms-get
 rm machine/etc/nginx/sites-enabled/rooms
 echo '# mine' >machine/etc/nginx/sites-enabled/rooms
 installs --dry-run
-says 'a changed file would be' 0 'would: new /usr/local/sbin/rooms-restore'
+says 'a changed file would be' 0 'would: new /usr/local/sbin/rooms-admin'
 installs
-says 'settings that were changed' 0 'kept /etc/rooms/office.conf, which differs'
+says 'a unit that was changed' 0 'kept /etc/systemd/system/rooms@.service, which differs'
 says 'a site that was changed' 0 'kept /etc/nginx/sites-enabled/rooms'
-says 'a script that was changed' 0 'new /usr/local/sbin/rooms-restore, the old one is /usr/local/sbin/rooms-restore.old'
+says 'a script that was changed' 0 'new /usr/local/sbin/rooms-admin, the old one is /usr/local/sbin/rooms-admin.old'
 holds 'settings stay' grep -q '^# mine' machine/etc/rooms/office.conf
-holds 'the old script is beside' grep -q '^# mine' machine/usr/local/sbin/rooms-restore.old
-same 'the script is new' machine/usr/local/sbin/rooms-restore "$contrib/rooms-restore"
+holds 'the old script is beside' grep -q '^# mine' machine/usr/local/sbin/rooms-admin.old
+same 'the script is new' machine/usr/local/sbin/rooms-admin "$contrib/rooms-admin"
+says 'the script of an older version' 0 'link /usr/local/sbin/rooms-get to rooms-admin'
+holds 'is beside the link' [ "$(cat machine/usr/local/sbin/rooms-get.old)$(readlink machine/usr/local/sbin/rooms-get)" = '# olderrooms-admin' ]
 installs --replace
-same 'settings are replaced if that is asked' machine/etc/rooms/office.conf machine/usr/local/share/rooms/office.conf
-holds 'and stay beside' grep -q '^# mine' machine/etc/rooms/office.conf.old
+same 'the unit is replaced if that is asked' machine/etc/systemd/system/rooms@.service "$contrib/rooms@.service"
+holds 'and stays beside' grep -q '^# mine' machine/etc/systemd/system/rooms@.service.old
+holds 'settings stay in any case' grep -q '^# mine' machine/etc/rooms/office.conf
 installs --program "$PWD/nowhere"
 says 'no program' 2 'no program'
 installs --program /bin/true
@@ -55,23 +68,23 @@ says 'another program' 2 'is not rooms'
 installs --destdir here
 says 'a folder that is no path' 2 'bad folder'
 installs --other
-says 'an unknown word' 2 'bad words: --other; install [--dry-run] [--replace] [--tls CERTIFICATE KEY] [--directory FILE] [--destdir DIR] [--prefix /usr] [--program FILE]'
+says 'an unknown word' 2 'bad words: --other; install [--dry-run] [--replace] [--destdir DIR] [--prefix /usr] [--program FILE]'
 installs --prefix /opt
 says 'a prefix of nobody' 2 'bad prefix'
-installs --prefix /usr --tls one.pem one.key
-says 'a certificate in a package' 2 'bad prefix'
 "$contrib/install" --prefix /usr --program "$rooms" </dev/null >"$work/out" 2>"$work/err"
 status=$?
 says "a package's files without a folder" 2 'bad prefix'
-# The same script as a package has it.
-cp "$contrib/install" rooms-setup
-cp "$contrib"/{several,single,directory,passwords,site}.sh .
-for word in --replace '--destdir /x' '--program /x' '--prefix /usr' --directory 'x'; do
+for words in --other 'x' '--tls one.pem' '--directory' '--destdir here' 'x y'; do
   # shellcheck disable=SC2086
-  ./rooms-setup $word </dev/null >"$work/out" 2>"$work/err"
+  "$contrib/rooms-admin" setup $words </dev/null >"$work/out" 2>"$work/err"
   status=$?
-  says "rooms-setup $word" 2 'bad words'
+  holds "setup $words" [ "$status" = 2 ]
+  holds "setup $words: by its name" grep -qE 'bad (arguments|folder)' "$work/err"
 done
+# The name that it had before.
+machine/usr/local/sbin/rooms-setup --dry-run --destdir "$PWD/machine" </dev/null >"$work/out" 2>"$work/err"
+status=$?
+says 'rooms-setup' 0 'its name is now rooms-admin setup'
 : >a-file
 installs --destdir "$PWD/a-file"
 says 'a folder that can not be made' 1 "can't be made"
@@ -80,8 +93,8 @@ site() { readlink machine/etc/nginx/sites-enabled/rooms; }
 default=machine/etc/nginx/sites-available/default
 enabled=machine/etc/nginx/sites-enabled/default
 rm machine/etc/nginx/sites-enabled/rooms
-installs
-holds 'the plain site is enabled' [ "$(site)" = ../sites-available/rooms ]
+sets_up
+holds 'the site is enabled' [ "$(site)" = ../sites-available/rooms ]
 if has dpkg-query && has md5sum; then
   mkdir -p machine/var/lib/dpkg machine/var/www/html
   : >machine/var/www/html/index.nginx-debian.html
@@ -93,7 +106,7 @@ if has dpkg-query && has md5sum; then
     echo " /etc/nginx/sites-available/default $(md5sum <"$default" | cut -d ' ' -f 1)"
   } >machine/var/lib/dpkg/status
   keeps() { # NAME
-    installs
+    sets_up
     says "$1" 0 'kept /etc/nginx/sites-enabled/default'
     # A link that leads nowhere on this machine is there too.
     holds "$1: it is there" eval '[ -e "$enabled" ] || [ -L "$enabled" ]'
@@ -107,13 +120,13 @@ if has dpkg-query && has md5sum; then
   echo mine >machine/var/www/html/index.html
   keeps 'a default site with other pages'
   rm machine/var/www/html/index.html
-  installs --dry-run
-  says 'the packaged default site' 0 'would: link /etc/nginx/sites-enabled/default taken away'
-  installs
-  says 'the packaged default site' 0 'link /etc/nginx/sites-enabled/default taken away'
+  sets_up --dry-run
+  says 'the packaged default site' 0 'would: /etc/nginx/sites-enabled/default is removed'
+  sets_up
+  says 'the packaged default site' 0 '/etc/nginx/sites-enabled/default is removed'
   holds 'is no longer enabled' is_missing "$enabled"
   holds 'its file stays' is_there "$default"
-  installs
+  sets_up
   says 'and nothing after that' 0 'nothing to change'
   cp "$default" "$enabled"
   keeps 'a default site that is no link'
@@ -141,13 +154,13 @@ if has openssl; then
   cp one.pem 'one;.pem'
   tree >before
   refuses_tls() { # NAME TEXT ARGUMENT ..
-    installs --tls "${@:3}"
+    sets_up --tls "${@:3}"
     says "$1" 2 "$2"
     tree >after
     same "$1: nothing is changed" after before
   }
-  refuses_tls 'no words' 'bad words'
-  refuses_tls 'no key' 'bad words' one.pem
+  refuses_tls 'no words' 'bad arguments'
+  refuses_tls 'no key' 'bad arguments' one.pem
   refuses_tls 'a missing certificate' "none.pem doesn't exist" none.pem one.key
   refuses_tls 'a missing key' "none.key doesn't exist" one.pem none.key
   refuses_tls 'a folder' 'no file' one.pem machine
@@ -174,34 +187,35 @@ if has openssl; then
   else
     skip 'a key that can not be read' 'root reads every file'
   fi
-  installs --tls one.pem one.key --dry-run
-  says 'TLS would be' 0 'would: link /etc/nginx/sites-enabled/rooms to ../sites-available/rooms-tls'
+  sets_up --tls one.pem one.key --dry-run
+  says 'TLS would be' 0 'would: new file /etc/rooms/site, with CERTIFICATE='
   tree >after
   same 'TLS would be, and is not yet' after before
-  installs --tls one.pem one.key
-  says 'TLS' 0 'link /etc/nginx/sites-enabled/rooms to ../sites-available/rooms-tls'
-  holds 'TLS is enabled' [ "$(site)" = ../sites-available/rooms-tls ]
-  holds 'by this certificate' grep -qxF "ssl_certificate $PWD/one.pem;" machine/etc/nginx/snippets/rooms-tls.conf
-  holds 'and this key' grep -qxF "ssl_certificate_key $PWD/one.key;" machine/etc/nginx/snippets/rooms-tls.conf
+  sets_up --tls one.pem one.key
+  says 'TLS' 0 'new file /etc/nginx/sites-available/rooms'
+  holds 'TLS is served' grep -qx '    listen 443 ssl;' machine/etc/nginx/sites-available/rooms
+  holds 'by this certificate' grep -qxF "    ssl_certificate $PWD/one.pem;" machine/etc/nginx/sites-available/rooms
+  holds 'and this key' grep -qxF "    ssl_certificate_key $PWD/one.key;" machine/etc/nginx/sites-available/rooms
+  holds 'the settings say so' grep -qxF "KEY=$PWD/one.key" machine/etc/rooms/site
   tree >before
   for words in '' '--tls one.pem one.key'; do
     # shellcheck disable=SC2086
-    installs $words
+    sets_up $words
     says "TLS again, $words" 0 'nothing to change'
     tree >after
     same "TLS again, $words: nothing is changed" after before
   done
   chmod 644 two.key
-  installs --tls two.pem two.key
-  says 'another certificate' 0 'new /etc/nginx/snippets/rooms-tls.conf'
+  sets_up --tls two.pem two.key
+  says 'another certificate' 0 "new file /etc/rooms/site, with CERTIFICATE=$PWD/two.pem"
   says 'whose key all can read' 0 "chmod 600 $PWD/two.key"
-  holds 'is used' grep -qxF "ssl_certificate $PWD/two.pem;" machine/etc/nginx/snippets/rooms-tls.conf
+  holds 'is used' grep -qxF "    ssl_certificate $PWD/two.pem;" machine/etc/nginx/sites-available/rooms
   rm machine/etc/nginx/sites-enabled/rooms
   echo '# mine' >machine/etc/nginx/sites-enabled/rooms
   tree >before
   refuses_tls 'a site of another kind' 'another site' one.pem one.key
   rm machine/etc/nginx/sites-enabled/rooms
-  installs --tls one.pem one.key
+  sets_up --tls one.pem one.key
 else
   skip 'a certificate' 'openssl is missing'
 fi
@@ -215,11 +229,38 @@ if [ -n "$nginx" ] && [ "$(id -u)" = 0 ] && has openssl; then
     for body in client_body proxy fastcgi uwsgi scgi; do echo "${body}_temp_path $PWD/machine/t/$body;"; done
     echo '}'
   } >machine/etc/nginx/nginx.conf
-  for name in rooms-tls rooms; do
-    ln -sfn "../sites-available/$name" machine/etc/nginx/sites-enabled/rooms
+  # Each kind of site, with rooms of each kind, but for the port that only a machine with certificates has.
+  takes() { # NAME: what was written, with the folders of this machine
+    sed -e "s#/etc/rooms/#$PWD/machine/etc/rooms/#; s#/run/rooms-front#$PWD/machine/t#" \
+      machine/etc/nginx/sites-available/rooms >machine/etc/nginx/tried
     "$nginx" -t -q -c "$PWD/machine/etc/nginx/nginx.conf" >said 2>&1
-    holds "nginx takes the site $name: $(head -c 300 said)" [ $? = 0 ]
+    holds "nginx takes $1: $(head -c 300 said)" [ $? = 0 ]
+  }
+  sed -i 's#sites-enabled/\*#tried#' machine/etc/nginx/nginx.conf
+  takes 'the site with TLS'
+  mkdir machine/etc/rooms/machines
+  for name in front machine; do cp one.pem "machine/etc/rooms/machines/$name.pem"; cp one.key "machine/etc/rooms/machines/$name.key"; done
+  cp one.pem machine/etc/rooms/machines/authority.pem
+  more() { "$contrib/rooms-admin" add --destdir "$PWD/machine" "$@" </dev/null >said 2>&1; }
+  holds 'a room behind another front end' more --behind ledger
+  holds 'a room on another machine' more --on localhost archive
+  holds 'a room at a path' more invoices
+  for name in invoices:directory office:session; do
+    sed -i "s/^PASSWORDS=.*/PASSWORDS=${name#*:}/" "machine/etc/rooms/${name%:*}.conf"
   done
+  sed -i 's/^SOCKET=.*/SOCKET=yes/' machine/etc/rooms/invoices.conf
+  sets_up
+  says 'rooms of each kind' 0 'new file /etc/nginx/sites-available/rooms'
+  holds 'a room with a socket' grep -qx 'upstream room_invoices { server unix:/run/rooms/invoices/socket; }' machine/etc/nginx/sites-available/rooms
+  holds 'and one with a port' grep -qx 'upstream room_office { server 127.0.0.1:8780; }' machine/etc/nginx/sites-available/rooms
+  takes 'the site with all of them'
+  sed -i 's/^\(CERTIFICATE\|KEY\)=.*/\1=/' machine/etc/rooms/site
+  sets_up
+  says 'sessions without TLS' 2 'PASSWORDS=session'
+  sed -i 's/^PASSWORDS=.*/PASSWORDS=/' machine/etc/rooms/office.conf
+  sets_up
+  says 'the site without TLS' 0 'new file /etc/nginx/sites-available/rooms'
+  takes 'the site without TLS'
 else
   skip 'nginx takes the sites' 'nginx, openssl or root is missing'
 fi
@@ -240,13 +281,49 @@ fi
 if has systemd-analyze; then
   mkdir units
   for unit in "$contrib"/rooms*.service "$contrib"/rooms*.timer; do
-    sed "s|=/usr/local/|=$PWD/machine/usr/local/|; s|=/usr/sbin/apache2|=/bin/true|" "$unit" >"units/${unit##*/}"
+    sed "s|=/usr/local/|=$PWD/machine/usr/local/|; s|=+/usr/local/|=+$PWD/machine/usr/local/|; s|=/usr/sbin/\(apache2\|nft\)|=/bin/true|" "$unit" >"units/${unit##*/}"
   done
   # It reports what it doesn't know of all units that it meets. Only these are of this project.
   systemd-analyze verify units/*.service units/*.timer >"$work/out" 2>&1
   grep -E '^(/.*/)?rooms[a-z-]*(@[a-z_-]*)?\.(service|timer)' "$work/out" >said
   : >nothing
   same 'the units are understood' said nothing
+  # How much a unit could do, by systemd's own count from 0 to 10.
+  exposed() { # UNIT MOST
+    local level
+    level=$(cd units && systemd-analyze security --offline=true "./$1" 2>&1 | sed -n 's/.*exposure level for [^:]*: \([0-9.]*\) .*/\1/p')
+    holds "$1 is exposed to $level, and at most $2" awk -v level="${level:-11}" -v most="$2" 'BEGIN { exit !(level <= most) }'
+  }
+  if systemd-analyze --help | grep -q -e --offline; then
+    exposed rooms@.service 1.3
+    # It goes to another machine, as a user who reads keys.
+    exposed rooms-standby@.service 3.2
+    for unit in units/*.service; do
+      # The one that mails isn't root, and a mail program needs what the others lack.
+      [[ ${unit##*/} = rooms-@(tell|standby)@.service ]] || exposed "${unit##*/}" 3
+    done
+    holds 'the one that mails is not root' grep -qx User=rooms-mail units/rooms-tell@.service
+  else
+    skip 'how much a unit could do' 'systemd-analyze knows no --offline'
+  fi
+  # On the nights on which summer time begins, wherever that is.
+  for timer in rooms-nightly@.timer rooms-directory@.timer; do
+    when=$(sed -n 's/^OnCalendar=//p' "$contrib/$timer")
+    while read -r zone evening next; do
+      [ -e "/usr/share/zoneinfo/$zone" ] || continue
+      TZ=$zone systemd-analyze calendar --base-time="$evening 12:00:00" "$when" >"$work/out" 2>&1
+      holds "$timer runs on $next in $zone" grep -q "Next elapse: ... $next " "$work/out"
+    done <<'END'
+Europe/Berlin 2027-03-27 2027-03-28
+Europe/London 2027-03-27 2027-03-28
+Europe/Helsinki 2027-03-27 2027-03-28
+America/New_York 2027-03-13 2027-03-14
+America/Santiago 2027-09-04 2027-09-05
+Australia/Sydney 2027-10-02 2027-10-03
+Asia/Beirut 2027-03-27 2027-03-28
+Africa/Cairo 2027-04-29 2027-04-30
+END
+  done
 else
   skip 'the units' 'systemd-analyze is missing'
 fi

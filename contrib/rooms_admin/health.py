@@ -1,0 +1,73 @@
+"""What can be wrong with a room that is served: each look gives a text, which is empty if all is
+well."""
+import http.client
+import os
+import time
+
+from . import machine, program, room_http, unit
+from .said import Stop
+from .settings import Room
+from .used import NoRoom, Used
+
+
+def answer(room: Room, patience: float = 0) -> str:
+    """A server that can't read its file is started again and again, and is 'active' most of the
+    time. So the room is asked."""
+    if not room.port or unit.state(room) in ("inactive", "failed"):
+        return ""
+    patience = patience or unit.patience(room)
+    ends = time.monotonic() + patience
+    text = "no reply"
+    while time.monotonic() < ends:
+        asked = room_http.connection(room, patience)
+        try:
+            asked.request("GET", "/can/?", headers={"Connection": "close"})
+            got = asked.getresponse()
+            body = got.read(1000)
+            if (got.status, body) == (200, b"{}"):
+                return ""
+            text = f"{body[:200].decode(errors='replace')} {got.status}"
+        except TimeoutError as fault:
+            text = str(fault)
+            break
+        except (OSError, http.client.HTTPException) as fault:
+            text = str(fault)
+        finally:
+            asked.close()
+        time.sleep(1)
+    place = room.listens or f"port {room.port}"
+    return (f"{room.unit} doesn't answer at {place} within {patience} s: {text}; "
+            f"systemctl status {room.unit}")
+
+
+def size(room: Room) -> str:
+    """Users are told 507 of a full room, and nobody else is told anything."""
+    try:
+        limit, used = unit.limit_of(room), Used().look(room.file)
+    except (Stop, NoRoom):
+        return ""
+    if limit is None or used * 10 < (limit << 20) * 9:
+        return ""
+    return (f"the room has {used >> 20} MB in use, and beyond {limit} MB nginx refuses what adds "
+            "to it")
+
+
+def disk(room: Room) -> str:
+    """Users are told 500 of each change, removals too."""
+    why = program.lacks_space(room)
+    if not why:
+        return ""
+    return (f"the disk of {room.file} takes no change, which needs {program.CHANGE >> 20} MB: "
+            f"{why}; docs/messages.md, A full disk")
+
+
+def certificate(room: Room) -> tuple[str, bool]:
+    """What is to be told of the site's certificate, which the run of office alone does; and whether
+    that is a failure by now."""
+    if room.unit != "rooms@office" or os.geteuid() != 0:
+        return "", False
+    for file in machine.site_certificates():
+        level, text = machine.see_certificate(file)
+        if level:
+            return text, level == 2
+    return "", False

@@ -1,0 +1,103 @@
+"""Files that others can rename meanwhile: each is opened once, below a folder that is open, and
+no link is followed."""
+import errno
+import os
+import stat
+from collections.abc import Iterator
+from contextlib import contextmanager
+
+_FOLDER = os.O_RDONLY | os.O_DIRECTORY | os.O_CLOEXEC
+
+
+class NoFile(Exception):
+    """What is there is no ordinary file; the text says what it is."""
+
+
+@contextmanager
+def opened(number: int) -> Iterator[int]:
+    try:
+        yield number
+    finally:
+        os.close(number)
+
+
+def folder(path: str | bytes) -> int:
+    """A folder that whoever runs this has named: links on the way are theirs."""
+    return os.open(path, _FOLDER)
+
+
+def folder_below(within: int, name: bytes | str) -> int:
+    return os.open(name, _FOLDER | os.O_NOFOLLOW, dir_fd=within)
+
+
+def kind_below(within: int, name: bytes) -> str:
+    mode = os.stat(name, dir_fd=within, follow_symlinks=False).st_mode
+    return ("link" if stat.S_ISLNK(mode) else "folder" if stat.S_ISDIR(mode)
+            else "file" if stat.S_ISREG(mode) else "other")
+
+
+def file_below(within: int, name: bytes | str) -> int:
+    """Opens an ordinary file, and nothing else, not even for a moment: a device may do something
+    when it is opened, so what is there is looked at before, by a handle that can't read."""
+    handle = os.open(name, os.O_PATH | os.O_NOFOLLOW | os.O_CLOEXEC, dir_fd=within)
+    with opened(handle):
+        mode = os.fstat(handle).st_mode
+        if stat.S_ISLNK(mode):
+            raise NoFile("a link, which is not followed")
+        if not stat.S_ISREG(mode):
+            raise NoFile("neither a file nor a folder")
+        return os.open(f"/proc/self/fd/{handle}", os.O_RDONLY | os.O_CLOEXEC)
+
+
+def read_at_most(number: int, most: int) -> bytes:
+    """All of a file, or one byte more than `most`."""
+    parts = []
+    left = most + 1
+    while left > 0 and (part := os.read(number, min(left, 1 << 20))):
+        parts.append(part)
+        left -= len(part)
+    return b"".join(parts)
+
+
+def write_all(number: int, data: bytes) -> None:
+    rest = memoryview(data)
+    while rest:
+        rest = rest[os.write(number, rest):]
+
+
+def new_file(within: int, name: bytes | str, data: bytes, mode: int = 0o666) -> None:
+    """A file that wasn't there, whole or not at all."""
+    number = os.open(name, os.O_WRONLY | os.O_CREAT | os.O_EXCL | os.O_NOFOLLOW | os.O_CLOEXEC,
+                     mode, dir_fd=within)
+    try:
+        with opened(number):
+            write_all(number, data)
+    except BaseException:
+        os.unlink(name, dir_fd=within)
+        raise
+
+
+def put_file(path: str, data: bytes, mode: int, group: int = -1, owner: int = -1) -> None:
+    """A file of root's, in the place of what is there: the old one or the new one at any moment."""
+    within, name = os.path.split(path)
+    fresh = f".{name}.new"
+    with opened(folder(within)) as at:
+        try:
+            os.unlink(fresh, dir_fd=at)
+        except FileNotFoundError:
+            pass
+        new_file(at, fresh, b"", 0o600)
+        with opened(os.open(fresh, os.O_WRONLY | os.O_NOFOLLOW, dir_fd=at)) as number:
+            write_all(number, data)
+            if (owner, group) != (-1, -1):
+                os.fchown(number, owner, group)
+            os.fchmod(number, mode)
+            os.fsync(number)
+        os.rename(fresh, name, src_dir_fd=at, dst_dir_fd=at)
+        os.fsync(at)
+
+
+def reason(fault: OSError) -> str:
+    if fault.errno == errno.EEXIST:
+        return "cannot overwrite existing file"
+    return fault.strerror or str(fault)

@@ -1,0 +1,302 @@
+"""People, places and end dates, without a room: python3 -m unittest test_people. Black boxes are
+tests/cases/93-people.sh."""
+import dataclasses
+import datetime
+import io
+import os
+import random
+import socket
+import subprocess
+import sys
+import tempfile
+import threading
+import unittest
+
+from rooms_admin import ending, mine, names, people, room_http, safe, until, web
+from rooms_admin.said import Stop
+from rooms_admin.settings import Room
+
+ROOM = Room("/etc/rooms/office.conf", "/f/F", "8780", "", "/b", 0, 0, "", "", "", "", "", "rooms",
+            "/bin/true", "file", "", False, False, "names")
+DAY = datetime.date(2027, 6, 1)
+READ = "A:fd:eve:rxtc"
+
+
+def marked(level: str = "read", who: str = "eve", group: bool = False, asker: str = "alice",
+           day: str = "2027-05-31") -> str:
+    return ending.marked(False, datetime.date.fromisoformat(day), level, group, who, asker)
+
+
+def back(lines: list[str], kind: str = "folder", today: datetime.date = DAY) -> list[str]:
+    for one in [end for line in lines if (end := ending.ending(line))]:
+        if one.due(today):
+            lines = ending.taken_back(lines, kind, one, today)
+    return lines
+
+
+class Endings(unittest.TestCase):
+    def test_there_and_back(self) -> None:
+        self.assertEqual(marked(), "A:g:until.2027-05-31.read.u.eve@alice:")
+        chance = random.Random(1)
+        for _ in range(3000):
+            who, asker = ("".join(chance.choice("abZ09._-+$\\") for _ in range(
+                chance.randrange(1, 9))) for _ in range(2))
+            who += chance.choice(["", "@a-b.example"])
+            asker += chance.choice(["", "@a-b.example"])
+            line = marked("manage", who, chance.random() < 0.5, asker)
+            got = ending.ending(line)
+            self.assertTrue(got and got.who == who and got.asker == asker, line)
+            self.assertTrue(names.is_user(line.split(":")[2]))
+
+    def test_nonsense(self) -> None:
+        for bad in ("A:g:until.2027-02-30.read.u.eve@alice:", "A:g:until.2027-05-31.read.u.eve:",
+                    "A:g:until.2027-5-31.read.u.eve@alice:",
+                    "A::until.2027-05-31.read.u.eve@alice:",
+                    "A:fdg:until.2027-05-31.read.u.eve@alice:",
+                    "D:g:until.2027-05-31.read.u.eve@alice:",
+                    "A:g:until.2027-05-31.read.u.eve@alice:r",
+                    "A:g:until.2027-05-31.own.u.eve@alice:",
+                    "A:g:until.2027-05-31.read.x.eve@alice:",
+                    "A:g:until.2027-05-31.read.u.e+40@alice:",
+                    "A:g:until.2027-05-31.read.u.e+2b@alice:",
+                    "A:g:until.2027-05-31.read.u.e+41@alice:",
+                    "A:g:until.2027-05-31.read.u.eve@-61lice:",
+                    "A:g:until.2027-05-31.read.u.eve@a-:"):
+            self.assertIsNone(ending.ending(bad), bad)
+            self.assertTrue(ending.is_meant(bad), bad)
+        for other in (READ, "A:gI:until.2027-05-31.read.u.eve@alice:", "A::until.smith:r",
+                      "list:a"):
+            self.assertFalse(ending.is_meant(other), other)
+        self.assertIsNone(ending.ending(marked(who="x" * 41)))
+
+    def test_the_day_itself_counts(self) -> None:
+        lines = [READ, marked(day="2027-06-01")]
+        self.assertEqual(back(lines), lines)
+        self.assertNotEqual(back(lines, today=DAY + datetime.timedelta(1)), lines)
+
+    def test_each_level_and_nothing_else(self) -> None:
+        others = ["A:fd:alice:rwanNxDtThHdcCoy", "D:d:EVERYONE@:Dd", "A:fdg:eve:rxtc",
+                  "A:fd:Eve:rxtc", "A:fi:OWNER@:d", "A:fdI:eve:rxtc"]
+        for kind, level, theirs in (
+                ("folder", "drop", ["A::eve:wx"]), ("folder", "see", ["A::eve:rxtc"]),
+                ("folder", "read", [READ]), ("folder", "add", [READ, "A:d:eve:wa"]),
+                ("folder", "add", ["A:d:eve:wa", READ]), ("folder", "change", ["A:fd:eve:rwaxtc"]),
+                ("folder", "remove", ["A:fd:eve:rwaxDtc"]), ("folder", "manage", [
+                    "A:fd:eve:rwanNxDtThHdcCoy"]), ("folder", "manage", ["A:fd:eve:rwaxDtdcCo"]),
+                ("document", "read", ["A::eve:rxtc"]), ("document", "read", ["A::eve:rtc"]),
+                ("document", "change", ["A::eve:rwaxtc"])):
+            way = ["A::eve:x"] if kind == "folder" else []
+            lines = others[:2] + theirs[:1] + others[2:4] + way + theirs[1:] + [marked(level)]
+            got = back(lines + others[4:], kind)
+            said = f"A:g:ended.{DAY}.{level}.u.eve@alice:"
+            self.assertEqual(got, others[:4] + way + [said] + others[4:], (kind, level))
+            # Once it was said for a month, it goes too.
+            self.assertEqual(back(got, kind, DAY + datetime.timedelta(30)), got)
+            self.assertEqual(back(got, kind, DAY + datetime.timedelta(31)),
+                             others[:4] + way + others[4:])
+
+    def test_a_group_and_a_way(self) -> None:
+        self.assertEqual(back([READ, "A:fdg:eve:rxtc", marked(group=True)])[0], READ)
+        self.assertEqual(back([READ, "A::eve:xt", marked("pass")]),
+                         [READ, f"A:g:ended.{DAY}.pass.u.eve@alice:"])
+
+    def test_what_was_changed_stays(self) -> None:
+        for theirs in (["A:fd:eve:rwaxtc"], [READ, "A:d:eve:wa"], [READ, "D:fd:eve:w"],
+                       ["A:f:eve:rxtc"], ["D:fd:eve:rxtc"], ["A:fdi:eve:rxtc"]):
+            with self.assertRaises(ending.Changed):
+                back(theirs + [marked()])
+        # What was given anew, without an end, is no part of what ended.
+        lines = [READ, "A:g:ended.2027-01-01.read.u.eve@alice:"]
+        self.assertEqual(back(lines), [READ])
+        # Somebody has taken them away: only the date goes.
+        self.assertEqual(back(["A:fd:bob:rxtc", marked()]), ["A:fd:bob:rxtc"])
+
+
+class Asked:
+    """A room of two lists, of which one can't be read, or none when it is down."""
+    lists = {b"/long": "", b"/x": f"list:a\n{READ}\n{marked(day='2026-01-01')}\n"}
+    down = False
+    sent: list[tuple[str, bytes, bytes]] = []
+
+    def __init__(self, _address: str, caller: room_http.Caller, *_rest: object) -> None:
+        self.user = caller.as_user
+
+    def ask(self, method: str, word: str, path: bytes, body: bytes = b"") -> room_http.Reply:
+        if self.down or path == b"/long":
+            raise Stop("no reply")
+        if method == "PUT":
+            self.sent.append((self.user, path, body))
+            return room_http.Reply(204, b"")
+        return room_http.Reply(200, self.lists[path].encode() if word == "dacl" else b"{}")
+
+
+class Runs(unittest.TestCase):
+    def setUp(self) -> None:
+        self.addCleanup(setattr, until, "Client", until.Client)
+        self.addCleanup(setattr, until.unit, "state", until.unit.state)
+        setattr(until, "Client", Asked)
+        setattr(until.unit, "state", lambda room: "active")
+        Asked.sent.clear()
+        held = tempfile.NamedTemporaryFile(suffix=".txt")
+        self.addCleanup(held.close)
+        for path in ("/long", "/x"):
+            held.write(f"folder a b {path}\ndacl\nlist:a\n{READ}\n{marked(day='2026-01-01')}\n"
+                       .encode())
+        held.flush()
+        self.lists = held.name
+
+    def test_one_list_keeps_no_other_from_being_read(self) -> None:
+        told = until.take_back(ROOM, self.lists)
+        self.assertEqual(told, ["not taken back: /long: what alice asked for: no reply"])
+        self.assertEqual([(user, path) for user, path, _ in Asked.sent], [("alice", b"/x")])
+
+    def test_a_room_that_is_down_ends_the_run(self) -> None:
+        Asked.down = True
+        self.addCleanup(setattr, Asked, "down", False)
+        told = until.take_back(ROOM, self.lists)
+        self.assertEqual(told[1:], ["accesses that are over aren't taken back: no reply"])
+        self.assertEqual(Asked.sent, [])
+
+
+REVIEW = '''path,kind,user,rights,remove
+/,folder,alice,rwaxC,no
+/,folder,bob,x,no
+/,folder,*,xC,no
+/,folder,ANONYMOUS@,,no
+/a,folder,bob,x,no
+/a/b,folder,bob,,no
+"/a/b/c, ""d""",document,bob,r,no
+/a/b/e,document,*,w,no
+/a/f,document,bob,rw,yes
+/s,folder,bob,rx,yes
+/s/t,document,bob,rw,yes
+'''
+
+
+class Places(unittest.TestCase):
+    def test_what_is_not_seen_from_above(self) -> None:
+        found, managers = mine.places(io.StringIO(REVIEW, newline=""))
+        self.assertEqual(managers, ["alice"])
+        self.assertEqual(found["alice"].places, [])
+        self.assertEqual([(one["path"], one["rights"]) for one in found["bob"].places],
+                         [('/a/b/c, "d"', "r"), ("/a/f", "rw"), ("/s", "rx")])
+        self.assertEqual([one["path"] for one in found["*"].places], ["/a/b/e"])
+        self.assertNotIn("ANONYMOUS@", found)
+
+    def test_what_is_no_review(self) -> None:
+        for bad in ("", "at,user\n", "path,kind,user,rights,remove\n/,folder,bob\n",
+                    'path,kind,user,rights,remove\n"/,folder,bob,r,no\n'):
+            with self.assertRaises((ValueError, mine.csv.Error)):
+                mine.places(io.StringIO(bad, newline=""))
+
+
+# Reads until its standard input ends, and says how often that failed.
+_READER = """
+import select, sys
+print("reads", flush=True)
+bad = 0
+while not select.select([sys.stdin], [], [], 0)[0]:
+    try:
+        with open(sys.argv[1], "rb") as source:
+            data = source.read()
+        bad += len(data) != 5000 or len(set(data)) != 1
+    except OSError:
+        bad += 1
+print(bad, "bad")
+"""
+
+
+class Files(unittest.TestCase):
+    def setUp(self) -> None:
+        held = tempfile.TemporaryDirectory()
+        self.addCleanup(held.cleanup)
+        self.addCleanup(setattr, web, "FOLDER", web.FOLDER)
+        web.FOLDER = os.path.join(held.name, "web")
+        self.room = ROOM
+
+    def test_no_moment_without_the_folder(self) -> None:
+        """Whoever opens a file finds a whole one, while the folder is exchanged again and again."""
+        web.put_folder(self.room, "mine", {"bob.json": b"0" * 5000})
+        place = os.path.join(web.FOLDER, "office", "mine", "bob.json")
+        # Processes of their own: threads would wait for one another.
+        readers = [subprocess.Popen([sys.executable, "-c", _READER, place], stdin=subprocess.PIPE,
+                                    stdout=subprocess.PIPE) for _ in range(3)]
+        for one in readers:
+            assert one.stdout
+            self.assertEqual(one.stdout.readline(), b"reads\n")
+        for turn in range(60):
+            web.put_folder(self.room, "mine", {"bob.json": b"%d" % (turn % 10) * 5000})
+        for one in readers:
+            self.assertEqual(one.communicate()[0], b"0 bad\n")
+        self.assertEqual(os.listdir(os.path.join(web.FOLDER, "office")), ["mine"])
+
+    def test_links_are_replaced_and_not_followed(self) -> None:
+        target = os.path.join(os.path.dirname(web.FOLDER), "other")
+        os.mkdir(target)
+        safe.put_file(os.path.join(target, "kept"), b"x", 0o600)
+        at = web.folder(self.room)
+        for name in ("mine", ".mine.new"):
+            os.symlink(target, os.path.join(at, name))
+        web.put_folder(self.room, "mine", {"bob.json": b"1"})
+        self.assertFalse(os.path.islink(os.path.join(at, "mine")))
+        self.assertEqual(os.listdir(at), ["mine"])
+        self.assertEqual(os.listdir(target), ["kept"])
+
+    def test_full_names(self) -> None:
+        place = os.path.join(os.path.dirname(web.FOLDER), "office.names")
+        with open(place, "w", encoding="utf-8") as out:
+            out.write('\ufeffbob,Bob Lindqvist\r\n\neve,"Moreau, Ève"\nzoe,זואי\n'
+                      "nobody,Nobody\nbob,Bob Again\na b,A B\neve\ncarl,x\x07\n"
+                      f"dan,{'x' * 201}\nerin,x\u202ey\nfay, \n")
+        told: list[str] = []
+        got = people.full_names(place, {"bob", "eve", "zoe", "carl", "dan", "erin", "fay"}, told)
+        self.assertEqual(got, {"bob": "Bob Lindqvist", "eve": "Moreau, Ève", "zoe": "זואי"})
+        self.assertEqual([one.partition("line ")[2].partition(" ")[0] for one in told],
+                         ["6", "7", "8", "9", "10", "11", "12"])
+        with open(place, "wb") as raw:
+            raw.write(b"bob,\xff\n")
+        told.clear()
+        self.assertEqual(people.full_names(place, {"bob"}, told), {})
+        self.assertIn("can't be read", told[0])
+        self.assertEqual(people.full_names(place + "x", {"bob"}, told), {})
+
+
+class Sockets(unittest.TestCase):
+    """A room whose server listens at a socket is asked there, and its port isn't."""
+
+    def test_the_server_is_asked_at_its_socket(self) -> None:
+        with tempfile.TemporaryDirectory() as root:
+            os.environ["ROOMS_ROOT"] = root
+            self.addCleanup(os.environ.pop, "ROOMS_ROOT")
+            room = dataclasses.replace(ROOM, unit="rooms@office", socket=True)
+            self.assertEqual(room.listens, f"{root}/run/rooms/office/socket")
+            self.assertEqual(ROOM.listens, "")
+            os.makedirs(os.path.dirname(room.listens))
+            heads = []
+            with socket.socket(socket.AF_UNIX) as listener:
+                listener.bind(room.listens)
+                listener.listen()
+
+                def serve() -> None:
+                    for _ in range(2):
+                        one, _address = listener.accept()
+                        with one:
+                            heads.append(one.recv(4096).decode())
+                            one.sendall(b"HTTP/1.1 200 OK\r\nContent-Length: 2\r\n\r\n{}")
+                server = threading.Thread(target=serve)
+                server.start()
+                asked = room_http.connection(room, 5)
+                asked.request("GET", "/can/?")
+                self.assertEqual(asked.getresponse().read(), b"{}")
+                asked.close()
+                client = room_http.Client(f"http://127.0.0.1:{room.port}",
+                                          room_http.Caller(as_user="alice"), "", True,
+                                          room.listens)
+                self.assertEqual(client.ask("GET", "attr", b"/a").status, 200)
+                server.join()
+            self.assertTrue(heads[1].startswith("GET /attr/a HTTP/1.1"))
+            self.assertIn("Room-User: alice", heads[1].replace("Room-user", "Room-User"))
+
+
+if __name__ == "__main__":
+    unittest.main()

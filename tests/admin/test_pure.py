@@ -1,0 +1,133 @@
+"""The pure parts: python3 -m unittest test_pure. Black boxes are tests/cases."""
+import os
+import random
+import subprocess
+import sqlite3
+import tempfile
+import unittest
+
+from rooms_admin import names, safe, settings, site
+from rooms_admin.said import Refused
+from rooms_admin.used import Used
+
+
+class Names(unittest.TestCase):
+    def test_objects(self) -> None:
+        for good in (b"a", b"x" * 255, "ä".encode(), b".hidden", b"...", b" ", b"-rf", b"a\\b"):
+            self.assertTrue(names.is_object(good), good)
+        for bad in (b"", b".", b"..", b"a/b", b"../../x", b"x" * 256, b"\xff", b"a\n", b"\x7f",
+                    b"\0", b"\xed\xa0\x80"):
+            self.assertFalse(names.is_object(bad), bad)
+
+    def test_users(self) -> None:
+        for good in ("bob", "OFFICE\\bob", "a@b.c", "x" * 64, "$", "a+b"):
+            self.assertTrue(names.is_user(good), good)
+        for bad in ("", "jürgen", "a b", "x" * 65, "a@", "a@b@c", "bob\n", "b\u0131b"):
+            self.assertFalse(names.is_user(bad), bad)
+
+    def test_rooms(self) -> None:
+        self.assertTrue(names.is_room("a-1"))
+        for bad in ("", "-a", "a-", "bü", "A", "a" * 33, "a\n"):
+            self.assertFalse(names.is_room(bad), bad)
+
+    def test_shown_is_what_bash_reads(self) -> None:
+        chance = random.Random(1)
+        some = [bytes(chance.choice(b"ab \n\t\\'\"$`!*?[~#&;\x1b\x7f\xc3\xa4\xff\x01")
+                      for _ in range(chance.randrange(1, 9))) for _ in range(300)]
+        text = "".join(f"printf '%s\\0' {names.shown(one)}\n" for one in some)
+        got = subprocess.run(["bash", "-c", text], capture_output=True, check=True,
+                             env={"LC_ALL": "C.UTF-8"}).stdout
+        self.assertEqual(got.split(b"\0")[:-1], some)
+        for one in some:
+            self.assertNotRegex(names.shown(one), r"[\x00-\x1f\x7f]")
+
+    def test_encoded(self) -> None:
+        self.assertEqual(names.encoded(b"/a b/%?#\xff~"), "/a%20b/%25%3F%23%FF~")
+
+
+class Settings(unittest.TestCase):
+    def test_this_machine(self) -> None:
+        for here in ("127.0.0.1", "127.1", "localhost:389", "LOCALHOST", "[::1]", "[::1]:389"):
+            self.assertTrue(settings.is_this_machine(here), here)
+        for other in ("127.a.b.c.example", "127.0.0.1.example", "localhost.example", "1127.0.0.1",
+                      "[::2]", "[::1]x", "", "10.0.0.1"):
+            self.assertFalse(settings.is_this_machine(other), other)
+
+    def test_lines(self) -> None:
+        with tempfile.TemporaryDirectory() as at:
+            place = os.path.join(at, "f")
+            for text in ("rm -rf /", "OTHER=x", "FILE", "=x"):
+                with open(place, "w", encoding="utf-8") as out:
+                    out.write(text)
+                with self.assertRaises(Refused):
+                    settings.values(place, {"FILE": ""})
+            with open(place, "w", encoding="utf-8") as out:
+                out.write("# c\nFILE=a\n\nFILE=b=c")
+            self.assertEqual(settings.values(place, {"FILE": ""}), {"FILE": "b=c"})
+
+
+class Safe(unittest.TestCase):
+    def test_links_and_others(self) -> None:
+        with tempfile.TemporaryDirectory() as place, safe.opened(safe.folder(place)) as at:
+            os.symlink("/etc/passwd", f"{place}/link")
+            os.mkfifo(f"{place}/pipe")
+            for name in ("link", "pipe"):
+                with self.assertRaises(safe.NoFile):
+                    safe.file_below(at, name)
+            with self.assertRaises(OSError):
+                safe.new_file(at, "link", b"x")
+            with self.assertRaises(OSError):
+                safe.folder_below(at, "link")
+            safe.new_file(at, "one", b"hello")
+            with safe.opened(safe.file_below(at, "one")) as number:
+                self.assertEqual(safe.read_at_most(number, 3), b"hell")
+
+
+class UsedBytes(unittest.TestCase):
+    def test_it_is_what_sqlite_counts(self) -> None:
+        chance = random.Random(2)
+        with tempfile.TemporaryDirectory() as place:
+            file = f"{place}/F"
+            link = sqlite3.connect(file, isolation_level=None)
+            link.execute("PRAGMA journal_mode=WAL")
+            link.execute("CREATE TABLE t (a BLOB)")
+            known = Used()
+            for _ in range(60):
+                link.execute("INSERT INTO t VALUES (zeroblob(?))", (chance.randrange(60000),))
+                if chance.random() < 0.4:
+                    link.execute("DELETE FROM t WHERE rowid % 3 = ?", (chance.randrange(3),))
+                if chance.random() < 0.2:
+                    link.execute("PRAGMA wal_checkpoint(RESTART)")
+                pages, free, size = (link.execute(f"PRAGMA {one}").fetchone()[0] for one in
+                                     ("page_count", "freelist_count", "page_size"))
+                self.assertEqual(known.look(file), (pages - free) * size)
+                self.assertEqual(Used().look(file), (pages - free) * size)
+            link.close()
+
+
+class Sites(unittest.TestCase):
+    def test_an_edited_file_stays(self) -> None:
+        template = site.template("site.conf.in")
+        rooms = [settings.Place("office", "8780", "Office", "file"),
+                 settings.Place("hr", "8781", "", "file", host="hr.example")]
+
+        def shown(host: str) -> str:
+            front = settings.Front([host], "", "")
+            return site.render(template, site.Site(front, rooms, "/page"))
+
+        text = shown("x.example")
+        self.assertFalse(site.is_edited(text))
+        self.assertNotRegex(text, "@[A-Z]+@")
+        with tempfile.TemporaryDirectory() as root:
+            file = root + site.FILE
+            os.makedirs(os.path.dirname(file))
+            with open(file, "w", encoding="utf-8") as out:
+                out.write(text + "# mine\n")
+            self.assertTrue(site.is_edited(site.read(file)))
+            site.keep_edited(root, shown("y.example"))
+            self.assertEqual(site.read(file), text + "# mine\n")
+            self.assertEqual(site.read(file + ".new"), shown("y.example"))
+
+
+if __name__ == "__main__":
+    unittest.main()

@@ -1,0 +1,88 @@
+"""Parts of check, tell and user that need no room."""
+import os
+import sys
+import tempfile
+import time
+import unittest
+import unittest.mock
+
+sys.path.insert(0, os.path.join(os.path.dirname(__file__), "..", "..", "contrib"))
+
+from rooms_admin import members, said, settings, tell, watched  # noqa: E402
+
+LISTS = b"""folder bob staff /
+dacl
+list:a
+A:fd:bob:r
+A:g:bob:r
+A::OWNER@:rw
+sacl
+list:a
+U::bob:r
+document alice bob 7 /bob
+dacl
+list:a
+A:fdI:a.bob:r
+member staff bob
+member bob alice
+"""
+
+
+class Watched(unittest.TestCase):
+    @staticmethod
+    def hangs() -> list[watched.Finding]:
+        time.sleep(60)
+        return []
+
+    def test_a_disk_that_hangs(self) -> None:
+        began = time.monotonic()
+        found = watched.within(0.3, self.hangs, "/mnt")
+        self.assertEqual(found, [(2, "/mnt doesn't answer within 0 s: does its disk hang?")])
+        self.assertLess(time.monotonic() - began, 20)
+
+    def test_a_look_that_ends(self) -> None:
+        self.assertEqual(watched.within(60, lambda: [(1, "x" * 100_000)], "/mnt"),
+                         [(1, "x" * 100_000)])
+
+    def test_a_look_that_fails(self) -> None:
+        def fails() -> list[watched.Finding]:
+            raise OSError("no")
+        self.assertEqual(watched.within(60, fails, "/mnt"), [(2, "/mnt can't be looked at")])
+
+    def test_lines_that_name_a_user(self) -> None:
+        self.assertEqual(list(members.of_user(LISTS, "bob")),
+                         ["folder bob staff /", "A:fd:bob:r", "U::bob:r", "member staff bob"])
+        self.assertEqual(list(members.of_user(LISTS, "a.bob")),
+                         ["document alice bob 7 /bob", "A:fdI:a.bob:r"])
+
+    def test_who_is_mailed(self) -> None:
+        with tempfile.TemporaryDirectory() as home:
+            settings.HOME = home
+            self.assertEqual(tell.mail_of("office"), "root")
+            for text, wanted in (("MAIL=root\nMAIL=alice\n", "alice"), ("MAIL=\n", ""),
+                                 ("MAIL=-x\n", ""), ("LIMIT=much\n", "root")):
+                with open(f"{home}/office.conf", "w", encoding="ascii") as file:
+                    file.write(text)
+                self.assertEqual(tell.mail_of("other"), wanted)
+
+    def test_a_name_stands_for_its_settings(self) -> None:
+        settings.HOME = "/etc/rooms"
+        for name in ("office", ""):
+            self.assertEqual(settings.file_of(name), "/etc/rooms/office.conf")
+        for path in ("./office", "/srv/x.conf"):
+            self.assertEqual(settings.file_of(path), path)
+
+    def test_no_line_of_a_mail_is_a_command(self) -> None:
+        sent: list[str] = []
+
+        def tells(_words: list[str], text: str) -> bool:
+            sent.append(text)
+            return True
+
+        with unittest.mock.patch.object(said, "_tell", tells):
+            said.mail("root", "x", ["a\n~! b", "~q"])
+        self.assertEqual(sent, ["a\n ~! b\n ~q\n"])
+
+
+if __name__ == "__main__":
+    unittest.main()

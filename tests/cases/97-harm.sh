@@ -1,0 +1,295 @@
+# What a hung, full or foreign disk, a clock that was set back, a killed run and another account can
+# do to the nightly run, standby copies and restores: the server goes on, somebody is told, and the
+# newest sound backup is the one that is restored.
+
+if [ "$loopback" = no ] || ! has flock || ! has setpriv || ! has setsid; then
+  skip 'harm to copies of a room' 'no loopback, or no flock, setpriv, setsid'
+  return
+fi
+make_stand
+night() { verb backup "$PWD/conf"; }
+setting() { # NAME VALUE
+  { grep -v "^$1=" conf; echo "$1=$2"; } >conf.new
+  mv conf.new conf
+}
+new_office() {
+  unit stop
+  rm -f office/F office/F-wal
+  as_user "$rooms" init "$PWD/office/F" root staff >/dev/null
+  printf '%s\n' 'list:a' "A:fd:root:$ALL" | as_user "$rooms" reset "$PWD/office/F" / dacl >/dev/null
+  unit start
+}
+answers() { # NAME TARGET REPLY [METHOD [BODY]]
+  read -r port <"$stand/port"
+  asks "$1" "$3" "${4:-GET}" "$2" root "${5-}"
+}
+mailed() { holds "$1: mail" grep -qF -e "$2" "$stand/messages"; } # NAME TEXT
+newest() { (cd backups && grep -l . ./*/run 2>/dev/null | while IFS= read -r one; do echo "$(sed -n 's/^number //p' "$one") ${one%/run}"; done) | sort -n | tail -n 1 | sed 's/.*\///'; }
+new_office
+answers 'a document' /doc/f made PUT hello
+
+# Locks lie where nobody else gets to. What was one before is none any more.
+night
+holds 'a night' [ "$status" = 0 ]
+holds 'its lock is closed to others' [ "$(stat -c '%a %u' run/.rooms-admin)" = "700 $(id -u)" ]
+exec 7<conf 8<backups
+flock 7
+flock 8
+sleep 1
+night
+holds 'whoever may read the settings stops no night' [ "$status" = 0 ]
+exec 7<&- 8<&-
+if [ "$(id -u)" = 0 ]; then
+  setpriv --reuid=65533 --regid=65533 --clear-groups flock -n run/.rooms-admin/rooms true 2>/dev/null
+  holds 'nobody else takes the lock' [ "$?" != 0 ]
+  chmod 755 run/.rooms-admin
+  night
+  says 'a folder of locks that is open' 2 "isn't closed to others"
+  chmod 700 run/.rooms-admin
+fi
+
+# Nothing that the server's user wrote is read as root.
+if [ "$(id -u)" = 0 ] && [ "$STAND_USER" != 0 ]; then
+  cat >prog <<END
+#!/bin/bash
+[ "\$1" = --version ] || echo "\$(id -u) \$*" >>"$PWD/ran"
+exec "$rooms" "\$@"
+END
+  chmod 755 prog
+  : >ran
+  chmod 666 ran
+  setting PROGRAM "$PWD/prog"
+  sleep 1
+  night
+  holds 'a night by the room'"'"'s user' [ "$status" = 0 ]
+  verb standby "$PWD/conf"
+  holds 'a standby copy by it' [ "$status" = 0 ]
+  sort -u ran >got
+  printf "$STAND_USER %s\n" 'audit ./F' 'dump ./F' 'review ./F /' 'verify ./F' >wanted
+  same 'what ran, and as whom' got wanted
+  holds 'the backups are root'"'"'s again' [ -z "$(find backups -not -user 0)" ]
+  setting PROGRAM "$stand/bin/rooms"
+else
+  skip 'who reads a copy' 'no root, or no other user'
+fi
+
+# A backup is known by the number of its run, whatever the clock says.
+rm -rf backups/*
+night
+holds 'the first' [ "$status" = 0 ]
+first=$(newest)
+holds 'has a number' [ "$(cat "backups/$first/run")" = 'number 1' ]
+mv "backups/$first" backups/2999-01-01.030000
+answers 'a later document' /doc/later made PUT later
+night
+says 'the clock was set back' 1 'the clock was set back: the backup 2999-01-01.030000 was made before'
+mailed 'the clock was set back' 'the clock was set back'
+second=$(newest)
+holds 'the second' [ "$second" != 2999-01-01.030000 -a "$(cat "backups/$second/run")" = 'number 2' ]
+sleep 1
+night
+holds 'it is told once' [ "$status" = 0 ]
+third=$(newest)
+unit stop
+verb restore --conf "$PWD/conf" latest
+says 'latest is the newest' 0 "restored $PWD/office/F from $PWD/backups/$third"
+unit start
+answers 'with what came last' /doc/later "reply '200 OK' application/octet-stream later"
+rm -rf office/before-restore.*
+setting KEEP 2
+sleep 1
+night
+holds 'a night that keeps two' [ "$status" = 0 ]
+holds 'the one of the future goes, which is the oldest' [ "$(ls backups | wc -l) $(ls -d backups/2999* 2>/dev/null)" = '2 ' ]
+setting KEEP 0
+
+# What a run left that was cut off with its machine goes at the next one, and is told.
+mkdir backups/2020-01-01.030000.part backups/2020-01-02.030000.part
+cp office/F backups/2020-01-01.030000.part/
+echo mine >backups/2020-01-02.030000.part/mine
+mkdir "backups/$third/unfinished"
+sleep 1
+night
+says 'a copy that was left' 1 'interrupted: an earlier run was cut off, and left no backup of 2020-01-01.030000'
+mailed 'a copy that was left' 'left no backup of 2020-01-01.030000'
+says 'a text that was left' 1 "the backup of $third may lack a part"
+holds 'they are gone' [ ! -e backups/2020-01-01.030000.part -a ! -e "backups/$third/unfinished" ]
+holds 'what is not ours stays' [ "$(cat backups/2020-01-02.030000.part/mine)" = mine ]
+rm -r backups/2020-01-02.030000.part
+sleep 1
+night
+holds 'it is told once' [ "$status" = 0 ]
+
+# Backups have to be where nobody else can put a link.
+if [ "$(id -u)" = 0 ]; then
+  mkdir -p open/backups foreign
+  chmod 777 open
+  chown 65534 foreign
+  for place in open/backups open foreign; do
+    cp conf kept
+    setting BACKUPS "$PWD/$place"
+    night
+    says "backups in $place" 2 "not root's: others can change"
+    mailed "backups in $place" "not root's"
+    verb standby "$PWD/conf"
+    says "a standby copy in $place" 2 "not root's: others can change"
+    holds "nothing is written to $place" [ -z "$(find "$place" -type f)" ]
+    mv kept conf
+  done
+  unit_runs 'the server runs'
+fi
+
+# A restore out of the room's own folder follows no link, and what it writes is never of root's.
+if [ "$(id -u)" = 0 ] && [ "$STAND_USER" != 0 ]; then
+  (umask 077 && echo 'a secret of root' >secret)
+  as_user mkdir office/before-restore.2026-11-27.120000
+  as_user ln -s "$PWD/secret" office/before-restore.2026-11-27.120000/F
+  unit stop
+  verb restore --conf "$PWD/conf" "$PWD/office/before-restore.2026-11-27.120000"
+  says 'a link in the place of a backup' 1 'a link, which is not followed'
+  holds 'nothing of it is copied' [ "$(grep -rls 'secret of root' office)" = '' ]
+  as_user rm -r office/before-restore.2026-11-27.120000
+  # A folder of the restore that somebody swaps for a link while the copy is made.
+  mkdir elsewhere
+  cat >"$stand/at-cat" <<END
+rm -rf "$PWD/office/restoring.F/new"
+ln -s "$PWD/elsewhere" "$PWD/office/restoring.F/new"
+END
+  verb restore --conf "$PWD/conf" latest
+  holds 'a folder that becomes a link' [ "$status" != 0 ]
+  holds 'nothing is written through it' [ -z "$(ls elsewhere)" ]
+  rm -rf office/restoring.F
+  unit start
+  answers 'the room is as it was' /doc/later "reply '200 OK' application/octet-stream later"
+fi
+
+# A restore that stops and starts the server itself, and one that is killed meanwhile.
+answers 'a document after the backup' /doc/after made PUT after
+verb restore --conf "$PWD/conf" latest
+says 'a server that runs' 2 'the server runs'
+read -r port <"$stand/port"
+verb restore --conf "$PWD/conf" --start latest
+says 'with --start' 0 "restored $PWD/office/F"
+unit_runs 'with --start'
+answers 'it is the backup' /doc/after "json '404 Not Found' '{\"at\":\"/after\",\"why\":\"no-such\"}'"
+echo verify >"$stand/no-word"
+verb restore --conf "$PWD/conf" --start latest
+says 'no sound backup' 1 'no backup: verify of'
+rm "$stand/no-word"
+unit_runs 'no sound backup: the server runs'
+for how in TERM KILL; do
+  for number in {1..60}; do
+    rm -rf "$stand/hit" office/before-restore.*
+    export KILL_AT=$number KILL_HOW=$how
+    verb restore --conf "$PWD/conf" --start latest
+    unset KILL_AT
+    [ -e "$stand/hit" ] || break
+    name="$how at $number, $(cat "$stand/hit")"
+    name=${name//$PWD\//}
+    # Another process may have to put the room in place and start the server.
+    for turn in {1..400}; do
+      read -r port <"$stand/port"
+      if [ "$(unit is-active)" = active ] && (exec 3<>"/dev/tcp/127.0.0.1/$port") 2>/dev/null; then break; fi
+      sleep 0.05
+    done
+    unit_runs "$name"
+    answers "$name: a whole room" /doc/later "reply '200 OK' application/octet-stream later"
+  done
+  holds "$how: the calls came to an end" [ "$number" -gt 12 -a "$number" -lt 60 ]
+done
+
+# The room's disk is full: each change gets 500, which the run tells, and there is a backup even so.
+if mkdir small && mount -t tmpfs -o size=8m,mode=755 none small 2>/dev/null; then
+  chown "$STAND_USER" small
+  unit stop
+  cp -p office/F small/F
+  cp conf kept
+  # The stand serves office/F.
+  mount --bind small office
+  unit start
+  head -c 8000000 /dev/zero >small/filler 2>/dev/null
+  answers 'a change on a full disk' /doc/more "json '500 Internal Server Error' '{\"why\":\"store\"}'" PUT "$(head -c 100000 /dev/zero | tr '\0' a)"
+  sleep 1
+  night
+  says 'a full disk' 1 "the disk of $PWD/office/F takes no change, which needs 4 MB"
+  mailed 'a full disk' 'takes no change'
+  unit_runs 'a full disk: the server runs'
+  holds 'a full disk: there is a backup' [ "$("$rooms" verify "backups/$(newest)/F" 2>&1)" = sound ]
+  rm small/filler
+  sleep 1
+  night
+  holds 'once it has space' [ "$status" = 0 ]
+  unit stop
+  umount office
+  umount small
+  mv kept conf
+  unit start
+else
+  skip 'a full disk' 'no leave to mount'
+fi
+
+# A disk of backups that hangs: the server goes on, and somebody is told.
+frozen=
+if [ "$(id -u)" = 0 ] && has fsfreeze && has mkfs.ext4 && truncate -s 24M disk && mkfs.ext4 -q disk 2>/dev/null &&
+  mkdir hung && mount -o loop disk hung 2>/dev/null; then
+  frozen=$PWD/hung
+fi
+if [ -n "$frozen" ]; then
+  chmod 700 hung
+  setting BACKUPS "$frozen"
+  hangs() { # SECONDS: a run whose disk hangs from the copy on, and for how long the server may be held
+    echo "fsfreeze -f '$frozen'" >"$stand/at-cat"
+    (
+      unset KILL_AT
+      night
+      echo "$status" >ended
+    ) &
+    run=$!
+    until [ ! -e "$stand/at-cat" ]; do sleep 0.1; done
+    began=$SECONDS
+    answers "a disk that hangs: the server answers within $1 s" '/can/?' "json '200 OK' '{}'"
+    holds "a disk that hangs: it was held for less than $1 s" [ $((SECONDS - began)) -lt "$1" ]
+    holds 'a disk that hangs: the run is not done' [ -d "/proc/$run" ]
+  }
+  hangs 10
+  fsfreeze -u "$frozen"
+  wait "$run"
+  holds 'once it goes on there is a backup' [ "$(cat ended)" = 0 -a -n "$(ls hung | grep -v lost)" ]
+  # Where the room's own disk has no space for a copy, it goes to the other one while the server is
+  # held: for 30 s at most.
+  mount -t tmpfs -o size=32m,mode=755 none small
+  chown "$STAND_USER" small
+  unit stop
+  cp -p office/F small/F
+  mount --bind small office
+  unit start
+  head -c 3000000 /dev/urandom >body
+  for n in 1 2 3; do answers "a large document $n" "/doc/large$n" made PUT "$(head -c 1000000 /dev/zero | tr '\0' a)"; done
+  hangs 60
+  until grep -qF 'was held for 30 s' "$stand/messages" || [ ! -d "/proc/$run" ]; do sleep 0.5; done
+  mailed 'a disk that hangs while it is copied to' 'the server was held for 30 s, and goes on'
+  fsfreeze -u "$frozen"
+  wait "$run"
+  holds 'the run fails' [ "$(cat ended)" = 1 ]
+  answers 'and the server answers' '/can/?' "json '200 OK' '{}'"
+  unit stop
+  umount office
+  umount small
+  umount hung
+  setting BACKUPS "$PWD/backups"
+  unit start
+else
+  skip 'a disk that hangs' 'no root, fsfreeze or mkfs.ext4, or no leave to mount'
+fi
+
+# Names in the folders of a machine that can't be kept are told.
+if [ "$(id -u)" = 0 ]; then
+  odd=$(printf 'no\377text')
+  echo x >root/etc/rooms/$'tab\tname'
+  echo x >"root/etc/rooms/$odd"
+  sleep 1
+  LC_ALL=C.UTF-8 night
+  says 'a name with a control byte' 1 "it lacks 'etc/rooms/tab\\tname', whose name isn't plain text"
+  says 'a name that is no text' 1 "it lacks 'etc/rooms/no"
+  rm root/etc/rooms/$'tab\tname' "root/etc/rooms/$odd"
+fi

@@ -1,0 +1,42 @@
+# rooms-admin of contrib for the room of ./office.conf, with the stand-ins of units.sh.
+
+plays_people() { [ "$loopback" = yes ] && has curl && has setsid && [ -x /usr/bin/python3 ]; }
+
+# The settings' name is the room's.
+make_people() {
+  make_stand
+  mv conf office.conf
+  echo PORT= >>office.conf
+}
+room_verb() { verb "$1" "${@:2}" "$PWD/office.conf"; }
+setting() { # NAME VALUE
+  sed "/^$1=/d" office.conf >conf.new
+  echo "$1=$2" >>conf.new
+  mv conf.new office.conf
+}
+ended_well() { holds "$1: $(head -c 300 "$work/err")" [ "$status" = 0 ]; } # NAME
+# The server gets another port with each start.
+starts() {
+  unit start
+  read -r port <"$stand/port"
+  setting PORT "$port"
+}
+
+# Plays a verb that is killed at each call, and CHECK after each.
+killed_everywhere() { # CHECK VERB LEAST
+  local check=$1 number
+  for how in TERM KILL; do
+    for number in {1..80}; do
+      rm -f "$stand/hit"
+      export KILL_AT=$number KILL_HOW=$how
+      room_verb "$2"
+      unset KILL_AT
+      [ -e "$stand/hit" ] || break
+      name="$2, $how at $(cat "$stand/hit")"
+      name=${name//$PWD\//}
+      "$check"
+    done
+    holds "$2, $how: the calls came to an end" [ "$number" -gt "$3" -a "$number" -lt 80 ]
+    holds "$2, $how: the last one ends well" [ "$status" = 0 ]
+  done
+}
