@@ -95,7 +95,9 @@ if has python3; then
   "$top/tools/crates" --check >found
   none 'the tables of crates' found
   "$top/tools/definitions" --check >found
-  none 'the files of definitions that statement.md counts' found
+  none 'the files of definitions that statement.md counts, and the contracts that it names' found
+  "$top/tools/definitions" --print >found
+  holds 'the contracts that statement.md names are printed' grep -q '^pub fn host<' found
   "$top/tools/speed" check >found
   none 'the places of tables of times' found
   "$top/tools/unused" >found 2>&1 && : >found
@@ -125,10 +127,10 @@ holds "CHANGELOG.md has version $wanted" [ "$(sed -n 's/^## \[\([0-9][^]]*\)\].*
 
 # What the page quotes of contracts and definitions stands there.
 stripped() { sed 's/^ *//' "$@" | LC_ALL=C sort -u; }
-awk '/^```/ { quoted = !quoted; next } quoted && length > 12' "$top"/docs/{statement,laws,contracts}.md | stripped >quoted
+awk '/^```/ { quoted = !quoted; next } quoted && length > 12' "$top"/docs/statement.md | stripped >quoted
 stripped "$top"/crates/*/src/*.rt "$top"/crates/*/specs/*.antt >stated
 LC_ALL=C comm -23 quoted stated >found
-none 'the quotes of statement.md, laws.md and contracts.md' found
+none 'the quotes of statement.md' found
 
 # The case itself finds what it is for.
 printf '%s\n' '# One `two`, three' '# A' '# A' '[x](#one-two-three) [x](#a-1) [x](page.md) [x](page.md#a "T")' '```' '[x](none.md)' '```' \
