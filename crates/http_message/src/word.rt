@@ -120,103 +120,22 @@ impl Word {
     pub fn action(self, verb: Verb) -> Option<Action>
         ensures { result ≡ action_of self verb }
     {
-        match self {
-            Word::Doc => doc_action(verb),
-            Word::Folder => folder_action(verb),
-            Word::Object => object_action(verb),
-            Word::Move => move_action(verb),
-            Word::Dacl => dacl_action(verb),
-            Word::Sacl => sacl_action(verb),
-            Word::Attr => attr_action(verb),
-            Word::Can => can_action(verb),
+        match (self, verb) {
+            (Word::Doc, Verb::Get) => Some(Action::Read),
+            (Word::Doc, Verb::Put) => Some(Action::Write),
+            (Word::Doc, Verb::Post) => Some(Action::Append),
+            (Word::Folder, Verb::Get) => Some(Action::List),
+            (Word::Folder, Verb::Post) => Some(Action::MakeFolder),
+            (Word::Object, Verb::Delete) => Some(Action::Remove),
+            (Word::Move, Verb::Post) => Some(Action::Move),
+            (Word::Dacl, Verb::Get) => Some(Action::ReadList(Which::Dacl)),
+            (Word::Dacl, Verb::Put) => Some(Action::SetList(Which::Dacl)),
+            (Word::Sacl, Verb::Get) => Some(Action::ReadList(Which::Sacl)),
+            (Word::Sacl, Verb::Put) => Some(Action::SetList(Which::Sacl)),
+            (Word::Attr, Verb::Get) => Some(Action::ReadAttr),
+            (Word::Attr, Verb::Put) => Some(Action::SetOwners),
+            (Word::Can, Verb::Get) => Some(Action::Can),
+            _ => None,
         }
-    }
-}
-
-fn doc_action(verb: Verb) -> Option<Action>
-    ensures { result ≡ action_of Word.Doc verb }
-{
-    match verb {
-        Verb::Get => Some(Action::Read),
-        Verb::Post => Some(Action::Append),
-        Verb::Put => Some(Action::Write),
-        Verb::Delete => None,
-    }
-}
-
-fn folder_action(verb: Verb) -> Option<Action>
-    ensures { result ≡ action_of Word.Folder verb }
-{
-    match verb {
-        Verb::Get => Some(Action::List),
-        Verb::Post => Some(Action::MakeFolder),
-        Verb::Put => None,
-        Verb::Delete => None,
-    }
-}
-
-fn object_action(verb: Verb) -> Option<Action>
-    ensures { result ≡ action_of Word.Object verb }
-{
-    match verb {
-        Verb::Get => None,
-        Verb::Post => None,
-        Verb::Put => None,
-        Verb::Delete => Some(Action::Remove),
-    }
-}
-
-fn move_action(verb: Verb) -> Option<Action>
-    ensures { result ≡ action_of Word.Move verb }
-{
-    match verb {
-        Verb::Get => None,
-        Verb::Post => Some(Action::Move),
-        Verb::Put => None,
-        Verb::Delete => None,
-    }
-}
-
-fn dacl_action(verb: Verb) -> Option<Action>
-    ensures { result ≡ action_of Word.Dacl verb }
-{
-    match verb {
-        Verb::Get => Some(Action::ReadList(Which::Dacl)),
-        Verb::Post => None,
-        Verb::Put => Some(Action::SetList(Which::Dacl)),
-        Verb::Delete => None,
-    }
-}
-
-fn sacl_action(verb: Verb) -> Option<Action>
-    ensures { result ≡ action_of Word.Sacl verb }
-{
-    match verb {
-        Verb::Get => Some(Action::ReadList(Which::Sacl)),
-        Verb::Post => None,
-        Verb::Put => Some(Action::SetList(Which::Sacl)),
-        Verb::Delete => None,
-    }
-}
-
-fn attr_action(verb: Verb) -> Option<Action>
-    ensures { result ≡ action_of Word.Attr verb }
-{
-    match verb {
-        Verb::Get => Some(Action::ReadAttr),
-        Verb::Post => None,
-        Verb::Put => Some(Action::SetOwners),
-        Verb::Delete => None,
-    }
-}
-
-fn can_action(verb: Verb) -> Option<Action>
-    ensures { result ≡ action_of Word.Can verb }
-{
-    match verb {
-        Verb::Get => Some(Action::Can),
-        Verb::Post => None,
-        Verb::Put => None,
-        Verb::Delete => None,
     }
 }

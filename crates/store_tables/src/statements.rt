@@ -160,44 +160,6 @@ pub(crate) fn delete_node<S: Alter>(tx: &mut Transaction<'_, S>, id: u64) -> Res
     tx.execute("DELETE FROM nodes WHERE id = ?1", params![row])
 }
 
-// Writes the dacl in the row of this number.
-fn update_dacl<S: Alter>(
-    tx: &mut Transaction<'_, S>,
-    id: u64,
-    list: &HeldColumns,
-) -> Result<usize, Error>
-    requires { StoresHeld list.now }
-    ensures same_reference { tx.new.conn.ghost_name ≡ tx.old.conn.ghost_name }
-    ensures writes { ExecutesSql (OfRow id (Recasts (sets_held Which.Dacl list.now.flags
-        (string_bytes list.now.own) (string_bytes list.now.inh))))
-        (state S.Store tx.old.conn.now) (state S.Store tx.new.conn.now) result }
-{
-    let row = rowid_of(id)?;
-    tx.execute(
-        "UPDATE nodes SET dacl_flags = ?2, dacl_own = ?3, dacl_inh = ?4 WHERE id = ?1",
-        params![row, &list.flags, &list.own, &list.inh],
-    )
-}
-
-// The same of the sacl.
-fn update_sacl<S: Alter>(
-    tx: &mut Transaction<'_, S>,
-    id: u64,
-    list: &HeldColumns,
-) -> Result<usize, Error>
-    requires { StoresHeld list.now }
-    ensures same_reference { tx.new.conn.ghost_name ≡ tx.old.conn.ghost_name }
-    ensures writes { ExecutesSql (OfRow id (Recasts (sets_held Which.Sacl list.now.flags
-        (string_bytes list.now.own) (string_bytes list.now.inh))))
-        (state S.Store tx.old.conn.now) (state S.Store tx.new.conn.now) result }
-{
-    let row = rowid_of(id)?;
-    tx.execute(
-        "UPDATE nodes SET sacl_flags = ?2, sacl_own = ?3, sacl_inh = ?4 WHERE id = ?1",
-        params![row, &list.flags, &list.own, &list.inh],
-    )
-}
-
 /// Writes a list in the row of this number, and none of its other columns.
 pub(crate) fn update_held<S: Alter>(
     tx: &mut Transaction<'_, S>,
@@ -211,9 +173,16 @@ pub(crate) fn update_held<S: Alter>(
         (string_bytes list.now.own) (string_bytes list.now.inh))))
         (state S.Store tx.old.conn.now) (state S.Store tx.new.conn.now) result }
 {
+    let row = rowid_of(id)?;
     match which {
-        Which::Dacl => update_dacl(tx, id, list),
-        Which::Sacl => update_sacl(tx, id, list),
+        Which::Dacl => tx.execute(
+            "UPDATE nodes SET dacl_flags = ?2, dacl_own = ?3, dacl_inh = ?4 WHERE id = ?1",
+            params![row, &list.flags, &list.own, &list.inh],
+        ),
+        Which::Sacl => tx.execute(
+            "UPDATE nodes SET sacl_flags = ?2, sacl_own = ?3, sacl_inh = ?4 WHERE id = ?1",
+            params![row, &list.flags, &list.own, &list.inh],
+        ),
     }
 }
 
@@ -255,42 +224,6 @@ pub(crate) fn update_place<S: Alter>(
     )
 }
 
-// Writes what the dacl inherits in the row of this number.
-fn update_dacl_inh<S: Alter>(
-    tx: &mut Transaction<'_, S>,
-    id: u64,
-    text: &str,
-) -> Result<usize, Error>
-    requires { IsCanonical text.now }
-    ensures same_reference { tx.new.conn.ghost_name ≡ tx.old.conn.ghost_name }
-    ensures writes { ExecutesSql (OfRow id (Recasts (sets_inh Which.Dacl text.now)))
-        (state S.Store tx.old.conn.now) (state S.Store tx.new.conn.now) result }
-{
-    let row = rowid_of(id)?;
-    tx.execute(
-        "UPDATE nodes SET dacl_inh = ?2 WHERE id = ?1",
-        params![row, text],
-    )
-}
-
-// Writes what the sacl inherits in the row of this number.
-fn update_sacl_inh<S: Alter>(
-    tx: &mut Transaction<'_, S>,
-    id: u64,
-    text: &str,
-) -> Result<usize, Error>
-    requires { IsCanonical text.now }
-    ensures same_reference { tx.new.conn.ghost_name ≡ tx.old.conn.ghost_name }
-    ensures writes { ExecutesSql (OfRow id (Recasts (sets_inh Which.Sacl text.now)))
-        (state S.Store tx.old.conn.now) (state S.Store tx.new.conn.now) result }
-{
-    let row = rowid_of(id)?;
-    tx.execute(
-        "UPDATE nodes SET sacl_inh = ?2 WHERE id = ?1",
-        params![row, text],
-    )
-}
-
 /// Writes what a list inherits in the row of this number, and none of its other columns.
 pub(crate) fn update_inh<S: Alter>(
     tx: &mut Transaction<'_, S>,
@@ -303,52 +236,17 @@ pub(crate) fn update_inh<S: Alter>(
     ensures writes { ExecutesSql (OfRow id (Recasts (sets_inh which text.now)))
         (state S.Store tx.old.conn.now) (state S.Store tx.new.conn.now) result }
 {
+    let row = rowid_of(id)?;
     match which {
-        Which::Dacl => update_dacl_inh(tx, id, text),
-        Which::Sacl => update_sacl_inh(tx, id, text),
+        Which::Dacl => tx.execute(
+            "UPDATE nodes SET dacl_inh = ?2 WHERE id = ?1",
+            params![row, text],
+        ),
+        Which::Sacl => tx.execute(
+            "UPDATE nodes SET sacl_inh = ?2 WHERE id = ?1",
+            params![row, text],
+        ),
     }
-}
-
-// Writes what the dacls inherit in the rows of these numbers, from the first to the last.
-fn update_dacl_range<S: Alter>(
-    tx: &mut Transaction<'_, S>,
-    first: u64,
-    last: u64,
-    text: &str,
-) -> Result<usize, Error>
-    requires { IsCanonical text.now }
-    ensures same_reference { tx.new.conn.ghost_name ≡ tx.old.conn.ghost_name }
-    ensures writes { ExecutesSql
-        (OfRows first last (RecastsAll (sets_inh Which.Dacl text.now)))
-        (state S.Store tx.old.conn.now) (state S.Store tx.new.conn.now) result }
-{
-    let from = rowid_of(first)?;
-    let to = rowid_of(last)?;
-    tx.execute(
-        "UPDATE nodes SET dacl_inh = ?3 WHERE id >= ?1 AND id <= ?2",
-        params![from, to, text],
-    )
-}
-
-// The same of the sacls.
-fn update_sacl_range<S: Alter>(
-    tx: &mut Transaction<'_, S>,
-    first: u64,
-    last: u64,
-    text: &str,
-) -> Result<usize, Error>
-    requires { IsCanonical text.now }
-    ensures same_reference { tx.new.conn.ghost_name ≡ tx.old.conn.ghost_name }
-    ensures writes { ExecutesSql
-        (OfRows first last (RecastsAll (sets_inh Which.Sacl text.now)))
-        (state S.Store tx.old.conn.now) (state S.Store tx.new.conn.now) result }
-{
-    let from = rowid_of(first)?;
-    let to = rowid_of(last)?;
-    tx.execute(
-        "UPDATE nodes SET sacl_inh = ?3 WHERE id >= ?1 AND id <= ?2",
-        params![from, to, text],
-    )
 }
 
 /// Writes what a list inherits in the rows of these numbers, from the first to the last, and none
@@ -365,9 +263,17 @@ pub(crate) fn update_range<S: Alter>(
     ensures writes { ExecutesSql (OfRows first last (RecastsAll (sets_inh which text.now)))
         (state S.Store tx.old.conn.now) (state S.Store tx.new.conn.now) result }
 {
+    let from = rowid_of(first)?;
+    let to = rowid_of(last)?;
     match which {
-        Which::Dacl => update_dacl_range(tx, first, last, text),
-        Which::Sacl => update_sacl_range(tx, first, last, text),
+        Which::Dacl => tx.execute(
+            "UPDATE nodes SET dacl_inh = ?3 WHERE id >= ?1 AND id <= ?2",
+            params![from, to, text],
+        ),
+        Which::Sacl => tx.execute(
+            "UPDATE nodes SET sacl_inh = ?3 WHERE id >= ?1 AND id <= ?2",
+            params![from, to, text],
+        ),
     }
 }
 
