@@ -1,6 +1,6 @@
 -- A route that is added.
-use Rattle.std.proofs.Common.{◌≡◌, ℕ, List, [], Result, Ok, Err, OnOk, refl, sym, subst, ◌∙◌, inl}
-use Rattle.std.proofs.Common.{inr}
+use Rattle.std.proofs.Common.{◌≡◌, ℕ, List, [], Result, Ok, Err, OnOk, refl, sym, ◌∙◌, inl, inr}
+use Rattle.std.proofs.Common.{arith}
 use Rattle.matchit.specs.Route.{Scan, parse_route}
 use Rattle.matchit.specs.Router.{InsertsRead}
 use Rattle.matchit.specs.declared.error.InsertError.{InsertError}
@@ -8,11 +8,10 @@ use Rattle.matchit.proofs.OnLiterals.{matchit_on_literals}
 use Rattle.http_message.specs.declared.word.Word.{Word}
 use Rattle.http_message.specs.Routes.{Table, TakesRoute, TakesScan, TakesWords, every_word}
 use Rattle.http_message.specs.Routes.{with_route, with_scan}
+use Rattle.std.proofs.lemmas.Bool.Decides.{nat_tests}
 
 ok-is-no-err : {A E : Type 0} {a : A} {e : E} → Ok a ≡ Err e → ⊥
-ok-is-no-err {A} {E} e =
-    let P : Result A E → Type 0 = λ r. elim r [ Ok x ↦ Unit {0} | Err y ↦ ⊥ ] in
-    subst P e tt
+ok-is-no-err {A} {E} e = grind (arith, nat_tests)
 
 adds-scan : (scan : Result Scan InsertError) (word : Word) (old new : Table) (u : Unit {0})
     → InsertsRead scan word old new (Ok u) → new ≡ with_scan scan word old

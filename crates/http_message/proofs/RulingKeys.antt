@@ -1,6 +1,6 @@
 -- Rulings under their letters, as the members of an object.
 use Rattle.std.proofs.Common.{◌≡◌, ℕ, List, [], ◌∷◌, ◌++◌, Some, Ordering, Less, Equal, Greater}
-use Rattle.std.proofs.Common.{nat_cmp, refl, ap, ◌∙◌}
+use Rattle.std.proofs.Common.{nat_cmp, refl, ap, ◌∙◌, arith}
 use Rattle.std.proofs.lemmas.Cmp.{nat_list_cmp_total}
 use Rattle.std.specs.Cmp.Lexicographic.{slice_cmp}
 use Rattle.std.specs.List.{AllByRecursion}
@@ -13,6 +13,7 @@ use Rattle.room_entry.specs.Letters.{mask_text}
 use Rattle.room_eval.specs.declared.outcome.Ruling.{Ruling}
 use Rattle.http_message.specs.Bodies.{ruling_text, with_rulings}
 use Rattle.http_message.specs.Laws.{Lacks, RulingsAreKeys, keys_in}
+use Rattle.std.proofs.lemmas.Bool.Decides.{nat_tests}
 
 -- ---- what stands under letters
 
@@ -35,11 +36,7 @@ found : (rulings others : List (List ℕ × Ruling)) (ruling : List ℕ × Rulin
     → get_member (mask_text ruling.0) (with_rulings no_members (rulings ++ ruling ∷ others))
     ≡ Some (string (ruling_text ruling.1))
 found rulings others ruling lacks =
-    let before = with_rulings no_members rulings in
-    let value = string (ruling_text ruling.1) in
-    ap (get_member (mask_text ruling.0)) (one_then_others no_members rulings (ruling ∷ others))
-    ∙ passed (mask_text ruling.0) (put (mask_text ruling.0) value before) others lacks
-    ∙ get_member-put (mask_text ruling.0) value before
+    grind (arith, nat_tests, get_member-put, one_then_others, passed)
 
 -- ---- their order
 

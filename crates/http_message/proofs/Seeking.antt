@@ -1,10 +1,10 @@
 -- The word of a path, by a walk over the table of routes.
 use Rattle.std.proofs.Common.{◌≡◌, ◌⊎◌, ℕ, zero, suc, ◌-◌, Bool, true, false, not, cond, ◌==◌, ◌&&◌}
 use Rattle.std.proofs.Common.{List, [], ◌∷◌, ◌++◌, length, Option, Some, None, option_map, nat_eq}
-use Rattle.std.proofs.Common.{refl, ap, ◌∙◌, inl, inr, true≢false}
+use Rattle.std.proofs.Common.{refl, ap, ◌∙◌, inl, inr, true≢false, arith}
 use Rattle.std.specs.Prelude.{⊤}
 use Rattle.std.specs.List.{starts_with}
-use Rattle.std.proofs.lemmas.Bool.{and_parts, cases_Bool, not-true}
+use Rattle.std.proofs.lemmas.Bool.{and_parts, cases_Bool}
 use Rattle.matchit.specs.Rows.{RowsOf, param_token, catch_all_token}
 use Rattle.matchit.specs.Router.{RouteOf}
 use Rattle.matchit.specs.Seek.{own, step, or_else, seek, param_step, has_slash}
@@ -12,6 +12,7 @@ use Rattle.matchit.proofs.OnLiterals.{matchit_on_literals}
 use Rattle.http_message.specs.declared.word.Word.{Word}
 use Rattle.http_message.specs.Laws.{WordsBeginPaths, word_start}
 use Rattle.http_message.specs.Routes.{Table, routes, with_route, word_of}
+use Rattle.std.proofs.lemmas.Bool.Decides.{nat_tests}
 
 -- ---- rows without a parameter
 
@@ -145,10 +146,7 @@ Blocked ((t, key) ∷ rs) p = (starts_with nat_eq p (front t) ≡ false) × Bloc
 no_param : {K : Type 0} (rs : RowsOf K) → ArePlain rs → step param_token rs ≡ []
 no_param [] h = refl
 no_param (([], key) ∷ rs) h = no_param rs h.1
-no_param ((x ∷ t, key) ∷ rs) h =
-    let other : (x == param_token) ≡ false = not-true (x == param_token)
-    (and_parts (not (x == param_token)) (plain t) h.0).0 in
-    rw other (no_param rs h.1)
+no_param ((x ∷ t, key) ∷ rs) h = grind (arith, nat_tests, no_param rs h.1)
 
 plain_step : {K : Type 0} (b : ℕ) (rs : RowsOf K) → ArePlain rs → ArePlain (step b rs)
 plain_step b [] h = tt
@@ -188,10 +186,7 @@ catch_none : {K : Type 0} (rs : RowsOf K) (p : List ℕ) → Blocked rs p
     → own (step catch_all_token rs) ≡ None
 catch_none [] p h = refl
 catch_none (([], key) ∷ rs) p h = catch_none rs p h.1
-catch_none {K} ((x ∷ t, key) ∷ rs) p h = elim (cases_Bool (x == catch_all_token)) [
-  | inl same ↦ (let wrong : true ≡ false = rw same at h.0 in absurd (true≢false wrong))
-  | inr other ↦ rw other (catch_none rs p h.1)
-]
+catch_none {K} ((x ∷ t, key) ∷ rs) p h = grind (arith, nat_tests, catch_none rs p h.1)
 
 blocked : {K : Type 0} (p : List ℕ) (rs : RowsOf K) → ArePlain rs → Blocked rs p
     → seek 0 rs p ≡ None

@@ -1,7 +1,7 @@
 -- Every path has a target that is read as it.
-use Rattle.std.proofs.Common.{◌≡◌, ℕ, suc, ◌+◌, ◌<◌, Bool, true, false, not, cond, ◌==◌, ◌&&◌, List}
-use Rattle.std.proofs.Common.{[], ◌∷◌, ◌++◌, take, drop, map, nat_lt, Some, codes, refl, sym, ap}
-use Rattle.std.proofs.Common.{◌∙◌, subst, inl, inr, arith, append_assoc, append-nil, true≢false}
+use Rattle.std.proofs.Common.{◌≡◌, ℕ, ◌+◌, ◌<◌, Bool, true, false, not, cond, ◌==◌, ◌&&◌, List, []}
+use Rattle.std.proofs.Common.{◌∷◌, ◌++◌, take, drop, map, nat_lt, Some, codes, refl, sym, ap, ◌∙◌}
+use Rattle.std.proofs.Common.{subst, inl, inr, arith, append_assoc, append-nil, true≢false}
 use Rattle.std.specs.List.{All, AllByRecursion, flat_map, list_all, position_or_len}
 use Rattle.std.specs.Str.{IsUtf8}
 use Rattle.std.proofs.lemmas.Bool.{and_from, and_parts, both_ways, cases_Bool, cond-true, lt-ltb}
@@ -129,10 +129,7 @@ behind_word Word.Can rest = refl
 named : (word : Word) (text : List ℕ) → text ≡ 47 ∷ drop 1 text
     → named_path word (47 ∷ word_text word ++ text) ≡ percent_decode text
 named word text first =
-    ap (λ (l : List ℕ). named_path word (47 ∷ word_text word ++ l)) first
-    ∙ behind_word word (drop 1 text)
-    ∙ sym (percent_decode_not_percent 47 (drop 1 text) no_percent)
-    ∙ ap percent_decode (sym first)
+    grind (arith, nat_tests, behind_word, no_percent, percent_decode_not_percent)
 
 worded : (word : Word) (text : List ℕ) → text ≡ 47 ∷ drop 1 text
     → word_of (47 ∷ word_text word ++ text) ≡ Some word
@@ -199,9 +196,7 @@ word_plain Word.Can = refl
 
 target_plain : (set : AsciiSet) (word : Word) (names : List (List ℕ)) → contains set 63 ≡ true
     → list_all is_plain (target_to set word names) ≡ true
-target_plain set word names has =
-    both_plain (word_text word) (path_text (map (percent_encode set) names)) (word_plain word)
-    (path_plain set names has)
+target_plain set word names has = grind (arith, nat_tests, both_plain, path_plain, word_plain)
 
 plain_ascii : (bytes : List ℕ) → list_all is_plain bytes ≡ true
     → AllByRecursion (λ b. b < 128) bytes
@@ -219,10 +214,7 @@ past_one : (mark : Bool) (n b : ℕ) (bs : List ℕ) → mark ≡ false
     → (take (cond (not mark) (1 + n) 0) (b ∷ bs) ≡ b ∷ take n bs)
     × (drop (cond (not mark) (1 + n) 0 + 1) (b ∷ bs) ≡ drop (n + 1) bs)
 past_one true n b bs other = absurd (true≢false other)
-past_one false n b bs other =
-    let more : 1 + n ≡ suc n = omega arith in
-    let most : 1 + n + 1 ≡ suc (n + 1) = omega arith in
-    (ap (λ (k : ℕ). take k (b ∷ bs)) more, ap (λ (k : ℕ). drop k (b ∷ bs)) most)
+past_one false n b bs other = grind (arith, nat_tests)
 
 cut_past : (bytes rest : List ℕ) → list_all is_plain bytes ≡ true
     → (path_part (bytes ++ rest) ≡ bytes ++ path_part rest)

@@ -1,21 +1,20 @@
 -- A text is its first line and what follows it, and bytes are UTF-8 or not.
-use Rattle.std.proofs.Common.{ℕ, ◌≡◌, ◌<◌, ◌+◌, Bool, true, false, cond, List, [], ◌∷◌, ◌++◌}
-use Rattle.std.proofs.Common.{Option, Some, None, length, take, drop, refl, sym, ap, ◌∙◌, arith}
-use Rattle.std.specs.Prelude.{◌==◌, nat_lt}
-use Rattle.std.specs.Option.{option_map_or}
-use Rattle.std.specs.List.{position, list_all}
-use Rattle.std.specs.Str.{IsUtf8, IsAscii}
+use Rattle.std.proofs.Common.{ℕ, ◌≡◌, ◌<◌, ◌+◌, Bool, true, false, cond, List, [], ◌∷◌, ◌++◌, Some}
+use Rattle.std.proofs.Common.{None, length, take, drop, refl, ap, ◌∙◌, arith}
+use Rattle.std.specs.Prelude.{◌==◌}
+use Rattle.std.specs.List.{position}
+use Rattle.std.specs.Str.{IsUtf8}
 use Rattle.std.specs.Str.Lossy.{utf8_valid_len}
-use Rattle.std.proofs.lemmas.Bool.{ltb-true, ne_eqb, and_parts, or_from, false_from_ne_true}
+use Rattle.std.proofs.lemmas.Bool.{ne_eqb, or_from, false_from_ne_true}
 use Rattle.std.proofs.lemmas.List.{length-drop}
 use Rattle.std.proofs.lemmas.List.Splits.{length-slice_split}
 use Rattle.std.proofs.lemmas.Str.{IsUtf8-from_ascii}
-use Rattle.std.proofs.lemmas.Str.Ascii.{IsAscii-nil, IsAscii-cons}
 use Rattle.room_entry.specs.Pieces.{pieces}
 use Rattle.room_ace.specs.Lists.{after_line, lines_of, lines_of_pieces, without_return}
 use Rattle.room_entry.specs.Utf8.{is_utf8}
 use Rattle.room_entry.proofs.Cuts.{cut_at, not_cut}
 use Rattle.room_entry.proofs.Visible.{ascii}
+use Rattle.std.proofs.lemmas.Bool.Decides.{nat_tests}
 
 abbrev is_end : ℕ → Bool
 is_end byte = byte == 10
@@ -39,15 +38,7 @@ pub lines_of-cut : (bytes line rest : List ℕ) (i : ℕ) → Some i ≡ positio
     → (lines_of bytes ≡ line ∷ lines_of rest) × (length rest < length bytes)
     × (rest ≡ after_line bytes)
 lines_of-cut bytes line rest i found front back =
-    let more = length-slice_split is_end (drop (i + 1) bytes) in
-    let cut : lines_of bytes ≡ without_return (take i bytes) ∷ lines_of (drop (i + 1) bytes) =
-    ap lines_of_pieces (cut_at 10 bytes i found).1
-    ∙ lines-cons (take i bytes) (pieces 10 (drop (i + 1) bytes)) (omega arith) in (
-      cut ∙ ap (λ (start : List ℕ). start ∷ lines_of (drop (i + 1) bytes)) (sym front)
-          ∙ ap (λ (after : List ℕ). line ∷ lines_of after) (sym back),
-      omega (arith, (cut_at 10 bytes i found).0, ap length back, length-drop (i + 1) bytes),
-      back ∙ ap (λ (o : Option ℕ). option_map_or (λ end. drop (end + 1) bytes) o []) found,
-    )
+    grind (arith, nat_tests, cut_at, length-drop, length-slice_split, lines-cons)
 
 drop_whole : (xs : List ℕ) → drop (length xs) xs ≡ []
 drop_whole [] = refl
@@ -59,16 +50,7 @@ pub lines_of-uncut : (bytes line rest : List ℕ) → (bytes ≡ [] → ⊥) →
     → (lines_of bytes ≡ line ∷ lines_of rest) × (length rest < length bytes)
     × (rest ≡ after_line bytes)
 lines_of-uncut bytes line rest some none front back =
-    let nothing : rest ≡ [] = back ∙ drop_whole bytes in (
-      last_line bytes some (not_cut 10 bytes none) ∙ ap (λ (start : List ℕ). start ∷ []) (sym front)
-          ∙ ap (λ (after : List ℕ). line ∷ lines_of after) (sym nothing),
-      omega (arith, ap length nothing, some_length bytes some),
-      nothing ∙ ap (λ (o : Option ℕ). option_map_or (λ end. drop (end + 1) bytes) o []) none,
-    )
-  where
-    some_length : (xs : List ℕ) → (xs ≡ [] → ⊥) → 0 < length xs
-    some_length [] some = absurd (some refl)
-    some_length (x ∷ xs) some = omega arith
+    grind (arith, nat_tests, drop_whole, last_line, not_cut)
 
 -- ---- the end of a line
 

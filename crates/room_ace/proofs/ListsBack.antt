@@ -1,19 +1,15 @@
 -- What is printed of a list is read back.
-use Rattle.std.proofs.Common.{ℕ, ◌≡◌, ◌+◌, ◌≤◌, Bool, true, false, not, ◌&&◌, ◌||◌, List, [], ◌∷◌}
-use Rattle.std.proofs.Common.{◌++◌, map, length, is_some, Option, Some, None, Result, Ok}
-use Rattle.std.proofs.Common.{if◌then◌else◌, refl, sym, ap, ◌∙◌, subst, inl, inr, append_assoc}
-use Rattle.std.proofs.Common.{append-nil, length-append, codes, arith}
-use Rattle.std.specs.Prelude.{filter, ◌==◌, nat_le, nat_lt}
-use Rattle.std.specs.List.{All, list_all, flat_map, enumerate_from, join_with_byte}
-use Rattle.std.proofs.lemmas.Bool.{cases_Bool, and_parts, and_from, eqb-true, false≢true}
-use Rattle.std.proofs.lemmas.Bool.{true≢false, not-true, not_from_false, cond-true, cond-false}
-use Rattle.std.proofs.lemmas.Bool.{or_cases, or_left, leb-true, le-leb, lt-ltb, ltb-false, le-ltb}
+use Rattle.std.proofs.Common.{ℕ, ◌≡◌, ◌+◌, ◌≤◌, Bool, true, false, not, ◌||◌, List, [], ◌∷◌, ◌++◌}
+use Rattle.std.proofs.Common.{map, length, is_some, Option, Some, None, Result, Ok, if◌then◌else◌}
+use Rattle.std.proofs.Common.{refl, sym, ap, ◌∙◌, append_assoc, append-nil, length-append, codes}
+use Rattle.std.proofs.Common.{arith}
+use Rattle.std.specs.Prelude.{filter, ◌==◌, nat_lt, option_and_then}
+use Rattle.std.specs.List.{All, list_all, flat_map, enumerate_from}
+use Rattle.std.proofs.lemmas.Bool.{and_parts, and_from, false≢true, true≢false, not-true, cond-true}
+use Rattle.std.proofs.lemmas.Bool.{cond-false, ltb-false, le-ltb}
 use Rattle.std.proofs.lemmas.List.Elements.{All-head, All-tail, filter-append}
-use Rattle.std.proofs.lemmas.List.Splits.{join_with_byte-slice_split}
 use Rattle.room_entry.specs.Bits.{all_bits, has}
-use Rattle.room_entry.specs.Pieces.{pieces, is_among}
-use Rattle.std.specs.Char.{is_ascii_alphanumeric}
-use Rattle.room_entry.specs.Names.{is_name, is_part, is_local_byte, is_domain_byte, are_name_parts}
+use Rattle.room_entry.specs.Pieces.{pieces}
 use Rattle.room_entry.specs.Ace.{Ace}
 use Rattle.room_ace.specs.Sent.{Sent, own_of, limit_fault}
 use Rattle.room_entry.specs.Letters.{kind_text, letter_if, flags_text, mask_letters, mask_text}
@@ -21,27 +17,25 @@ use Rattle.room_entry.specs.Letters.{letter_of}
 use Rattle.room_ace.specs.Text.{who_text, entry_text, entry_of}
 use Rattle.room_ace.specs.Lists.{entry_lines, list_line, list_text, without_return, lines_of_pieces}
 use Rattle.room_ace.specs.Lists.{lines_of, is_blank, is_comment, numbered_lines, flags_of_list}
-use Rattle.room_ace.specs.Lists.{fault_at, with_entry, and_then, entries_after, sent_with}
-use Rattle.room_ace.specs.Lists.{sent_of_lines}
+use Rattle.room_ace.specs.Lists.{fault_at, with_entry, and_then, entries_after, sent_of_lines}
 use Rattle.room_entry.specs.Utf8.{is_utf8}
-use Rattle.room_ace.specs.Column.{some_of, entry_in, entries_behind, entries_of}
+use Rattle.room_ace.specs.Column.{entry_in, entries_behind, entries_of}
 use Rattle.room_entry.specs.Laws.{has_name, IsEntry}
 use Rattle.room_ace.specs.Laws.{ListReadsBack}
-use Rattle.std.specs.Prelude.{option_and_then}
 use Rattle.room_entry.specs.declared.entry.EntryKind.{EntryKind}
 use Rattle.room_entry.specs.declared.entry.EntryKind.TheVariants.{Allow, Deny, Audit, Alarm}
 use Rattle.room_entry.specs.declared.entry.Who.{Who}
 use Rattle.room_entry.specs.declared.entry.Who.TheVariants.{Owner, Group, Everyone, Anonymous}
 use Rattle.room_entry.specs.declared.entry.Who.TheVariants.{Authenticated, User, Members}
-use Rattle.room_entry.specs.declared.flags.ListFlags.{ListFlags}
 use Rattle.room_entry.specs.declared.fault.ListFault.{ListFault}
 use Rattle.room_entry.specs.declared.fault.ListFault.TheVariants.{TooManyEntries, TooManyOwn}
 use Rattle.room_ace.specs.declared.fault.LineFault.{LineFault}
 use Rattle.room_ace.specs.declared.fault.Why.TheVariants.{NotUtf8}
 use Rattle.room_ace.proofs.RoundTrip.{apart, pieces_at, all_flags, all-map, of_known, reads_back}
-use Rattle.room_entry.proofs.Texts.{all-append, at_bit}
+use Rattle.room_entry.proofs.Texts.{all-append}
 use Rattle.room_entry.proofs.Visible.{is_visible, are_visible, visible_name, visible_utf8}
 use Rattle.room_entry.proofs.Facts.Lists.{all_implied}
+use Rattle.std.proofs.lemmas.Bool.Decides.{nat_tests}
 
 -- ---- a printed entry is of visible ASCII bytes
 
@@ -72,25 +66,21 @@ visible_mask mask known =
 
 visible_entry : (entry : Ace) → IsEntry entry → are_visible (entry_text entry) ≡ true
 visible_entry entry ok =
-    let kind = kind_text entry.kind in
-    let flags = 58 ∷ flags_text entry.flags in
-    let who = 58 ∷ who_text entry.who in
-    let mask = 58 ∷ mask_text entry.mask in
-    all-append is_visible (kind ++ flags ++ who) mask
-    (all-append is_visible (kind ++ flags) who (all-append is_visible kind flags
-    (visible_kind entry.kind)
-    (all_flags is_visible entry.flags refl refl refl refl refl refl refl refl))
-    (visible_who entry.who ok.name)) (visible_mask entry.mask ok.mask)
+    grind (
+      arith,
+      nat_tests,
+      all-append,
+      all_flags,
+      is_visible,
+      visible_kind,
+      visible_mask,
+      visible_who,
+    )
 
 -- ---- what visible bytes are not
 
 other_byte : (c byte : ℕ) → is_visible c ≡ false → is_visible byte ≡ true → not (byte == c) ≡ true
-other_byte c byte hidden shown =
-    elim (cases_Bool (byte == c)) [
-      | inl same ↦
-          absurd (false≢true (sym hidden ∙ ap is_visible (sym (eqb-true byte c same)) ∙ shown))
-      | inr other ↦ not_from_false (byte == c) other
-    ]
+other_byte c byte hidden shown = grind (arith, nat_tests, is_visible)
 
 visible_apart : (c : ℕ) (text : List ℕ) → is_visible c ≡ false → are_visible text ≡ true
     → apart c text ≡ true
@@ -229,19 +219,14 @@ limit_front first rest none =
 pub with_entry_ok : (n : ℕ) (before : List Ace) (entry : Ace) (rest : List Ace)
     → limit_fault ((before ++ entry ∷ []) ++ rest) ≡ None
     → with_entry n before (Ok entry) ≡ Ok (before ++ entry ∷ [])
-with_entry_ok n before entry rest none =
-    let parts = limit_front (before ++ entry ∷ []) rest none in
-    rw (parts.0, parts.1) refl
+with_entry_ok n before entry rest none = grind (arith, nat_tests, limit_front)
 
 line_read : (n : ℕ) (before : List Ace) (entry : Ace) (rest : List Ace) → IsEntry entry
     → limit_fault ((before ++ entry ∷ []) ++ rest) ≡ None
     → (if is_utf8 (entry_text entry) then with_entry n before
     (entry_of (entry_text entry)) else fault_at n NotUtf8) ≡ Ok (before ++ entry ∷ [])
 line_read n before entry rest ok none =
-    cond-true (is_utf8 (entry_text entry)) _ _
-    (visible_utf8 (entry_text entry) (visible_entry entry ok))
-    ∙ ap (with_entry n before) (reads_back entry ok)
-    ∙ with_entry_ok n before entry rest none
+    grind (arith, nat_tests, reads_back, visible_entry, visible_utf8, with_entry_ok)
 
 entries_back : (n : ℕ) (before entries : List Ace) → All IsEntry entries
     → limit_fault (before ++ entries) ≡ None
@@ -268,10 +253,7 @@ entries_visible (entry ∷ entries) each =
 
 entries_say : (entries : List Ace) → list_all says (map entry_text entries) ≡ true
 entries_say [] = refl
-entries_say (entry ∷ entries) =
-    and_from (says (entry_text entry)) (list_all says (map entry_text entries))
-    (kind_says entry.kind (58 ∷ flags_text entry.flags) (58 ∷ who_text entry.who)
-    (58 ∷ mask_text entry.mask)) (entries_say entries)
+entries_say (entry ∷ entries) = grind (arith, nat_tests, kind_says, entries_say entries)
 
 entry_lines-texts : (entries : List Ace) → entry_lines entries ≡ lines_text (map entry_text entries)
 entry_lines-texts [] = refl
@@ -281,9 +263,7 @@ entry_lines-texts (entry ∷ entries) =
 -- ---- entries with no list line
 
 entry_read : (entry : Ace) → IsEntry entry → entry_in (entry_text entry) ≡ Some entry
-entry_read entry ok =
-    cond-true (is_utf8 (entry_text entry)) _ _
-    (visible_utf8 (entry_text entry) (visible_entry entry ok)) ∙ ap some_of (reads_back entry ok)
+entry_read entry ok = grind (arith, nat_tests, reads_back, visible_entry, visible_utf8)
 
 entries_behind_back : (before entries : List Ace) → All IsEntry entries
     → entries_behind before (map entry_text entries) ≡ Some (before ++ entries)
@@ -308,9 +288,7 @@ entries_behind_back before (entry ∷ entries) each =
 pub entries_read_back : (entries : List Ace) → All IsEntry entries
     → entries_of (entry_lines entries) ≡ Some entries
 entries_read_back entries each =
-    ap (λ (text : List ℕ). entries_behind [] (lines_of text)) (entry_lines-texts entries)
-    ∙ ap (entries_behind []) (lines_back (map entry_text entries) (entries_visible entries each))
-    ∙ entries_behind_back [] entries each
+    grind (arith, nat_tests, entries_behind_back, entries_visible, entry_lines-texts, lines_back)
 
 -- ---- a list
 
@@ -321,9 +299,6 @@ module _ (sent : Sent) (each : All IsEntry sent.entries)
 
   abbrev texts : List (List ℕ)
   texts = first_line ∷ map entry_text sent.entries
-
-  abbrev entry_texts : List (ℕ × List ℕ)
-  entry_texts = enumerate_from 2 (map entry_text sent.entries)
 
   shown : are_visible first_line ≡ true
   shown = front_visible sent.flags.auto sent.flags.protect
@@ -339,13 +314,7 @@ module _ (sent : Sent) (each : All IsEntry sent.entries)
       (front_says sent.flags.auto sent.flags.protect) (entries_say sent.entries))
 
   read : (count : ℕ) → sent_of_lines count (enumerate_from 1 texts) ≡ Ok sent
-  read count =
-      cond-true (is_utf8 first_line) _ _ (visible_utf8 first_line shown)
-      ∙ ap (λ (flags : Option ListFlags). sent_with flags 1 entry_texts)
-      (front_flags sent.flags.auto sent.flags.protect)
-      ∙ ap (λ (found : Result (List Ace) LineFault). and_then found
-      (λ entries. Ok (record { flags = sent.flags; entries = entries })))
-      (entries_back 2 [] sent.entries each none)
+  read count = grind (arith, nat_tests, entries_back, front_flags, shown, visible_utf8)
 
 pub list_reads_back : ListReadsBack
 list_reads_back sent each none =

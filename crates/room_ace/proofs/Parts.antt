@@ -1,9 +1,10 @@
 -- Texts of entries that have no four parts.
-use Rattle.std.proofs.Common.{ℕ, ◌<◌, ◌≡◌, List, [], ◌∷◌, Err, refl, ap, ◌∙◌, arith, length}
+use Rattle.std.proofs.Common.{ℕ, ◌<◌, ◌≡◌, List, [], ◌∷◌, Err, refl, arith, length}
 use Rattle.room_entry.specs.Pieces.{pieces}
 use Rattle.room_ace.specs.Text.{entry_of, entry_of_parts}
 use Rattle.room_entry.specs.declared.fault.TextFault.TheVariants.{NotFourParts}
 use Rattle.room_entry.proofs.Cuts.{length-pieces}
+use Rattle.std.proofs.lemmas.Bool.Decides.{nat_tests}
 
 more_parts : (a b c d : List ℕ) (ps : List (List ℕ)) → 0 < length ps
     → entry_of_parts (a ∷ b ∷ c ∷ d ∷ ps) ≡ Err NotFourParts
@@ -16,7 +17,4 @@ pub five_parts : (text kind after flags behind who mask fourth fifth : List ℕ)
     → pieces 58 behind ≡ who ∷ pieces 58 mask
     → pieces 58 mask ≡ fourth ∷ pieces 58 fifth → entry_of text ≡ Err NotFourParts
 five_parts text kind after flags behind who mask fourth fifth first second third last =
-    ap entry_of_parts (first ∙ ap (λ (ps : List (List ℕ)). kind ∷ ps)
-    (second ∙ ap (λ (ps : List (List ℕ)). flags ∷ ps)
-    (third ∙ ap (λ (ps : List (List ℕ)). who ∷ ps) last)))
-    ∙ more_parts kind flags who fourth (pieces 58 fifth) (length-pieces 58 fifth)
+    grind (arith, nat_tests, length-pieces, more_parts)

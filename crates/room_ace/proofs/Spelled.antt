@@ -1,28 +1,25 @@
 -- What spells an entry is ASCII.
 use Rattle.std.proofs.Common.{ℕ, ◌≡◌, Bool, true, false, cond, List, [], ◌∷◌, Option, Some, None}
-use Rattle.std.proofs.Common.{Result, Ok, refl, sym, ap, ◌∙◌, subst, inl, inr, codes, ◌++◌}
+use Rattle.std.proofs.Common.{Result, Ok, refl, sym, ap, ◌∙◌, subst, inl, inr, ◌++◌, arith}
 use Rattle.std.specs.Prelude.{nat_lt}
 use Rattle.std.specs.List.{list_all, join_with_byte}
 use Rattle.std.specs.Cmp.Lexicographic.{same_text as text_equal}
 use Rattle.std.proofs.lemmas.Bool.{cases_Bool, cond-true, cond-false, or_left}
 use Rattle.std.proofs.lemmas.List.Splits.{join_with_byte-slice_split}
 use Rattle.room_entry.specs.Pieces.{pieces, is_among, same_text}
-use Rattle.room_entry.specs.Names.{is_name}
 use Rattle.room_entry.specs.Ace.{Ace}
-use Rattle.room_entry.specs.Letters.{kind_of, flag_letters, flags_of, mask_letters, mask_of}
+use Rattle.room_entry.specs.Letters.{kind_of, flags_of, mask_letters, mask_of}
 use Rattle.room_ace.specs.Text.{who_of, part, entry_of, entry_of_parts}
 use Rattle.room_entry.specs.Utf8.{is_utf8}
 use Rattle.room_ace.specs.Column.{some_of, entry_in}
 use Rattle.room_entry.specs.declared.entry.EntryKind.{EntryKind}
-use Rattle.room_entry.specs.declared.entry.EntryKind.TheVariants.{Allow, Deny, Audit, Alarm}
 use Rattle.room_entry.specs.declared.entry.Who.{Who}
-use Rattle.room_entry.specs.declared.entry.Who.TheVariants.{Owner, Group, Everyone, Anonymous}
-use Rattle.room_entry.specs.declared.entry.Who.TheVariants.{Authenticated}
 use Rattle.room_entry.specs.declared.flags.EntryFlags.{EntryFlags}
 use Rattle.room_entry.specs.declared.fault.TextFault.{TextFault}
 use Rattle.room_entry.proofs.Texts.{all-append, at_bit}
 use Rattle.room_entry.proofs.Visible.{name_ascii}
 use Rattle.room_entry.proofs.Facts.Lists.{all_implied}
+use Rattle.std.proofs.lemmas.Bool.Decides.{nat_tests}
 
 abbrev is_ascii : ℕ → Bool
 is_ascii byte = nat_lt byte 128
@@ -47,17 +44,11 @@ if_some true value known some = refl
 if_some false value known some = absurd (cc)
 
 kind_ascii : (text : List ℕ) (kind : EntryKind) → kind_of text ≡ Some kind → are_ascii text ≡ true
-kind_ascii text kind known =
-    or_word text (codes "A") Allow kind _ refl known
-    (λ d. or_word text (codes "D") Deny kind _ refl d
-    (λ u. or_word text (codes "U") Audit kind _ refl u
-    (λ l. or_word text (codes "L") Alarm kind _ refl l (λ none. absurd (cc)))))
+kind_ascii text kind known = grind (arith, nat_tests, or_word)
 
 flags_ascii : (text : List ℕ) (flags : EntryFlags) → flags_of text ≡ Some flags
     → are_ascii text ≡ true
-flags_ascii text flags known =
-    all_implied (is_among flag_letters) is_ascii (λ byte. at_bit is_ascii flag_letters byte refl) text
-    (if_some (list_all (is_among flag_letters) text) _ flags known)
+flags_ascii text flags known = grind (arith, nat_tests, all_implied, at_bit, if_some)
 
 mask_ascii : (text : List ℕ) (mask : List ℕ) → mask_of text ≡ Some mask → are_ascii text ≡ true
 unfolding mask_letters
@@ -67,13 +58,7 @@ mask_ascii text mask known =
 
 who_ascii : (group : Bool) (text : List ℕ) (who : Who) → who_of group text ≡ Some who
     → are_ascii text ≡ true
-who_ascii group text who known =
-    or_word text (codes "OWNER@") Owner who _ refl known
-    (λ g. or_word text (codes "GROUP@") Group who _ refl g
-    (λ e. or_word text (codes "EVERYONE@") Everyone who _ refl e
-    (λ a. or_word text (codes "ANONYMOUS@") Anonymous who _ refl a
-    (λ u. or_word text (codes "AUTHENTICATED@") Authenticated who _ refl u
-    (λ name. name_ascii text (if_some (is_name text) _ who name))))))
+who_ascii group text who known = grind (arith, nat_tests, if_some, name_ascii, or_word)
 
 -- a part that is well, and what comes after it
 part_ok : {A B C : Type 0} (read : Option A) (fault : TextFault) (rest : A → Result B TextFault)

@@ -1,7 +1,7 @@
 -- A text is read as a list exactly if it spells it.
 use Rattle.std.proofs.Common.{ℕ, ◌≡◌, ◌+◌, Bool, true, not, ◌||◌, List, [], ◌∷◌, ◌++◌, map, length}
 use Rattle.std.proofs.Common.{Option, Some, None, Result, Ok, Err, cond, refl, sym, ap, ◌∙◌, subst}
-use Rattle.std.proofs.Common.{inl, inr, append_assoc, append-nil}
+use Rattle.std.proofs.Common.{inl, inr, append_assoc, append-nil, arith}
 use Rattle.std.specs.Prelude.{filter}
 use Rattle.std.specs.List.{All, AllZip, enumerate_from}
 use Rattle.std.proofs.lemmas.Bool.{cases_Bool, cond-true, cond-false}
@@ -20,6 +20,7 @@ use Rattle.room_ace.specs.Lists.{is_comment, lines_of, numbered_lines, sent_of_l
 use Rattle.room_ace.specs.Lists.{with_entry}
 use Rattle.room_ace.specs.Laws.{ReadsWhatIsSpelled, Spells, saying}
 use Rattle.room_ace.proofs.ListsBack.{with_entry_ok}
+use Rattle.std.proofs.lemmas.Bool.Decides.{nat_tests}
 
 abbrev says : List ℕ → Bool
 says line = not (is_blank line || is_comment line)
@@ -40,19 +41,7 @@ texts_of lines = map (λ (line : ℕ × List ℕ). line.1) lines
 numbered : (n : ℕ) (lines : List (List ℕ))
     → texts_of (filter says_at (enumerate_from n lines)) ≡ filter says lines
 numbered n [] = refl
-numbered n (line ∷ lines) =
-    elim (cases_Bool (says line)) [
-      | inl is ↦
-          ap texts_of (cond-true (says line) ((n, line) ∷ filter says_at (enumerate_from (n + 1) lines))
-          (filter says_at (enumerate_from (n + 1) lines)) is)
-          ∙ ap (λ others. line ∷ others) (numbered (n + 1) lines)
-          ∙ sym (cond-true (says line) (line ∷ filter says lines) (filter says lines) is)
-      | inr isnt ↦
-          ap texts_of (cond-false (says line) ((n, line) ∷ filter says_at (enumerate_from (n + 1) lines))
-          (filter says_at (enumerate_from (n + 1) lines)) isnt)
-          ∙ numbered (n + 1) lines
-          ∙ sym (cond-false (says line) (line ∷ filter says lines) (filter says lines) isnt)
-    ]
+numbered n (line ∷ lines) = grind (arith, nat_tests, numbered (n + 1) lines)
 
 -- ---- the entries
 

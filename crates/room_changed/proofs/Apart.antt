@@ -1,11 +1,9 @@
 -- What changes elsewhere leaves the objects along a path.
-use Rattle.std.proofs.Common.{ℕ, ◌≡◌, inl, inr, Bool, true, false, List, [], ◌∷◌, ◌++◌, Option}
-use Rattle.std.proofs.Common.{Some, None, refl, sym, ap, ◌∙◌, append_assoc, append-nil, take, drop}
-use Rattle.std.proofs.Common.{take-append-drop}
+use Rattle.std.proofs.Common.{ℕ, ◌≡◌, Bool, true, false, List, [], ◌∷◌, ◌++◌, Option, Some, None}
+use Rattle.std.proofs.Common.{refl, sym, ap, ◌∙◌, append_assoc, append-nil, take, drop}
+use Rattle.std.proofs.Common.{take-append-drop, arith}
 use Rattle.std.specs.Option.{option_map}
-use Rattle.std.specs.Prelude.{option_and_then, if◌then◌else◌}
-use Rattle.std.proofs.lemmas.Bool.{cases_Bool}
-use Rattle.std.proofs.lemmas.Option.{none-some, same_Some}
+use Rattle.std.specs.Prelude.{if◌then◌else◌}
 use Rattle.room_entry.specs.declared.object.Which.{Which}
 use Rattle.room_entry.specs.declared.object.Which.TheVariants.{Sacl}
 use Rattle.room_entry.specs.declared.parties.Owners.{Owners}
@@ -20,7 +18,7 @@ use Rattle.room_rows.specs.declared.node.Node.{Node}
 use Rattle.room_machine.specs.Effect.{set_list}
 use Rattle.room_machine.specs.Site.{Site, front, last_name}
 use Rattle.room_machine.specs.Step.{IsFree}
-use Rattle.room_unseen.specs.Outside.{found, found_from, unnumbered, view, Seen, sight}
+use Rattle.room_unseen.specs.Outside.{found, view, Seen}
 use Rattle.room_unseen.specs.Tidy.{IsNumbered}
 use Rattle.room_unseen.proofs.Changed.{nodes_found, owners_view, relisted, list_view, is_child}
 use Rattle.room_unseen.proofs.Grown.{GoesOn, found_append, grown_view, gone_view}
@@ -30,6 +28,7 @@ use Rattle.room_unseen.proofs.Placed.{same_names, names_decide}
 use Rattle.room_unseen.proofs.Settings.{setting, keeper, keeper_blank}
 use Rattle.room_changed.specs.WhoChanged.{basis, deciding}
 use Rattle.room_changed.proofs.Deciding.{deciding_along}
+use Rattle.std.proofs.lemmas.Bool.Decides.{nat_tests}
 
 -- the same objects at each part of the path
 pub record SameDown (q : List (List ℕ)) (a c : Content) : Type 0 where
@@ -46,10 +45,7 @@ basis_down q a c same =
 -- an object stands at each part of a path where one stands at the end
 pub part_there : (a : Content) (q r s : List (List ℕ)) (n : Node) → found a q ≡ Some n
     → q ≡ r ++ s → found a r ≡ None → ⊥
-part_there a q r s n at is none =
-    none-some n (sym (found_append a r s
-    ∙ ap (option_and_then (λ m. found_from a m s)) none)
-    ∙ ap (found a) (sym is) ∙ at)
+part_there a q r s n at is none = grind (arith, nat_tests, found_append)
 
 -- a part doesn't go on from where the path doesn't
 pub part_apart : (p q r s : List (List ℕ)) → (GoesOn p q → ⊥) → q ≡ r ++ s → GoesOn p r → ⊥
@@ -61,10 +57,7 @@ not_at p q r s apart is same =
     part_apart p q r s apart is ([], same ∙ sym (append-nil p))
 
 unlike : (r p : List (List ℕ)) → (r ≡ p → ⊥) → same_names r p ≡ false
-unlike r p other = elim (cases_Bool (same_names r p)) [
-  | inl is ↦ absurd (other ((names_decide r p).0 is))
-  | inr isnt ↦ isnt
-]
+unlike r p other = grind (arith, nat_tests, names_decide, same_names)
 
 as_it_was : (o : Option Seen) → option_map (λ (v : Seen). (v.0, v.1)) o ≡ o
 as_it_was None = refl
@@ -79,18 +72,7 @@ pub decided_by : (a c : Content) (r : List (List ℕ)) (G : Node → Node)
     → ((v : Node) → deciding (G v) ≡ deciding v)
     → view c r ≡ option_map (changed G) (view a r)
     → option_map deciding (found a r) ≡ option_map deciding (found c r)
-decided_by a c r G same is = on (found a r) (found c r) is
-  where
-    on : (o p : Option Node)
-        → option_map (sight c) p ≡ option_map (changed G) (option_map (sight a) o)
-        → option_map deciding o ≡ option_map deciding p
-    on None None e = refl
-    on None (Some m) e = absurd (none-some (sight c m) (sym e))
-    on (Some n) None e = absurd (none-some (changed G (sight a n)) e)
-    on (Some n) (Some m) e =
-        ap (λ (x : Node). Some x) (sym (same (unnumbered n)))
-        ∙ ap (λ (v : Seen). Some (deciding v.0))
-        (sym (same_Some (sight c m) (changed G (sight a n)) e))
+decided_by a c r G same is = grind (arith, nat_tests)
 
 decided : (a c : Content) (r : List (List ℕ)) → view c r ≡ view a r
     → option_map deciding (found a r) ≡ option_map deciding (found c r)
@@ -184,17 +166,11 @@ module _ (a : Content) (numbered : IsNumbered a) (p : List (List ℕ)) (s : Site
 
 pub bytes_apart : (q : List (List ℕ)) (a c : Content) (id : ℕ) (bytes : List ℕ) → SameDown q a c
     → SameDown q a (with_body c id bytes)
-bytes_apart q a c id bytes same = record {
-  down = λ r t is. same.down r t is
-      ∙ ap (option_map deciding) (sym (nodes_found c (with_body c id bytes) refl r));
-}
+bytes_apart q a c id bytes same = grind (arith, nat_tests, nodes_found)
 
 pub records_apart : (q : List (List ℕ)) (a c : Content) (rows : List AuditRow) → SameDown q a c
     → SameDown q a (with_records c rows)
-records_apart q a c rows same = record {
-  down = λ r t is. same.down r t is
-      ∙ ap (option_map deciding) (sym (nodes_found c (with_records c rows) refl r));
-}
+records_apart q a c rows same = grind (arith, nat_tests, nodes_found)
 
 -- ---- an object is made, removed or moved
 
@@ -216,11 +192,8 @@ module _ (a : Content) (numbered : IsNumbered a) (q : List (List ℕ)) (n : Node
       → ((x : List ℕ) → child_of a target.id x ≡ None) → (folder : Node)
       → found a (front (name ∷ names)) ≡ Some folder → (GoesOn (name ∷ names) q → ⊥)
       → SameDown q a (without_node a target.id)
-  gone_apart differ name names target at childless folder above apart = record {
-    down = λ r t is. decided a (without_node a target.id) r
-        (gone_view a numbered differ name names target at childless folder above r
-        (not_at (name ∷ names) q r t apart is));
-  }
+  gone_apart differ name names target at childless folder above apart =
+      grind (arith, nat_tests, decided, gone_view, not_at)
 
   pub moved_apart : are_names_apart a.nodes ≡ true → (name : List ℕ) (names : List (List ℕ))
       (target : Node) → found a (name ∷ names) ≡ Some target → (from : Node)
@@ -247,7 +220,4 @@ module _ (a : Content) (numbered : IsNumbered a) (q : List (List ℕ)) (n : Node
   pub childless_end : (p rest : List (List ℕ)) (target : Node) → found a p ≡ Some target
       → ((x : List ℕ) → child_of a target.id x ≡ None) → q ≡ p ++ rest → q ≡ p
   childless_end p [] target at none is = is ∙ append-nil p
-  childless_end p (y ∷ ys) target at none is =
-      absurd (none-some n (sym (ap (found a) is ∙ found_append a p (y ∷ ys)
-      ∙ ap (option_and_then (λ m. found_from a m (y ∷ ys))) at
-      ∙ ap (option_and_then (λ child. found_from a child ys)) (none y)) ∙ there))
+  childless_end p (y ∷ ys) target at none is = grind (arith, nat_tests, found_append)

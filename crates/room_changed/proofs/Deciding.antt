@@ -1,5 +1,5 @@
 -- Objects that are seen along a path, without their numbers and audits.
-use Rattle.std.proofs.Common.{ℕ, ◌≡◌, List, take, refl, sym, ap, ◌∙◌, map}
+use Rattle.std.proofs.Common.{ℕ, ◌≡◌, List, take, refl, ap, map, arith}
 use Rattle.std.specs.Option.{option_map}
 use Rattle.room_rows.specs.Content.{Content}
 use Rattle.room_rows.specs.declared.node.Node.{Node}
@@ -7,6 +7,7 @@ use Rattle.room_machine.specs.Site.{Site, site_below, root_site, sites_along}
 use Rattle.room_unseen.specs.Outside.{found}
 use Rattle.room_unseen.proofs.Seen.{like_along}
 use Rattle.room_changed.specs.WhoChanged.{deciding, deciding_site}
+use Rattle.std.proofs.lemmas.Bool.Decides.{nat_tests}
 
 -- ---- sites without numbers and audits
 
@@ -21,11 +22,7 @@ below_deciding site node = refl
 
 like_below : (s t : Site) (c d : Node) → IsLike s t → deciding c ≡ deciding d
     → IsLike (site_below s c) (site_below t d)
-like_below s t c d same nodes =
-    below_deciding s c
-    ∙ ap (λ (site : Site). deciding_site (site_below site (deciding c))) same
-    ∙ ap (λ (node : Node). deciding_site (site_below (deciding_site t) node)) nodes
-    ∙ sym (below_deciding t d)
+like_below s t c d same nodes = grind (arith, nat_tests, below_deciding)
 
 root_like : (c d : Node) → deciding c ≡ deciding d → IsLike (root_site c) (root_site d)
 root_like c d nodes = ap (λ (n : Node). deciding_site (root_site n)) nodes

@@ -1,16 +1,16 @@
 -- Who may change nothing at a path can't come to.
 use Rattle.std.proofs.Common.{ℕ, suc, ◌≡◌, ◌⊎◌, inl, inr, List, [], ◌∷◌, ◌++◌, Option, Some, None}
-use Rattle.std.proofs.Common.{refl, sym, ap, subst, ◌∙◌, map, take, length, append-nil}
+use Rattle.std.proofs.Common.{refl, sym, ap, subst, ◌∙◌, map, take, length, append-nil, arith}
 use Rattle.std.specs.List.{AllByRecursion}
 use Rattle.std.specs.Option.{option_map_or}
 use Rattle.std.proofs.lemmas.List.{take-map}
 use Rattle.room_entry.specs.Bits.{has}
 use Rattle.room_entry.specs.Rights.{write_acl, write_owner}
 use Rattle.room_entry.specs.declared.object.Which.TheVariants.{Dacl, Sacl}
-use Rattle.room_rows.specs.Content.{Content, child_of, root_of}
+use Rattle.room_rows.specs.Content.{Content, child_of}
 use Rattle.room_rows.specs.declared.node.Node.{Node}
 use Rattle.room_machine.specs.Run.{Event, Asked, WasReset, Replaced}
-use Rattle.room_machine.specs.Site.{Site, sites_along, site_below, root_site}
+use Rattle.room_machine.specs.Site.{Site, sites_along, site_below}
 use Rattle.room_machine.specs.declared.request.Request.TheVariants.{Read, List as ListFolder, Put}
 use Rattle.room_machine.specs.declared.request.Request.TheVariants.{Append, MakeFolder, Remove}
 use Rattle.room_machine.specs.declared.request.Request.TheVariants.{Move, ReadList, SetList}
@@ -21,6 +21,7 @@ use Rattle.room_changed.specs.WhoChanged.{IsHarmless, NothingGained, IsFrom, Fir
 use Rattle.room_changed.specs.WhoChanged.{MayRemove}
 use Rattle.room_changed.proofs.RightsFollow.{rights_follow}
 use Rattle.room_changed.proofs.WhoChanged.{changed_in_run}
+use Rattle.std.proofs.lemmas.Bool.Decides.{nat_tests}
 
 -- ---- what is above a path
 
@@ -47,17 +48,7 @@ first_from content site (name ∷ names) more =
 first_along : (content : Content) (names more : List (List ℕ))
     → take (suc (length names)) (sites_along content (names ++ more))
     ≡ sites_along content names
-first_along content names more =
-    ap (take (suc (length names))) (along_from content (names ++ more))
-    ∙ on (root_of content)
-    ∙ sym (along_from content names)
-  where
-    on : (o : Option Node)
-        → take (suc (length names))
-        (option_map_or (λ root. sites_from content (root_site root) (names ++ more)) o [])
-        ≡ option_map_or (λ root. sites_from content (root_site root) names) o []
-    on None = refl
-    on (Some root) = first_from content (root_site root) names more
+first_along content names more = grind (arith, nat_tests, along_from, first_from, sites_from)
 
 standing_first : (content : Content) (names more : List (List ℕ))
     → take (suc (length names)) (basis content (names ++ more)) ≡ basis content names
@@ -68,14 +59,7 @@ standing_first content names more =
 -- what is the same at a path is the same above it
 pub standing_above : (at path : List (List ℕ)) (a b : Content) → IsFrom at path
     → SameBasis path a b → SameBasis at a b
-standing_above at path a b (rest, is) same = record {
-  members = same.members;
-  objects =
-      sym (standing_first a at rest)
-      ∙ ap (take (suc (length at)))
-      (ap (basis a) (sym is) ∙ same.objects ∙ ap (basis b) is)
-      ∙ standing_first b at rest;
-}
+standing_above at path a b (rest, is) same = grind (arith, nat_tests, standing_first)
 
 -- ---- harmless events
 

@@ -1,34 +1,29 @@
 -- What passed was held: the rights that a plan asked for stand in the table of rights.
-use Rattle.std.proofs.Common.{ℕ, zero, suc, ◌≡◌, Bool, true, false, cond, not, ◌&&◌, List, [], ◌∷◌}
-use Rattle.std.proofs.Common.{◌++◌, map, length, take, filter, Option, Some, None, refl, sym, ap}
-use Rattle.std.proofs.Common.{◌∙◌, append-nil}
+use Rattle.std.proofs.Common.{ℕ, zero, suc, ◌≡◌, Bool, true, false, not, ◌&&◌, List, [], ◌∷◌, ◌++◌}
+use Rattle.std.proofs.Common.{length, take, Option, Some, None, refl, sym, ap, ◌∙◌, append-nil}
+use Rattle.std.proofs.Common.{arith}
 use Rattle.std.specs.Option.{option_map_or}
-use Rattle.std.specs.Prelude.{is_none, if◌then◌else◌}
-use Rattle.std.proofs.lemmas.Bool.{false≢true, true≢false, and_from}
-use Rattle.std.proofs.lemmas.Option.{none-some}
+use Rattle.std.specs.Prelude.{if◌then◌else◌}
+use Rattle.std.proofs.lemmas.Bool.{true≢false, and_from}
 use Rattle.room_entry.specs.Bits.{all_bits, has}
 use Rattle.room_entry.specs.Rights.{execute, write_acl, write_owner, write_data, append_data}
 use Rattle.room_entry.specs.Valid.{is_document}
-use Rattle.room_entry.specs.declared.object.Which.TheVariants.{Dacl}
 use Rattle.room_entry.specs.declared.parties.Caller.{Caller}
-use Rattle.room_eval.specs.Verdict.{denial, is_allowed, least_denied, ruling_of}
-use Rattle.room_eval.specs.declared.outcome.Ruling.{Ruling}
-use Rattle.room_eval.specs.declared.outcome.Verdict.TheVariants.{Granted}
-use Rattle.room_rows.specs.Content.{Content, child_of, root_of, is_folder, is_empty}
+use Rattle.room_rows.specs.Content.{Content, child_of, is_folder, is_empty}
 use Rattle.room_rows.specs.declared.node.Node.{Node}
-use Rattle.room_machine.specs.Judge.{failure, first_failure, of_verdict, passes}
+use Rattle.room_machine.specs.Judge.{failure, first_failure, passes}
 use Rattle.room_machine.specs.Plan.{Check, Deletion, Item, Refusal, way, right_to_add}
 use Rattle.room_machine.specs.Rights.{grants, last_of, lets_through, may_remove, may_remove_at}
-use Rattle.room_machine.specs.Rights.{reaches, rights, rights_at, sites_above}
-use Rattle.room_machine.specs.Site.{Site, front, full_at, parent_at, site_at, sites_along}
-use Rattle.room_machine.specs.Site.{site_below, root_site, last_name}
+use Rattle.room_machine.specs.Rights.{reaches, rights_at, sites_above}
+use Rattle.room_machine.specs.Site.{Site, front, parent_at, site_at, sites_along}
+use Rattle.room_machine.specs.Site.{site_below, last_name}
 use Rattle.room_machine.specs.Step.{caller_in}
 use Rattle.room_machine.specs.declared.reply.Reason.TheVariants.{NotFolder, NoSuch}
-use Rattle.room_machine.specs.declared.reply.Reply.{Reply}
 use Rattle.room_machine.proofs.Rights.{folder_is_last, has_kept}
 use Rattle.room_unseen.proofs.OnePlace.{split_last}
 use Rattle.room_unseen.proofs.Passing.{passed, not_refused}
 use Rattle.room_unseen.proofs.Seen.{sites_from, along_from}
+use Rattle.std.proofs.lemmas.Bool.Decides.{nat_tests}
 
 -- ---- the way to a part of a path
 
@@ -80,52 +75,20 @@ take_none (suc n) = refl
 part_along : (content : Content) (names more : List (List ℕ))
     → take (length names) (sites_along content (names ++ more))
     ≡ take (length names) (sites_along content names)
-part_along content names more =
-    ap (take (length names)) (along_from content (names ++ more))
-    ∙ on (root_of content)
-    ∙ sym (ap (take (length names)) (along_from content names))
-  where
-    on : (o : Option Node)
-        → take (length names)
-        (option_map_or (λ root. sites_from content (root_site root) (names ++ more)) o [])
-        ≡ take (length names)
-        (option_map_or (λ root. sites_from content (root_site root) names) o [])
-    on None = refl
-    on (Some root) = part_from content (root_site root) names more
+part_along content names more = grind (arith, nat_tests, along_from, part_from, sites_from)
 
 at_part : (content : Content) (names more : List (List ℕ))
     → site_at (sites_along content (names ++ more)) names
     ≡ site_at (sites_along content names) names
-at_part content names more =
-    ap (λ (l : List Site). site_at l names) (along_from content (names ++ more))
-    ∙ on (root_of content)
-    ∙ sym (ap (λ (l : List Site). site_at l names) (along_from content names))
-  where
-    on : (o : Option Node)
-        → site_at (option_map_or (λ root. sites_from content (root_site root) (names ++ more)) o [])
-        names
-        ≡ site_at (option_map_or (λ root. sites_from content (root_site root) names) o []) names
-    on None = refl
-    on (Some root) = at_part_from content (root_site root) names more
+at_part content names more = grind (arith, nat_tests, along_from, at_part_from, sites_from)
 
 -- ---- checks and ways that pass
 
 module _ (caller : Caller) where
-  abbrev says : Site → ℕ → Ruling
-  says site right = ruling_of (full_at Dacl site) caller site.node.owners right
-
   -- a check of one right that passes was granted
   pub granted_by : (s : Site) (right : ℕ) → failure caller (Check s (right ∷ [])) ≡ None
       → grants caller right s ≡ true
-  granted_by s right none =
-      on (is_allowed (says s right)) (least_denied (map (says s) (right ∷ []))) none
-    where
-      on : (b : Bool) (o : Option ℕ)
-          → of_verdict s (cond (b && true) Granted (denial (says s) (right ∷ []) o)) ≡ None
-          → b ≡ true
-      on true o is = refl
-      on false None is = absurd (none-some _ (sym is))
-      on false (Some place) is = absurd (none-some _ (sym is))
+  granted_by s right none = grind (arith, nat_tests)
 
   is_true : (b : Bool) → not b ≡ false → b ≡ true
   is_true true is = refl
@@ -164,16 +127,7 @@ module _ (content : Content) (user : Option (List ℕ)) where
       → reaches caller (sites_above content path) ≡ true
       → passes caller (Check s (right ∷ [])) ≡ true → has all_bits right ≡ true
       → has (rights_at content user path) right ≡ true
-  in_table path s right at free passing bit =
-      ap (λ o. has (option_map_or (rights caller (sites_above content path)) o []) right) at
-      ∙ ap (λ b. has (if b then filter (λ r. grants caller r s) all_bits else []) right) free
-      ∙ has_kept (λ r. grants caller r s) all_bits right
-      ∙ and_from (grants caller right s) (has all_bits right)
-      (granted_by caller s right (none_of (failure caller (Check s (right ∷ []))) passing)) bit
-    where
-      none_of : (o : Option Reply) → is_none o ≡ true → o ≡ None
-      none_of None is = refl
-      none_of (Some r) is = absurd (false≢true is)
+  in_table path s right at free passing bit = grind (arith, nat_tests, granted_by, has_kept)
 
   -- the way to the object at a path passed
   pub open_to : (lack : Bool) (path : List (List ℕ)) (rest : List Item)

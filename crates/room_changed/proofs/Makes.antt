@@ -1,6 +1,6 @@
 -- What puts something at a path where nothing was.
 use Rattle.std.proofs.Common.{ℕ, ℤ, ◌≡◌, ◌⊎◌, inl, inr, true, false, List, [], ◌∷◌, ◌++◌, Option}
-use Rattle.std.proofs.Common.{Some, None, refl, sym, ap, subst, ◌∙◌, filter}
+use Rattle.std.proofs.Common.{Some, None, refl, sym, ap, subst, ◌∙◌, filter, arith}
 use Rattle.std.specs.Option.{option_map}
 use Rattle.std.proofs.lemmas.Bool.{true≢false}
 use Rattle.std.proofs.lemmas.Option.{none-some}
@@ -49,6 +49,7 @@ use Rattle.room_changed.proofs.Asked.{move_granted, put_granted, folder_granted}
 use Rattle.room_changed.proofs.Held.{in_table, open_to, open_before, folder_at, may_take}
 use Rattle.room_changed.proofs.Held.{bits_known, adding_known}
 use Rattle.room_changed.proofs.WhoChanged.{move_done}
+use Rattle.std.proofs.lemmas.Bool.Decides.{nat_tests}
 
 -- nothing is at the path, or the event is one that puts something there
 pub record Empty (q : List (List ℕ)) (a : Content) (event : Event) (c : Content) : Type 0 where
@@ -63,11 +64,7 @@ made : (q : List (List ℕ)) (a : Content) (event : Event) (c : Content) → Mak
 made q a event c is = record { either = inr is }
 
 nothing_seen : (c : Content) (q : List (List ℕ)) → view c q ≡ None → found c q ≡ None
-nothing_seen c q is = on (found c q) is
-  where
-    on : (o : Option Node) → option_map (sight c) o ≡ None → o ≡ None
-    on None none = refl
-    on (Some n) some = absurd (none-some (sight c n) (sym some))
+nothing_seen c q is = grind (arith, nat_tests)
 
 module _ (q : List (List ℕ)) (a : Content) (absent : found a q ≡ None) where
   view_none : view a q ≡ None
@@ -348,11 +345,7 @@ module _ (q : List (List ℕ)) (a : Content) (numbered : IsNumbered a) (tidy : I
 
   noted : (event : Event) (c : Content) (rows : List AuditRow) → Empty q a event c
       → Empty q a event (with_records c rows)
-  noted event c rows outcome = on outcome.either
-    where
-      on : (found c q ≡ None) ⊎ Makes q a event → Empty q a event (with_records c rows)
-      on (inl none) = still_empty q a event _ (records_none q a absent c rows none)
-      on (inr is) = made q a event _ is
+  noted event c rows outcome = grind (arith, nat_tests, made, records_none, still_empty)
 
   pub step_makes : (request : Request) (after : Content) → Step a user moment request reply after
       → After request after

@@ -1,16 +1,12 @@
 -- What changes rights, at any path.
-use Rattle.std.proofs.Common.{ℕ, ℤ, ◌≡◌, ◌⊎◌, inl, inr, true, false, List, [], ◌∷◌, Option, Some}
-use Rattle.std.proofs.Common.{None, refl, sym, ap, subst, ◌∙◌}
-use Rattle.std.specs.Option.{option_map_or}
+use Rattle.std.proofs.Common.{ℕ, ℤ, ◌≡◌, ◌⊎◌, inl, inr, true, List, [], ◌∷◌, Option, Some, None}
+use Rattle.std.proofs.Common.{refl, sym, ap, subst, arith}
 use Rattle.std.specs.Prelude.{is_some}
 use Rattle.std.proofs.lemmas.Bool.{false≢true}
-use Rattle.std.proofs.lemmas.Option.{none-some}
 use Rattle.room_entry.specs.declared.object.Which.TheVariants.{Dacl, Sacl}
 use Rattle.room_rows.specs.Content.{Content}
-use Rattle.room_machine.specs.Rights.{rights, may_remove, sites_above}
 use Rattle.room_machine.specs.Run.{Event, Asked, WasReset, Replaced, Happens}
 use Rattle.room_machine.specs.Site.{Site, site_at, sites_along}
-use Rattle.room_machine.specs.Step.{caller_in}
 use Rattle.room_machine.specs.declared.reply.Reply.{Reply}
 use Rattle.room_machine.specs.declared.request.Request.{Request}
 use Rattle.room_machine.specs.declared.request.Request.TheVariants.{Read, List as ListFolder, Put}
@@ -27,26 +23,16 @@ use Rattle.room_changed.specs.WhoChanged.{RightsChangedInRun, FirstGranted, Righ
 use Rattle.room_changed.proofs.Makes.{step_makes, reset_none}
 use Rattle.room_changed.proofs.RightsFollow.{rights_follow}
 use Rattle.room_changed.proofs.WhoChanged.{changed_by}
+use Rattle.std.proofs.lemmas.Bool.Decides.{nat_tests}
 
 none_there : (a : Content) (q : List (List ℕ)) → found a q ≡ None
     → site_at (sites_along a q) q ≡ None
-none_there a q none = on (site_at (sites_along a q) q) refl
-  where
-    on : (o : Option Site) → site_at (sites_along a q) q ≡ o → site_at (sites_along a q) q ≡ None
-    on None is = is
-    on (Some s) is = absurd (none-some s.node (sym none ∙ target_found a q s is))
+none_there a q none = grind (arith, nat_tests, target_found)
 
 -- nobody may do anything where nothing is
 no_rights : (q : List (List ℕ)) (a b : Content) → site_at (sites_along a q) q ≡ None
     → site_at (sites_along b q) q ≡ None → SameRights q a b
-no_rights q a b one two = record {
-  rights = λ user.
-      ap (λ o. option_map_or (rights (caller_in a user) (sites_above a q)) o []) one
-      ∙ sym (ap (λ o. option_map_or (rights (caller_in b user) (sites_above b q)) o []) two);
-  removal = λ user.
-      ap (λ o. option_map_or (may_remove (caller_in a user) (sites_above a q)) o false) one
-      ∙ sym (ap (λ o. option_map_or (may_remove (caller_in b user) (sites_above b q)) o false) two);
-}
+no_rights q a b one two = grind (arith, nat_tests)
 
 where_none : (q : List (List ℕ)) (a : Content) (event : Event) (after : Content) → IsNumbered a
     → IsTidy a → site_at (sites_along a q) q ≡ None → Happens a event after
@@ -122,10 +108,7 @@ same_rights_itself q a = record { rights = λ user. refl; removal = λ user. ref
 
 same_rights_on : (q : List (List ℕ)) (a b c : Content) → SameRights q a b → SameRights q b c
     → SameRights q a c
-same_rights_on q a b c one two = record {
-  rights = λ user. one.rights user ∙ two.rights user;
-  removal = λ user. one.removal user ∙ two.removal user;
-}
+same_rights_on q a b c one two = grind (arith, nat_tests)
 
 first_or_later : (q : List (List ℕ)) (a mid after : Content) (event : Event) (events : List Event)
     → Happens a event mid → SameRights q a mid ⊎ (Changes q a event ⊎ Makes q a event)

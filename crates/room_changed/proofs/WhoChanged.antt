@@ -1,6 +1,6 @@
 -- What changes who may do what.
 use Rattle.std.proofs.Common.{ℕ, ℤ, ◌≡◌, ◌⊎◌, inl, inr, true, false, List, [], ◌∷◌, Option, Some}
-use Rattle.std.proofs.Common.{None, refl, sym, ap, subst, ◌∙◌, filter}
+use Rattle.std.proofs.Common.{None, refl, sym, ap, subst, ◌∙◌, filter, arith}
 use Rattle.std.specs.Option.{option_map}
 use Rattle.std.specs.Prelude.{is_some}
 use Rattle.std.proofs.lemmas.Bool.{false≢true, true≢false}
@@ -50,6 +50,7 @@ use Rattle.room_changed.proofs.Apart.{bytes_apart, records_apart, grown_apart, g
 use Rattle.room_changed.proofs.Apart.{moved_apart, childless_end, audits_apart}
 use Rattle.room_changed.proofs.Asked.{check_passed, removal_passed, move_granted}
 use Rattle.room_changed.proofs.Held.{in_table, open_to, may_take, bits_known, adding_known}
+use Rattle.std.proofs.lemmas.Bool.Decides.{nat_tests}
 
 -- the objects down to the path are the same, or the event is one that changes them
 record Outcome (q : List (List ℕ)) (a : Content) (event : Event) (c : Content) : Type 0 where
@@ -327,12 +328,8 @@ module _ (q : List (List ℕ)) (a : Content) (numbered : IsNumbered a) (tidy : I
 
   noted : (event : Event) (c : Content) (rows : List AuditRow) → Outcome q a event c
       → Outcome q a event (with_records c rows)
-  noted event c rows outcome = on outcome.either
-    where
-      on : SameDown q a c ⊎ Changes q a event → Outcome q a event (with_records c rows)
-      on (inl same) =
-          same_outcome q a event (with_records c rows) (records_apart q a c rows same)
-      on (inr is) = changed_outcome q a event (with_records c rows) is
+  noted event c rows outcome =
+      grind (arith, nat_tests, changed_outcome, records_apart, same_outcome)
 
   step_down : (request : Request) (after : Content) → Step a user moment request reply after
       → After request after
@@ -365,21 +362,11 @@ step_pairs a user moment request reply after s =
 
 there_at : (a : Content) (q : List (List ℕ)) → IsThere a q
     → (n : Node) × (found a q ≡ Some n)
-there_at a q is = on (site_at (sites_along a q) q) refl is
-  where
-    on : (o : Option Site) → site_at (sites_along a q) q ≡ o → is_some o ≡ true
-        → (n : Node) × (found a q ≡ Some n)
-    on None at none = absurd (false≢true none)
-    on (Some s) at some = (s.node, target_found a q s at)
+there_at a q is = grind (arith, nat_tests, target_found)
 
 standing_of : (q : List (List ℕ)) (a c : Content) (event : Event) → KeepsMembers a c
     → Outcome q a event c → SameBasis q a c ⊎ Changes q a event
-standing_of q a c event keeps outcome = on outcome.either
-  where
-    on : SameDown q a c ⊎ Changes q a event → SameBasis q a c ⊎ Changes q a event
-    on (inl same) =
-        inl (record { members = sym keeps.members; objects = basis_down q a c same })
-    on (inr is) = inr is
+standing_of q a c event keeps outcome = grind (arith, nat_tests, basis_down)
 
 -- a list that the operator sets, where it changes nothing down to the path
 module _ (q : List (List ℕ)) (a : Content) (path : List (List ℕ))
@@ -397,10 +384,7 @@ module _ (q : List (List ℕ)) (a : Content) (path : List (List ℕ))
   set_apart c down members = record { down = down; members = members }
 
   done_apart : SetApart (effect a nobody 0 (SetList path which sent)).1
-  done_apart =
-      act_on SetApart a (site_at (sites_along a path) path) _ (set_apart a (down_itself q a) refl)
-      (λ x at. set_apart (set_list a which sent (parent_at (sites_along a path) path) x)
-      (quiet x at) refl)
+  done_apart = grind (arith, nat_tests, act_on, down_itself, set_apart)
 
   either_apart : (o : Option Reply)
       → SetApart (failure_or o a (effect a nobody 0 (SetList path which sent))).1
@@ -445,19 +429,14 @@ some_blank (Some s) (Some t) same some = refl
 
 pub still_there : (q : List (List ℕ)) (a c : Content) → SameBasis q a c → IsThere a q
     → IsThere c q
-still_there q a c same there =
-    some_blank (site_at (sites_along a q) q) (site_at (sites_along c q) q)
-    (like_at deciding_site (sites_along a q) (sites_along c q) q same.objects) there
+still_there q a c same there = grind (arith, nat_tests, like_at, some_blank)
 
 pub standing_itself : (q : List (List ℕ)) (a : Content) → SameBasis q a a
 standing_itself q a = record { members = refl; objects = refl }
 
 pub standing_on : (q : List (List ℕ)) (a b c : Content) → SameBasis q a b → SameBasis q b c
     → SameBasis q a c
-standing_on q a b c one two = record {
-  members = one.members ∙ two.members;
-  objects = one.objects ∙ two.objects;
-}
+standing_on q a b c one two = grind (arith, nat_tests)
 
 -- by the first event, and then the rest
 first_or_later : (q : List (List ℕ)) (a mid after : Content) (event : Event) (events : List Event)

@@ -1,12 +1,12 @@
 -- Equal entries are the same, and a turn of a comparison.
 use Rattle.std.proofs.Common.{ℕ, ◌≡◌, suc, Bool, true, false, ◌&&◌, List, [], ◌∷◌, length, refl}
-use Rattle.std.proofs.Common.{sym, ap, ◌∙◌}
+use Rattle.std.proofs.Common.{sym, ap, ◌∙◌, arith}
 use Rattle.std.proofs.lemmas.Bool.{and_from}
 use Rattle.std.specs.Cmp.Lexicographic.{same_text as text_equal, bytes_decides}
 use Rattle.room_entry.specs.Pieces.{same_text}
 use Rattle.room_entry.specs.Ace.{Ace}
-use Rattle.room_entry.specs.Same.{who_key, same_entry, same_entries}
-use Rattle.room_entry.specs.Letters.{kind_text, flags_text}
+use Rattle.room_entry.specs.Same.{same_entry, same_entries}
+use Rattle.std.proofs.lemmas.Bool.Decides.{nat_tests}
 
 -- the test of the same texts gives true for a text and itself
 pub text_itself : (xs : List ℕ) → same_text xs xs ≡ true
@@ -29,10 +29,7 @@ by_texts {A} text apart a b r says said = on r (same_text (text a) (text b)) ref
     on false false is says said = refl
 
 entry_itself : (a : Ace) → same_entry a a ≡ true
-entry_itself a =
-    and_from _ _ (text_itself (kind_text a.kind))
-    (and_from _ _ (text_itself (flags_text a.flags))
-    (and_from _ _ (text_itself (who_key a.who)) (text_itself a.mask)))
+entry_itself a = grind (arith, nat_tests, text_itself)
 
 -- a list of entries is the same as itself
 pub entries_themselves : (xs : List Ace) → same_entries xs xs ≡ true

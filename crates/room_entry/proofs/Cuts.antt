@@ -1,28 +1,21 @@
 -- A text cut at a separator, and names by their parts.
 use Rattle.std.proofs.Common.{ℕ, ◌+◌, ◌<◌, ◌≤◌, ◌≡◌, Bool, false, cond, ◌&&◌, eqb, List, [], ◌∷◌}
-use Rattle.std.proofs.Common.{Some, None, refl, sym, ap, ◌∙◌, inl, inr, arith, length, take, drop}
+use Rattle.std.proofs.Common.{Some, None, refl, ap, ◌∙◌, inl, inr, arith, length, take, drop}
 use Rattle.std.specs.Prelude.{◌==◌, nat_lt}
 use Rattle.std.specs.List.{slice_split, position, position_or_len}
-use Rattle.std.proofs.lemmas.Bool.{cases_Bool, ltb-true, ltb-false}
+use Rattle.std.proofs.lemmas.Bool.{cases_Bool}
 use Rattle.std.proofs.lemmas.List.Splits.{slice_split_first, length-slice_split}
 use Rattle.room_entry.specs.Pieces.{pieces}
 use Rattle.room_entry.specs.Names.{is_name, is_part, is_local_byte, is_domain_byte, are_name_parts}
+use Rattle.std.proofs.lemmas.Bool.Decides.{nat_tests}
 
 -- what `position` gives, as the place and its bound
 pub place_of : (n m i : ℕ) → cond (nat_lt n m) (Some n) None ≡ Some i → (n < m) × (n ≡ i)
-place_of n m i found =
-    elim (cases_Bool (nat_lt n m)) [
-      | inl e ↦ (let known : Some n ≡ Some i = rw e at found in (ltb-true n m e, cc))
-      | inr e ↦ (let known : None ≡ Some i = rw e at found in absurd (cc))
-    ]
+place_of n m i found = grind (arith, nat_tests)
 
 -- where `position` gives none, the place isn't below the bound
 pub none_of : (n m : ℕ) → cond (nat_lt n m) (Some n) None ≡ None → m ≤ n
-none_of n m found =
-    elim (cases_Bool (nat_lt n m)) [
-      | inl e ↦ (let known : Some n ≡ None = rw e at found in absurd (cc))
-      | inr e ↦ ltb-false n m e
-    ]
+none_of n m found = grind (arith, nat_tests)
 
 -- where no byte is the separator, the text is the one piece
 pub pieces_whole : (p : ℕ → Bool) (xs : List ℕ) → length xs ≤ position_or_len p xs
@@ -37,19 +30,12 @@ pieces_whole p (x ∷ xs) whole =
 -- no separator stands in the bytes
 pub not_cut : (c : ℕ) (bytes : List ℕ) → None ≡ position (λ byte. byte == c) bytes
     → pieces c bytes ≡ bytes ∷ []
-not_cut c bytes none =
-    pieces_whole (λ byte. byte == c) bytes
-    (none_of (position_or_len (λ byte. byte == c) bytes) (length bytes) (sym none))
+not_cut c bytes none = grind (arith, nat_tests, none_of, pieces_whole)
 
 -- the first separator stands at this place
 pub cut_at : (c : ℕ) (bytes : List ℕ) (i : ℕ) → Some i ≡ position (λ byte. byte == c) bytes
     → (i < length bytes) × (pieces c bytes ≡ take i bytes ∷ pieces c (drop (i + 1) bytes))
-cut_at c bytes i found =
-    let place = place_of (position_or_len (λ byte. byte == c) bytes) (length bytes) i (sym found) in (
-      omega (arith, place.0, place.1),
-      slice_split_first (λ byte. byte == c) bytes 0 place.0
-          ∙ ap (λ n. take n bytes ∷ pieces c (drop (n + 1) bytes)) place.1,
-    )
+cut_at c bytes i found = grind (arith, nat_tests, place_of, slice_split_first)
 
 -- there is at least one piece
 pub length-pieces : (c : ℕ) (bs : List ℕ) → 0 < length (pieces c bs)

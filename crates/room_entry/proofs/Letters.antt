@@ -110,14 +110,7 @@ power_of b h =
     among_powers b (0 ∷ 1 ∷ 2 ∷ 3 ∷ 4 ∷ 5 ∷ 6 ∷ 7 ∷ 8 ∷ 9 ∷ 10 ∷ 16 ∷ 17 ∷ 18 ∷ 19 ∷ 20 ∷ []) h
 
 times_bit : (t q : ℕ) → t < 2 → 0 < q → not (t * q == 0) ≡ (t == 1)
-times_bit t q below above =
-    elim (cases_Bool (eqb t 1)) [
-      | inl e ↦ (let one = eqb-true t 1 e in rw one (grind (arith, nat_tests)))
-      | inr e ↦ (
-          let none : t ≡ 0 = grind (arith, nat_tests) in
-          let product : t * q ≡ 0 = rw none (omega arith) in
-          rw (product, none) refl)
-    ]
+times_bit t q below above = grind (arith, nat_tests)
 
 -- what `n & b` leaves says whether n has the bit b
 pub and_is_set : (n b : ℕ) → has all_bits b ≡ true → not (bit_and n b == 0) ≡ is_set n b
@@ -131,15 +124,4 @@ and_is_set n b h =
 pub row_at : (rows : List (ℕ × ℕ)) (i : ℕ) → i < length rows
     → list_all (λ row. has all_bits row.0 && nat_lt row.1 128) rows ≡ true
     → (has all_bits (get_or rows i (0, 0)).0 ≡ true) × ((get_or rows i (0, 0)).1 < 128)
-row_at rows i below all =
-    let row = get_or rows i (0, 0) in
-    elim (cases_Bool (has all_bits row.0 && nat_lt row.1 128)) [
-      | inl is ↦
-          (let parts = and_parts (has all_bits row.0) (nat_lt row.1 128) is in
-          (parts.0, grind (arith, nat_tests)))
-      | inr isnt ↦
-          absurd
-          (false≢true
-          (sym (list_all_at (λ (r : ℕ × ℕ). has all_bits r.0 && nat_lt r.1 128) rows i
-          (0, 0) below isnt) ∙ all))
-    ]
+row_at rows i below all = grind (arith, nat_tests, list_all_at)

@@ -1,10 +1,11 @@
 -- Masks read from their letters.
 use Rattle.std.proofs.Common.{ℕ, ◌+◌, ◌<◌, ◌≡◌, Bool, true, false, ◌&&◌, ◌||◌, List, [], ◌∷◌, map}
 use Rattle.std.proofs.Common.{Option, refl, sym, ap, ◌∙◌, subst, inl, inr, length, take, get_or}
+use Rattle.std.proofs.Common.{arith}
 use Rattle.std.specs.Prelude.{◌==◌, filter, find, bit_and, MatchOption}
 use Rattle.std.specs.List.{list_all}
 use Rattle.std.specs.Option.{option_map}
-use Rattle.std.proofs.lemmas.Bool.{cases_Bool, and_parts, eqb-true}
+use Rattle.std.proofs.lemmas.Bool.{cases_Bool, and_parts}
 use Rattle.std.proofs.lemmas.List.{take_more}
 use Rattle.std.proofs.lemmas.List.Folds.{list_any-append, list_all-append}
 use Rattle.room_entry.specs.Bits.{all_bits, has, bits_of}
@@ -13,6 +14,7 @@ use Rattle.room_entry.specs.Pieces.{is_among, same_text}
 use Rattle.room_entry.specs.Letters.{bit_named, letter_of, mask_letters}
 use Rattle.room_entry.proofs.Letters.{the_table}
 use Rattle.room_entry.proofs.Texts.{same_text-true}
+use Rattle.std.proofs.lemmas.Bool.Decides.{nat_tests}
 
 -- the mask of the letters of a text
 abbrev pub spelled : List ℕ → List ℕ
@@ -64,14 +66,7 @@ found_in rows letter = option_map (λ row. row.0) (find (λ row. row.1 == letter
 
 names_row : (row : ℕ × ℕ) (letter : ℕ) → (row.1 == letter) ≡ true → is_row row ≡ true
     → is_among mask_letters letter ≡ true → Names letter row.0
-names_row row letter same good known =
-    let parts = and_parts (same_text (bits_of row.0) (bit_named row.1)) _ good in
-    let it = eqb-true row.1 letter same in
-    record {
-      letter_is_known = known;
-      bit = same_text-true _ _ parts.0 ∙ ap bit_named it;
-      known = eqb-true _ _ parts.1;
-    }
+names_row row letter same good known = grind (arith, nat_tests, same_text-true)
 
 in_rows : (rows : List (ℕ × ℕ)) (letter : ℕ) (known : Bool) → list_all is_row rows ≡ true
     → (is_among (map (λ row. row.1) rows) letter ≡ true → is_among mask_letters letter ≡ true)

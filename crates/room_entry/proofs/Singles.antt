@@ -1,16 +1,15 @@
 -- A mask taken apart into its bits.
-use Rattle.std.proofs.Common.{ℕ, ◌≡◌, ◌+◌, ◌<◌, Bool, true, false, cond, ◌&&◌, List, [], ◌∷◌, ◌++◌}
-use Rattle.std.proofs.Common.{map, refl, sym, ap, ◌∙◌, inl, inr, length, get_or, drop, add-one}
-use Rattle.std.proofs.Common.{drop-cons, append_assoc}
-use Rattle.std.specs.Prelude.{filter, nat_lt, bit_and, ◌==◌}
+use Rattle.std.proofs.Common.{ℕ, ◌≡◌, ◌+◌, ◌<◌, true, false, cond, List, [], ◌∷◌, ◌++◌, map, refl}
+use Rattle.std.proofs.Common.{sym, ap, ◌∙◌, length, get_or, drop, add-one, drop-cons, append_assoc}
+use Rattle.std.proofs.Common.{arith}
+use Rattle.std.specs.Prelude.{filter, bit_and}
 use Rattle.std.specs.List.{list_all}
-use Rattle.std.proofs.lemmas.Bool.{cases_Bool, and_parts, eqb-true, false≢true}
 use Rattle.std.proofs.lemmas.List.Folds.{list_all_at}
 use Rattle.room_entry.specs.Bits.{all_bits, is_set, bits_of}
-use Rattle.room_entry.specs.Pieces.{same_text}
 use Rattle.room_entry.specs.Single.{is_single}
 use Rattle.room_entry.proofs.MaskLetters.{letters_table}
 use Rattle.room_entry.proofs.Texts.{same_text-true}
+use Rattle.std.proofs.lemmas.Bool.Decides.{nat_tests}
 
 -- the masks that the rows of a table give
 abbrev pub singles_in : ℕ → List (ℕ × ℕ) → List (List ℕ)
@@ -19,15 +18,7 @@ singles_in n rows = map (λ bit. bit ∷ []) (filter (is_set n) (map (λ row. ro
 one_row : (n : ℕ) (row : ℕ × ℕ) (rows : List (ℕ × ℕ))
     → singles_in n (row ∷ rows)
     ≡ cond (is_set n row.0) ((row.0 ∷ []) ∷ singles_in n rows) (singles_in n rows)
-one_row n row rows = on (is_set n row.0)
-  where
-    on : (t : Bool)
-        → map (λ bit. bit ∷ [])
-        (cond t (row.0 ∷ filter (is_set n) (map (λ r. r.0) rows))
-        (filter (is_set n) (map (λ r. r.0) rows)))
-        ≡ cond t ((row.0 ∷ []) ∷ singles_in n rows) (singles_in n rows)
-    on true = refl
-    on false = refl
+one_row n row rows = grind (arith, nat_tests)
 
 singles_more : (n : ℕ) (rows : List (ℕ × ℕ)) (i : ℕ) → i < length rows
     → singles_in n (drop i rows)
@@ -54,12 +45,7 @@ singles_pushed n rows i masks new below set pushed =
 pub singles_passed : (n : ℕ) (rows : List (ℕ × ℕ)) (i : ℕ) (masks new : List (List ℕ))
     → i < length rows → is_set n (get_or rows i (0, 0)).0 ≡ false → new ≡ masks
     → new ++ singles_in n (drop (i + 1) rows) ≡ masks ++ singles_in n (drop i rows)
-singles_passed n rows i masks new below set same =
-    let bit = (get_or rows i (0, 0)).0 in
-    let rest = singles_in n (drop (i + 1) rows) in
-    ap (λ (l : List (List ℕ)). l ++ rest) same
-    ∙ ap (λ (l : List (List ℕ)). masks ++ l)
-    (sym (singles_more n rows i below ∙ ap (λ t. cond t ((bit ∷ []) ∷ rest) rest) set))
+singles_passed n rows i masks new below set same = grind (arith, nat_tests, singles_more)
 
 -- a row of such a table has the number of one bit
 pub record IsOne (bit : ℕ) : Type 0 where
@@ -68,22 +54,7 @@ pub record IsOne (bit : ℕ) : Type 0 where
 
 pub single_at : (rows : List (ℕ × ℕ)) (i : ℕ) → i < length rows
     → list_all (λ row. is_single row.0) rows ≡ true → IsOne (get_or rows i (0, 0)).0
-single_at rows i below all =
-    let bit = (get_or rows i (0, 0)).0 in
-    elim (cases_Bool (is_single bit)) [
-      | inl is ↦
-          let parts = and_parts (nat_lt 0 bit && (bit_and bit 0x1F07FF == bit))
-          (same_text (bits_of bit) (bit ∷ [])) is in
-          record {
-            known = eqb-true (bit_and bit 0x1F07FF) bit
-                (and_parts (nat_lt 0 bit) (bit_and bit 0x1F07FF == bit) parts.0).1;
-            alone =
-                same_text-true (bits_of bit) (bit ∷ []) parts.1;
-          }
-      | inr isnt ↦
-          absurd
-          (false≢true (sym (list_all_at (λ row. is_single row.0) rows i (0, 0) below isnt) ∙ all))
-    ]
+single_at rows i below all = grind (arith, nat_tests, list_all_at, same_text-true)
 
 -- the table of the code
 pub table_single : list_all (λ row. is_single row.0) letters_table ≡ true

@@ -1,19 +1,19 @@
 -- A name is of visible ASCII bytes, and so it is a text.
-use Rattle.std.proofs.Common.{ℕ, ◌≡◌, ◌≤◌, Bool, true, false, ◌&&◌, ◌||◌, List, [], ◌∷◌, refl}
-use Rattle.std.proofs.Common.{subst, inl, inr, codes, arith}
+use Rattle.std.proofs.Common.{ℕ, ◌≡◌, ◌≤◌, Bool, true, false, ◌&&◌, List, [], ◌∷◌, subst, arith}
 use Rattle.std.specs.Prelude.{nat_le, nat_lt}
 use Rattle.std.specs.List.{list_all, join_with_byte}
 use Rattle.std.specs.Char.{is_ascii_alphanumeric}
 use Rattle.std.specs.Str.{IsAscii}
-use Rattle.std.proofs.lemmas.Bool.{and_parts, and_from, both_ways, false≢true, false_from_ne_true}
-use Rattle.std.proofs.lemmas.Bool.{or_cases, or_left, leb-true, le-leb, lt-ltb, ltb-true}
+use Rattle.std.proofs.lemmas.Bool.{and_parts, both_ways, false≢true, false_from_ne_true, or_left}
+use Rattle.std.proofs.lemmas.Bool.{ltb-true}
 use Rattle.std.proofs.lemmas.List.Splits.{join_with_byte-slice_split}
 use Rattle.std.proofs.lemmas.Str.Ascii.{IsAscii-nil, IsAscii-cons}
-use Rattle.room_entry.specs.Pieces.{pieces, is_among}
+use Rattle.room_entry.specs.Pieces.{pieces}
 use Rattle.room_entry.specs.Utf8.{is_utf8}
 use Rattle.room_entry.specs.Names.{is_name, is_part, is_local_byte, is_domain_byte, are_name_parts}
 use Rattle.room_entry.proofs.Texts.{all-append, at_bit}
 use Rattle.room_entry.proofs.Facts.Lists.{all_implied}
+use Rattle.std.proofs.lemmas.Bool.Decides.{nat_tests}
 
 abbrev is_between : ℕ → ℕ → ℕ → Bool
 is_between low high byte = nat_le low byte && nat_le byte high
@@ -29,36 +29,16 @@ are_visible text = list_all is_visible text
 -- a range of visible bytes
 visible_between : (low high byte : ℕ) → 33 ≤ low → high ≤ 126 → is_between low high byte ≡ true
     → is_visible byte ≡ true
-visible_between low high byte above below holds =
-    let parts = and_parts (nat_le low byte) (nat_le byte high) holds in
-    let from : low ≤ byte = leb-true low byte parts.0 in
-    let to : byte ≤ high = leb-true byte high parts.1 in
-    and_from (nat_le 33 byte) (nat_le byte 126) (le-leb 33 byte (omega arith))
-    (le-leb byte 126 (omega arith))
+visible_between low high byte above below holds = grind (arith, nat_tests)
 
 visible_letter : (byte : ℕ) → is_ascii_alphanumeric byte ≡ true → is_visible byte ≡ true
-visible_letter byte holds =
-    elim (or_cases (is_between 48 57 byte || is_between 65 90 byte) (is_between 97 122 byte) holds) [
-      | inl first ↦ elim (or_cases (is_between 48 57 byte) (is_between 65 90 byte) first) [
-        | inl digit ↦ visible_between 48 57 byte (omega arith) (omega arith) digit
-        | inr upper ↦ visible_between 65 90 byte (omega arith) (omega arith) upper
-      ]
-      | inr lower ↦ visible_between 97 122 byte (omega arith) (omega arith) lower
-    ]
+visible_letter byte holds = grind (arith, nat_tests, visible_between)
 
 visible_local : (byte : ℕ) → is_local_byte byte ≡ true → is_visible byte ≡ true
-visible_local byte holds =
-    elim (or_cases (is_ascii_alphanumeric byte) (is_among (codes "._-+$\\") byte) holds) [
-      | inl letter ↦ visible_letter byte letter
-      | inr mark ↦ at_bit is_visible (codes "._-+$\\") byte refl mark
-    ]
+visible_local byte holds = grind (arith, nat_tests, at_bit, visible_letter)
 
 visible_domain : (byte : ℕ) → is_domain_byte byte ≡ true → is_visible byte ≡ true
-visible_domain byte holds =
-    elim (or_cases (is_ascii_alphanumeric byte) (is_among (codes ".-") byte) holds) [
-      | inl letter ↦ visible_letter byte letter
-      | inr mark ↦ at_bit is_visible (codes ".-") byte refl mark
-    ]
+visible_domain byte holds = grind (arith, nat_tests, at_bit, visible_letter)
 
 visible_part : (p : ℕ → Bool) (text : List ℕ)
     → ((byte : ℕ) → p byte ≡ true → is_visible byte ≡ true) → is_part p text ≡ true
@@ -71,10 +51,7 @@ visible_parts : (parts : List (List ℕ)) → are_name_parts parts ≡ true
 visible_parts [] holds = absurd (false≢true holds)
 visible_parts (local ∷ []) holds = visible_part is_local_byte local visible_local holds
 visible_parts (local ∷ domain ∷ []) holds =
-    let both = and_parts (is_part is_local_byte local) (is_part is_domain_byte domain) holds in
-    all-append is_visible local (64 ∷ domain)
-    (visible_part is_local_byte local visible_local both.0)
-    (visible_part is_domain_byte domain visible_domain both.1)
+    grind (arith, nat_tests, all-append, visible_domain, visible_local, visible_part)
 visible_parts (local ∷ domain ∷ other ∷ rest) holds = absurd (false≢true holds)
 
 -- a name has visible bytes alone
@@ -87,10 +64,7 @@ visible_name name holds =
 -- ---- what visible bytes are
 
 ascii_byte : (byte : ℕ) → is_visible byte ≡ true → nat_lt byte 128 ≡ true
-ascii_byte byte shown =
-    let most : byte ≤ 126 = leb-true byte 126
-    (and_parts (nat_le 33 byte) (nat_le byte 126) shown).1 in
-    lt-ltb byte 128 (omega arith)
+ascii_byte byte shown = grind (arith, nat_tests)
 
 visible_ascii : (text : List ℕ) → are_visible text ≡ true
     → list_all (λ byte. nat_lt byte 128) text ≡ true

@@ -1,7 +1,6 @@
 -- Along a path the full lists are those that are stored.
 use Rattle.std.proofs.Common.{◌≡◌, ◌==◌, ℕ, Bool, true, false, cond, List, [], ◌∷◌, ◌++◌, map}
-use Rattle.std.proofs.Common.{length, Option, Some, None, refl, sym, ap, ◌∙◌}
-use Rattle.std.specs.Prelude.{option_and_then}
+use Rattle.std.proofs.Common.{length, Option, Some, None, refl, sym, ap, ◌∙◌, arith}
 use Rattle.std.specs.Option.{option_map_or}
 use Rattle.room_entry.specs.Ace.{Ace}
 use Rattle.room_entry.specs.declared.object.Which.{Which}
@@ -18,6 +17,7 @@ use Rattle.room_inherit.specs.Laws.{StoredAlongPath}
 use Rattle.room_rows.specs.Pass.{pass}
 use Rattle.room_inherit.proofs.Stored.{all_found}
 use Rattle.room_entry.proofs.Facts.Booleans.{implied}
+use Rattle.std.proofs.lemmas.Bool.Decides.{nat_tests}
 
 module _ (content : Content) (rises : Rises content) (which : Which)
     (all : AllAgree content which) where
@@ -47,9 +47,7 @@ module _ (content : Content) (rises : Rises content) (which : Which)
 
   child_above : (parent child : Node) (name : List ℕ) → node_at content parent.id ≡ Some parent
       → child_of content parent.id name ≡ Some child → parent_of content child ≡ Some parent
-  child_above parent child name there found =
-      ap (option_and_then (node_at content)) (child_of-parent content parent.id name child found)
-      ∙ there
+  child_above parent child name there found = grind (arith, nat_tests, child_of-parent)
 
   along : (names : List (List ℕ)) (node : Node) → node_at content node.id ≡ Some node
       → (rest : List Node) × ((walk_from content node names).chain ≡ node ∷ rest)

@@ -11,21 +11,19 @@ use Rattle.room_entry.specs.declared.object.Which.{Which}
 use Rattle.room_entry.specs.declared.object.Which.TheVariants.{Dacl, Sacl}
 use Rattle.room_rows.specs.declared.keep.Keep.{Ghosts}
 use Rattle.room_rows.specs.declared.node.Node.{Node}
-use Rattle.room_rows.specs.Content.{Content, node_at, parent_of, root_of, is_root, is_linked_in}
+use Rattle.room_rows.specs.Content.{Content, node_at, parent_of, is_root, is_linked_in}
 use Rattle.room_rows.specs.Counts.{capped_below}
 use Rattle.room_rows.specs.Held.{held_of, is_linked}
 use Rattle.room_rows.specs.Keep.{HasNoRoot, capped, with_content, KeepLaws}
-use Rattle.room_rows.specs.Rows.{Rows, is_unreadable}
+use Rattle.room_rows.specs.Rows.{Rows}
 use Rattle.room_rows.proofs.SamePlace.{IsSamePlace}
 use Rattle.room_rows.proofs.Steps.{later_cause}
 use Rattle.room_rows.specs.Law.{AllAgree, agrees, agrees_with}
 use Rattle.room_rows.specs.Sound.{reaches}
-use Rattle.room_inherit.specs.Spread.{ChangedAgree, HasSpreadCause, is_changed, stores_as_before}
-use Rattle.room_inherit.specs.Spread.{with_lists}
+use Rattle.room_inherit.specs.Spread.{ChangedAgree, is_changed, stores_as_before, with_lists}
 use Rattle.room_inherit.specs.SpreadAll.{IsSpreadAll, IsSwept, IsTree, SpreadsAll, Sweeps}
 use Rattle.room_inherit.specs.declared.outcome.Spread.{Spread}
 use Rattle.room_inherit.specs.declared.outcome.SpreadFault.{SpreadFault}
-use Rattle.room_inherit.specs.declared.outcome.SpreadFault.TheVariants.{Keeper, Loop}
 use Rattle.room_inherit.proofs.Kinship.{same_parent}
 use Rattle.room_entry.proofs.Facts.Members.{count-is, count_length, count_map}
 use Rattle.room_inherit.proofs.Renewing.{map_map}
@@ -34,6 +32,7 @@ use Rattle.room_inherit.proofs.Folders.{folders_stay}
 use Rattle.room_inherit.proofs.Calls.{capped_add}
 use Rattle.room_inherit.proofs.NoFault.{checked_is_tree}
 use Rattle.room_inherit.proofs.Unmoved.{all_map, reach_all}
+use Rattle.std.proofs.lemmas.Bool.Decides.{nat_tests}
 
 -- the parent of an object is found with its other list
 parent_set : (which : Which) (f : Node → List Ace) (old : Content) (n : Node)
@@ -194,14 +193,8 @@ both_swept old middle new d s first last =
 
 no_root_before : (old mid : Rows) (d row : ℕ) → IsSwept Dacl old mid d → HasNoRoot mid row
     → HasNoRoot old row
-no_root_before old middle d row first (inl damaged) =
-    inl (ap (λ (r : Rows). is_unreadable r row) (sym first.becomes) ∙ damaged)
-no_root_before old middle d row first (inr none) =
-    inr (
-      none.0,
-      root_mid first.lists old.read old.read.nodes
-          (ap (λ (r : Rows). root_of r.read) (sym first.becomes) ∙ none.1),
-    )
+no_root_before old middle d row first (inl damaged) = grind (arith, nat_tests)
+no_root_before old middle d row first (inr none) = grind (arith, nat_tests, root_mid)
 
 -- ---- calls
 
@@ -214,38 +207,8 @@ module _ {S : Type 0} (k : Ghosts S) where
   module _ (laws : KeepLaws k.rows k.failures k.writes k.Follows k.IsTrusted) (a b c : S)
       (d : Spread) (first : Sweeps k a b Dacl (Ok d)) where
     pub second_fails : (e : SpreadFault) → Sweeps k b c Sacl (Err e) → SpreadsAll k a c (Err e)
-    second_fails e sweep = record {
-      follows = laws.on a b c first.follows sweep.follows;
-      written = tt;
-      becomes = λ t. tt;
-      fault = cause e sweep.fault;
-    }
-      where
-        cause : (e : SpreadFault)
-            → HasSpreadCause (k.failures b) (k.failures c)
-            (λ at. k.IsTrusted b c → HasNoRoot (k.rows b) at) (k.IsTrusted b c → ⊥) e
-            → HasSpreadCause (k.failures a) (k.failures c)
-            (λ at. k.IsTrusted a c → HasNoRoot (k.rows a) at) (k.IsTrusted a c → ⊥) e
-        cause (Keeper f) h =
-            later_cause (k.failures a) (k.failures b) (k.failures c) f _ _
-            (laws.rise a b first.follows) (laws.rise b c sweep.follows)
-            (λ at damaged t. no_root_before (k.rows a) (k.rows b) d.changed at
-            (first.becomes (laws.first a b c first.follows sweep.follows t))
-            (damaged (laws.last a b c first.follows sweep.follows t)))
-            h
-        cause Loop h = λ t. h (laws.last a b c first.follows sweep.follows t)
+    second_fails e sweep = grind (arith, nat_tests, later_cause, no_root_before)
 
     pub both_done : (s : Spread) → Sweeps k b c Sacl (Ok s)
         → SpreadsAll k a c (Ok (record { changed = capped (d.changed + s.changed) }))
-    both_done s sweep = record {
-      follows = laws.on a b c first.follows sweep.follows;
-      written =
-          sweep.written ∙ ap (λ n. capped (n + s.changed)) first.written
-          ∙ capped_add (k.writes a + d.changed) s.changed ∙ ap capped (omega arith)
-          ∙ sym (capped_add (d.changed + s.changed) (k.writes a)) ∙ ap capped (omega arith);
-      becomes =
-          λ t. both_swept (k.rows a) (k.rows b) (k.rows c) d.changed s.changed
-          (first.becomes (laws.first a b c first.follows sweep.follows t))
-          (sweep.becomes (laws.last a b c first.follows sweep.follows t));
-      fault = tt;
-    }
+    both_done s sweep = grind (arith, nat_tests, both_swept, capped_add)

@@ -1,14 +1,12 @@
 -- Turns up to a bound, and then up to one that is enough.
-use Rattle.std.proofs.Common.{◌≡◌, ℕ, zero, suc, ◌+◌, ◌<◌, ◌-◌, ◌^◌, List, [], ◌∷◌, ◌++◌, length}
-use Rattle.std.proofs.Common.{Result, Ok, Err, sym, ap, subst, ◌∙◌, inl, inr, arith}
-use Rattle.std.proofs.lemmas.Bool.{cases_lt}
+use Rattle.std.proofs.Common.{◌≡◌, ℕ, zero, suc, ◌+◌, ◌<◌, ◌^◌, List, [], ◌∷◌, ◌++◌, length, Result}
+use Rattle.std.proofs.Common.{Ok, Err, ap, subst, ◌∙◌, inl, inr, arith}
 use Rattle.room_rows.specs.declared.keep.Keep.{Ghosts}
 use Rattle.room_rows.specs.declared.keep.KeepFault.{KeepFault}
 use Rattle.room_rows.specs.declared.keep.KeepFault.TheVariants.{Damaged}
 use Rattle.room_rows.specs.declared.node.Node.{Node}
-use Rattle.room_rows.specs.Counts.{capped_below, capped_past}
 use Rattle.room_rows.specs.Keep.{IsNever, IsRead, AreNumbers, capped, KeepLaws}
-use Rattle.room_rows.specs.Rows.{Rows, numbers_of}
+use Rattle.room_rows.specs.Rows.{numbers_of}
 use Rattle.room_rows.proofs.Steps.{later_cause}
 use Rattle.room_inherit.specs.Turn.{Visits}
 use Rattle.room_inherit.specs.Turns.{AreTurns, Took, Broke}
@@ -18,6 +16,7 @@ use Rattle.room_inherit.specs.declared.outcome.SpreadFault.TheVariants.{Keeper}
 use Rattle.room_inherit.proofs.Calls.{capped_add}
 use Rattle.room_entry.proofs.Facts.Members.{no_length}
 use Rattle.room_inherit.proofs.Turns.{Progress, Carried, Turned, turned_on, turn_fails, first_turn}
+use Rattle.std.proofs.lemmas.Bool.Decides.{nat_tests}
 
 -- a count added to one that stays at its end
 capped_last : (m n : ℕ) → capped (m + capped n) ≡ capped (m + n)
@@ -36,9 +35,7 @@ module _ {S : Type 0} (k : Ghosts S)
   -- the same with equal counts
   as_many : (count count' changed changed' : ℕ) (waiting : List Node) (a b : S) → count ≡ count'
       → changed ≡ changed' → Done count waiting changed a b → Done count' waiting changed' a b
-  as_many count count' changed changed' waiting a b e e' sofar =
-      subst (λ (n : ℕ). Done n waiting changed' a b) e
-      (subst (λ (n : ℕ). Done count waiting n a b) e' sofar)
+  as_many count count' changed changed' waiting a b e e' sofar = grind (arith, nat_tests)
 
   turns_on : (n count : ℕ) (waiting next : List Node) (changed more : ℕ) (a b c : S)
       → Done count waiting changed a b → AreTurns k d n waiting next more b c
@@ -67,19 +64,7 @@ module _ {S : Type 0} (k : Ghosts S)
   over : (count changed total : ℕ) (a b : S) → changed ≡ capped total
       → (k.IsTrusted a b → progress.Given (k.rows a) → total < 2 ^ 63) → Done count [] total a b
       → Ends a b (Ok (record { changed = changed }))
-  over count changed total a b is small sofar = record {
-    follows = sofar.follows;
-    written =
-        sofar.written ∙ sym (capped_last (k.writes a) total)
-        ∙ ap (λ n. capped (k.writes a + n)) (sym is);
-    becomes = λ t.
-        let below = small t.0 t.1 in
-        subst (λ n. progress.Done (k.rows a) (k.rows b) n)
-        (sym (is ∙ capped_below total (omega (arith, below))))
-        (progress.done count total (k.rows a) (k.rows b) (laws.are a b t.0) below
-        (sofar.along t.0 t.1));
-    fault = tt;
-  }
+  over count changed total a b is small sofar = grind (arith, nat_tests, capped_last, follows)
 
   -- one of these turns failed
   fails : (count : ℕ) (waiting : List Node) (changed : ℕ) (next : List Node) (e : SpreadFault)
@@ -118,51 +103,20 @@ module _ {S : Type 0} (k : Ghosts S)
 
       pub soon_done : (told : ℕ) → told < 2 ^ 63 → told ≡ capped (begun + soon) → next ≡ []
           → Ends a c (Ok (record { changed = told }))
-      soon_done told few is end =
-          over count told changed a c (is ∙ told_soon)
-          (λ t given. small_count changed few (is ∙ told_soon)) last
-        where
-          last : Done count [] changed a c
-          last = subst (λ (l : List Node). Done count l changed a c) end sofar
-
-          -- a small count with an end is the count
-          small_count : (n : ℕ) → told < 2 ^ 63 → told ≡ capped n → n < 2 ^ 63
-          small_count n few e = elim (cases_lt n (2 ^ 64 - 1)) [
-            | inl below ↦ let same = e ∙ capped_below n (omega (arith, below)) in
-                omega (arith, same, few)
-            | inr past ↦
-                absurd (let end = e ∙ capped_past n past in
-                let wrong : ⊥ = omega (arith, end, few) in wrong)
-          ]
+      soon_done told few is end = grind (arith, nat_tests, over, sofar, told_soon)
 
       -- no answer came to the numbers
       pub ids_fail : (e : KeepFault) (f : S)
           → IsRead k.rows k.failures k.writes k.Follows k.IsTrusted c f (Err e) IsNever AreNumbers
           → Ends a f (Err (Keeper e))
-      ids_fail e f read = record {
-        follows = laws.on a c f sofar.follows read.follows;
-        written = tt;
-        becomes = λ t. tt;
-        fault =
-            later_cause (k.failures a) (k.failures c) (k.failures f) e _ _
-            (laws.rise a c sofar.follows) (laws.rise c f read.follows)
-            (λ at never t. absurd (never (laws.last a c f sofar.follows read.follows t.0)))
-            read.fault;
-      }
+      ids_fail e f read = grind (arith, nat_tests, follows, later_cause, sofar)
 
       -- it is known how many objects there are
       module _ (ids : List ℕ) (most : ℕ) (is : most ≡ length ids) (e : S)
           (read : IsRead k.rows k.failures k.writes k.Follows k.IsTrusted c e
           (Ok ids) IsNever AreNumbers) where
         numbered : Done count next changed a e
-        numbered = record {
-          follows = laws.on a c e sofar.follows read.follows;
-          written = read.unwritten ∙ sofar.written;
-          along =
-              λ t given. subst (λ (w : Rows). progress.After count next changed (k.rows a) w)
-              (sym (read.same (laws.last a c e sofar.follows read.follows t)))
-              (sofar.along (laws.first a c e sofar.follows read.follows t) given);
-        }
+        numbered = grind (arith, nat_tests, follows, sofar)
 
         all : k.IsTrusted a e → progress.Given (k.rows a) → most ≡ length (numbers_of (k.rows a))
         all t given =
@@ -183,10 +137,7 @@ module _ {S : Type 0} (k : Ghosts S)
 
           known : k.IsTrusted a f → progress.Given (k.rows a)
               → most ≡ length (numbers_of (k.rows a))
-          known t given =
-              all
-              (laws.first a e f numbered.follows
-              (follows took_on.turns next last took_on.total e f took_on.are) t) given
+          known t given = grind (arith, nat_tests, all, follows, numbered)
 
           pub later_done : most < 2 ^ 63 → (told : ℕ)
               → told ≡ capped (capped (begun + soon) + later) → last ≡ []

@@ -1,9 +1,7 @@
 -- Calls of a keeper that write lists, one after the other.
-use Rattle.std.proofs.Common.{◌≡◌, ℕ, ◌+◌, ◌^◌, ◌-◌, false, List, [], ◌∷◌, ◌++◌, length, get_or}
-use Rattle.std.proofs.Common.{Result, Ok, Err, IfOk, IfErr, refl, sym, ap, subst, ◌∙◌, inl, inr}
-use Rattle.std.proofs.Common.{arith, ◌<◌}
+use Rattle.std.proofs.Common.{◌≡◌, ℕ, ◌+◌, ◌^◌, ◌-◌, false, List, [], ◌∷◌, length, get_or, Result}
+use Rattle.std.proofs.Common.{Ok, Err, IfOk, sym, ap, subst, ◌∙◌, arith, ◌<◌}
 use Rattle.std.specs.Prelude.{IsTrue}
-use Rattle.std.proofs.lemmas.Bool.{cases_lt}
 use Rattle.room_entry.specs.Ace.{Ace}
 use Rattle.room_entry.specs.declared.object.ObjKind.{ObjKind}
 use Rattle.room_entry.specs.declared.object.ObjKind.TheVariants.{Document, Folder}
@@ -12,7 +10,6 @@ use Rattle.room_rows.specs.declared.keep.Keep.{Ghosts}
 use Rattle.room_rows.specs.declared.node.Node.{Node}
 use Rattle.room_rows.specs.Calls.{Writes, WritesOf}
 use Rattle.room_rows.specs.Content.{children_of}
-use Rattle.room_rows.specs.Counts.{capped_below, capped_past}
 use Rattle.room_rows.specs.Held.{held_of}
 use Rattle.room_rows.specs.declared.keep.KeepFault.{KeepFault}
 use Rattle.room_rows.specs.Keep.{Changes, ChangesAll, IsUnreadable, IsRead, AreChildrenOf, Leaves}
@@ -25,30 +22,23 @@ use Rattle.room_rows.proofs.Steps.{later_cause}
 use Rattle.room_inherit.specs.declared.by_kind.ByKind.{ByKind}
 use Rattle.room_inherit.specs.declared.descent.Descent.{Descent}
 use Rattle.room_inherit.specs.declared.outcome.SpreadFault.{SpreadFault}
-use Rattle.room_inherit.specs.declared.outcome.SpreadFault.TheVariants.{Keeper, Loop}
+use Rattle.room_inherit.specs.declared.outcome.SpreadFault.TheVariants.{Keeper}
 use Rattle.room_inherit.specs.declared.passed.Passed.{Passed}
-use Rattle.room_inherit.specs.Spread.{HasSpreadCause}
-use Rattle.room_inherit.specs.Turn.{Gathers, IsPassed, IsVisit, LeavesOut, MeetsAgain, RenewsAll}
-use Rattle.room_inherit.specs.Turn.{Visits, WritesAll, count_of, meets_again, next_of, of_kind}
-use Rattle.room_inherit.specs.Turn.{outdated_of, to_kind, with_both_passed, with_passed}
-use Rattle.room_inherit.proofs.Renewing.{changes_none, changes_one, count_gathered, gathered_there}
-use Rattle.room_inherit.proofs.Renewing.{still_there, turn_becomes}
+use Rattle.room_inherit.specs.Turn.{Gathers, IsPassed, RenewsAll, Visits, WritesAll, count_of}
+use Rattle.room_inherit.specs.Turn.{meets_again, of_kind, outdated_of, to_kind, with_passed}
+use Rattle.room_rows.proofs.Many.{one_changed}
+use Rattle.room_inherit.proofs.Renewing.{changes_none, count_gathered, gathered_there, still_there}
+use Rattle.room_inherit.proofs.Renewing.{turn_becomes}
+use Rattle.std.proofs.lemmas.Bool.Decides.{nat_tests}
 
 -- ---- counts with an end
 
 -- a capped count that isn't at its end is the count
 pub uncapped : (told n : ℕ) → told ≡ capped n → told < 2 ^ 64 - 1 → told ≡ n
-uncapped told n is below = elim (cases_lt n (2 ^ 64 - 1)) [
-  | inl under ↦ is ∙ capped_below n (omega (arith, under))
-  | inr past ↦ absurd (let end = is ∙ capped_past n past in omega (arith, end, below))
-]
+uncapped told n is below = grind (arith, nat_tests)
 
 pub capped_add : (m n : ℕ) → capped (capped m + n) ≡ capped (m + n)
-capped_add m n = elim (cases_lt m (2 ^ 64 - 1)) [
-  | inl below ↦ ap (λ k. capped (k + n)) (capped_below m (omega arith))
-  | inr past ↦ ap (λ k. capped (k + n)) (capped_past m past)
-      ∙ capped_past (2 ^ 64 - 1 + n) (omega arith) ∙ sym (capped_past (m + n) (omega (arith, past)))
-]
+capped_add m n = grind (arith, nat_tests)
 
 -- an error that `?` hands on
 pub handed_on : {X : Type 0} (r : Result X SpreadFault) (e : SpreadFault)
@@ -75,23 +65,12 @@ module _ {S : Type 0} (k : Ghosts S)
   pub wrote : (a b : S) (result : Result (Unit {0}) KeepFault) (which : Which)
       (entries entries' : List Ace) (ids ids' : List ℕ) → entries' ≡ entries → ids' ≡ ids
       → WritesInto a b result which entries' ids' → WritesInto a b result which entries ids
-  wrote a b result which entries entries' ids ids' same same' write =
-      subst (WritesInto a b result which entries) same'
-      (subst (λ (e : List Ace). WritesInto a b result which e ids') same write)
+  wrote a b result which entries entries' ids ids' same same' write = grind (arith, nat_tests)
 
   -- into none of them
   pub none_written : (a : S) (which : Which) (entries : List Ace) (ids : List ℕ) → ids ≡ []
       → WritesInto a a (Ok tt) which entries ids
-  none_written a which entries ids is =
-      subst (WritesInto a a (Ok tt) which entries) (sym is)
-      (record {
-        follows = laws.itself a;
-        written = sym (capped_below (k.writes a) (laws.ends a).1) ∙ ap capped (omega arith);
-        becomes = λ t there.
-            changes_none (with_inh which entries) (place-with_inh which entries) (k.rows a);
-        unfailed = refl;
-        fault = tt;
-      })
+  none_written a which entries ids is = grind (arith, nat_tests, changes_none, place-with_inh)
 
   -- into one
   pub one_written : (a b : S) (result : Result (Unit {0}) KeepFault) (which : Which)
@@ -112,7 +91,7 @@ module _ {S : Type 0} (k : Ghosts S)
           → IfOk r (λ _. Changes id (with_inh which entries) (k.rows a) (k.rows b))
           → IfOk r (λ _. ChangesAll (id ∷ []) (with_inh which entries) (k.rows a) (k.rows b))
       becomes (Ok x) t changes =
-          changes_one (with_inh which entries) (place-with_inh which entries) id (k.rows a)
+          one_changed (with_inh which entries) (place-with_inh which entries) id (k.rows a)
           (k.rows b) (laws.are a b t) changes
       becomes (Err e) t changes = tt
 
@@ -183,9 +162,7 @@ module _ {S : Type 0} (k : Ghosts S)
       numbers_are : k.IsTrusted a c × AreGiven a → (kind : ObjKind)
           → of_kind numbers kind
           ≡ outdated_of d.which above kind (children_of (k.rows a).read above.id)
-      numbers_are t kind =
-          (read.answers (first t.0)).outdated kind
-          ∙ (λ i. begins kind i ++ outdated_of d.which above kind (t.1.0 i))
+      numbers_are t kind = grind (arith, nat_tests, first)
 
       rises : k.IsTrusted a c → Rises (k.rows a).read
       rises t = (laws.are a b (first t)).numbers
@@ -203,113 +180,15 @@ module _ {S : Type 0} (k : Ghosts S)
     pub gathered_written : (number : ℕ) → number ≡ count_of numbers
         → WritesAll k b c d.which passed numbers (Ok tt)
         → RenewsAll k a c d above all before after (Ok number)
-    gathered_written number counted write = record {
-      follows = laws.on a b c read.follows write.follows;
-      written = write.written ∙ (λ i. capped (read.unwritten i + sym counted i));
-      becomes = λ t.
-          let before = first write.follows t.0 in
-          let found = read.answers before in
-          let up = rises write.follows t.0 in
-          let are = numbers_are write.follows t in
-          record {
-            not_met = ap (meets_again d.which d.start above) (sym t.1.0) ∙ t.1.1;
-            becomes =
-                write.becomes (trusted write.follows t)
-                ∙ ap (λ (w : Rows). with_content w (with_both_passed d.which passed numbers w.read))
-                (read.same before)
-                ∙ ap (with_content (k.rows a))
-                (turn_becomes d.which above (k.rows a).read up numbers are passed is);
-            counted = counted ∙ count_gathered d.which above (k.rows a).read up numbers are;
-            next = found.next;
-            waits = found.waits;
-            chosen =
-                subst (λ (l : List Node).
-                LeavesOut (k.rows a).read (next_of d.reach d.which above l) found.next) t.1.0
-                found.chosen;
-          };
-      fault = tt;
-    }
+    gathered_written number counted write =
+        grind (arith, nat_tests, count_gathered, first, numbers_are, rises, trusted, turn_becomes)
 
     pub writing_fails : (e : SpreadFault) → WritesAll k b c d.which passed numbers (Err e)
         → RenewsAll k a c d above all before after (Err e)
-    writing_fails e write = record {
-      follows = laws.on a b c read.follows write.follows;
-      written = tt;
-      becomes = λ t. tt;
-      fault = told e write.fault;
-    }
-      where
-        told : (e : SpreadFault)
-            → HasSpreadCause (k.failures b) (k.failures c)
-            (λ at. k.IsTrusted b c × AllThere b → IsUnreadable (k.rows b) at)
-            (k.IsTrusted b c × AllThere b → ⊥) e
-            → HasSpreadCause (k.failures a) (k.failures c)
-            (λ at. k.IsTrusted a c × AreGiven a → IsUnreadable (k.rows a) at)
-            (k.IsTrusted a c × AreGiven a → ⊥) e
-        told (Keeper f) h =
-            later_cause (k.failures a) (k.failures b) (k.failures c) f _ _
-            (laws.rise a b read.follows) (laws.rise b c write.follows)
-            (λ at damaged t. ap (λ (w : Rows). is_unreadable w at)
-            (sym (read.same (first write.follows t.0)))
-            ∙ damaged (trusted write.follows t)) h
-        told Loop h = λ t. h (trusted write.follows t)
+    writing_fails e write = grind (arith, nat_tests, first, later_cause, trusted)
 
   pub visited : (r : Result ℕ SpreadFault) (a b c : S)
       → IsRead k.rows k.failures k.writes k.Follows k.IsTrusted a b (Ok all) IsUnreadable
       (AreChildrenOf above.id) → meets_again d.which d.start above all ≡ false
       → RenewsAll k b c d above all before after r → Visits k a c d above before after r
-  visited r a b c read apart renewed = record {
-    follows = laws.on a b c read.follows renewed.follows;
-    written = written r renewed.written;
-    becomes = λ t. becomes r t (renewed.becomes (trusted t));
-    fault = cause r renewed.fault;
-  }
-    where
-      first : k.IsTrusted a c → k.IsTrusted a b
-      first t = laws.first a b c read.follows renewed.follows t
-
-      trusted : k.IsTrusted a c → k.IsTrusted b c × AreGiven b
-      trusted t = (
-        laws.last a b c read.follows renewed.follows t,
-        (
-          subst (λ (w : Rows). AreChildrenOf above.id w all) (sym (read.same (first t)))
-              (read.answers (first t)),
-          apart,
-        ),
-      )
-
-      written : (r : Result ℕ SpreadFault) → IfOk r (λ n. k.writes c ≡ capped (k.writes b + n))
-          → IfOk r (λ n. k.writes c ≡ capped (k.writes a + n))
-      written (Ok n) h = h ∙ ap (λ w. capped (w + n)) read.unwritten
-      written (Err e) h = tt
-
-      becomes : (r : Result ℕ SpreadFault) (t : k.IsTrusted a c)
-          → IfOk r (λ n. IsVisit d above before after (k.rows b) n (k.rows c))
-          → IfOk r (λ n. IsVisit d above before after (k.rows a) n (k.rows c))
-      becomes (Ok n) t h =
-          subst (λ (w : Rows). IsVisit d above before after w n (k.rows c)) (read.same (first t)) h
-      becomes (Err e) t h = tt
-
-      told : (e : SpreadFault)
-          → HasSpreadCause (k.failures b) (k.failures c)
-          (λ at. k.IsTrusted b c × AreGiven b → IsUnreadable (k.rows b) at)
-          (k.IsTrusted b c × AreGiven b → ⊥) e
-          → HasSpreadCause (k.failures a) (k.failures c)
-          (λ at. k.IsTrusted a c → IsUnreadable (k.rows a) at)
-          (k.IsTrusted a c → MeetsAgain d.which d.start above (k.rows a)) e
-      told (Keeper f) h =
-          later_cause (k.failures a) (k.failures b) (k.failures c) f _ _
-          (laws.rise a b read.follows) (laws.rise b c renewed.follows)
-          (λ at damaged t. ap (λ (w : Rows). is_unreadable w at) (sym (read.same (first t)))
-          ∙ damaged (trusted t)) h
-      told Loop h = λ t. absurd (h (trusted t))
-
-      cause : (r : Result ℕ SpreadFault)
-          → IfErr r (HasSpreadCause (k.failures b) (k.failures c)
-          (λ at. k.IsTrusted b c × AreGiven b → IsUnreadable (k.rows b) at)
-          (k.IsTrusted b c × AreGiven b → ⊥))
-          → IfErr r (HasSpreadCause (k.failures a) (k.failures c)
-          (λ at. k.IsTrusted a c → IsUnreadable (k.rows a) at)
-          (k.IsTrusted a c → MeetsAgain d.which d.start above (k.rows a)))
-      cause (Ok n) h = tt
-      cause (Err e) h = told e h
+  visited r a b c read apart renewed = grind (arith, nat_tests, first, later_cause, trusted)

@@ -1,29 +1,25 @@
 -- A change carried down, turn after turn.
-use Rattle.std.proofs.Common.{◌≡◌, ℕ, suc, ◌+◌, ◌≤◌, false, List, [], ◌∷◌, ◌++◌, length, Some, None}
-use Rattle.std.proofs.Common.{Result, Ok, Err, IfOk, IfErr, sym, ap, subst, ◌∙◌, arith}
-use Rattle.std.proofs.lemmas.Bool.{false≢true, false_from_ne_true, eq-eqb}
+use Rattle.std.proofs.Common.{◌≡◌, ℕ, suc, ◌+◌, ◌≤◌, List, [], ◌∷◌, ◌++◌, length, Some, None}
+use Rattle.std.proofs.Common.{Result, Ok, sym, ap, subst, ◌∙◌, arith}
+use Rattle.std.proofs.lemmas.Bool.{false≢true}
 use Rattle.std.proofs.lemmas.List.{length-append}
 use Rattle.room_entry.specs.Ace.{Ace}
 use Rattle.room_entry.specs.declared.object.Which.{Which}
 use Rattle.room_rows.specs.declared.keep.Keep.{Ghosts}
 use Rattle.room_rows.specs.declared.node.Node.{Node}
 use Rattle.room_rows.specs.Content.{Content, node_at, children_of}
-use Rattle.room_rows.specs.Counts.{capped_below}
-use Rattle.room_rows.specs.Keep.{IsUnreadable, IsUnreadableAt, IsNodeAt, IsRead, capped}
-use Rattle.room_rows.specs.Keep.{with_content, KeepLaws}
+use Rattle.room_rows.specs.Keep.{IsUnreadableAt, IsNodeAt, IsRead, with_content, KeepLaws}
 use Rattle.room_rows.specs.Law.{AllAgree}
 use Rattle.room_rows.specs.Rows.{Rows, AreRows, numbers_of, is_unreadable}
 use Rattle.room_rows.proofs.InPlace.{numbers_of-reading}
 use Rattle.room_rows.proofs.Steps.{later_cause}
-use Rattle.room_inherit.specs.Spread.{ChangedAgree, HasSpreadCause, IsSpread, IsOwnAncestor, Holds}
-use Rattle.room_inherit.specs.Spread.{Spreads, SpreadsIf, with_lists, is_changed}
+use Rattle.room_inherit.specs.Spread.{ChangedAgree, IsSpread, IsOwnAncestor, Holds, Spreads}
+use Rattle.room_inherit.specs.Spread.{SpreadsIf, with_lists, is_changed}
 use Rattle.room_inherit.specs.Turn.{IsVisit, LeavesOut, MeetsAgain, next_of}
 use Rattle.room_inherit.specs.declared.descent.Descent.{Descent}
-use Rattle.room_inherit.specs.declared.descent.Reach.{Reach}
 use Rattle.room_inherit.specs.declared.descent.Reach.TheVariants.{Renewed}
 use Rattle.room_inherit.specs.declared.outcome.Spread.{Spread}
 use Rattle.room_inherit.specs.declared.outcome.SpreadFault.{SpreadFault}
-use Rattle.room_inherit.specs.declared.outcome.SpreadFault.TheVariants.{Keeper, Loop}
 use Rattle.room_entry.proofs.Facts.Members.{count, count-is}
 use Rattle.room_inherit.proofs.Frontier.{Frontier, ids_set}
 use Rattle.room_inherit.proofs.Chosen.{all_chosen, below_lists, chosen_append, chosen_length}
@@ -34,6 +30,7 @@ use Rattle.room_inherit.proofs.Ends.{frontier_first, law_without, law_at_end, ch
 use Rattle.room_inherit.proofs.Ends.{loop_found, count_less, as_many_numbers}
 use Rattle.room_inherit.proofs.Turns.{Progress}
 use Rattle.room_rows.proofs.Lookups.{found_number}
+use Rattle.std.proofs.lemmas.Bool.Decides.{nat_tests}
 
 -- ---- rows
 
@@ -54,14 +51,7 @@ pub fewer : (which : Which) (start : ℕ) (waiting : List Node) (old : Rows) (li
     → Frontier which start old.read lists waiting
     → suc (count (is_changed which lists) old.read.nodes) ≤ length (numbers_of old)
 fewer which start waiting old lists first is front =
-    let same = found_number start old.read.nodes first is in
-    let unchanged : is_changed which lists first ≡ false = false_from_ne_true
-    (is_changed which lists first) (λ changed.
-    false≢true (sym (front.came first (ap (node_at old.read) same ∙ is) changed).isnt_start
-    ∙ eq-eqb first.id start same)) in
-    let less = count_less (is_changed which lists) start old.read.nodes first is unchanged in
-    let all = as_many_numbers old in
-    omega (arith, less, all)
+    grind (arith, nat_tests, as_many_numbers, count_less, found_number)
 
 pub carrying_first : (which : Which) (start : ℕ) (old : Rows) (first : Node) → AreRows old
     → node_at old.read start ≡ Some first → IsCarrying which start 0 (first ∷ []) 0 old old
@@ -92,17 +82,10 @@ module _ (d : Descent) (reach : d.reach ≡ Renewed) (turns : ℕ) (rest : List 
   going = next_of Renewed d.which w (children_of (with_lists d.which f old.read) w.id)
 
   chosen : LeavesOut old.read going step.next
-  chosen =
-      chosen_there (with_lists d.which f old.read) old.read
-      (λ id. sym (below_lists d.which f old.read id)) going step.next
-      (subst (λ (r : Reach). LeavesOut (with_lists d.which f old.read)
-      (next_of r d.which w (children_of (with_lists d.which f old.read) w.id)) step.next) reach
-      step.chosen)
+  chosen = grind (arith, nat_tests, below_lists, chosen_there, step)
 
   total : changed + number ≡ count (is_changed d.which lists) old.read.nodes
-  total =
-      (λ i. sofar.counted i + step.counted i)
-      ∙ sym (count_after d.which d.start old.read are.numbers f rest w sofar.front step.not_met)
+  total = grind (arith, nat_tests, count_after, step)
 
   pub carrying_turn : IsCarrying d.which d.start (turns + 1) next (changed + number) old new
   carrying_turn = record {
@@ -209,80 +192,11 @@ module _ {S : Type 0} (k : Ghosts S)
   pub spreads_nowhere : (id : ℕ) (a b : S)
       → IsRead k.rows k.failures k.writes k.Follows k.IsTrusted a b (Ok None) (IsUnreadableAt id)
       (IsNodeAt id) → Spreads k a b which id (Ok (record { changed = 0 }))
-  spreads_nowhere id a b found = record {
-    follows = found.follows;
-    written =
-        found.unwritten ∙ sym (capped_below (k.writes a) (laws.ends a).1) ∙ ap capped (omega arith);
-    becomes =
-        λ t. subst (λ (r : Rows). IsSpread which id (k.rows a) r 0) (sym (found.same t))
-        (nothing_carried which id (k.rows a) (laws.are a b t) (sym (found.answers t).0));
-    fault = tt;
-  }
+  spreads_nowhere id a b found = grind (arith, nat_tests, nothing_carried)
 
   -- the object was read, and the change is carried down from there
   pub spreads_there : (start : Node) (a b c : S) (id : ℕ) (r : Result Spread SpreadFault)
       → IsRead k.rows k.failures k.writes k.Follows k.IsTrusted a b (Ok (Some start))
       (IsUnreadableAt id) (IsNodeAt id)
       → SpreadsIf k b c (Holds start) which start.id r → Spreads k a c which id r
-  spreads_there start a b c id r found more = record {
-    follows = laws.on a b c found.follows more.follows;
-    written = written r more.written;
-    becomes = λ t. becomes r t (more.becomes (given t));
-    fault = cause r more.fault;
-  }
-    where
-      first : k.IsTrusted a c → k.IsTrusted a b
-      first t = laws.first a b c found.follows more.follows t
-
-      same : k.IsTrusted a c → k.rows b ≡ k.rows a
-      same t = found.same (first t)
-
-      number : k.IsTrusted a c → start.id ≡ id
-      number t = found_number id (k.rows a).read.nodes start (sym (found.answers (first t)).0)
-
-      given : k.IsTrusted a c → k.IsTrusted b c × Holds start (k.rows b)
-      given t = (
-        laws.last a b c found.follows more.follows t,
-        ap (λ (w : Rows). node_at w.read start.id) (same t)
-            ∙ ap (node_at (k.rows a).read) (number t) ∙ sym (found.answers (first t)).0,
-      )
-
-      written : (r : Result Spread SpreadFault)
-          → IfOk r (λ s. k.writes c ≡ capped (k.writes b + s.changed))
-          → IfOk r (λ s. k.writes c ≡ capped (k.writes a + s.changed))
-      written (Ok s) h = h ∙ ap (λ n. capped (n + s.changed)) found.unwritten
-      written (Err e) h = tt
-
-      becomes : (r : Result Spread SpreadFault) (t : k.IsTrusted a c)
-          → IfOk r (λ s. IsSpread which start.id (k.rows b) (k.rows c) s.changed)
-          → IfOk r (λ s. IsSpread which id (k.rows a) (k.rows c) s.changed)
-      becomes (Ok s) t h =
-          subst (λ (w : Rows). IsSpread which id w (k.rows c) s.changed) (same t)
-          (subst (λ n. IsSpread which n (k.rows b) (k.rows c) s.changed) (number t) h)
-      becomes (Err e) t h = tt
-
-      told : (e : SpreadFault)
-          → HasSpreadCause (k.failures b) (k.failures c)
-          (λ at. k.IsTrusted b c × Holds start (k.rows b) → IsUnreadable (k.rows b) at)
-          (k.IsTrusted b c × Holds start (k.rows b) → IsOwnAncestor (k.rows b).read start.id) e
-          → HasSpreadCause (k.failures a) (k.failures c)
-          (λ at. k.IsTrusted a c → IsUnreadable (k.rows a) at)
-          (k.IsTrusted a c → IsOwnAncestor (k.rows a).read id) e
-      told (Keeper f) h =
-          later_cause (k.failures a) (k.failures b) (k.failures c) f _ _
-          (laws.rise a b found.follows) (laws.rise b c more.follows)
-          (λ at damaged t. ap (λ (w : Rows). is_unreadable w at) (sym (same t)) ∙ damaged (given t))
-          h
-      told Loop h =
-          λ t. subst (λ (w : Rows). IsOwnAncestor w.read id) (same t)
-          (subst (λ n. IsOwnAncestor (k.rows b).read n) (number t) (h (given t)))
-
-      cause : (r : Result Spread SpreadFault)
-          → IfErr r (HasSpreadCause (k.failures b) (k.failures c)
-          (λ at. k.IsTrusted b c × Holds start (k.rows b) → IsUnreadable (k.rows b) at)
-          (k.IsTrusted b c × Holds start (k.rows b) → IsOwnAncestor (k.rows b).read start.id))
-          → IfErr r (HasSpreadCause (k.failures a) (k.failures c)
-          (λ at. k.IsTrusted a c → IsUnreadable (k.rows a) at)
-          (k.IsTrusted a c → IsOwnAncestor (k.rows a).read id))
-      cause (Ok s) h = tt
-      cause (Err e) h = told e h
+  spreads_there start a b c id r found more = grind (arith, nat_tests, found_number, later_cause)

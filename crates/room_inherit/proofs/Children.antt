@@ -16,6 +16,7 @@ use Rattle.room_entry.proofs.Facts.Members.{each_weaker, each_filter, each_unfil
 use Rattle.room_entry.proofs.Facts.Members.{any_agree, any_none, each_fails, none_of_both}
 use Rattle.room_entry.proofs.Facts.Members.{none_filter, count, count_filter, count_length}
 use Rattle.room_rows.proofs.Lookups.{each-sorted, count_sorted}
+use Rattle.std.proofs.lemmas.Bool.Decides.{nat_tests}
 
 -- ---- by number
 
@@ -132,18 +133,7 @@ apart_rising k (x ∷ xs) rises =
 any_put : (p : Node → Bool) (x : Node) (xs : List Node)
     → list_any p (put_by_name x xs) ≡ (p x || list_any p xs)
 any_put p x [] = refl
-any_put p x (y ∷ ys) = on (is_before y.name x.name) (any_put p x ys)
-  where
-    swapped : (s t r : Bool) → (s || (t || r)) ≡ (t || (s || r))
-    swapped true true r = refl
-    swapped true false r = refl
-    swapped false true r = refl
-    swapped false false r = refl
-
-    on : (t : Bool) → list_any p (put_by_name x ys) ≡ (p x || list_any p ys)
-        → list_any p (cond t (y ∷ put_by_name x ys) (x ∷ y ∷ ys)) ≡ (p x || (p y || list_any p ys))
-    on true rest = ap (λ r. p y || r) rest ∙ swapped (p y) (p x) (list_any p ys)
-    on false rest = refl
+any_put p x (y ∷ ys) = grind (arith, nat_tests, any_put p x ys)
 
 pub any_sorted : (p : Node → Bool) (xs : List Node) → list_any p (sorted_by_name xs) ≡ list_any p xs
 any_sorted p [] = refl
@@ -151,12 +141,7 @@ any_sorted p (x ∷ xs) = any_put p x (sorted_by_name xs) ∙ ap (λ r. p x || r
 
 length_put : (x : Node) (xs : List Node) → length (put_by_name x xs) ≡ suc (length xs)
 length_put x [] = refl
-length_put x (y ∷ ys) = on (is_before y.name x.name) (length_put x ys)
-  where
-    on : (t : Bool) → length (put_by_name x ys) ≡ suc (length ys)
-        → length (cond t (y ∷ put_by_name x ys) (x ∷ y ∷ ys)) ≡ suc (length (y ∷ ys))
-    on true rest = ap suc rest
-    on false rest = refl
+length_put x (y ∷ ys) = grind (arith, nat_tests, length_put x ys)
 
 length_sorted : (xs : List Node) → length (sorted_by_name xs) ≡ length xs
 length_sorted [] = refl
@@ -190,11 +175,7 @@ apart_sorted (x ∷ xs) apart =
 -- where no number comes twice, none does among the objects that pass a test
 pub apart_filter : (q : Node → Bool) (xs : List Node) → Apart xs → Apart (filter q xs)
 apart_filter q [] apart = tt
-apart_filter q (x ∷ xs) apart = on (q x) (apart_filter q xs apart.1)
-  where
-    on : (t : Bool) → Apart (filter q xs) → Apart (cond t (x ∷ filter q xs) (filter q xs))
-    on true rest = (none_filter (λ (n : Node). n.id == x.id) q xs apart.0, rest)
-    on false rest = rest
+apart_filter q (x ∷ xs) apart = grind (arith, nat_tests, none_filter, apart_filter q xs apart.1)
 
 -- nor does one come twice after a change of each object that leaves its number
 pub apart_map : (f : Node → Node) → ((n : Node) → (f n).id ≡ n.id) → (xs : List Node) → Apart xs
@@ -216,9 +197,7 @@ apart_map f same (x ∷ xs) apart = (
 pub has_id_map : (f : Node → Node) → ((n : Node) → (f n).id ≡ n.id) → (id : ℕ) (xs : List Node)
     → has_id id (map f xs) ≡ has_id id xs
 has_id_map f same id [] = refl
-has_id_map f same id (x ∷ xs) =
-    ap (λ (j : ℕ). (j == id) || has_id id (map f xs)) (same x)
-    ∙ ap (λ r. (x.id == id) || r) (has_id_map f same id xs)
+has_id_map f same id (x ∷ xs) = grind (arith, nat_tests, has_id_map f same id xs)
 
 -- ---- children
 
@@ -227,15 +206,7 @@ module _ (g : Node → Node) (same_name : (n : Node) → (g n).name ≡ n.name)
     (same_above : (id : ℕ) (n : Node) → has_parent id (g n) ≡ has_parent id n) where
   put_map : (x : Node) (xs : List Node) → put_by_name (g x) (map g xs) ≡ map g (put_by_name x xs)
   put_map x [] = refl
-  put_map x (y ∷ ys) =
-      (λ i. cond (is_before (same_name y i) (same_name x i)) (g y ∷ put_by_name (g x) (map g ys))
-      (g x ∷ g y ∷ map g ys)) ∙ on (is_before y.name x.name) (put_map x ys)
-    where
-      on : (t : Bool) → put_by_name (g x) (map g ys) ≡ map g (put_by_name x ys)
-          → cond t (g y ∷ put_by_name (g x) (map g ys)) (g x ∷ g y ∷ map g ys)
-          ≡ map g (cond t (y ∷ put_by_name x ys) (x ∷ y ∷ ys))
-      on true rest = ap (λ (l : List Node). g y ∷ l) rest
-      on false rest = refl
+  put_map x (y ∷ ys) = grind (arith, nat_tests, put_map x ys)
 
   sorted_map : (xs : List Node) → sorted_by_name (map g xs) ≡ map g (sorted_by_name xs)
   sorted_map [] = refl
@@ -244,15 +215,7 @@ module _ (g : Node → Node) (same_name : (n : Node) → (g n).name ≡ n.name)
   filter_map : (id : ℕ) (xs : List Node)
       → filter (has_parent id) (map g xs) ≡ map g (filter (has_parent id) xs)
   filter_map id [] = refl
-  filter_map id (x ∷ xs) =
-      ap (λ t. cond t (g x ∷ filter (has_parent id) (map g xs)) (filter (has_parent id) (map g xs)))
-      (same_above id x) ∙ on (has_parent id x) (filter_map id xs)
-    where
-      on : (t : Bool) → filter (has_parent id) (map g xs) ≡ map g (filter (has_parent id) xs)
-          → cond t (g x ∷ filter (has_parent id) (map g xs)) (filter (has_parent id) (map g xs))
-          ≡ map g (cond t (x ∷ filter (has_parent id) xs) (filter (has_parent id) xs))
-      on true rest = ap (λ (l : List Node). g x ∷ l) rest
-      on false rest = rest
+  filter_map id (x ∷ xs) = grind (arith, nat_tests, filter_map id xs)
 
   -- the children after the change are those before it, each changed, in the same order
   pub children_map : (rows : Content) (id : ℕ)
@@ -272,9 +235,7 @@ module _ (rows : Content) (apart : Apart rows.nodes) where
 
   -- no two children of an object have the same number
   pub apart_children : (id : ℕ) → Apart (children_of rows id)
-  apart_children id =
-      apart_sorted (filter (has_parent id) rows.nodes)
-      (apart_filter (has_parent id) rows.nodes apart)
+  apart_children id = grind (arith, nat_tests, apart_filter, apart_sorted)
 
   -- whether an object is among those children that pass a test
   pub is_such_child : (q : Node → Bool) (id : ℕ) (n : Node) → node_at rows n.id ≡ Some n

@@ -1,25 +1,24 @@
 -- Documents below which nothing stands, left out of the objects that wait.
-use Rattle.std.proofs.Common.{◌≡◌, ℕ, ◌≤◌, ◌==◌, Bool, true, false, cond, not, ◌&&◌, List, []}
-use Rattle.std.proofs.Common.{◌∷◌, ◌++◌, map, filter, length, Some, refl, sym, ap, subst}
-use Rattle.std.proofs.Common.{◌∙◌, inl, inr, arith}
+use Rattle.std.proofs.Common.{◌≡◌, ℕ, ◌≤◌, ◌==◌, Bool, true, false, cond, not, ◌&&◌, List, [], ◌∷◌}
+use Rattle.std.proofs.Common.{◌++◌, filter, length, Some, refl, sym, ap, subst, ◌∙◌, inl, inr}
+use Rattle.std.proofs.Common.{arith}
 use Rattle.std.specs.List.{AllByRecursion, list_any}
 use Rattle.std.proofs.lemmas.Bool.{cases_Bool, or_cases, or_from, or_left, or_parts, or_right}
 use Rattle.std.proofs.lemmas.Bool.{false≢true, eqb-true}
 use Rattle.room_entry.specs.Ace.{Ace}
-use Rattle.room_entry.specs.Valid.{is_document}
 use Rattle.room_entry.specs.declared.object.Which.{Which}
 use Rattle.room_rows.specs.declared.node.Node.{Node}
 use Rattle.room_rows.specs.Content.{Content, has_parent, is_folder, sorted_by_name}
 use Rattle.room_rows.specs.Finding.{find_id}
 use Rattle.room_inherit.specs.declared.descent.Descent.{Descent}
 use Rattle.room_inherit.specs.Spread.{with_lists}
-use Rattle.room_inherit.specs.Turn.{IsChildless, LeavesOut, TellsWaiting, brought_up}
-use Rattle.room_inherit.specs.Turn.{is_outdated, next_of, passed_to, renewed_node, waits_next}
+use Rattle.room_inherit.specs.Turn.{LeavesOut, TellsWaiting, brought_up, next_of}
 use Rattle.room_inherit.proofs.Kinship.{same_kind}
 use Rattle.room_rows.proofs.InPlace.{with_inh-id}
 use Rattle.room_entry.proofs.Facts.Members.{any_agree, any_filter, any_map, each_fails, each_filter}
 use Rattle.room_inherit.proofs.Children.{Apart, any_sorted, each_found, has_id}
-use Rattle.room_inherit.proofs.Frontier.{Frontier, Waits, set, set_parent}
+use Rattle.room_inherit.proofs.Frontier.{Frontier, set, set_parent}
+use Rattle.std.proofs.lemmas.Bool.Decides.{nat_tests}
 
 -- ---- what stands below an object
 
@@ -53,13 +52,7 @@ none_below id nodes none =
 pub below_lists : (which : Which) (f : Node → List Ace) (old : Content) (id : ℕ)
     → list_any (has_parent id) (with_lists which f old).nodes
     ≡ list_any (has_parent id) old.nodes
-below_lists which f old id =
-    any_map (has_parent id) (set which f) old.nodes
-    ∙ any_agree (λ n. has_parent id (set which f n)) (has_parent id) old.nodes (every old.nodes)
-  where
-    every : (xs : List Node) → AllByRecursion (λ n. has_parent id (set which f n) ≡ has_parent id n) xs
-    every [] = tt
-    every (x ∷ xs) = (set_parent which f id x, every xs)
+below_lists which f old id = grind (arith, nat_tests, any_agree, any_map, set, set_parent)
 
 -- ---- lists without some documents
 
@@ -72,30 +65,17 @@ all_chosen rows (x ∷ xs) = (xs, all_chosen rows xs, inl refl)
 pub chosen_append : (rows : Content) (nodes more next last : List Node)
     → LeavesOut rows nodes next → LeavesOut rows more last
     → LeavesOut rows (nodes ++ more) (next ++ last)
-chosen_append rows [] more next last none rest =
-    subst (λ (l : List Node). LeavesOut rows more (l ++ last)) (sym none) rest
-chosen_append rows (x ∷ xs) more next last (front, chosen, how) rest = (
-  front ++ last,
-  chosen_append rows xs more front last chosen rest,
-  elim how [
-    | inl kept ↦ inl (ap (λ (l : List Node). l ++ last) kept)
-    | inr left ↦ inr (ap (λ (l : List Node). l ++ last) left.0, left.1)
-  ],
-)
+chosen_append rows [] more next last none rest = grind (arith, nat_tests)
+chosen_append rows (x ∷ xs) more next last (front, chosen, how) rest =
+    grind (arith, nat_tests, chosen_append rows xs more front last chosen rest)
 
 -- the same in rows where something stands below the same objects
 pub chosen_there : (rows now : Content)
     → ((id : ℕ) → list_any (has_parent id) now.nodes ≡ list_any (has_parent id) rows.nodes)
     → (nodes next : List Node) → LeavesOut rows nodes next → LeavesOut now nodes next
 chosen_there rows now same [] next chosen = chosen
-chosen_there rows now same (x ∷ xs) next (rest, chosen, how) = (
-  rest,
-  chosen_there rows now same xs rest chosen,
-  elim how [
-    | inl kept ↦ inl kept
-    | inr left ↦ inr (left.0, (left.1.0, same x.id ∙ left.1.1))
-  ],
-)
+chosen_there rows now same (x ∷ xs) next (rest, chosen, how) =
+    grind (arith, nat_tests, chosen_there rows now same xs rest chosen)
 
 -- no more are left than there were
 pub chosen_length : (rows : Content) (nodes next : List Node) → LeavesOut rows nodes next
@@ -186,28 +166,8 @@ module _ (which : Which) (start : ℕ) (old : Content) (f : Node → List Ace) w
   -- documents below which nothing stands needn't wait
   pub frontier_chosen : (nodes next : List Node) → LeavesOut old nodes next
       → Frontier which start old f nodes → Frontier which start old f next
-  frontier_chosen nodes next chosen front = record {
-    known = each_chosen (Waits which start old f) old nodes next chosen front.known;
-    apart = apart_chosen old nodes next chosen front.apart;
-    came = λ n there changed.
-        let c = front.came n there changed in
-        record {
-          isnt_start = c.isnt_start;
-          below = c.below;
-          parent = c.parent;
-          there = c.there;
-          has = c.has;
-          reached = c.reached;
-          taken = unmet c.parent.id old nodes next chosen c.taken;
-          agrees = c.agrees;
-        };
-    law = λ but n p there there' has link. elim (front.law but n p there there' has link) [
-      | inl waiting ↦
-          inl (still_waits p.id old nodes next chosen (found_below p.id n.id old.nodes n there has)
-          waiting)
-      | inr agrees ↦ inr agrees
-    ];
-  }
+  frontier_chosen nodes next chosen front =
+      grind (arith, nat_tests, apart_chosen, each_chosen, found_below, still_waits, unmet)
 
 -- ---- one child
 
@@ -216,29 +176,6 @@ pub one_chosen : (rows : Content) (d : Descent) (above child : Node) (waits : Bo
     → TellsWaiting rows d.reach d.which above child waits
     → LeavesOut rows (next_of d.reach d.which above (child ∷ []))
     (cond waits (brought_up d.which above child ∷ []) [])
-one_chosen rows d above child waits (inl told) =
-    subst (LeavesOut rows (next_of d.reach d.which above (child ∷ [])))
-    (on (waits_next d.reach d.which above child)
-    ∙ ap (λ t. cond t (brought_up d.which above child ∷ []) []) (sym told))
-    (all_chosen rows (next_of d.reach d.which above (child ∷ [])))
-  where
-    on : (t : Bool) → map (brought_up d.which above) (cond t (child ∷ []) [])
-        ≡ cond t (brought_up d.which above child ∷ []) []
-    on true = refl
-    on false = refl
+one_chosen rows d above child waits (inl told) = grind (arith, nat_tests, all_chosen)
 one_chosen rows d above child waits (inr (stays, childless)) =
-    subst (λ t. LeavesOut rows (next_of d.reach d.which above (child ∷ []))
-    (cond t (brought_up d.which above child ∷ []) [])) (sym stays)
-    (on (waits_next d.reach d.which above child))
-  where
-    still : (t : Bool) → IsChildless rows (cond t (renewed_node d.which above child) child)
-    still true = (
-      ap is_document (same_kind d.which (passed_to d.which above child) child) ∙ childless.0,
-      ap (λ i. list_any (has_parent i) rows.nodes)
-          (with_inh-id d.which (passed_to d.which above child) child) ∙ childless.1,
-    )
-    still false = childless
-
-    on : (t : Bool) → LeavesOut rows (map (brought_up d.which above) (cond t (child ∷ []) [])) []
-    on true = ([], refl, inr (refl, still (is_outdated d.which above child)))
-    on false = refl
+    grind (arith, nat_tests, same_kind, with_inh-id)

@@ -1,7 +1,7 @@
 -- Where carrying a change down begins, and where it ends.
-use Rattle.std.proofs.Common.{◌≡◌, ℕ, zero, suc, ◌+◌, ◌≤◌, ◌==◌, Bool, true, false, cond, not, ◌||◌}
-use Rattle.std.proofs.Common.{List, [], ◌∷◌, ◌++◌, map, length, Option, Some, None, refl, sym, ap}
-use Rattle.std.proofs.Common.{◌∙◌, inl, inr, arith}
+use Rattle.std.proofs.Common.{◌≡◌, ℕ, zero, suc, ◌+◌, ◌≤◌, ◌==◌, Bool, true, false, not, ◌||◌, List}
+use Rattle.std.proofs.Common.{[], ◌∷◌, ◌++◌, map, length, Option, Some, None, refl, sym, ap, ◌∙◌}
+use Rattle.std.proofs.Common.{inl, inr, arith}
 use Rattle.std.specs.Prelude.{option_and_then}
 use Rattle.std.specs.List.{list_all, AllByRecursion as Each}
 use Rattle.std.specs.Option.{option_map, option_map_or}
@@ -36,6 +36,7 @@ use Rattle.room_inherit.proofs.Frontier.{There, Waits, Came, AgreesOrWaits, Fron
 use Rattle.room_inherit.proofs.Outdated.{same_above, parent_found, base_of}
 use Rattle.room_rows.proofs.Lookups.{found_number, length_numbers}
 use Rattle.room_rows.proofs.Frames.{parent_is}
+use Rattle.std.proofs.lemmas.Bool.Decides.{nat_tests}
 
 -- where a test of all objects is passed, each object passes it
 pub each_all : (p : Node → Bool) (xs : List Node) → list_all p xs ≡ true → Each (λ x. p x ≡ true) xs
@@ -81,16 +82,7 @@ law_of_two : (which : Which) (old : Content) (n p : Node) → There which 0 old 
     → has_parent p.id n ≡ true → links which p n ≡ true → agrees old which n ≡ true
     → (held_of which n).inh ≡ passes which (own_lists which) p n
 law_of_two which old n p there has link agree =
-    let with_p : agrees_with which n p ≡ true =
-    sym (ap (λ o. option_map_or (agrees_with which n) o true) (parent_found old p n there has))
-    ∙ agree in
-    entries_equal (held_of which n).inh (passes which (own_lists which) p n)
-    (meets_both (links which p n)
-    (same_entries (held_of which n).inh (passes which (own_lists which) p n)) link with_p)
-  where
-    meets_both : (t u : Bool) → t ≡ true → (not t || u) ≡ true → u ≡ true
-    meets_both true u is either = either
-    meets_both false u is either = absurd (false≢true is)
+    grind (arith, nat_tests, entries_equal, links, parent_found, passes)
 
 module _ (which : Which) (start : ℕ) (old : Content)
     (rises : is_rising (0 ∷ ids_of old.nodes) ≡ true) where
@@ -132,20 +124,7 @@ module _ (which : Which) (start : ℕ) (old : Content)
 
   -- where the object isn't there, nothing is linked to it
   pub law_without : node_at old start ≡ None → AllAgreeBut old which start → AllAgree old which
-  law_without none but =
-      all_each (agrees old which) old.nodes
-      (each_weaker (λ m. (has_parent start m || agrees old which m) ≡ true)
-      (λ m. agrees old which m ≡ true) one old.nodes
-      (each_all (λ m. has_parent start m || agrees old which m) old.nodes but))
-    where
-      one : (n : Node) → (has_parent start n || agrees old which n) ≡ true
-          → agrees old which n ≡ true
-      one n either = elim (or_cases (has_parent start n) (agrees old which n) either) [
-        | inl child ↦
-            ap (λ o. option_map_or (agrees_with which n) o true)
-            (ap (option_and_then (node_at old)) (parent_is start n child) ∙ none)
-        | inr agree ↦ agree
-      ]
+  law_without none but = grind (arith, nat_tests, all_each, each_all, each_weaker, parent_is)
 
   -- ---- the end
 
@@ -306,21 +285,8 @@ module _ (which : Which) (start : ℕ) (old : Content)
 pub count_less : (p : Node → Bool) (id : ℕ) (nodes : List Node) (s : Node)
     → find_id id nodes ≡ Some s → p s ≡ false → suc (count p nodes) ≤ length nodes
 count_less p id [] s found isnt = absurd (let wrong : ⊥ = cc in wrong)
-count_less p id (x ∷ xs) s found isnt = on (x.id == id) found (count_less p id xs s)
-  where
-    ends : count p xs ≤ length xs
-    ends = count_ends p xs
-
-    one_at_most : (t : Bool) → one_if t ≤ 1
-    one_at_most true = omega arith
-    one_at_most false = omega arith
-
-    on : (t : Bool) → cond t (Some x) (find_id id xs) ≡ Some s
-        → (find_id id xs ≡ Some s → p s ≡ false → suc (count p xs) ≤ length xs)
-        → suc (one_if (p x) + count p xs) ≤ length (x ∷ xs)
-    on true is rest = let same : x ≡ s = cc in let none : one_if (p x) ≡ 0 =
-        ap one_if (ap p same ∙ isnt) in omega (arith, none, ends)
-    on false is rest = let r = rest is isnt in let o = one_at_most (p x) in omega (arith, r, o)
+count_less p id (x ∷ xs) s found isnt =
+    grind (arith, nat_tests, count, count_ends, one_if, count_less p id xs s)
 
 -- there are at least as many numbers in use as objects that can be read
 pub as_many_numbers : (rows : Rows) → length rows.read.nodes ≤ length (numbers_of rows)

@@ -1,8 +1,8 @@
 -- A way to the root needs no more steps than there are objects: a shorter one leaves out what lies
 -- between two meetings of one number.
-use Rattle.std.proofs.Common.{◌≡◌, ℕ, zero, suc, ◌≤◌, ◌+◌, ◌==◌, Bool, true, false, cond, not, List}
-use Rattle.std.proofs.Common.{[], ◌∷◌, filter, length, Option, Some, None, ◌⊎◌, refl, sym, ap, ◌∙◌}
-use Rattle.std.proofs.Common.{inl, inr, arith}
+use Rattle.std.proofs.Common.{◌≡◌, ℕ, zero, suc, ◌≤◌, ◌+◌, ◌==◌, Bool, true, false, not, List, []}
+use Rattle.std.proofs.Common.{◌∷◌, filter, length, Option, Some, None, ◌⊎◌, refl, sym, ap, ◌∙◌, inl}
+use Rattle.std.proofs.Common.{inr, arith}
 use Rattle.std.specs.Option.{option_map_or}
 use Rattle.std.proofs.lemmas.Bool.{cases_Bool, false≢true, eqb-true, eqb-false}
 use Rattle.room_rows.specs.declared.node.Node.{Node}
@@ -10,31 +10,18 @@ use Rattle.room_rows.specs.Content.{Content, node_at, reaches_root, without_node
 use Rattle.room_rows.specs.Finding.{find_id}
 use Rattle.room_rows.proofs.Frames.{node_at-without_node, node_at-without_node-other}
 use Rattle.room_inherit.specs.Ancestry.{EnoughSteps}
+use Rattle.std.proofs.lemmas.Bool.Decides.{nat_tests}
 
 -- ---- fewer objects without one of them
 
 no_more : (t : Node → Bool) (nodes : List Node) → length (filter t nodes) ≤ length nodes
 no_more t [] = omega arith
-no_more t (x ∷ xs) = on (t x) (no_more t xs)
-  where
-    on : (is : Bool) → length (filter t xs) ≤ length xs
-        → length (cond is (x ∷ filter t xs) (filter t xs)) ≤ suc (length xs)
-    on true rest = omega arith
-    on false rest = omega arith
+no_more t (x ∷ xs) = grind (arith, nat_tests, no_more t xs)
 
 fewer : (id : ℕ) (nodes : List Node) (node : Node) → find_id id nodes ≡ Some node
     → length (filter (λ n. not (n.id == id)) nodes) + 1 ≤ length nodes
 fewer id [] node found = absurd (let wrong : ⊥ = cc in wrong)
-fewer id (x ∷ xs) node found =
-    on (x.id == id) found (fewer id xs node) (no_more (λ n. not (n.id == id)) xs)
-  where
-    on : (is : Bool) → cond is (Some x) (find_id id xs) ≡ Some node
-        → (find_id id xs ≡ Some node → length (filter (λ n. not (n.id == id)) xs) + 1 ≤ length xs)
-        → length (filter (λ n. not (n.id == id)) xs) ≤ length xs
-        → length (cond (not is) (x ∷ filter (λ n. not (n.id == id)) xs)
-        (filter (λ n. not (n.id == id)) xs)) + 1 ≤ suc (length xs)
-    on true is later all = omega arith
-    on false is later all = let less = later is in omega (arith, less)
+fewer id (x ∷ xs) node found = grind (arith, nat_tests, no_more, fewer id xs node)
 
 -- ---- a way, and the same without an object
 
@@ -137,12 +124,7 @@ shorter most before (suc fuel) content fits (suc n) p short up =
 none_left : (content : Content) → length content.nodes ≤ 0 → (n p : ℕ)
     → reaches_root n content (Some p) ≡ true → ⊥
 none_left content fits zero p up = false≢true up
-none_left content fits (suc n) p up = on (node_at content p) refl up
-  where
-    on : (o : Option Node) → node_at content p ≡ o
-        → option_map_or (λ (q : Node). reaches_root n content q.parent) o false ≡ true → ⊥
-    on None is up = false≢true up
-    on (Some q) is up = let less = fewer p content.nodes q is in omega (arith, less, fits)
+none_left content fits (suc n) p up = grind (arith, nat_tests, fewer)
 
 enough : (most : ℕ) → Enough most
 enough most content fits n None up = refl

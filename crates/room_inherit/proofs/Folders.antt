@@ -1,8 +1,6 @@
 -- Objects that stand in folders, before and after lists are carried down.
-use Rattle.std.proofs.Common.{◌≡◌, true, false, ◌||◌, List, Some, ◌∙◌}
-use Rattle.std.specs.Prelude.{is_none}
+use Rattle.std.proofs.Common.{◌≡◌, true, List, Some, arith}
 use Rattle.std.specs.List.{list_all}
-use Rattle.std.specs.Option.{option_map_or}
 use Rattle.room_entry.specs.Ace.{Ace}
 use Rattle.room_entry.specs.declared.object.Which.{Which}
 use Rattle.room_rows.specs.declared.node.Node.{Node}
@@ -14,23 +12,17 @@ use Rattle.room_inherit.proofs.Frontier.{set, set_id}
 use Rattle.room_inherit.proofs.Outdated.{parent_found}
 use Rattle.room_inherit.proofs.Unmoved.{all_map, folder_above}
 use Rattle.room_rows.proofs.Frames.{parent_is}
+use Rattle.std.proofs.lemmas.Bool.Decides.{nat_tests}
 
 -- an object stands in a folder if its parent is one
 pub in_folder_is : (content : Content) (node parent : Node)
     → node_at content parent.id ≡ Some parent → has_parent parent.id node ≡ true
     → has_folder_above content node ≡ is_folder parent
-in_folder_is content node parent there has =
-    λ i. is_none (parent_is parent.id node has i)
-    || option_map_or is_folder (parent_found content parent node there has i) false
+in_folder_is content node parent there has = grind (arith, nat_tests, parent_found, parent_is)
 
 module _ (which : Which) (f : Node → List Ace) (content : Content) where
   place : (n : Node) → IsSamePlace (set which f n) n
-  place n =
-      record {
-        number = set_id which f n;
-        parent = same_parent which (f n) n;
-        name = same_name which (f n) n;
-      }
+  place n = grind (arith, nat_tests, same_name, same_parent, set_id)
 
   -- what stood in a folder does
   set_above : (n : Node)
@@ -41,6 +33,4 @@ module _ (which : Which) (f : Node → List Ace) (content : Content) where
   pub folders_stay : list_all (has_folder_above content) content.nodes ≡ true
       → list_all (has_folder_above (with_lists which f content)) (with_lists which f content).nodes
       ≡ true
-  folders_stay folders =
-      all_map (has_folder_above (with_lists which f content)) (has_folder_above content)
-      (set which f) set_above content.nodes ∙ folders
+  folders_stay folders = grind (arith, nat_tests, all_map, set, set_above)

@@ -1,7 +1,7 @@
 -- The objects that wait, while a change of a list is carried down.
-use Rattle.std.proofs.Common.{◌≡◌, ℕ, ◌==◌, Bool, true, false, cond, not, ◌||◌, List, [], ◌∷◌, ◌++◌}
-use Rattle.std.proofs.Common.{map, Option, Some, refl, ap, ◌∙◌, ◌⊎◌}
-use Rattle.std.specs.Option.{option_map, option_map_or}
+use Rattle.std.proofs.Common.{◌≡◌, ℕ, ◌==◌, Bool, true, false, not, ◌||◌, List, [], ◌∷◌, ◌++◌, map}
+use Rattle.std.proofs.Common.{Some, refl, ap, ◌⊎◌, arith}
+use Rattle.std.specs.Option.{option_map}
 use Rattle.std.specs.List.{AllByRecursion as Each}
 use Rattle.room_entry.specs.Ace.{Ace}
 use Rattle.room_entry.specs.Valid.{is_document}
@@ -18,6 +18,7 @@ use Rattle.room_inherit.proofs.Kinship.{same_kind, same_parent}
 use Rattle.room_inherit.proofs.Children.{has_id, Apart, ids_of}
 use Rattle.room_inherit.proofs.Renewing.{map_agree, map_map}
 use Rattle.room_rows.proofs.InPlace.{held_of-with_inh, with_inh-id}
+use Rattle.std.proofs.lemmas.Bool.Decides.{nat_tests}
 
 -- ---- objects with other lists
 
@@ -29,9 +30,7 @@ module _ (which : Which) (f : Node → List Ace) where
   set_id n = with_inh-id which (f n) n
 
   pub set_parent : (id : ℕ) (n : Node) → has_parent id (set n) ≡ has_parent id n
-  set_parent id n =
-      ap (λ (p : Option ℕ). option_map_or (λ parent. parent == id) p false)
-      (same_parent which (f n) n)
+  set_parent id n = grind (arith, nat_tests, same_parent)
 
   pub set_folder : (n : Node) → is_folder (set n) ≡ is_folder n
   set_folder n = ap (λ k. not (is_document k)) (same_kind which (f n) n)
@@ -43,24 +42,10 @@ module _ (which : Which) (f : Node → List Ace) where
   pub find_set : (id : ℕ) (nodes : List Node)
       → find_id id (map set nodes) ≡ option_map set (find_id id nodes)
   find_set id [] = refl
-  find_set id (x ∷ xs) =
-      ap (λ (i : ℕ). cond (i == id) (Some (set x)) (find_id id (map set xs))) (set_id x)
-      ∙ on (x.id == id) (find_set id xs)
-    where
-      on : (t : Bool) → find_id id (map set xs) ≡ option_map set (find_id id xs)
-          → cond t (Some (set x)) (find_id id (map set xs))
-          ≡ option_map set (cond t (Some x) (find_id id xs))
-      on true rest = refl
-      on false rest = rest
+  find_set id (x ∷ xs) = grind (arith, nat_tests, set_id, find_set id xs)
 
   pub ids_set : (nodes : List Node) → ids_of (map set nodes) ≡ ids_of nodes
-  ids_set nodes =
-      map_map (λ (n : Node). n.id) set nodes
-      ∙ map_agree (λ n. (set n).id) (λ (n : Node). n.id) nodes (every nodes)
-    where
-      every : (xs : List Node) → Each (λ n. (set n).id ≡ n.id) xs
-      every [] = tt
-      every (x ∷ xs) = (set_id x, every xs)
+  ids_set nodes = grind (arith, nat_tests, map_agree, map_map, set_id)
 
 -- whether the list of an object is linked to that of another
 abbrev pub links : Which → Node → Node → Bool

@@ -1,7 +1,7 @@
 -- The children of an object gone through, without a write.
-use Rattle.std.proofs.Common.{◌≡◌, ℕ, suc, ◌+◌, ◌<◌, ◌&&◌, Bool, true, false, cond, List, [], ◌∷◌}
-use Rattle.std.proofs.Common.{◌++◌, length, map, filter, drop, get_or, Result, Ok, Err, IfOk, refl}
-use Rattle.std.proofs.Common.{sym, ap, subst, ◌∙◌, inl, inr, add-one, drop-cons}
+use Rattle.std.proofs.Common.{◌≡◌, ℕ, suc, ◌+◌, ◌<◌, Bool, true, false, cond, List, [], ◌∷◌, ◌++◌}
+use Rattle.std.proofs.Common.{length, drop, get_or, Result, Ok, Err, refl, sym, ap, subst, ◌∙◌}
+use Rattle.std.proofs.Common.{add-one, drop-cons, arith}
 use Rattle.std.proofs.lemmas.List.{append_assoc, append-nil}
 use Rattle.room_entry.specs.Valid.{is_document}
 use Rattle.room_entry.specs.declared.object.ObjKind.{ObjKind}
@@ -16,9 +16,9 @@ use Rattle.room_inherit.specs.declared.by_kind.ByKind.{ByKind}
 use Rattle.room_inherit.specs.declared.descent.Descent.{Descent}
 use Rattle.room_inherit.specs.declared.descent.Reach.{Reach}
 use Rattle.room_inherit.specs.Turn.{Gathers, IsChildless, IsGathered, LeavesOut, TellsWaiting}
-use Rattle.room_inherit.specs.Turn.{brought_up, is_kind, is_outdated, next_of, of_kind, outdated_of}
-use Rattle.room_inherit.specs.Turn.{waits_next}
+use Rattle.room_inherit.specs.Turn.{brought_up, next_of, of_kind, outdated_of, waits_next}
 use Rattle.room_inherit.proofs.Chosen.{chosen_append, none_below, one_chosen}
+use Rattle.std.proofs.lemmas.Bool.Decides.{nat_tests}
 
 -- ---- whether a child waits
 
@@ -38,39 +38,13 @@ module _ {S : Type 0} (k : Ghosts S) (a b : S) where
   pub document_asked : (object : Node) (r : Result Bool KeepFault) → is_document object.kind ≡ true
       → IsRead k.rows k.failures k.writes k.Follows k.IsTrusted a b r IsUnreadable
       (HasChildren object.id) → MayHave object r
-  document_asked object r document read = record {
-    follows = read.follows;
-    unwritten = read.unwritten;
-    same = read.same;
-    answers = λ t. on r (read.answers t);
-    unfailed = read.unfailed;
-    fault = read.fault;
-  }
-    where
-      on : (r : Result Bool KeepFault) → IfOk r (HasChildren object.id (k.rows a))
-          → IfOk r (λ may. may ≡ false → IsChildless (k.rows a).read object)
-      on (Ok may) h = λ no. (document, none_below object.id (k.rows a).read.nodes (h.0 no))
-      on (Err e) h = tt
+  document_asked object r document read = grind (arith, nat_tests, none_below)
 
   -- a child that would wait waits, unless nothing stands below it
   pub told_below : (reach : Reach) (which : Which) (above child : Node) (r : Result Bool KeepFault)
       → true ≡ waits_next reach which above child → MayHave child r
       → Tells reach which above child r
-  told_below reach which above child r is read = record {
-    follows = read.follows;
-    unwritten = read.unwritten;
-    same = read.same;
-    answers = λ t. on r (read.answers t);
-    unfailed = read.unfailed;
-    fault = read.fault;
-  }
-    where
-      on : (r : Result Bool KeepFault)
-          → IfOk r (λ may. may ≡ false → IsChildless (k.rows a).read child)
-          → IfOk r (TellsWaiting (k.rows a).read reach which above child)
-      on (Ok true) h = inl is
-      on (Ok false) h = inr (refl, h refl)
-      on (Err e) h = tt
+  told_below reach which above child r is read = grind (arith, nat_tests)
 
 -- a child that doesn't wait
 pub told_none : {S : Type 0} (k : Ghosts S)
@@ -78,14 +52,7 @@ pub told_none : {S : Type 0} (k : Ghosts S)
     (which : Which) (above child : Node) → false ≡ waits_next reach which above child
     → IsRead k.rows k.failures k.writes k.Follows k.IsTrusted a a (Ok false) IsUnreadable
     (λ rows waits. TellsWaiting rows.read reach which above child waits)
-told_none k laws a reach which above child is = record {
-  follows = laws.itself a;
-  unwritten = refl;
-  same = λ t. refl;
-  answers = λ t. inl is;
-  unfailed = refl;
-  fault = tt;
-}
+told_none k laws a reach which above child is = grind (arith, nat_tests)
 
 -- ---- one child
 
@@ -100,14 +67,7 @@ pub one_gathered : {S : Type 0} (k : Ghosts S) (d : Descent) (above child : Node
     → after ≡ before ++ cond waits (brought_up d.which above child ∷ []) []
     → Gathers k a b d above (child ∷ []) before after sofar numbers (Ok tt)
 one_gathered k d above child before after sofar numbers a b waits read outdated joined =
-    answered k.rows k.failures k.writes k.Follows k.IsTrusted a b tt
-    (seen k.rows k.failures k.writes k.Follows k.IsTrusted a b waits read)
-    (λ t. record {
-      outdated = outdated;
-      next = cond waits (brought_up d.which above child ∷ []) [];
-      waits = joined;
-      chosen = one_chosen (k.rows a).read d above child waits (read.answers t);
-    })
+    grind (arith, nat_tests, answered, one_chosen, seen)
 
 -- ---- children that are gone through
 
@@ -120,27 +80,12 @@ rest_of nodes i node below is =
 next_cons : (reach : Reach) (which : Which) (above child : Node) (left : List Node)
     → next_of reach which above (child ∷ left) ≡ next_of reach which above (child ∷ [])
     ++ next_of reach which above left
-next_cons reach which above child left = on (waits_next reach which above child)
-  where
-    on : (t : Bool) → map (brought_up which above)
-        (cond t (child ∷ filter (waits_next reach which above) left)
-        (filter (waits_next reach which above) left))
-        ≡ map (brought_up which above) (cond t (child ∷ []) []) ++ next_of reach which above left
-    on true = refl
-    on false = refl
+next_cons reach which above child left = grind (arith, nat_tests)
 
 outdated_cons : (which : Which) (above : Node) (kind : ObjKind) (child : Node) (left : List Node)
     → outdated_of which above kind (child ∷ left)
     ≡ outdated_of which above kind (child ∷ []) ++ outdated_of which above kind left
-outdated_cons which above kind child left =
-    on (is_outdated which above child && is_kind kind child.kind)
-  where
-    on : (t : Bool) → map (λ (n : Node). n.id)
-        (cond t (child ∷ filter (λ n. is_outdated which above n && is_kind kind n.kind) left)
-        (filter (λ n. is_outdated which above n && is_kind kind n.kind) left))
-        ≡ map (λ (n : Node). n.id) (cond t (child ∷ []) []) ++ outdated_of which above kind left
-    on true = refl
-    on false = refl
+outdated_cons which above kind child left = grind (arith, nat_tests)
 
 module _ {S : Type 0} (k : Ghosts S)
     (laws : KeepLaws k.rows k.failures k.writes k.Follows k.IsTrusted) (d : Descent) (above : Node)
@@ -162,11 +107,7 @@ module _ {S : Type 0} (k : Ghosts S)
 
   -- at the beginning none is
   pub gathering_begins : (a : S) → Gathering all before none a a
-  gathering_begins a = record {
-    read = none_yet k.rows k.failures k.writes k.Follows k.IsTrusted laws a;
-    gathered = λ t.
-        record { outdated = λ kind. refl; waits = λ more chosen. (more, refl, chosen) };
-  }
+  gathering_begins a = grind (arith, nat_tests, none_yet)
 
   module _ (child : Node) (left mid after : List Node) (sofar numbers : ByKind) where
     gathered_more : (rows : Rows) → HasGathered (child ∷ left) mid sofar rows
@@ -196,22 +137,12 @@ module _ {S : Type 0} (k : Ghosts S)
       -- one more of them
       pub gathering_on : Gathers k b c d above (child ∷ []) mid after sofar numbers (Ok tt)
           → Gathering left after numbers a c
-      gathering_on one =
-          let on = read_on k.rows k.failures k.writes k.Follows k.IsTrusted laws a b c (Ok tt)
-          has.read one in
-          record {
-            read = seen k.rows k.failures k.writes k.Follows k.IsTrusted a c tt on;
-            gathered = λ t.
-                gathered_more (k.rows a)
-                (has.gathered (laws.first a b c has.read.follows one.follows t)) (on.answers t);
-          }
+      gathering_on one = grind (arith, nat_tests, gathered_more, read_on, seen)
 
       pub gathering_stops : (e : KeepFault)
           → Gathers k b c d above (child ∷ []) mid after sofar numbers (Err e)
           → Gathers k a c d above all before after none numbers (Err e)
-      gathering_stops e one =
-          gives_up k.rows k.failures k.writes k.Follows k.IsTrusted a c e (λ w at h. h)
-          (read_on k.rows k.failures k.writes k.Follows k.IsTrusted laws a b c (Err e) has.read one)
+      gathering_stops e one = grind (arith, nat_tests, gives_up, read_on)
 
   -- at the end all are
   pub gathering_ends : (mid : List Node) (numbers : ByKind) (a b : S)

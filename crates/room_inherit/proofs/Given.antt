@@ -1,7 +1,7 @@
 -- Parents and names that have been given.
 use Rattle.std.proofs.Common.{◌≡◌, ℕ, ◌==◌, ◌<◌, ◌+◌, ◌&&◌, ◌||◌, Bool, true, false, cond, not}
-use Rattle.std.proofs.Common.{List, [], ◌∷◌, ◌++◌, Option, Some, None, length, get_or, take, nat_lt}
-use Rattle.std.proofs.Common.{refl, sym, ap, ◌∙◌, arith}
+use Rattle.std.proofs.Common.{List, [], ◌∷◌, ◌++◌, Option, Some, length, get_or, take, nat_lt, refl}
+use Rattle.std.proofs.Common.{sym, ap, ◌∙◌, arith}
 use Rattle.std.specs.Borrow.{Bor}
 use Rattle.std.specs.List.{list_any}
 use Rattle.std.specs.Option.{option_map_or}
@@ -9,7 +9,6 @@ use Rattle.std.specs.Ordering.{nat_cmp, ordering_then, is_eq}
 use Rattle.std.specs.Cmp.Lexicographic.{slice_cmp}
 use Rattle.std.specs.declared.cmp.Ordering.{Ordering}
 use Rattle.std.specs.declared.cmp.Ordering.TheVariants.{Less, Equal, Greater}
-use Rattle.std.proofs.lemmas.Bool.{eqb-true, ltb-true}
 use Rattle.std.proofs.lemmas.List.{take_more}
 use Rattle.std.proofs.lemmas.List.Recursion.{or_push}
 use Rattle.std.proofs.lemmas.Map.Text.{is_eq-slice_cmp}
@@ -20,6 +19,7 @@ use Rattle.room_rows.specs.Paths.{is_object_name}
 use Rattle.room_inherit.specs.Objects.{are_rising, only}
 use Rattle.room_rows.specs.Sound.{has_sound_name, same_place}
 use Rattle.room_inherit.proofs.Numbers.{any_before}
+use Rattle.std.proofs.lemmas.Bool.Decides.{nat_tests}
 
 -- a parent and a name
 abbrev pub Key : Type 0
@@ -39,21 +39,10 @@ both_equal Equal b = refl
 both_equal Greater b = refl
 
 pub numbers_equal : (x y : ℕ) → is_eq (nat_cmp x y) ≡ (x == y)
-numbers_equal x y = on (nat_lt x y) (x == y) refl refl
-  where
-    on : (t u : Bool) → nat_lt x y ≡ t → (x == y) ≡ u
-        → is_eq (cond t Less (cond u Equal Greater)) ≡ u
-    on true true below same = let lt = ltb-true x y below in let e = eqb-true x y same in
-        absurd (omega (arith, lt, e))
-    on true false below same = refl
-    on false true below same = refl
-    on false false below same = refl
+numbers_equal x y = grind (arith, nat_tests)
 
 key_equal : (x y : Key) → is_eq (key_order x y) ≡ ((x.0 == y.0) && same_text x.1.now y.1.now)
-key_equal x y =
-    both_equal (nat_cmp x.0 y.0) (slice_cmp nat_cmp x.1.now y.1.now)
-    ∙ ap (λ t. t && is_eq (slice_cmp nat_cmp x.1.now y.1.now)) (numbers_equal x.0 y.0)
-    ∙ ap (λ t. (x.0 == y.0) && t) (is_eq-slice_cmp x.1.now y.1.now)
+key_equal x y = grind (arith, nat_tests, both_equal, is_eq-slice_cmp, numbers_equal)
 
 or_swapped : (t u : Bool) → cond t true u ≡ (u || t)
 or_swapped true true = refl
@@ -83,17 +72,10 @@ module _ (nodes : List Node) (i : ℕ) (node : Node) (parent : ℕ) (name : Bor 
 
   same_parents : (above : Option ℕ)
       → same_parent above node.parent ≡ option_map_or (λ p. p == parent) above false
-  same_parents above = ap (same_parent above) under ∙ on above
-    where
-      on : (above : Option ℕ)
-          → same_parent above (Some parent) ≡ option_map_or (λ p. p == parent) above false
-      on None = refl
-      on (Some id) = refl
+  same_parents above = grind (arith, nat_tests)
 
   same_holds : (other : Node) → same_place other node ≡ holds (parent, name) other
-  same_holds other =
-      ap (λ t. t && same_text other.name node.name) (same_parents other.parent)
-      ∙ ap (λ t. has_parent parent other && same_text other.name t) (sym named)
+  same_holds other = grind (arith, nat_tests, same_parents)
 
   -- the test of the name, by those that stand before
   pub name_test : are_rising nodes ≡ true

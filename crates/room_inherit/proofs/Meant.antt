@@ -12,13 +12,12 @@ use Rattle.room_entry.specs.Pieces.{is_among, same_text}
 use Rattle.room_entry.specs.Valid.{is_document}
 use Rattle.room_entry.specs.declared.object.Which.{Which}
 use Rattle.room_entry.specs.declared.object.Which.TheVariants.{Dacl, Sacl}
-use Rattle.room_rows.specs.HeldList.{Held}
 use Rattle.room_rows.specs.declared.node.Node.{Node}
 use Rattle.room_rows.specs.Content.{Content, are_names_apart, body_at, body_of, has_folder_above}
-use Rattle.room_rows.specs.Content.{is_empty, is_folder, is_linked_in, is_rising, is_root}
-use Rattle.room_rows.specs.Content.{keeps_none_linked, parent_of, root_of, same_parent}
+use Rattle.room_rows.specs.Content.{is_folder, is_linked_in, is_rising, is_root, keeps_none_linked}
+use Rattle.room_rows.specs.Content.{parent_of, root_of, same_parent}
 use Rattle.room_rows.specs.Finding.{find_id}
-use Rattle.room_rows.specs.Held.{held_of, is_linked}
+use Rattle.room_rows.specs.Held.{held_of}
 use Rattle.room_rows.specs.Meaning.{kept_held, kept_node, meaning}
 use Rattle.room_rows.specs.Paths.{is_object_name}
 use Rattle.room_rows.specs.Rows.{AreRows, Rows, Unread, numbers_of, put_numbers}
@@ -34,6 +33,7 @@ use Rattle.room_inherit.proofs.Stored.{all_found, linked_kept}
 use Rattle.room_inherit.proofs.Unmoved as unmoved
 use Rattle.room_inherit.proofs.Whole.{among_found, none_unreadable}
 use Rattle.room_rows.proofs.Lookups.{found_number}
+use Rattle.std.proofs.lemmas.Bool.Decides.{nat_tests}
 
 -- ---- lists
 
@@ -55,12 +55,7 @@ each_passes p (x ∷ xs) all = let parts = and_parts (p x) (list_all p xs) all i
 first_is : (p : Node → Bool) (nodes : List Node) (x : Node) (xs : List Node)
     → filter p nodes ≡ x ∷ xs → find p nodes ≡ Some x
 first_is p [] x xs is = absurd (let wrong : ⊥ = cc in wrong)
-first_is p (n ∷ ns) x xs is = on (p n) is (first_is p ns x xs)
-  where
-    on : (t : Bool) → cond t (n ∷ filter p ns) (filter p ns) ≡ x ∷ xs
-        → (filter p ns ≡ x ∷ xs → find p ns ≡ Some x) → cond t (Some n) (find p ns) ≡ Some x
-    on true same rest = let e : n ≡ x = cc in ap Some e
-    on false same rest = rest same
+first_is p (n ∷ ns) x xs is = grind (arith, nat_tests, first_is p ns x xs)
 
 -- ---- numbers in rising order
 
@@ -160,56 +155,34 @@ module _ (rows : Content) where
 
   linked_same : (which : Which) (node : Node)
       → is_linked_in means which (kept node) ≡ is_linked_in rows which node
-  linked_same which node =
-      ap (λ o. is_linked (held_of which (kept node)) (option_map (held_of which) o)) (above node)
-      ∙ on (parent_of rows node) refl
-    where
-      on : (o : Option Node) → parent_of rows node ≡ o
-          → is_linked (held_of which (kept node)) (option_map (held_of which) (option_map kept o))
-          ≡ is_linked (held_of which node) (option_map (held_of which) o)
-      on None is = refl
-      on (Some parent) is =
-          ap (λ h. is_linked h (Some (held_of which (kept parent)))) (kept_list which node)
-          ∙ ap (λ h. is_linked (kept_held (is_linked_in rows which node) (held_of which node))
-          (Some h)) (kept_list which parent)
-          ∙ linked_kept (is_linked_in rows which node) (is_linked_in rows which parent)
-          (held_of which node) (held_of which parent)
+  linked_same which node = grind (arith, nat_tests, above, kept_list, linked_kept)
 
   keeps_none : (which : Which) (node : Node) → keeps_none_linked means which (kept node) ≡ true
-  keeps_none which node =
-      ap (λ t. not t || is_empty (held_of which (kept node)).inh) (linked_same which node)
-      ∙ ap (λ (h : Held). not (is_linked_in rows which node) || is_empty h.inh)
-      (kept_list which node) ∙ on (is_linked_in rows which node)
-    where
-      on : (t : Bool) → (not t || is_empty (kept_held t (held_of which node)).inh) ≡ true
-      on true = refl
-      on false = refl
+  keeps_none which node = grind (arith, nat_tests, kept_list, linked_same)
 
   -- ---- the root
 
   lone : (roots : List Node) → bad_root roots ≡ None → (root : Node) × (roots ≡ root ∷ [])
       × (is_folder root ≡ true)
   lone [] none = absurd (let wrong : ⊥ = cc in wrong)
-  lone (root ∷ []) none = (root, refl, on (is_folder root) none)
-    where
-      on : (t : Bool) → cond t None (Some root.id) ≡ None → t ≡ true
-      on true is = refl
-      on false is = absurd (let wrong : ⊥ = cc in wrong)
+  lone (root ∷ []) none = grind (arith, nat_tests)
   lone (root ∷ other ∷ others) none = absurd (let wrong : ⊥ = cc in wrong)
 
   one_root : bad_root (filter is_root rows.nodes) ≡ None
       → (option_map_or is_folder (root_of means) false
       && (length (filter is_root means.nodes) == 1)) ≡ true
   one_root none =
-      let r = lone (filter is_root rows.nodes) none in
-      let first : root_of means ≡ Some (kept r.0) = root_of-with_each rows kept places
-      ∙ ap (option_map kept) (first_is is_root rows.nodes r.0 [] r.1) in
-      let many : length (filter is_root means.nodes) ≡ 1 = ap length
-      (filter-changed kept is_root (λ a b place. ap is_none place.parent) rows.nodes places)
-      ∙ length-map (filter is_root rows.nodes) kept ∙ ap length r.1 in
-      and_from (option_map_or is_folder (root_of means) false) _
-      (ap (λ o. option_map_or is_folder o false) first ∙ r.2)
-      (eq-eqb (length (filter is_root means.nodes)) 1 many)
+      grind (
+        arith,
+        nat_tests,
+        filter-changed,
+        first_is,
+        length-map,
+        lone,
+        place,
+        places,
+        root_of-with_each,
+      )
 
   -- ---- names
 
@@ -257,13 +230,7 @@ module _ (rows : Content) where
 
   roots_none : (nodes : List Node) → count is_root nodes ≡ 0 → Each (λ n. is_root n ≡ false) nodes
   roots_none [] none = tt
-  roots_none (x ∷ xs) none = on (is_root x) refl none (roots_none xs)
-    where
-      on : (t : Bool) → is_root x ≡ t → one_if t + count is_root xs ≡ 0
-          → (count is_root xs ≡ 0 → Each (λ n. is_root n ≡ false) xs) → (is_root x ≡ false)
-          × Each (λ n. is_root n ≡ false) xs
-      on true is c more = absurd (let wrong : ⊥ = omega (arith, c) in wrong)
-      on false is c more = (is, more (omega (arith, c)))
+  roots_none (x ∷ xs) none = grind (arith, nat_tests, count, one_if, roots_none xs)
 
   names_apart : (nodes : List Node) → (k : ℕ) → is_rising (k ∷ ids_of nodes) ≡ true
       → Each There nodes → Each (λ n. has_sound_name rows n ≡ true) nodes → count is_root nodes ≤ 1
@@ -314,18 +281,7 @@ module _ (rows : Content) where
       → map (λ (n : Node). n.id) (filter (λ (n : Node). is_document n.kind) (map kept nodes))
       ≡ ids_of (filter (λ (n : Node). is_document n.kind) nodes)
   documents [] = refl
-  documents (x ∷ xs) = on (is_document x.kind) (documents xs)
-    where
-      on : (t : Bool) → map (λ (n : Node). n.id)
-          (filter (λ (n : Node). is_document n.kind) (map kept xs))
-          ≡ ids_of (filter (λ (n : Node). is_document n.kind) xs)
-          → map (λ (n : Node). n.id)
-          (cond t (kept x ∷ filter (λ (n : Node). is_document n.kind) (map kept xs))
-          (filter (λ (n : Node). is_document n.kind) (map kept xs)))
-          ≡ ids_of (cond t (x ∷ filter (λ (n : Node). is_document n.kind) xs)
-          (filter (λ (n : Node). is_document n.kind) xs))
-      on true rest = ap (λ (l : List ℕ). x.id ∷ l) rest
-      on false rest = rest
+  documents (x ∷ xs) = grind (arith, nat_tests, ids_of, documents xs)
 
 filter_rises : (q : Node → Bool) (k : ℕ) (nodes : List Node) → is_rising (k ∷ ids_of nodes) ≡ true
     → (j : ℕ) → j ≤ k → is_rising (j ∷ ids_of (filter q nodes)) ≡ true
@@ -364,12 +320,7 @@ among_passing q k (x ∷ xs) rises id =
 among_bodies : (bodies : List (ℕ × List ℕ)) (id : ℕ)
     → is_among (map (λ row. row.0) bodies) id ≡ is_some (body_at bodies id)
 among_bodies [] id = refl
-among_bodies (x ∷ xs) id = on (x.0 == id) (among_bodies xs id)
-  where
-    on : (t : Bool) → is_among (map (λ row. row.0) xs) id ≡ is_some (body_at xs id)
-        → (t || is_among (map (λ row. row.0) xs) id) ≡ is_some (cond t (Some x.1) (body_at xs id))
-    on true rest = refl
-    on false rest = rest
+among_bodies (x ∷ xs) id = grind (arith, nat_tests, among_bodies xs id)
 
 in_use : (ids : List ℕ) (bodies : List (ℕ × List ℕ)) (id : ℕ)
     → list_all (λ row. is_among ids row.0) bodies ≡ true

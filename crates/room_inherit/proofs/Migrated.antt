@@ -1,15 +1,14 @@
 -- Rows of which all lists were carried down are sound, and mean what they meant.
-use Rattle.std.proofs.Common.{◌≡◌, ℕ, zero, suc, ◌==◌, Bool, true, false, cond, not, ◌&&◌, ◌||◌}
-use Rattle.std.proofs.Common.{List, [], ◌∷◌, map, length, Option, Some, None, refl, sym, ap}
-use Rattle.std.proofs.Common.{subst, ◌∙◌, inl, inr}
+use Rattle.std.proofs.Common.{◌≡◌, ℕ, zero, suc, ◌==◌, Bool, true, false, not, ◌&&◌, ◌||◌, List, []}
+use Rattle.std.proofs.Common.{◌∷◌, map, length, Option, Some, None, refl, sym, ap, subst, ◌∙◌}
+use Rattle.std.proofs.Common.{arith}
 use Rattle.std.specs.Prelude.{is_none, nat_le, option_and_then}
-use Rattle.std.specs.List.{cons_option, list_all}
+use Rattle.std.specs.List.{list_all}
 use Rattle.std.specs.Option.{option_map, option_map_or}
-use Rattle.std.proofs.lemmas.Bool.{and_parts, and_from, cases_Bool, false≢true, false_from_ne_true}
-use Rattle.std.proofs.lemmas.Bool.{or_parts, not-false}
+use Rattle.std.proofs.lemmas.Bool.{and_parts, and_from, false≢true, not-false}
 use Rattle.std.proofs.lemmas.List.Folds.{list_all-append}
 use Rattle.room_entry.specs.Ace.{Ace}
-use Rattle.room_entry.specs.Valid.{entry_fault, is_document}
+use Rattle.room_entry.specs.Valid.{is_document}
 use Rattle.room_entry.specs.declared.flags.EntryFlags.{EntryFlags}
 use Rattle.room_entry.specs.declared.object.ObjKind.{ObjKind}
 use Rattle.room_entry.specs.declared.object.ObjKind.TheVariants.{Document, Folder}
@@ -18,19 +17,18 @@ use Rattle.room_entry.specs.declared.object.Which.TheVariants.{Dacl, Sacl}
 use Rattle.room_entry.proofs.Same.{entries_equal}
 use Rattle.room_rows.specs.HeldList.{Held}
 use Rattle.room_rows.specs.declared.node.Node.{Node}
-use Rattle.room_rows.specs.Content.{Content, has_folder_above, is_folder, is_linked_in}
-use Rattle.room_rows.specs.Content.{node_at, parent_of, reaches_root}
+use Rattle.room_rows.specs.Content.{Content, has_folder_above, is_folder, is_linked_in, node_at}
+use Rattle.room_rows.specs.Content.{parent_of, reaches_root}
 use Rattle.room_rows.specs.Held.{held_of, full_of, is_linked}
 use Rattle.room_rows.specs.Keep.{with_content, with_inh}
 use Rattle.room_rows.specs.Meaning.{kept_held, kept_node, meaning}
-use Rattle.room_rows.specs.Rows.{AreRows, Rows, is_unreadable}
+use Rattle.room_rows.specs.Rows.{AreRows, Rows}
 use Rattle.room_rows.proofs.InPlace.{KeepsPlaces, node_at-with_each}
 use Rattle.room_rows.proofs.SamePlace.{IsSamePlace}
 use Rattle.room_rows.specs.Law.{AllAgree, agrees, agrees_with}
 use Rattle.room_inherit.specs.Laws.{are_valid, MigratedIsSound, MigratedMeansTheSame}
-use Rattle.room_rows.specs.Pass.{pass, passed_flags, ended_flags, carried_flags, waiting_flags}
-use Rattle.room_rows.specs.Sound.{AreSound, first_fault}
-use Rattle.room_rows.specs.Sound.{has_sound_lists, is_sound_held, reaches}
+use Rattle.room_rows.specs.Pass.{pass, passed_flags}
+use Rattle.room_rows.specs.Sound.{AreSound, first_fault, has_sound_lists, is_sound_held, reaches}
 use Rattle.room_inherit.specs.Spread.{is_changed}
 use Rattle.room_inherit.specs.SpreadAll.{IsSpreadAll, with_both}
 use Rattle.room_inherit.proofs.Children.{apart_rising, each_there}
@@ -42,6 +40,7 @@ use Rattle.room_inherit.proofs.Valid.{pass_is_valid}
 use Rattle.room_inherit.proofs.Whole.{not_bad}
 use Rattle.room_rows.proofs.Lookups.{found_number}
 use Rattle.room_entry.proofs.Facts.Booleans.{implied}
+use Rattle.std.proofs.lemmas.Bool.Decides.{nat_tests}
 
 all_both : {X : Type 0} (p q : X → Bool) (xs : List X) → list_all p xs ≡ true → list_all q xs ≡ true
     → list_all (λ x. p x && q x) xs ≡ true
@@ -59,37 +58,13 @@ are_marked entries = list_all (λ entry. entry.flags.inherited) entries
 
 pub marked_flags : (kind : ObjKind) (flags : EntryFlags)
     → option_map_or (λ f. f.inherited) (passed_flags kind flags) true ≡ true
-marked_flags Document flags = on flags.file_inherit
-  where
-    on : (t : Bool) → option_map_or (λ (f : EntryFlags). f.inherited)
-        (cond t (Some (ended_flags flags)) None) true ≡ true
-    on true = refl
-    on false = refl
-marked_flags Folder flags =
-    on (flags.directory_inherit && not flags.no_propagate_inherit)
-    (flags.directory_inherit && flags.no_propagate_inherit)
-    (flags.file_inherit && not flags.no_propagate_inherit)
-  where
-    on : (t u v : Bool) → option_map_or (λ (f : EntryFlags). f.inherited)
-        (cond t (Some (carried_flags flags))
-        (cond u (Some (ended_flags flags)) (cond v (Some (waiting_flags flags)) None))) true ≡ true
-    on true u v = refl
-    on false true v = refl
-    on false false true = refl
-    on false false false = refl
+marked_flags Document flags = grind (arith, nat_tests)
+marked_flags Folder flags = grind (arith, nat_tests)
 
 passed_marked : (kind : ObjKind) (entries : List Ace) → are_marked (pass kind entries) ≡ true
 passed_marked kind [] = refl
 passed_marked kind (entry ∷ entries) =
-    on (passed_flags kind entry.flags) (marked_flags kind entry.flags) (passed_marked kind entries)
-  where
-    on : (o : Option EntryFlags) → option_map_or (λ f. f.inherited) o true ≡ true
-        → are_marked (pass kind entries) ≡ true
-        → are_marked (cons_option (option_map (λ flags. record entry { flags = flags }) o)
-        (pass kind entries)) ≡ true
-    on None marked rest = rest
-    on (Some flags) marked rest =
-        and_from flags.inherited (are_marked (pass kind entries)) marked rest
+    grind (arith, nat_tests, marked_flags, passed_marked kind entries)
 
 -- ---- a sound list with other inherited entries
 
@@ -102,19 +77,11 @@ module _ (which : Which) (kind : ObjKind) (held : Held)
   parts = and_parts (own_part && are_marked held.inh) (are_valid which kind (full_of held)) is
 
   own_valid : are_valid which kind held.own ≡ true
-  own_valid =
-      (and_parts (are_valid which kind held.own) (are_valid which kind held.inh)
-      (sym (list_all-append (λ entry. is_none (entry_fault entry which kind)) held.own held.inh)
-      ∙ parts.1)).0
+  own_valid = grind (arith, nat_tests, list_all-append, parts)
 
   renewed : (entries : List Ace) → are_marked entries ≡ true → are_valid which kind entries ≡ true
       → is_sound_held which kind (record held { inh = entries }) ≡ true
-  renewed entries marked valid =
-      and_from (own_part && are_marked entries) _
-      (and_from own_part (are_marked entries)
-      (and_parts own_part (are_marked held.inh) parts.0).0 marked)
-      (list_all-append (λ entry. is_none (entry_fault entry which kind)) held.own entries
-      ∙ and_from (are_valid which kind held.own) (are_valid which kind entries) own_valid valid)
+  renewed entries marked valid = grind (arith, nat_tests, list_all-append, own_valid, parts)
 
 pub folder_is : (kind : ObjKind) → not (is_document kind) ≡ true → kind ≡ Folder
 folder_is Document is = absurd (false≢true is)
@@ -155,15 +122,7 @@ module _ (f g : Node → List Ace) (old : Content) where
 
   linked_new : (which : Which) (node : Node)
       → is_linked_in new which (both node) ≡ is_linked_in old which node
-  linked_new which node =
-      ap (λ o. is_linked (held_of which (both node)) (option_map (held_of which) o)) (above node)
-      ∙ on (parent_of old node)
-    where
-      on : (o : Option Node)
-          → is_linked (held_of which (both node)) (option_map (held_of which) (option_map both o))
-          ≡ is_linked (held_of which node) (option_map (held_of which) o)
-      on None = refl
-      on (Some parent) = linked_to which node parent
+  linked_new which node = grind (arith, nat_tests, above, linked_to)
 
   -- one that isn't linked stores what it did
   abbrev There : Node → Type 0
@@ -187,12 +146,7 @@ module _ (f g : Node → List Ace) (old : Content) where
     kept_same : (which : Which) (node : Node) → There node
         → kept_held (is_linked_in new which (both node)) (held_of which (both node))
         ≡ kept_held (is_linked_in old which node) (held_of which node)
-    kept_same which node there =
-        ap (λ t. kept_held t (held_of which (both node))) (linked_new which node)
-        ∙ ap (kept_held (is_linked_in old which node)) (held_new which node)
-        ∙ kept_new (is_linked_in old which node) (held_of which node) (lists which node)
-        (λ isnt. unchanged which node
-        (false_from_ne_true _ (λ is. false≢true (sym isnt ∙ linked_if which node there is))))
+    kept_same which node there = grind (arith, nat_tests, held_new, kept_new, linked_new, unchanged)
 
     node_same : (node : Node) → There node → kept_node new (both node) ≡ kept_node old node
     node_same node there =
@@ -232,18 +186,7 @@ module _ (f g : Node → List Ace) (old : Content) where
       settle : (which : Which) (node : Node) → There node
           → (is_linked_in old which node ≡ true → (are_marked (lists which node) ≡ true)
           × (are_valid which node.kind (lists which node) ≡ true)) → SoundNow which node
-      settle which node there passed = elim (cases_Bool (is_changed which (lists which) node)) [
-        | inl is ↦
-            (let entries = passed (linked_if which node there is) in
-            ap (is_sound_held which node.kind) (held_new which node)
-            ∙ renewed which node.kind (held_of which node) (old_sound which node there)
-            (lists which node) entries.0 entries.1)
-        | inr isnt ↦
-            ap (is_sound_held which node.kind)
-            (held_new which node
-            ∙ ap (λ es. record (held_of which node) { inh = es }) (unchanged which node isnt))
-            ∙ old_sound which node there
-      ]
+      settle which node there passed = grind (arith, nat_tests, held_new, renewed, unchanged)
 
       -- down from the root
       descend : (which : Which) (k : ℕ) (node : Node) → There node → (up : Option ℕ)
@@ -329,10 +272,7 @@ module _ (old new : Rows) (changed : ℕ) (spread : IsSpreadAll old new changed)
     law which = subst (λ (r : Rows). AllAgree r.read which) spread.becomes (spread.law none which)
 
     there_good : (node : Node) → node_at old.read node.id ≡ Some node → has_sound_lists node ≡ true
-    there_good node there =
-        not-false _ (sym (ap (λ o. option_map_or (λ n. not (has_sound_lists n)) o false) there)
-        ∙ (or_parts (is_unreadable old node.id) _
-        (not_bad old (list_checked old tests) node.id node there)).1)
+    there_good node there = grind (arith, nat_tests, list_checked, not_bad, tests)
 
     old_good : (which : Which) (node : Node) → node_at old.read node.id ≡ Some node
         → is_sound_held which node.kind (held_of which node) ≡ true
@@ -346,9 +286,7 @@ module _ (old new : Rows) (changed : ℕ) (spread : IsSpreadAll old new changed)
     good : (which : Which) (node : Node) → node_at old.read node.id ≡ Some node
         → is_sound_held which node.kind (held_of which (set node)) ≡ true
     good which node there =
-        descend f g old.read linked_of law tests.parents old_good which
-        (length old.read.nodes) node there node.parent refl
-        (all_found (reaches old.read) (λ m. m.id == node.id) old.read.nodes node tests.reach there)
+        grind (arith, nat_tests, all_found, descend, law, linked_of, old_good, tests)
 
     now_sound : AreSound after
     now_sound =

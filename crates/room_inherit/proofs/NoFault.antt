@@ -1,6 +1,6 @@
 -- Sound rows have no fault.
-use Rattle.std.proofs.Common.{◌≡◌, ℕ, Bool, true, false, cond, not, ap, ◌&&◌, List, [], ◌∷◌, filter}
-use Rattle.std.proofs.Common.{length, Option, Some, None, refl, sym, ◌∙◌}
+use Rattle.std.proofs.Common.{◌≡◌, ℕ, Bool, true, not, ap, List, [], ◌∷◌, filter, length, Option}
+use Rattle.std.proofs.Common.{Some, None, refl, sym, ◌∙◌, arith}
 use Rattle.std.specs.List.{find, list_all}
 use Rattle.std.specs.Option.{option_map}
 use Rattle.std.proofs.Math.Bool.{not-not}
@@ -11,12 +11,11 @@ use Rattle.room_rows.specs.declared.report.Report.{Report}
 use Rattle.room_rows.specs.declared.report.Report.TheVariants.{Sound, Fault}
 use Rattle.room_rows.specs.declared.report.Unsound.TheVariants.{Loop, BadList, BrokenLaw, BadRoot}
 use Rattle.room_rows.specs.declared.report.Unsound.TheVariants.{BadParent, BadName, BadBody}
-use Rattle.room_inherit.specs.Kept.{kept_report_of, stores_kept_alone}
 use Rattle.room_inherit.specs.Laws.{CheckedIsTree, HasNoFault, KeptIsNoFault, SoundIsNoFault}
-use Rattle.room_rows.specs.Sound.{AreSound, AreSoundKept, bad_root, fault_of, first_bad_list}
-use Rattle.room_rows.specs.Sound.{first_failing, first_fault, has_bad_list, has_sound_body}
-use Rattle.room_rows.specs.Sound.{has_sound_name, keeps_law, or_else, or_sound, path_by_number}
-use Rattle.room_rows.specs.Sound.{reaches, true_path}
+use Rattle.room_rows.specs.Sound.{AreSound, bad_root, fault_of, first_bad_list, first_failing}
+use Rattle.room_rows.specs.Sound.{first_fault, has_bad_list, has_sound_body, has_sound_name}
+use Rattle.room_rows.specs.Sound.{keeps_law, or_else, or_sound, path_by_number, reaches, true_path}
+use Rattle.std.proofs.lemmas.Bool.Decides.{nat_tests}
 
 -- ---- a test that finds nothing, passed by all
 
@@ -24,25 +23,13 @@ use Rattle.room_rows.specs.Sound.{reaches, true_path}
 pub all_pass : {X : Type 0} (test : X → Bool) (xs : List X) → find (λ x. not (test x)) xs ≡ None
     → list_all test xs ≡ true
 all_pass test [] none = refl
-all_pass test (x ∷ xs) none = on (test x) (all_pass test xs) none
-  where
-    on : (t : Bool) → (find (λ y. not (test y)) xs ≡ None → list_all test xs ≡ true)
-        → cond (not t) (Some x) (find (λ y. not (test y)) xs) ≡ None
-        → (t && list_all test xs) ≡ true
-    on true rest none = rest none
-    on false rest none = absurd (let wrong : ⊥ = cc in wrong)
+all_pass test (x ∷ xs) none = grind (arith, nat_tests, all_pass test xs)
 
 -- where all pass, none is found that fails
 pub none_fails : {X : Type 0} (test : X → Bool) (xs : List X) → list_all test xs ≡ true
     → find (λ x. not (test x)) xs ≡ None
 none_fails test [] all = refl
-none_fails test (x ∷ xs) all = on (test x) (none_fails test xs) all
-  where
-    on : (t : Bool) → (list_all test xs ≡ true → find (λ y. not (test y)) xs ≡ None)
-        → (t && list_all test xs) ≡ true
-        → cond (not t) (Some x) (find (λ y. not (test y)) xs) ≡ None
-    on true rest all = rest all
-    on false rest all = absurd (let wrong : ⊥ = cc in wrong)
+none_fails test (x ∷ xs) all = grind (arith, nat_tests, none_fails test xs)
 
 -- the search for a bad list, as one for a number that fails
 pub unbad : (rows : Rows)
@@ -92,22 +79,7 @@ pub record IsChecked (rows : Rows) : Type 0 where
 nothing_found : (rows : Rows) (law : Option Node)
     → or_sound (or_else (first_fault rows) (fault_of (true_path rows.read) BrokenLaw law)) ≡ Sound
     → IsChecked rows × (law ≡ None)
-nothing_found rows law sound =
-    let tree = rows.read in
-    let none = each_none (true_path tree) (first_bad_list rows)
-    (bad_root (filter is_root tree.nodes)) (first_failing (has_folder_above tree) tree)
-    (first_failing (reaches tree) tree) (first_failing (has_sound_name tree) tree)
-    (first_failing (has_sound_body tree) tree) law sound in (
-      record {
-        lists = all_pass (λ id. not (has_bad_list rows id)) (numbers_of rows) (unbad rows ∙ none.0);
-        root = none.1;
-        parents = all_pass (has_folder_above tree) tree.nodes none.2;
-        reach = all_pass (reaches tree) tree.nodes none.3;
-        names = all_pass (has_sound_name tree) tree.nodes none.4;
-        bodies = all_pass (has_sound_body tree) tree.nodes none.5;
-      },
-      none.6,
-    )
+nothing_found rows law sound = grind (arith, nat_tests, all_pass, each_none, unbad)
 
 -- where the first six tests report no fault, all rows pass each of the six
 pub checked : (rows : Rows) → first_fault rows ≡ None → IsChecked rows
@@ -119,13 +91,7 @@ list_checked rows none =
     sym (unbad rows) ∙ none_fails (λ id. not (has_bad_list rows id)) (numbers_of rows) none.lists
 
 unfaulted : (rows : Rows) → IsChecked rows → first_fault rows ≡ None
-unfaulted rows none =
-    let tree = rows.read in
-    λ i. by_six (true_path tree) (list_checked rows none i) (none.root i)
-    (none_fails (has_folder_above tree) tree.nodes none.parents i)
-    (none_fails (reaches tree) tree.nodes none.reach i)
-    (none_fails (has_sound_name tree) tree.nodes none.names i)
-    (none_fails (has_sound_body tree) tree.nodes none.bodies i)
+unfaulted rows none = grind (arith, nat_tests, list_checked, none_fails)
 
 -- sound rows pass the six
 pub sound_checked : (rows : Rows) → AreSound rows → IsChecked rows
@@ -134,17 +100,7 @@ sound_checked rows sound =
 
 -- rows that are reported to be sound pass all seven tests
 pub no_fault : (rows : Rows) → AreSound rows → HasNoFault rows
-no_fault rows sound =
-    let none = nothing_found rows (first_failing (keeps_law rows.read) rows.read) sound in
-    record {
-      lists = none.0.lists;
-      root = none.0.root;
-      parents = none.0.parents;
-      reach = none.0.reach;
-      names = none.0.names;
-      bodies = none.0.bodies;
-      law = all_pass (keeps_law rows.read) rows.read.nodes none.1;
-    }
+no_fault rows sound = grind (arith, nat_tests, all_pass, nothing_found)
 
 -- what is left is the last test
 pub last_passes : (rows : Rows) (test : Node → Bool) → first_fault rows ≡ None
@@ -152,24 +108,11 @@ pub last_passes : (rows : Rows) (test : Node → Bool) → first_fault rows ≡ 
     → or_sound
     (or_else (first_fault rows)
     (fault_of (true_path rows.read) BrokenLaw (first_failing test rows.read))) ≡ Sound
-last_passes rows test unfaulted law =
-    λ i. or_sound
-    (or_else (unfaulted i)
-    (fault_of (true_path rows.read) BrokenLaw (none_fails test rows.read.nodes law i)))
+last_passes rows test unfaulted law = grind (arith, nat_tests, none_fails, unfaulted)
 
 -- rows that pass all seven tests are reported to be sound
 pub sound : (rows : Rows) → HasNoFault rows → AreSound rows
-sound rows none =
-    last_passes rows (keeps_law rows.read)
-    (unfaulted rows
-    (record {
-      lists = none.lists;
-      root = none.root;
-      parents = none.parents;
-      reach = none.reach;
-      names = none.names;
-      bodies = none.bodies;
-    })) none.law
+sound rows none = grind (arith, nat_tests, last_passes, unfaulted)
 
 -- in rows without a fault no row is unreadable, and no object has a bad list
 pub none_bad : (rows : Rows) → HasNoFault rows → first_bad_list rows ≡ None
@@ -202,12 +145,5 @@ checked_is_tree rows unfaulted =
 
 -- of rows with the kept entries alone, the report is `Sound` exactly if no test finds a fault
 pub kept_is_no_fault : KeptIsNoFault
-kept_is_no_fault rows = (there, back)
-  where
-    there : kept_report_of rows ≡ Sound → AreSoundKept rows
-    there sound = let none =
-        nothing_found rows (first_failing (stores_kept_alone rows.read) rows.read) sound in
-        (unfaulted rows none.0, all_pass (stores_kept_alone rows.read) rows.read.nodes none.1)
-
-    back : AreSoundKept rows → kept_report_of rows ≡ Sound
-    back kept = last_passes rows (stores_kept_alone rows.read) kept.0 kept.1
+kept_is_no_fault rows =
+    grind (arith, nat_tests, all_pass, last_passes, nothing_found, sound, unfaulted)

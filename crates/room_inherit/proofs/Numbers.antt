@@ -1,17 +1,18 @@
 -- Objects whose numbers rise.
-use Rattle.std.proofs.Common.{◌≡◌, ℕ, zero, suc, ◌<◌, ◌≤◌, ◌+◌, ◌==◌, ◌&&◌, ◌||◌, Bool, true, false}
-use Rattle.std.proofs.Common.{List, [], ◌∷◌, map, length, cond, get_or, take, Some, None, nat_lt}
-use Rattle.std.proofs.Common.{refl, sym, ap, ◌∙◌, arith}
+use Rattle.std.proofs.Common.{◌≡◌, ℕ, zero, suc, ◌<◌, ◌≤◌, ◌+◌, ◌&&◌, ◌||◌, Bool, true, false, List}
+use Rattle.std.proofs.Common.{[], ◌∷◌, map, length, get_or, take, Some, None, nat_lt, refl, sym, ap}
+use Rattle.std.proofs.Common.{◌∙◌, arith}
 use Rattle.std.specs.List.{list_any, filter_map, cons_option}
 use Rattle.std.specs.List.Sorted.{IsSortedBy}
 use Rattle.std.specs.declared.cmp.Ordering.TheVariants.{Less, Equal, Greater}
 use Rattle.std.specs.Ordering.{nat_cmp, is_lt}
-use Rattle.std.proofs.lemmas.Bool.{false≢true, and_parts, eqb-true, eq-eqb, ne_eqb, ltb-true}
-use Rattle.std.proofs.lemmas.Bool.{lt-ltb, le-ltb, cond-true, cond-false}
+use Rattle.std.proofs.lemmas.Bool.{and_parts, eq-eqb, ne_eqb, ltb-true, lt-ltb, le-ltb, cond-true}
+use Rattle.std.proofs.lemmas.Bool.{cond-false}
 use Rattle.std.specs.Cmp.{nat_cmp_is}
 use Rattle.room_rows.specs.declared.node.Node.{Node}
 use Rattle.room_rows.specs.Content.{is_rising}
 use Rattle.room_rows.specs.Finding.{find_id}
+use Rattle.std.proofs.lemmas.Bool.Decides.{nat_tests}
 
 abbrev pub ids_of : List Node → List ℕ
 ids_of nodes = map (λ (n : Node). n.id) nodes
@@ -62,20 +63,10 @@ none_at id (x ∷ xs) none =
     ∙ none_at id xs (λ k d below. none (suc k) d (omega arith))
 
 not_less : (x y : ℕ) → y < x → is_lt (nat_cmp x y) ≡ false
-not_less x y below = on (nat_lt x y) (x == y) (le-ltb x y (omega arith))
-  where
-    on : (t u : Bool) → t ≡ false → is_lt (cond t Less (cond u Equal Greater)) ≡ false
-    on true u e = absurd (false≢true (sym e))
-    on false true e = refl
-    on false false e = refl
+not_less x y below = grind (arith, nat_tests)
 
 pub equal_from_cmp : (x y : ℕ) → nat_cmp x y ≡ Equal → x ≡ y
-equal_from_cmp x y is = on (nat_lt x y) (x == y) refl is
-  where
-    on : (t u : Bool) → (x == y) ≡ u → cond t Less (cond u Equal Greater) ≡ Equal → x ≡ y
-    on true u e is = absurd (let wrong : ⊥ = cc in wrong)
-    on false true e is = eqb-true x y e
-    on false false e is = absurd (let wrong : ⊥ = cc in wrong)
+equal_from_cmp x y is = grind (arith, nat_tests)
 
 pub apart_from_less : (x y : ℕ) → nat_cmp x y ≡ Less → x ≡ y → ⊥
 apart_from_less x y is e = let same = sym (nat_cmp_is x y Equal e) in let wrong : ⊥ = cc in wrong

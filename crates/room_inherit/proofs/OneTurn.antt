@@ -1,16 +1,13 @@
 -- One object taken from those that wait, and its children renewed.
-use Rattle.std.proofs.Common.{◌≡◌, ℕ, zero, suc, ◌+◌, ◌==◌, Bool, true, false, cond, not, ◌&&◌}
-use Rattle.std.proofs.Common.{◌||◌, List, [], ◌∷◌, ◌++◌, map, filter, length, Some, refl, sym, ap}
-use Rattle.std.proofs.Common.{◌∙◌, inl, inr, ◌⊎◌}
+use Rattle.std.proofs.Common.{◌≡◌, ℕ, zero, suc, ◌+◌, ◌==◌, Bool, true, false, ◌&&◌, ◌||◌, List, []}
+use Rattle.std.proofs.Common.{◌∷◌, ◌++◌, filter, length, Some, sym, ap, ◌∙◌, inl, inr, ◌⊎◌, arith}
 use Rattle.std.specs.Option.{option_map, option_map_or}
-use Rattle.std.proofs.lemmas.Bool.{cases_Bool, and_from, and_left, cond-true, or_cases, or_parts}
-use Rattle.std.proofs.lemmas.Bool.{or_from, or_left, or_right, false≢true, eq-eqb, eqb-true}
-use Rattle.std.proofs.lemmas.Bool.{false_from_ne_true}
+use Rattle.std.proofs.lemmas.Bool.{cases_Bool, and_from, cond-true, or_cases, or_parts, or_left}
+use Rattle.std.proofs.lemmas.Bool.{or_right, false≢true, eqb-true, false_from_ne_true}
 use Rattle.std.proofs.lemmas.List.{length-map}
 use Rattle.std.specs.List.{AllByRecursion as Each}
 use Rattle.std.proofs.Math.Bool.{or-false}
 use Rattle.room_entry.specs.Ace.{Ace}
-use Rattle.room_entry.specs.Same.{same_entries}
 use Rattle.room_entry.specs.declared.object.Which.{Which}
 use Rattle.room_rows.specs.declared.node.Node.{Node}
 use Rattle.room_rows.specs.Content.{Content, node_at, parent_of, has_parent, children_of}
@@ -18,11 +15,9 @@ use Rattle.room_rows.specs.Content.{is_linked_in, is_rising, with_each}
 use Rattle.room_rows.specs.Finding.{find_id}
 use Rattle.room_rows.specs.Held.{held_of, is_linked}
 use Rattle.room_rows.specs.Keep.{with_inh}
-use Rattle.room_rows.specs.Pass.{pass}
 use Rattle.room_inherit.specs.Spread.{with_lists, is_changed, is_linked_within, IsLinkedBelow}
-use Rattle.room_inherit.specs.Turn.{brought_up, is_linked_to, is_outdated, next_of, passed_to}
-use Rattle.room_inherit.specs.Turn.{renewed_node, renewals, renewed_below, is_met_again}
-use Rattle.room_inherit.specs.Turn.{meets_again, waits_next}
+use Rattle.room_inherit.specs.Turn.{brought_up, is_linked_to, is_outdated, next_of, renewed_node}
+use Rattle.room_inherit.specs.Turn.{renewals, renewed_below, is_met_again, meets_again, waits_next}
 use Rattle.room_inherit.specs.declared.descent.Reach.TheVariants.{Renewed}
 use Rattle.room_entry.proofs.Facts.Members.{each_append, each_front, each_back, each_weaker}
 use Rattle.room_entry.proofs.Facts.Members.{each_map, each_filter, count}
@@ -35,6 +30,7 @@ use Rattle.room_inherit.proofs.Outdated.{apart_front, apart_last, has_last, base
 use Rattle.room_inherit.proofs.Frontier.{set, set_id, set_parent, find_set, links, passes}
 use Rattle.room_inherit.proofs.Frontier.{is_reached, There, Waits, Came, Frontier}
 use Rattle.room_rows.proofs.InPlace.{with_inh-id}
+use Rattle.std.proofs.lemmas.Bool.Decides.{nat_tests}
 
 module _ (which : Which) (start : ℕ) (old : Content)
     (rises : is_rising (0 ∷ ids_of old.nodes) ≡ true) (f : Node → List Ace) (rest : List Node)
@@ -53,9 +49,7 @@ module _ (which : Which) (start : ℕ) (old : Content)
 
   there_now : (n : Node) → There which start old n
       → node_at now (set which f n).id ≡ Some (set which f n)
-  there_now n there =
-      ap (λ i. find_id i (map (set which f) old.nodes)) (set_id which f n)
-      ∙ find_set which f n.id old.nodes ∙ ap (option_map (set which f)) there
+  there_now n there = grind (arith, nat_tests, find_set, set, set_id)
 
   -- ---- the object that is taken
 
@@ -89,10 +83,7 @@ module _ (which : Which) (start : ℕ) (old : Content)
 
   child_unchanged : (n : Node) → There which start old n → has_parent w.id n ≡ true
       → is_changed which f n ≡ false
-  child_unchanged n there has = false_from_ne_true (is_changed which f n) (λ changed.
-      let c = front.came n there changed in
-      false≢true (sym c.taken ∙ ap (λ i. has_id i (rest ++ w ∷ []))
-      (same_above c.parent.id w.id n c.has has) ∙ has_last rest w))
+  child_unchanged n there has = grind (arith, nat_tests, has_id, has_last, same_above)
 
   no_start : (n : Node) → There which start old n → has_parent w.id n ≡ true
       → links which w0 n ≡ true → (n.id == start) ≡ false
@@ -106,17 +97,11 @@ module _ (which : Which) (start : ℕ) (old : Content)
   -- what was reached isn't outdated
   reached_fresh : (n : Node) → There which start old n → is_reached which start f n ≡ true
       → stale n ≡ false
-  reached_fresh n there reached = false_from_ne_true (stale n) (λ is.
-      let parts = stale_parts n is in
-      false≢true
-      (sym (or_from (n.id == start) (is_changed which f n) (no_start n there parts.0 parts.1)
-      (child_unchanged n there parts.0)) ∙ reached))
+  reached_fresh n there reached = grind (arith, nat_tests, child_unchanged, no_start, stale_parts)
 
   reached_on : (n : Node) → There which start old n → is_reached which start f n ≡ true
       → is_reached which start after n ≡ true
-  reached_on n there reached =
-      ap (λ e. (n.id == start) || not (same_entries e (held_of which n).inh))
-      (keeps n (reached_fresh n there reached)) ∙ reached
+  reached_on n there reached = grind (arith, nat_tests, keeps, reached_fresh)
 
   changed_is : (n : Node) → There which start old n
       → is_changed which after n ≡ (is_changed which f n || stale n)
@@ -134,11 +119,7 @@ module _ (which : Which) (start : ℕ) (old : Content)
   goes_on = filter going (children_of now w.id)
 
   kept_id : (n : Node) → (brought_up which w n).id ≡ n.id
-  kept_id n = on (is_outdated which w n)
-    where
-      on : (t : Bool) → (cond t (renewed_node which w n) n).id ≡ n.id
-      on true = with_inh-id which (passed_to which w n) n
-      on false = refl
+  kept_id n = grind (arith, nat_tests, with_inh-id)
 
   kids_has : (n : Node) → There which start old n → has_id n.id kids ≡ stale n
   kids_has n there =
@@ -189,33 +170,20 @@ module _ (which : Which) (start : ℕ) (old : Content)
       (λ m there has goes. kid_waits m there has goes)))
 
   rest_waits : (r : Node) → Waits which start old f r → Waits which start old after r
-  rest_waits r known = record {
-    base = known.base;
-    there = known.there;
-    is =
-        known.is ∙ ap (λ e. with_inh which e known.base)
-        (sym (keeps known.base (reached_fresh known.base known.there known.reached)));
-    reached = reached_on known.base known.there known.reached;
-  }
+  rest_waits r known = grind (arith, nat_tests, keeps, reached_fresh, reached_on)
 
   rest_apart : (r : Node) → Waits which start old f r → has_id r.id kids ≡ false
-  rest_apart r known =
-      ap (λ i. has_id i kids) (ap (λ (n : Node). n.id) known.is ∙ set_id which f known.base)
-      ∙ no_kid known.base known.there (reached_fresh known.base known.there known.reached)
+  rest_apart r known = grind (arith, nat_tests, has_id, no_kid, reached_fresh, set_id)
 
   -- a reached object that didn't wait together with the one that was taken
   taken_on : (p : Node) → There which start old p → is_reached which start f p ≡ true
       → has_id p.id rest ≡ false → has_id p.id (rest ++ kids) ≡ false
   taken_on p there reached none =
-      has_either p.id rest kids
-      ∙ or_from (has_id p.id rest) (has_id p.id kids) none
-      (no_kid p there (reached_fresh p there reached))
+      grind (arith, nat_tests, has_either, has_id, no_kid, reached_fresh)
 
   passed_on : (n p : Node) → There which start old p → is_reached which start f p ≡ true
       → passes which f p n ≡ passes which after p n
-  passed_on n p there reached =
-      ap (λ l. pass n.kind ((held_of which p).own ++ l))
-      (sym (keeps p (reached_fresh p there reached)))
+  passed_on n p there reached = grind (arith, nat_tests, keeps, reached_fresh)
 
   came_before : (n : Node) → There which start old n → is_changed which f n ≡ true
       → Came which start old f (rest ++ w ∷ []) n → Came which start old after (rest ++ kids) n
@@ -261,20 +229,20 @@ module _ (which : Which) (start : ℕ) (old : Content)
   came_now : (n : Node) → There which start old n → stale n ≡ true
       → Came which start old after (rest ++ kids) n
   came_now n there is =
-      let parts = stale_parts n is in
-      let has : has_parent w0.id n ≡ true = ap (λ i. has_parent i n) (sym w_id) ∙ parts.0 in
-      record {
-        isnt_start = no_start n there parts.0 parts.1;
-        below = below_now n has parts.1;
-        parent = w0;
-        there = waits.there;
-        has = has;
-        reached = reached_on w0 waits.there waits.reached;
-        taken =
-            taken_on w0 waits.there waits.reached
-            (ap (λ i. has_id i rest) (sym w_id) ∙ apart_last rest w front.apart);
-        agrees = step.takes which f w w0 n is ∙ passed_on n w0 waits.there waits.reached;
-      }
+      grind (
+        arith,
+        nat_tests,
+        apart_last,
+        below_now,
+        has_id,
+        no_start,
+        passed_on,
+        reached_on,
+        stale_parts,
+        taken_on,
+        w_id,
+        waits,
+      )
 
   abbrev Goal : Node → Node → Type 0
   Goal n p = (has_id p.id (rest ++ kids) ≡ true) ⊎ (after n ≡ passes which after p n)
@@ -291,27 +259,9 @@ module _ (which : Which) (start : ℕ) (old : Content)
       → has_parent p.id n ≡ true → (p.id == w.id) ≡ false
       → (has_id p.id (rest ++ w ∷ []) ≡ true) ⊎ (f n ≡ passes which f p n) → Goal n p
   other_agrees n p there there' has other (inl waiting) =
-      elim (or_cases (has_id p.id rest) (has_id p.id (w ∷ []))
-      (sym (has_either p.id rest (w ∷ [])) ∙ waiting)) [
-        | inl still ↦
-            inl (has_either p.id rest kids ∙ or_left (has_id p.id rest) (has_id p.id kids) still)
-        | inr last ↦
-            absurd
-            (false≢true (sym other ∙ eq-eqb p.id w.id
-            (sym (eqb-true w.id p.id (sym (or-false (w.id == p.id)) ∙ last)))))
-      ]
+      grind (arith, nat_tests, has_either, has_id, or-false)
   other_agrees n p there there' has other (inr agrees) =
-      let fresh : stale n ≡ false = and_left (has_parent w.id n) _
-      (false_from_ne_true (has_parent w.id n)
-      (λ has'. false≢true (sym other ∙ eq-eqb p.id w.id (same_above p.id w.id n has has')))) in
-      elim (cases_Bool (stale p)) [
-        | inl st ↦
-            inl (has_either p.id rest kids
-            ∙ or_right (has_id p.id rest) (has_id p.id kids) (kids_has p there' ∙ st))
-        | inr fresh' ↦
-            inr (keeps n fresh ∙ agrees
-            ∙ ap (λ l. pass n.kind ((held_of which p).own ++ l)) (sym (keeps p fresh')))
-      ]
+      grind (arith, nat_tests, has_either, has_id, keeps, kids_has, same_above)
 
   pub frontier_after : Frontier which start old after (rest ++ kids)
   frontier_after = record {
@@ -340,10 +290,7 @@ module _ (which : Which) (start : ℕ) (old : Content)
 
   -- as many wait next as are renewed
   pub as_many : length kids ≡ length (renewals which w (children_of now w.id))
-  as_many =
-      length-map goes_on (brought_up which w)
-      ∙ sym (length-map (filter (is_outdated which w) (children_of now w.id))
-      (renewed_node which w))
+  as_many = grind (arith, nat_tests, length-map)
 
   pub count_after : count (is_changed which after) old.nodes
       ≡ count (is_changed which f) old.nodes + length (renewals which w (children_of now w.id))

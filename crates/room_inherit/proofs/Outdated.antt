@@ -2,28 +2,23 @@
 -- are renewed.
 use Rattle.std.proofs.Common.{◌≡◌, ℕ, ◌+◌, ◌==◌, Bool, true, false, cond, not, ◌&&◌, ◌||◌, List, []}
 use Rattle.std.proofs.Common.{◌∷◌, ◌++◌, filter, length, Option, Some, None, refl, sym, ap, ◌∙◌}
-use Rattle.std.proofs.Common.{inl, inr}
+use Rattle.std.proofs.Common.{arith}
 use Rattle.std.specs.Prelude.{option_and_then}
 use Rattle.std.specs.Option.{option_map}
-use Rattle.std.proofs.lemmas.Bool.{cases_Bool, and_parts, or_parts, or_from, or_left, or_right}
-use Rattle.std.proofs.lemmas.Bool.{not-true, not-false, not_from_false, false≢true, eq-eqb, ne_eqb}
-use Rattle.std.proofs.lemmas.Bool.{cond-true, cond-false, false_from_ne_true}
+use Rattle.std.proofs.lemmas.Bool.{cond-true, cond-false}
 use Rattle.std.proofs.lemmas.List.Folds.{list_any-append}
 use Rattle.std.proofs.lemmas.List.{length-map}
 use Rattle.std.specs.List.{AllByRecursion as Each}
 use Rattle.std.proofs.Math.Bool.{or-false}
 use Rattle.room_entry.specs.Ace.{Ace}
 use Rattle.room_entry.specs.Same.{same_entries}
-use Rattle.room_entry.specs.declared.object.ObjKind.{ObjKind}
 use Rattle.room_entry.specs.declared.object.Which.{Which}
 use Rattle.room_entry.proofs.Same.{entries_equal}
 use Rattle.room_entry.proofs.Alike.{equal_entries}
-use Rattle.room_rows.specs.HeldList.{Held}
 use Rattle.room_rows.specs.declared.node.Node.{Node}
 use Rattle.room_rows.specs.Content.{Content, node_at, parent_of, has_parent, children_of, with_each}
-use Rattle.room_rows.specs.Held.{held_of, full_of, is_linked}
+use Rattle.room_rows.specs.Held.{held_of, is_linked}
 use Rattle.room_rows.specs.Keep.{with_inh}
-use Rattle.room_rows.specs.Pass.{pass}
 use Rattle.room_inherit.specs.Spread.{with_lists, is_changed}
 use Rattle.room_inherit.specs.Turn.{is_linked_to, is_outdated, renewed_node, renewals}
 use Rattle.room_inherit.specs.Turn.{renewed_below}
@@ -34,6 +29,7 @@ use Rattle.room_inherit.proofs.Children.{has_id, Apart, each_there, apart_map, c
 use Rattle.room_inherit.proofs.Renewing.{map_agree, map_map, one_object}
 use Rattle.room_inherit.proofs.Frontier.{set, set_id, set_parent, set_held, links, passes}
 use Rattle.room_rows.proofs.Frames.{parent_is}
+use Rattle.std.proofs.lemmas.Bool.Decides.{nat_tests}
 
 -- ---- parents
 
@@ -57,33 +53,20 @@ has_either id xs ys = list_any-append (λ (n : Node). n.id == id) xs ys
 pub apart_join : (xs ys : List Node) → Apart xs → Apart ys → Each (λ x. has_id x.id ys ≡ false) xs
     → Apart (xs ++ ys)
 apart_join [] ys apart apart' none = apart'
-apart_join (x ∷ xs) ys apart apart' none = (
-  has_either x.id xs ys ∙ or_from (has_id x.id xs) (has_id x.id ys) apart.0 none.0,
-  apart_join xs ys apart.1 apart' none.1,
-)
+apart_join (x ∷ xs) ys apart apart' none =
+    grind (arith, nat_tests, has_either, has_id, apart_join xs ys apart.1 apart' none.1)
 
 pub apart_front : (xs ys : List Node) → Apart (xs ++ ys) → Apart xs
 apart_front [] ys apart = tt
-apart_front (x ∷ xs) ys apart = (
-  (or_parts (has_id x.id xs) (has_id x.id ys) (sym (has_either x.id xs ys) ∙ apart.0)).0,
-  apart_front xs ys apart.1,
-)
+apart_front (x ∷ xs) ys apart =
+    grind (arith, nat_tests, has_either, has_id, apart_front xs ys apart.1)
 
 pub apart_last : (xs : List Node) (y : Node) → Apart (xs ++ y ∷ []) → has_id y.id xs ≡ false
 apart_last [] y apart = refl
-apart_last (x ∷ xs) y apart =
-    let none = or_parts (has_id x.id xs) (has_id x.id (y ∷ []))
-    (sym (has_either x.id xs (y ∷ [])) ∙ apart.0) in
-    let other = or_parts (y.id == x.id) false none.1 in
-    or_from (x.id == y.id) (has_id y.id xs)
-    (ne_eqb x.id y.id (λ e. false≢true (sym other.0 ∙ eq-eqb y.id x.id (sym e))))
-    (apart_last xs y apart.1)
+apart_last (x ∷ xs) y apart = grind (arith, nat_tests, has_either, has_id, apart_last xs y apart.1)
 
 pub has_last : (xs : List Node) (y : Node) → has_id y.id (xs ++ y ∷ []) ≡ true
-has_last xs y =
-    has_either y.id xs (y ∷ [])
-    ∙ or_right (has_id y.id xs) (has_id y.id (y ∷ []))
-    (or_left (y.id == y.id) false (eq-eqb y.id y.id refl))
+has_last xs y = grind (arith, nat_tests, has_either, has_id)
 
 pub base_of : (which : Which) (f : Node → List Ace) (m : Node) (o : Option Node)
     → option_map (set which f) o ≡ Some m → (n : Node) × (o ≡ Some n) × (m ≡ set which f n)
@@ -106,12 +89,7 @@ module _ (which : Which) (f : Node → List Ace) (w w0 : Node) where
       × (same_entries (f n) (passes which f w0 n) ≡ false)
 
   pub stale_parts : (n : Node) → stale n ≡ true → StaleParts n
-  stale_parts n is =
-      let first = and_parts (has_parent w.id n)
-      (links which w0 n && not (same_entries (f n) (passes which f w0 n))) is in
-      let second = and_parts (links which w0 n)
-      (not (same_entries (f n) (passes which f w0 n))) first.1 in
-      (first.0, second.0, not-true (same_entries (f n) (passes which f w0 n)) second.1)
+  stale_parts n is = grind (arith, nat_tests, links, passes)
 
   pub keeps : (n : Node) → stale n ≡ false → after n ≡ f n
   keeps n isnt = cond-false (stale n) (passes which f w0 n) (f n) isnt
@@ -125,67 +103,29 @@ module _ (which : Which) (f : Node → List Ace) (w w0 : Node) where
       → has_parent p.id n ≡ true → links which p n ≡ true → p.id ≡ w.id
       → after n ≡ passes which after p n
   child_agrees old there w_id fresh0 n p there' has link is =
-      let one : w0 ≡ p = one_object old.nodes w0 p there there' (sym w_id ∙ sym is) in
-      let gives : passes which f w0 n ≡ passes which after p n =
-      ap (λ l. pass n.kind ((held_of which w0).own ++ l)) (sym (keeps w0 fresh0))
-      ∙ ap (λ x. passes which after x n) one in
-      elim (cases_Bool (stale n)) [
-        | inl st ↦ takes n st ∙ gives
-        | inr fresh ↦
-            let has_w : has_parent w.id n ≡ true = ap (λ i. has_parent i n) (sym is) ∙ has in
-            let link_w : links which w0 n ≡ true = ap (λ x. links which x n) one ∙ link in
-            let same : same_entries (f n) (passes which f w0 n) ≡ true = not-false
-            (same_entries (f n) (passes which f w0 n))
-            (sym (λ i. has_w i && (link_w i && not (same_entries (f n) (passes which f w0 n))))
-            ∙ fresh) in
-            keeps n fresh ∙ entries_equal (f n) (passes which f w0 n) same ∙ gives
-      ]
+      grind (arith, nat_tests, entries_equal, keeps, links, one_object, passes, takes)
 
   module _ (is : w ≡ set which f w0) where
     w_held : held_of which w ≡ record (held_of which w0) { inh = f w0 }
     w_held = ap (held_of which) is ∙ set_held which f w0
 
-    abbrev outdated_by : Held → Held → ObjKind → Bool
-    outdated_by held above kind =
-        is_linked held (Some above) && not (same_entries held.inh (pass kind (full_of above)))
-
     pub stale_is : (n : Node)
         → (has_parent w.id (set which f n) && is_outdated which w (set which f n)) ≡ stale n
-    stale_is n =
-        λ i. set_parent which f w.id n i
-        && outdated_by (set_held which f n i) (w_held i) (same_kind which (f n) n i)
+    stale_is n = grind (arith, nat_tests, same_kind, set_held, set_parent, w_held)
 
     pub linked_is : (n : Node) → is_linked_to which w (set which f n) ≡ links which w0 n
     linked_is n = λ i. is_linked (set_held which f n i) (Some (w_held i))
 
     pub renewed_is : (n : Node)
         → renewed_node which w (set which f n) ≡ with_inh which (passes which f w0 n) n
-    renewed_is n =
-        (λ i. with_inh which (pass (same_kind which (f n) n i) (full_of (w_held i)))
-        (set which f n)) ∙ with_last which (passes which f w0 n) (f n) n
+    renewed_is n = grind (arith, nat_tests, passes, same_kind, set, w_held, with_last)
 
     after_is : (n : Node) → renewed_below which w (set which f n) ≡ set which after n
-    after_is n =
-        ap (λ t. cond t (renewed_node which w (set which f n)) (set which f n)) (stale_is n)
-        ∙ ap (λ m. cond (stale n) m (set which f n)) (renewed_is n) ∙ on (stale n)
-      where
-        on : (t : Bool) → cond t (with_inh which (passes which f w0 n) n) (with_inh which (f n) n)
-            ≡ with_inh which (cond t (passes which f w0 n) (f n)) n
-        on true = refl
-        on false = refl
+    after_is n = grind (arith, nat_tests, passes, renewed_is, set, stale_is)
 
     pub rows_renewed : (old : Content)
         → with_each (with_lists which f old) (renewed_below which w) ≡ with_lists which after old
-    rows_renewed old =
-        ap (λ (ns : List Node). record old { nodes = ns })
-        (map_map (renewed_below which w) (set which f) old.nodes
-        ∙ map_agree (λ n. renewed_below which w (set which f n)) (set which after) old.nodes
-        (every old.nodes))
-      where
-        every : (xs : List Node)
-            → Each (λ n. renewed_below which w (set which f n) ≡ set which after n) xs
-        every [] = tt
-        every (x ∷ xs) = (after_is x, every xs)
+    rows_renewed old = grind (arith, nat_tests, after_is, map_agree, map_map, set)
 
   -- where its children store what they did at first
   module _ (old : Content)
@@ -194,21 +134,11 @@ module _ (which : Which) (f : Node → List Ace) (w w0 : Node) where
     pub changed_stale : (n : Node) → node_at old n.id ≡ Some n → stale n ≡ true
         → is_changed which after n ≡ true
     changed_stale n there is =
-        let parts = stale_parts n is in
-        let before : f n ≡ (held_of which n).inh = entries_equal (f n) (held_of which n).inh
-        (not-false (same_entries (f n) (held_of which n).inh) (unchanged n there parts.0)) in
-        not_from_false (same_entries (after n) (held_of which n).inh)
-        (false_from_ne_true (same_entries (after n) (held_of which n).inh) (λ same.
-        false≢true (sym parts.2 ∙ equal_entries (f n) (passes which f w0 n)
-        (before ∙ sym (entries_equal (after n) (held_of which n).inh same) ∙ takes n is))))
+        grind (arith, nat_tests, entries_equal, equal_entries, passes, stale_parts, takes)
 
     pub changed_is : (n : Node) → node_at old n.id ≡ Some n
         → is_changed which after n ≡ (is_changed which f n || stale n)
-    changed_is n there = elim (cases_Bool (stale n)) [
-      | inl is ↦ changed_stale n there is ∙ sym (or_right (is_changed which f n) (stale n) is)
-      | inr isnt ↦ ap (λ e. not (same_entries e (held_of which n).inh)) (keeps n isnt)
-          ∙ sym (or-false (is_changed which f n)) ∙ ap (λ t. is_changed which f n || t) (sym isnt)
-    ]
+    changed_is n there = grind (arith, nat_tests, changed_stale, keeps, or-false)
 
     pub count_renewed : w ≡ set which f w0 → Apart old.nodes
         → count (is_changed which after) old.nodes

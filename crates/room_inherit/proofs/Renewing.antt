@@ -1,12 +1,11 @@
 -- Objects of rows that are changed by their numbers, and the children of an object renewed so.
 use Rattle.std.proofs.Common.{◌≡◌, ℕ, ◌+◌, ◌==◌, Bool, true, false, cond, not, ◌&&◌, ◌||◌, List, []}
-use Rattle.std.proofs.Common.{◌∷◌, map, filter, length, Option, Some, None, refl, sym, ap, ◌∙◌, inl}
-use Rattle.std.proofs.Common.{inr}
+use Rattle.std.proofs.Common.{◌∷◌, map, filter, length, Option, Some, None, refl, sym, ap, ◌∙◌}
+use Rattle.std.proofs.Common.{arith}
 use Rattle.std.specs.Prelude.{IsTrue, is_some}
 use Rattle.std.specs.List.{AllByRecursion as Each, list_any}
 use Rattle.std.specs.Option.{option_map}
-use Rattle.std.proofs.lemmas.Bool.{cases_Bool, and_parts, and_from, false≢true, eq-eqb, eqb-true}
-use Rattle.std.proofs.lemmas.Bool.{cond-true, cond-false, or_left, or_from}
+use Rattle.std.proofs.lemmas.Bool.{and_parts, and_from}
 use Rattle.std.proofs.lemmas.List.{map-id, length-map}
 use Rattle.std.proofs.lemmas.Option.{same_Some}
 use Rattle.room_entry.specs.Valid.{is_document}
@@ -17,9 +16,8 @@ use Rattle.room_rows.specs.declared.node.Node.{Node}
 use Rattle.room_rows.specs.Content.{Content, node_at, children_of, has_parent, with_each}
 use Rattle.room_rows.specs.Finding.{find_id}
 use Rattle.room_rows.specs.Held.{held_of}
-use Rattle.room_rows.specs.Keep.{Changes, ChangesAll, are_there, with_changed, with_content}
-use Rattle.room_rows.specs.Keep.{with_inh}
-use Rattle.room_rows.specs.Rows.{AreRows, Rows}
+use Rattle.room_rows.specs.Keep.{are_there, with_changed, with_content, with_inh}
+use Rattle.room_rows.specs.Rows.{Rows}
 use Rattle.room_inherit.specs.declared.by_kind.ByKind.{ByKind}
 use Rattle.room_inherit.specs.declared.passed.Passed.{Passed}
 use Rattle.room_inherit.specs.Turn.{IsPassed, count_of, is_kind, is_outdated, of_kind, outdated_of}
@@ -28,11 +26,10 @@ use Rattle.room_entry.proofs.Facts.Members.{all_each, any_map, count, count_eith
 use Rattle.room_entry.proofs.Facts.Members.{each_filter, each_map}
 use Rattle.room_rows.proofs.Frames.{Rises}
 use Rattle.room_rows.proofs.InPlace.{keeps_places, node_at-with_each, place-with_inh}
-use Rattle.room_rows.proofs.InPlace.{with_node-replaces, with_each-with_each}
-use Rattle.room_rows.proofs.Lookups.{found_number}
-use Rattle.room_rows.proofs.SamePlace.{IsSamePlace, replaced, replaced_elsewhere, replaced_here}
-use Rattle.room_rows.proofs.SamePlace.{same_place}
+use Rattle.room_rows.proofs.InPlace.{with_each-with_each}
+use Rattle.room_rows.proofs.SamePlace.{IsSamePlace, same_place}
 use Rattle.room_inherit.proofs.Children.{apart_rising, each_child, each_there, is_such_child}
+use Rattle.std.proofs.lemmas.Bool.Decides.{nat_tests}
 
 -- two facts of each member, taken together, are one fact of each
 pub each_both : {A : Type 0} (P Q : A → Type 0) (xs : List A) → Each P xs → Each Q xs
@@ -62,16 +59,9 @@ one_object nodes x y there there' same =
 same_change : (content : Content) (f g : Node → Node) → Rises content
     → ((n : Node) → node_at content n.id ≡ Some n → f n ≡ g n)
     → with_each content f ≡ with_each content g
-same_change content f g rises same =
-    ap (λ (nodes : List Node). record content { nodes = nodes })
-    (map_agree f g content.nodes
-    (each_there (λ n. f n ≡ g n) content.nodes (apart_rising 0 content.nodes rises) same))
+same_change content f g rises same = grind (arith, nat_tests, apart_rising, each_there, map_agree)
 
 -- ---- objects that are changed by their numbers
-
-some_there : (o : Option Node) → IsTrue (is_some o && true) → (node : Node) × (o ≡ Some node)
-some_there None there = absurd (false≢true there)
-some_there (Some node) there = (node, refl)
 
 module _ (change : Node → Node) (same : (n : Node) → IsSamePlace (change n) n) where
   -- an object is changed if its number is among these
@@ -79,44 +69,12 @@ module _ (change : Node → Node) (same : (n : Node) → IsSamePlace (change n) 
   changed ids node = cond (list_any (λ id. id == node.id) ids) (change node) node
 
   stays : (ids : List ℕ) (n : Node) → IsSamePlace (changed ids n) n
-  stays ids n = on (list_any (λ id. id == n.id) ids)
-    where
-      on : (t : Bool) → IsSamePlace (cond t (change n) n) n
-      on true = same n
-      on false = same_place n
+  stays ids n = grind (arith, nat_tests, same_place)
 
   pub changes_none : (rows : Rows) → rows ≡ with_content rows (with_changed [] change rows.read)
   changes_none rows =
       ap (λ (nodes : List Node). with_content rows (record rows.read { nodes = nodes }))
       (sym (map-id rows.read.nodes))
-
-  pub changes_one : (id : ℕ) (old new : Rows) → AreRows old → Changes id change old new
-      → ChangesAll (id ∷ []) change old new
-  changes_one id old new are changes = λ there.
-      let some = some_there (node_at old.read id) there in
-      changes some.0 some.1
-      ∙ ap (with_content old)
-      (with_node-replaces old.read are.numbers id some.0 (change some.0) some.1 (same some.0)
-      ∙ same_change old.read (replaced (change some.0)) (changed (id ∷ [])) are.numbers
-      (alone some.0 some.1))
-    where
-      alone : (node : Node) → node_at old.read id ≡ Some node → (n : Node)
-          → node_at old.read n.id ≡ Some n → replaced (change node) n ≡ changed (id ∷ []) n
-      alone node found n here = elim (cases_Bool (id == n.id)) [
-        | inl is ↦
-            let e = eqb-true id n.id is in
-            let one = same_Some node n (sym found ∙ ap (node_at old.read) e ∙ here) in
-            replaced_here (change node) n
-            (sym ((same node).number ∙ ap (λ (m : Node). m.id) one))
-            ∙ ap change one
-            ∙ sym (cond-true ((id == n.id) || false) (change n) n (or_left (id == n.id) false is))
-        | inr isnt ↦
-            replaced_elsewhere (change node) n
-            (λ e. false≢true (sym isnt ∙ eq-eqb id n.id
-            (sym (e ∙ (same node).number ∙ found_number id old.read.nodes node found))))
-            ∙ sym (cond-false ((id == n.id) || false) (change n) n
-            (or_from (id == n.id) false isnt refl))
-      ]
 
   -- objects that are there are there still
   pub still_there : (ids more : List ℕ) (content : Content) → IsTrue (are_there more content)

@@ -1,6 +1,6 @@
 -- What is reported, by the tests that found something.
 use Rattle.std.proofs.Common.{◌≡◌, ℕ, zero, suc, false, not, List, [], ◌∷◌, ◌++◌, filter, length}
-use Rattle.std.proofs.Common.{Option, Some, None, refl, sym, ap, ◌∙◌}
+use Rattle.std.proofs.Common.{Option, Some, None, refl, sym, ap, ◌∙◌, arith}
 use Rattle.std.specs.List.{find}
 use Rattle.std.specs.Option.{option_map, option_map_or}
 use Rattle.room_rows.specs.declared.node.Node.{Node}
@@ -19,6 +19,7 @@ use Rattle.room_inherit.specs.Objects.{only}
 use Rattle.room_rows.specs.Sound.{bad_root, fault_of, first_bad_list, first_failing, has_sound_body}
 use Rattle.room_rows.specs.Sound.{has_sound_name, names_up, or_else, or_sound, path_by_number}
 use Rattle.room_rows.specs.Sound.{tree_fault, true_path}
+use Rattle.std.proofs.lemmas.Bool.Decides.{nat_tests}
 
 -- ---- the objects alone decide
 
@@ -87,9 +88,7 @@ module _ (holding : Holding) (rows : Rows) (nodes : List Node) (are : nodes ≡ 
   law_is : (found : Option Node)
       → found ≡ first_failing (is_lawful holding (only nodes)) (only nodes)
       → found ≡ first_failing (is_lawful holding rows.read) rows.read
-  law_is found is =
-      is ∙ ap (λ ns. first_failing (is_lawful holding (only ns)) (only ns)) are
-      ∙ law_same holding rows.read
+  law_is found is = grind (arith, nat_tests, law_same)
 
   path_is : (node : Node) → true_path (only nodes) node ≡ true_path rows.read node
   path_is node = ap (λ ns. true_path (only ns) node) are ∙ path_same rows.read node

@@ -1,6 +1,6 @@
 -- The tree gone through, turn after turn.
 use Rattle.std.proofs.Common.{◌≡◌, ℕ, ◌+◌, ◌≤◌, Bool, List, [], ◌∷◌, ◌++◌, length, Some, None}
-use Rattle.std.proofs.Common.{Result, Ok, Err, IfOk, IfErr, refl, sym, ap, subst, ◌∙◌, inl, arith}
+use Rattle.std.proofs.Common.{Result, Ok, Err, refl, sym, ap, subst, ◌∙◌, arith}
 use Rattle.std.proofs.lemmas.Bool.{false≢true, eq-eqb}
 use Rattle.std.proofs.lemmas.List.{length-append}
 use Rattle.room_entry.specs.Ace.{Ace}
@@ -8,31 +8,30 @@ use Rattle.room_entry.specs.declared.object.Which.{Which}
 use Rattle.room_rows.specs.declared.keep.Keep.{Ghosts}
 use Rattle.room_rows.specs.declared.keep.KeepFault.{KeepFault}
 use Rattle.room_rows.specs.declared.node.Node.{Node}
-use Rattle.room_rows.specs.Content.{children_of, root_of}
-use Rattle.room_rows.specs.Keep.{HasNoRoot, IsUnreadable, IsRead, IsRootOf, capped, with_content}
-use Rattle.room_rows.specs.Keep.{KeepLaws}
+use Rattle.room_rows.specs.Content.{root_of}
+use Rattle.room_rows.specs.Keep.{HasNoRoot, IsRead, IsRootOf, with_content, KeepLaws}
 use Rattle.room_rows.specs.Rows.{Rows, AreRows, numbers_of, is_unreadable}
 use Rattle.room_rows.proofs.InPlace.{numbers_of-reading}
 use Rattle.room_rows.proofs.Steps.{later_cause}
 use Rattle.room_rows.specs.Law.{AllAgree}
-use Rattle.room_inherit.specs.Spread.{ChangedAgree, HasSpreadCause, with_lists, is_changed}
+use Rattle.room_inherit.specs.Spread.{ChangedAgree, with_lists, is_changed}
 use Rattle.room_inherit.specs.SpreadAll.{IsRoot, IsSwept, Sweeps, SweepsIf}
-use Rattle.room_inherit.specs.Turn.{IsVisit, LeavesOut, MeetsAgain, next_of}
+use Rattle.room_inherit.specs.Turn.{IsVisit, MeetsAgain}
 use Rattle.room_inherit.proofs.Chosen.{folders_chosen}
 use Rattle.room_inherit.specs.declared.descent.Descent.{Descent}
-use Rattle.room_inherit.specs.declared.descent.Reach.{Reach}
 use Rattle.room_inherit.specs.declared.descent.Reach.TheVariants.{All}
 use Rattle.room_inherit.specs.declared.outcome.Spread.{Spread}
 use Rattle.room_inherit.specs.declared.outcome.SpreadFault.{SpreadFault}
-use Rattle.room_inherit.specs.declared.outcome.SpreadFault.TheVariants.{Keeper, Loop}
+use Rattle.room_inherit.specs.declared.outcome.SpreadFault.TheVariants.{Keeper}
 use Rattle.room_entry.proofs.Facts.Members.{count, count-is, count_ends}
 use Rattle.room_inherit.proofs.Frontier.{ids_set}
-use Rattle.room_inherit.proofs.Sweeping.{Sweep, after, seen_after, kids, kids_are, rows_after}
+use Rattle.room_inherit.proofs.Sweeping.{Sweep, after, kids, kids_are, rows_after}
 use Rattle.room_inherit.proofs.Sweeping.{sweep_after, count_seen, count_after, not_met_again}
 use Rattle.room_inherit.proofs.SweepEnds.{root_there, root_top, seen_first, sweep_first, count_has}
 use Rattle.room_inherit.proofs.SweepEnds.{changed_swept, law_swept}
 use Rattle.room_inherit.proofs.Ends.{own_lists, with_own_lists, count_own, as_many_numbers}
 use Rattle.room_inherit.proofs.Turns.{Progress}
+use Rattle.std.proofs.lemmas.Bool.Decides.{nat_tests}
 
 -- ---- rows
 
@@ -93,52 +92,26 @@ module _ (d : Descent) (reach : d.reach ≡ All) (turns : ℕ) (rest : List Node
     abbrev lists : Node → List Ace
     lists = after d.which old.read are.numbers sofar.root top f sofar.seen rest w sofar.front
 
-    abbrev seen_now : Node → Bool
-    seen_now =
-        seen_after d.which old.read are.numbers sofar.root top f sofar.seen rest w sofar.front
-
     abbrev all : List Node
     all = kids d.which old.read are.numbers sofar.root top f sofar.seen rest w sofar.front
 
     waits : next ≡ rest ++ all
-    waits =
-        step.waits
-        ∙ ap (λ (l : List Node). rest ++ l)
-        (folders_chosen (with_lists d.which f old.read)
-        (children_of (with_lists d.which lists old.read) w.id) step.next
-        (subst (λ (l : List Node). LeavesOut (with_lists d.which f old.read) l step.next)
-        (ap (λ (r : Reach). next_of r d.which w
-        (children_of (with_lists d.which f old.read) w.id)) reach
-        ∙ kids_are d.which old.read are.numbers sofar.root top f sofar.seen rest w sofar.front)
-        step.chosen))
+    waits = grind (arith, nat_tests, folders_chosen, kids_are, step, top)
 
     pub sweeping_turn : IsSweeping d (turns + 1) next (changed + number) old new
-    sweeping_turn = record {
-      root = sofar.root;
-      root_is = sofar.root_is;
-      start_is = sofar.start_is;
-      lists = lists;
-      seen = seen_now;
-      becomes =
-          step.becomes
-          ∙ ap (with_content old)
-          (rows_after d.which old.read are.numbers sofar.root top f sofar.seen rest w sofar.front);
-      front =
-          subst (λ (l : List Node). Sweep d.which old.read sofar.root lists seen_now l) (sym waits)
-          (sweep_after d.which old.read are.numbers sofar.root top f sofar.seen rest w sofar.front);
-      counted =
-          (λ i. sofar.counted i + step.counted i)
-          ∙ sym (count_after d.which old.read are.numbers sofar.root top f sofar.seen rest w
-          sofar.front);
-      turned =
-          let l = ap length waits ∙ length-append rest all in
-          let k = length-append rest (w ∷ []) in
-          let t = sofar.turned in
-          let s =
-          count_seen d.which old.read are.numbers sofar.root top f sofar.seen rest w sofar.front
-          in
-          omega (arith, l, k, t, s);
-    }
+    sweeping_turn =
+        grind (
+          arith,
+          nat_tests,
+          count_after,
+          count_seen,
+          length-append,
+          rows_after,
+          step,
+          sweep_after,
+          top,
+          waits,
+        )
 
 -- what is known after each turn
 abbrev pub sweeping : (d : Descent) (start : Node) → start.id ≡ d.start → d.reach ≡ All
@@ -192,59 +165,7 @@ module _ {S : Type 0} (k : Ghosts S)
   pub sweeps_from : (root : Node) (a b c : S) (r : Result Spread SpreadFault)
       → IsRead k.rows k.failures k.writes k.Follows k.IsTrusted a b (Ok root) HasNoRoot IsRootOf
       → SweepsIf k b c (IsRoot root) which r → Sweeps k a c which r
-  sweeps_from root a b c r found more = record {
-    follows = laws.on a b c found.follows more.follows;
-    written = written r more.written;
-    becomes = λ t. becomes r t (more.becomes (given t));
-    fault = cause r more.fault;
-  }
-    where
-      first : k.IsTrusted a c → k.IsTrusted a b
-      first t = laws.first a b c found.follows more.follows t
-
-      same : k.IsTrusted a c → k.rows b ≡ k.rows a
-      same t = found.same (first t)
-
-      given : k.IsTrusted a c → k.IsTrusted b c × IsRoot root (k.rows b)
-      given t = (
-        laws.last a b c found.follows more.follows t,
-        ap (λ (w : Rows). root_of w.read) (same t)
-            ∙ found.answers (first t),
-      )
-
-      written : (r : Result Spread SpreadFault)
-          → IfOk r (λ s. k.writes c ≡ capped (k.writes b + s.changed))
-          → IfOk r (λ s. k.writes c ≡ capped (k.writes a + s.changed))
-      written (Ok s) h = h ∙ ap (λ n. capped (n + s.changed)) found.unwritten
-      written (Err e) h = tt
-
-      becomes : (r : Result Spread SpreadFault) (t : k.IsTrusted a c)
-          → IfOk r (λ s. IsSwept which (k.rows b) (k.rows c) s.changed)
-          → IfOk r (λ s. IsSwept which (k.rows a) (k.rows c) s.changed)
-      becomes (Ok s) t h = subst (λ (w : Rows). IsSwept which w (k.rows c) s.changed) (same t) h
-      becomes (Err e) t h = tt
-
-      told : (e : SpreadFault)
-          → HasSpreadCause (k.failures b) (k.failures c)
-          (λ at. k.IsTrusted b c × IsRoot root (k.rows b) → IsUnreadable (k.rows b) at)
-          (k.IsTrusted b c × IsRoot root (k.rows b) → ⊥) e
-          → HasSpreadCause (k.failures a) (k.failures c)
-          (λ at. k.IsTrusted a c → HasNoRoot (k.rows a) at) (k.IsTrusted a c → ⊥) e
-      told (Keeper f) h =
-          later_cause (k.failures a) (k.failures b) (k.failures c) f _ _
-          (laws.rise a b found.follows) (laws.rise b c more.follows)
-          (λ at damaged t. inl (ap (λ (w : Rows). is_unreadable w at) (sym (same t))
-          ∙ damaged (given t))) h
-      told Loop h = λ t. h (given t)
-
-      cause : (r : Result Spread SpreadFault)
-          → IfErr r (HasSpreadCause (k.failures b) (k.failures c)
-          (λ at. k.IsTrusted b c × IsRoot root (k.rows b) → IsUnreadable (k.rows b) at)
-          (k.IsTrusted b c × IsRoot root (k.rows b) → ⊥))
-          → IfErr r (HasSpreadCause (k.failures a) (k.failures c)
-          (λ at. k.IsTrusted a c → HasNoRoot (k.rows a) at) (k.IsTrusted a c → ⊥))
-      cause (Ok s) h = tt
-      cause (Err e) h = told e h
+  sweeps_from root a b c r found more = grind (arith, nat_tests, later_cause)
 
   -- the root wasn't read
   pub no_root_read : (a b : S) (e : KeepFault)

@@ -5,7 +5,7 @@ use Rattle.std.proofs.Common.{arith}
 use Rattle.std.specs.Prelude.{is_none, option_and_then}
 use Rattle.std.specs.List.{find, AllByRecursion as Each}
 use Rattle.std.specs.Option.{option_map, option_map_or}
-use Rattle.std.proofs.lemmas.Bool.{or_left, false≢true, eq-eqb, eqb-true}
+use Rattle.std.proofs.lemmas.Bool.{false≢true, eq-eqb}
 use Rattle.std.proofs.lemmas.Option.{same_Some}
 use Rattle.room_entry.specs.Ace.{Ace}
 use Rattle.room_entry.specs.declared.object.Which.{Which}
@@ -27,6 +27,7 @@ use Rattle.room_inherit.proofs.Outdated.{parent_found}
 use Rattle.room_inherit.proofs.Folders.{in_folder_is}
 use Rattle.room_inherit.proofs.Sweeping.{Sweep}
 use Rattle.room_rows.proofs.Lookups.{found_number, found_passes}
+use Rattle.std.proofs.lemmas.Bool.Decides.{nat_tests}
 
 -- what holds of each object holds of the one that is found
 each_find : (P : Node → Type 0) (test : Node → Bool) (nodes : List Node) (node : Node)
@@ -77,11 +78,7 @@ module _ (which : Which) (old : Content) (rises : is_rising (0 ∷ ids_of old.no
       (λ n there. there)) root_is
 
   pub root_top : root.parent ≡ None
-  root_top = on root.parent (found_passes (λ n. is_none n.parent) old.nodes root root_is)
-    where
-      on : (o : Option ℕ) → is_none o ≡ true → o ≡ None
-      on None is = refl
-      on (Some p) is = absurd (false≢true is)
+  root_top = grind (arith, nat_tests, found_passes)
 
   -- ---- the beginning
 
@@ -89,27 +86,7 @@ module _ (which : Which) (old : Content) (rises : is_rising (0 ∷ ids_of old.no
   seen_first n = n.id == root.id
 
   pub sweep_first : Sweep which old root (own_lists which) seen_first (root ∷ [])
-  sweep_first = record {
-    known = (
-      record {
-        base = root;
-        there = root_there;
-        is = sym (with_own which root);
-        seen_is = eq-eqb root.id root.id refl;
-      },
-      tt,
-    );
-    apart = (refl, tt);
-    came =
-        λ n there is. inl (one_object old.nodes n root there root_there (eqb-true n.id root.id is));
-    closed =
-        λ n p there there' folder has is.
-        inl (or_left (root.id == p.id) false
-        (eq-eqb root.id p.id (sym (eqb-true p.id root.id is))));
-    fresh = λ n there isnt. own_unchanged which n;
-    linked = λ n there changed. absurd (false≢true (sym (own_unchanged which n) ∙ changed));
-    from_root = eq-eqb root.id root.id refl;
-  }
+  sweep_first = grind (arith, nat_tests, one_object, own_unchanged, root_there, with_own)
 
   -- ---- the end
 

@@ -2,21 +2,20 @@
 use Rattle.std.proofs.Common.{◌≡◌, ℕ, ◌+◌, ◌≤◌, ◌==◌, Bool, true, false, cond, not, ◌&&◌, ◌||◌}
 use Rattle.std.proofs.Common.{List, [], ◌∷◌, ◌++◌, map, filter, length, Option, Some, None, refl}
 use Rattle.std.proofs.Common.{sym, ap, ◌∙◌, inl, inr, ◌⊎◌, arith}
-use Rattle.std.specs.Option.{option_map, option_map_or}
+use Rattle.std.specs.Option.{option_map_or}
 use Rattle.std.proofs.lemmas.Bool.{cases_Bool, and_from, and_parts, and_left, or_cases, or_parts}
-use Rattle.std.proofs.lemmas.Bool.{or_from, or_left, or_right, false≢true, eq-eqb, eqb-true}
+use Rattle.std.proofs.lemmas.Bool.{or_left, or_right, false≢true, eq-eqb, eqb-true}
 use Rattle.std.proofs.lemmas.Bool.{false_from_ne_true}
 use Rattle.std.specs.List.{AllByRecursion as Each}
 use Rattle.std.proofs.Math.Bool.{or-false}
 use Rattle.room_entry.specs.Ace.{Ace}
 use Rattle.room_entry.specs.Same.{same_entries}
-use Rattle.room_entry.specs.Valid.{is_document}
 use Rattle.room_entry.specs.declared.object.Which.{Which}
 use Rattle.room_rows.specs.declared.node.Node.{Node}
-use Rattle.room_rows.specs.Content.{Content, node_at, parent_of, has_parent, children_of, is_folder}
+use Rattle.room_rows.specs.Content.{Content, node_at, has_parent, children_of, is_folder}
 use Rattle.room_rows.specs.Content.{is_linked_in, is_rising, with_each}
 use Rattle.room_rows.specs.Finding.{find_id}
-use Rattle.room_rows.specs.Held.{held_of, is_linked}
+use Rattle.room_rows.specs.Held.{held_of}
 use Rattle.room_rows.specs.Keep.{with_inh}
 use Rattle.room_rows.specs.Pass.{pass}
 use Rattle.room_inherit.specs.Spread.{with_lists, is_changed}
@@ -37,6 +36,7 @@ use Rattle.room_inherit.proofs.Outdated as step
 use Rattle.room_inherit.proofs.Outdated.{parent_found, same_above, has_either, apart_join}
 use Rattle.room_inherit.proofs.Outdated.{apart_front, apart_last, has_last, base_of}
 use Rattle.room_rows.proofs.Frames.{parent_is}
+use Rattle.std.proofs.lemmas.Bool.Decides.{nat_tests}
 
 module _ (which : Which) (old : Content) (root : Node) where
   abbrev pub There : Node → Type 0
@@ -124,15 +124,7 @@ module _ (which : Which) (old : Content) (rises : is_rising (0 ∷ ids_of old.no
   seen_after n = seen n || child n
 
   unseen_child : (n : Node) → There which old root n → child n ≡ true → seen n ≡ false
-  unseen_child n there has = false_from_ne_true (seen n) (λ is. elim (front.came n there is) [
-    | inl same ↦ no_parent (sym top ∙ ap (λ (x : Node). x.parent) (sym same) ∙ parent_is w.id n has)
-    | inr c ↦
-        false≢true (sym c.taken ∙ ap (λ i. has_id i (rest ++ w ∷ []))
-        (same_above c.parent.id w.id n c.has has) ∙ has_last rest w)
-  ])
-    where
-      no_parent : None ≡ Some w.id → ⊥
-      no_parent e = cc
+  unseen_child n there has = grind (arith, nat_tests, has_id, has_last, parent_is, same_above)
 
   seen_apart : (n : Node) → There which old root n → seen n ≡ true → child n ≡ false
   seen_apart n there is =
@@ -160,9 +152,7 @@ module _ (which : Which) (old : Content) (rises : is_rising (0 ∷ ids_of old.no
 
   there_later : (n : Node) → There which old root n
       → node_at later (set which after n).id ≡ Some (set which after n)
-  there_later n there =
-      ap (λ i. find_id i (map (set which after) old.nodes)) (set_id which after n)
-      ∙ find_set which after n.id old.nodes ∙ ap (option_map (set which after)) there
+  there_later n there = grind (arith, nat_tests, find_set, set, set_id)
 
   abbrev pub kids : List Node
   kids = filter is_folder (children_of later w.id)
@@ -191,17 +181,11 @@ module _ (which : Which) (old : Content) (rises : is_rising (0 ∷ ids_of old.no
           on false = refl
 
   same_folder : (n : Node) → is_folder (brought_up which w n) ≡ is_folder n
-  same_folder n = on (is_outdated which w n)
-    where
-      on : (t : Bool) → is_folder (cond t (renewed_node which w n) n) ≡ is_folder n
-      on true = ap (λ k. not (is_document k)) (same_kind which (passed_to which w n) n)
-      on false = refl
+  same_folder n = grind (arith, nat_tests, same_kind)
 
   -- those of them that wait next
   pub kids_are : next_of All which w (children_of now w.id) ≡ kids
-  kids_are =
-      sym (filter_map is_folder is_folder (brought_up which w) same_folder (children_of now w.id))
-      ∙ ap (filter is_folder) all_are
+  kids_are = grind (arith, nat_tests, all_are, filter_map, same_folder)
 
   kids_has : (n : Node) → There which old root n → has_id n.id kids ≡ (child n && is_folder n)
   kids_has n there =
@@ -241,25 +225,14 @@ module _ (which : Which) (old : Content) (rises : is_rising (0 ∷ ids_of old.no
 
   rest_visits : (r : Node) → Visits which old root f seen r
       → Visits which old root after seen_after r
-  rest_visits r known = record {
-    base = known.base;
-    there = known.there;
-    is =
-        known.is ∙ ap (λ e. with_inh which e known.base)
-        (sym (keeps_seen known.base known.there known.seen_is));
-    seen_is = or_left (seen known.base) (child known.base) known.seen_is;
-  }
+  rest_visits r known = grind (arith, nat_tests, keeps_seen)
 
   rest_apart : (r : Node) → Visits which old root f seen r → has_id r.id kids ≡ false
-  rest_apart r known =
-      ap (λ i. has_id i kids) (ap (λ (n : Node). n.id) known.is ∙ set_id which f known.base)
-      ∙ no_kid known.base known.there (seen_apart known.base known.there known.seen_is)
+  rest_apart r known = grind (arith, nat_tests, has_id, no_kid, seen_apart, set_id)
 
   taken_on : (p : Node) → There which old root p → seen p ≡ true → has_id p.id rest ≡ false
       → has_id p.id (rest ++ kids) ≡ false
-  taken_on p there is none =
-      has_either p.id rest kids
-      ∙ or_from (has_id p.id rest) (has_id p.id kids) none (no_kid p there (seen_apart p there is))
+  taken_on p there is none = grind (arith, nat_tests, has_either, has_id, no_kid, seen_apart)
 
   abbrev Came : Node → Type 0
   Came n = (n ≡ root) ⊎ WasMet which old root after seen_after (rest ++ kids) n
@@ -273,17 +246,8 @@ module _ (which : Which) (old : Content) (rises : is_rising (0 ∷ ids_of old.no
   came_before : (n : Node) → There which old root n → seen n ≡ true → (n ≡ root)
       ⊎ WasMet which old root f seen (rest ++ w ∷ []) n → Came n
   came_before n there is (inl same) = inl same
-  came_before n there is (inr c) = inr (record {
-    parent = c.parent;
-    there = c.there;
-    has = c.has;
-    seen_is = or_left (seen c.parent) (child c.parent) c.seen_is;
-    taken =
-        taken_on c.parent c.there c.seen_is
-        (or_parts (has_id c.parent.id rest) (has_id c.parent.id (w ∷ []))
-        (sym (has_either c.parent.id rest (w ∷ [])) ∙ c.taken)).0;
-    agrees = λ link. keeps_seen n there is ∙ c.agrees link ∙ passed_on n c.parent c.there c.seen_is;
-  })
+  came_before n there is (inr c) =
+      grind (arith, nat_tests, has_either, has_id, keeps_seen, passed_on, taken_on)
 
   child_agrees : (n p : Node) → There which old root p → has_parent p.id n ≡ true
       → links which p n ≡ true → p.id ≡ w.id → after n ≡ passes which after p n
@@ -292,18 +256,7 @@ module _ (which : Which) (old : Content) (rises : is_rising (0 ∷ ids_of old.no
       (not_stale w0 (seen_apart w0 waits.there waits.seen_is))
 
   came_now : (n : Node) → child n ≡ true → Came n
-  came_now n has = inr (record {
-    parent = w0;
-    there = waits.there;
-    has = ap (λ i. has_parent i n) (sym w_id) ∙ has;
-    seen_is = or_left (seen w0) (child w0) waits.seen_is;
-    taken =
-        taken_on w0 waits.there waits.seen_is
-        (ap (λ i. has_id i rest) (sym w_id) ∙ apart_last rest w front.apart);
-    agrees =
-        λ link. child_agrees n w0 waits.there (ap (λ i. has_parent i n) (sym w_id) ∙ has) link
-        (sym w_id);
-  })
+  came_now n has = grind (arith, nat_tests, apart_last, child_agrees, has_id, taken_on, w_id, waits)
 
   abbrev Goal : Node → Node → Type 0
   Goal n p = (has_id p.id (rest ++ kids) ≡ true)
@@ -351,11 +304,7 @@ module _ (which : Which) (old : Content) (rises : is_rising (0 ∷ ids_of old.no
   ]
 
   linked_now : (n : Node) → stale n ≡ true → is_linked_in old which n ≡ true
-  linked_now n is =
-      let parts = step.stale_parts which f w w0 n is in
-      let above : parent_of old n ≡ Some w0 = parent_found old w0 n waits.there
-      (ap (λ i. has_parent i n) (sym w_id) ∙ parts.0) in
-      ap (λ o. is_linked (held_of which n) (option_map (held_of which) o)) above ∙ parts.1
+  linked_now n is = grind (arith, nat_tests, parent_found, w_id, waits)
 
   pub sweep_after : Sweep which old root after seen_after (rest ++ kids)
   sweep_after = record {

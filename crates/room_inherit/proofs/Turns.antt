@@ -1,9 +1,8 @@
 -- Turns of carrying lists down, as calls of a keeper.
 use Rattle.std.proofs.Common.{◌≡◌, ℕ, ◌+◌, ◌<◌, ◌≤◌, ◌^◌, List, [], ◌∷◌, ◌++◌, length, Result, Ok}
-use Rattle.std.proofs.Common.{Err, sym, ap, subst, ◌∙◌, arith}
+use Rattle.std.proofs.Common.{Err, subst, arith}
 use Rattle.room_rows.specs.declared.keep.Keep.{Ghosts}
 use Rattle.room_rows.specs.declared.node.Node.{Node}
-use Rattle.room_rows.specs.Counts.{capped_below}
 use Rattle.room_rows.specs.Keep.{IsUnreadable, capped, KeepLaws}
 use Rattle.room_rows.specs.Rows.{Rows, AreRows, numbers_of}
 use Rattle.room_rows.proofs.Steps.{later_cause}
@@ -14,6 +13,7 @@ use Rattle.room_inherit.specs.declared.outcome.Spread.{Spread}
 use Rattle.room_inherit.specs.declared.outcome.SpreadFault.{SpreadFault}
 use Rattle.room_inherit.specs.declared.outcome.SpreadFault.TheVariants.{Keeper, Loop}
 use Rattle.room_inherit.proofs.Calls.{capped_add}
+use Rattle.std.proofs.lemmas.Bool.Decides.{nat_tests}
 
 -- What is known of the rows after n turns, where these objects wait and this many lists are
 -- changed, and what follows from it.
@@ -55,26 +55,13 @@ module _ {S : Type 0} (k : Ghosts S)
         → progress.After turns waiting changed (k.rows a) (k.rows b)
 
   begins : (a : S) → Turned 0 (start ∷ []) 0 a a
-  begins a = record {
-    follows = laws.itself a;
-    written = sym (capped_below (k.writes a) (laws.ends a).1) ∙ ap capped (omega arith);
-    along = λ t is. progress.first (k.rows a) (laws.are a a t) is;
-  }
+  begins a = grind (arith, nat_tests)
 
   pub turned_on : (turns : ℕ) (rest : List Node) (w : Node) (changed number : ℕ) (next : List Node)
       (a b c : S) → Turned turns (rest ++ w ∷ []) changed a b
       → Visits k b c d w rest next (Ok number) → Turned (turns + 1) next (changed + number) a c
-  turned_on turns rest w changed number next a b c sofar visit = record {
-    follows = laws.on a b c sofar.follows visit.follows;
-    written =
-        visit.written ∙ (λ i. capped (sofar.written i + number))
-        ∙ capped_add (k.writes a + changed) number ∙ ap capped (omega arith);
-    along = λ t is.
-        let first = laws.first a b c sofar.follows visit.follows t in
-        progress.on turns rest w changed number next (k.rows a) (k.rows b) (k.rows c)
-        (laws.are a b first) (sofar.along first is)
-        (visit.becomes (laws.last a b c sofar.follows visit.follows t));
-  }
+  turned_on turns rest w changed number next a b c sofar visit =
+      grind (arith, nat_tests, capped_add)
 
   pub first_turn : (number : ℕ) (before next : List Node) (a b : S) → before ≡ []
       → Visits k a b d start before next (Ok number) → Turned 1 next number a b

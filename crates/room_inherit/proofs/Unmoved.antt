@@ -1,28 +1,25 @@
 -- Objects that are changed, but stay in their places and of their kinds.
-use Rattle.std.proofs.Common.{◌≡◌, ℕ, zero, suc, Bool, true, false, cond, not, ◌&&◌, ◌||◌, List, []}
-use Rattle.std.proofs.Common.{◌∷◌, map, filter, length, Option, Some, None, nat_lt, refl, ap, ◌∙◌}
-use Rattle.std.specs.Prelude.{is_none, option_and_then}
-use Rattle.std.specs.List.{list_all, list_any}
+use Rattle.std.proofs.Common.{◌≡◌, ℕ, zero, suc, Bool, true, false, not, ◌&&◌, List, [], ◌∷◌, map}
+use Rattle.std.proofs.Common.{filter, Option, Some, None, refl, ap, ◌∙◌, arith}
+use Rattle.std.specs.List.{list_all}
 use Rattle.std.specs.Option.{option_map, option_map_or}
 use Rattle.std.proofs.lemmas.Bool.{not-false, not-true, or_from, or_parts}
 use Rattle.std.proofs.lemmas.List.{length-map}
-use Rattle.room_entry.specs.Pieces.{same_text}
-use Rattle.room_entry.specs.Valid.{is_document}
 use Rattle.room_entry.proofs.Facts.Lists.{all_implied}
 use Rattle.room_entry.proofs.Facts.Members.{any_map}
 use Rattle.room_rows.specs.declared.node.Node.{Node}
-use Rattle.room_rows.specs.Content.{Content, body_of, has_folder_above, is_folder, is_root, node_at}
-use Rattle.room_rows.specs.Content.{parent_of, reaches_root, same_parent, with_each}
+use Rattle.room_rows.specs.Content.{Content, body_of, has_folder_above, is_root, node_at, parent_of}
+use Rattle.room_rows.specs.Content.{reaches_root, with_each}
 use Rattle.room_rows.specs.Keep.{with_content}
-use Rattle.room_rows.specs.Paths.{is_object_name}
 use Rattle.room_rows.specs.Rows.{Rows, is_unreadable, numbers_of}
 use Rattle.room_rows.proofs.InPlace.{KeepsPlaces, keeps_places, node_at-with_each}
 use Rattle.room_rows.proofs.InPlace.{numbers-with_each, numbers_of-reading, parent_of-with_each}
 use Rattle.room_rows.proofs.Lookups.{found_number}
 use Rattle.room_rows.proofs.SamePlace.{IsSamePlace, filter-changed}
 use Rattle.room_rows.specs.Sound.{AreSound, bad_root, fits_kind, has_bad_list, has_sound_body}
-use Rattle.room_rows.specs.Sound.{has_sound_lists, has_sound_name, keeps_law, reaches, same_place}
+use Rattle.room_rows.specs.Sound.{has_sound_lists, has_sound_name, keeps_law, reaches}
 use Rattle.room_inherit.proofs.NoFault.{IsChecked, sound}
+use Rattle.std.proofs.lemmas.Bool.Decides.{nat_tests}
 
 -- a test of all changed objects says what a test of all objects said before the change
 pub all_map : (p q : Node → Bool) (g : Node → Node) → ((n : Node) → p (g n) ≡ q n)
@@ -47,9 +44,7 @@ module _ (rows : Content) (change : Node → Node)
   -- the parent of a changed object is the parent that it had, changed
   pub above : (node : Node)
       → parent_of changed (change node) ≡ option_map change (parent_of rows node)
-  above node =
-      ap (option_and_then (node_at changed)) (place node).parent
-      ∙ parent_of-with_each rows change places node
+  above node = grind (arith, nat_tests, parent_of-with_each, places)
 
   -- in at most n steps, parents lead to the root after the change exactly if they did before
   pub reach : (n : ℕ) (id : Option ℕ) → reaches_root n changed id ≡ reaches_root n rows id
@@ -70,21 +65,11 @@ module _ (rows : Content) (change : Node → Node)
 
   -- a changed object's parents reach the root, in as many steps as objects, exactly if they did
   pub reach_all : (node : Node) → reaches changed (change node) ≡ reaches rows node
-  reach_all node =
-      ap (λ n. reaches_root n changed (change node).parent) (length-map rows.nodes change)
-      ∙ reach (length rows.nodes) (change node).parent
-      ∙ ap (reaches_root (length rows.nodes) rows) (place node).parent
+  reach_all node = grind (arith, nat_tests, length-map, reach)
 
   -- a changed object has a sound name exactly if it had one
   named : (node : Node) → has_sound_name changed (change node) ≡ has_sound_name rows node
-  named node =
-      ap (λ t. is_root (change node) || (is_object_name (change node).name && not t))
-      (any_map (λ (other : Node). nat_lt other.id (change node).id
-      && same_place other (change node)) change rows.nodes)
-      ∙ (λ i. is_none ((place node).parent i) || (is_object_name ((place node).name i)
-      && not (list_any (λ (other : Node). nat_lt ((place other).number i) ((place node).number i)
-      && (same_parent ((place other).parent i) ((place node).parent i)
-      && same_text ((place other).name i) ((place node).name i))) rows.nodes)))
+  named node = grind (arith, nat_tests, any_map)
 
   -- ---- where no kind changes either
 
@@ -92,14 +77,7 @@ module _ (rows : Content) (change : Node → Node)
     -- a changed object stands in a folder exactly if it did before
     pub folder_above : (node : Node)
         → has_folder_above changed (change node) ≡ has_folder_above rows node
-    folder_above node =
-        (λ i. is_none ((place node).parent i) || option_map_or is_folder (above node i) false)
-        ∙ ap (λ t. is_root node || t) (on (parent_of rows node))
-      where
-        on : (o : Option Node)
-            → option_map_or is_folder (option_map change o) false ≡ option_map_or is_folder o false
-        on None = refl
-        on (Some parent) = ap (λ kind. not (is_document kind)) (kinds parent)
+    folder_above node = grind (arith, nat_tests, above)
 
     -- a changed object has the bytes that it is to have exactly if it had
     bodied : (node : Node) → has_sound_body changed (change node) ≡ has_sound_body rows node
@@ -107,16 +85,7 @@ module _ (rows : Content) (change : Node → Node)
 
     -- the root is good exactly if it was
     rooted : bad_root (filter is_root changed.nodes) ≡ bad_root (filter is_root rows.nodes)
-    rooted =
-        ap bad_root
-        (filter-changed change is_root (λ a b same. ap is_none same.parent) rows.nodes places)
-        ∙ on (filter is_root rows.nodes)
-      where
-        on : (roots : List Node) → bad_root (map change roots) ≡ bad_root roots
-        on [] = refl
-        on (root ∷ []) =
-            λ i. cond (not (is_document (kinds root i))) None (Some ((place root).number i))
-        on (root ∷ other ∷ others) = λ i. Some ((place other).number i)
+    rooted = grind (arith, nat_tests, filter-changed, places)
 
 -- ---- rows
 

@@ -1,9 +1,8 @@
 -- One step upward.
-use Rattle.std.proofs.Common.{◌≡◌, ℕ, suc, ◌<◌, ◌+◌, ◌-◌, ◌==◌, Bool, true, false, cond, List, []}
-use Rattle.std.proofs.Common.{◌∷◌, ◌++◌, length, reverse, Option, Some, refl, sym, ap, subst, ◌∙◌}
-use Rattle.std.proofs.Common.{arith, append_assoc}
+use Rattle.std.proofs.Common.{◌≡◌, ℕ, suc, ◌<◌, ◌+◌, ◌-◌, Bool, true, cond, List, [], ◌∷◌, ◌++◌}
+use Rattle.std.proofs.Common.{length, reverse, Option, Some, sym, ap, subst, ◌∙◌, arith}
+use Rattle.std.proofs.Common.{append_assoc}
 use Rattle.std.specs.Ordering.{nat_cmp, is_eq}
-use Rattle.std.proofs.lemmas.Bool.{eqb-true}
 use Rattle.std.specs.Option.{option_map_or}
 use Rattle.std.proofs.lemmas.List.{reverse-append}
 use Rattle.room_rows.specs.declared.node.Node.{Node}
@@ -12,6 +11,7 @@ use Rattle.room_inherit.specs.Objects.{AllLead, leads}
 use Rattle.room_rows.specs.Sound.{names_up}
 use Rattle.room_inherit.proofs.Enough.{enough_steps}
 use Rattle.room_inherit.proofs.Given.{numbers_equal}
+use Rattle.std.proofs.lemmas.Bool.Decides.{nat_tests}
 
 -- the name of the object, after those of its parent
 pub one_up : (count step : ℕ) (rows : Content) (node parent : Node) (names more : List (List ℕ))
@@ -33,17 +33,12 @@ one_up count step rows node parent names more below above pushed =
 module _ (rows : Content) (above : Option ℕ) (id : ℕ) (parent : Node) (is : above ≡ Some id)
     (found : node_at rows id ≡ Some parent) where
   up_one : (n : ℕ) → reaches_root (suc n) rows above ≡ reaches_root n rows parent.parent
-  up_one n =
-      ap (reaches_root (suc n) rows) is
-      ∙ ap (λ o. option_map_or (λ (q : Node). reaches_root n rows q.parent) o false) found
+  up_one n = grind (arith, nat_tests)
 
   pub way_left : (count step : ℕ) → step < count
       → reaches_root (count - (step + 1)) rows parent.parent
       ≡ reaches_root (count - step) rows above
-  way_left count step below =
-      sym (up_one (count - (step + 1)))
-      ∙ ap (λ n. reaches_root n rows above)
-      (let e : suc (count - (step + 1)) ≡ count - step = omega (arith, below) in e)
+  way_left count step below = grind (arith, nat_tests, up_one)
 
   pub way_longer : (m step : ℕ) (first : Option ℕ)
       → ((n : ℕ) → reaches_root n rows above ≡ true → reaches_root (n + step) rows first ≡ true)
@@ -55,19 +50,10 @@ module _ (rows : Content) (above : Option ℕ) (id : ℕ) (parent : Node) (is : 
   pub way_above : (count step : ℕ) → step < count → count ≡ length rows.nodes
       → reaches_root count rows above ≡ true
       → reaches_root (length rows.nodes) rows parent.parent ≡ true
-  way_above count step below all up =
-      enough_steps rows (count - 1) parent.parent
-      (sym (up_one (count - 1))
-      ∙ ap (λ n. reaches_root n rows above)
-      (let e : suc (count - 1) ≡ count = omega (arith, below) in e) ∙ up)
+  way_above count step below all up = grind (arith, nat_tests, enough_steps, up_one)
 
 -- one more number that leads to the root
 pub leads_too : (nodes : List Node) (id : ℕ) (old new : ℕ → Bool) → AllLead nodes old
     → leads nodes id ≡ true → ((q : ℕ) → new q ≡ cond (is_eq (nat_cmp id q)) true (old q))
     → AllLead nodes new
-leads_too nodes id old new lead here adds q has =
-    on (id == q) refl (sym (adds q ∙ ap (λ t. cond t true (old q)) (numbers_equal id q)) ∙ has)
-  where
-    on : (t : Bool) → (id == q) ≡ t → cond t true (old q) ≡ true → leads nodes q ≡ true
-    on true same has = ap (leads nodes) (sym (eqb-true id q same)) ∙ here
-    on false other has = lead q has
+leads_too nodes id old new lead here adds q has = grind (arith, nat_tests, numbers_equal)

@@ -1,7 +1,7 @@
 -- All rows, read number by number.
-use Rattle.std.proofs.Common.{◌≡◌, ℕ, ◌<◌, ◌+◌, ◌==◌, ◌||◌, Bool, true, false, cond, List, [], ◌∷◌}
-use Rattle.std.proofs.Common.{◌++◌, length, get_or, drop, Some, None, nat_lt, refl, sym, ap, ◌∙◌}
-use Rattle.std.proofs.Common.{inl, inr, append_assoc, map}
+use Rattle.std.proofs.Common.{◌≡◌, ℕ, ◌<◌, ◌+◌, ◌==◌, ◌||◌, Bool, true, false, List, [], ◌∷◌, ◌++◌}
+use Rattle.std.proofs.Common.{length, get_or, drop, Some, None, refl, sym, ap, ◌∙◌, inl, inr}
+use Rattle.std.proofs.Common.{append_assoc, map, arith}
 use Rattle.std.specs.Prelude.{is_some}
 use Rattle.std.specs.List.{find, list_any, filter_map, cons_option}
 use Rattle.std.proofs.lemmas.Bool.{cases_Bool, false≢true, eqb-true, eq-eqb, or_left, or_right}
@@ -17,6 +17,7 @@ use Rattle.room_inherit.specs.Reading.{IsBadAt, IsUnused}
 use Rattle.room_rows.specs.Sound.{first_bad_list, has_bad_list}
 use Rattle.room_inherit.proofs.Numbers.{ids_of, each_found}
 use Rattle.room_rows.proofs.Sets.{or_swap}
+use Rattle.std.proofs.lemmas.Bool.Decides.{nat_tests}
 
 -- ---- numbers in use
 
@@ -27,13 +28,7 @@ or_group false b c = refl
 among_one_more : (new : ℕ) (ids : List ℕ) (id : ℕ)
     → is_among (put_number new ids) id ≡ ((new == id) || is_among ids id)
 among_one_more new [] id = refl
-among_one_more new (x ∷ xs) id = on (nat_lt x new) (among_one_more new xs id)
-  where
-    on : (t : Bool) → is_among (put_number new xs) id ≡ ((new == id) || is_among xs id)
-        → is_among (cond t (x ∷ put_number new xs) (new ∷ x ∷ xs)) id
-        ≡ ((new == id) || ((x == id) || is_among xs id))
-    on true rest = ap (λ t. (x == id) || t) rest ∙ or_swap (x == id) (new == id) (is_among xs id)
-    on false rest = refl
+among_one_more new (x ∷ xs) id = grind (arith, nat_tests, or_swap, among_one_more new xs id)
 
 among_numbers : (more ids : List ℕ) (id : ℕ)
     → is_among (put_numbers more ids) id ≡ (is_among more id || is_among ids id)
@@ -46,13 +41,7 @@ among_numbers (x ∷ xs) ids id =
 pub among_found : (nodes : List Node) (id : ℕ)
     → is_among (ids_of nodes) id ≡ is_some (find (λ (n : Node). n.id == id) nodes)
 among_found [] id = refl
-among_found (x ∷ xs) id = on (x.id == id) (among_found xs id)
-  where
-    on : (t : Bool) → is_among (ids_of xs) id ≡ is_some (find (λ (n : Node). n.id == id) xs)
-        → (t || is_among (ids_of xs) id)
-        ≡ is_some (cond t (Some x) (find (λ (n : Node). n.id == id) xs))
-    on true rest = refl
-    on false rest = rest
+among_found (x ∷ xs) id = grind (arith, nat_tests, ids_of, among_found xs id)
 
 -- a number that is listed is in use
 pub not_free : (rows : Rows) (ids : List ℕ) (i : ℕ) (row : ℕ) → ids ≡ numbers_of rows
@@ -81,12 +70,7 @@ any_at test (x ∷ xs) id among passes =
 
 pub none_found : (test : ℕ → Bool) (ids : List ℕ) → find test ids ≡ None → list_any test ids ≡ false
 none_found test [] none = refl
-none_found test (x ∷ xs) none = on (test x) (none_found test xs) none
-  where
-    on : (t : Bool) → (find test xs ≡ None → list_any test xs ≡ false)
-        → cond t (Some x) (find test xs) ≡ None → (t || list_any test xs) ≡ false
-    on true rest none = absurd (let wrong : ⊥ = cc in wrong)
-    on false rest none = rest none
+none_found test (x ∷ xs) none = grind (arith, nat_tests, none_found test xs)
 
 pub all_read : (rows : Rows) (unreadable : List Unread) → rows.unreadable ≡ unreadable
     → first_bad_list rows ≡ None → unreadable ≡ []

@@ -1,16 +1,17 @@
 -- Calls of a keeper one after the other, in the form in which a request is carried out.
-use Rattle.std.proofs.Common.{◌≡◌, ℕ, ◌+◌, ◌≤◌, Result, Ok, Err, IfOk, IfErr, length, refl, sym}
-use Rattle.std.proofs.Common.{subst}
+use Rattle.std.proofs.Common.{◌≡◌, ℕ, ◌+◌, ◌≤◌, Result, Ok, Err, IfOk, IfErr, length, sym, subst}
+use Rattle.std.proofs.Common.{arith}
 use Rattle.std.specs.Result.{IsErrAnd}
 use Rattle.room_rows.specs.declared.keep.KeepFault.{KeepFault}
 use Rattle.room_rows.specs.declared.keep.KeepFault.TheVariants.{Memory, Store, Damaged}
-use Rattle.room_rows.specs.Keep.{HasCause, IfSeen, IsRead, IsWriteOf, KeepLaws, writes_after}
+use Rattle.room_rows.specs.Keep.{HasCause, IsRead, IsWriteOf, KeepLaws, writes_after}
 use Rattle.room_rows.specs.Rows.{Rows, AreRows}
 use Rattle.room_rows.proofs.Steps.{later_cause}
 use Rattle.room_judge.specs.Extent.{Extent, OnlyRecords, UpTo, StaysWithin, Unsaid, unrecorded}
 use Rattle.room_judge.specs.Judged.{IsDone}
 use Rattle.room_judge.proofs.Within.{within_after, within_any, within_later, within_same}
 use Rattle.room_judge.proofs.Within.{written_up_to}
+use Rattle.std.proofs.lemmas.Bool.Decides.{nat_tests}
 
 -- calls that each answered, and what became of the rows
 pub record HasDone {S : Type 0} (rows : S → Rows) (writes : S → ℕ)
@@ -29,22 +30,7 @@ module _ {S : Type 0} {rows : S → Rows} {failures writes : S → ℕ}
       → IsDone rows failures writes Follows IsTrusted (λ _. OnlyRecords) a b r Blames
       (λ old x new. Answers old x × (new ≡ old))
   of_read {X = X} {a = a} {b = b} {r = r} {Answers = Answers} read =
-      record {
-        follows = read.follows;
-        becomes = λ t. both r (read.answers t) (read.same t);
-        few = λ t. kept r (read.same t);
-        fault = read.fault;
-      }
-    where
-      both : (r : Result X KeepFault) → IfOk r (Answers (rows a)) → IfSeen r (rows b ≡ rows a)
-          → IfOk r (λ x. Answers (rows a) x × (rows b ≡ rows a))
-      both (Ok x) answers same = (answers, same)
-      both (Err e) answers same = tt
-
-      kept : (r : Result X KeepFault) → IfSeen r (rows b ≡ rows a)
-          → IfOk r (λ _. StaysWithin rows writes OnlyRecords a b)
-      kept (Ok x) same = within_same rows writes a b same read.unwritten
-      kept (Err e) same = tt
+      grind (arith, nat_tests, within_same)
 
   -- a call that writes, with what it made of the rows and the cause of its fault; and this many
   -- writes suffice
@@ -128,12 +114,7 @@ module _ {S : Type 0} {rows : S → Rows} {failures writes : S → ℕ}
     -- before the first call the rows are as they were
     pub none_done : (a : S)
         → HasDone rows writes Follows IsTrusted OnlyRecords a a (λ old new. new ≡ old)
-    none_done a =
-        record {
-          follows = laws.itself a;
-          becomes = λ t. refl;
-          few = λ t. within_same rows writes a a refl refl;
-        }
+    none_done a = grind (arith, nat_tests, within_same)
 
     -- calls that answered and more that did are one run, with what both made of the rows joined;
     -- the first ones write only records
@@ -142,17 +123,7 @@ module _ {S : Type 0} {rows : S → Rows} {failures writes : S → ℕ}
         → HasDone rows writes Follows IsTrusted extent b c After
         → ((old mid new : Rows) → Before old mid → After mid new → Becomes old new)
         → HasDone rows writes Follows IsTrusted extent a c Becomes
-    then {a = a} {b = b} {c = c} before after joins = record {
-      follows = laws.on a b c before.follows after.follows;
-      becomes =
-          λ t. joins (rows a) (rows b) (rows c)
-          (before.becomes (laws.first a b c before.follows after.follows t))
-          (after.becomes (laws.last a b c before.follows after.follows t));
-      few =
-          λ t. within_after rows writes _ a b c
-          (before.few (laws.first a b c before.follows after.follows t))
-          (after.few (laws.last a b c before.follows after.follows t));
-    }
+    then {a = a} {b = b} {c = c} before after joins = grind (arith, nat_tests, within_after)
 
     -- the same for rows with their numbers in order
     pub then_known : {extent : Extent} {a b c : S} {Before After Becomes : Rows → Rows → Type 0}
@@ -160,17 +131,7 @@ module _ {S : Type 0} {rows : S → Rows} {failures writes : S → ℕ}
         → HasDone rows writes Follows IsTrusted extent b c After
         → ((old mid new : Rows) → AreRows old → Before old mid → After mid new → Becomes old new)
         → HasDone rows writes Follows IsTrusted extent a c Becomes
-    then_known {a = a} {b = b} {c = c} before after joins = record {
-      follows = laws.on a b c before.follows after.follows;
-      becomes =
-          λ t. joins (rows a) (rows b) (rows c) (laws.are a c t)
-          (before.becomes (laws.first a b c before.follows after.follows t))
-          (after.becomes (laws.last a b c before.follows after.follows t));
-      few =
-          λ t. within_after rows writes _ a b c
-          (before.few (laws.first a b c before.follows after.follows t))
-          (after.few (laws.last a b c before.follows after.follows t));
-    }
+    then_known {a = a} {b = b} {c = c} before after joins = grind (arith, nat_tests, within_after)
 
     -- what was found shows a row to be damaged
     pub damaged : {Y : Type 0} {first : Extent} {extent : Y → Extent} {a c : S} {id : ℕ}
@@ -180,13 +141,7 @@ module _ {S : Type 0} {rows : S → Rows} {failures writes : S → ℕ}
         → ((old new : Rows) → AreRows old → Before old new → Blames old id)
         → IsDone rows failures writes Follows IsTrusted {X = Y} extent a c (Err (Damaged id)) Blames
         Becomes
-    damaged {a = a} {c = c} before blames =
-        record {
-          follows = before.follows;
-          becomes = λ t. tt;
-          few = λ t. tt;
-          fault = λ t. blames (rows a) (rows c) (laws.are a c t) (before.becomes t);
-        }
+    damaged {a = a} {c = c} before blames = grind (arith, nat_tests)
 
     -- all have answered, and written only records
     pub finish : {X : Type 0} {extent : X → Extent} {a c : S} (x : X)
@@ -195,13 +150,7 @@ module _ {S : Type 0} {rows : S → Rows} {failures writes : S → ℕ}
         → HasDone rows writes Follows IsTrusted OnlyRecords a c Before
         → ((old new : Rows) → AreRows old → Before old new → Becomes old x new)
         → IsDone rows failures writes Follows IsTrusted extent a c (Ok x) Blames Becomes
-    finish {extent = extent} {a = a} {c = c} x before joins =
-        record {
-          follows = before.follows;
-          becomes = λ t. joins (rows a) (rows c) (laws.are a c t) (before.becomes t);
-          few = λ t. within_any rows writes (extent x) a c (before.few t);
-          fault = tt;
-        }
+    finish {extent = extent} {a = a} {c = c} x before joins = grind (arith, nat_tests, within_any)
 
     -- the last call gives the answer, or the fault
     pub tail : {X : Type 0} {extent : X → Extent} {a b c : S} {r : Result X KeepFault}
@@ -328,11 +277,4 @@ module _ {S : Type 0} {rows : S → Rows} {failures writes : S → ℕ}
         → IsErrAnd r (λ x. x ≡ Memory)
         → IsDone rows failures writes Follows IsTrusted extent a b r Blames Becomes
     memory before (Ok y) is = absurd is
-    memory {a = a} {b = b} {Blames = Blames} before (Err f) is = record {
-      follows = before.follows;
-      becomes = λ t. tt;
-      few = λ t. tt;
-      fault =
-          subst (HasCause (failures a) (failures b) (λ at. IsTrusted a b → Blames (rows a) at))
-          (sym is) tt;
-    }
+    memory {a = a} {b = b} {Blames = Blames} before (Err f) is = grind (arith, nat_tests)

@@ -1,7 +1,7 @@
 -- Requests that were judged by the stored lists.
-use Rattle.std.proofs.Common.{◌≡◌, ℕ, Bool, true, false, List, [], ◌∷◌, ◌++◌, Option, Some, None}
-use Rattle.std.proofs.Common.{refl, sym, ap, subst, ◌∙◌, inl, inr}
-use Rattle.std.specs.Prelude.{IsTrue, is_some, ◌||◌, if◌then◌else◌}
+use Rattle.std.proofs.Common.{◌≡◌, ℕ, Bool, true, false, List, [], ◌∷◌, Option, Some, None, refl}
+use Rattle.std.proofs.Common.{sym, subst, arith}
+use Rattle.std.specs.Prelude.{if◌then◌else◌}
 use Rattle.room_entry.specs.declared.parties.Caller.{Caller}
 use Rattle.room_eval.specs.declared.outcome.Verdict.{Verdict}
 use Rattle.room_eval.specs.declared.outcome.Verdict.TheVariants.{Granted, Denied as DeniedWith}
@@ -27,6 +27,7 @@ use Rattle.room_machine.specs.Stored.{stored_along, stored_plan}
 use Rattle.room_machine.specs.Changed.{IsChanged}
 use Rattle.room_machine.specs.Closed.{IsShown, only_reads, failure_told}
 use Rattle.room_judge.specs.Closed.{IsClosed}
+use Rattle.std.proofs.lemmas.Bool.Decides.{nat_tests}
 
 -- a reply that is told as a failure
 abbrev IsTold : Option Reply → Type 0
@@ -71,52 +72,20 @@ module _ (asker : Asker) (request : Request) (old : Rows) (reply : Reply) where
   pub closed_failed : (new : Rows)
       → IsJudged asker (stored_plan old.read request) old (Some reply) new
       → IsClosed asker request old reply new
-  closed_failed new judged =
-      let told = is_told asker.caller (stored_plan old.read request) reply judged.answers in
-      record {
-        judged = inl (sym judged.answers ∙ sym told);
-        records = ap (λ (r : Rows). r.read.audits) judged.notes;
-        unchanged = λ _. judged.notes;
-        shown = λ none. absurd (some_none (sym told ∙ none));
-        changed = λ none. absurd (some_none (sym told ∙ none));
-      }
-    where
-      some_none : Some reply ≡ None → ⊥
-      some_none is = cc
+  closed_failed new judged = grind (arith, nat_tests, is_told)
 
   -- none fails, and a removal is refused for a row that can't be read
   pub closed_more : (new : Rows) (path : List (List ℕ)) (target : Site)
       → IsJudged asker (stored_plan old.read request) old None new → request ≡ Remove path
       → site_at (stored_along old.read path) path ≡ Some target → reply ≡ Refused path NotEmpty
       → (old.unreadable ≡ [] → ⊥) → IsClosed asker request old reply new
-  closed_more new path target judged asked found refused unread = record {
-    judged = inr (record {
-      path = path;
-      asked = asked;
-      refused = (target, found, refused);
-      passes = sym judged.answers;
-      unread = unread;
-    });
-    records = ap (λ (r : Rows). r.read.audits) judged.notes;
-    unchanged = λ _. judged.notes;
-    shown = λ none. absurd (some_none (sym (ap failure_told refused) ∙ none));
-    changed = λ none. absurd (some_none (sym (ap failure_told refused) ∙ none));
-  }
-    where
-      some_none : Some (Refused path NotEmpty) ≡ None → ⊥
-      some_none is = cc
+  closed_more new path target judged asked found refused unread = grind (arith, nat_tests)
 
   -- none fails, and nothing but records is changed
   pub closed_asked : (new : Rows) → IsJudged asker (stored_plan old.read request) old None new
       → failure_told reply ≡ None → IsShown old asker.caller request reply
       → IsChanged old asker.caller request old.read → IsClosed asker request old reply new
-  closed_asked new judged none shown still = record {
-    judged = inl (sym judged.answers ∙ sym none);
-    records = ap (λ (r : Rows). r.read.audits) judged.notes;
-    unchanged = λ _. judged.notes;
-    shown = λ _. shown;
-    changed = λ _. (old.read, still, judged.notes);
-  }
+  closed_asked new judged none shown still = grind (arith, nat_tests)
 
   -- none fails, and the content becomes this one, with the records of the plan
   pub closed_done : (mid new : Rows)
@@ -126,18 +95,4 @@ module _ (asker : Asker) (request : Request) (old : Rows) (reply : Reply) where
       (records_of_plan asker.caller asker.moment (stored_plan old.read request))
       → IsShown old asker.caller request reply → IsChanged old asker.caller request next
       → IsClosed asker request old reply new
-  closed_done mid new judged writes none next same becomes shown changes = record {
-    judged = inl (sym judged.answers ∙ sym none);
-    records = ap (λ (r : Rows). r.read.audits) becomes
-        ∙ ap (λ audits. audits
-        ++ records_of_plan asker.caller asker.moment (stored_plan old.read request)) same;
-    unchanged = λ asks. absurd (never (only_reads request) (failure_told reply) writes none asks);
-    shown = λ _. shown;
-    changed = λ _. (next, changes, becomes);
-  }
-    where
-      never : (asks : Bool) (told : Option Reply) → asks ≡ false → told ≡ None
-          → IsTrue (asks || is_some told) → ⊥
-      never true told writes none changes = absurd (let wrong : ⊥ = cc in wrong)
-      never false (Some r) writes none changes = absurd (let wrong : ⊥ = cc in wrong)
-      never false None writes none changes = absurd (let wrong : ⊥ = cc in wrong)
+  closed_done mid new judged writes none next same becomes shown changes = grind (arith, nat_tests)

@@ -18,14 +18,13 @@ use Rattle.room_machine.specs.declared.reply.Reply.{Reply}
 use Rattle.room_machine.specs.declared.reply.Reply.TheVariants.{Refused}
 use Rattle.room_machine.specs.declared.reply.Reason.{Reason}
 use Rattle.room_machine.specs.declared.reply.Reason.TheVariants.{NoSuch}
-use Rattle.room_machine.specs.Site.{Site, site_at, front, last_name}
+use Rattle.room_machine.specs.Site.{Site, front, last_name}
 use Rattle.room_machine.specs.Plan.{Item, Refusal, way, where_found}
 use Rattle.room_machine.specs.Judge.{first_failure, or_else, records_of_plan}
 use Rattle.room_machine.specs.Stored.{stored_site, stored_along, to_stored}
 use Rattle.room_judge.specs.Stored.{found_site}
 use Rattle.room_judge.specs.Halted.{both_with}
 use Rattle.room_judge.specs.Judged.{IsJudged, IsReached, child_below, name_after, through}
-use Rattle.room_judge.specs.Judged.{with_notes}
 use Rattle.room_judge.specs.Spot.{IsPaired, IsSpotted, SpotsUnder, spot_of}
 use Rattle.room_judge.proofs.Judging.{failure_of_parts, records_of_parts, fails_first, passes_first}
 use Rattle.room_judge.proofs.Judging.{refuses, passes_on, judged_none}
@@ -33,6 +32,7 @@ use Rattle.room_judge.proofs.Ways.{plain_way}
 use Rattle.room_judge.proofs.Spots.{below_of, missing, last_look, stem, way_along, folder_along}
 use Rattle.room_judge.proofs.Spots.{folder_found, target_found, folder_path, path_parts, take_front}
 use Rattle.room_judge.proofs.Spots.{name_is_last}
+use Rattle.std.proofs.lemmas.Bool.Decides.{nat_tests}
 
 -- ---- the folder of the last name
 
@@ -42,13 +42,7 @@ module _ (asker : Asker) (path : List (List ℕ)) (from : Found) where
       → IsJudged asker (through (found_site path from)) old None mid
       → child ≡ child_below path from mid → new ≡ mid
       → SpotsUnder asker path from old (spot_of from child) new
-  spot_found old mid new child judged is same = record {
-    judged =
-        subst (λ (r : Rows). IsJudged asker (through (found_site path from)) old None r)
-        (sym same) judged;
-    folder = refl;
-    child = is ∙ ap (λ (r : Rows). child_below path from r) judged.notes;
-  }
+  spot_found old mid new child judged is same = grind (arith, nat_tests)
 
 -- ---- a last refusal that can't hold
 
@@ -69,19 +63,12 @@ module _ (asker : Asker) (items : List Item) (path : List (List ℕ)) (why : Rea
 
   same_records : records_of_plan asker.caller asker.moment (items ++ Refusal path why false ∷ [])
       ≡ records_of_plan asker.caller asker.moment items
-  same_records =
-      records_of_parts asker.caller asker.moment items (Refusal path why false ∷ [])
-      ∙ ap (λ l. records_of_plan asker.caller asker.moment items ++ l)
-      (nothing (is_none (first_failure asker.caller items))) ∙ append-nil _
+  same_records = grind (arith, nat_tests, append-nil, nothing, records_of_parts)
 
   without_last : (old new : Rows) (answer : Option Reply)
       → IsJudged asker (items ++ Refusal path why false ∷ []) old answer new
       → IsJudged asker items old answer new
-  without_last old new answer judged =
-      record {
-        answers = judged.answers ∙ same_failure;
-        notes = judged.notes ∙ ap (with_notes old) same_records;
-      }
+  without_last old new answer judged = grind (arith, nat_tests, same_failure, same_records)
 
 -- ---- the whole way
 
@@ -90,13 +77,7 @@ module _ (asker : Asker) (path : List (List ℕ)) (some : 0 < length path) where
   way_to_front : (old : Rows)
       → to_stored old.read (front path) (λ _. [])
       ≡ way false (stored_along old.read (front path)) (front path)
-  way_to_front old =
-      ap (λ items. way false (stored_along old.read (front path)) (front path) ++ items)
-      (none_there (site_at (stored_along old.read (front path)) (front path))) ∙ append-nil _
-    where
-      none_there : (o : Option Site) → where_found o (λ _. []) ≡ []
-      none_there None = refl
-      none_there (Some site) = refl
+  way_to_front old = grind (arith, nat_tests, append-nil)
 
   -- a walk that ended before it came to the folder bars the spot with its reply
   pub spot_ends : (old new : Rows) (reply : Reply)
@@ -128,9 +109,7 @@ module _ (asker : Asker) (path : List (List ℕ)) (some : 0 < length path) where
 
     stem_is : stem old.read path ≡ way false (stored_along old.read (front path)) (front path)
         ++ through (found_site path from)
-    stem_is =
-        ap (λ o. way false (stored_along old.read (front path)) (front path)
-        ++ where_found o through) at_folder
+    stem_is = grind (arith, nat_tests, at_folder)
 
     stem_judged : (new : Rows) (answer : Option Reply)
         → IsJudged asker (through (found_site path from)) mid answer new
@@ -144,10 +123,7 @@ module _ (asker : Asker) (path : List (List ℕ)) (some : 0 < length path) where
 
     look_is : last_look old.read true path
         ≡ Refusal ((found_site path from).path ++ last_name path ∷ []) NoSuch false ∷ []
-    look_is =
-        ap (λ o. where_found o (λ site. missing old.read true (last_name path) site ∷ [])) at_folder
-        ∙ ap (λ t. Refusal ((found_site path from).path ++ last_name path ∷ []) NoSuch t ∷ [])
-        (and-false (is_none (child_of old.read node.id (last_name path))))
+    look_is = grind (arith, nat_tests, and-false, at_folder, missing)
 
     -- a walk that came to the folder has the spot that is found there, barred or not
     pub spot_on : (new : Rows) (outcome : Result Under Reply)
@@ -263,18 +239,10 @@ module _ (asker : Asker) (path : List (List ℕ)) (some : 0 < length path) where
 
     -- nothing in that folder has the last name exactly if the spot has no child
     pub lacks : is_none (child_of old.read folder.node.id (last_name path)) ≡ is_none child
-    lacks = missing_is child
-        (ap (λ p. option_map (stored_site p) (child_of old.read folder.node.id (last_name path)))
-        (sym whole)
-        ∙ ap (option_and_then (below_of old.read (last_name path))) (sym folder_is)
-        ∙ sym (target_found old.read path some) ∙ spotted.child)
+    lacks = grind (arith, nat_tests, below_of, folder_is, missing_is, target_found, whole)
 
     look_says : last_look old.read false path ≡ Refusal path NoSuch (is_none child && true) ∷ []
-    look_says =
-        ap (λ o. where_found o (λ s. missing old.read false (last_name path) s ∷ [])) folder_is
-        ∙ ap (λ (p : List (List ℕ)). Refusal p NoSuch
-        (is_none (child_of old.read folder.node.id (last_name path)) && true) ∷ []) whole
-        ∙ ap (λ t. Refusal path NoSuch (t && true) ∷ []) lacks
+    look_says = grind (arith, nat_tests, folder_is, lacks, missing, whole)
 
     -- after the spot, to judge whether the last name is there is to have judged the whole way
     pub way_looks : (answer : Option Reply)
@@ -315,9 +283,7 @@ pub spotted_child : (asker : Asker) (path : List (List ℕ)) (folder : Found)
     (child other : Option Node) (old new : Rows) → child ≡ other
     → IsSpotted asker path old (spot_of folder child) new
     → IsSpotted asker path old (spot_of folder other) new
-spotted_child asker path folder child other old new same spotted =
-    subst (λ (o : Option Node).
-    IsSpotted asker path old (spot_of folder o) new) same spotted
+spotted_child asker path folder child other old new same spotted = grind (arith, nat_tests)
 
 module _ (asker : Asker) (path : List (List ℕ)) (depth : ℕ) (deep : length path ≡ depth + 1) where
   some : 0 < length path
@@ -327,9 +293,7 @@ module _ (asker : Asker) (path : List (List ℕ)) (depth : ℕ) (deep : length p
   walked_front : (outcome : Result Node Reply) (old new : Rows)
       → IsReached asker (take depth path) (λ _. []) old outcome new
       → IsReached asker (front path) (λ _. []) old outcome new
-  walked_front outcome old new reached =
-      subst (λ (p : List (List ℕ)). IsReached asker p (λ _. []) old outcome new)
-      (take_front path depth deep) reached
+  walked_front outcome old new reached = grind (arith, nat_tests, take_front)
 
   -- a walk that ended before the folder
   pub spot_barred : (old new : Rows) (reply : Reply)

@@ -1,5 +1,5 @@
 -- Calls that may be refused, one after the other.
-use Rattle.std.proofs.Common.{◌≡◌, ℕ, Some, Result, Ok, Err, refl, sym, subst}
+use Rattle.std.proofs.Common.{◌≡◌, ℕ, Some, Result, Ok, Err, refl, sym, subst, arith}
 use Rattle.std.specs.Result.{IsErrAnd}
 use Rattle.room_rows.specs.declared.keep.KeepFault.{KeepFault}
 use Rattle.room_rows.specs.declared.keep.KeepFault.TheVariants.{Memory}
@@ -12,6 +12,7 @@ use Rattle.room_judge.proofs.Calls.{HasDone, done, fails, finish, memory, none_d
 use Rattle.room_judge.specs.declared.halt.Halt.{Halt}
 use Rattle.room_judge.specs.declared.halt.Halt.TheVariants.{Refused, Fault}
 use Rattle.room_judge.specs.Halted.{Comes, Refuses, replied, reply_of, settled}
+use Rattle.std.proofs.lemmas.Bool.Decides.{nat_tests}
 
 module _ {S : Type 0} {rows : S → Rows} {failures writes : S → ℕ}
     {Follows IsTrusted : S → S → Type 0}
@@ -20,12 +21,7 @@ module _ {S : Type 0} {rows : S → Rows} {failures writes : S → ℕ}
   known : {extent : Extent} {a b : S} {Before : Rows → Rows → Type 0}
       → HasDone rows writes Follows IsTrusted extent a b Before
       → HasDone rows writes Follows IsTrusted extent a b (λ old new. AreRows old × Before old new)
-  known {a = a} {b = b} before =
-      record {
-        follows = before.follows;
-        becomes = λ t. (laws.are a b t, before.becomes t);
-        few = before.few;
-      }
+  known {a = a} {b = b} before = grind (arith, nat_tests)
 
   -- a call is refused or has a fault, which is handed on
   pub halts : {X Y : Type 0} {extent : Result Y Reply → Extent} {a b c : S} (e : Halt)
@@ -79,10 +75,7 @@ module _ {S : Type 0} {rows : S → Rows} {failures writes : S → ℕ}
       → (r : Result Y Halt) → IsErrAnd r (λ x. x ≡ e)
       → IsDone rows failures writes Follows IsTrusted extent a c (settled r) Blames' Becomes
   halts_first {a = a} e {Blames = Blames} {After = After} after blames refuses r is =
-      halts e (none_done laws a) after
-      (λ old mid row are same h. blames old row (subst (λ (o : Rows). Blames o row) same h))
-      (λ old mid new reply are same h.
-      refuses old new reply are (subst (λ (o : Rows). After o (Err reply) new) same h)) r is
+      grind (arith, nat_tests, halts, none_done)
 
   -- a call of a keeper has a fault, which is handed on
   pub faults : {X Y : Type 0} {first : Extent} {last : X → Extent}
@@ -117,9 +110,7 @@ module _ {S : Type 0} {rows : S → Rows} {failures writes : S → ℕ}
       → IsDone rows failures writes Follows IsTrusted extent a b (settled {X = Y} (Err h)) Blames
       Becomes
   refused_as {Becomes = Becomes} before (Refused reply) wanted is becomes =
-      let same : wanted ≡ reply = cc in
-      finish laws (Err reply) before (λ old new are b.
-      subst (λ (r : Reply). Becomes old (Err r) new) same (becomes old new are b))
+      grind (arith, nat_tests, finish)
   refused_as before (Fault fault) wanted is becomes = memory laws before (Err fault) is
 
   -- memory ran out after them
@@ -146,11 +137,9 @@ module _ {S : Type 0} {rows : S → Rows} {failures writes : S → ℕ}
       → Comes r wanted → ((old new : Rows) → AreRows old → Before old new → Becomes old wanted new)
       → IsDone rows failures writes Follows IsTrusted extent a b (settled r) Blames Becomes
   comes_to {X = X} {Becomes = Becomes} before (Ok x) wanted is becomes =
-      finish laws (Ok x) before (λ old new are b.
-      subst (λ (o : Result X Reply). Becomes old o new) (sym is) (becomes old new are b))
+      grind (arith, nat_tests, finish)
   comes_to {X = X} {Becomes = Becomes} before (Err (Refused reply)) wanted is becomes =
-      finish laws (Err reply) before (λ old new are b.
-      subst (λ (o : Result X Reply). Becomes old o new) (sym is) (becomes old new are b))
+      grind (arith, nat_tests, finish)
   comes_to before (Err (Fault fault)) wanted is becomes = memory laws before (Err fault) is
 
   -- a refusal is a reply

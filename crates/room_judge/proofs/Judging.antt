@@ -1,6 +1,6 @@
 -- Items that are judged as they come, one after the other.
 use Rattle.std.proofs.Common.{◌≡◌, ℕ, ℤ, Bool, true, false, cond, List, [], ◌∷◌, ◌++◌, Option, Some}
-use Rattle.std.proofs.Common.{None, refl, sym, ap, subst, ◌∙◌, append_assoc}
+use Rattle.std.proofs.Common.{None, refl, sym, ap, subst, ◌∙◌, append_assoc, arith}
 use Rattle.std.proofs.lemmas.List.{append-nil}
 use Rattle.std.specs.Prelude.{is_none}
 use Rattle.room_entry.specs.declared.parties.Caller.{Caller}
@@ -15,6 +15,7 @@ use Rattle.room_machine.specs.Plan.{Item, Refusal}
 use Rattle.room_machine.specs.Judge.{failure, passes, or_else, first_failure, records_of_checks}
 use Rattle.room_machine.specs.Judge.{checks_of, records_of_plan}
 use Rattle.room_judge.specs.Judged.{IsJudged, with_notes}
+use Rattle.std.proofs.lemmas.Bool.Decides.{nat_tests}
 
 -- ---- records after records
 
@@ -43,9 +44,7 @@ module _ (caller : Caller) (moment : ℤ) where
       ≡ or_else (first_failure caller items) (first_failure caller others)
   failure_of_parts [] others = refl
   failure_of_parts (item ∷ items) others =
-      ap (or_else (failure caller item)) (failure_of_parts items others)
-      ∙ or_else_group (failure caller item) (first_failure caller items)
-      (first_failure caller others)
+      grind (arith, nat_tests, or_else_group, failure_of_parts items others)
 
   -- the records of a second part are added where the first passes
   pub records_of_parts : (items others : List Item)
@@ -86,41 +85,13 @@ module _ (asker : Asker) where
   pub refuses : (path : List (List ℕ)) (why : Reason) (holds : Bool) (items : List Item)
       (old new : Rows) (reply : Reply) → reply ≡ Refused path why → holds ≡ true → new ≡ old
       → IsJudged asker (Refusal path why holds ∷ items) old (Some reply) new
-  refuses path why holds items old new reply replies is same = record {
-    answers =
-        ap (λ (r : Reply). Some r) replies
-        ∙ ap (λ t. or_else (cond t (Some (Refused path why)) None)
-        (first_failure asker.caller items)) (sym is);
-    notes =
-        same ∙ sym (noted_none old)
-        ∙ ap
-        (λ t. with_notes old
-        (cond (is_none (refusal t)) (records_of_plan asker.caller asker.moment items)
-        [])) (sym is);
-  }
-    where
-      refusal : Bool → Option Reply
-      refusal t = cond t (Some (Refused path why)) None
+  refuses path why holds items old new reply replies is same = grind (arith, nat_tests, noted_none)
 
   -- a refusal that does not hold leaves the answer and the records of the items after it
   pub passes_on : (path : List (List ℕ)) (why : Reason) (holds : Bool) (items : List Item)
       (old new : Rows) (answer : Option Reply) → holds ≡ false → IsJudged asker items old answer new
       → IsJudged asker (Refusal path why holds ∷ items) old answer new
-  passes_on path why holds items old new answer isnt judged = record {
-    answers =
-        judged.answers
-        ∙ ap (λ t. or_else (cond t (Some (Refused path why)) None)
-        (first_failure asker.caller items)) (sym isnt);
-    notes =
-        judged.notes
-        ∙ ap
-        (λ t. with_notes old
-        (cond (is_none (refusal t)) (records_of_plan asker.caller asker.moment items)
-        [])) (sym isnt);
-  }
-    where
-      refusal : Bool → Option Reply
-      refusal t = cond t (Some (Refused path why)) None
+  passes_on path why holds items old new answer isnt judged = grind (arith, nat_tests)
 
   -- what fails in a first part is the answer
   pub fails_first : (items others : List Item) (old new : Rows) (reply : Reply)
@@ -174,12 +145,7 @@ module _ (asker : Asker) where
   -- the items that are left may be written as another list that is equal
   pub so_far_as : (all rest others : List Item) (old mid : Rows) → rest ≡ others
       → SoFar asker all rest old mid → SoFar asker all others old mid
-  so_far_as all rest others old mid same sofar =
-      record {
-        front = sofar.front;
-        parts = sofar.parts ∙ ap (λ items. sofar.front ++ items) same;
-        judged = sofar.judged;
-      }
+  so_far_as all rest others old mid same sofar = grind (arith, nat_tests)
 
   -- where the next of the items that are left pass, only those after them are left
   pub so_far_on : (all items rest : List Item) (old mid new : Rows)

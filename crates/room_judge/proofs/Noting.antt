@@ -1,7 +1,7 @@
 -- The records of a check, noted one after the other.
 use Rattle.std.proofs.Common.{◌≡◌, ℕ, zero, suc, ◌<◌, ◌≤◌, ◌+◌, Bool, true, false, cond, List, []}
-use Rattle.std.proofs.Common.{◌∷◌, ◌++◌, map, length, take, get_or, sym, ap, subst, ◌∙◌, arith}
-use Rattle.std.proofs.Common.{Result, Ok, Err, IfOk, length-append}
+use Rattle.std.proofs.Common.{◌∷◌, ◌++◌, map, length, take, get_or, sym, ap, ◌∙◌, arith, Result, Ok}
+use Rattle.std.proofs.Common.{Err, IfOk, length-append}
 use Rattle.std.proofs.lemmas.List.{take_more, map-append}
 use Rattle.std.proofs.Math.Seq.{take-length}
 use Rattle.room_entry.specs.Ace.{Ace}
@@ -20,6 +20,7 @@ use Rattle.room_judge.specs.Extent.{OnlyRecords, StaysWithin, unrecorded}
 use Rattle.room_judge.specs.Judged.{IsDone, with_notes}
 use Rattle.room_judge.proofs.Judging.{noted_none, noted_more}
 use Rattle.room_judge.proofs.Within.{written_up_to}
+use Rattle.std.proofs.lemmas.Bool.Decides.{nat_tests}
 
 -- ---- places count from 1
 
@@ -45,9 +46,7 @@ pub from_one : (sacl : List Ace) (caller : Caller) (owners : Owners) (asked : Li
     (granted : Bool) (places : List ℕ) (i : ℕ)
     → places ≡ events_of sacl caller owners asked granted → i < length places
     → 0 < get_or places i 0
-from_one sacl caller owners asked granted places i are below =
-    subst (λ (list : List ℕ). i < length list → 0 < get_or list i 0) (sym are)
-    (λ inside. omega (arith, from_place 1 sacl caller owners asked granted i inside)) below
+from_one sacl caller owners asked granted places i are below = grind (arith, nat_tests, from_place)
 
 -- ---- one record after another
 
@@ -71,9 +70,7 @@ pub note_placed : (asker : Asker) (granted : Bool) (site : Site) (bits : List �
     → row ≡ record_for asker granted site bits (get_or places i 0)
     → places ≡ events_of (full_at Sacl site) asker.caller site.node.owners bits granted
     → 0 < row.place
-note_placed asker granted site bits places i row below is are =
-    subst (λ (r : AuditRow). 0 < r.place) (sym is)
-    (from_one (full_at Sacl site) asker.caller site.node.owners bits granted places i are below)
+note_placed asker granted site bits places i row below is are = grind (arith, nat_tests, from_one)
 
 pub notes_one : (asker : Asker) (granted : Bool) (site : Site) (bits : List ℕ) (places : List ℕ)
     (i : ℕ) (row : AuditRow) (old now next : Rows) → i < length places

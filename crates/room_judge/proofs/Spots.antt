@@ -13,6 +13,7 @@ use Rattle.room_machine.specs.Site.{Site, site_at, parent_at, front, last_name}
 use Rattle.room_machine.specs.Plan.{Item, Refusal, way, where_found}
 use Rattle.room_machine.specs.Stored.{stored_site, stored_from, stored_along}
 use Rattle.room_judge.specs.Judged.{name_after, through}
+use Rattle.std.proofs.lemmas.Bool.Decides.{nat_tests}
 
 -- ---- a path and its last name
 
@@ -43,17 +44,11 @@ module _ (path : List (List ℕ)) (depth : ℕ) (deep : length path ≡ depth + 
 
   -- in a path of depth + 1 names, the first `depth` names are all but the last
   pub take_front : take depth path ≡ front path
-  take_front =
-      ap (λ (n : ℕ). take n path) depth_is
-      ∙ ap (λ (l : List (List ℕ)). take (length (front path)) l) (sym parts)
-      ∙ take-append_seam (front path) (last_name path ∷ [])
+  take_front = grind (arith, nat_tests, depth_is, parts, take-append_seam)
 
   -- the name that comes after `depth` others is the last name of such a path
   pub name_is_last : name_after path depth ≡ last_name path
-  name_is_last =
-      ap (λ (n : ℕ). name_after path n) depth_is
-      ∙ ap (λ (l : List (List ℕ)). name_after l (length (front path))) (sym parts)
-      ∙ get_or-append_seam (front path) (last_name path) [] []
+  name_is_last = grind (arith, nat_tests, depth_is, get_or-append_seam, parts)
 
 -- ---- what the folder of the last name has by that name
 
@@ -234,30 +229,12 @@ module _ (rows : Content) where
       → site_at (stored_along rows path) path
       ≡ option_and_then (below_of (last_name path)) (folder_along path)
   target_found [] some = absurd (let wrong : ⊥ = omega arith in wrong)
-  target_found (name ∷ names) some = on (root_of rows)
-    where
-      on : (o : Option Node)
-          → site_at (option_map_or (λ root. stored_from rows [] root (name ∷ names)) o [])
-          (name ∷ names)
-          ≡ option_and_then (below_of (last_name (name ∷ names)))
-          (site_at (option_map_or (λ root. stored_from rows [] root (front (name ∷ names))) o [])
-          (front (name ∷ names)))
-      on None = refl
-      on (Some root) = target_from names [] name root
+  target_found (name ∷ names) some = grind (arith, nat_tests, target_from)
 
   -- the folder of the last name has the names before it as its path
   pub folder_path : (path : List (List ℕ)) (site : Site) → folder_along path ≡ Some site
       → site.path ≡ front path
-  folder_path path site is =
-      on (root_of rows) (λ root found. site_path_from (front path) [] root site found) is
-    where
-      on : (o : Option Node)
-          → ((root : Node) → site_at (stored_from rows [] root (front path)) (front path)
-          ≡ Some site → site.path ≡ front path)
-          → site_at (option_map_or (λ root. stored_from rows [] root (front path)) o [])
-          (front path) ≡ Some site → site.path ≡ front path
-      on None rest is = absurd (let wrong : ⊥ = cc in wrong)
-      on (Some root) rest is = rest root is
+  folder_path path site is = grind (arith, nat_tests, site_path_from)
 
   -- the way to the folder of the last name, and through it
   abbrev pub stem : List (List ℕ) → List Item

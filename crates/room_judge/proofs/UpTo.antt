@@ -9,6 +9,7 @@ use Rattle.room_judge.specs.Extent.{unrecorded}
 use Rattle.room_judge.specs.Judged.{IsDone}
 use Rattle.room_judge.proofs.Calls.{HasDone, done, fails, tail_known, then_known}
 use Rattle.room_judge.proofs.Within.{within_any}
+use Rattle.std.proofs.lemmas.Bool.Decides.{nat_tests}
 
 -- What suffices for two calls is shared by them.
 pub record Share (First Second : Rows → Rows → ℕ → Type 0) (old mid new : Rows)
@@ -27,23 +28,13 @@ module _ {S : Type 0} {rows : S → Rows} {failures writes : S → ℕ}
       → ((more : ℕ) → Suffices (unrecorded (rows a)) (unrecorded (rows c)) more
       → Share First Second (rows a) (rows b) (rows c) more)
       → StaysWithin rows writes (UpTo Suffices) a c
-  both_within First Second Suffices a b c first second shares more enough =
-      let share = shares more enough in
-      let few = first share.first share.suffices_first in
-      let others = second share.second share.suffices_second in
-      let fits = share.fits in
-      omega arith
+  both_within First Second Suffices a b c first second shares more enough = grind (arith, nat_tests)
 
   -- nothing is said any more of how much they write
   pub unsaid : {extent : Extent} {a b : S} {Before : Rows → Rows → Type 0}
       → HasDone rows writes Follows IsTrusted extent a b Before
       → HasDone rows writes Follows IsTrusted (UpTo Unsaid) a b Before
-  unsaid before =
-      record {
-        follows = before.follows;
-        becomes = before.becomes;
-        few = λ t more never. absurd never;
-      }
+  unsaid before = grind (arith, nat_tests)
 
   -- all have answered, and written no more than suffices
   pub finish_up_to : {X : Type 0} {extent : X → Extent} {a c : S} (x : X)
@@ -52,13 +43,7 @@ module _ {S : Type 0} {rows : S → Rows} {failures writes : S → ℕ}
       → HasDone rows writes Follows IsTrusted (extent x) a c Before
       → ((old new : Rows) → AreRows old → Before old new → Becomes old x new)
       → IsDone rows failures writes Follows IsTrusted extent a c (Ok x) Blames Becomes
-  finish_up_to {a = a} {c = c} x before joins =
-      record {
-        follows = before.follows;
-        becomes = λ t. joins (rows a) (rows c) (laws.are a c t) (before.becomes t);
-        few = before.few;
-        fault = tt;
-      }
+  finish_up_to {a = a} {c = c} x before joins = grind (arith, nat_tests)
 
   served_within : (told : Option Reply) (Enough Suffices : Rows → Rows → ℕ → Type 0) (a c : S)
       → ((more : ℕ) → Suffices (unrecorded (rows a)) (unrecorded (rows c)) more
@@ -134,17 +119,7 @@ module _ {S : Type 0} {rows : S → Rows} {failures writes : S → ℕ}
       → IsDone rows failures writes Follows IsTrusted (λ _. OnlyRecords) a b r Blames Becomes
       → IsDone rows failures writes Follows IsTrusted extent a b r Blames Becomes
   widened {X = X} {extent = extent} {a = a} {b = b} {r = r} call =
-      record {
-        follows = call.follows;
-        becomes = call.becomes;
-        few = λ t. on r (call.few t);
-        fault = call.fault;
-      }
-    where
-      on : (r : Result X KeepFault) → IfOk r (λ _. StaysWithin rows writes OnlyRecords a b)
-          → IfOk r (λ x. StaysWithin rows writes (extent x) a b)
-      on (Ok x) few = within_any rows writes (extent x) a b few
-      on (Err e) few = tt
+      grind (arith, nat_tests, within_any)
 
   -- calls that write more than records, and others that do
   pub then_share : {a b c : S} {First Second Suffices : Rows → Rows → ℕ → Type 0}
@@ -199,6 +174,4 @@ module _ {S : Type 0} {rows : S → Rows} {failures writes : S → ℕ}
       → HasDone rows writes Follows IsTrusted last b c After
       → ((old mid new : Rows) → Before old mid → After mid new → Becomes old new)
       → HasDone rows writes Follows IsTrusted (UpTo Unsaid) a c Becomes
-  then_unsaid before after joins =
-      then_share (unsaid before) (unsaid after) joins
-      (λ old mid new more are b a never. absurd never)
+  then_unsaid before after joins = grind (arith, nat_tests, then_share, unsaid)

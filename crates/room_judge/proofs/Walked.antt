@@ -1,20 +1,16 @@
 -- A walk, step after step, and from the root.
-use Rattle.std.proofs.Common.{◌≡◌, ℕ, ◌<◌, ◌≤◌, ◌+◌, List, [], ◌∷◌, ◌++◌, length, take, Some, refl}
-use Rattle.std.proofs.Common.{Result, Ok, Err, IfOk, sym, ap, subst, ◌∙◌, arith}
-use Rattle.std.specs.Prelude.{is_none}
+use Rattle.std.proofs.Common.{◌≡◌, ℕ, ◌<◌, ◌≤◌, ◌+◌, List, [], length, take, Some, refl, Result, Ok}
+use Rattle.std.proofs.Common.{Err, sym, subst, ◌∙◌, arith}
 use Rattle.std.proofs.lemmas.List.{take-take, get_or-take, length-take-le}
 use Rattle.room_rows.specs.declared.node.Node.{Node}
-use Rattle.room_rows.specs.Content.{child_of, root_of}
+use Rattle.room_rows.specs.Content.{root_of}
 use Rattle.room_rows.specs.Rows.{Rows}
 use Rattle.room_judge.specs.declared.arrival.Found.{Found}
 use Rattle.room_judge.specs.declared.asker.Asker.{Asker}
 use Rattle.room_machine.specs.declared.reply.Reply.{Reply}
-use Rattle.room_machine.specs.declared.reply.Reason.TheVariants.{NoSuch}
-use Rattle.room_machine.specs.Plan.{Item, Refusal}
-use Rattle.room_machine.specs.Stored.{stored_site}
-use Rattle.room_judge.specs.Judged.{FromRoot, IsJudged, IsStepDown, IsReached, name_after}
-use Rattle.room_judge.specs.Judged.{refusal_of, through}
+use Rattle.room_judge.specs.Judged.{FromRoot, IsStepDown, IsReached}
 use Rattle.room_judge.proofs.Ways.{IsOnWay, way_begins, way_done, way_ends, way_goes_on}
+use Rattle.std.proofs.lemmas.Bool.Decides.{nat_tests}
 
 -- ---- a walk, step after step
 
@@ -23,24 +19,7 @@ step_of_front : (asker : Asker) (path : List (List ℕ)) (n : ℕ) (from : Found
     (outcome : Result Node Reply) → from.depth < n → IsStepDown asker path from old outcome new
     → IsStepDown asker (take n path) from old outcome new
 step_of_front asker path n from old new outcome below step =
-    let begin : take from.depth path ≡ take from.depth (take n path) =
-    sym (take-take from.depth n path (omega arith)) in
-    let named : name_after path from.depth ≡ name_after (take n path) from.depth =
-    sym (get_or-take n path from.depth [] below) in
-    record {
-      judged =
-          subst (λ list. IsJudged asker list old (refusal_of outcome) new)
-          (ap (λ p. items p (name_after path from.depth)) begin
-          ∙ ap (items (take from.depth (take n path))) named) step.judged;
-      found =
-          subst (λ name. IfOk outcome (λ next. child_of old.read from.node.id name ≡ Some next))
-          named step.found;
-    }
-  where
-    items : List (List ℕ) → List ℕ → List Item
-    items begin name =
-        through (stored_site begin from.node)
-        ++ Refusal (begin ++ name ∷ []) NoSuch (is_none (child_of old.read from.node.id name)) ∷ []
+    grind (arith, nat_tests, get_or-take, take-take)
 
 module _ (asker : Asker) (path : List (List ℕ)) (n : ℕ) (within : n ≤ length path) where
   size : length (take n path) ≡ n
@@ -89,6 +68,4 @@ pub reached_from : (asker : Asker) (path : List (List ℕ)) (root : Node)
     (outcome : Result Node Reply) (old mid new : Rows) → root_of old.read ≡ Some root → mid ≡ old
     → FromRoot root (IsReached asker path (λ _. [])) mid outcome new
     → IsReached asker path (λ _. []) old outcome new
-reached_from asker path root outcome old mid new is same reached =
-    subst (λ (r : Rows). IsReached asker path (λ _. []) r outcome new) same
-    (reached (ap (λ (r : Rows). root_of r.read) same ∙ is))
+reached_from asker path root outcome old mid new is same reached = grind (arith, nat_tests)

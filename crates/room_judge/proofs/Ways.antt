@@ -1,7 +1,7 @@
 -- The way to an object, one step after the other.
-use Rattle.std.proofs.Common.{◌≡◌, ℕ, ◌<◌, ◌+◌, false, not, ◌&&◌, List, [], ◌∷◌, ◌++◌, length, take}
-use Rattle.std.proofs.Common.{drop, get_or, Option, Some, None, Result, Ok, Err, refl, sym, ap}
-use Rattle.std.proofs.Common.{subst, ◌∙◌}
+use Rattle.std.proofs.Common.{◌≡◌, ℕ, ◌<◌, ◌+◌, false, List, [], ◌∷◌, ◌++◌, length, take, drop}
+use Rattle.std.proofs.Common.{get_or, Option, Some, None, Result, Ok, Err, refl, sym, ap, subst}
+use Rattle.std.proofs.Common.{◌∙◌, arith}
 use Rattle.std.specs.Prelude.{is_none}
 use Rattle.std.specs.Option.{option_map_or}
 use Rattle.std.proofs.lemmas.List.{append-nil, take_more, drop_more, get_or_read}
@@ -19,9 +19,9 @@ use Rattle.room_machine.specs.Plan.{Item, Refusal, way, where_found}
 use Rattle.room_machine.specs.Stored.{stored_site, stored_from, stored_along, to_stored}
 use Rattle.room_judge.specs.Stored.{found_site}
 use Rattle.room_judge.specs.Judged.{IsJudged, IsStepDown, IsReached, name_after, through}
-use Rattle.room_judge.proofs.Judging.{SoFar, fails_first, passes_first, judged_none}
-use Rattle.room_judge.proofs.Judging.{so_far_none, so_far_as, so_far_on, so_far_fails}
-use Rattle.room_judge.proofs.Judging.{so_far_last}
+use Rattle.room_judge.proofs.Judging.{SoFar, fails_first, passes_first, judged_none, so_far_none}
+use Rattle.room_judge.proofs.Judging.{so_far_as, so_far_on, so_far_fails, so_far_last}
+use Rattle.std.proofs.lemmas.Bool.Decides.{nat_tests}
 
 -- ---- one step
 
@@ -62,20 +62,7 @@ way_down : (rows : Content) (path : List (List ℕ)) (node : Node) (name : List 
     ++ Refusal (path ++ name ∷ []) NoSuch (is_none (child_of rows node.id name)) ∷ [])
     ++ option_map_or (λ child. way false (stored_from rows (path ++ name ∷ []) child names) names)
     (child_of rows node.id name) []
-way_down rows path node name names = on (child_of rows node.id name)
-  where
-    on : (o : Option Node)
-        → way false (stored_site path node ∷ option_map_or
-        (λ child. stored_from rows (path ++ name ∷ []) child names) o []) (name ∷ names)
-        ≡ (through (stored_site path node) ++ Refusal (path ++ name ∷ []) NoSuch (is_none o) ∷ [])
-        ++ option_map_or
-        (λ child. way false (stored_from rows (path ++ name ∷ []) child names) names) o []
-    on None = refl
-    on (Some child) =
-        ap (λ t. through (stored_site path node)
-        ++ Refusal (path ++ name ∷ []) NoSuch (t && not (false && is_empty names))
-        ∷ way false (stored_from rows (path ++ name ∷ []) child names) names)
-        (not_empty rows (path ++ name ∷ []) child names)
+way_down rows path node name names = grind (arith, nat_tests, not_empty)
 
 -- n steps are done: what is left of the way begins at this object, and the target is looked up from
 -- there.
@@ -105,24 +92,12 @@ module _ (asker : Asker) (path : List (List ℕ)) where
 
   -- a path with no items at its target is judged by the way to it alone
   pub plain_way : (old : Rows) → to_stored old.read path (λ _. []) ≡ all_of old
-  plain_way old =
-      ap (λ items. all_of old ++ items) (nothing_there (site_at (stored_along old.read path) path))
-      ∙ append-nil (all_of old)
+  plain_way old = grind (arith, nat_tests, append-nil, nothing_there)
 
   -- at the root no step is done, and the whole way is left
   pub way_begins : (node : Node) (old now : Rows) → root_of old.read ≡ Some node → now ≡ old
       → IsOnWay asker path (record { node = node; depth = 0 }) old now
-  way_begins node old now is same =
-      let along : stored_along old.read path ≡ stored_from old.read [] node path = ap
-      (λ o. option_map_or (λ root. stored_from old.read [] root path) o []) is in
-      record {
-        so_far =
-            so_far_as asker (all_of old) (all_of old)
-            (way false (stored_from old.read [] node path) path) old now
-            (ap (λ sites. way false sites path) along)
-            (so_far_none asker (all_of old) old now same);
-        found = ap (λ sites. site_at sites path) along;
-      }
+  way_begins node old now is same = grind (arith, nat_tests, so_far_as, so_far_none)
 
   module _ (from : Found) (below : from.depth < length path) where
     abbrev next_name : List ℕ
@@ -150,9 +125,7 @@ module _ (asker : Asker) (path : List (List ℕ)) where
     way_here : (old : Rows)
         → way false (stored_from old.read (take from.depth path) from.node (drop from.depth path))
         (drop from.depth path) ≡ step_items old ++ items_below old
-    way_here old =
-        ap (λ names. way false (stored_from old.read (take from.depth path) from.node names) names)
-        here ∙ way_down old.read (take from.depth path) from.node next_name names_left
+    way_here old = grind (arith, nat_tests, here, way_down)
 
     -- the step starts from the rows with the records of the way added
     at_first : (old now : Rows) → IsOnWay asker path from old now → step_items now ≡ step_items old

@@ -1,11 +1,10 @@
 -- How much calls write beside records, one after the other.
-use Rattle.std.proofs.Common.{◌≡◌, ◌∙◌, ℕ, Some, None, ◌+◌, ◌≤◌, Result, Ok, Err, IfOk, length, sym}
-use Rattle.std.proofs.Common.{ap, subst, arith}
+use Rattle.std.proofs.Common.{◌≡◌, ℕ, Some, None, ◌+◌, ◌≤◌, Result, Ok, Err, IfOk, arith}
 use Rattle.room_rows.specs.declared.keep.KeepFault.{KeepFault}
 use Rattle.room_rows.specs.Keep.{capped}
 use Rattle.room_rows.specs.Rows.{Rows}
 use Rattle.room_judge.specs.Extent.{Extent, OnlyRecords, Unless, StaysWithin, WritesRecords}
-use Rattle.room_judge.specs.Extent.{unrecorded}
+use Rattle.std.proofs.lemmas.Bool.Decides.{nat_tests}
 
 capped_below : (n : ℕ) → capped n ≤ n
 capped_below n = omega arith
@@ -13,18 +12,12 @@ capped_below n = omega arith
 -- a call that counts so many writes, in numbers
 pub written_up_to : (before after count old new more : ℕ) → after ≡ capped (before + count)
     → count + old ≤ new + more → after + old ≤ before + new + more
-written_up_to before after count old new more is few =
-    let below : after ≤ before + count =
-    subst (λ (n : ℕ). n ≤ before + count) (sym is) (capped_below (before + count)) in
-    omega arith
+written_up_to before after count old new more is few = grind (arith, nat_tests, capped_below)
 
 module _ {S : Type 0} (rows : S → Rows) (writes : S → ℕ) where
   pub within_same : (a b : S) → rows b ≡ rows a → writes b ≡ writes a
       → StaysWithin rows writes OnlyRecords a b
-  within_same a b same unwritten =
-      let count : length (rows b).read.audits ≡ length (rows a).read.audits =
-      ap (λ (r : Rows). length r.read.audits) same in
-      (ap unrecorded same, omega arith)
+  within_same a b same unwritten = grind (arith, nat_tests)
 
   -- calls that write only records write no more than suffices
   pub within_any : (extent : Extent) (a b : S) → StaysWithin rows writes OnlyRecords a b
@@ -36,21 +29,15 @@ module _ {S : Type 0} (rows : S → Rows) (writes : S → ℕ) where
 
   records_after : (a b c : S) → WritesRecords rows writes a b → WritesRecords rows writes b c
       → WritesRecords rows writes a c
-  records_after a b c before after =
-      let first = before.1 in let second = after.1 in
-      (after.0 ∙ before.0, omega arith)
+  records_after a b c before after = grind (arith, nat_tests)
 
   -- calls after some that write only records
   pub within_after : (extent : Extent) (a b c : S) → StaysWithin rows writes OnlyRecords a b
       → StaysWithin rows writes extent b c → StaysWithin rows writes extent a c
   within_after OnlyRecords a b c before after = records_after a b c before after
   within_after (Unless (Some failure) Suffices) a b c before after =
-      records_after a b c before after
-  within_after (Unless None Suffices) a b c before after =
-      λ more enough. let first = before.1 in
-      let second = after more
-      (subst (λ (r : Rows). Suffices r (unrecorded (rows c)) more) (sym before.0) enough) in
-      omega arith
+      grind (arith, nat_tests, records_after)
+  within_after (Unless None Suffices) a b c before after = grind (arith, nat_tests)
 
   -- the same where the last of them may have a fault
   pub within_later : {X : Type 0} (extent : X → Extent) (a b c : S) (r : Result X KeepFault)

@@ -1,17 +1,15 @@
 -- What a denial on the way to an object hides.
 use Rattle.std.proofs.Common.{ℕ, zero, suc, ◌+◌, ◌≡◌, ◌⊎◌, inl, inr, Bool, true, false, cond, not}
 use Rattle.std.proofs.Common.{◌&&◌, List, [], ◌∷◌, ◌++◌, length, length-append, take, Option, Some}
-use Rattle.std.proofs.Common.{None, refl, sym, ap, subst, ◌∙◌, add-one, zero-add, arith}
+use Rattle.std.proofs.Common.{None, refl, sym, ap, subst, ◌∙◌, add-one, arith}
 use Rattle.std.specs.Option.{option_map_or}
 use Rattle.room_entry.specs.Ace.{Ace}
 use Rattle.room_entry.specs.Rights.{execute}
 use Rattle.room_entry.specs.declared.parties.Caller.{Caller}
-use Rattle.room_entry.specs.declared.object.Which.TheVariants.{Dacl}
-use Rattle.room_eval.specs.Verdict.{verdict}
 use Rattle.room_eval.specs.declared.outcome.Verdict.{Verdict}
 use Rattle.room_eval.specs.declared.outcome.Verdict.TheVariants.{Granted, Denied as DeniedWith}
 use Rattle.room_rows.specs.declared.node.Node.{Node}
-use Rattle.room_rows.specs.Content.{Content, child_of, is_empty, is_folder, root_of}
+use Rattle.room_rows.specs.Content.{Content, child_of, is_empty, is_folder}
 use Rattle.room_rows.specs.Rows.{Rows}
 use Rattle.room_rows.specs.Walk.{walk_of}
 use Rattle.room_machine.specs.declared.request.Request.{Request}
@@ -20,20 +18,19 @@ use Rattle.room_machine.specs.declared.request.Request.TheVariants.{Append, Make
 use Rattle.room_machine.specs.declared.request.Request.TheVariants.{Move, ReadList, SetList}
 use Rattle.room_machine.specs.declared.request.Request.TheVariants.{ReadAttr, SetOwners, Can}
 use Rattle.room_machine.specs.declared.reply.Reply.{Reply}
-use Rattle.room_machine.specs.declared.reply.Reply.TheVariants.{Bytes, Names, Lists, Attr, Rulings}
-use Rattle.room_machine.specs.declared.reply.Reply.TheVariants.{Made, Done, Denied, Refused}
+use Rattle.room_machine.specs.declared.reply.Reply.TheVariants.{Denied, Refused}
 use Rattle.room_machine.specs.declared.reply.Reason.{Reason}
 use Rattle.room_machine.specs.declared.reply.Reason.TheVariants.{NotFolder, NoSuch}
 use Rattle.room_machine.specs.Site.{Site, sites_of, sites_below, site_below, root_site, sites_along}
-use Rattle.room_machine.specs.Site.{full_at}
 use Rattle.room_machine.specs.Plan.{Along, Item, Check, Refusal, way, plan_by}
 use Rattle.room_machine.specs.Stored.{stored_along, stored_from, stored_site}
-use Rattle.room_machine.specs.Closed.{TellsFailure, failure_told}
-use Rattle.room_machine.specs.Judge.{entry_at, failure, first_failure, of_verdict, or_else}
+use Rattle.room_machine.specs.Closed.{TellsFailure}
+use Rattle.room_machine.specs.Judge.{failure, first_failure, of_verdict, or_else}
 use Rattle.room_machine.specs.Effect.{effect}
 use Rattle.room_machine.specs.Step.{caller_in}
 use Rattle.room_machine.specs.Laws.{first_path, Hides, HidesStored}
 use Rattle.room_machine.proofs.Replies.{or_reply, reply_of, same_caller}
+use Rattle.std.proofs.lemmas.Bool.Decides.{nat_tests}
 
 -- the way as far as the check of EXECUTE on the object after n names
 abbrev way_as_far : ℕ → List Site → List (List ℕ) → List Item
@@ -71,20 +68,12 @@ far_take zero (site ∷ sites) (name ∷ names) = refl
 far_take (suc n) [] names = refl
 far_take (suc n) (site ∷ sites) [] = refl
 far_take (suc n) (site ∷ sites) (name ∷ names) =
-    ap (λ t. Refusal site.path NotFolder (not (is_folder site.node)) ∷ Check site (execute ∷ [])
-    ∷ Refusal (site.path ++ name ∷ []) NoSuch t ∷ way_as_far n (take (suc n) sites) names)
-    (empty_take n sites)
-    ∙ ap (λ items. Refusal site.path NotFolder (not (is_folder site.node))
-    ∷ Check site (execute ∷ []) ∷ Refusal (site.path ++ name ∷ []) NoSuch (is_empty sites) ∷ items)
-    (far_take n sites names)
+    grind (arith, nat_tests, empty_take, far_take n sites names)
 
 far_same : (n : ℕ) (sites others : List Site) (names : List (List ℕ))
     → take (n + 1) sites ≡ take (n + 1) others
     → way_as_far n sites names ≡ way_as_far n others names
-far_same n sites others names same =
-    let suc_same : take (suc n) sites ≡ take (suc n) others = rw add-one at same in
-    sym (far_take n sites names) ∙ ap (λ l. way_as_far n l names) suc_same
-    ∙ far_take n others names
+far_same n sites others names same = grind (arith, nat_tests, far_take)
 
 same_far : (n : ℕ) (chain other : List Node) (names : List (List ℕ))
     → take (n + 1) chain ≡ take (n + 1) other
@@ -107,10 +96,7 @@ module _ (caller : Caller) (lack : Bool) (rest : List Item) (front : List (List 
   past_refusal : (path : List (List ℕ)) (why : Reason) (holds : Bool) (others : Option Reply)
       → or_else (cond holds (Some (Refused path why)) None) others ≡ denial → (holds ≡ false)
       × (others ≡ denial)
-  past_refusal path why true others is = absurd (differ is)
-    where
-      differ : Some (Refused path why) ≡ denial → ⊥
-      differ same = cc
+  past_refusal path why true others is = grind (arith, nat_tests)
   past_refusal path why false others is = (refl, is)
 
   past_check : (failed others more : Option Reply) → or_else failed others ≡ denial
@@ -177,36 +163,19 @@ module _ (along : Along) (b : Content) (caller : Caller) (n : ℕ) (front : List
 
   plan_denied : (request : Request) → IsDenied request
       → first_failure caller (plan_by along b request) ≡ Some (Denied front bits place entry)
-  plan_denied (Read path) is =
-      denied_first caller false _ front bits place entry n (along path) path is
-  plan_denied (ListFolder path) is =
-      denied_first caller false _ front bits place entry n (along path) path is
-  plan_denied (Put path bytes) is =
-      denied_first caller true _ front bits place entry n (along path) path is
-  plan_denied (Append path bytes) is =
-      denied_first caller false _ front bits place entry n (along path) path is
-  plan_denied (MakeFolder []) is =
-      absurd (none_some (sym (ap (first_failure caller) (no_way (along []))) ∙ is))
-    where
-      none_some : first_failure caller [] ≡ Some (Denied front bits place entry) → ⊥
-      none_some same = cc
-  plan_denied (MakeFolder (name ∷ names)) is =
-      denied_first caller true _ front bits place entry n (along (name ∷ names))
-      (name ∷ names) is
-  plan_denied (Remove path) is =
-      denied_first caller false _ front bits place entry n (along path) path is
-  plan_denied (Move path to) is =
-      denied_first caller false _ front bits place entry n (along path) path is
-  plan_denied (ReadList path which) is =
-      denied_first caller false _ front bits place entry n (along path) path is
-  plan_denied (SetList path which sent) is =
-      denied_first caller false _ front bits place entry n (along path) path is
-  plan_denied (ReadAttr path) is =
-      denied_first caller false _ front bits place entry n (along path) path is
-  plan_denied (SetOwners path owners) is =
-      denied_first caller false _ front bits place entry n (along path) path is
-  plan_denied (Can path mask) is =
-      denied_first caller false _ front bits place entry n (along path) path is
+  plan_denied (Read path) is = grind (arith, nat_tests, denied_first)
+  plan_denied (ListFolder path) is = grind (arith, nat_tests, denied_first)
+  plan_denied (Put path bytes) is = grind (arith, nat_tests, denied_first)
+  plan_denied (Append path bytes) is = grind (arith, nat_tests, denied_first)
+  plan_denied (MakeFolder []) is = grind (arith, nat_tests, no_way)
+  plan_denied (MakeFolder (name ∷ names)) is = grind (arith, nat_tests, denied_first)
+  plan_denied (Remove path) is = grind (arith, nat_tests, denied_first)
+  plan_denied (Move path to) is = grind (arith, nat_tests, denied_first)
+  plan_denied (ReadList path which) is = grind (arith, nat_tests, denied_first)
+  plan_denied (SetList path which sent) is = grind (arith, nat_tests, denied_first)
+  plan_denied (ReadAttr path) is = grind (arith, nat_tests, denied_first)
+  plan_denied (SetOwners path owners) is = grind (arith, nat_tests, denied_first)
+  plan_denied (Can path mask) is = grind (arith, nat_tests, denied_first)
 
 -- each object's path has one name more than that of the one before
 abbrev Deepens : Site → List Site → Type 0
@@ -269,12 +238,7 @@ module _ (caller : Caller) (lack : Bool) (front : List (List ℕ)) (bits : List 
   at_site : (site : Site) (v : Verdict) → of_verdict site v ≡ denied
       → length front ≡ length site.path
   at_site site Granted is = absurd (no_failure is)
-  at_site site (DeniedWith of_bits of_place) is =
-      ap (λ (path : List (List ℕ)). length path) (sym (same is))
-    where
-      same : Some (Denied site.path of_bits of_place (entry_at site of_place)) ≡ denied
-          → site.path ≡ front
-      same given = cc
+  at_site site (DeniedWith of_bits of_place) is = grind (arith, nat_tests)
 
   -- so far, as many names below this object as the path of the denial has more
   abbrev IsDeniedBelow : Site → List Site → List (List ℕ) → Type 0
@@ -284,17 +248,7 @@ module _ (caller : Caller) (lack : Bool) (front : List (List ℕ)) (bits : List 
   denied_here : (site : Site) (sites : List Site) (name : List ℕ) (names : List (List ℕ))
       → not (is_folder site.node) ≡ false → failure caller (Check site (execute ∷ [])) ≡ denied
       → IsDeniedBelow site sites (name ∷ names)
-  denied_here site sites name names folder is = (
-    0,
-    omega (
-      arith,
-      at_site site (verdict (full_at Dacl site) caller site.node.owners (execute ∷ []))
-          is,
-    ),
-    ap (λ t. or_else (cond t (Some (Refused site.path NotFolder)) None)
-        (or_else (failure caller (Check site (execute ∷ []))) None)) folder
-        ∙ or_none (failure caller (Check site (execute ∷ []))) ∙ is,
-  )
+  denied_here site sites name names folder is = grind (arith, nat_tests, at_site, or_none)
 
   denied_next : (site next : Site) (sites : List Site) (name : List ℕ) (names : List (List ℕ))
       → length next.path ≡ length site.path + 1 → not (is_folder site.node) ≡ false
@@ -343,38 +297,20 @@ module _ (caller : Caller) (lack : Bool) (front : List (List ℕ)) (bits : List 
   at_depth : (site : Site) (sites : List Site) (names : List (List ℕ)) → length site.path ≡ 0
       → IsDeniedBelow site sites names
       → first_failure caller (way_as_far (length front) (site ∷ sites) names) ≡ denied
-  at_depth site sites names none below =
-      ap (λ n. first_failure caller (way_as_far n (site ∷ sites) names))
-      (below.1 ∙ ap (λ n. n + below.0) none ∙ zero-add below.0) ∙ below.2
+  at_depth site sites names none below = grind (arith, nat_tests)
 
   denied_along : (chain : List Node) (names : List (List ℕ))
       → first_failure caller (way lack (sites_of chain) names) ≡ denied
       → first_failure caller (way_as_far (length front) (sites_of chain) names) ≡ denied
   denied_along [] names is = absurd (no_failure is)
   denied_along (root ∷ chain) names is =
-      at_depth (root_site root) (sites_below (root_site root) chain) names refl
-      (denied_below (root_site root) (sites_below (root_site root) chain) names
-      (deepens_below (root_site root) chain) is)
+      grind (arith, nat_tests, at_depth, deepens_below, denied_below)
 
   denied_stored : (rows : Content) (path names : List (List ℕ))
       → first_failure caller (way lack (stored_along rows path) names) ≡ denied
       → first_failure caller (way_as_far (length front) (stored_along rows path) names) ≡ denied
-  denied_stored rows path names is = on (root_of rows) is
-    where
-      on : (o : Option Node)
-          → first_failure caller
-          (way lack (option_map_or (λ root. stored_from rows [] root path) o []) names) ≡ denied
-          → first_failure caller (way_as_far (length front)
-          (option_map_or (λ root. stored_from rows [] root path) o []) names) ≡ denied
-      on None is = absurd (no_failure is)
-      on (Some root) is =
-          subst (λ sites. first_failure caller (way_as_far (length front) sites names) ≡ denied)
-          (sym (stored_head rows [] root path))
-          (at_depth (stored_site [] root) (stored_tail rows [] root path) names refl
-          (denied_below (stored_site [] root) (stored_tail rows [] root path) names
-          (deepens_stored rows [] root path)
-          (subst (λ sites. first_failure caller (way lack sites names) ≡ denied)
-          (stored_head rows [] root path) is)))
+  denied_stored rows path names is =
+      grind (arith, nat_tests, at_depth, deepens_stored, denied_below, no_failure, stored_head)
 
 pub hides : Hides
 hides a b user moment request may_lack at bits place entry reply after denied objects groups
@@ -400,21 +336,8 @@ told_denial : (rows : Rows) (request : Request) (reply : Reply) (at : List (List
     (bits : List ℕ) (place : Option ℕ) (entry : Option Ace)
     → TellsFailure rows request reply (Some (Denied at bits place entry))
     → reply ≡ Denied at bits place entry
-told_denial rows request reply at bits place entry (inl told) = is_told reply told
-  where
-    is_told : (r : Reply) → Some (Denied at bits place entry) ≡ failure_told r
-        → r ≡ Denied at bits place entry
-    is_told (Bytes bytes) told = absurd (let wrong : ⊥ = cc in wrong)
-    is_told (Names names) told = absurd (let wrong : ⊥ = cc in wrong)
-    is_told (Lists flags entries) told = absurd (let wrong : ⊥ = cc in wrong)
-    is_told (Attr kind owners) told = absurd (let wrong : ⊥ = cc in wrong)
-    is_told (Rulings rulings) told = absurd (let wrong : ⊥ = cc in wrong)
-    is_told Made told = absurd (let wrong : ⊥ = cc in wrong)
-    is_told Done told = absurd (let wrong : ⊥ = cc in wrong)
-    is_told (Denied of_path of_bits of_place of_entry) told = cc
-    is_told (Refused path why) told = absurd (let wrong : ⊥ = cc in wrong)
-told_denial rows request reply at bits place entry (inr more) =
-    absurd (let passes = more.passes in let wrong : ⊥ = cc in wrong)
+told_denial rows request reply at bits place entry (inl told) = grind (arith, nat_tests)
+told_denial rows request reply at bits place entry (inr more) = grind (arith, nat_tests)
 
 pub hides_stored : HidesStored
 hides_stored a b user moment request may_lack at bits place entry reply after denied objects groups

@@ -1,11 +1,13 @@
 -- Runs that meet.
 use Rattle.std.proofs.Common.{ℕ, ℤ, List, [], ◌∷◌, ◌++◌, Option, Result, Ok, Err, refl, subst}
+use Rattle.std.proofs.Common.{arith}
 use Rattle.room_rows.specs.Content.{Content}
 use Rattle.room_rows.specs.Rows.{Rows}
 use Rattle.room_machine.specs.Desk.{Closes, RunsClosed}
 use Rattle.room_machine.specs.declared.reply.Reply.{Reply}
 use Rattle.room_machine.specs.declared.request.Request.{Request}
 use Rattle.room_machine.specs.Run.{Asked, ClosedRun, Event, Run, event_of}
+use Rattle.std.proofs.lemmas.Bool.Decides.{nat_tests}
 
 -- two runs that meet are one run
 pub meet : (content mid after : Content) (events others : List Event) → Run content events mid
@@ -34,15 +36,11 @@ pub closed_once : {E : Type 0} (old new : Rows → Type 0) (user : Option (List 
     (request : Request) (result : Result Reply E)
     → Closes old user moment request result new
     → RunsClosed old (event_of result (Asked user moment request)) new
-closed_once old new user moment request (Ok reply) closes rows stored =
-    let after = closes rows stored in (after.0, (after.0, after.1, refl), after.2)
-closed_once old new user moment request (Err fault) closes rows stored =
-    (rows, refl, closes rows stored)
+closed_once old new user moment request (Ok reply) closes rows stored = grind (arith, nat_tests)
+closed_once old new user moment request (Err fault) closes rows stored = grind (arith, nat_tests)
 
 -- one after the other
 pub closed_meet : (old mid new : Rows → Type 0) (events others : List Event)
     → RunsClosed old events mid → RunsClosed mid others new → RunsClosed old (events ++ others) new
 closed_meet old mid new events others first second rows stored =
-    let half = first rows stored in
-    let whole = second half.0 half.2 in
-    (whole.0, meet_closed rows half.0 whole.0 events others half.1 whole.1, whole.2)
+    grind (arith, nat_tests, meet_closed)

@@ -1,14 +1,11 @@
 -- What a reply depends on.
-use Rattle.std.proofs.Common.{ℕ, ◌≡◌, false, List, [], ◌∷◌, ◌++◌, map, Option, Some, None, ℤ, refl}
-use Rattle.std.proofs.Common.{sym, ap, ◌∙◌, IsTrue}
-use Rattle.std.specs.Prelude.{IfSome, unwrap_or}
+use Rattle.std.proofs.Common.{ℕ, ◌≡◌, List, Option, Some, None, ℤ, refl, sym, ap, ◌∙◌, IsTrue}
+use Rattle.std.proofs.Common.{arith}
+use Rattle.std.specs.Prelude.{IfSome}
 use Rattle.std.specs.Option.{option_map_or}
 use Rattle.std.proofs.lemmas.Bool.{false≢true}
 use Rattle.room_entry.specs.declared.parties.Caller.{Caller}
-use Rattle.room_entry.specs.declared.object.Which.TheVariants.{Dacl}
-use Rattle.room_eval.specs.Verdict.{ruling_of}
-use Rattle.room_rows.specs.declared.node.Node.{Node}
-use Rattle.room_rows.specs.Content.{Content, groups_for, body_of, children_of}
+use Rattle.room_rows.specs.Content.{Content, groups_for}
 use Rattle.room_rows.specs.Walk.{walk_of}
 use Rattle.room_machine.specs.declared.request.Request.{Request}
 use Rattle.room_machine.specs.declared.request.Request.TheVariants.{Read, List as ListFolder, Put}
@@ -16,14 +13,15 @@ use Rattle.room_machine.specs.declared.request.Request.TheVariants.{Append, Make
 use Rattle.room_machine.specs.declared.request.Request.TheVariants.{Move, ReadList, SetList}
 use Rattle.room_machine.specs.declared.request.Request.TheVariants.{ReadAttr, SetOwners, Can}
 use Rattle.room_machine.specs.declared.reply.Reply.{Reply}
-use Rattle.room_machine.specs.declared.reply.Reply.TheVariants.{Bytes, Names, Rulings, Done}
-use Rattle.room_machine.specs.Site.{Site, sites_of, sites_along, site_at, full_at}
-use Rattle.room_machine.specs.Plan.{Item, way, where_found, to_target, plan_of}
+use Rattle.room_machine.specs.declared.reply.Reply.TheVariants.{Done}
+use Rattle.room_machine.specs.Site.{Site, sites_of, sites_along, site_at}
+use Rattle.room_machine.specs.Plan.{Item, to_target, plan_of}
 use Rattle.room_machine.specs.Judge.{first_failure}
 use Rattle.room_machine.specs.Effect.{effect, with_site}
 use Rattle.room_machine.specs.Step.{Step, caller_in, failure_or}
 use Rattle.room_machine.specs.Closed.{only_reads}
 use Rattle.room_machine.specs.Laws.{first_path, same_target, ReadsOnly}
+use Rattle.std.proofs.lemmas.Bool.Decides.{nat_tests}
 
 -- ---- the reply of a step
 
@@ -40,10 +38,7 @@ pub reply_of : (content : Content) (user : Option (List ℕ)) (moment : ℤ) (re
     (reply : Reply) (after : Content) → (s : Step content user moment request reply after)
     → reply ≡ or_reply (first_failure (caller_in content user) (plan_of content request))
     (effect content (caller_in content user) s.0 request).0
-reply_of content user moment request reply after s =
-    sym (ap (λ (d : Reply × Content). d.0) s.2)
-    ∙ answered_reply (first_failure (caller_in content user) (plan_of content request)) content
-    (effect content (caller_in content user) s.0 request)
+reply_of content user moment request reply after s = grind (arith, nat_tests, answered_reply)
 
 pub same_caller : (a b : Content) (user : Option (List ℕ)) → groups_for a user ≡ groups_for b user
     → caller_in a user ≡ caller_in b user
@@ -80,10 +75,6 @@ module _ (a b : Content) (user : Option (List ℕ))
   abbrev second_caller : Caller
   second_caller = caller_in b user
 
-  abbrev same_parts : Site → Type 0
-  same_parts site = (body_of a site.node.id ≡ body_of b site.node.id)
-      × (children_of a site.node.id ≡ children_of b site.node.id)
-
   -- a plan and a reply that depend on the objects along the path alone
   read_same : (path : List (List ℕ)) (items : Site → List Item) (f g : Site → Reply × Content)
       → walk_of a path ≡ walk_of b path
@@ -92,16 +83,7 @@ module _ (a b : Content) (user : Option (List ℕ))
       (with_site a (site_at (sites_along a path) path) f).0
       ≡ or_reply (first_failure second_caller (to_target b path items))
       (with_site b (site_at (sites_along b path) path) g).0
-  read_same path items f g walk same =
-      let sites = same_sites a b path walk in
-      let planned : List Site → List Item = λ ss. way false ss path
-      ++ where_found (site_at ss path) items in
-      ap (or_reply (first_failure first_caller (planned (sites_along a path))))
-      (same_at a b f g (site_at (sites_along a path) path) same)
-      ∙ ap (λ c. or_reply (first_failure c (planned (sites_along a path)))
-      (with_site b (site_at (sites_along a path) path) g).0) (same_caller a b user groups)
-      ∙ ap (λ ss. or_reply (first_failure second_caller (planned ss))
-      (with_site b (site_at ss path) g).0) sites
+  read_same path items f g walk same = grind (arith, nat_tests, same_at, same_caller, same_sites)
 
   read_replies : (i j : ℕ) (request : Request) → IsTrue (only_reads request)
       → walk_of a (first_path request) ≡ walk_of b (first_path request)
@@ -109,24 +91,14 @@ module _ (a b : Content) (user : Option (List ℕ))
       or_reply (first_failure first_caller (plan_of a request)) (effect a first_caller i request).0
       ≡ or_reply (first_failure second_caller (plan_of b request))
       (effect b second_caller j request).0
-  read_replies i j (Read path) reads walk target =
-      read_same path _ _ _ walk
-      (if_some same_parts _ _
-      (λ site same. ap (λ (body : Option (List ℕ)). Bytes (unwrap_or body [])) same.0) target)
+  read_replies i j (Read path) reads walk target = grind (arith, nat_tests, if_some, read_same)
   read_replies i j (ListFolder path) reads walk target =
-      read_same path _ _ _ walk
-      (if_some same_parts _ _
-      (λ site same. ap (λ (nodes : List Node). Names (map (λ node. (node.name, node.kind)) nodes))
-      same.1) target)
+      grind (arith, nat_tests, if_some, read_same)
   read_replies i j (ReadList path which) reads walk target =
-      read_same path _ _ _ walk (any_some _ _ (λ site. refl))
-  read_replies i j (ReadAttr path) reads walk target =
-      read_same path _ _ _ walk (any_some _ _ (λ site. refl))
+      grind (arith, nat_tests, any_some, read_same)
+  read_replies i j (ReadAttr path) reads walk target = grind (arith, nat_tests, any_some, read_same)
   read_replies i j (Can path mask) reads walk target =
-      read_same path _ _ _ walk (any_some _ _ (λ site.
-      ap (λ caller. Rulings
-      (map (λ bit. (bit ∷ [], ruling_of (full_at Dacl site) caller site.node.owners bit)) mask))
-      (same_caller a b user groups)))
+      grind (arith, nat_tests, any_some, read_same, same_caller)
   read_replies i j (Put path bytes) reads walk target = absurd (false≢true reads)
   read_replies i j (Append path bytes) reads walk target = absurd (false≢true reads)
   read_replies i j (MakeFolder path) reads walk target = absurd (false≢true reads)

@@ -1,11 +1,11 @@
 -- The folder that an object stands in, and the bits that are kept of a mask.
-use Rattle.std.proofs.Common.{◌≡◌, ℕ, ◌==◌, Bool, ◌&&◌, List, [], ◌∷◌, length, take, filter, Some}
-use Rattle.std.proofs.Common.{refl, ap}
-use Rattle.std.proofs.lemmas.Bool.{eqb-true}
+use Rattle.std.proofs.Common.{◌≡◌, ℕ, Bool, ◌&&◌, List, [], ◌∷◌, length, take, filter, Some, refl}
+use Rattle.std.proofs.Common.{arith}
 use Rattle.std.proofs.lemmas.Map.Views.{any-filter_same}
 use Rattle.room_entry.specs.Bits.{has}
 use Rattle.room_machine.specs.Rights.{last_of}
 use Rattle.room_machine.specs.Site.{Site, front, site_at}
+use Rattle.std.proofs.lemmas.Bool.Decides.{nat_tests}
 
 -- the folder of the path's last name is the last of the objects above
 pub folder_is_last : (sites : List Site) (name : List ℕ) (names : List (List ℕ)) (target : Site)
@@ -21,6 +21,4 @@ folder_is_last (site ∷ other ∷ sites) name (next ∷ names) target found =
 -- what a kept part of a mask has
 pub has_kept : (test : ℕ → Bool) (mask : List ℕ) (bit : ℕ)
     → has (filter test mask) bit ≡ (test bit && has mask bit)
-has_kept test mask bit =
-    any-filter_same (λ other. other == bit) test (test bit)
-    (λ other same. ap test (eqb-true other bit same)) mask
+has_kept test mask bit = grind (arith, nat_tests, any-filter_same)

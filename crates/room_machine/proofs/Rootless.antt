@@ -1,9 +1,7 @@
 -- Where no object is without a parent, nothing but the root's place is answered.
-use Rattle.std.proofs.Common.{ℕ, ◌≡◌, ◌⊎◌, inl, inr, false, true, List, [], ◌∷◌, ◌++◌, length}
-use Rattle.std.proofs.Common.{Option, Some, None, refl, sym, ap, ◌∙◌}
-use Rattle.std.specs.Prelude.{is_some}
+use Rattle.std.proofs.Common.{ℕ, ◌≡◌, ◌⊎◌, inl, inr, false, List, [], ◌∷◌, ◌++◌, Some, None, refl}
+use Rattle.std.proofs.Common.{ap, arith}
 use Rattle.std.specs.Option.{option_map_or}
-use Rattle.room_entry.specs.Rights.{append_data}
 use Rattle.room_entry.specs.declared.parties.Caller.{Caller}
 use Rattle.room_rows.specs.Content.{root_of}
 use Rattle.room_rows.specs.Rows.{Rows}
@@ -17,13 +15,12 @@ use Rattle.room_machine.specs.declared.reply.Reply.TheVariants.{Bytes, Names, Li
 use Rattle.room_machine.specs.declared.reply.Reply.TheVariants.{Made, Done, Denied, Refused}
 use Rattle.room_machine.specs.declared.reply.Reason.TheVariants.{Exists}
 use Rattle.room_machine.specs.Site.{Site, parent_at, site_at}
-use Rattle.room_machine.specs.Plan.{Check, Item, Refusal, put_items, target_by, way, where_found}
+use Rattle.room_machine.specs.Plan.{Item, target_by, way, where_found}
 use Rattle.room_machine.specs.Stored.{AtFree, AtStored, stored_along, stored_from, stored_plan}
-use Rattle.room_machine.specs.Closed.{IsShown, TellsFailure}
-use Rattle.room_machine.specs.Closed.{failure_told}
+use Rattle.room_machine.specs.Closed.{IsShown, TellsFailure, failure_told}
 use Rattle.room_machine.specs.Judge.{first_failure}
-use Rattle.room_machine.specs.Step.{caller_in}
 use Rattle.room_machine.specs.Laws.{AnswersNeedRoot}
+use Rattle.std.proofs.lemmas.Bool.Decides.{nat_tests}
 
 some_none : (X : Type 0) (x : X) → None ≡ Some x → ⊥
 some_none X x is = cc
@@ -50,14 +47,10 @@ module _ (rows : Rows) (none : root_of rows.read ≡ None) where
   no_sites path = ap (λ o. option_map_or (λ root. stored_from rows.read [] root path) o []) none
 
   not_at : (path : List (List ℕ)) (P : Site → Type 0) → AtStored rows.read path P → ⊥
-  not_at path P at =
-      some_none Site at.0
-      (sym (ap (λ sites. site_at sites path) (no_sites path)) ∙ at.1)
+  not_at path P at = grind (arith, nat_tests, no_sites, some_none)
 
   not_free : (path : List (List ℕ)) (P : Site → Type 0) → AtFree rows.read path P → ⊥
-  not_free path P at =
-      some_none Site at.0
-      (sym (ap (λ sites. parent_at sites path) (no_sites path) ∙ no_parent path) ∙ at.1)
+  not_free path P at = grind (arith, nat_tests, no_parent, no_sites, some_none)
 
   not_shown : (caller : Caller) (request : Request) (reply : Reply)
       → IsShown rows caller request reply → ⊥
@@ -88,18 +81,10 @@ module _ (rows : Rows) (none : root_of rows.read ≡ None) where
   planless (ReadList path which) = inl (no_target path _)
   planless (ReadAttr path) = inl (no_target path _)
   planless (Can path mask) = inl (no_target path _)
-  planless (Put path bytes) =
-      inl (ap (λ sites. way true sites path
-      ++ put_items path (length bytes) (site_at sites path) (parent_at sites path)) (no_sites path)
-      ∙ ap (put_items path (length bytes) None) (no_parent path))
+  planless (Put path bytes) = grind (arith, nat_tests, no_parent, no_sites)
   planless (Append path bytes) = inl (no_target path _)
   planless (MakeFolder []) = inr refl
-  planless (MakeFolder (name ∷ names)) =
-      inl (ap (λ sites. way true sites (name ∷ names)
-      ++ where_found (parent_at sites (name ∷ names)) (λ folder.
-      Check folder (append_data ∷ [])
-      ∷ Refusal (name ∷ names) Exists (is_some (site_at sites (name ∷ names)))
-      ∷ [])) (no_sites (name ∷ names)))
+  planless (MakeFolder (name ∷ names)) = grind (arith, nat_tests, no_sites)
   planless (Remove path) = inl (no_target path _)
   planless (Move path to) = inl (no_target path _)
   planless (SetList path which sent) = inl (no_target path _)
@@ -111,26 +96,9 @@ module _ (rows : Rows) (none : root_of rows.read ≡ None) where
       → failure_told reply ≡ Some failed
       → (request ≡ MakeFolder []) × (reply ≡ Refused [] Exists)
   told caller request reply failed (inr more) is = absurd (not_at more.path _ more.refused)
-  told caller request reply failed (inl same) is = on (planless request)
-    where
-      on : (stored_plan rows.read request ≡ []) ⊎ (request ≡ MakeFolder [])
-          → (request ≡ MakeFolder []) × (reply ≡ Refused [] Exists)
-      on (inl empty) =
-          absurd (some_none Reply failed
-          (sym (ap (first_failure caller) empty) ∙ same ∙ is))
-      on (inr root) = (
-        root,
-        told_refusal reply
-            (sym (ap (λ r. first_failure caller (stored_plan rows.read r)) root) ∙ same),
-      )
+  told caller request reply failed (inl same) is =
+      grind (arith, nat_tests, planless, some_none, told_refusal)
 
 pub answers_need_a_root : AnswersNeedRoot
 answers_need_a_root rows user moment request reply after none closed =
-    on (failure_told reply) refl
-  where
-    on : (failed : Option Reply) → failure_told reply ≡ failed
-        → (request ≡ MakeFolder []) × (reply ≡ Refused [] Exists)
-    on None is =
-        absurd (not_shown rows none (caller_in rows.read user) request reply (closed.shown is))
-    on (Some failed) is =
-        told rows none (caller_in rows.read user) request reply failed closed.judged is
+    grind (arith, nat_tests, not_shown, told)

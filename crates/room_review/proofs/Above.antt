@@ -2,15 +2,15 @@
 use Rattle.std.proofs.Common.{◌≡◌, ℕ, zero, suc, ◌+◌, ◌<◌, List, [], ◌∷◌, ◌++◌, map, length, take}
 use Rattle.std.proofs.Common.{Some, sym, ap, subst, ◌∙◌, arith, get_or}
 use Rattle.std.specs.List.{AllByRecursion as Each}
-use Rattle.std.specs.Option.{option_map}
 use Rattle.room_rows.specs.declared.node.Node.{Node}
 use Rattle.room_machine.specs.Site.{Site}
 use Rattle.room_machine.specs.Stored.{stored_site}
 use Rattle.room_review.specs.declared.parties.Party.{Party}
 use Rattle.room_review.specs.declared.standing.Standing.{Standing}
-use Rattle.room_review.specs.Standing.{before_last, folder_standings, standings}
+use Rattle.room_review.specs.Standing.{folder_standings, standings}
 use Rattle.room_review.specs.Telling.{AreOn}
 use Rattle.room_review.proofs.Ending.{IsStored, before_after, last_after}
+use Rattle.std.proofs.lemmas.Bool.Decides.{nat_tests}
 
 abbrev nodes_at : List Site → List Node
 nodes_at sites = map (λ (s : Site). s.node) sites
@@ -32,10 +32,7 @@ one_more (site ∷ sites) (suc i) node stored below is =
 -- all callers at the last one
 pub folder_last : (parties : List Party) (above : List Site) (site : Site)
     → folder_standings parties (above ++ site ∷ []) ≡ Some (standings parties above site)
-folder_last parties above site =
-    ap (λ o. option_map (standings parties
-    (before_last (above ++ site ∷ []))) o) (last_after above site)
-    ∙ ap (λ l. Some (standings parties l site)) (before_after above site)
+folder_last parties above site = grind (arith, nat_tests, before_after, last_after)
 
 next_is : (i : ℕ) → i + 1 ≡ suc i
 next_is i = omega arith

@@ -1,20 +1,18 @@
 -- What the rows of a tree say at a path below its object.
-use Rattle.std.proofs.Common.{◌≡◌, ℕ, zero, suc, ◌&&◌, ◌||◌, Bool, true, false, cond, not, List, []}
-use Rattle.std.proofs.Common.{◌∷◌, ◌++◌, filter, Option, Some, None, refl, sym, ap, subst, ◌∙◌}
-use Rattle.std.proofs.Common.{append_assoc}
+use Rattle.std.proofs.Common.{◌≡◌, ℕ, zero, suc, ◌||◌, Bool, true, false, cond, not, List, [], ◌∷◌}
+use Rattle.std.proofs.Common.{◌++◌, filter, Option, Some, None, refl, sym, ap, subst, ◌∙◌}
+use Rattle.std.proofs.Common.{append_assoc, arith}
 use Rattle.std.specs.List.{find, flat_map, list_any, AllByRecursion as Each}
 use Rattle.std.specs.Option.{option_map_or, option_or}
-use Rattle.std.proofs.lemmas.Bool.{and_parts}
+use Rattle.std.proofs.lemmas.Bool.{and_parts, or_from}
 use Rattle.std.proofs.lemmas.List.{append-nil}
 use Rattle.std.proofs.lemmas.List.Folds.{list_any-append}
-use Rattle.std.proofs.lemmas.Bool.{or_from}
 use Rattle.room_entry.specs.Pieces.{same_text}
-use Rattle.room_entry.proofs.Facts.Members.{any_filter, each_append, each_unfiltered}
-use Rattle.room_entry.proofs.Facts.Members.{each_weaker}
+use Rattle.room_entry.proofs.Facts.Members.{any_filter, each_append, each_unfiltered, each_weaker}
 use Rattle.room_entry.proofs.Texts.{same_text-sym, same_text-true}
 use Rattle.room_rows.specs.declared.node.Node.{Node}
-use Rattle.room_rows.specs.Content.{Content, child_of, children_of, has_parent, is_before}
-use Rattle.room_rows.specs.Content.{put_by_name, sorted_by_name}
+use Rattle.room_rows.specs.Content.{Content, child_of, children_of, has_parent, put_by_name}
+use Rattle.room_rows.specs.Content.{sorted_by_name}
 use Rattle.room_rows.specs.Paths.{is_object_name, path_text}
 use Rattle.room_rows.proofs.Frames.{child_of-name}
 use Rattle.room_rows.proofs.Lookups.{each-sorted}
@@ -30,22 +28,18 @@ use Rattle.room_review.specs.Standing.{before_last, granted, repeats, same_answe
 use Rattle.room_review.specs.Table.{Place, place_below, object_rows, site_of}
 use Rattle.room_review.proofs.Ending.{before_after, last_after}
 use Rattle.room_review.proofs.Fronts.{goes_apart, goes_further}
-use Rattle.room_review.proofs.Lookups.{any_flat, has_none, or_assoc, or_none, printed}
-use Rattle.room_review.proofs.Lookups.{said_append, said_elsewhere, said_here, said_none}
-use Rattle.room_review.proofs.Lookups.{said_those, same_nearest}
+use Rattle.room_review.proofs.Lookups.{any_flat, has_none, or_assoc, or_none, printed, said_append}
+use Rattle.room_review.proofs.Lookups.{said_elsewhere, said_here, said_none, said_those}
+use Rattle.room_review.proofs.Lookups.{same_nearest}
 use Rattle.room_review.proofs.Visited.{IsNamed, each_flat, some_same}
+use Rattle.std.proofs.lemmas.Bool.Decides.{nat_tests}
 
 -- ---- members of lists
 
 put_parts : (P : Node → Type 0) (x : Node) (xs : List Node) → Each P (put_by_name x xs)
     → P x × Each P xs
 put_parts P x [] all = (all.0, tt)
-put_parts P x (y ∷ ys) all = on (is_before y.name x.name) all (put_parts P x ys)
-  where
-    on : (t : Bool) → Each P (cond t (y ∷ put_by_name x ys) (x ∷ y ∷ ys))
-        → (Each P (put_by_name x ys) → P x × Each P ys) → P x × Each P (y ∷ ys)
-    on true all rest = let parts = rest all.1 in (parts.0, (all.0, parts.1))
-    on false all rest = (all.0, all.1)
+put_parts P x (y ∷ ys) all = grind (arith, nat_tests, put_parts P x ys)
 
 -- what holds of each of the sorted objects
 pub unsorted : (P : Node → Type 0) (xs : List Node) → Each P (sorted_by_name xs) → Each P xs
@@ -71,13 +65,7 @@ each_unflat {A} {B} P f (x ∷ xs) all =
 found_among : (p : Node → Bool) (xs : List Node) (x : Node) → find p xs ≡ Some x
     → (p x ≡ true) × (list_any p xs ≡ true)
 found_among p [] x found = absurd (let wrong : ⊥ = cc in wrong)
-found_among p (y ∷ ys) x found = on (p y) refl found (found_among p ys x)
-  where
-    on : (t : Bool) → p y ≡ t → cond t (Some y) (find p ys) ≡ Some x
-        → (find p ys ≡ Some x → (p x ≡ true) × (list_any p ys ≡ true))
-        → (p x ≡ true) × (t || list_any p ys ≡ true)
-    on true is found rest = (ap p (sym (some_same y x found)) ∙ is, refl)
-    on false is found rest = rest found
+found_among p (y ∷ ys) x found = grind (arith, nat_tests, some_same, found_among p ys x)
 
 -- ---- a row that is left out
 
@@ -99,19 +87,11 @@ module _ (content : Content) (there : Each (IsThere content) content.nodes) (mos
   of_child : (P : Node → Type 0) (id : ℕ) (name : List ℕ) (child : Node)
       → Each P (children_of content id) → child_of content id name ≡ Some child → P child
   of_child P id name child each found =
-      let is_child = λ (n : Node). has_parent id n && same_text n.name name in
-      let under = and_parts (has_parent id child) (same_text child.name name)
-      (found_among is_child content.nodes child found).0 in
-      each_found (λ n. has_parent id n ≡ true → P n) is_child content.nodes child
-      (each_unfiltered P (has_parent id) content.nodes
-      (unsorted P (filter (has_parent id) content.nodes) each)) found under.0
+      grind (arith, nat_tests, each_found, each_unfiltered, found_among, unsorted)
 
   named_among : (id : ℕ) (name : List ℕ) (child : Node) → child_of content id name ≡ Some child
       → list_any (λ n. same_text n.name name) (children_of content id) ≡ true
-  named_among id name child found =
-      any_sorted (λ n. same_text n.name name) (filter (has_parent id) content.nodes)
-      ∙ any_filter (λ n. same_text n.name name) (has_parent id) content.nodes
-      ∙ (found_among (λ n. has_parent id n && same_text n.name name) content.nodes child found).1
+  named_among id name child found = grind (arith, nat_tests, any_filter, any_sorted, found_among)
 
   -- a child is found by its name, which is an object name
   abbrev pub IsKid : ℕ → Node → Type 0
@@ -331,12 +311,7 @@ module _ (content : Content) (there : Each (IsThere content) content.nodes) (mos
           -- of the object itself its own rows speak
           own_alone : option_or (said_in table (path_text place.path) party.label) above
               ≡ Some (value_at place node)
-          own_alone =
-              ap (λ o. option_or o above)
-              (said_append (path_text place.path) party.label own (rows_under place node)
-              ∙ ap (option_or (said_in own (path_text place.path) party.label))
-              (none_under place node party.label)
-              ∙ or_none (said_in own (path_text place.path) party.label)) ∙ owns.here
+          own_alone = grind (arith, nat_tests, none_under, or_none, said_append)
 
           tells_each : Says (place, node) × Each (λ child.
               Each Says (told (place_below place node child) child)) (children_of content node.id)
@@ -351,9 +326,7 @@ module _ (content : Content) (there : Each (IsThere content) content.nodes) (mos
               )
 
           finds_itself : Finds [] place node own above
-          finds_itself =
-              own_alone ∙ ap (λ g. Some (printed g)) tells_each.0
-              ∙ ap (λ p. Some (printed (answer p))) (sym (append-nil place.path))
+          finds_itself = grind (arith, nat_tests, append-nil, own_alone, printed, tells_each)
 
           module _ (more : List (List ℕ)) (site : Site) (rest : FindsBelow more) (child : Node)
               (is : child_of content node.id child.name ≡ Some child)
@@ -395,12 +368,7 @@ module _ (content : Content) (there : Each (IsThere content) content.nodes) (mos
 
             child_owns : Owns below child (object_rows all parties below child)
                 (Some (value_at place node))
-            child_owns = record {
-              here = left_out place node child;
-              others = λ other apart.
-                  said_elsewhere below.above (site_of below child) all parties other party.label
-                  apart;
-            }
+            child_owns = grind (arith, nat_tests, left_out, said_elsewhere)
 
             finds_child : Finds (child.name ∷ more) place node own above
             finds_child =

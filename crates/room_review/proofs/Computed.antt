@@ -1,31 +1,24 @@
 -- In sound rows, what the stored lists grant is what the lists grant that are computed from the
 -- root.
-use Rattle.std.proofs.Common.{◌≡◌, ℕ, zero, suc, ◌&&◌, false, cond, List, [], ◌∷◌, map}
-use Rattle.std.proofs.Common.{filter, length, take, Option, Some, None, refl, sym, ap, ◌∙◌}
-use Rattle.std.specs.Prelude.{is_none}
+use Rattle.std.proofs.Common.{◌≡◌, ℕ, zero, suc, ◌&&◌, false, List, [], ◌∷◌, map, length, take}
+use Rattle.std.proofs.Common.{Option, Some, None, refl, sym, ap, ◌∙◌, arith}
 use Rattle.std.specs.Option.{option_map, option_map_or}
-use Rattle.room_entry.specs.Bits.{all_bits}
-use Rattle.room_entry.specs.declared.object.Which.TheVariants.{Dacl}
 use Rattle.room_entry.specs.declared.parties.Caller.{Caller}
-use Rattle.room_eval.specs.Deletion.{deletion}
-use Rattle.room_eval.specs.declared.deletion.DeleteVerdict.{DeleteVerdict}
-use Rattle.room_eval.specs.declared.deletion.DeleteVerdict.TheVariants.{Granted as MayDelete}
-use Rattle.room_eval.specs.declared.deletion.DeleteVerdict.TheVariants.{AtTarget, AtParent}
 use Rattle.room_rows.specs.Meaning.{meaning}
 use Rattle.room_rows.specs.Rows.{AreRows, Rows}
 use Rattle.room_rows.specs.Sound.{AreSound}
-use Rattle.room_machine.specs.Judge.{of_deletion, passes}
+use Rattle.room_machine.specs.Judge.{passes}
 use Rattle.room_machine.specs.Plan.{Deletion}
-use Rattle.room_machine.specs.Site.{Site, full_at, site_at, sites_along}
+use Rattle.room_machine.specs.Site.{Site, site_at, sites_along}
 use Rattle.room_machine.specs.Step.{caller_in}
 use Rattle.room_machine.specs.Stored.{stored_along}
 use Rattle.room_desk.proofs.Sound.Filled.{site_filled}
 use Rattle.room_desk.proofs.Sound.Sites.{fill, sites_filled}
 use Rattle.room_desk.proofs.Sound.SoundParts.{sound_parts}
-use Rattle.room_machine.specs.Rights.{grants, last_of, lets_through, may_remove, may_remove_at}
-use Rattle.room_machine.specs.Rights.{reaches}
+use Rattle.room_machine.specs.Rights.{last_of, lets_through, may_remove, may_remove_at, reaches}
 use Rattle.room_machine.specs.Rights.{rights, rights_at}
 use Rattle.room_review.specs.Standing.{granted}
+use Rattle.std.proofs.lemmas.Bool.Decides.{nat_tests}
 
 module _ (caller : Caller) where
   same_reach : (sites : List Site) → reaches caller (map fill sites) ≡ reaches caller sites
@@ -39,39 +32,11 @@ module _ (caller : Caller) where
 
   same_pass : (target folder : Site)
       → passes caller (Deletion (fill target) (fill folder)) ≡ passes caller (Deletion target folder)
-  same_pass target folder =
-      on (deletion (full_at Dacl target) target.node.owners (full_at Dacl folder) folder.node.owners
-      caller)
-    where
-      on : (v : DeleteVerdict)
-          → is_none (of_deletion (fill target) (fill folder) v)
-          ≡ is_none (of_deletion target folder v)
-      on (MayDelete by_add) = refl
-      on (AtTarget place) = refl
-      on (AtParent bits place) = refl
+  same_pass target folder = grind (arith, nat_tests, fill)
 
   same_grant : (above : List Site) (target : Site)
       → granted caller (map fill above) (fill target) ≡ granted caller above target
-  same_grant above target =
-      (λ i. (
-        cond (same_reach above i) (filter (λ right. grants caller right target) all_bits) [],
-        same_reach above i && removes i,
-      ))
-    where
-      on : (o : Option Site)
-          → option_map_or (λ folder. passes caller (Deletion (fill target) folder))
-          (option_map fill o) false
-          ≡ option_map_or (λ folder. passes caller (Deletion target folder)) o false
-      on None = refl
-      on (Some folder) = same_pass target folder
-
-      removes : option_map_or (λ folder. passes caller (Deletion (fill target) folder))
-          (last_of (map fill above)) false
-          ≡ option_map_or (λ folder. passes caller (Deletion target folder)) (last_of above) false
-      removes =
-          ap (λ o. option_map_or (λ folder. passes caller (Deletion (fill target) folder)) o false)
-          (same_last above)
-          ∙ on (last_of above)
+  same_grant above target = grind (arith, nat_tests, fill, same_last, same_pass, same_reach)
 
 take_filled : (n : ℕ) (sites : List Site) → take n (map fill sites) ≡ map fill (take n sites)
 take_filled zero sites = refl

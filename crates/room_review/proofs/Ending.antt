@@ -1,8 +1,7 @@
 -- The last object on a way, and those before it.
-use Rattle.std.proofs.Common.{◌≡◌, ℕ, suc, ◌+◌, ◌-◌, List, [], ◌∷◌, ◌++◌, map, length, take}
-use Rattle.std.proofs.Common.{Option, Some, None, refl, sym, ap, subst, ◌∙◌, arith, append_assoc}
-use Rattle.std.proofs.Common.{cond, inr, not}
-use Rattle.std.proofs.Common.{length-append}
+use Rattle.std.proofs.Common.{◌≡◌, ℕ, suc, ◌+◌, ◌-◌, List, [], ◌∷◌, ◌++◌, map, length, take, Option}
+use Rattle.std.proofs.Common.{Some, None, refl, sym, ap, subst, ◌∙◌, arith, append_assoc, cond, inr}
+use Rattle.std.proofs.Common.{not, length-append}
 use Rattle.std.specs.List.{AllByRecursion as Each}
 use Rattle.std.specs.Option.{option_map_or}
 use Rattle.std.proofs.Math.Seq.{take-append_seam}
@@ -25,6 +24,7 @@ use Rattle.room_machine.specs.Rights.{last_of}
 use Rattle.room_review.specs.Standing.{before_last}
 use Rattle.room_review.specs.Table.{IsRefusal}
 use Rattle.room_review.specs.Telling.{AreOn, ended_at}
+use Rattle.std.proofs.lemmas.Bool.Decides.{nat_tests}
 
 -- ---- lists with one more
 
@@ -175,18 +175,7 @@ module _ (rows : Rows) (path : List (List ℕ)) (above : List Node) (node : Node
   sites = stored_along rows.read path
 
   end_of : (rest : ℕ) → Walked rest → Ends rows.read [] path (walk_of rows.read path) sites
-  end_of rest is = on (root_of rows.read) (ap (λ (w : Walk). w.chain) is)
-    where
-      on : (o : Option Node)
-          → (above ++ node ∷ []
-          ≡ (option_map_or (λ root. walk_from rows.read root path) o
-          (record { chain = []; rest = length path })).chain)
-          → Ends rows.read [] path
-          (option_map_or (λ root. walk_from rows.read root path) o
-          (record { chain = []; rest = length path }))
-          (option_map_or (λ root. stored_from rows.read [] root path) o [])
-      on None none = absurd (no_end above node none)
-      on (Some root) some = ends rows.read path [] root
+  end_of rest is = grind (arith, nat_tests, ends, no_end)
 
   -- the walk came to its end: the object is at the path, and the others are on the way
   pub ended : Walked 0

@@ -1,30 +1,26 @@
 -- Names that a content doesn't know get the same reply to each request.
 use Rattle.std.proofs.Common.{ℕ, ◌≡◌, ◌+◌, ◌==◌, ◌&&◌, ◌||◌, Bool, true, false, cond, not, List, []}
 use Rattle.std.proofs.Common.{◌∷◌, ◌++◌, map, length, Option, Some, None, refl, sym, ap, subst, ◌∙◌}
-use Rattle.std.specs.Prelude.{is_none, is_some, unwrap_or}
+use Rattle.std.proofs.Common.{arith}
+use Rattle.std.specs.Prelude.{is_some, unwrap_or}
 use Rattle.std.specs.List.{cons_option, find, list_all, list_any}
 use Rattle.std.specs.Option.{option_map, option_map_or}
 use Rattle.std.proofs.lemmas.Bool.{and_parts, or_parts}
 use Rattle.room_entry.specs.Ace.{Ace}
 use Rattle.room_entry.specs.Pieces.{same_text}
-use Rattle.room_entry.specs.Rights.{append_data, delete, delete_child, execute, read_acl}
-use Rattle.room_entry.specs.Rights.{read_attributes, read_data, write_acl, write_data, write_owner}
+use Rattle.room_entry.specs.Rights.{append_data, execute, read_acl, read_attributes, read_data}
+use Rattle.room_entry.specs.Rights.{write_acl, write_data, write_owner}
 use Rattle.room_entry.specs.Valid.{first_bad_entry}
 use Rattle.room_entry.specs.declared.fault.EntryFault.{EntryFault}
 use Rattle.room_entry.specs.declared.flags.EntryFlags.{EntryFlags}
 use Rattle.room_entry.specs.declared.object.ObjKind.{ObjKind}
 use Rattle.room_entry.specs.declared.object.ObjKind.TheVariants.{Folder}
-use Rattle.room_entry.specs.declared.object.Which.TheVariants.{Dacl}
 use Rattle.room_entry.specs.declared.parties.Caller.{Caller}
-use Rattle.room_eval.specs.Deletion.{deletion_by}
-use Rattle.room_eval.specs.Verdict.{verdict_by}
 use Rattle.room_rows.specs.declared.node.Node.{Node}
 use Rattle.room_rows.specs.Content.{Content, body_of, child_of, children_of, has_parent, is_empty}
-use Rattle.room_rows.specs.Content.{is_folder, root_of, with_node}
-use Rattle.room_rows.specs.Full.{inherited_below}
-use Rattle.room_rows.specs.Held.{full_of, is_linked}
+use Rattle.room_rows.specs.Content.{is_folder, with_node}
 use Rattle.room_rows.specs.Pass.{pass, passed_flags}
-use Rattle.room_rows.specs.Walk.{behind, walk_from, walk_of}
+use Rattle.room_rows.specs.Walk.{behind, walk_from}
 use Rattle.room_machine.specs.declared.reply.Reply.{Reply}
 use Rattle.room_machine.specs.declared.reply.Reply.TheVariants.{Done, Made, Rulings}
 use Rattle.room_machine.specs.declared.reply.Reason.TheVariants.{Exists, Loop, NotEmpty, NotFolder}
@@ -35,17 +31,18 @@ use Rattle.room_machine.specs.declared.request.Request.TheVariants.{Append, Make
 use Rattle.room_machine.specs.declared.request.Request.TheVariants.{Move, ReadList, SetList}
 use Rattle.room_machine.specs.declared.request.Request.TheVariants.{ReadAttr, SetOwners, Can}
 use Rattle.room_machine.specs.Effect.{effect, new_node, put_bytes, rulings as rulings_of, with_site}
-use Rattle.room_machine.specs.Judge.{failure, first_failure, of_deletion, of_verdict, or_else}
+use Rattle.room_machine.specs.Judge.{failure, first_failure, or_else}
 use Rattle.room_machine.specs.Plan.{Check, Deletion, Item, Refusal, bad_list, move_items}
 use Rattle.room_machine.specs.Plan.{no_document, no_folder, not_over, plan_of, put_items}
 use Rattle.room_machine.specs.Plan.{right_to_add, to_target, way, where_found}
-use Rattle.room_machine.specs.Site.{Site, front, full_at, last_name, parent_at, root_site, site_at}
-use Rattle.room_machine.specs.Site.{site_below, sites_along, sites_below, sites_of}
+use Rattle.room_machine.specs.Site.{Site, front, last_name, parent_at, site_at, site_below}
+use Rattle.room_machine.specs.Site.{sites_along, sites_below, sites_of}
 use Rattle.room_review.specs.Laws.{IsUnknownIn, StrangersGetTheSame, is_known_at, is_known_to}
 use Rattle.room_review.specs.Laws.{is_paired, is_user_named}
 use Rattle.room_machine.proofs.Replies.{or_reply, reply_of}
 use Rattle.room_review.proofs.Strangers.{IsUnknown, alone, are_unknown, at_unknown, first_unknown}
 use Rattle.room_review.proofs.Strangers.{is_alone, is_not, others_unknown, rulings}
+use Rattle.std.proofs.lemmas.Bool.Decides.{nat_tests}
 
 found_passes : (p q : Node → Bool) (nodes : List Node) (node : Node) → list_all q nodes ≡ true
     → find p nodes ≡ Some node → q node ≡ true
@@ -102,22 +99,7 @@ module _ (a : List ℕ) where
   unknown_below : (above : Site) (node : Node) → is_known_at a above ≡ false
       → is_known_to a node ≡ false → is_known_at a (site_below above node) ≡ false
   unknown_below above node over here =
-      let owners = or_parts (same_text a node.owners.owner)
-      (list_any names (full_of node.dacl)) here in
-      let held = unnamed_parts node.dacl.own node.dacl.inh owners.1 in
-      let full = or_parts (same_text a above.node.owners.owner)
-      (list_any names (full_at Dacl above)) over in
-      let inherits = on (is_linked node.dacl (Some above.node.dacl))
-      (unnamed_passed node.kind (full_at Dacl above) full.1) held.1 in
-      let all = unnamed_both node.dacl.own
-      (inherited_below Dacl above.node (full_at Dacl above) node) held.0 inherits in
-      λ i. owners.0 i || all i
-    where
-      on : (t : Bool) → list_any names (pass node.kind (full_at Dacl above)) ≡ false
-          → list_any names node.dacl.inh ≡ false
-          → list_any names (cond t (pass node.kind (full_at Dacl above)) node.dacl.inh) ≡ false
-      on true passed kept = passed
-      on false passed kept = kept
+      grind (arith, nat_tests, unnamed_both, unnamed_parts, unnamed_passed)
 
   unknown_sites : (above : Site) (chain : List Node) → is_known_at a above ≡ false
       → list_all is_free chain ≡ true
@@ -132,11 +114,7 @@ module _ (a : List ℕ) where
   pub unknown_chain : (chain : List Node) → list_all is_free chain ≡ true
       → list_all (λ site. not (is_known_at a site)) (sites_of chain) ≡ true
   unknown_chain [] free = refl
-  unknown_chain (root ∷ chain) free =
-      let parts = and_parts (is_free root) (list_all is_free chain) free in
-      let here = is_not (is_known_to a root) parts.0 in
-      let rest = unknown_sites (root_site root) chain here parts.1 in
-      λ i. not (here i) && rest i
+  unknown_chain (root ∷ chain) free = grind (arith, nat_tests, is_not, unknown_sites)
 
   module _ (content : Content) (free : list_all is_free content.nodes ≡ true) where
     free_from : (node : Node) (path : List (List ℕ)) → is_free node ≡ true
@@ -160,15 +138,7 @@ module _ (a : List ℕ) where
 
     free_along : (path : List (List ℕ))
         → list_all (λ site. not (is_known_at a site)) (sites_along content path) ≡ true
-    free_along path = unknown_chain (walk_of content path).chain (on (root_of content) refl)
-      where
-        on : (o : Option Node) → root_of content ≡ o
-            → list_all is_free (option_map_or (λ root. walk_from content root path) o
-            (record { chain = []; rest = length path })).chain ≡ true
-        on None is = refl
-        on (Some root) is =
-            free_from root path (found_passes (λ (n : Node). is_none n.parent) is_free
-            content.nodes root free is)
+    free_along path = grind (arith, nat_tests, found_passes, free_from, unknown_chain)
 
 -- ---- plans
 
@@ -194,17 +164,11 @@ module _ (a b : List ℕ) where
       λ i. or_else (here i) (rest i)
 
   check : (site : Site) (bits : List ℕ) → IsUnknown a b site → IsAlike (Check site bits)
-  check site bits unknown =
-      let says = rulings a b site unknown in
-      λ i. of_verdict site (verdict_by (λ bit. says bit i) bits)
+  check site bits unknown = grind (arith, nat_tests, rulings)
 
   deletes : (target folder : Site) → IsUnknown a b target → IsUnknown a b folder
       → IsAlike (Deletion target folder)
-  deletes target folder at above =
-      let own = rulings a b target at in
-      let over = rulings a b folder above in
-      λ i. of_deletion target folder (deletion_by (own delete i) (over delete_child i)
-      (verdict_by (λ bit. over bit i) (write_data ∷ [])))
+  deletes target folder at above = grind (arith, nat_tests, rulings)
 
   way_alike : (lack : Bool) (sites : List Site) (path : List (List ℕ)) → are_unknown a b sites
       → AreAlike (way lack sites path)
@@ -243,11 +207,7 @@ module _ (a b : List ℕ) where
         → ((site : Site) → IsUnknown a b site → AreAlike (items site))
         → AreAlike (to_target content path items)
     to_target_alike path items each =
-        alike_both (way false (sites_along content path) path)
-        (where_found (site_at (sites_along content path) path) items)
-        (way_alike false (sites_along content path) path (along path))
-        (where_alike (site_at (sites_along content path) path) items
-        (λ site found. each site (at path site found)))
+        grind (arith, nat_tests, alike_both, along, at, way_alike, where_alike)
 
     put_alike : (path : List (List ℕ)) (size : ℕ) (o p : Option Site)
         → site_at (sites_along content path) path ≡ o

@@ -1,33 +1,22 @@
 -- Texts of paths that part: one that goes on, and two that go on by different names.
-use Rattle.std.proofs.Common.{◌≡◌, ℕ, ◌<◌, ◌&&◌, true, false, not, List, [], ◌∷◌}
-use Rattle.std.proofs.Common.{◌++◌, length, codes, refl, sym, ap, ◌∙◌, arith, nat_lt, nat_le}
-use Rattle.std.proofs.Common.{length-append}
+use Rattle.std.proofs.Common.{◌≡◌, ℕ, ◌<◌, true, false, List, [], ◌∷◌, ◌++◌, length, refl, sym, ap}
+use Rattle.std.proofs.Common.{◌∙◌, arith, length-append}
 use Rattle.std.specs.List.{flat_map, list_all}
-use Rattle.std.proofs.lemmas.Bool.{and_parts, false≢true, false_from_ne_true, ltb-true}
+use Rattle.std.proofs.lemmas.Bool.{and_parts, false≢true, false_from_ne_true}
 use Rattle.std.proofs.lemmas.Grind.{flat_map-append}
 use Rattle.std.proofs.lemmas.List.{append_cancel_left}
 use Rattle.room_entry.specs.Pieces.{same_text}
-use Rattle.room_entry.specs.Utf8.{is_utf8}
 use Rattle.room_entry.proofs.Alike.{text_itself}
 use Rattle.room_entry.proofs.Texts.{same_text-true}
 use Rattle.room_rows.specs.Paths.{is_name_byte, is_object_name, path_text}
+use Rattle.std.proofs.lemmas.Bool.Decides.{nat_tests}
 
 -- ---- object names
 
 -- it has bytes, and each is one that a name may have
 name_parts : (name : List ℕ) → is_object_name name ≡ true
     → (0 < length name) × (list_all is_name_byte name ≡ true)
-name_parts name is =
-    let some = nat_lt 0 (length name) in
-    let short = nat_le (length name) 255 in
-    let bytes = some && short && list_all is_name_byte name in
-    let no_dot = not (same_text name (codes ".")) in
-    let no_dots = not (same_text name (codes "..")) in
-    let first = and_parts (some && short) (list_all is_name_byte name)
-    (and_parts bytes no_dot
-    (and_parts (bytes && no_dot) no_dots
-    (and_parts (bytes && no_dot && no_dots) (is_utf8 name) is).0).0).0 in
-    (ltb-true 0 (length name) (and_parts some short first.0).0, first.1)
+name_parts name is = grind (arith, nat_tests)
 
 -- ---- the text of a path
 
@@ -93,12 +82,13 @@ pub goes_apart : (at : List (List ℕ)) (name other : List ℕ) (more rest : Lis
     → is_object_name name ≡ true → is_object_name other ≡ true → same_text name other ≡ false
     → same_text (path_text (at ++ name ∷ more)) (path_text (at ++ other ∷ rest)) ≡ false
 goes_apart at name other more rest is also apart =
-    false_from_ne_true _ (λ same.
-    let whole = append_cancel_left (slashed at) (slashed (name ∷ more)) (slashed (other ∷ rest))
-    (sym (goes_on at name more)
-    ∙ same_text-true (path_text (at ++ name ∷ more)) (path_text (at ++ other ∷ rest)) same
-    ∙ goes_on at other rest) in
-    let tails : name ++ slashed more ≡ other ++ slashed rest = cc in
-    let equal = same_names name other more rest (name_parts name is).1 (name_parts other also).1
-    tails in
-    false≢true (sym apart ∙ ap (same_text name) (sym equal) ∙ text_itself name))
+    grind (
+      arith,
+      nat_tests,
+      append_cancel_left,
+      goes_on,
+      name_parts,
+      same_names,
+      same_text-true,
+      text_itself,
+    )

@@ -1,6 +1,6 @@
 -- The names that are gathered after n turns.
-use Rattle.std.proofs.Common.{◌≡◌, ℕ, ◌+◌, ◌≤◌, List, [], ◌∷◌, ◌++◌, map, reverse}
-use Rattle.std.proofs.Common.{length, refl, sym, ap, subst, ◌∙◌}
+use Rattle.std.proofs.Common.{◌≡◌, ℕ, ◌+◌, ◌≤◌, List, [], ◌∷◌, ◌++◌, map, reverse, length, refl}
+use Rattle.std.proofs.Common.{sym, ap, ◌∙◌, arith}
 use Rattle.std.proofs.lemmas.List.{append-nil}
 use Rattle.room_rows.specs.declared.node.Node.{Node}
 use Rattle.room_rows.specs.Content.{Content, children_of}
@@ -13,6 +13,7 @@ use Rattle.room_review.specs.Users.{Gathers, users_at}
 use Rattle.room_review.specs.Table.{users_below}
 use Rattle.room_review.proofs.Starting.{starts_reached}
 use Rattle.room_review.proofs.Gathers.{gathers_none, gathers_on}
+use Rattle.std.proofs.lemmas.Bool.Decides.{nat_tests}
 
 -- the users at an object and at all below it, no deeper than the number says
 abbrev users_deep : ℕ → Content → Node → List (List ℕ)
@@ -31,12 +32,8 @@ pub record Gathering (rows : Rows) (waiting : List Node) (most turn : ℕ)
 pub gathers_first : (rows : Rows) → AreRows rows → (most : ℕ) (path : List (List ℕ)) (node : Node)
     → StartsAt most path node rows → (old : List (List ℕ))
     → Gathering rows (node ∷ []) most 0 old old (users_below rows node)
-gathers_first rows are most path node start old = record {
-  reached = starts_reached rows are most path node start;
-  met = [];
-  meets = ap (λ (n : ℕ). users_deep n rows.read node) start.most_is;
-  gathered = gathers_none old;
-}
+gathers_first rows are most path node start old =
+    grind (arith, nat_tests, gathers_none, starts_reached)
 
 same_waits : (nodes : List Node) → map (λ (n : Node). n) nodes ≡ nodes
 same_waits [] = refl
@@ -77,7 +74,4 @@ pub all_gathered : (rows : Rows) (waiting : List Node) (most turn : ℕ)
     (old new whole : List (List ℕ)) → waiting ≡ []
     → Gathering rows waiting most turn old new whole → Gathers old whole new
 all_gathered rows waiting most turn old new whole none g =
-    subst (λ (names : List (List ℕ)). Gathers old names new)
-    (sym (append-nil g.met)
-    ∙ ap (λ (l : List Node). g.met ++ texts (users_deep most rows.read) l) (sym none) ∙ g.meets)
-    g.gathered
+    grind (arith, nat_tests, append-nil, texts)

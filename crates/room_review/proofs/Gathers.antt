@@ -1,10 +1,9 @@
 -- Names that are gathered.
-use Rattle.std.proofs.Common.{◌≡◌, ℕ, ◌||◌, Bool, true, false, List, [], ◌∷◌, ◌++◌, refl, sym, ap}
-use Rattle.std.proofs.Common.{◌∙◌}
-use Rattle.std.proofs.Common.{take}
+use Rattle.std.proofs.Common.{◌≡◌, ℕ, ◌||◌, Bool, true, false, List, [], ◌∷◌, ◌++◌, refl, take}
+use Rattle.std.proofs.Common.{arith}
 use Rattle.std.specs.List.{flat_map}
-use Rattle.room_entry.specs.Pieces.{same_text}
 use Rattle.room_review.specs.Users.{Gathers, is_listed}
+use Rattle.std.proofs.lemmas.Bool.Decides.{nat_tests}
 
 or_assoc : (a b c : Bool) → (a || b) || c ≡ a || (b || c)
 or_assoc true b c = refl
@@ -13,25 +12,16 @@ or_assoc false b c = refl
 listed_on : (name : List ℕ) (xs ys : List (List ℕ))
     → is_listed name (xs ++ ys) ≡ is_listed name xs || is_listed name ys
 listed_on name [] ys = refl
-listed_on name (x ∷ xs) ys =
-    ap (λ b. same_text x name || b) (listed_on name xs ys)
-    ∙ sym (or_assoc (same_text x name) (is_listed name xs) (is_listed name ys))
+listed_on name (x ∷ xs) ys = grind (arith, nat_tests, or_assoc, listed_on name xs ys)
 
 -- no name
 pub gathers_none : (names : List (List ℕ)) → Gathers names [] names
-gathers_none names name = or_none (is_listed name names)
-  where
-    or_none : (t : Bool) → t ≡ (t || false)
-    or_none true = refl
-    or_none false = refl
+gathers_none names name = grind (arith, nat_tests)
 
 -- some names, and then more of them
 pub gathers_on : (a b c xs ys : List (List ℕ)) → Gathers a xs b → Gathers b ys c
     → Gathers a (xs ++ ys) c
-gathers_on a b c xs ys first then name =
-    then name ∙ ap (λ t. t || is_listed name ys) (first name)
-    ∙ or_assoc (is_listed name a) (is_listed name xs) (is_listed name ys)
-    ∙ ap (λ t. is_listed name a || t) (sym (listed_on name xs ys))
+gathers_on a b c xs ys first then name = grind (arith, nat_tests, listed_on, or_assoc)
 
 module _ {X : Type 0} (f : X → List (List ℕ)) (start : List (List ℕ)) (xs : List X) where
   -- the names of the first members of a list

@@ -1,11 +1,10 @@
 -- What is kept of an object, by what is kept of the folder that it stands in.
 use Rattle.std.proofs.Common.{ℕ, suc, ◌-◌, ◌≡◌, Bool, true, false, cond, not, ◌&&◌, ◌||◌, List, []}
 use Rattle.std.proofs.Common.{◌∷◌, ◌++◌, length, take, filter, Option, Some, None, refl, sym, ap}
-use Rattle.std.proofs.Common.{◌∙◌, arith, inl, inr, map, get_or, min, ◌+◌, ◌<◌}
-use Rattle.std.specs.Prelude.{◌==◌, is_none}
+use Rattle.std.proofs.Common.{◌∙◌, arith, map, get_or, min, ◌+◌, ◌<◌}
+use Rattle.std.specs.Prelude.{is_none}
 use Rattle.std.specs.Option.{option_map, option_map_or}
 use Rattle.std.proofs.Math.Bool.{and-true, or-false}
-use Rattle.std.proofs.lemmas.Bool.{and_parts, eqb-true, false≢true, or_cases}
 use Rattle.std.proofs.lemmas.List.{get_or-map, length-map, map-append, take_all, take_more}
 use Rattle.std.proofs.lemmas.List.Folds.{list_all-append}
 use Rattle.room_entry.specs.BitLaws.{has-chosen}
@@ -15,7 +14,7 @@ use Rattle.room_entry.specs.declared.object.Which.TheVariants.{Dacl}
 use Rattle.room_entry.specs.declared.parties.Caller.{Caller}
 use Rattle.room_eval.specs.Deletion.{by_adding, deletion_by}
 use Rattle.room_eval.specs.declared.deletion.DeleteVerdict.{DeleteVerdict}
-use Rattle.room_eval.specs.Verdict.{is_allowed, ruling_of, verdict, verdict_by}
+use Rattle.room_eval.specs.Verdict.{is_allowed, ruling_of, verdict_by}
 use Rattle.room_eval.specs.declared.outcome.Ruling.{Ruling}
 use Rattle.room_eval.specs.declared.outcome.Ruling.TheVariants.{Allowed, Denied, Silent}
 use Rattle.room_eval.specs.declared.outcome.Verdict.{Verdict}
@@ -31,6 +30,7 @@ use Rattle.room_review.specs.Standing.{before_last, is_denied, keeps_children, r
 use Rattle.room_review.specs.Standing.{standing}
 use Rattle.room_review.specs.declared.standing.Standing.{Standing}
 use Rattle.room_eval.proofs.Steps.{verdict_agree}
+use Rattle.std.proofs.lemmas.Bool.Decides.{nat_tests}
 
 -- ---- the last object on a way
 
@@ -76,9 +76,7 @@ next_mapped f g xs ys i x y zs z below at beside are turns sofar =
 pub all_mapped : {A B C : Type 0} (f : A → B) (g : A → C) (xs : List A) (ys : List B) (n : ℕ)
     (zs : List C) → n ≡ min (length xs) (length ys) → ys ≡ map f xs → zs ≡ map g (take n xs)
     → zs ≡ map g xs
-all_mapped f g xs ys n zs many are sofar =
-    let long : length ys ≡ length xs = ap length are ∙ length-map xs f in
-    sofar ∙ ap (map g) (take_all n xs (omega arith))
+all_mapped f g xs ys n zs many are sofar = grind (arith, nat_tests, length-map, take_all)
 
 -- ---- rights that a mask may have
 
@@ -126,28 +124,14 @@ module _ (target folder : Site) where
 
   by_right : (says : ℕ → Ruling) (bit : ℕ)
       → is_passed (by_adding (verdict_by says (bit ∷ []))) ≡ is_allowed (says bit)
-  by_right says bit =
-      ap (λ v. is_passed (by_adding v))
-      (verdict_agree says (λ b. says bit) (bit ∷ []) (λ b it. ap says (sym (only b it))))
-      ∙ by_ruling bit (says bit)
-    where
-      only : (b : ℕ) → has (bit ∷ []) b ≡ true → bit ≡ b
-      only b it = elim (or_cases (bit == b) false it) [
-        | inl same ↦ eqb-true bit b same
-        | inr wrong ↦ absurd (false≢true wrong)
-      ]
+  by_right says bit = grind (arith, nat_tests, by_ruling, verdict_agree)
 
   passes_by : (caller : Caller)
       → passes caller (Deletion target folder)
       ≡ ((grants caller delete target || grants caller delete_child folder)
       || ((not (is_denied (ruling_of (full_at Dacl target) caller target.node.owners delete))
       && not (keeps_children caller folder)) && grants caller write_data folder))
-  passes_by caller =
-      by_rulings (ruling_of (full_at Dacl target) caller target.node.owners delete)
-      (ruling_of (full_at Dacl folder) caller folder.node.owners delete_child)
-      (verdict (full_at Dacl folder) caller folder.node.owners (write_data ∷ []))
-      (grants caller write_data folder)
-      (by_right (ruling_of (full_at Dacl folder) caller folder.node.owners) write_data)
+  passes_by caller = grind (arith, nat_tests, by_right, by_rulings)
 
 -- ---- an object behind others
 
@@ -197,20 +181,7 @@ module _ (caller : Caller) (path : List (List ℕ)) (node : Node) (above : List 
       → record { rights = granted; remove = false; opens = opens; keeps = keeps; repeats = false }
       ≡ standing caller above target
   root_standing granted opens keeps refused top grants denies lets keep =
-      let free : reaches caller above ≡ true = ap (reaches caller) top in
-      λ i. record {
-        rights = (grants ∙ rights_open free) i;
-        remove = (none_above top) i;
-        opens = (lets ∙ ap (λ g. is_folder node && has g execute) grants ∙ opens_open free) i;
-        keeps = (keep ∙ ap (λ d. shares (delete_child ∷ []) d) denies ∙ keeps_open free) i;
-        repeats = (none_repeats top) i;
-      }
-    where
-      none_above : above ≡ [] → false ≡ may_remove caller above target
-      none_above top = sym (ap (λ (sites : List Site). may_remove caller sites target) top)
-
-      none_repeats : above ≡ [] → false ≡ repeats caller above target
-      none_repeats top = sym (ap (λ (sites : List Site). repeats caller sites target) top)
+      grind (arith, nat_tests, keeps_open, opens_open, rights_open)
 
   module _ (folder : Site) (last : last_of above ≡ Some folder) (kept : Standing)
       (is : kept ≡ standing caller (before_last above) folder) where
@@ -221,12 +192,7 @@ module _ (caller : Caller) (path : List (List ℕ)) (node : Node) (above : List 
     repeats_is : (granted : List ℕ) (remove : Bool) → granted ≡ rights caller above target
         → remove ≡ may_remove caller above target
         → same_grant (granted, remove) (kept.rights, kept.remove) ≡ repeats caller above target
-    repeats_is granted remove grants removes =
-        (λ i. same_grant (grants i, removes i) ((is i).rights, (is i).remove))
-        ∙ sym (ap (λ (o : Option Site). option_map_or (λ site.
-        same_grant (rights caller above target, may_remove caller above target)
-        (rights caller (before_last above) site, may_remove caller (before_last above) site)) o
-        false) last)
+    repeats_is granted remove grants removes = grind (arith, nat_tests)
 
     -- an object that the caller doesn't come to
     pub closed_standing : kept.opens ≡ false
@@ -237,29 +203,12 @@ module _ (caller : Caller) (path : List (List ℕ)) (node : Node) (above : List 
           keeps = false;
           repeats = same_grant ([], false) (kept.rights, kept.remove);
         } ≡ standing caller above target
-    closed_standing shut =
-        let closed : reaches caller above ≡ false = sym opens_is ∙ shut in
-        let none : [] ≡ rights caller above target = sym (ap (λ t. cond t allowed []) closed) in
-        let stays : false ≡ may_remove caller above target =
-        sym (ap (λ t. t && option_map_or (λ site. passes caller (Deletion target site))
-        (last_of above) false) closed) in
-        λ i. record {
-          rights = none i;
-          remove = stays i;
-          opens =
-              (sym (list_all-append (lets_through caller) above (target ∷ [])
-              ∙ ap (λ t. t && (lets_through caller target && true)) closed)) i;
-          keeps = (sym (ap (λ t. t && keeps_children caller target) closed)) i;
-          repeats = (repeats_is [] false none stays) i;
-        }
+    closed_standing shut = grind (arith, nat_tests, list_all-append, opens_is, repeats_is)
 
     module _ (free : reaches caller above ≡ true) where
       -- the caller comes to the folder
       before : reaches caller (before_last above) ≡ true
-      before =
-          (and_parts (reaches caller (before_last above)) (lets_through caller folder && true)
-          (sym (list_all-append (lets_through caller) (before_last above) (folder ∷ []))
-          ∙ sym (ap (reaches caller) (split_last above folder last)) ∙ free)).0
+      before = grind (arith, nat_tests, list_all-append, split_last)
 
       folder_has : (right : ℕ) → has all_bits right ≡ true
           → has kept.rights right ≡ grants caller right folder
@@ -300,17 +249,4 @@ module _ (caller : Caller) (path : List (List ℕ)) (node : Node) (above : List 
           repeats = same_grant (granted, remove) (kept.rights, kept.remove);
         } ≡ standing caller above target
     open_standing granted refused remove opens keeps free' grants denies rule lets keep =
-        let free : reaches caller above ≡ true = sym opens_is ∙ free' in
-        let given : granted ≡ rights caller above target = grants ∙ rights_open free in
-        let goes : remove ≡ may_remove caller above target =
-        rule
-        ∙ (λ i. (has (grants i) delete || has kept.rights delete_child)
-        || ((not (has (denies i) delete) && not kept.keeps) && has kept.rights write_data))
-        ∙ removes free in
-        λ i. record {
-          rights = given i;
-          remove = goes i;
-          opens = (lets ∙ ap (λ g. is_folder node && has g execute) grants ∙ opens_open free) i;
-          keeps = (keep ∙ ap (λ d. shares (delete_child ∷ []) d) denies ∙ keeps_open free) i;
-          repeats = (repeats_is granted remove given goes) i;
-        }
+        grind (arith, nat_tests, keeps_open, opens_is, opens_open, removes, repeats_is, rights_open)

@@ -1,6 +1,6 @@
 -- The callers of a table by their labels: a user's name, `*` and `ANONYMOUS@` are apart.
-use Rattle.std.proofs.Common.{◌≡◌, ℕ, ◌||◌, Bool, true, false, List, [], ◌∷◌, map, refl, sym}
-use Rattle.std.proofs.Common.{ap, ◌∙◌, codes}
+use Rattle.std.proofs.Common.{◌≡◌, ℕ, ◌||◌, Bool, true, false, List, [], ◌∷◌, map, refl, sym, ap}
+use Rattle.std.proofs.Common.{◌∙◌, codes, arith}
 use Rattle.std.specs.List.{list_all, list_any, AllByRecursion as Each}
 use Rattle.std.proofs.lemmas.Bool.{and_parts, false_from_ne_true, false≢true, or_from, or_left}
 use Rattle.std.proofs.lemmas.Bool.{or_right}
@@ -14,6 +14,7 @@ use Rattle.room_dump.proofs.Counting.{each_always}
 use Rattle.room_review.specs.declared.parties.Party.{Party}
 use Rattle.room_review.specs.Table.{everybody, named, nameless, other_name}
 use Rattle.room_review.specs.Users.{is_listed}
+use Rattle.std.proofs.lemmas.Bool.Decides.{nat_tests}
 
 -- neither of the labels that aren't names is one
 no_names : (is_name (codes "*") ≡ false) × (is_name (codes "ANONYMOUS@") ≡ false)
@@ -62,10 +63,7 @@ module _ (content : Content) (users : List (List ℕ)) (stranger : List ℕ)
       → list_any (λ (other : Party). same_text other.label label) parties
       ≡ (is_listed label users
       || (same_text (codes "*") label || (same_text (codes "ANONYMOUS@") label || false)))
-  labels label =
-      let is = λ (other : Party). same_text other.label label in
-      list_any-append is (map (named content) users) (star ∷ nobody ∷ [])
-      ∙ ap (λ t. t || list_any is (star ∷ nobody ∷ [])) (any_map is (named content) users)
+  labels label = grind (arith, nat_tests, any_map, list_any-append)
 
   pub user_party : (name : List ℕ) → is_name name ≡ true → is_listed name users ≡ true
       → IsParty parties (named content name)

@@ -1,16 +1,16 @@
 -- Names in order, and a name that is none of them.
-use Rattle.std.proofs.Common.{ℕ, zero, suc, ◌<◌, ◌≤◌, ◌^◌, ◌≡◌, Bool, true, false, cond, not}
-use Rattle.std.proofs.Common.{◌&&◌, ◌||◌, List, [], ◌∷◌, length, take, drop, get_or, refl}
-use Rattle.std.proofs.Common.{sym, ap, subst, ◌∙◌, arith, nat_cmp, is_lt, drop-cons, ◌+◌, ◌%◌}
-use Rattle.std.proofs.Common.{⊎_elim, Result, Ok, Err}
+use Rattle.std.proofs.Common.{ℕ, zero, suc, ◌<◌, ◌≤◌, ◌^◌, ◌≡◌, Bool, true, false, cond, not, ◌&&◌}
+use Rattle.std.proofs.Common.{◌||◌, List, [], ◌∷◌, length, take, drop, get_or, refl, sym, ap, subst}
+use Rattle.std.proofs.Common.{◌∙◌, arith, nat_cmp, is_lt, drop-cons, ◌+◌, ◌%◌, ⊎_elim, Result, Ok}
+use Rattle.std.proofs.Common.{Err}
 use Rattle.std.specs.Prelude.{decimal, nat_lt, nat_le, ◌==◌}
 use Rattle.std.specs.Cmp.Lexicographic.{slice_cmp, nat_list_cmp_total, texts_ties}
 use Rattle.std.specs.List.{flat_map, insert, list_all, list_any, position_or_len}
 use Rattle.std.specs.Ordering.{is_eq, ordering_reverse}
 use Rattle.std.specs.Set.{remove_key}
 use Rattle.std.specs.declared.cmp.Ordering.TheVariants.{Equal, Greater}
-use Rattle.std.proofs.lemmas.Bool.{agree_below_at, and_from, and_parts}
-use Rattle.std.proofs.lemmas.Bool.{cases_lt, false_from_ne_true, le-leb, lt-ltb, not-true}
+use Rattle.std.proofs.lemmas.Bool.{agree_below_at, and_from, and_parts, cases_lt}
+use Rattle.std.proofs.lemmas.Bool.{false_from_ne_true, le-leb, lt-ltb, not-true}
 use Rattle.std.proofs.lemmas.Fmt.{decimal_by_steps, decimal_injective, decimal_nonempty}
 use Rattle.std.proofs.lemmas.Fmt.{length-decimal-le}
 use Rattle.std.proofs.lemmas.List.{take_all, take-append-drop}
@@ -28,6 +28,7 @@ use Rattle.room_review.specs.Users.{Gathers, are_apart, is_listed}
 use Rattle.room_review.proofs.Gathers.{GathersFirst}
 use Rattle.room_entry.proofs.Cuts.{pieces_whole}
 use Rattle.room_entry.proofs.Texts.{all-append, same_text-true}
+use Rattle.std.proofs.lemmas.Bool.Decides.{nat_tests}
 
 -- ---- names that are gathered
 
@@ -153,14 +154,7 @@ others_stay : (gone test : List ℕ → Bool) (names : List (List ℕ))
     → list_any test (remove_key gone names) ≡ list_any test names
 others_stay gone test [] apart = refl
 others_stay gone test (name ∷ names) apart =
-    on (gone name) refl (others_stay gone test names apart)
-  where
-    on : (t : Bool) → gone name ≡ t
-        → list_any test (remove_key gone names) ≡ list_any test names
-        → list_any test (cond t names (name ∷ remove_key gone names))
-        ≡ (test name || list_any test names)
-    on true is rest = ap (λ t. t || list_any test names) (sym (apart name is))
-    on false is rest = ap (λ t. test name || t) rest
+    grind (arith, nat_tests, others_stay gone test names apart)
 
 -- numbers that are all among some names are no more than these
 numbers_within : (n : ℕ) (names : List (List ℕ)) → n ≤ 2 ^ 64
@@ -247,8 +241,4 @@ number_named n text fits is =
 -- what is defined to be answered is not refused
 pub never_refused : {A F : Type 0} (r : Result A (Failure F)) (fault : F) (value : A)
     (defined : Result A F) → Gives r defined → r ≡ Err (Fault fault) → defined ≡ Ok value → ⊥
-never_refused {A} {F} r fault value defined gives is known =
-    let refused : defined ≡ Err fault =
-    subst (λ (answer : Result A (Failure F)). Gives answer defined) is gives in
-    let wrong : Ok value ≡ Err fault = sym known ∙ refused in
-    cc
+never_refused {A} {F} r fault value defined gives is known = grind (arith, nat_tests)

@@ -1,10 +1,9 @@
 -- What rows of several lists say, and the rows of one object.
 use Rattle.std.proofs.Common.{◌≡◌, ℕ, ◌&&◌, ◌||◌, Bool, true, false, cond, not, List, [], ◌∷◌, ◌++◌}
 use Rattle.std.proofs.Common.{filter, map, Option, Some, None, refl, sym, ap, subst, ◌∙◌}
-use Rattle.std.proofs.Common.{append_assoc}
+use Rattle.std.proofs.Common.{append_assoc, arith}
 use Rattle.std.specs.List.{flat_map, list_any, AllByRecursion as Each}
 use Rattle.std.specs.Option.{option_or}
-use Rattle.std.proofs.lemmas.Bool.{or_from}
 use Rattle.std.proofs.lemmas.List.{append-nil}
 use Rattle.std.proofs.lemmas.List.Folds.{list_any-append}
 use Rattle.room_entry.specs.Letters.{mask_text}
@@ -14,9 +13,10 @@ use Rattle.room_entry.proofs.Facts.Members.{any_filter, any_map, none_filter}
 use Rattle.room_machine.specs.Site.{Site}
 use Rattle.room_rows.specs.Paths.{path_text}
 use Rattle.room_review.specs.declared.parties.Party.{Party}
-use Rattle.room_review.specs.LookedUp.{is_row_of, nearest, said_by, said_in}
+use Rattle.room_review.specs.LookedUp.{is_row_of, nearest, said_in}
 use Rattle.room_review.specs.Standing.{granted, repeats}
 use Rattle.room_review.specs.Table.{row, rows_at, yes_or_no}
+use Rattle.std.proofs.lemmas.Bool.Decides.{nat_tests}
 
 -- ---- the first of several
 
@@ -46,9 +46,7 @@ module _ (path user : List ℕ) where
   pub said_append : (xs ys : List (List (List ℕ)))
       → said_in (xs ++ ys) path user ≡ option_or (said_in xs path user) (said_in ys path user)
   said_append [] ys = refl
-  said_append (x ∷ xs) ys =
-      ap (option_or (said_by path user x)) (said_append xs ys)
-      ∙ sym (or_assoc (said_by path user x) (said_in xs path user) (said_in ys path user))
+  said_append (x ∷ xs) ys = grind (arith, nat_tests, or_assoc, said_append xs ys)
 
   -- those that pass the test say the same, and the others nothing
   pub said_those : {X : Type 0} (f : X → List (List (List ℕ))) (p : X → Bool)
@@ -146,35 +144,7 @@ module _ (above : List Site) (target : Site) where
         (Some (printed (granted party.caller above target))) None
     said_chosen keep [] one = refl
     said_chosen keep (other ∷ parties) one =
-        on (keep other) (is other) refl refl (said_chosen keep parties one.1)
-      where
-        says : Party → Option (List ℕ × List ℕ)
-        says who = Some (printed (granted who.caller above target))
-
-        rest : Option (List ℕ × List ℕ)
-        rest = said_in (map (row above target) (filter keep parties)) path party.label
-
-        here : option_or (said_by path party.label (row above target other)) rest
-            ≡ option_or (cond (is other) (says other) None) rest
-        here = ap (λ t. option_or (cond (t && is other) (says other) None) rest) (text_itself path)
-
-        on : (k t : Bool) → keep other ≡ k → is other ≡ t
-            → rest ≡ cond (list_any is parties && keep party) (says party) None
-            → said_in (map (row above target) (cond k (other ∷ filter keep parties)
-            (filter keep parties))) path party.label
-            ≡ cond ((t || list_any is parties) && keep party) (says party) None
-        on true true kept its more =
-            let same = one.0 its in
-            here ∙ (λ i. option_or (cond (its i) (says (same i)) None) rest)
-            ∙ sym (ap (λ k. cond k (says party) None) (ap keep (sym same) ∙ kept))
-        on true false kept its more =
-            here ∙ ap (λ t. option_or (cond t (says other) None) rest) its ∙ more
-        on false true kept its more =
-            let dropped = ap keep (sym (one.0 its)) ∙ kept in
-            more ∙ ap (λ k. cond (list_any is parties && k) (says party) None) dropped
-            ∙ dropped_too (list_any is parties) (says party)
-            ∙ sym (ap (λ k. cond k (says party) None) dropped)
-        on false false kept its more = more
+        grind (arith, nat_tests, dropped_too, text_itself, said_chosen keep parties one.1)
 
     -- the row of one of the parties
     pub said_here : (all : Bool) (parties : List Party)
@@ -182,32 +152,21 @@ module _ (above : List Site) (target : Site) where
         → said_in (rows_at all parties above target) path party.label
         ≡ cond (all || not (repeats party.caller above target))
         (Some (printed (granted party.caller above target))) None
-    said_here all parties one among =
-        said_chosen (λ other. all || not (repeats other.caller above target)) parties one
-        ∙ ap (λ t. cond (t && (all || not (repeats party.caller above target)))
-        (Some (printed (granted party.caller above target))) None) among
+    said_here all parties one among = grind (arith, nat_tests, said_chosen)
 
   -- ---- whether a name has rows
 
   pub has_row : (parties : List Party) (name : List ℕ)
       → list_any (λ party. same_text party.label name) parties ≡ true
       → list_any (is_row_of name) (rows_at true parties above target) ≡ true
-  has_row parties name among =
-      any_map (is_row_of name) (row above target) (filter (λ party. true) parties)
-      ∙ any_filter (λ party. same_text party.label name) (λ party. true) parties ∙ among
+  has_row parties name among = grind (arith, nat_tests, any_filter, any_map)
 
   pub has_none : (all : Bool) (parties : List Party) (name : List ℕ)
       → list_any (λ party. same_text party.label name) parties ≡ false
       → list_any (is_row_of name) (rows_at all parties above target) ≡ false
-  has_none all parties name none =
-      any_map (is_row_of name) (row above target)
-      (filter (λ party. all || not (repeats party.caller above target)) parties)
-      ∙ none_filter (λ party. same_text party.label name)
-      (λ party. all || not (repeats party.caller above target)) parties none
+  has_none all parties name none = grind (arith, nat_tests, any_map, none_filter)
 
 pub any_flat : {X Y : Type 0} (p : Y → Bool) (f : X → List Y) (xs : List X)
     → Each (λ x. list_any p (f x) ≡ false) xs → list_any p (flat_map f xs) ≡ false
 any_flat p f [] none = refl
-any_flat p f (x ∷ xs) none =
-    list_any-append p (f x) (flat_map f xs)
-    ∙ or_from (list_any p (f x)) (list_any p (flat_map f xs)) none.0 (any_flat p f xs none.1)
+any_flat p f (x ∷ xs) none = grind (arith, nat_tests, list_any-append, any_flat p f xs none.1)

@@ -1,18 +1,15 @@
 -- In sound rows a child is found by its name, which is an object name.
 use Rattle.std.proofs.Common.{◌≡◌, ℕ, ◌==◌, ◌&&◌, ◌||◌, Bool, true, false, cond, not, List, [], ◌∷◌}
-use Rattle.std.proofs.Common.{◌<◌, ◌≤◌, ◌⊎◌, filter, Option, Some, None, nat_lt, inl, inr, refl}
-use Rattle.std.proofs.Common.{sym}
-use Rattle.std.proofs.Common.{ap, ◌∙◌, arith}
+use Rattle.std.proofs.Common.{◌<◌, filter, Some, None, nat_lt, refl, sym, ap, ◌∙◌, arith}
 use Rattle.std.specs.Prelude.{is_none}
 use Rattle.std.specs.List.{find, list_any, AllByRecursion as Each}
-use Rattle.std.specs.Option.{option_map_or}
-use Rattle.std.proofs.lemmas.Bool.{and_from, and_parts, eqb-true, eq-eqb, cases_lt, lt-ltb}
+use Rattle.std.proofs.lemmas.Bool.{and_parts, lt-ltb}
 use Rattle.room_entry.specs.Pieces.{same_text}
 use Rattle.room_entry.proofs.Alike.{text_itself}
 use Rattle.room_entry.proofs.Texts.{same_text-sym}
 use Rattle.room_entry.proofs.Facts.Members.{each_filter, each_weaker}
 use Rattle.room_rows.specs.declared.node.Node.{Node}
-use Rattle.room_rows.specs.Content.{Content, child_of, has_parent, node_at, same_parent}
+use Rattle.room_rows.specs.Content.{Content, child_of, has_parent, same_parent}
 use Rattle.room_rows.specs.Paths.{is_object_name}
 use Rattle.room_rows.specs.Rows.{AreRows, Rows}
 use Rattle.room_rows.specs.Sound.{has_sound_name, same_place}
@@ -20,18 +17,14 @@ use Rattle.room_dump.proofs.Counting.{each_found}
 use Rattle.room_dump.proofs.Reached.{IsThere, all_there}
 use Rattle.room_desk.proofs.Sound.SoundParts.{SoundParts, passes_test}
 use Rattle.room_review.proofs.Visited.{IsNamed}
+use Rattle.std.proofs.lemmas.Bool.Decides.{nat_tests}
 
 -- ---- what is found
 
 found_passes : (p : Node → Bool) (nodes : List Node) (node : Node) → find p nodes ≡ Some node
     → p node ≡ true
 found_passes p [] node found = absurd (let wrong : ⊥ = cc in wrong)
-found_passes p (x ∷ xs) node found = on (p x) refl found (found_passes p xs node)
-  where
-    on : (t : Bool) → p x ≡ t → cond t (Some x) (find p xs) ≡ Some node
-        → (find p xs ≡ Some node → p node ≡ true) → p node ≡ true
-    on true is found rest = let same : x ≡ node = cc in ap p (sym same) ∙ is
-    on false is found rest = rest found
+found_passes p (x ∷ xs) node found = grind (arith, nat_tests, found_passes p xs node)
 
 any_found : (p q : Node → Bool) (nodes : List Node) (node : Node) → find q nodes ≡ Some node
     → p node ≡ true → list_any p nodes ≡ true
@@ -52,49 +45,22 @@ any_found p q (x ∷ xs) node found is = on (q x) found (λ f. any_found p q xs 
 none_found : (p : Node → Bool) (nodes : List Node) → find p nodes ≡ None
     → list_any p nodes ≡ true → ⊥
 none_found p [] none some = let wrong : ⊥ = cc in wrong
-none_found p (x ∷ xs) none some = on (p x) none some (none_found p xs)
-  where
-    on : (t : Bool) → cond t (Some x) (find p xs) ≡ None → t || list_any p xs ≡ true
-        → (find p xs ≡ None → list_any p xs ≡ true → ⊥) → ⊥
-    on true none some rest = let wrong : ⊥ = cc in wrong
-    on false none some rest = rest none some
+none_found p (x ∷ xs) none some = grind (arith, nat_tests, none_found p xs)
 
 -- ---- no two children have one name
 
 same_folder : (id : ℕ) (x y : Node) → has_parent id x ≡ true → has_parent id y ≡ true
     → same_parent x.parent y.parent ≡ true
-same_folder id x y first second = on x.parent y.parent first second
-  where
-    on : (a b : Option ℕ) → option_map_or (λ p. p == id) a false ≡ true
-        → option_map_or (λ p. p == id) b false ≡ true → same_parent a b ≡ true
-    on None b first second = absurd (let wrong : ⊥ = cc in wrong)
-    on (Some p) None first second = absurd (let wrong : ⊥ = cc in wrong)
-    on (Some p) (Some q) first second = eq-eqb p q (eqb-true p id first ∙ sym (eqb-true q id second))
+same_folder id x y first second = grind (arith, nat_tests)
 
 no_root : (id : ℕ) (node : Node) → has_parent id node ≡ true → is_none node.parent ≡ false
-no_root id node is = on node.parent is
-  where
-    on : (o : Option ℕ) → option_map_or (λ p. p == id) o false ≡ true → is_none o ≡ false
-    on None is = absurd (let wrong : ⊥ = cc in wrong)
-    on (Some p) is = refl
+no_root id node is = grind (arith, nat_tests)
 
 twins : (content : Content) (id : ℕ) (x y : Node) (q : Node → Bool) → has_parent id x ≡ true
     → has_parent id y ≡ true → same_text x.name y.name ≡ true → nat_lt x.id y.id ≡ true
     → has_sound_name content y ≡ true → find q content.nodes ≡ Some x → ⊥
 twins content id x y q first second same below sound found =
-    let earlier = λ (other : Node). nat_lt other.id y.id && same_place other y in
-    on (list_any earlier content.nodes)
-    (any_found earlier q content.nodes x found
-    (and_from (nat_lt x.id y.id) (same_place x y) below
-    (and_from (same_parent x.parent y.parent) (same_text x.name y.name)
-    (same_folder id x y first second) same)))
-    (and_parts (is_object_name y.name) (not (list_any earlier content.nodes))
-    (ap (λ b. b || (is_object_name y.name && not (list_any earlier content.nodes)))
-    (sym (no_root id y second)) ∙ sound)).1
-  where
-    on : (t : Bool) → t ≡ true → not t ≡ true → ⊥
-    on true some none = let wrong : ⊥ = cc in wrong
-    on false some none = let wrong : ⊥ = cc in wrong
+    grind (arith, nat_tests, any_found, no_root, same_folder)
 
 module _ (rows : Rows) (are : AreRows rows) (parts : SoundParts rows) (id : ℕ) where
   abbrev content : Content
@@ -110,9 +76,7 @@ module _ (rows : Rows) (are : AreRows rows) (parts : SoundParts rows) (id : ℕ)
   module _ (child other : Node) (there : IsThere content child) (is : has_parent id child ≡ true)
       (found : child_of content id child.name ≡ Some other) where
     passes : (has_parent id other ≡ true) × (same_text other.name child.name ≡ true)
-    passes =
-        and_parts (has_parent id other) (same_text other.name child.name)
-        (found_passes (here child) content.nodes other found)
+    passes = grind (arith, nat_tests, found_passes)
 
     other_there : IsThere content other
     other_there =
@@ -130,38 +94,15 @@ module _ (rows : Rows) (are : AreRows rows) (parts : SoundParts rows) (id : ℕ)
         (is_sound (here child) other found) there
 
     found_itself : child_of content id child.name ≡ Some child
-    found_itself = on (cases_lt other.id child.id) (cases_lt child.id other.id)
-      where
-        neither : (a b : ℕ) → a ≤ b → b ≤ a → b ≡ a
-        neither a b e f = omega (arith, e, f)
-
-        on : (other.id < child.id) ⊎ (child.id ≤ other.id)
-            → (child.id < other.id) ⊎ (other.id ≤ child.id)
-            → child_of content id child.name ≡ Some child
-        on (inl before) second = absurd (not_before before)
-        on (inr over) (inl behind) = absurd (not_behind behind)
-        on (inr over) (inr under) =
-            found ∙ sym other_there
-            ∙ ap (node_at content) (neither child.id other.id over under) ∙ there
+    found_itself = grind (arith, nat_tests, not_before, not_behind, other_there)
 
   by_name : (child : Node) → IsThere content child → has_parent id child ≡ true
       → IsNamed content id child
-  by_name child there is = on (child_of content id child.name) refl
-    where
-      on : (o : Option Node) → child_of content id child.name ≡ o
-          → child_of content id child.name ≡ Some child
-      on None none =
-          absurd (none_found (here child) content.nodes none
-          (any_found (here child) (λ n. n.id == child.id) content.nodes child there
-          (and_from (has_parent id child) (same_text child.name child.name) is
-          (text_itself child.name))))
-      on (Some other) found = found_itself child other there is found
+  by_name child there is =
+      grind (arith, nat_tests, any_found, found_itself, none_found, text_itself)
 
   pub all_named : Each (IsNamed content id) (filter (has_parent id) content.nodes)
-  all_named =
-      each_filter (IsNamed content id) (has_parent id) content.nodes
-      (each_weaker (IsThere content) (λ n. has_parent id n ≡ true → IsNamed content id n)
-      (λ n there is. by_name n there is) content.nodes (all_there rows are))
+  all_named = grind (arith, nat_tests, all_there, by_name, each_filter, each_weaker)
 
   object_name : (child : Node) → IsThere content child → has_parent id child ≡ true
       → is_object_name child.name ≡ true
@@ -173,10 +114,4 @@ module _ (rows : Rows) (are : AreRows rows) (parts : SoundParts rows) (id : ℕ)
 
   pub all_kids : Each (λ child. IsNamed content id child × (is_object_name child.name ≡ true))
       (filter (has_parent id) content.nodes)
-  all_kids =
-      let IsKid : Node → Type 0 =
-      λ child. IsNamed content id child × (is_object_name child.name ≡ true) in
-      each_filter IsKid (has_parent id) content.nodes
-      (each_weaker (IsThere content) (λ n. has_parent id n ≡ true → IsKid n)
-      (λ n there is. (by_name n there is, object_name n there is)) content.nodes
-      (all_there rows are))
+  all_kids = grind (arith, nat_tests, all_there, by_name, each_filter, each_weaker, object_name)

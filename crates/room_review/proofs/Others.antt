@@ -1,7 +1,7 @@
 -- A name that has no rows in a table is a stranger to each of its objects.
-use Rattle.std.proofs.Common.{ℕ, zero, suc, ◌≡◌, ◌<◌, ◌&&◌, ◌||◌, Bool, true, false, not, List, []}
-use Rattle.std.proofs.Common.{◌∷◌, ◌++◌, filter, length, take, Option, Some, None, refl, sym, ap}
-use Rattle.std.proofs.Common.{subst, ◌∙◌, arith, map, append_assoc}
+use Rattle.std.proofs.Common.{ℕ, zero, suc, ◌≡◌, ◌<◌, ◌&&◌, Bool, true, false, List, [], ◌∷◌, ◌++◌}
+use Rattle.std.proofs.Common.{filter, length, take, Option, Some, None, refl, sym, ap, subst, ◌∙◌}
+use Rattle.std.proofs.Common.{arith, map, append_assoc}
 use Rattle.std.specs.List.{flat_map, list_all, list_any, AllByRecursion as Each}
 use Rattle.std.specs.Option.{option_map, option_map_or}
 use Rattle.std.proofs.lemmas.Bool.{and_from, and_parts, or_from, or_parts}
@@ -12,16 +12,14 @@ use Rattle.room_entry.specs.Pieces.{same_text}
 use Rattle.room_entry.specs.declared.entry.Who.{Who}
 use Rattle.room_entry.specs.declared.entry.Who.TheVariants.{Owner, Group, Everyone, Anonymous}
 use Rattle.room_entry.specs.declared.entry.Who.TheVariants.{Authenticated, User, Members}
-use Rattle.room_entry.specs.declared.object.Which.TheVariants.{Dacl}
 use Rattle.room_entry.proofs.Facts.Members.{any_filter, any_map, each_fails, each_weaker}
 use Rattle.room_entry.proofs.Texts.{same_text-sym}
 use Rattle.room_rows.specs.HeldList.{Held}
 use Rattle.room_rows.specs.declared.node.Node.{Node}
-use Rattle.room_rows.specs.Content.{Content, child_of, children_of, has_parent, is_linked_in}
-use Rattle.room_rows.specs.Content.{root_of}
+use Rattle.room_rows.specs.Content.{Content, child_of, children_of, has_parent}
 use Rattle.room_rows.specs.Held.{full_of}
 use Rattle.room_rows.specs.Meaning.{kept_held, kept_node, meaning}
-use Rattle.room_rows.specs.Rows.{Rows, numbers_of}
+use Rattle.room_rows.specs.Rows.{Rows}
 use Rattle.room_rows.specs.Walk.{behind, walk_from, walk_of}
 use Rattle.room_rows.proofs.InPlace.{KeepsPlaces, child_of-with_each, keeps_places}
 use Rattle.room_rows.proofs.InPlace.{root_of-with_each}
@@ -29,14 +27,15 @@ use Rattle.room_rows.proofs.Lookups.{found_passes}
 use Rattle.room_inherit.proofs.Children.{any_sorted}
 use Rattle.room_dump.specs.Dump.{tree_of}
 use Rattle.room_dump.proofs.Counting.{each_always, each_found}
-use Rattle.room_machine.specs.Site.{Site, site_at, sites_along}
+use Rattle.room_machine.specs.Site.{Site, site_at}
 use Rattle.room_machine.specs.Stored.{stored_along, stored_from, stored_site}
-use Rattle.room_review.specs.Laws.{IsStranger, OthersAreStrangers, is_known_at, is_known_to}
-use Rattle.room_review.specs.Laws.{is_paired, is_user_named, stored_above, told_at, users_on}
-use Rattle.room_review.specs.Table.{Place, place_below, place_of, users_below}
+use Rattle.room_review.specs.Laws.{OthersAreStrangers, is_known_to, is_paired, is_user_named}
+use Rattle.room_review.specs.Laws.{stored_above, users_on}
+use Rattle.room_review.specs.Table.{Place, place_below, users_below}
 use Rattle.room_review.specs.Users.{is_listed, user_in, users_at}
 use Rattle.room_review.proofs.Everywhere.{is_free, unknown_chain}
 use Rattle.room_review.proofs.Visited.{each_flat, ends_along, some_same}
+use Rattle.std.proofs.lemmas.Bool.Decides.{nat_tests}
 
 module _ (name : List ℕ) where
   -- ---- names that aren't listed
@@ -45,16 +44,12 @@ module _ (name : List ℕ) where
   IsNew names = is_listed name names ≡ false
 
   pub new_parts : (xs ys : List (List ℕ)) → IsNew (xs ++ ys) → IsNew xs × IsNew ys
-  new_parts xs ys new =
-      or_parts (is_listed name xs) (is_listed name ys)
-      (sym (list_any-append (λ (other : List ℕ). same_text other name) xs ys) ∙ new)
+  new_parts xs ys new = grind (arith, nat_tests, list_any-append)
 
   listed_flat : {X : Type 0} (f : X → List (List ℕ)) (xs : List X)
       → is_listed name (flat_map f xs) ≡ list_any (λ x. is_listed name (f x)) xs
   listed_flat f [] = refl
-  listed_flat f (x ∷ xs) =
-      list_any-append (λ (other : List ℕ). same_text other name) (f x) (flat_map f xs)
-      ∙ ap (λ t. is_listed name (f x) || t) (listed_flat f xs)
+  listed_flat f (x ∷ xs) = grind (arith, nat_tests, list_any-append, listed_flat f xs)
 
   pub new_each : {X : Type 0} (f : X → List (List ℕ)) (xs : List X) → IsNew (flat_map f xs)
       → Each (λ x. IsNew (f x)) xs
@@ -87,33 +82,15 @@ module _ (name : List ℕ) where
   kept_unnamed : (linked : Bool) (held : Held) → list_any names (full_of held) ≡ false
       → list_any names (full_of (kept_held linked held)) ≡ false
   kept_unnamed false held none = none
-  kept_unnamed true held none =
-      let parts =
-      or_parts (list_any names held.own) (list_any names held.inh)
-      (sym (list_any-append names held.own held.inh) ∙ none) in
-      list_any-append names held.own []
-      ∙ or_from (list_any names held.own) false parts.0 refl
+  kept_unnamed true held none = grind (arith, nat_tests, list_any-append)
 
   pub new_to : (node : Node) → IsNew (users_at node) → is_known_to name node ≡ false
-  new_to node new =
-      let parts =
-      or_parts (same_text node.owners.owner name)
-      (is_listed name (flat_map (λ (e : Ace). user_in e.who) (full_of node.dacl))) new in
-      or_from (same_text name node.owners.owner) (list_any names (full_of node.dacl))
-      (same_text-sym name node.owners.owner ∙ parts.0) (unnamed (full_of node.dacl) parts.1)
+  new_to node new = grind (arith, nat_tests, same_text-sym, unnamed)
 
   -- nor does what it keeps
   kept_free : (content : Content) (node : Node) → IsNew (users_at node)
       → is_free name (kept_node content node) ≡ true
-  kept_free content node new =
-      let linked = is_linked_in content Dacl node in
-      let parts =
-      or_parts (same_text name node.owners.owner) (list_any names (full_of node.dacl))
-      (new_to node new) in
-      ap not
-      (or_from (same_text name node.owners.owner)
-      (list_any names (full_of (kept_held linked node.dacl))) parts.0
-      (kept_unnamed linked node.dacl parts.1))
+  kept_free content node new = grind (arith, nat_tests, kept_unnamed, new_to)
 
   -- ---- walks
 
@@ -223,21 +200,7 @@ module _ (name : List ℕ) where
           → AreNew (take (length path) (stored_along content path))
           → list_all (is_free name) (walk_of room (path ++ more)).chain ≡ true
       free_along path found new =
-          ap (λ o. list_all (is_free name)
-          (option_map_or (λ root. walk_from room root (path ++ more)) o
-          (record { chain = []; rest = length (path ++ more) })).chain)
-          (root_of-with_each content kept same_places) ∙ on (root_of content) found new
-        where
-          first : Option Node → List Site
-          first o = option_map_or (λ root. stored_from content [] root path) o []
-
-          on : (o : Option Node) → site_at (first o) path ≡ Some target
-              → AreNew (take (length path) (first o))
-              → list_all (is_free name)
-              (option_map_or (λ root. walk_from room root (path ++ more)) (option_map kept o)
-              (record { chain = []; rest = length (path ++ more) })).chain ≡ true
-          on None found new = refl
-          on (Some root) found new = free_from path [] root found new
+          grind (arith, nat_tests, free_from, is_free, root_of-with_each, same_places)
 
 -- ---- the paths of a table
 
@@ -303,23 +266,14 @@ is_other rows path target name new =
 
 pub others_are_strangers : OthersAreStrangers
 others_are_strangers rows path target name found new =
-    let content = rows.read in
-    let other = is_other rows path target name new in
-    let ends = ends_along content path target found in
-    let at_path : target.path ≡ path = ap (λ (s : Site). s.path) ends in
-    each_weaker (GoesOn (length (numbers_of rows)) target.path)
-    (λ it. IsStranger (meaning content) it.0.path name)
-    (λ it on. (
-      ap not other.unpaired,
-      subst
-          (λ (p : List (List ℕ)).
-          list_all (λ site. not (is_known_at name site)) (sites_along (meaning content) p) ≡ true)
-          (sym (on.1.0 ∙ ap (λ (p : List (List ℕ)). p ++ on.0) at_path))
-          (unknown_chain name (walk_of (meaning content) (path ++ on.0)).chain
-          (free_along name content target on.0
-          (free_below name content (length (numbers_of rows)) target.node other.below on.0 on.1.1)
-          path found other.above)),
-    ))
-    (told_at rows path target)
-    (all_go_on content (length (numbers_of rows)) (place_of (stored_above rows path) target)
-    target.node)
+    grind (
+      arith,
+      nat_tests,
+      all_go_on,
+      each_weaker,
+      ends_along,
+      free_along,
+      free_below,
+      is_other,
+      unknown_chain,
+    )

@@ -1,12 +1,11 @@
 -- The rows of an object, by what is kept of it for each caller.
 use Rattle.std.proofs.Common.{ℕ, suc, ◌≡◌, ◌||◌, ◌∷◌, ◌++◌, ◌+◌, ◌<◌, Bool, true, false, cond, List}
 use Rattle.std.proofs.Common.{[], not, filter, map, length, get_or, drop, min, refl, ap, ◌∙◌, sym}
-use Rattle.std.proofs.Common.{add-one, append_assoc, arith, drop-cons}
+use Rattle.std.proofs.Common.{add-one, append_assoc, arith, drop-cons, OnOk, Result, Ok, Err}
 use Rattle.std.proofs.lemmas.List.{append-nil, drop_all}
 use Rattle.std.proofs.lemmas.Slice.Zip.{get_or-zip, length-zip}
 use Rattle.csv.specs.Writing.{default_writer, row_text}
 use Rattle.room_import.specs.Exports.{rows_text}
-use Rattle.std.proofs.Common.{OnOk, Result, Ok, Err}
 use Rattle.std.specs.Prelude.{if◌then◌else◌}
 use Rattle.std.specs.List.{zip}
 use Rattle.std.specs.Result.{is_ok}
@@ -20,6 +19,7 @@ use Rattle.room_review.specs.Standing.{standing, standings}
 use Rattle.room_review.specs.Table.{rows_at}
 use Rattle.room_entry.proofs.Facts.Members.{filter_map}
 use Rattle.room_inherit.proofs.Renewing.{map_map}
+use Rattle.std.proofs.lemmas.Bool.Decides.{nat_tests}
 
 zip_map : {A B : Type 0} (f : A → B) (xs : List A) → zip xs (map f xs) ≡ map (λ x. (x, f x)) xs
 zip_map f [] = refl
@@ -78,15 +78,7 @@ module _ (path : List ℕ) (kind : ObjKind) (all : Bool) (parties : List Party)
   -- one that is left out
   pub line_hidden : (before total : List ℕ) → (all || not standing.repeats) ≡ false
       → before ++ left i ≡ total → before ++ left (i + 1) ≡ total
-  line_hidden before total hidden sofar =
-      ap (λ (text : List ℕ). before ++ text)
-      (sym (ap (λ (l : List (Party × Standing)). rows_text (lines path kind all l)) turn
-      ∙ ap (λ t. rows_text (map (line path kind) (cond t
-      ((party, standing) ∷ filter (λ (z : Party × Standing). all || not z.1.repeats)
-      (drop (i + 1) (zip parties here)))
-      (filter (λ (z : Party × Standing). all || not z.1.repeats)
-      (drop (i + 1) (zip parties here)))))) hidden))
-      ∙ sofar
+  line_hidden before total hidden sofar = grind (arith, nat_tests, turn)
 
 -- no row is left
 pub lines_all : (path : List ℕ) (kind : ObjKind) (all : Bool) (parties : List Party)
@@ -94,10 +86,7 @@ pub lines_all : (path : List ℕ) (kind : ObjKind) (all : Bool) (parties : List 
     → n ≡ min (length parties) (length here)
     → text ++ rows_text (lines path kind all (drop n (zip parties here))) ≡ total → text ≡ total
 lines_all path kind all parties here n text total many sofar =
-    sym (append-nil text)
-    ∙ sym (ap (λ (l : List (Party × Standing)). text ++ rows_text (lines path kind all l))
-    (drop_all n (zip parties here) (let long = length-zip parties here in omega arith)))
-    ∙ sofar
+    grind (arith, nat_tests, append-nil, drop_all, length-zip)
 
 -- a text that was added, unless memory ran out
 pub on_ok_append : {X E : Type 0} (r : Result X E) (new old more total : List ℕ)

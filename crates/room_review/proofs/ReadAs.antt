@@ -1,11 +1,10 @@
 -- The text of a table is read as its rows.
-use Rattle.std.proofs.Common.{◌≡◌, ℕ, zero, suc, ◌+◌, ◌<◌, ◌≤◌, cond, List, [], ◌∷◌, ◌++◌, length}
-use Rattle.std.proofs.Common.{refl, arith}
+use Rattle.std.proofs.Common.{◌≡◌, ℕ, zero, suc, ◌+◌, ◌<◌, ◌≤◌, List, [], ◌∷◌, length, refl, arith}
 use Rattle.std.specs.List.{AllByRecursion as Each}
 use Rattle.std.proofs.lemmas.List.{length-append}
 use Rattle.csv.specs.Machine.{next_record}
 use Rattle.csv.specs.Reading.{default_config, records, records_from}
-use Rattle.csv.specs.Writing.{default_writer, is_blank, read_back, row_body}
+use Rattle.csv.specs.Writing.{read_back}
 use Rattle.csv.specs.declared.parser.State.TheVariants as st
 use Rattle.csv.proofs.RoundTrip.{read-write}
 use Rattle.room_import.specs.Exports.{rows_text}
@@ -13,6 +12,7 @@ use Rattle.room_entry.proofs.Facts.Members.{each_weaker}
 use Rattle.room_rows.specs.Content.{Content}
 use Rattle.room_review.specs.declared.question.Scope.{Scope}
 use Rattle.room_review.specs.LookedUp.{IsRow}
+use Rattle.std.proofs.lemmas.Bool.Decides.{nat_tests}
 
 -- a row has a column, so it is read as it was written
 abbrev pub HasColumn : List (List ℕ) → Type 0
@@ -21,16 +21,7 @@ HasColumn row = read_back row ≡ row
 -- a row takes a byte, so there are no more rows than bytes
 fewer_rows : (rows : List (List (List ℕ))) → length rows < length (rows_text rows) + 1
 fewer_rows [] = omega arith
-fewer_rows (row ∷ rows) =
-    let body = row_body default_writer row in
-    let marks : List ℕ = cond (is_blank default_writer row) (34 ∷ 34 ∷ []) [] in
-    omega (
-      arith,
-      fewer_rows rows,
-      length-append body (marks ++ 10 ∷ []),
-      length-append marks (10 ∷ []),
-      length-append (body ++ (marks ++ 10 ∷ [])) (rows_text rows),
-    )
+fewer_rows (row ∷ rows) = grind (arith, nat_tests, length-append, fewer_rows rows)
 
 all_read : (n : ℕ) (rows : List (List (List ℕ))) → length rows ≤ n → Each HasColumn rows
     → records_from default_config n st.StartRecord (rows_text rows) ≡ rows
@@ -51,9 +42,4 @@ read_as_rows rows all =
 -- the rows of a table have columns
 pub all_columns : (room : Content) (question : Scope) (whole table : List (List (List ℕ)))
     → Each (IsRow room question whole) table → Each HasColumn table
-all_columns room question whole table all =
-    each_weaker (IsRow room question whole) HasColumn has_column table all
-  where
-    has_column : (row : List (List ℕ)) → IsRow room question whole row → HasColumn row
-    has_column [] is = absurd (let none = is.begins in let wrong : ⊥ = cc in wrong)
-    has_column (column ∷ columns) is = refl
+all_columns room question whole table all = grind (arith, nat_tests, each_weaker)

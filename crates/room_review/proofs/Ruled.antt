@@ -1,13 +1,12 @@
 -- What a list says of all rights, entry by entry.
 use Rattle.std.proofs.Common.{ℕ, ◌+◌, ◌<◌, ◌≤◌, ◌≡◌, ◌∷◌, Bool, true, false, cond, not, ◌&&◌, ◌||◌}
-use Rattle.std.proofs.Common.{List, [], length, drop, get_or, refl, sym, ap, ◌∙◌, inl, inr}
+use Rattle.std.proofs.Common.{List, [], length, drop, get_or, refl, sym, ap, ◌∙◌, arith}
 use Rattle.std.specs.Prelude.{filter}
-use Rattle.std.proofs.lemmas.Bool.{and_cases, and_parts, not-false, not-true}
+use Rattle.std.proofs.lemmas.Bool.{not-true}
 use Rattle.std.proofs.lemmas.List.{drop_all}
 use Rattle.room_entry.specs.Ace.{Ace}
-use Rattle.room_entry.specs.BitLaws.{chosen_agree, has-chosen}
+use Rattle.room_entry.specs.BitLaws.{chosen_agree}
 use Rattle.room_entry.specs.Bits.{all_bits, has, shares}
-use Rattle.room_entry.specs.Valid.{asks_records}
 use Rattle.room_entry.specs.declared.entry.EntryKind.{EntryKind}
 use Rattle.room_entry.specs.declared.parties.Caller.{Caller}
 use Rattle.room_entry.specs.declared.parties.Owners.{Owners}
@@ -19,6 +18,7 @@ use Rattle.room_entry.proofs.Texts.{at_bit}
 use Rattle.room_machine.proofs.Rights.{has_kept}
 use Rattle.room_eval.proofs.Steps.{drop_here, ruling_head, ruling_passed, ruling_records}
 use Rattle.room_eval.proofs.Steps.{ruling_without}
+use Rattle.std.proofs.lemmas.Bool.Decides.{nat_tests}
 
 -- a bit of one of two masks that share none
 apart : (mask other : List ℕ) (bit : ℕ) → shares mask other ≡ false → has mask bit ≡ true
@@ -78,9 +78,7 @@ module _ (test : Ruling → Bool) where
     -- no entry yet
     pub found_none : (found unruled : List ℕ) → found ≡ [] → unruled ≡ all_bits
         → FoundBefore found unruled 0
-    found_none found unruled none whole bit known =
-        sym ((λ i. has (none i) bit || (has (whole i) bit && test (says 1 (drop 0 entries) bit)))
-        ∙ ap (λ t. t && test (says 1 (drop 0 entries) bit)) known)
+    found_none found unruled none whole bit known = grind (arith, nat_tests)
 
     -- no entry is left
     pub found_all : (found unruled : List ℕ) (i : ℕ) → test Silent ≡ false → length entries ≤ i
@@ -101,41 +99,27 @@ module _ (test : Ruling → Bool) where
       here : (bit : ℕ) → has all_bits bit ≡ true
           → passes bit
           ≡ (has found bit || (has unruled bit && test (says (i + 1) (entry ∷ rest) bit)))
-      here bit known =
-          so bit known
-          ∙ ap (λ left. has found bit || (has unruled bit && test (says (i + 1) left bit)))
-          (drop_here entries i entry below is)
+      here bit known = grind (arith, nat_tests, drop_here)
 
       -- an entry that bears on no unruled bit
       pub found_passed : bears_on entry caller owners unruled ≡ false
           → FoundBefore found unruled (i + 1)
       found_passed isnt bit known =
-          here bit known
-          ∙ where_unruled (has found bit) (has unruled bit) _ _ (λ it. ap test (same it))
-        where
-          same : has unruled bit ≡ true
-              → says (i + 1) (entry ∷ rest) bit ≡ says (i + 1 + 1) rest bit
-          same it =
-              elim (and_cases (shares unruled entry.mask && not (asks_records entry.kind))
-              (counts entry caller owners) isnt) [
-                | inl first ↦ elim (and_cases (shares unruled entry.mask)
-                    (not (asks_records entry.kind)) first) [
-                      | inl none ↦
-                          ruling_without (i + 1) entry rest caller owners bit
-                          (apart unruled entry.mask bit none it)
-                      | inr asks ↦
-                          ruling_records (i + 1) entry rest caller owners bit
-                          (not-false (asks_records entry.kind) asks)
-                    ]
-                | inr silent ↦ ruling_passed (i + 1) entry rest caller owners bit silent
-              ]
+          grind (
+            arith,
+            nat_tests,
+            apart,
+            here,
+            ruling_passed,
+            ruling_records,
+            ruling_without,
+            where_unruled,
+          )
 
       module _ (bears : bears_on entry caller owners unruled ≡ true) (kind : EntryKind)
           (of_kind : entry.kind ≡ kind) where
         does : counts entry caller owners ≡ true
-        does =
-            (and_parts (shares unruled entry.mask && not (asks_records entry.kind))
-            (counts entry caller owners) bears).1
+        does = grind (arith, nat_tests)
 
         abbrev less : List ℕ
         less = filter (λ bit. not (has entry.mask bit)) unruled
@@ -152,30 +136,11 @@ module _ (test : Ruling → Bool) where
             → test (ruled_by kind (i + 1) (says (i + 1 + 1) rest bit)) ≡ true)
             → (next left : List ℕ) → next ≡ more → left ≡ less → FoundBefore next left (i + 1)
         found_more pass next left grows shrinks bit known =
-            let after = says (i + 1 + 1) rest bit in
-            let either = λ (b : ℕ). has found b || has (filter (has entry.mask) unruled) b in
-            here bit known
-            ∙ ap (λ r. has found bit || (has unruled bit && test r))
-            (ruling_head (i + 1) entry rest caller owners bit kind does of_kind)
-            ∙ on_pass (has found bit) (has unruled bit) (has entry.mask bit)
-            (ruled_by kind (i + 1) after) after (pass bit)
-            ∙ ap (λ t. (has found bit || t)
-            || ((not (has entry.mask bit) && has unruled bit) && test after))
-            (sym (has_kept (has entry.mask) unruled bit))
-            ∙ ap (λ t. either bit || (t && test after)) (sym (has_less bit))
-            ∙ ap (λ t. t || (has less bit && test after)) (sym (has-chosen either bit known))
-            ∙ sym (λ i. has (grows i) bit || (has (shrinks i) bit && test after))
+            grind (arith, nat_tests, does, has_kept, has_less, here, on_pass, ruling_head)
 
         -- its ruling fails
         pub found_same : (fail : (bit : ℕ)
             → test (ruled_by kind (i + 1) (says (i + 1 + 1) rest bit)) ≡ false)
             → (next left : List ℕ) → next ≡ found → left ≡ less → FoundBefore next left (i + 1)
         found_same fail next left stays shrinks bit known =
-            let after = says (i + 1 + 1) rest bit in
-            here bit known
-            ∙ ap (λ r. has found bit || (has unruled bit && test r))
-            (ruling_head (i + 1) entry rest caller owners bit kind does of_kind)
-            ∙ on_fail (has found bit) (has unruled bit) (has entry.mask bit)
-            (ruled_by kind (i + 1) after) after (fail bit)
-            ∙ ap (λ t. has found bit || (t && test after)) (sym (has_less bit))
-            ∙ sym (λ i. has (stays i) bit || (has (shrinks i) bit && test after))
+            grind (arith, nat_tests, does, has_less, here, on_fail, ruling_head)

@@ -1,7 +1,7 @@
 -- What a table says of a name that has no rows in it is what it says of `*`.
-use Rattle.std.proofs.Common.{ℕ, zero, suc, ◌≡◌, ◌&&◌, true, false, not, List, [], ◌∷◌}
-use Rattle.std.proofs.Common.{◌++◌, filter, length, map, take, Option, Some, None, refl, sym, ap}
-use Rattle.std.proofs.Common.{subst, ◌∙◌, arith, length-append}
+use Rattle.std.proofs.Common.{ℕ, zero, suc, ◌≡◌, ◌&&◌, true, false, not, List, [], ◌∷◌, ◌++◌}
+use Rattle.std.proofs.Common.{filter, length, map, take, Option, Some, None, refl, sym, ap, subst}
+use Rattle.std.proofs.Common.{◌∙◌, arith, length-append}
 use Rattle.std.specs.Prelude.{if◌then◌else◌}
 use Rattle.std.specs.List.{flat_map, list_all, AllByRecursion as Each}
 use Rattle.std.specs.Option.{option_map_or}
@@ -9,11 +9,10 @@ use Rattle.std.proofs.lemmas.Bool.{and_from}
 use Rattle.std.proofs.lemmas.List.{take_all}
 use Rattle.std.proofs.lemmas.List.Folds.{list_all-append}
 use Rattle.room_entry.specs.Bits.{all_bits}
-use Rattle.room_entry.specs.Pieces.{same_text}
 use Rattle.room_entry.proofs.Facts.Members.{all_each, any_map, each_weaker}
 use Rattle.room_rows.specs.declared.node.Node.{Node}
-use Rattle.room_rows.specs.Content.{Content, child_of, children_of, root_of}
-use Rattle.room_rows.specs.Rows.{Rows, numbers_of}
+use Rattle.room_rows.specs.Content.{Content, child_of, children_of}
+use Rattle.room_rows.specs.Rows.{Rows}
 use Rattle.room_dump.specs.Dump.{tree_of}
 use Rattle.room_dump.proofs.Counting.{each_both}
 use Rattle.room_machine.specs.Judge.{passes}
@@ -26,8 +25,7 @@ use Rattle.room_review.specs.Laws.{SaysAlike, StarSpeaksForOthers, is_known_at, 
 use Rattle.room_review.specs.Laws.{told_at, told_there}
 use Rattle.room_machine.specs.Rights.{last_of, reaches}
 use Rattle.room_review.specs.Standing.{granted}
-use Rattle.room_review.specs.Table.{Place, named, nameless, other_name, place_below, place_of}
-use Rattle.room_review.specs.Table.{site_of}
+use Rattle.room_review.specs.Table.{Place, named, nameless, other_name, place_below, site_of}
 use Rattle.room_review.specs.Users.{is_listed, users_at}
 use Rattle.room_review.proofs.Ending.{IsStored}
 use Rattle.room_review.proofs.Others.{IsNew, IsOther, is_other, new_each, new_parts, new_to}
@@ -35,6 +33,7 @@ use Rattle.room_review.proofs.Others.{users_deep}
 use Rattle.room_review.proofs.Strangers as strangers
 use Rattle.room_review.proofs.Strangers.{IsUnknown, alone, are_unknown, is_alone}
 use Rattle.room_review.proofs.Visited.{each_flat}
+use Rattle.std.proofs.lemmas.Bool.Decides.{nat_tests}
 
 -- ---- two names that no object on a way knows
 
@@ -79,12 +78,7 @@ all_stored content (name ∷ names) path node = (
 
 stored_on_way : (content : Content) (path : List (List ℕ))
     → Each IsStored (stored_along content path)
-stored_on_way content path = on (root_of content)
-  where
-    on : (o : Option Node)
-        → Each IsStored (option_map_or (λ root. stored_from content [] root path) o [])
-    on None = tt
-    on (Some root) = all_stored content path [] root
+stored_on_way content path = grind (arith, nat_tests, all_stored)
 
 each_take : {A : Type 0} (P : A → Type 0) (n : ℕ) (xs : List A) → Each P xs → Each P (take n xs)
 each_take P zero xs all = tt
@@ -107,12 +101,7 @@ module _ (name : List ℕ) where
   unseen_before : (rows : Rows) (path : List (List ℕ)) (target : Site)
       → IsOther rows path target name → AreUnseen (stored_above rows path)
   unseen_before rows path target other =
-      all_each (λ site. not (is_known_at name site)) (stored_above rows path)
-      (each_both IsStored (λ (site : Site). IsNew name (users_at site.node))
-      (λ site. not (is_known_at name site) ≡ true)
-      (λ site stored new. ap not (unseen site stored new)) (stored_above rows path)
-      (each_take IsStored (length path) (stored_along rows.read path)
-      (stored_on_way rows.read path)) other.above)
+      grind (arith, nat_tests, all_each, each_both, each_take, stored_on_way, unseen)
 
   all_unseen : (content : Content) (depth : ℕ) (place : Place) (node : Node)
       → AreUnseen place.above → IsNew name (users_deep name content depth node)
@@ -144,9 +133,7 @@ module _ (name : List ℕ) where
 
   unseen_there : (rows : Rows) (path : List (List ℕ)) (target : Site)
       → IsOther rows path target name → Each IsUnseen (told_at rows path target)
-  unseen_there rows path target other =
-      all_unseen rows.read (length (numbers_of rows)) (place_of (stored_above rows path) target)
-      target.node (unseen_before rows path target other) other.below
+  unseen_there rows path target other = grind (arith, nat_tests, all_unseen, unseen_before)
 
 -- ---- two such names
 
@@ -188,11 +175,7 @@ no_user : (content : Content) (users : List Party) (names : List (List ℕ)) (na
     → users ≡ map (named content) names
     → is_listed name (map (λ (user : Party). user.label) users) ≡ false
     → is_listed name names ≡ false
-no_user content users names name are new =
-    sym (any_map (λ (text : List ℕ). same_text text name) (λ (p : Party). p.label)
-    (map (named content) names)
-    ∙ any_map (λ (p : Party). same_text p.label name) (named content) names)
-    ∙ ap (λ (l : List Party). is_listed name (map (λ p. p.label) l)) (sym are) ∙ new
+no_user content users names name are new = grind (arith, nat_tests, any_map)
 
 pub star_speaks_for_others : StarSpeaksForOthers
 star_speaks_for_others rows path target users star nobody name found all new =

@@ -1,32 +1,32 @@
 -- Names that nothing on a way knows have the same rights at its end.
 use Rattle.std.proofs.Common.{ℕ, zero, suc, ◌≡◌, ◌+◌, ◌&&◌, Bool, true, false, cond, not, List, []}
-use Rattle.std.proofs.Common.{◌∷◌, map, filter, length, take, Option, Some, None, refl, sym, ap}
-use Rattle.std.proofs.Common.{subst, ◌∙◌}
-use Rattle.std.specs.Prelude.{is_none, if◌then◌else◌}
+use Rattle.std.proofs.Common.{◌∷◌, filter, length, take, Option, Some, None, refl, sym, ap, subst}
+use Rattle.std.proofs.Common.{◌∙◌, arith}
+use Rattle.std.specs.Prelude.{if◌then◌else◌}
 use Rattle.std.specs.List.{list_all, list_any}
 use Rattle.std.specs.Option.{option_map_or}
-use Rattle.std.proofs.lemmas.Bool.{false≢true, and_parts, or_parts}
+use Rattle.std.proofs.lemmas.Bool.{false≢true, or_parts}
 use Rattle.room_entry.specs.Ace.{Ace}
 use Rattle.room_entry.specs.Bits.{all_bits, has}
 use Rattle.room_entry.specs.Matching.{is_in_force, is_named}
 use Rattle.room_entry.specs.Pieces.{same_text}
-use Rattle.room_entry.specs.Rights.{delete, delete_child, execute, write_data}
+use Rattle.room_entry.specs.Rights.{execute}
 use Rattle.room_entry.specs.declared.entry.Who.{Who}
 use Rattle.room_entry.specs.declared.entry.Who.TheVariants.{Owner, Group, Everyone, Anonymous}
 use Rattle.room_entry.specs.declared.entry.Who.TheVariants.{Authenticated, User, Members}
 use Rattle.room_entry.specs.declared.object.Which.TheVariants.{Dacl}
 use Rattle.room_entry.specs.declared.parties.Caller.{Caller}
 use Rattle.room_entry.specs.declared.parties.Owners.{Owners}
-use Rattle.room_eval.specs.Deletion.{deletion_by}
-use Rattle.room_eval.specs.Verdict.{is_allowed, ruled_by, ruling_from, ruling_of, verdict_by}
+use Rattle.room_eval.specs.Verdict.{is_allowed, ruled_by, ruling_from, ruling_of}
 use Rattle.room_rows.specs.Content.{Content, is_folder}
 use Rattle.room_machine.specs.Site.{Site, full_at, site_at, sites_along}
-use Rattle.room_machine.specs.Judge.{of_deletion, passes}
+use Rattle.room_machine.specs.Judge.{passes}
 use Rattle.room_machine.specs.Plan.{Deletion}
 use Rattle.room_machine.specs.Step.{caller_in}
 use Rattle.room_machine.specs.Rights.{grants, last_of, may_remove, reaches, rights, sites_above}
 use Rattle.room_review.specs.Laws.{IsStranger, StrangersAlike, is_known_at, is_paired}
 use Rattle.room_review.specs.Laws.{is_user_named}
+use Rattle.std.proofs.lemmas.Bool.Decides.{nat_tests}
 
 pub is_not : (t : Bool) → not t ≡ true → t ≡ false
 is_not true wrong = absurd (false≢true wrong)
@@ -45,11 +45,7 @@ alone name = record { user = Some name; groups = [] }
 
 pub is_alone : (content : Content) (name : List ℕ) → is_paired content name ≡ false
     → caller_in content (Some name) ≡ alone name
-is_alone content name none =
-    ap (λ (pairs : List (List ℕ × List ℕ)). record {
-      user = Some name;
-      groups = map (λ pair. pair.0) pairs;
-    }) (none_chosen (λ (pair : List ℕ × List ℕ). same_text pair.1 name) content.members none)
+is_alone content name none = grind (arith, nat_tests, none_chosen)
 
 module _ (a b : List ℕ) where
   module _ (owners : Owners) (one : same_text a owners.owner ≡ false)
@@ -87,12 +83,7 @@ module _ (a b : List ℕ) where
   pub rulings : (site : Site) → IsUnknown site → (bit : ℕ)
       → ruling_of (full_at Dacl site) (alone a) site.node.owners bit
       ≡ ruling_of (full_at Dacl site) (alone b) site.node.owners bit
-  rulings site unknown bit =
-      let first = or_parts (same_text a site.node.owners.owner)
-      (list_any (λ entry. is_user_named a entry.who) (full_at Dacl site)) unknown.0 in
-      let second = or_parts (same_text b site.node.owners.owner)
-      (list_any (λ entry. is_user_named b entry.who) (full_at Dacl site)) unknown.1 in
-      same_ruling site.node.owners first.0 second.0 1 (full_at Dacl site) first.1 second.1 bit
+  rulings site unknown bit = grind (arith, nat_tests, same_ruling)
 
   pub granted : (site : Site) → IsUnknown site → (right : ℕ)
       → grants (alone a) right site ≡ grants (alone b) right site
@@ -100,11 +91,7 @@ module _ (a b : List ℕ) where
 
   pub deleted : (target folder : Site) → IsUnknown target → IsUnknown folder
       → passes (alone a) (Deletion target folder) ≡ passes (alone b) (Deletion target folder)
-  deleted target folder at above =
-      let own = rulings target at in
-      let over = rulings folder above in
-      λ i. is_none (of_deletion target folder (deletion_by (own delete i) (over delete_child i)
-      (verdict_by (λ bit. over bit i) (write_data ∷ []))))
+  deleted target folder at above = grind (arith, nat_tests, rulings)
 
   -- ---- along a way
 
@@ -115,21 +102,11 @@ module _ (a b : List ℕ) where
 
   pub first_unknown : (site : Site) (sites : List Site) → are_unknown (site ∷ sites)
       → IsUnknown site
-  first_unknown site sites all = (
-    is_not (is_known_at a site) (and_parts (not (is_known_at a site))
-        (list_all (λ s. not (is_known_at a s)) sites) all.0).0,
-    is_not (is_known_at b site) (and_parts (not (is_known_at b site))
-        (list_all (λ s. not (is_known_at b s)) sites) all.1).0,
-  )
+  first_unknown site sites all = grind (arith, nat_tests, is_not)
 
   pub others_unknown : (site : Site) (sites : List Site) → are_unknown (site ∷ sites)
       → are_unknown sites
-  others_unknown site sites all = (
-    (and_parts (not (is_known_at a site))
-        (list_all (λ s. not (is_known_at a s)) sites) all.0).1,
-    (and_parts (not (is_known_at b site))
-        (list_all (λ s. not (is_known_at b s)) sites) all.1).1,
-  )
+  others_unknown site sites all = grind (arith, nat_tests)
 
   pub same_reach : (n : ℕ) (sites : List Site) → are_unknown sites
       → reaches (alone a) (take n sites) ≡ reaches (alone b) (take n sites)

@@ -1,11 +1,9 @@
 -- A whole table, of its parts.
-use Rattle.std.proofs.Common.{◌≡◌, ℕ, zero, suc, ◌<◌, true, List, [], ◌∷◌, ◌++◌, map, reverse}
-use Rattle.std.proofs.Common.{length, take}
+use Rattle.std.proofs.Common.{◌≡◌, ℕ, zero, suc, ◌<◌, true, List, [], ◌∷◌, ◌++◌, map, length, take}
 use Rattle.std.proofs.Common.{Option, Some, refl, sym, ap, subst, ◌∙◌, arith}
 use Rattle.std.specs.List.{flat_map}
 use Rattle.std.proofs.lemmas.Grind.{flat_map-append}
 use Rattle.std.proofs.lemmas.List.{append-nil}
-use Rattle.csv.specs.Writing.{default_writer, row_text}
 use Rattle.room_import.specs.Exports.{rows_text}
 use Rattle.room_entry.specs.Bytes.{slash}
 use Rattle.room_rows.specs.declared.node.Node.{Node}
@@ -23,7 +21,7 @@ use Rattle.room_review.specs.declared.standing.Standing.{Standing}
 use Rattle.room_review.specs.declared.telling.Audience.{Audience}
 use Rattle.room_review.specs.declared.telling.Pending.{Pending}
 use Rattle.room_review.specs.Standing.{standings}
-use Rattle.room_review.specs.Table.{IsReview, IsReviewAt, IsTable, Place, header, object_rows, site_of}
+use Rattle.room_review.specs.Table.{IsReview, IsReviewAt, Place, header, object_rows, site_of}
 use Rattle.room_review.specs.Table.{table_rows, users_of}
 use Rattle.room_review.specs.Telling.{GathersAll, GivesReview, IsLostAt, Starts, TellsAll, Under}
 use Rattle.room_review.specs.Telling.{WaitsBelow, children_under, ended_at, parent_path, place_at}
@@ -33,6 +31,7 @@ use Rattle.room_review.specs.Users.{Gathers, users_at}
 use Rattle.room_review.proofs.Ending.{ended, strayed}
 use Rattle.room_review.proofs.Told.{rows_on}
 use Rattle.room_review.proofs.Gathers.{gathers_on}
+use Rattle.std.proofs.lemmas.Bool.Decides.{nat_tests}
 
 -- ---- the children of an object
 
@@ -69,21 +68,14 @@ module _ (parties : List Party) where
       → here ≡ standings parties (place_under it).above (site_of (place_under it) it.node)
       → waiting_children above here children
       ≡ map (waiting_at parties) (children_under (place_under it) it.node children)
-  children_wait it above here children at are =
-      (λ i. waiting_children (at i) (are i) children)
-      ∙ ap (λ (t : List ℕ). waiting_children t
-      (standings parties (place_under it).above (site_of (place_under it) it.node)) children)
-      (below_root it.place.path it.node.name)
-      ∙ children_same (place_under it) it.node (reverse children)
+  children_wait it above here children at are = grind (arith, nat_tests, below_root, children_same)
 
   -- and where a review starts
   pub first_wait : (place : Place) (node : Node) (here : List Standing) (children : List Node)
       → here ≡ standings parties place.above (site_of place node)
       → waiting_children (parent_path place.path) here children
       ≡ map (waiting_at parties) (children_under place node children)
-  first_wait place node here children are =
-      ap (λ h. waiting_children (parent_path place.path) h children) are
-      ∙ children_same place node (reverse children)
+  first_wait place node here children are = grind (arith, nat_tests, children_same)
 
 -- ---- the table
 
@@ -97,18 +89,13 @@ pub table_told : (asked : Audience) (rows : Rows) (most : ℕ) (start : Start) (
     → more ≡ before
     ++ rows_text (table_rows rows asked.all asked.parties.items (place_at start sites) start.node)
 table_told asked rows most start sites waiting before text more below first rest =
-    rows_on before text more
-    (object_rows true asked.parties.items (place_at start sites) start.node) _ first
-    (rest (place_at start sites) start.node below)
+    grind (arith, nat_tests, rows_on)
 
 -- under the header
 pub under_header : (before more : List ℕ) (rows : List (List (List ℕ)))
     → before ≡ rows_text (header ∷ []) → more ≡ before ++ rows_text rows
     → more ≡ rows_text (header ∷ rows)
-under_header before more rows begun grows =
-    grows
-    ∙ ap (λ (t : List ℕ). t ++ rows_text rows)
-    (begun ∙ append-nil (row_text default_writer header))
+under_header before more rows begun grows = grind (arith, nat_tests, append-nil)
 
 -- ---- the users
 
@@ -147,19 +134,12 @@ module _ (question : Scope) (start : Start) (rows : Rows)
   stands : Walked 0
       → site_at (stored_along rows.read start.path) start.path
       ≡ Some (stored_site start.path start.node)
-  stands walked =
-      subst (λ (p : List (List ℕ)). site_at (stored_along rows.read p) p
-      ≡ Some (stored_site p start.node)) (sym same)
-      (ended rows question.path start.above start.node walked).0
+  stands walked = grind (arith, nat_tests, ended)
 
   -- the table of the object that the walk came to
   pub table_given : (pairs : List (List ℕ × List ℕ)) (bytes : List ℕ) → Walked 0
       → GivesReview pairs question start rows bytes → IsReview pairs question rows (Table bytes)
-  table_given pairs bytes walked gives =
-      let end = ended rows question.path start.above start.node walked in
-      subst (λ (o : Option Site). IsReviewAt pairs question o rows (Table bytes)) (sym end.0)
-      (subst (λ (p : List (List ℕ)). IsTable pairs question sites (stored_site p start.node) rows
-      (Table bytes)) same (gives sites (stands walked) end.1))
+  table_given pairs bytes walked gives = grind (arith, nat_tests, ended, stands)
 
   -- the refusal where it ended before
   pub refusal_given : (pairs : List (List ℕ × List ℕ)) (rest : ℕ) → 0 < rest → Walked rest

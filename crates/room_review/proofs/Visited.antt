@@ -1,6 +1,6 @@
 -- In sound rows, each object of a table stands at the end of its path.
 use Rattle.std.proofs.Common.{◌≡◌, ℕ, zero, suc, List, [], ◌∷◌, ◌++◌, filter, length, take, Option}
-use Rattle.std.proofs.Common.{Some, None, refl, sym, ap, subst, ◌∙◌, append_assoc}
+use Rattle.std.proofs.Common.{Some, None, refl, sym, ap, subst, ◌∙◌, append_assoc, arith}
 use Rattle.std.specs.List.{flat_map, AllByRecursion as Each}
 use Rattle.std.proofs.lemmas.List.{append-nil}
 use Rattle.std.specs.Option.{option_map_or}
@@ -12,6 +12,7 @@ use Rattle.room_dump.specs.Dump.{tree_of}
 use Rattle.room_entry.proofs.Facts.Members.{each_append, each_weaker}
 use Rattle.room_rows.proofs.Lookups.{each-sorted}
 use Rattle.room_review.specs.Table.{Place, place_below, site_of}
+use Rattle.std.proofs.lemmas.Bool.Decides.{nat_tests}
 
 pub some_same : {A : Type 0} (x y : A) → Some x ≡ Some y → x ≡ y
 some_same x y same = ap (λ o. option_map_or (λ z. z) o x) same
@@ -44,13 +45,7 @@ module _ (content : Content) where
 
   pub ends_along : (path : List (List ℕ)) (site : Site)
       → site_at (stored_along content path) path ≡ Some site → site ≡ stored_site path site.node
-  ends_along path site at = on (root_of content) at
-    where
-      on : (o : Option Node)
-          → site_at (option_map_or (λ root. stored_from content [] root path) o []) path ≡ Some site
-          → site ≡ stored_site path site.node
-      on None at = absurd (let wrong : ⊥ = cc in wrong)
-      on (Some root) at = ends_at path [] root site at
+  ends_along path site at = grind (arith, nat_tests, ends_at)
 
 -- ---- one name further
 

@@ -1,7 +1,7 @@
 -- Ways that a caller comes along, and what the replies at their ends say.
 use Rattle.std.proofs.Common.{ℕ, ◌≡◌, ◌&&◌, Bool, true, false, cond, not, List, [], ◌∷◌, ◌++◌, map}
-use Rattle.std.proofs.Common.{filter, length, take, Option, Some, None, refl, sym, ap, subst}
-use Rattle.std.proofs.Common.{◌∙◌}
+use Rattle.std.proofs.Common.{filter, length, take, Option, Some, None, refl, sym, ap, subst, ◌∙◌}
+use Rattle.std.proofs.Common.{arith}
 use Rattle.std.specs.Prelude.{is_none, IsTrue}
 use Rattle.std.specs.List.{list_all}
 use Rattle.std.specs.Option.{option_map_or}
@@ -16,16 +16,15 @@ use Rattle.room_eval.specs.declared.deletion.DeleteVerdict.{DeleteVerdict}
 use Rattle.room_eval.specs.declared.deletion.DeleteVerdict.TheVariants.{Granted as MayDelete}
 use Rattle.room_eval.specs.declared.deletion.DeleteVerdict.TheVariants.{AtTarget, AtParent}
 use Rattle.room_eval.specs.Deletion.{deletion}
-use Rattle.room_eval.specs.Verdict.{denial, is_denied_at, is_silent, least_denied, ruling_of}
+use Rattle.room_eval.specs.Verdict.{denial, least_denied, ruling_of}
 use Rattle.room_rows.specs.Content.{Content, children_of, is_empty, is_folder, without_node}
 use Rattle.room_machine.specs.declared.reply.Reply.{Reply}
-use Rattle.room_machine.specs.declared.reply.Reply.TheVariants.{Denied, Done, Refused, Rulings}
+use Rattle.room_machine.specs.declared.reply.Reply.TheVariants.{Done, Refused, Rulings}
 use Rattle.room_machine.specs.declared.reply.Reason.TheVariants.{NotFolder, NoSuch, NotEmpty, Root}
 use Rattle.room_machine.specs.declared.request.Request.TheVariants.{Can, Remove}
 use Rattle.room_machine.specs.Site.{Site, front, full_at, parent_at, site_at, sites_along}
 use Rattle.room_machine.specs.Plan.{Deletion, Item, Refusal, plan_of, way, where_found}
-use Rattle.room_machine.specs.Judge.{entry_at, failure, first_failure, of_deletion, of_verdict}
-use Rattle.room_machine.specs.Judge.{or_else}
+use Rattle.room_machine.specs.Judge.{failure, first_failure, of_deletion, of_verdict, or_else}
 use Rattle.room_machine.specs.Effect.{effect, rulings}
 use Rattle.room_machine.specs.Step.{caller_in}
 use Rattle.room_machine.proofs.Rights.{folder_is_last}
@@ -34,6 +33,7 @@ use Rattle.room_machine.specs.Rights.{grants, last_of, lets_through, may_remove,
 use Rattle.room_machine.specs.Rights.{reaches, rights, rights_at, sites_above}
 use Rattle.room_review.specs.Laws.{SaysCan, SaysRemove, allowed_in, is_denial, is_rulings}
 use Rattle.room_review.specs.Laws.{passed_rights}
+use Rattle.std.proofs.lemmas.Bool.Decides.{nat_tests}
 
 -- ---- a way
 
@@ -66,27 +66,8 @@ module _ (caller : Caller) where
 
   denied_stop : (site : Site) (rest : Option Reply) (folders : Bool) (o : Option ℕ)
       → Stop (or_else (of_verdict site (denial (says site) (execute ∷ []) o)) rest) folders
-  denied_stop site rest folders None =
-      record {
-        reply =
-            Denied site.path (filter (λ bit. is_silent (says site bit)) (execute ∷ [])) None None;
-        is = refl;
-        no_rulings = refl;
-        not_passed = refl;
-        nothing = refl;
-        denied = λ h. refl;
-      }
-  denied_stop site rest folders (Some place) =
-      record {
-        reply =
-            Denied site.path (filter (λ bit. is_denied_at place (says site bit)) (execute ∷ []))
-            (Some place) (entry_at site (Some place));
-        is = refl;
-        no_rulings = refl;
-        not_passed = refl;
-        nothing = refl;
-        denied = λ h. refl;
-      }
+  denied_stop site rest folders None = grind (arith, nat_tests)
+  denied_stop site rest folders (Some place) = grind (arith, nat_tests)
 
   -- a way that is open leaves the reply to what comes after it
   passes_way : (sites : List Site) (names : List (List ℕ)) (target : Site) (rest : List Item)
@@ -173,15 +154,7 @@ module _ (caller : Caller) where
       → filter (λ right. grants caller right target) mask
       ≡ allowed_in (Rulings (rulings caller mask target))
   allowed_rulings target [] = refl
-  allowed_rulings target (bit ∷ bits) = on (grants caller bit target) (allowed_rulings target bits)
-    where
-      on : (t : Bool) → filter (λ right. grants caller right target) bits
-          ≡ allowed_in (Rulings (rulings caller bits target))
-          → cond t (bit ∷ filter (λ right. grants caller right target) bits)
-          (filter (λ right. grants caller right target) bits)
-          ≡ cond t (bit ∷ []) [] ++ allowed_in (Rulings (rulings caller bits target))
-      on true same = ap (λ (bs : List ℕ). bit ∷ bs) same
-      on false same = same
+  allowed_rulings target (bit ∷ bits) = grind (arith, nat_tests, allowed_rulings target bits)
 
 -- ---- the reply to `Can`
 
@@ -207,10 +180,7 @@ module _ (content : Content) (user : Option (List ℕ)) (path : List (List ℕ))
   can_done = (effect content asker 0 (Can path all_bits)).0
 
   can_answers : can_done ≡ Rulings (rulings asker all_bits target)
-  can_answers =
-      ap (λ o. (option_map_or {U = Reply × Content}
-      (λ (site : Site). (Rulings (rulings asker all_bits site), content)) o (Done, content)).0)
-      found
+  can_answers = grind (arith, nat_tests)
 
   abbrev CanSays : Reply → Type 0
   CanSays reply =

@@ -1,22 +1,19 @@
 -- A table of a review is the room: what is looked up in it of each caller is what the room allows.
-use Rattle.std.proofs.Common.{◌≡◌, ℕ, Bool, true, false, List, [], ◌∷◌, ◌++◌}
-use Rattle.std.proofs.Common.{length, map, take, Option, Some, None, refl, sym, ap, subst}
-use Rattle.std.proofs.Common.{◌∙◌, codes, inl, inr}
+use Rattle.std.proofs.Common.{◌≡◌, ℕ, Bool, true, false, List, [], ◌∷◌, ◌++◌, length, map, take}
+use Rattle.std.proofs.Common.{Option, Some, None, refl, sym, ap, subst, ◌∙◌, codes, inl, inr, arith}
 use Rattle.std.specs.List.{list_any, AllByRecursion as Each}
 use Rattle.std.specs.Option.{option_map, option_map_or, option_or}
-use Rattle.std.proofs.lemmas.Bool.{cond-false, cond-true}
-use Rattle.std.proofs.lemmas.Bool.{or_from, or_left}
+use Rattle.std.proofs.lemmas.Bool.{cond-false, cond-true, or_from, or_left}
 use Rattle.std.proofs.lemmas.List.Folds.{list_any-append}
 use Rattle.csv.specs.Reading.{default_config, records}
 use Rattle.room_entry.specs.Letters.{mask_text}
 use Rattle.room_entry.specs.Names.{is_name}
 use Rattle.room_entry.specs.Pieces.{same_text}
 use Rattle.room_entry.proofs.Alike.{text_itself}
-use Rattle.room_entry.proofs.Facts.Members.{any_map, each_append, each_back, each_map}
-use Rattle.room_entry.proofs.Facts.Members.{each_weaker}
+use Rattle.room_entry.proofs.Facts.Members.{any_map, each_append, each_back, each_map, each_weaker}
 use Rattle.room_import.specs.Exports.{rows_text}
 use Rattle.room_rows.specs.declared.node.Node.{Node}
-use Rattle.room_rows.specs.Content.{Content, child_of, children_of, root_of}
+use Rattle.room_rows.specs.Content.{Content, child_of, children_of}
 use Rattle.room_rows.specs.Meaning.{meaning}
 use Rattle.room_rows.specs.Paths.{path_text}
 use Rattle.room_rows.specs.Rows.{AreRows, Rows, numbers_of}
@@ -34,14 +31,12 @@ use Rattle.room_review.specs.declared.parties.Party.{Party}
 use Rattle.room_review.specs.declared.question.Scope.{Scope}
 use Rattle.room_review.specs.declared.question.Reviewed.TheVariants.{Table}
 use Rattle.room_review.specs.Laws.{SaysAlike, SaysAt, stored_above, told_at, told_there, users_on}
-use Rattle.room_review.specs.LookedUp.{is_row_of, label_in, looked_up, nearest}
-use Rattle.room_review.specs.Table.{AreAll, AreAsked, IsReviewAt, Place, header}
-use Rattle.room_review.specs.Table.{kind_word, named, nameless, other_name, place_below, place_of}
-use Rattle.room_review.specs.Table.{row, object_rows, site_of, table_rows, yes_or_no}
+use Rattle.room_review.specs.LookedUp.{is_row_of, label_in, looked_up, nearest, IsAskedFor, IsLabel}
+use Rattle.room_review.specs.LookedUp.{IsRow, SaysTheRoom, StandsAt, TableIsTheRoom, is_caller}
+use Rattle.room_review.specs.Table.{AreAll, AreAsked, IsReviewAt, Place, header, kind_word, named}
+use Rattle.room_review.specs.Table.{nameless, other_name, place_below, place_of, row, object_rows}
+use Rattle.room_review.specs.Table.{site_of, table_rows, yes_or_no}
 use Rattle.room_review.specs.Users.{is_listed}
-use Rattle.room_review.specs.LookedUp.{IsAskedFor, IsLabel, IsRow, SaysTheRoom, StandsAt}
-use Rattle.room_review.specs.LookedUp.{TableIsTheRoom}
-use Rattle.room_review.specs.LookedUp.{is_caller}
 use Rattle.room_review.proofs.Below as below
 use Rattle.room_review.proofs.Labels.{IsParty, each_of, no_label, nobody_party, star_party}
 use Rattle.room_review.proofs.Labels.{user_party}
@@ -54,6 +49,7 @@ use Rattle.room_review.proofs.Said.{table_says_rights}
 use Rattle.room_review.proofs.Starred.{star_speaks_for_others}
 use Rattle.room_review.proofs.Starting.{starts_reached}
 use Rattle.room_review.proofs.Visited.{Stands, each_stands, ends_along, some_same}
+use Rattle.std.proofs.lemmas.Bool.Decides.{nat_tests}
 
 -- ---- a walk that goes on from an object
 
@@ -88,16 +84,7 @@ module _ (content : Content) (more : List (List ℕ)) (target site : Site) where
       → site_at (stored_along content path) path ≡ Some target
       → site_at (stored_along content (path ++ more)) (path ++ more) ≡ Some site
       → site_at (stored_from content target.path target.node more) more ≡ Some site
-  along_target path found whole = on (root_of content) found whole
-    where
-      on : (o : Option Node)
-          → site_at (option_map_or (λ root. stored_from content [] root path) o []) path
-          ≡ Some target
-          → site_at (option_map_or (λ root. stored_from content [] root (path ++ more)) o [])
-          (path ++ more) ≡ Some site
-          → site_at (stored_from content target.path target.node more) more ≡ Some site
-      on None found whole = absurd (let wrong : ⊥ = cc in wrong)
-      on (Some root) found whole = from_target path [] root found whole
+  along_target path found whole = grind (arith, nat_tests, from_target)
 
 -- what stands at a path is found there among the rows
 stored_there : (rows : Rows) → AreRows rows → AreSound rows → (path : List (List ℕ)) (site : Site)
@@ -147,9 +134,7 @@ module _ (rows : Rows) (are : AreRows rows) (sound : AreSound rows) (question : 
   at_path = ap (λ (s : Site). s.path) ends
 
   reached : Reached content (target.node ∷ []) most 0
-  reached =
-      starts_reached rows are most path target.node
-      (record { most_is = refl; is_there = found ∙ ap Some ends })
+  reached = grind (arith, nat_tests, ends, starts_reached)
 
   -- ---- whose rows are looked up for a caller
 
@@ -236,30 +221,14 @@ module _ (rows : Rows) (are : AreRows rows) (sound : AreSound rows) (question : 
   by_asked : (asked : Option (List ℕ))
       → AreAsked asked rows (users_on rows path target) parties → (user : Option (List ℕ))
       → is_caller user ≡ true → IsAskedFor asked user → Spoken user
-  by_asked None all None caller is_for =
-      by_nobody (subst (λ (ps : List Party). IsParty ps (nameless content)) (sym all.parties_are)
-      (nobody_party content all.users all.stranger all.are.valid))
-  by_asked None all (Some name) caller is_for = on (is_listed name all.users) refl
-    where
-      on : (t : Bool) → is_listed name all.users ≡ t → Spoken (Some name)
-      on true listed =
-          by_name name (subst (λ (ps : List Party). IsParty ps (named content name))
-          (sym all.parties_are)
-          (user_party content all.users all.stranger all.are.valid name caller listed))
-      on false none = by_star name all caller none
-  by_asked (Some name) alone user caller is_for =
-      subst Spoken (sym is_for)
-      (by_name name (subst (λ (ps : List Party). IsParty ps (named content name)) (sym alone)
-      (record {
-        one = ((λ same. refl), tt);
-        among = or_left (same_text name name) false (text_itself name);
-      })))
+  by_asked None all None caller is_for = grind (arith, nat_tests, by_nobody, nobody_party)
+  by_asked None all (Some name) caller is_for =
+      grind (arith, nat_tests, by_name, by_star, user_party)
+  by_asked (Some name) alone user caller is_for = grind (arith, nat_tests, by_name, text_itself)
 
   module _ (more : List (List ℕ)) (site : Site) (stands : StandsAt room (path ++ more) site) where
     stored : site_at (stored_from content target.path target.node more) more ≡ Some (fill site)
-    stored =
-        along_target content more target (fill site) path found
-        (stored_there rows are sound (path ++ more) site stands)
+    stored = grind (arith, nat_tests, along_target, fill, stored_there)
 
     -- what is looked up of a caller
     looked_up_of : (user : Option (List ℕ)) → Spoken user
@@ -300,18 +269,7 @@ module _ (rows : Rows) (are : AreRows rows) (sound : AreSound rows) (question : 
 
     each_speaks : (by : Asked)
         → Each (λ it. Each (λ party. Speaks it party by) parties) (told_at rows path target)
-    each_speaks by =
-        let spoken = by_asked question.user asked by.0 by.1 by.2 in
-        each_weaker (λ it. told_there spoken.party.caller it ≡ answer by.0 it.0.path)
-        (λ it. Each (λ party. Speaks it party by) parties)
-        (λ it says.
-        each_weaker (λ (other : Party). same_text other.label spoken.party.label ≡ true
-        → other ≡ spoken.party) (λ party. Speaks it party by)
-        (λ other same labelled. ap (λ (p : Party). told_there p.caller it)
-        (same (subst (λ (l : List ℕ). same_text other.label l ≡ true)
-        (sym labelled ∙ spoken.labelled) (text_itself other.label))) ∙ says) parties
-        spoken.is.one)
-        (told_at rows path target) spoken.says
+    each_speaks by = grind (arith, nat_tests, by_asked, each_weaker, text_itself)
 
     labels : (user : Option (List ℕ)) → AreAsked user rows (users_on rows path target) parties
         → Each (λ (party : Party). IsLabel user party.label) parties

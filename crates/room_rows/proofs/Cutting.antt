@@ -1,16 +1,12 @@
 -- Texts cut into names, and paths.
-use Rattle.std.proofs.Common.{◌≡◌, ◌≢◌, ℕ, zero, suc, ◌<◌, ◌≤◌, ◌==◌, true, false, List, [], ◌∷◌}
-use Rattle.std.proofs.Common.{◌++◌, length, take, Ok, Err, codes, refl, sym, ap, ◌∙◌, arith, inl}
-use Rattle.std.proofs.Common.{inr, nat_le, length-append}
+use Rattle.std.proofs.Common.{◌≡◌, ◌≢◌, ℕ, zero, suc, ◌<◌, ◌≤◌, true, false, List, [], ◌∷◌, ◌++◌}
+use Rattle.std.proofs.Common.{length, take, Ok, Err, codes, refl, ap, ◌∙◌, arith, length-append}
 use Rattle.std.specs.Prelude.{IsTrue, if◌then◌else◌}
-use Rattle.std.specs.List.{list_all, flat_map}
+use Rattle.std.specs.List.{list_all, flat_map, onto_first}
 use Rattle.std.specs.Str.{IsUtf8, IsValidUpTo}
-use Rattle.std.proofs.lemmas.Bool.{cases_Bool, and_parts, and_from, and_left, and_right}
-use Rattle.std.proofs.lemmas.Bool.{not_from_false, le-ltb, lt-ltb, leb-true, le-leb, eqb-true}
-use Rattle.std.proofs.lemmas.Bool.{ne_eqb, cond-true, cond-false}
+use Rattle.std.proofs.lemmas.Bool.{and_parts, and_from, le-ltb, cond-true, cond-false}
 use Rattle.std.proofs.lemmas.List.Splits.{slice_split-cons_yes, slice_split-cons_no}
 use Rattle.std.proofs.lemmas.List.Splits.{length-slice_split}
-use Rattle.std.specs.List.{onto_first}
 use Rattle.room_entry.specs.Utf8.{is_utf8}
 use Rattle.room_entry.specs.Pieces.{pieces, same_text}
 use Rattle.room_rows.specs.declared.fault.PathFault.TheVariants.{BadName, NotUtf8}
@@ -18,6 +14,7 @@ use Rattle.room_rows.specs.Paths.{is_object_name, is_path, is_name_byte, names_i
 use Rattle.room_rows.specs.Paths.{path_of, path_text}
 use Rattle.room_rows.proofs.Utf8.{fails_as_utf8}
 use Rattle.room_entry.proofs.Texts.{passes_as_utf8}
+use Rattle.std.proofs.lemmas.Bool.Decides.{nat_tests}
 
 -- ---- names by their bytes
 
@@ -25,19 +22,7 @@ use Rattle.room_entry.proofs.Texts.{passes_as_utf8}
 pub name_by_bytes : (name : List ℕ) → 0 < length name → length name ≤ 255
     → same_text name (codes ".") ≡ false → same_text name (codes "..") ≡ false → IsUtf8 name
     → is_object_name name ≡ list_all is_name_byte name
-name_by_bytes name some short dot dots utf8 =
-    let full = lt-ltb 0 (length name) some in
-    let fits = le-leb (length name) 255 short in
-    let no_dot = not_from_false _ dot in
-    let no_dots = not_from_false _ dots in
-    let is = passes_as_utf8 name utf8 in
-    elim (cases_Bool (list_all is_name_byte name)) [
-      | inl good ↦
-          and_from _ _
-          (and_from _ _ (and_from _ _ (and_from _ _ (and_from _ _ full fits) good) no_dot) no_dots)
-          is ∙ sym good
-      | inr bad ↦ and_left _ _ (and_left _ _ (and_left _ _ (and_right _ _ bad))) ∙ sym bad
-    ]
+name_by_bytes name some short dot dots utf8 = grind (arith, nat_tests, passes_as_utf8)
 
 -- ---- which fault comes first
 
@@ -65,10 +50,7 @@ first_not_empty b (p ∷ q ∷ parts) = refl
 pub no_slash_first : (text : List ℕ) → ((rest : List ℕ) → text ≢ 47 ∷ rest)
     → names_in (pieces 47 text) ≡ Err BadName
 no_slash_first [] isnt = refl
-no_slash_first (b ∷ bs) isnt =
-    ap names_in (slice_split-cons_no (λ byte. byte == 47) b bs
-    (ne_eqb b 47 (λ e. isnt bs (ap (λ (x : ℕ). x ∷ bs) e))))
-    ∙ first_not_empty b (pieces 47 bs)
+no_slash_first (b ∷ bs) isnt = grind (arith, nat_tests, first_not_empty, slice_split-cons_no)
 
 empty_first : (parts : List (List ℕ)) → 0 < length parts
     → names_in ([] ∷ [] ∷ parts) ≡ object_names ([] ∷ parts)
@@ -84,17 +66,16 @@ full_first b (p ∷ parts) = refl
 pub slash_first : (rest : List ℕ) → 0 < length rest
     → names_in (pieces 47 (47 ∷ rest)) ≡ object_names (pieces 47 rest)
 slash_first [] some = absurd (omega (arith, some))
-slash_first (b ∷ bs) some = elim (cases_Bool (b == 47)) [
-  | inl is ↦
-      let cut = slice_split-cons_yes (λ byte. byte == 47) b bs is in
-      let counted = length-slice_split (λ byte. byte == 47) bs in
-      ap (λ (parts : List (List ℕ)). names_in ([] ∷ parts)) cut
-      ∙ empty_first (pieces 47 bs) (omega (arith, counted)) ∙ ap object_names (sym cut)
-  | inr isnt ↦
-      let cut = slice_split-cons_no (λ byte. byte == 47) b bs isnt in
-      ap (λ (parts : List (List ℕ)). names_in ([] ∷ parts)) cut ∙ full_first b (pieces 47 bs)
-      ∙ ap object_names (sym cut)
-]
+slash_first (b ∷ bs) some =
+    grind (
+      arith,
+      nat_tests,
+      empty_first,
+      full_first,
+      length-slice_split,
+      slice_split-cons_no,
+      slice_split-cons_yes,
+    )
 
 pub bad_name : (names : List (List ℕ)) → list_all is_object_name names ≡ false
     → object_names names ≡ Err BadName
@@ -119,14 +100,16 @@ joined_onto b bs (p ∷ parts) e = let inner : p ++ joined parts ≡ bs = cc in
 -- the names of a text joined again
 pub joined-pieces : (rest : List ℕ) → joined (pieces 47 rest) ≡ 47 ∷ rest
 joined-pieces [] = refl
-joined-pieces (b ∷ bs) = elim (cases_Bool (b == 47)) [
-  | inl is ↦
-      ap joined (slice_split-cons_yes (λ byte. byte == 47) b bs is)
-      ∙ ap (λ (l : List ℕ). 47 ∷ l) (joined-pieces bs)
-      ∙ ap (λ (x : ℕ). 47 ∷ x ∷ bs) (sym (eqb-true b 47 is))
-  | inr isnt ↦ ap joined (slice_split-cons_no (λ byte. byte == 47) b bs isnt)
-      ∙ joined_onto b bs (pieces 47 bs) (joined-pieces bs)
-]
+joined-pieces (b ∷ bs) =
+    grind (
+      arith,
+      nat_tests,
+      joined_onto,
+      slice_split-cons_no,
+      slice_split-cons_yes,
+      joined-pieces
+          bs,
+    )
 
 pub joined-text : (names : List (List ℕ)) → length (joined names) ≤ 4096
     → length (path_text names) ≤ 4096
@@ -141,11 +124,7 @@ text-joined (n ∷ ns) h = h
 -- names of a text that isn't too long are those of a path
 pub read_is_path : (rest : List ℕ) (names : List (List ℕ)) → length rest < 4096
     → names ≡ pieces 47 rest → list_all is_object_name names ≡ true → IsTrue (is_path names)
-read_is_path rest names short cut good =
-    let all = ap joined cut ∙ joined-pieces rest in
-    let fits : length (joined names) ≤ 4096 = omega (arith, ap length all, short) in
-    and_from (list_all is_object_name names) (nat_le (length (path_text names)) 4096) good
-    (le-leb _ _ (joined-text names fits))
+read_is_path rest names short cut good = grind (arith, nat_tests, joined-pieces, joined-text)
 
 -- ---- the first names of a path
 
@@ -173,10 +152,4 @@ short_front (suc n) (x ∷ xs) = let rest = short_front n xs in
 pub front_is_path : (n : ℕ) (names : List (List ℕ)) → IsTrue (is_path names)
     → IsTrue (is_path (take n names))
 front_is_path n names is =
-    let parts = and_parts (list_all is_object_name names)
-    (nat_le (length (path_text names)) 4096) is in
-    let long = text-joined names (leb-true _ _ parts.1) in
-    let short = short_front n names in
-    and_from (list_all is_object_name (take n names))
-    (nat_le (length (path_text (take n names))) 4096) (good_front n names parts.0)
-    (le-leb _ _ (joined-text (take n names) (omega (arith, long, short))))
+    grind (arith, nat_tests, good_front, joined-text, short_front, text-joined)

@@ -1,9 +1,9 @@
 -- What a change of a content leaves, and what is found in it.
-use Rattle.std.proofs.Common.{◌≡◌, ℕ, ◌==◌, ◌&&◌, Bool, true, false, List, ◌∷◌, map, Option}
-use Rattle.std.proofs.Common.{Some, None, refl, sym, ap, ◌∙◌}
+use Rattle.std.proofs.Common.{◌≡◌, ℕ, ◌==◌, ◌&&◌, true, false, List, ◌∷◌, map, Option, Some, None}
+use Rattle.std.proofs.Common.{refl, sym, ap, ◌∙◌, arith}
 use Rattle.std.specs.Prelude.{IsTrue, is_none, not}
 use Rattle.std.specs.Option.{option_map_or}
-use Rattle.std.proofs.lemmas.Bool.{and_parts, eqb-true, eq-eqb, ne_eqb, false≢true, not_from_true}
+use Rattle.std.proofs.lemmas.Bool.{and_parts, eqb-true, ne_eqb, false≢true, not_from_true}
 use Rattle.std.proofs.lemmas.Bool.{not_from_false}
 use Rattle.std.proofs.lemmas.Slice.Eq.{bytes_eq-Decides}
 use Rattle.room_entry.specs.Pieces.{same_text}
@@ -14,6 +14,7 @@ use Rattle.room_rows.specs.Rows.{Rows, AreRows}
 use Rattle.room_rows.proofs.Lookups as lookups
 use Rattle.room_rows.proofs.Lookups.{Stands}
 use Rattle.room_rows.proofs.SamePlace.{IsSamePlace}
+use Rattle.std.proofs.lemmas.Bool.Decides.{nat_tests}
 
 -- the numbers of the objects rise from 1, as those of rows do
 abbrev pub Rises : Content → Type 0
@@ -34,9 +35,7 @@ has_parent-of_place id a b same =
 -- so does whether it is there by this name
 pub is_child-of_place : (id : ℕ) (name : List ℕ) (a b : Node) → IsSamePlace a b
     → (has_parent id a && same_text a.name name) ≡ (has_parent id b && same_text b.name name)
-is_child-of_place id name a b same =
-    ap (λ (t : Bool). t && same_text a.name name) (has_parent-of_place id a b same)
-    ∙ ap (λ (n : List ℕ). has_parent id b && same_text n name) same.name
+is_child-of_place id name a b same = grind (arith, nat_tests, has_parent-of_place)
 
 parent_here : (id : ℕ) (parent : Option ℕ) → option_map_or (λ (p : ℕ). p == id) parent false ≡ true
     → parent ≡ Some id
@@ -49,9 +48,7 @@ parent_is id node is = parent_here id node.parent is
 
 -- an object passes the test of the parent that it has
 pub has_its_parent : (id : ℕ) (node : Node) → node.parent ≡ Some id → has_parent id node ≡ true
-has_its_parent id node is =
-    ap (λ (o : Option ℕ). option_map_or (λ (parent : ℕ). parent == id) o false) is
-    ∙ eq-eqb id id refl
+has_its_parent id node is = grind (arith, nat_tests)
 
 -- ---- what is found
 

@@ -25,6 +25,7 @@ use Rattle.room_rows.proofs.Lookups as lookups
 use Rattle.room_rows.proofs.SamePlace as same_place
 use Rattle.room_rows.proofs.SamePlace.{IsSamePlace, put_there, replaced}
 use Rattle.room_rows.proofs.Frames.{Rises, has_parent-of_place, is_child-of_place, node_at-number}
+use Rattle.std.proofs.lemmas.Bool.Decides.{nat_tests}
 
 -- ---- objects that stay in their places
 
@@ -108,9 +109,7 @@ map-twice first second (x ∷ xs) =
 pub with_each-with_each : (content : Content) (first second : Node → Node)
     → with_each (with_each content first) second
     ≡ with_each content (λ (n : Node). second (first n))
-with_each-with_each content first second =
-    ap (λ (nodes : List Node). record content { nodes = nodes })
-    (map-twice first second content.nodes)
+with_each-with_each content first second = grind (arith, nat_tests, map-twice)
 
 -- ---- an object put in the place of the one of its number
 
@@ -191,9 +190,7 @@ bytes_here id bytes row rows e =
 
 bytes_before : (id : ℕ) (bytes : List ℕ) (row : ℕ × List ℕ) (rows : List (ℕ × List ℕ)) → id < row.0
     → put_body id bytes (row ∷ rows) ≡ (id, bytes) ∷ row ∷ rows
-bytes_before id bytes row rows above =
-    cond-false _ _ _ (le-ltb row.0 id (omega (arith, above)))
-    ∙ cond-false _ _ _ (ne_eqb row.0 id (λ e. absurd (omega (arith, above, e))))
+bytes_before id bytes row rows above = grind (arith, nat_tests)
 
 bytes_put : (id : ℕ) (bytes : List ℕ) (rows : List (ℕ × List ℕ))
     → body_at (put_body id bytes rows) id ≡ Some bytes
@@ -214,26 +211,18 @@ bytes_put id bytes (row ∷ rows) = elim (cases_order row.0 id) [
 
 bytes_put-other : (id : ℕ) (bytes : List ℕ) (rows : List (ℕ × List ℕ)) (at : ℕ) → (at ≡ id → ⊥)
     → body_at (put_body id bytes rows) at ≡ body_at rows at
-bytes_put-other id bytes [] at other = body_no (id, bytes) [] at (ne_eqb id at (λ e. other (sym e)))
+bytes_put-other id bytes [] at other = grind (arith, nat_tests, body_no)
 bytes_put-other id bytes (row ∷ rows) at other =
-    let fails : (id == at) ≡ false = ne_eqb id at (λ e. other (sym e)) in
-    elim (cases_order row.0 id) [
-      | inl e ↦ ap (λ (l : List (ℕ × List ℕ)). body_at l at) (bytes_here id bytes row rows e)
-          ∙ body_no (id, bytes) rows at fails
-          ∙ sym (body_no row rows at (ne_eqb row.0 at (λ e'. other (sym e' ∙ e))))
-      | inr apart ↦ elim apart [
-        | inl below ↦
-            ap (λ (l : List (ℕ × List ℕ)). body_at l at) (bytes_behind id bytes row rows below)
-            ∙ (elim (cases_Bool (row.0 == at)) [
-              | inl is ↦ body_yes row (put_body id bytes rows) at is ∙ sym (body_yes row rows at is)
-              | inr isnt ↦ body_no row (put_body id bytes rows) at isnt
-                  ∙ bytes_put-other id bytes rows at other ∙ sym (body_no row rows at isnt)
-            ])
-        | inr above ↦
-            ap (λ (l : List (ℕ × List ℕ)). body_at l at) (bytes_before id bytes row rows above)
-            ∙ body_no (id, bytes) (row ∷ rows) at fails
-      ]
-    ]
+    grind (
+      arith,
+      nat_tests,
+      body_no,
+      body_yes,
+      bytes_before,
+      bytes_behind,
+      bytes_here,
+      bytes_put-other id bytes rows at other,
+    )
 
 -- the bytes that were put
 pub body_of-with_body : (content : Content) (id : ℕ) (bytes : List ℕ)
@@ -290,6 +279,4 @@ bytes_there k id bytes (row ∷ rows) rises found =
 -- the bytes that a document has, put once more, leave the content of the rows
 pub with_body-there : (rows : Rows) → AreRows rows → (id : ℕ) (bytes : List ℕ)
     → body_of rows.read id ≡ Some bytes → with_body rows.read id bytes ≡ rows.read
-with_body-there rows are id bytes there =
-    ap (λ (bodies : List (ℕ × List ℕ)). record rows.read { bodies = bodies })
-    (bytes_there 0 id bytes rows.read.bodies are.body_numbers there)
+with_body-there rows are id bytes there = grind (arith, nat_tests, bytes_there)

@@ -1,10 +1,10 @@
 -- Objects looked up in a list of them: what a change of the list leaves.
 use Rattle.std.proofs.Common.{◌≡◌, ℕ, suc, ◌<◌, ◌==◌, ◌⊎◌, Bool, true, false, List, [], ◌∷◌, map}
 use Rattle.std.proofs.Common.{filter, Some, None, nat_lt, refl, sym, ap, subst, ◌∙◌, arith, inl}
-use Rattle.std.proofs.Common.{inr, ◌+◌, ◌≤◌, cond, length}
+use Rattle.std.proofs.Common.{inr, ◌+◌, ◌≤◌, length}
 use Rattle.std.specs.List.{find, AllByRecursion}
 use Rattle.std.proofs.lemmas.Bool.{cases_Bool, cases_order, and_parts, eqb-true, eq-eqb, ne_eqb}
-use Rattle.std.proofs.lemmas.Bool.{ltb-true, lt-ltb, le-ltb, cond-true, cond-false}
+use Rattle.std.proofs.lemmas.Bool.{ltb-true, lt-ltb, cond-true, cond-false}
 use Rattle.std.proofs.lemmas.Option.{same_Some, none-some}
 use Rattle.room_rows.specs.declared.node.Node.{Node}
 use Rattle.room_rows.specs.Content.{is_before, put_by_name, sorted_by_name, put_node, is_rising}
@@ -12,6 +12,7 @@ use Rattle.room_rows.specs.Content.{is_empty}
 use Rattle.room_rows.specs.Finding.{find_id}
 use Rattle.room_rows.specs.Rows.{put_number, put_numbers}
 use Rattle.room_entry.proofs.Facts.Members.{one_if, count}
+use Rattle.std.proofs.lemmas.Bool.Decides.{nat_tests}
 
 -- ---- the first that passes a test
 
@@ -37,10 +38,7 @@ found_passes p (y ∷ ys) x found = elim (cases_Bool (p y)) [
 -- where none is found, neither the first nor a later one passes
 pub none_found : {X : Type 0} (p : X → Bool) (x : X) (xs : List X) → find p (x ∷ xs) ≡ None
     → (p x ≡ false) × (find p xs ≡ None)
-none_found p x xs none = elim (cases_Bool (p x)) [
-  | inl is ↦ absurd (none-some x (sym none ∙ find_yes p x xs is))
-  | inr isnt ↦ (isnt, sym (find_no p x xs isnt) ∙ none)
-]
+none_found p x xs none = grind (arith, nat_tests, find_no, find_yes)
 
 -- ---- the first that passes, of those that are kept
 
@@ -119,14 +117,7 @@ find-kept_all p q (y ∷ ys) kept =
 pub each-kept : {X : Type 0} (P : X → Type 0) (q : X → Bool) (xs : List X) → AllByRecursion P xs
     → AllByRecursion (λ x. P x × (q x ≡ true)) (filter q xs)
 each-kept P q [] each = tt
-each-kept P q (y ∷ ys) each = elim (cases_Bool (q y)) [
-  | inl stays ↦
-      subst (AllByRecursion (λ x. P x × (q x ≡ true))) (sym (keep_yes q y ys stays))
-      ((each.0, stays), each-kept P q ys each.1)
-  | inr goes ↦
-      subst (AllByRecursion (λ x. P x × (q x ≡ true))) (sym (keep_no q y ys goes))
-      (each-kept P q ys each.1)
-]
+each-kept P q (y ∷ ys) each = grind (arith, nat_tests, keep_no, keep_yes, each-kept P q ys each.1)
 
 -- where Q follows from P, P of each member gives Q of each
 pub each-weaker : {X : Type 0} (P Q : X → Type 0) → ((x : X) → P x → Q x) → (xs : List X)
@@ -146,12 +137,7 @@ each-put_by_name : (P : Node → Type 0) (node : Node) (nodes : List Node) → P
     → AllByRecursion P nodes → AllByRecursion P (put_by_name node nodes)
 each-put_by_name P node [] here each = (here, tt)
 each-put_by_name P node (other ∷ others) here each =
-    elim (cases_Bool (is_before other.name node.name)) [
-      | inl is ↦
-          subst (AllByRecursion P) (sym (name_behind node other others is))
-          (each.0, each-put_by_name P node others here each.1)
-      | inr isnt ↦ subst (AllByRecursion P) (sym (name_here node other others isnt)) (here, each)
-    ]
+    grind (arith, nat_tests, name_behind, name_here, each-put_by_name P node others here each.1)
 
 -- what holds of each object of a list holds of each when they are sorted by name
 pub each-sorted : (P : Node → Type 0) (nodes : List Node) → AllByRecursion P nodes
@@ -163,36 +149,18 @@ each-sorted P (node ∷ nodes) each =
 count_put : (p : Node → Bool) (node : Node) (nodes : List Node)
     → count p (put_by_name node nodes) ≡ one_if (p node) + count p nodes
 count_put p node [] = refl
-count_put p node (other ∷ others) = on (is_before other.name node.name) (count_put p node others)
-  where
-    swapped : (a b c : ℕ) → a + (b + c) ≡ b + (a + c)
-    swapped a b c = omega arith
-
-    on : (t : Bool) → count p (put_by_name node others) ≡ one_if (p node) + count p others
-        → count p (cond t (other ∷ put_by_name node others) (node ∷ other ∷ others))
-        ≡ one_if (p node) + (one_if (p other) + count p others)
-    on true rest =
-        ap (λ n. one_if (p other) + n) rest
-        ∙ swapped (one_if (p other)) (one_if (p node)) (count p others)
-    on false rest = refl
+count_put p node (other ∷ others) = grind (arith, nat_tests, count, one_if, count_put p node others)
 
 -- as many objects pass a test when they are sorted by name
 pub count_sorted : (p : Node → Bool) (nodes : List Node)
     → count p (sorted_by_name nodes) ≡ count p nodes
 count_sorted p [] = refl
-count_sorted p (node ∷ nodes) =
-    count_put p node (sorted_by_name nodes)
-    ∙ ap (λ (n : ℕ). one_if (p node) + n) (count_sorted p nodes)
+count_sorted p (node ∷ nodes) = grind (arith, nat_tests, count_put, one_if, count_sorted p nodes)
 
 -- where an object was put among others, there is one
 pub put_is_some : (node : Node) (nodes : List Node) → is_empty (put_by_name node nodes) ≡ false
 put_is_some node [] = refl
-put_is_some node (other ∷ others) = on (is_before other.name node.name)
-  where
-    on : (t : Bool)
-        → is_empty (cond t (other ∷ put_by_name node others) (node ∷ other ∷ others)) ≡ false
-    on true = refl
-    on false = refl
+put_is_some node (other ∷ others) = grind (arith, nat_tests)
 
 -- ---- what stands in a list
 
@@ -227,13 +195,7 @@ found_number id nodes node found =
 
 length_put : (id : ℕ) (ids : List ℕ) → length (put_number id ids) ≡ suc (length ids)
 length_put id [] = refl
-length_put id (other ∷ others) = on (nat_lt other id) (length_put id others)
-  where
-    on : (t : Bool) → length (put_number id others) ≡ suc (length others)
-        → length (cond t (other ∷ put_number id others) (id ∷ other ∷ others))
-        ≡ suc (suc (length others))
-    on true rest = ap suc rest
-    on false rest = refl
+length_put id (other ∷ others) = grind (arith, nat_tests, length_put id others)
 
 -- numbers put among others leave no fewer
 pub length_numbers : (more ids : List ℕ) → length ids ≤ length (put_numbers more ids)
@@ -260,10 +222,7 @@ found_above k (x ∷ xs) id node rises found =
 
 found_behind : (x : Node) (xs : List Node) → is_rising (x.id ∷ map (λ (n : Node). n.id) xs) ≡ true
     → (y : Node) → find_id y.id xs ≡ Some y → find_id y.id (x ∷ xs) ≡ Some y
-found_behind x xs rises y found =
-    let below = found_above x.id xs y.id y rises found in
-    find_no (λ (n : Node). n.id == y.id) x xs
-    (ne_eqb x.id y.id (λ e. absurd (omega (arith, below, e)))) ∙ found
+found_behind x xs rises y found = grind (arith, nat_tests, find_no, found_above)
 
 -- each object of rows is found by its number
 pub each_found : (k : ℕ) (nodes : List Node) → is_rising (k ∷ map (λ (n : Node). n.id) nodes) ≡ true
@@ -282,15 +241,11 @@ pub put_behind : (node x : Node) (xs : List Node) → x.id < node.id
 put_behind node x xs below = cond-true _ _ _ (lt-ltb x.id node.id below)
 
 pub put_same : (node x : Node) (xs : List Node) → x.id ≡ node.id → put_node node (x ∷ xs) ≡ node ∷ xs
-put_same node x xs e =
-    cond-false _ _ _ (le-ltb x.id node.id (omega (arith, e)))
-    ∙ cond-true _ _ _ (eq-eqb x.id node.id e)
+put_same node x xs e = grind (arith, nat_tests)
 
 put_before : (node x : Node) (xs : List Node) → node.id < x.id
     → put_node node (x ∷ xs) ≡ node ∷ x ∷ xs
-put_before node x xs above =
-    cond-false _ _ _ (le-ltb x.id node.id (omega (arith, above)))
-    ∙ cond-false _ _ _ (ne_eqb x.id node.id (λ e. absurd (omega (arith, above, e))))
+put_before node x xs above = grind (arith, nat_tests)
 
 -- it is found by its number
 pub find-put_same : (node : Node) (nodes : List Node)
@@ -314,21 +269,16 @@ find-put_same node (x ∷ xs) =
 -- by any other number the same is found as before
 pub find-put_other : (node : Node) (nodes : List Node) (id : ℕ) → (id ≡ node.id → ⊥)
     → find_id id (put_node node nodes) ≡ find_id id nodes
-find-put_other node [] id other =
-    find_no (λ (n : Node). n.id == id) node [] (ne_eqb node.id id (λ e. other (sym e)))
+find-put_other node [] id other = grind (arith, nat_tests, find_no)
 find-put_other node (x ∷ xs) id other =
-    let test = λ (n : Node). n.id == id in
-    let fails : test node ≡ false = ne_eqb node.id id (λ e. other (sym e)) in
-    elim (cases_order x.id node.id) [
-      | inl e ↦ ap (find test) (put_same node x xs e) ∙ find_no test node xs fails
-          ∙ sym (find_no test x xs (ne_eqb x.id id (λ e'. other (sym e' ∙ e))))
-      | inr apart ↦ elim apart [
-        | inl below ↦ ap (find test) (put_behind node x xs below)
-            ∙ (elim (cases_Bool (x.id == id)) [
-              | inl is ↦ find_yes test x (put_node node xs) is ∙ sym (find_yes test x xs is)
-              | inr isnt ↦ find_no test x (put_node node xs) isnt ∙ find-put_other node xs id other
-                  ∙ sym (find_no test x xs isnt)
-            ])
-        | inr above ↦ ap (find test) (put_before node x xs above) ∙ find_no test node (x ∷ xs) fails
-      ]
-    ]
+    grind (
+      arith,
+      nat_tests,
+      find_no,
+      find_yes,
+      put_before,
+      put_behind,
+      put_same,
+      find-put_other
+          node xs id other,
+    )

@@ -1,6 +1,6 @@
 -- Objects that are changed, all in the same way.
 use Rattle.std.proofs.Common.{◌≡◌, ℕ, ◌==◌, ◌&&◌, ◌||◌, ◌++◌, Bool, true, false, List, [], ◌∷◌, map}
-use Rattle.std.proofs.Common.{Option, None, Some, refl, sym, ap, ◌∙◌, inl, inr}
+use Rattle.std.proofs.Common.{Option, None, Some, refl, sym, ap, ◌∙◌, inl, inr, arith}
 use Rattle.std.specs.Prelude.{is_some, if◌then◌else◌}
 use Rattle.std.specs.List.{AllByRecursion, list_any}
 use Rattle.std.specs.List.Sorted.{IsPermutation}
@@ -20,11 +20,12 @@ use Rattle.room_rows.specs.Keep.{Changes, ChangesAll, are_there, with_changed, w
 use Rattle.room_rows.specs.Keep.{with_inh}
 use Rattle.room_rows.specs.Rows.{AreRows, Rows}
 use Rattle.room_rows.proofs.Frames.{node_at-number, rows-rise}
-use Rattle.room_rows.proofs.InPlace.{node_at-with_each, keeps_places}
-use Rattle.room_rows.proofs.InPlace.{with_each-with_each, with_node-replaces}
+use Rattle.room_rows.proofs.InPlace.{node_at-with_each, keeps_places, with_each-with_each}
+use Rattle.room_rows.proofs.InPlace.{with_node-replaces}
 use Rattle.room_rows.proofs.Lookups.{each-weaker, each_found}
 use Rattle.room_rows.proofs.SamePlace.{IsSamePlace, replaced, replaced_here, replaced_elsewhere}
 use Rattle.room_rows.proofs.SamePlace.{same_place}
+use Rattle.std.proofs.lemmas.Bool.Decides.{nat_tests}
 
 -- the object, changed if it is one of these
 abbrev pub changed_among : List ℕ → (Node → Node) → Node → Node
@@ -34,9 +35,7 @@ changed_among ids change node =
 map_each : (f g : Node → Node) (nodes : List Node)
     → AllByRecursion (λ (n : Node). f n ≡ g n) nodes → map f nodes ≡ map g nodes
 map_each f g [] same = refl
-map_each f g (x ∷ xs) same =
-    ap (λ (n : Node). n ∷ map f xs) same.0
-    ∙ ap (λ (l : List Node). g x ∷ l) (map_each f g xs same.1)
+map_each f g (x ∷ xs) same = grind (arith, nat_tests, map_each f g xs same.1)
 
 map_all : (f g : Node → Node) (nodes : List Node) → ((n : Node) → f n ≡ g n)
     → map f nodes ≡ map g nodes
@@ -69,11 +68,7 @@ module _ (change : Node → Node) where
 
   module _ (stays : (n : Node) → IsSamePlace (change n) n) where
     place_among : (ids : List ℕ) (n : Node) → IsSamePlace (changed_among ids change n) n
-    place_among ids n = by (list_any (λ (id : ℕ). id == n.id) ids)
-      where
-        by : (b : Bool) → IsSamePlace (if b then change n else n) n
-        by true = stays n
-        by false = same_place n
+    place_among ids n = grind (arith, nat_tests, same_place)
 
     -- the same objects are there as before
     pub there_after : (content : Content) (ids among : List ℕ)

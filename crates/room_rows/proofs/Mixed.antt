@@ -1,13 +1,12 @@
 -- Lists with others in between, as the names under a parent are told.
-use Rattle.std.proofs.Common.{◌≡◌, ℕ, ◌==◌, List, [], ◌∷◌, map, filter, refl, sym, ap₂, subst}
-use Rattle.std.proofs.Common.{inl, inr, arith, false}
-use Rattle.std.specs.List.{Contains, filter_map}
-use Rattle.std.specs.Option.{option_map_or}
+use Rattle.std.proofs.Common.{◌≡◌, ℕ, List, [], ◌∷◌, map, refl, sym, ap₂, subst, inl, inr, arith}
+use Rattle.std.specs.List.{Contains}
 use Rattle.room_entry.specs.declared.object.ObjKind.{ObjKind}
 use Rattle.room_rows.specs.declared.node.Node.{Node}
 use Rattle.room_rows.specs.Content.{children_of}
 use Rattle.room_rows.specs.Keep.{AreNamedUnder, IsMixed}
-use Rattle.room_rows.specs.Rows.{Rows, Unread}
+use Rattle.room_rows.specs.Rows.{Rows}
+use Rattle.std.proofs.lemmas.Bool.Decides.{nat_tests}
 
 nothing_stands : {X : Type 0} (x : X) → Contains [] x → ⊥
 nothing_stands x stands = absurd (let below = stands.1 in omega (arith, below))
@@ -37,8 +36,4 @@ mixed_alone (x ∷ xs) (y ∷ ys) (inr (stands, rest)) = absurd (nothing_stands 
 pub named_alone : (parent : ℕ) (rows : Rows) (names : List (List ℕ × ObjKind))
     → rows.unreadable ≡ [] → AreNamedUnder parent rows names
     → names ≡ map (λ (node : Node). (node.name, node.kind)) (children_of rows.read parent)
-named_alone parent rows names none named =
-    mixed_alone (map (λ (node : Node). (node.name, node.kind)) (children_of rows.read parent)) names
-    (subst (λ l. IsMixed (filter_map (λ (row : Unread). row.named)
-    (filter (λ (row : Unread). option_map_or (λ above. above == parent) row.parent false) l))
-    (map (λ (node : Node). (node.name, node.kind)) (children_of rows.read parent)) names) none named)
+named_alone parent rows names none named = grind (arith, nat_tests, mixed_alone)

@@ -1,26 +1,25 @@
 -- The text of a path is read as that path.
-use Rattle.std.proofs.Common.{◌≡◌, ℕ, ◌<◌, ◌==◌, ◌&&◌, true, false, not, List, [], ◌∷◌, ◌++◌}
-use Rattle.std.proofs.Common.{length, codes, refl, ap, ◌∙◌, arith, nat_lt, nat_le, length-append}
+use Rattle.std.proofs.Common.{◌≡◌, ℕ, ◌<◌, ◌==◌, ◌&&◌, true, false, List, [], ◌∷◌, ◌++◌, length}
+use Rattle.std.proofs.Common.{refl, ap, ◌∙◌, arith, nat_lt, nat_le, length-append}
 use Rattle.std.specs.List.{list_all, onto_first}
 use Rattle.std.specs.Str.{IsUtf8}
-use Rattle.std.proofs.lemmas.Bool.{and_parts, ltb-true, leb-true, not-true, cond-true}
+use Rattle.std.proofs.lemmas.Bool.{and_parts, leb-true, cond-true}
 use Rattle.std.proofs.lemmas.List.{append-nil}
 use Rattle.std.proofs.lemmas.List.Splits.{slice_split-cons_yes, slice_split-cons_no}
 use Rattle.std.proofs.lemmas.Str.{IsUtf8-append, IsUtf8-from_ascii, IsUtf8-nil}
 use Rattle.room_entry.specs.Utf8.{is_utf8}
-use Rattle.room_entry.specs.Pieces.{pieces, same_text}
+use Rattle.room_entry.specs.Pieces.{pieces}
 use Rattle.room_rows.specs.Laws.{PathReadsBack}
 use Rattle.room_rows.specs.Paths.{is_object_name, is_name_byte, object_names, path_text}
 use Rattle.room_rows.proofs.Cutting.{good_names, joined, slash_first, within}
 use Rattle.room_rows.proofs.Utf8.{ascii_at, text_from}
 use Rattle.room_entry.proofs.Texts.{passes_as_utf8}
+use Rattle.std.proofs.lemmas.Bool.Decides.{nat_tests}
 
 -- ---- one name
 
 no_slash : (byte : ℕ) → is_name_byte byte ≡ true → (byte == 47) ≡ false
-no_slash byte is =
-    not-true (byte == 47)
-    (and_parts (nat_le 0x20 byte && not (byte == 0x7F)) (not (byte == 47)) is).1
+no_slash byte is = grind (arith, nat_tests)
 
 cut_name : (name rest : List ℕ) → list_all is_name_byte name ≡ true
     → pieces 47 (name ++ 47 ∷ rest) ≡ name ∷ pieces 47 rest
@@ -40,32 +39,17 @@ last_name (b ∷ bs) all =
 -- ---- what makes a name
 
 but_utf8 : (name : List ℕ) → is_object_name name ≡ true → is_utf8 name ≡ true
-but_utf8 name is =
-    (and_parts (nat_lt 0 (length name) && nat_le (length name) 255 && list_all is_name_byte name
-    && not (same_text name (codes ".")) && not (same_text name (codes ".."))) (is_utf8 name) is).1
+but_utf8 name is = grind (arith, nat_tests)
 
 first_tests : (name : List ℕ) → is_object_name name ≡ true
     → (nat_lt 0 (length name) && nat_le (length name) 255 && list_all is_name_byte name) ≡ true
-first_tests name is =
-    let bytes = nat_lt 0 (length name) && nat_le (length name) 255 && list_all is_name_byte name in
-    let no_dot = not (same_text name (codes ".")) in
-    let no_dots = not (same_text name (codes "..")) in
-    (and_parts bytes no_dot
-    (and_parts (bytes && no_dot) no_dots
-    (and_parts (bytes && no_dot && no_dots) (is_utf8 name) is).0).0).0
+first_tests name is = grind (arith, nat_tests)
 
 name_bytes : (name : List ℕ) → is_object_name name ≡ true → list_all is_name_byte name ≡ true
-name_bytes name is =
-    (and_parts (nat_lt 0 (length name) && nat_le (length name) 255) (list_all is_name_byte name)
-    (first_tests name is)).1
+name_bytes name is = grind (arith, nat_tests, first_tests)
 
 some_bytes : (name : List ℕ) → is_object_name name ≡ true → 0 < length name
-some_bytes name is =
-    let lengths =
-    (and_parts (nat_lt 0 (length name) && nat_le (length name) 255) (list_all is_name_byte name)
-    (first_tests name is)).0 in
-    ltb-true 0 (length name)
-    (and_parts (nat_lt 0 (length name)) (nat_le (length name) 255) lengths).0
+some_bytes name is = grind (arith, nat_tests, first_tests)
 
 -- ---- all names
 

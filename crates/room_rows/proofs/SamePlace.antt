@@ -8,11 +8,12 @@ use Rattle.std.proofs.lemmas.Bool.{cases_Bool, and_parts, eqb-true, eq-eqb, ne_e
 use Rattle.std.proofs.lemmas.Bool.{cond-true, cond-false}
 use Rattle.std.proofs.lemmas.Option.{same_Some, none-some}
 use Rattle.room_rows.specs.declared.node.Node.{Node}
-use Rattle.room_rows.specs.Content.{is_before, put_by_name, sorted_by_name, put_node, is_rising}
+use Rattle.room_rows.specs.Content.{put_by_name, sorted_by_name, put_node, is_rising}
 use Rattle.room_rows.specs.Finding.{find_id}
 use Rattle.room_rows.proofs.Lookups.{each-sorted, find_no, find_yes, found_above, found_number}
 use Rattle.room_rows.proofs.Lookups.{keep_no, keep_yes, name_behind, name_here, put_behind}
 use Rattle.room_rows.proofs.Lookups.{put_same}
+use Rattle.std.proofs.lemmas.Bool.Decides.{nat_tests}
 
 -- ---- an object put in the place of the one of its number
 
@@ -101,13 +102,7 @@ module _ (change : Node → Node) where
       → find p (map change nodes) ≡ option_map change (find p nodes)
   find-changed p of_place [] same = refl
   find-changed p of_place (x ∷ xs) same =
-      let as_before = of_place (change x) x same.0 in
-      elim (cases_Bool (p x)) [
-        | inl is ↦ find_yes p (change x) (map change xs) (as_before ∙ is)
-            ∙ sym (ap (option_map change) (find_yes p x xs is))
-        | inr isnt ↦ find_no p (change x) (map change xs) (as_before ∙ isnt)
-            ∙ find-changed p of_place xs same.1 ∙ sym (ap (option_map change) (find_no p x xs isnt))
-      ]
+      grind (arith, nat_tests, find_no, find_yes, find-changed p of_place xs same.1)
 
   -- a test of the place keeps those of the changed objects that it kept before the change
   pub filter-changed : (p : Node → Bool) → ((a b : Node) → IsSamePlace a b → p a ≡ p b)
@@ -115,30 +110,14 @@ module _ (change : Node → Node) where
       → filter p (map change nodes) ≡ map change (filter p nodes)
   filter-changed p of_place [] same = refl
   filter-changed p of_place (x ∷ xs) same =
-      let as_before = of_place (change x) x same.0 in
-      elim (cases_Bool (p x)) [
-        | inl is ↦ keep_yes p (change x) (map change xs) (as_before ∙ is)
-            ∙ ap (λ (l : List Node). change x ∷ l) (filter-changed p of_place xs same.1)
-            ∙ sym (ap (map change) (keep_yes p x xs is))
-        | inr isnt ↦ keep_no p (change x) (map change xs) (as_before ∙ isnt)
-            ∙ filter-changed p of_place xs same.1 ∙ sym (ap (map change) (keep_no p x xs isnt))
-      ]
+      grind (arith, nat_tests, keep_no, keep_yes, filter-changed p of_place xs same.1)
 
   put_by_name-changed : (node : Node) (nodes : List Node) → IsSamePlace (change node) node
       → AllByRecursion (λ (n : Node). IsSamePlace (change n) n) nodes
       → put_by_name (change node) (map change nodes) ≡ map change (put_by_name node nodes)
   put_by_name-changed node [] here same = refl
   put_by_name-changed node (x ∷ xs) here same =
-      let as_before : is_before (change x).name (change node).name ≡ is_before x.name node.name = ap
-      (λ n. is_before n (change node).name) same.0.name ∙ ap (is_before x.name) here.name in
-      elim (cases_Bool (is_before x.name node.name)) [
-        | inl is ↦
-            name_behind (change node) (change x) (map change xs) (as_before ∙ is)
-            ∙ ap (λ (l : List Node). change x ∷ l) (put_by_name-changed node xs here same.1)
-            ∙ sym (ap (map change) (name_behind node x xs is))
-        | inr isnt ↦ name_here (change node) (change x) (map change xs) (as_before ∙ isnt)
-            ∙ sym (ap (map change) (name_here node x xs isnt))
-      ]
+      grind (arith, nat_tests, name_behind, name_here, put_by_name-changed node xs here same.1)
 
   -- changed objects, sorted by name, stand in the order in which they stood before the change
   pub sorted-changed : (nodes : List Node)
@@ -146,9 +125,7 @@ module _ (change : Node → Node) where
       → sorted_by_name (map change nodes) ≡ map change (sorted_by_name nodes)
   sorted-changed [] same = refl
   sorted-changed (x ∷ xs) same =
-      ap (put_by_name (change x)) (sorted-changed xs same.1)
-      ∙ put_by_name-changed x (sorted_by_name xs) same.0
-      (each-sorted (λ (n : Node). IsSamePlace (change n) n) xs same.1)
+      grind (arith, nat_tests, each-sorted, put_by_name-changed, sorted-changed xs same.1)
 
   -- what depends on the place alone stays
   pub map-changed : {A : Type 0} (part : Node → A)

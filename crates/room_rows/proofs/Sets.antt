@@ -1,6 +1,6 @@
 -- A set of pairs is in order, and none is lost or added.
 use Rattle.std.proofs.Common.{◌≡◌, ℕ, ◌||◌, ◌&&◌, Bool, true, false, List, [], ◌∷◌, refl, sym, ap}
-use Rattle.std.proofs.Common.{◌∙◌, inl, inr}
+use Rattle.std.proofs.Common.{◌∙◌, inl, inr, arith}
 use Rattle.std.specs.List.{list_any}
 use Rattle.std.specs.Ordering.{nat_cmp, ordering_reverse, is_lt, is_eq}
 use Rattle.std.specs.Cmp.Lexicographic.{slice_cmp, bytes_decides}
@@ -13,6 +13,7 @@ use Rattle.std.proofs.lemmas.Map.Text.{is_eq-slice_cmp}
 use Rattle.room_entry.specs.Pieces.{same_text}
 use Rattle.room_rows.specs.Content.{is_before, is_pair_before, put_pair, set_of}
 use Rattle.room_rows.specs.Laws.{SetOfPairs, are_rising}
+use Rattle.std.proofs.lemmas.Bool.Decides.{nat_tests}
 
 abbrev Pair : Type 0
 Pair = List ℕ × List ℕ
@@ -57,22 +58,7 @@ or_twice false c = refl
 any_put : (test : Pair → Bool) (p : Pair) (l : List Pair)
     → list_any test (put_pair p l) ≡ (test p || list_any test l)
 any_put test p [] = refl
-any_put test p (o ∷ os) = elim (cases_Bool (is_pair_before o p)) [
-  | inl is ↦
-      ap (list_any test) (cond-true (is_pair_before o p) (o ∷ put_pair p os) _ is)
-      ∙ ap (λ b. test o || b) (any_put test p os)
-      ∙ or_swap (test o) (test p) (list_any test os)
-  | inr isnt ↦
-      ap (list_any test) (cond-false (is_pair_before o p) (o ∷ put_pair p os) _ isnt)
-      ∙ (elim (cases_Bool (is_pair_before p o)) [
-        | inl back ↦
-            ap (list_any test) (cond-true (is_pair_before p o) (p ∷ o ∷ os) (o ∷ os) back)
-        | inr same ↦
-            ap (list_any test) (cond-false (is_pair_before p o) (p ∷ o ∷ os) (o ∷ os) same)
-            ∙ or_twice (test o) (list_any test os)
-            ∙ ap (λ q. test q || (test o || list_any test os)) (pair_total o p isnt same)
-      ])
-]
+any_put test p (o ∷ os) = grind (arith, nat_tests, or_swap, or_twice, pair_total, any_put test p os)
 
 any_set : (test : Pair → Bool) (l : List Pair) → list_any test (set_of l) ≡ list_any test l
 any_set test [] = refl
@@ -108,21 +94,7 @@ rising_behind x y (z ∷ zs) up order =
 
 rising_put : (x : Pair) (ys : List Pair) → are_rising ys ≡ true → are_rising (put_pair x ys) ≡ true
 rising_put x [] order = refl
-rising_put x (y ∷ ys) order = elim (cases_Bool (is_pair_before y x)) [
-  | inl first ↦
-      ap are_rising (cond-true (is_pair_before y x) (y ∷ put_pair x ys) _ first)
-      ∙ rising_behind x y ys first order
-  | inr isnt ↦
-      ap are_rising (cond-false (is_pair_before y x) (y ∷ put_pair x ys) _ isnt)
-      ∙ (elim (cases_Bool (is_pair_before x y)) [
-        | inl ahead ↦
-            ap are_rising (cond-true (is_pair_before x y) (x ∷ y ∷ ys) (y ∷ ys) ahead)
-            ∙ and_from (is_pair_before x y) (are_rising (y ∷ ys)) ahead order
-        | inr same ↦
-            ap are_rising (cond-false (is_pair_before x y) (x ∷ y ∷ ys) (y ∷ ys) same)
-            ∙ order
-      ])
-]
+rising_put x (y ∷ ys) order = grind (arith, nat_tests, rising_behind)
 
 rising_set : (l : List Pair) → are_rising (set_of l) ≡ true
 rising_set [] = refl

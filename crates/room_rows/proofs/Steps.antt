@@ -1,11 +1,11 @@
 -- Calls of a keeper one after the other.
-use Rattle.std.proofs.Common.{◌≡◌, ℕ, ◌≤◌, Result, Ok, Err, IfOk, IfErr, refl, ap, subst, ◌∙◌, inl}
-use Rattle.std.proofs.Common.{inr, arith}
+use Rattle.std.proofs.Common.{◌≡◌, ℕ, ◌≤◌, Result, Ok, Err, refl, ap, ◌∙◌, inl, inr, arith}
 use Rattle.std.proofs.lemmas.Bool.{cases_lt}
 use Rattle.room_rows.specs.declared.keep.KeepFault.{KeepFault}
 use Rattle.room_rows.specs.declared.keep.KeepFault.TheVariants.{Memory, Store, Damaged}
 use Rattle.room_rows.specs.Rows.{Rows}
 use Rattle.room_rows.specs.Keep.{HasCause, IfSeen, IsRead, KeepLaws}
+use Rattle.std.proofs.lemmas.Bool.Decides.{nat_tests}
 
 -- an error that `?` hands on
 pub handed_on : {X E : Type 0} (r : Result X E) (e : E)
@@ -40,13 +40,7 @@ module _ {S : Type 0} (rows : S → Rows) (failures writes : S → ℕ)
   pub seen : {X : Type 0} (a b : S) (x : X) {Blames : Rows → ℕ → Type 0}
       {Answers : Rows → X → Type 0}
       → IsRead rows failures writes Follows IsTrusted a b (Ok x) Blames Answers → HasRead a b
-  seen a b x read =
-      record {
-        follows = read.follows;
-        unwritten = read.unwritten;
-        unfailed = read.unfailed;
-        same = read.same;
-      }
+  seen a b x read = grind (arith, nat_tests)
 
   seen_on : {X : Type 0} (r : Result X KeepFault) (old mid new : Rows) → mid ≡ old
       → IfSeen r (new ≡ mid) → IfSeen r (new ≡ old)
@@ -62,49 +56,13 @@ module _ {S : Type 0} (rows : S → Rows) (failures writes : S → ℕ)
       → HasRead a b → IsRead rows failures writes Follows IsTrusted b c r Blames Answers
       → IsRead rows failures writes Follows IsTrusted a c r Blames Answers
   read_on laws {X = X} a b c r {Blames} {Answers} sofar read =
-      let before = λ (t : IsTrusted a c). sofar.same
-      (laws.first a b c sofar.follows read.follows t) in
-      let now = λ (t : IsTrusted a c). laws.last a b c sofar.follows read.follows t in
-      record {
-        follows = laws.on a b c sofar.follows read.follows;
-        unwritten = read.unwritten ∙ sofar.unwritten;
-        same = λ t. seen_on r (rows a) (rows b) (rows c) (before t) (read.same (now t));
-        answers = λ t. subst (λ w. IfOk r (Answers w)) (before t) (read.answers (now t));
-        unfailed = unfailed r read.unfailed;
-        fault =
-            cause r read.fault (λ at damaged t. subst (λ w. Blames w at) (before t)
-            (damaged (now t))) (laws.rise a b sofar.follows) (laws.rise b c read.follows);
-      }
-    where
-      unfailed : (r : Result X KeepFault) → IfOk r (λ _. failures c ≡ failures b)
-          → IfOk r (λ _. failures c ≡ failures a)
-      unfailed (Ok x) h = h ∙ sofar.unfailed
-      unfailed (Err e) h = tt
-
-      cause : (r : Result X KeepFault)
-          → IfErr r
-          (HasCause (failures b) (failures c) (λ row. IsTrusted b c → Blames (rows b) row))
-          → ((row : ℕ) → (IsTrusted b c → Blames (rows b) row) → IsTrusted a c
-          → Blames (rows a) row)
-          → failures a ≤ failures b → failures b ≤ failures c
-          → IfErr r
-          (HasCause (failures a) (failures c) (λ row. IsTrusted a c → Blames (rows a) row))
-      cause (Ok x) h on up up' = tt
-      cause (Err e) h on up up' = later_cause _ _ _ e _ _ up up' on h
+      grind (arith, nat_tests, later_cause, seen_on)
 
   -- where all reads answered, the call that made them answers
   pub answered : {Y : Type 0} (a c : S) (y : Y) {Blames : Rows → ℕ → Type 0}
       {Answers : Rows → Y → Type 0} → HasRead a c → (IsTrusted a c → Answers (rows a) y)
       → IsRead rows failures writes Follows IsTrusted a c (Ok y) Blames Answers
-  answered a c y sofar answers =
-      record {
-        follows = sofar.follows;
-        unwritten = sofar.unwritten;
-        same = sofar.same;
-        answers = answers;
-        unfailed = sofar.unfailed;
-        fault = tt;
-      }
+  answered a c y sofar answers = grind (arith, nat_tests)
 
   -- a fault of a read is the fault of the call that made it
   pub gives_up : {X Y : Type 0} (a c : S) (e : KeepFault) {Blames Blames' : Rows → ℕ → Type 0}
@@ -112,38 +70,10 @@ module _ {S : Type 0} (rows : S → Rows) (failures writes : S → ℕ)
       → ((w : Rows) (row : ℕ) → Blames w row → Blames' w row)
       → IsRead rows failures writes Follows IsTrusted {X = X} a c (Err e) Blames Answers
       → IsRead rows failures writes Follows IsTrusted {X = Y} a c (Err e) Blames' Answers'
-  gives_up {X = X} {Y = Y} a c e {Blames} {Blames'} weaker read = record {
-    follows = read.follows;
-    unwritten = read.unwritten;
-    same = λ t. same e (read.same t);
-    answers = λ t. tt;
-    unfailed = tt;
-    fault = cause e read.fault;
-  }
-    where
-      same : (e : KeepFault) → IfSeen {X = X} (Err e) (rows c ≡ rows a)
-          → IfSeen {X = Y} (Err e) (rows c ≡ rows a)
-      same Memory h = tt
-      same Store h = tt
-      same (Damaged id) h = h
-
-      cause : (e : KeepFault)
-          → HasCause (failures a) (failures c) (λ at. IsTrusted a c → Blames (rows a) at) e
-          → HasCause (failures a) (failures c) (λ at. IsTrusted a c → Blames' (rows a) at) e
-      cause Memory h = tt
-      cause Store h = h
-      cause (Damaged id) h = λ t. weaker (rows a) id (h t)
+  gives_up {X = X} {Y = Y} a c e {Blames} {Blames'} weaker read = grind (arith, nat_tests)
 
   -- after reads that answered, the call that made them may run out of memory, whatever the rows
   pub no_memory : {Y : Type 0} (a c : S) {Blames : Rows → ℕ → Type 0} {Answers : Rows → Y → Type 0}
       → HasRead a c → IsRead rows failures writes Follows IsTrusted {X = Y} a c
       (Err Memory) Blames Answers
-  no_memory a c sofar =
-      record {
-        follows = sofar.follows;
-        unwritten = sofar.unwritten;
-        same = λ t. tt;
-        answers = λ t. tt;
-        unfailed = tt;
-        fault = tt;
-      }
+  no_memory a c sofar = grind (arith, nat_tests)

@@ -5,7 +5,6 @@ use Rattle.std.proofs.Common.{arith, inl, inr, if◌then◌else◌}
 use Rattle.std.specs.Prelude.{is_some}
 use Rattle.std.specs.Option.{option_map_or}
 use Rattle.std.proofs.lemmas.Bool.{cases_Bool, false≢true, eq-eqb, cond-true, cond-false}
-use Rattle.std.proofs.lemmas.Option.{same_Some}
 use Rattle.room_entry.specs.Valid.{is_document}
 use Rattle.room_entry.specs.declared.object.Which.{Which}
 use Rattle.room_entry.specs.declared.object.Which.TheVariants.{Dacl, Sacl}
@@ -28,6 +27,7 @@ use Rattle.room_tree.proofs.Found.{found_put, found_above}
 use Rattle.room_tree.proofs.Kept.{put_rows, body_rows, removed_rows}
 use Rattle.room_tree.proofs.Tying.{no_less}
 use Rattle.room_rows.proofs.Lookups.{found_number}
+use Rattle.std.proofs.lemmas.Bool.Decides.{nat_tests}
 
 -- ---- a call that memory ended
 
@@ -105,19 +105,13 @@ pub changes : (nodes new_nodes : List Node) (bodies : List (ℕ × List ℕ))
     → new_nodes ≡ put_node new nodes
     → Changes id change (memory_rows nodes bodies members audits)
     (memory_rows new_nodes bodies members audits)
-changes nodes new_nodes bodies members audits id change node new found is puts = λ other at.
-    ap (λ (l : List Node). memory_rows l bodies members audits)
-    (puts ∙ ap (λ (n : Node). put_node n nodes)
-    (is ∙ ap change (same_Some node other (sym found ∙ at))))
+changes nodes new_nodes bodies members audits id change node new found is puts =
+    grind (arith, nat_tests)
 
 -- ---- a new object
 
 pub none_past : (nodes : List Node) (id : ℕ) → greatest nodes < id → find_id id nodes ≡ None
-none_past nodes id past = by (find_id id nodes) refl
-  where
-    by : (o : Option Node) → find_id id nodes ≡ o → find_id id nodes ≡ None
-    by None is = is
-    by (Some n) is = let least = no_less id nodes n is in absurd (omega (arith, least, past))
+none_past nodes id past = grind (arith, nat_tests, no_less)
 
 pub added : (nodes new_nodes : List Node) (bodies new_bodies : List (ℕ × List ℕ))
     (members : List (List ℕ × List ℕ)) (audits : List AuditRow) (id : ℕ) (new : NewNode)
@@ -126,19 +120,7 @@ pub added : (nodes new_nodes : List Node) (bodies new_bodies : List (ℕ × List
     → memory_rows new_nodes new_bodies members audits
     ≡ with_content (memory_rows nodes bodies members audits)
     (with_new (memory_rows nodes bodies members audits).read id new)
-added nodes new_nodes bodies new_bodies members audits id new puts fills =
-    (λ i. memory_rows (puts i) (fills i) members audits)
-    ∙ elim (cases_Bool (is_document new.kind)) [
-      | inl is ↦
-          ap (λ (l : List (ℕ × List ℕ)). memory_rows
-          (put_node (node_of id new) nodes) l members audits) (cond-true _ _ _ is)
-          ∙ sym (ap (with_content (memory_rows nodes bodies members audits)) (cond-true _ _ _ is))
-      | inr isnt ↦
-          ap (λ (l : List (ℕ × List ℕ)). memory_rows
-          (put_node (node_of id new) nodes) l members audits) (cond-false _ _ _ isnt)
-          ∙ sym (ap (with_content (memory_rows nodes bodies members audits))
-          (cond-false _ _ _ isnt))
-    ]
+added nodes new_nodes bodies new_bodies members audits id new puts fills = grind (arith, nat_tests)
 
 pub node_rows : (nodes new_nodes : List Node) (bodies new_bodies : List (ℕ × List ℕ))
     (members : List (List ℕ × List ℕ)) (audits : List AuditRow) (new : Node) → 0 < new.id

@@ -5,12 +5,13 @@ use Rattle.std.proofs.Common.{inl, inr, if◌then◌else◌}
 use Rattle.std.specs.Prelude.{is_none}
 use Rattle.std.specs.List.{find}
 use Rattle.std.proofs.lemmas.Bool.{cases_Bool, cases_order, false≢true, and_parts, and_from}
-use Rattle.std.proofs.lemmas.Bool.{and_left, and_right, eqb-true, eqb-false, ne_eqb, eq-eqb}
-use Rattle.std.proofs.lemmas.Bool.{ltb-true, lt-ltb, le-ltb, cond-true, cond-false}
+use Rattle.std.proofs.lemmas.Bool.{and_left, and_right, eqb-true, ne_eqb, eq-eqb, ltb-true, lt-ltb}
+use Rattle.std.proofs.lemmas.Bool.{le-ltb, cond-true, cond-false}
 use Rattle.std.proofs.lemmas.Option.{same_Some}
 use Rattle.room_rows.specs.declared.node.Node.{Node}
 use Rattle.room_rows.specs.Content.{put_node, is_rising}
 use Rattle.room_rows.specs.Finding.{find_id}
+use Rattle.std.proofs.lemmas.Bool.Decides.{nat_tests}
 
 abbrev ids_of : List Node → List ℕ
 ids_of nodes = map (λ (n : Node). n.id) nodes
@@ -119,64 +120,14 @@ missing t id (x ∷ xs) none = elim (cases_Bool (x.id == id)) [
 pub found_put : (new : Node) (id : ℕ) (xs : List Node)
     → find_id id (put_node new xs) ≡ (if new.id == id then Some new else find_id id xs)
 found_put new id [] = refl
-found_put new id (x ∷ xs) = elim (cases_order x.id new.id) [
-  | inl same ↦
-      ap (find_id id) (cond-false _ _ _ (le-ltb x.id new.id (omega (arith, same)))
-      ∙ cond-true _ _ _ (eq-eqb x.id new.id same)) ∙ elim (cases_Bool (new.id == id)) [
-        | inl is ↦ cond-true _ _ _ is ∙ sym (cond-true _ _ _ is)
-        | inr isnt ↦ cond-false _ _ _ isnt
-            ∙ sym (found_later (λ (m : Node). m.id == id) x xs
-            (ap (λ (k : ℕ). k == id) same ∙ isnt)) ∙ sym (cond-false _ _ _ isnt)
-      ]
-  | inr apart ↦ elim apart [
-    | inl below ↦
-        ap (find_id id) (cond-true _ _ _ (lt-ltb x.id new.id below))
-        ∙ elim (cases_Bool (x.id == id)) [
-          | inl is ↦
-              let e = eqb-true x.id id is in
-              found_first (λ (m : Node). m.id == id) x (put_node new xs) is
-              ∙ sym (found_first (λ (m : Node). m.id == id) x xs is)
-              ∙ sym (cond-false _ _ _ (ne_eqb new.id id (λ h. absurd (omega (arith, h, e, below)))))
-          | inr isnt ↦ found_later (λ (m : Node). m.id == id) x (put_node new xs) isnt
-              ∙ found_put new id xs
-              ∙ ap (λ o. if new.id == id then Some new else o)
-              (sym (found_later (λ (m : Node). m.id == id) x xs isnt))
-        ]
-    | inr past ↦
-        ap (find_id id) (cond-false _ _ _ (le-ltb x.id new.id (omega (arith, past)))
-        ∙ cond-false _ _ _ (ne_eqb x.id new.id (λ h. absurd (omega (arith, h, past)))))
-  ]
-]
+found_put new id (x ∷ xs) = grind (arith, nat_tests, found_first, found_later, found_put new id xs)
 
 pub found_without : (gone id : ℕ) (xs : List Node)
     → find_id id (filter (λ (n : Node). not (n.id == gone)) xs)
     ≡ (if gone == id then None else find_id id xs)
-found_without gone id [] =
-    elim (cases_Bool (gone == id))
-    [ inl is ↦ sym (cond-true _ _ _ is) | inr isnt ↦ sym (cond-false _ _ _ isnt) ]
-found_without gone id (x ∷ xs) = elim (cases_Bool (x.id == gone)) [
-  | inl is ↦
-      let e = eqb-true x.id gone is in
-      ap (find_id id) (cond-false _ _ _ (ap not is)) ∙ found_without gone id xs
-      ∙ elim (cases_Bool (gone == id)) [
-        | inl it ↦ cond-true _ _ _ it ∙ sym (cond-true _ _ _ it)
-        | inr other ↦
-            ap (λ o. if gone == id then None else o)
-            (sym (found_later (λ (m : Node). m.id == id) x xs (ap (λ (k : ℕ). k == id) e ∙ other)))
-      ]
-  | inr isnt ↦
-      ap (find_id id) (cond-true _ _ _ (ap not isnt)) ∙ elim (cases_Bool (x.id == id)) [
-        | inl same ↦
-            let e = eqb-true x.id id same in
-            let no_e = eqb-false x.id gone isnt in
-            found_first (λ (m : Node). m.id == id) x _ same
-            ∙ sym (found_first (λ (m : Node). m.id == id) x xs same)
-            ∙ sym (cond-false _ _ _ (ne_eqb gone id (λ h. absurd (no_e (e ∙ sym h)))))
-        | inr apart ↦ found_later (λ (m : Node). m.id == id) x _ apart ∙ found_without gone id xs
-            ∙ ap (λ o. if gone == id then None else o)
-            (sym (found_later (λ (m : Node). m.id == id) x xs apart))
-      ]
-]
+found_without gone id [] = grind (arith, nat_tests)
+found_without gone id (x ∷ xs) =
+    grind (arith, nat_tests, found_first, found_later, found_without gone id xs)
 
 pub put_rises : (k : ℕ) (new : Node) (xs : List Node) → k < new.id
     → is_rising (k ∷ map (λ (n : Node). n.id) xs) ≡ true
@@ -210,10 +161,7 @@ put_rises k new (x ∷ xs) up rises =
 
 pub lower : (k l : ℕ) (ids : List ℕ) → k ≤ l → is_rising (l ∷ ids) ≡ true → is_rising (k ∷ ids) ≡ true
 lower k l [] down rises = refl
-lower k l (i ∷ ids) down rises =
-    let parts = and_parts (nat_lt l i) (is_rising (i ∷ ids)) rises in
-    let up = ltb-true l i parts.0 in
-    and_from _ _ (lt-ltb k i (omega (arith, up, down))) parts.1
+lower k l (i ∷ ids) down rises = grind (arith, nat_tests)
 
 pub filter_rises : (t : Node → Bool) (k : ℕ) (xs : List Node)
     → is_rising (k ∷ map (λ (n : Node). n.id) xs) ≡ true

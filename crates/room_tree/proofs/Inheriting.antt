@@ -1,8 +1,7 @@
 -- Objects in memory that inherit the same, one after the other.
-use Rattle.std.proofs.Common.{◌≡◌, ℕ, ◌==◌, ◌&&◌, ◌++◌, Bool, true, false, List, [], ◌∷◌, Ok, Some}
-use Rattle.std.proofs.Common.{refl, sym, ap, ◌∙◌, inl, inr}
+use Rattle.std.proofs.Common.{◌≡◌, ℕ, ◌&&◌, ◌++◌, Bool, true, false, List, [], ◌∷◌, Ok, Some, refl}
+use Rattle.std.proofs.Common.{sym, ◌∙◌, arith}
 use Rattle.std.specs.Prelude.{is_some}
-use Rattle.std.proofs.lemmas.Bool.{cases_Bool, cond-false, cond-true, eqb-true}
 use Rattle.std.proofs.lemmas.List.Folds.{list_all-append}
 use Rattle.room_entry.specs.Ace.{Ace}
 use Rattle.room_entry.specs.declared.object.Which.{Which}
@@ -14,26 +13,18 @@ use Rattle.room_rows.proofs.InPlace.{place-with_inh}
 use Rattle.room_rows.proofs.Many.{none_changed, then_changed, with_inh-once}
 use Rattle.room_tree.specs.Memory.{Inherits, StayRows, are_found, memory_rows}
 use Rattle.room_tree.proofs.Found.{found_put}
+use Rattle.std.proofs.lemmas.Bool.Decides.{nat_tests}
 
 -- an object that is put in the place of one that is there is no new one
 pub same_put : (nodes : List Node) (new node : Node) (id : ℕ) → find_id id nodes ≡ Some node
     → new.id ≡ id → (at : ℕ)
     → is_some (find_id at (put_node new nodes)) ≡ is_some (find_id at nodes)
-same_put nodes new node id found is at =
-    ap is_some (found_put new at nodes) ∙ elim (cases_Bool (new.id == at)) [
-      | inl here ↦
-          ap is_some (cond-true (new.id == at) (Some new) (find_id at nodes) here)
-          ∙ sym (ap is_some (ap (λ (n : ℕ). find_id n nodes) (sym (eqb-true new.id at here) ∙ is)
-          ∙ found))
-      | inr other ↦ ap is_some (cond-false (new.id == at) (Some new) (find_id at nodes) other)
-    ]
+same_put nodes new node id found is at = grind (arith, nat_tests, found_put)
 
 same_found : (a b : List Node) → ((id : ℕ) → is_some (find_id id b) ≡ is_some (find_id id a))
     → (ids : List ℕ) → are_found ids b ≡ are_found ids a
 same_found a b same [] = refl
-same_found a b same (id ∷ ids) =
-    ap (λ t. t && are_found ids b) (same id)
-    ∙ ap (λ t. is_some (find_id id a) && t) (same_found a b same ids)
+same_found a b same (id ∷ ids) = grind (arith, nat_tests, same_found a b same ids)
 
 -- none so far
 pub inherits_none : (which : Which) (entries : List Ace) (nodes : List Node)

@@ -1,14 +1,12 @@
 -- Rows of a keeper in memory that stay rows.
 use Rattle.std.proofs.Common.{◌≡◌, ℕ, ◌<◌, ◌==◌, ◌||◌, Bool, true, false, not, List, [], ◌∷◌, map}
 use Rattle.std.proofs.Common.{filter, Some, nat_lt, refl, sym, ap, subst, ◌∙◌, arith, inl, inr}
-use Rattle.std.proofs.Common.{if◌then◌else◌}
 use Rattle.std.specs.Prelude.{is_some}
 use Rattle.std.specs.BTreeMap.{insert_entry}
-use Rattle.std.specs.List.{list_all}
+use Rattle.std.specs.List.{list_all, AllByRecursion}
 use Rattle.std.specs.List.Sorted.{IsStrictlySortedBy}
-use Rattle.std.specs.List.{AllByRecursion}
 use Rattle.std.specs.Map.{lookup, remove_entry, keys_of}
-use Rattle.std.specs.Ordering.{nat_cmp, is_eq, match_ordering}
+use Rattle.std.specs.Ordering.{nat_cmp, is_eq}
 use Rattle.std.specs.declared.cmp.Ordering.TheVariants.{Less}
 use Rattle.std.proofs.lemmas.Bool.{cases_Bool, cases_order, false≢true, not-true, and_parts}
 use Rattle.std.proofs.lemmas.Bool.{and_from, or_cases, or_left, or_right, eqb-true, eqb-false}
@@ -23,48 +21,26 @@ use Rattle.room_tree.specs.Memory.{memory_rows}
 use Rattle.room_rows.specs.Rows.{AreRows}
 use Rattle.room_tree.proofs.Found.{put_rises, filter_rises, lower}
 use Rattle.room_tree.proofs.Numbered.{is_key, cmp_less, cmp_equal, cmp_greater, less_below}
+use Rattle.std.proofs.lemmas.Bool.Decides.{nat_tests}
 
 -- ---- bytes at numbers
 
 pub body_kept : (id : ℕ) (es : List (ℕ × List ℕ))
     → lookup (λ k. is_eq (nat_cmp id k)) es ≡ body_at es id
 body_kept id [] = refl
-body_kept id (e ∷ es) =
-    ap (λ b. if b then Some e.1 else lookup (λ k. is_eq (nat_cmp id k)) es) (is_key id e.0)
-    ∙ ap (λ o. if e.0 == id then Some e.1 else o) (body_kept id es)
+body_kept id (e ∷ es) = grind (arith, nat_tests, is_key, body_kept id es)
 
 pub body_put : (id : ℕ) (bytes : List ℕ) (es : List (ℕ × List ℕ))
     → insert_entry nat_cmp es id bytes ≡ put_body id bytes es
 body_put id bytes [] = refl
-body_put id bytes (e ∷ es) = elim (cases_order id e.0) [
-  | inl same ↦
-      ap (λ o. match_ordering o ((id, bytes) ∷ e ∷ es) ((e.0, bytes) ∷ es)
-      (e ∷ insert_entry nat_cmp es id bytes)) (cmp_equal id e.0 same)
-      ∙ ap (λ (k : ℕ). (k, bytes) ∷ es) (sym same)
-      ∙ sym (cond-false _ _ _ (le-ltb e.0 id (omega (arith, same)))
-      ∙ cond-true _ _ _ (eq-eqb e.0 id (sym same)))
-  | inr apart ↦ elim apart [
-    | inl below ↦
-        ap (λ o. match_ordering o ((id, bytes) ∷ e ∷ es) ((e.0, bytes) ∷ es)
-        (e ∷ insert_entry nat_cmp es id bytes)) (cmp_less id e.0 below)
-        ∙ sym (cond-false _ _ _ (le-ltb e.0 id (omega (arith, below)))
-        ∙ cond-false _ _ _ (ne_eqb e.0 id (λ h. absurd (omega (arith, below, h)))))
-    | inr above ↦
-        ap (λ o. match_ordering o ((id, bytes) ∷ e ∷ es) ((e.0, bytes) ∷ es)
-        (e ∷ insert_entry nat_cmp es id bytes)) (cmp_greater id e.0 above)
-        ∙ ap (λ (l : List (ℕ × List ℕ)). e ∷ l) (body_put id bytes es)
-        ∙ sym (cond-true _ _ _ (lt-ltb e.0 id above))
-  ]
-]
+body_put id bytes (e ∷ es) =
+    grind (arith, nat_tests, cmp_equal, cmp_greater, cmp_less, body_put id bytes es)
 
 none_later : (id : ℕ) (es : List (ℕ × List ℕ))
     → AllByRecursion (λ y. nat_cmp id y ≡ Less) (keys_of es)
     → filter (λ (row : ℕ × List ℕ). not (row.0 == id)) es ≡ es
 none_later id [] later = refl
-none_later id (e ∷ es) later =
-    let up = less_below id e.0 later.0 in
-    cond-true _ _ _ (ap not (ne_eqb e.0 id (λ h. absurd (omega (arith, up, h)))))
-    ∙ ap (λ (l : List (ℕ × List ℕ)). e ∷ l) (none_later id es later.1)
+none_later id (e ∷ es) later = grind (arith, nat_tests, less_below, none_later id es later.1)
 
 pub body_taken : (id : ℕ) (es : List (ℕ × List ℕ)) → IsStrictlySortedBy nat_cmp (keys_of es)
     → remove_entry (λ k. is_eq (nat_cmp id k)) es
@@ -242,33 +218,16 @@ pub put_rows : (nodes : List Node) (bodies : List (ℕ × List ℕ)) (members : 
     (audits : List AuditRow) (new : Node) → 0 < new.id
     → AreRows (memory_rows nodes bodies members audits)
     → AreRows (memory_rows (put_node new nodes) bodies members audits)
-put_rows nodes bodies members audits new above old = record {
-  numbers = put_rises 0 new nodes above old.numbers;
-  unreadable = old.unreadable;
-  apart = old.apart;
-  body_numbers = old.body_numbers;
-  bodies =
-      all_more (λ row. is_among (ids nodes) row.0)
-      (λ row. is_among (ids (put_node new nodes)) row.0) bodies
-      (λ e is. among_put new nodes e.0 is) old.bodies;
-  members = old.members;
-}
+put_rows nodes bodies members audits new above old =
+    grind (arith, nat_tests, all_more, among_put, put_rises)
 
 -- bytes are put at a number in use
 pub body_rows : (nodes : List Node) (bodies : List (ℕ × List ℕ)) (members : List (List ℕ × List ℕ))
     (audits : List AuditRow) (id : ℕ) (bytes : List ℕ) → 0 < id → is_some (find_id id nodes) ≡ true
     → AreRows (memory_rows nodes bodies members audits)
     → AreRows (memory_rows nodes (put_body id bytes bodies) members audits)
-body_rows nodes bodies members audits id bytes above is old = record {
-  numbers = old.numbers;
-  unreadable = old.unreadable;
-  apart = old.apart;
-  body_numbers = body_rises 0 id bytes bodies above old.body_numbers;
-  bodies =
-      all_put (λ row. is_among (ids nodes) row.0) id bytes bodies
-      (among_found nodes id is) old.bodies;
-  members = old.members;
-}
+body_rows nodes bodies members audits id bytes above is old =
+    grind (arith, nat_tests, all_put, among_found, body_rises)
 
 -- an object is gone with its bytes
 pub removed_rows : (nodes : List Node) (bodies : List (ℕ × List ℕ))

@@ -12,8 +12,8 @@ use Rattle.std.specs.String.{string_cmp}
 use Rattle.std.specs.declared.cmp.Ordering.{Ordering}
 use Rattle.std.specs.declared.cmp.Ordering.TheVariants.{Less}
 use Rattle.std.proofs.lemmas.Bool.{cases_Bool, false≢true, true≢false, and_parts, and_from}
-use Rattle.std.proofs.lemmas.Bool.{and_left, and_right, eqb-true, ne_eqb, eq-eqb, cond-true}
-use Rattle.std.proofs.lemmas.Bool.{cond-false, false_from_ne_true}
+use Rattle.std.proofs.lemmas.Bool.{and_right, eqb-true, ne_eqb, eq-eqb, cond-true, cond-false}
+use Rattle.std.proofs.lemmas.Bool.{false_from_ne_true}
 use Rattle.std.proofs.lemmas.Cmp.{nat_list_cmp_total, tied_itself}
 use Rattle.std.proofs.lemmas.Map.Keys.{sorted_head, sorted_tail}
 use Rattle.room_entry.specs.Pieces.{same_text}
@@ -28,6 +28,7 @@ use Rattle.room_rows.proofs.Lookups.{found_number, found_passes}
 use Rattle.room_entry.proofs.Texts.{same_text-true}
 use Rattle.room_entry.proofs.Alike.{text_itself}
 use Rattle.room_rows.proofs.Frames.{parent_is}
+use Rattle.std.proofs.lemmas.Bool.Decides.{nat_tests}
 
 pub same_back : (a b : List ℕ) → same_text a b ≡ false → same_text b a ≡ false
 same_back a b apart =
@@ -45,9 +46,7 @@ after a b less =
 
 standing_name : (id parent : ℕ) (name : List ℕ) (nodes : List Node) (m : Node)
     → standing id parent name nodes ≡ Some m → m.name ≡ name
-standing_name id parent name nodes m found =
-    let passes = found_passes (is_standing id parent name) nodes m found in
-    same_text-true m.name name (and_parts (has_parent parent m) _ (and_parts (m.id == id) _ passes).1).1
+standing_name id parent name nodes m found = grind (arith, nat_tests, found_passes, same_text-true)
 
 abbrev pub place_cmp : {Y : Type 0} → ℕ × String Y → ℕ × String Y → Ordering
 place_cmp x y = ordering_then (nat_cmp x.0 y.0) (string_cmp x.1 y.1)
@@ -117,20 +116,11 @@ module _ {Y : Type 0} where
   picks_is : (parent : ℕ) (nodes : List Node) (es : List ((ℕ × String Y) × ℕ))
       → standing_all parent nodes (places_under parent es) ≡ standing_under parent nodes es
   picks_is parent nodes [] = refl
-  picks_is parent nodes (e ∷ es) = elim (cases_Bool (e.0.0 == parent)) [
-    | inl is ↦ ap (standing_all parent nodes) (cond-true _ (e ∷ places_under parent es) _ is)
-        ∙ ap (cons_option (standing e.1 parent (string_bytes e.0.1) nodes))
-        (picks_is parent nodes es) ∙ sym (cond-true _ _ _ is)
-    | inr isnt ↦ ap (standing_all parent nodes) (cond-false _ (e ∷ places_under parent es) _ isnt)
-        ∙ picks_is parent nodes es ∙ sym (cond-false _ _ _ isnt)
-  ]
+  picks_is parent nodes (e ∷ es) = grind (arith, nat_tests, picks_is parent nodes es)
 
   picks_none : (parent : ℕ) (es : List ((ℕ × String Y) × ℕ)) → standing_under parent [] es ≡ []
   picks_none parent [] = refl
-  picks_none parent (e ∷ es) = elim (cases_Bool (e.0.0 == parent)) [
-    | inl is ↦ cond-true _ _ _ is ∙ picks_none parent es
-    | inr isnt ↦ cond-false _ _ _ isnt ∙ picks_none parent es
-  ]
+  picks_none parent (e ∷ es) = grind (arith, nat_tests, picks_none parent es)
 
   -- an object that stands at none of the places isn't picked
   abbrev StandsAtNone : ℕ → Node → List ((ℕ × String Y) × ℕ) → Type 0
@@ -142,24 +132,13 @@ module _ {Y : Type 0} where
       → StandsAtNone parent n es
       → standing_under parent (n ∷ nodes) es ≡ standing_under parent nodes es
   picks_other parent n nodes [] none = refl
-  picks_other parent n nodes (e ∷ es) none = elim (cases_Bool (e.0.0 == parent)) [
-    | inl is ↦ cond-true _ _ _ is
-        ∙ ap (λ o. cons_option o (standing_under parent (n ∷ nodes) es))
-        (cond-false _ _ _ (none.0 is))
-        ∙ ap (cons_option (standing e.1 parent (string_bytes e.0.1) nodes))
-        (picks_other parent n nodes es none.1) ∙ sym (cond-true _ _ _ is)
-    | inr isnt ↦ cond-false _ _ _ isnt ∙ picks_other parent n nodes es none.1
-        ∙ sym (cond-false _ _ _ isnt)
-  ]
+  picks_other parent n nodes (e ∷ es) none =
+      grind (arith, nat_tests, picks_other parent n nodes es none.1)
 
   no_child : (parent : ℕ) (n : Node) (es : List ((ℕ × String Y) × ℕ)) → has_parent parent n ≡ false
       → StandsAtNone parent n es
   no_child parent n [] isnt = tt
-  no_child parent n (e ∷ es) isnt = (
-    λ is. and_right (n.id == e.1) _
-        (and_left (has_parent parent n) (same_text n.name (string_bytes e.0.1)) isnt),
-    no_child parent n es isnt,
-  )
+  no_child parent n (e ∷ es) isnt = grind (arith, nat_tests, no_child parent n es isnt)
 
   -- the names of places under one parent rise
   name_less : (a b : ℕ × String Y) → a.0 ≡ b.0 → place_cmp a b ≡ Less
@@ -189,29 +168,16 @@ module _ {Y : Type 0} where
       → AllByRecursion (λ y. place_cmp at y ≡ Less) (keys_of es)
       → put_by_name n (standing_under parent nodes es) ≡ n ∷ standing_under parent nodes es
   comes_first parent n at nodes [] is named later = refl
-  comes_first parent n at nodes (e ∷ es) is named later = elim (cases_Bool (e.0.0 == parent)) [
-    | inl under ↦
-        let less = name_less at e.0 (is ∙ sym (eqb-true e.0.0 parent under)) later.0 in
-        ap (put_by_name n) (cond-true _ _ _ under)
-        ∙ first (comes_first parent n at nodes es is named later.1)
-        (standing e.1 parent (string_bytes e.0.1) nodes) refl less
-        ∙ ap (λ (l : List Node). n ∷ l) (sym (cond-true _ _ _ under))
-    | inr isnt ↦ ap (put_by_name n) (cond-false _ _ _ isnt)
-        ∙ comes_first parent n at nodes es is named later.1
-        ∙ ap (λ (l : List Node). n ∷ l) (sym (cond-false _ _ _ isnt))
-  ]
-    where
-      first : put_by_name n (standing_under parent nodes es) ≡ n ∷ standing_under parent nodes es
-          → (o : Option Node) → standing e.1 parent (string_bytes e.0.1) nodes ≡ o
-          → slice_cmp nat_cmp (string_bytes at.1) (string_bytes e.0.1) ≡ Less
-          → put_by_name n (cons_option o (standing_under parent nodes es)) ≡ n
-          ∷ cons_option o (standing_under parent nodes es)
-      first rest None o-is less = rest
-      first rest (Some m) o-is less =
-          let name = standing_name e.1 parent (string_bytes e.0.1) nodes m o-is in
-          cond-false _ _ _ (ap (λ (t : List ℕ). is_before t n.name) name
-          ∙ subst (λ (t : List ℕ). is_before (string_bytes e.0.1) t ≡ false) named
-          (after (string_bytes at.1) (string_bytes e.0.1) less))
+  comes_first parent n at nodes (e ∷ es) is named later =
+      grind (
+        arith,
+        nat_tests,
+        after,
+        name_less,
+        standing_name,
+        comes_first parent n at nodes es is
+            named later.1,
+      )
 
   -- the name of a place that is listed further on
   later_name : (at : ℕ × String Y) (parent : ℕ) (name : List ℕ) (id : ℕ)

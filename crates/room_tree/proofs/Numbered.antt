@@ -7,12 +7,13 @@ use Rattle.std.specs.List.Sorted.{IsStrictlySortedBy}
 use Rattle.std.specs.Map.{lookup, remove_entry, keys_of, values_of}
 use Rattle.std.specs.Ordering.{nat_cmp, is_eq, match_ordering}
 use Rattle.std.specs.declared.cmp.Ordering.TheVariants.{Less, Equal, Greater}
-use Rattle.std.proofs.lemmas.Bool.{cases_Bool, cases_order, true≢false, and_parts, and_from}
-use Rattle.std.proofs.lemmas.Bool.{eqb-true, ne_eqb, eq-eqb, lt-ltb, le-ltb, cond-true, cond-false}
+use Rattle.std.proofs.lemmas.Bool.{cases_Bool, cases_order, and_parts, and_from, eqb-true, ne_eqb}
+use Rattle.std.proofs.lemmas.Bool.{eq-eqb, lt-ltb, le-ltb, cond-true, cond-false}
 use Rattle.std.proofs.lemmas.Map.Keys.{sorted_head, sorted_tail}
 use Rattle.room_rows.specs.declared.node.Node.{Node}
 use Rattle.room_rows.specs.Content.{put_node}
 use Rattle.room_rows.specs.Finding.{find_id}
+use Rattle.std.proofs.lemmas.Bool.Decides.{nat_tests}
 
 -- ---- orders of numbers
 
@@ -24,29 +25,13 @@ cmp_equal a b same =
     cond-false _ _ _ (le-ltb a b (omega (arith, same))) ∙ cond-true _ _ _ (eq-eqb a b same)
 
 pub cmp_greater : (a b : ℕ) → b < a → nat_cmp a b ≡ Greater
-cmp_greater a b above =
-    cond-false _ _ _ (le-ltb a b (omega (arith, above)))
-    ∙ cond-false _ _ _ (ne_eqb a b (λ e. absurd (omega (arith, e, above))))
+cmp_greater a b above = grind (arith, nat_tests)
 
 pub is_key : (a b : ℕ) → is_eq (nat_cmp a b) ≡ (b == a)
-is_key a b = elim (cases_order a b) [
-  | inl same ↦ ap is_eq (cmp_equal a b same) ∙ sym (eq-eqb b a (sym same))
-  | inr apart ↦ elim apart [
-    | inl below ↦ ap is_eq (cmp_less a b below)
-        ∙ sym (ne_eqb b a (λ e. absurd (omega (arith, e, below))))
-    | inr above ↦ ap is_eq (cmp_greater a b above)
-        ∙ sym (ne_eqb b a (λ e. absurd (omega (arith, e, above))))
-  ]
-]
+is_key a b = grind (arith, nat_tests, cmp_equal, cmp_greater, cmp_less)
 
 pub less_below : (a b : ℕ) → nat_cmp a b ≡ Less → a < b
-less_below a b less = elim (cases_order a b) [
-  | inl same ↦ absurd (true≢false (ap is_eq (sym (cmp_equal a b same) ∙ less)))
-  | inr apart ↦ elim apart [
-    | inl below ↦ below
-    | inr above ↦ (let e : Greater ≡ Less = sym (cmp_greater a b above) ∙ less in cc)
-  ]
-]
+less_below a b less = grind (arith, nat_tests, cmp_equal, cmp_greater)
 
 -- ---- entries whose keys are the numbers of their objects
 

@@ -1,7 +1,7 @@
 -- Pairs in order.
 use Rattle.std.proofs.Common.{◌≡◌, ℕ, suc, ◌<◌, ◌≤◌, ◌&&◌, ◌||◌, Bool, true, false, List, [], ◌∷◌}
 use Rattle.std.proofs.Common.{◌++◌, filter, refl, sym, ap, subst, ◌∙◌, inl, inr, length, take, drop}
-use Rattle.std.proofs.Common.{get_or, drop-cons}
+use Rattle.std.proofs.Common.{get_or, drop-cons, arith}
 use Rattle.std.specs.Cmp.{IsTotalOrder}
 use Rattle.std.specs.Cmp.Lexicographic.{slice_cmp}
 use Rattle.std.specs.List.{AllByRecursion, insert}
@@ -18,14 +18,13 @@ use Rattle.room_entry.specs.Pieces.{same_text}
 use Rattle.room_rows.specs.Content.{is_before, is_pair_before, put_pair, set_of}
 use Rattle.room_tree.specs.Pairs.{pair_cmp, is_same_pair}
 use Rattle.room_entry.proofs.Texts.{same_text-true}
+use Rattle.std.proofs.lemmas.Bool.Decides.{nat_tests}
 
 abbrev Pair : Type 0
 Pair = List ℕ × List ℕ
 
 total : IsTotalOrder pair_cmp
-total =
-    then_total (on_total (λ (p : Pair). p.0) nat_list_cmp_total)
-    (on_total (λ (p : Pair). p.1) nat_list_cmp_total)
+total = grind (arith, nat_tests, nat_list_cmp_total, on_total, then_total)
 
 -- what comes before by group, then user
 pub before_is : (a b : Pair) → is_pair_before a b ≡ is_lt (pair_cmp a b)
@@ -63,18 +62,7 @@ not_back a b is = before_is b a ∙ ap is_lt (total.antisymm b a ∙ ap ordering
 all_put : (Q : Pair → Type 0) (p : Pair) (l : List Pair) → Q p → AllByRecursion Q l
     → AllByRecursion Q (put_pair p l)
 all_put Q p [] new all = (new, tt)
-all_put Q p (o ∷ os) new all = elim (cases_Bool (is_pair_before o p)) [
-  | inl is ↦
-      subst (AllByRecursion Q) (sym (cond-true _ (o ∷ put_pair p os) _ is))
-      (all.0, all_put Q p os new all.1)
-  | inr isnt ↦
-      subst (AllByRecursion Q) (sym (cond-false _ (o ∷ put_pair p os) _ isnt))
-      (elim (cases_Bool (is_pair_before p o)) [
-        | inl back ↦
-            subst (AllByRecursion Q) (sym (cond-true _ (p ∷ o ∷ os) (o ∷ os) back)) (new, all)
-        | inr same ↦ subst (AllByRecursion Q) (sym (cond-false _ (p ∷ o ∷ os) (o ∷ os) same)) all
-      ])
-]
+all_put Q p (o ∷ os) new all = grind (arith, nat_tests, all_put Q p os new all.1)
 
 all_past : (p o : Pair) (l : List Pair) → pair_cmp p o ≡ Less
     → AllByRecursion (λ y. pair_cmp o y ≡ Less) l → AllByRecursion (λ y. pair_cmp p y ≡ Less) l
@@ -84,14 +72,7 @@ all_past p o (x ∷ xs) up all = (total.trans p o x up all.0, all_past p o xs up
 all_filter : (Q : Pair → Type 0) (t : Pair → Bool) (l : List Pair) → AllByRecursion Q l
     → AllByRecursion Q (filter t l)
 all_filter Q t [] all = tt
-all_filter Q t (x ∷ xs) all = elim (cases_Bool (t x)) [
-  | inl is ↦
-      subst (AllByRecursion Q) (sym (cond-true _ (x ∷ filter t xs) _ is))
-      (all.0, all_filter Q t xs all.1)
-  | inr isnt ↦
-      subst (AllByRecursion Q) (sym (cond-false _ (x ∷ filter t xs) _ isnt))
-      (all_filter Q t xs all.1)
-]
+all_filter Q t (x ∷ xs) all = grind (arith, nat_tests, all_filter Q t xs all.1)
 
 -- one more pair at its place
 pub put_sorted : (p : Pair) (l : List Pair) → IsStrictlySortedBy pair_cmp l
@@ -167,11 +148,7 @@ neither p o before_not same_not =
     by Greater e = ap (λ r. is_lt (ordering_reverse r)) e
 
 itself : (p : Pair) → is_pair_before p p ≡ false
-itself p = by (is_pair_before p p) refl
-  where
-    by : (b : Bool) → is_pair_before p p ≡ b → is_pair_before p p ≡ false
-    by true e = absurd (true≢false (sym e ∙ not_back p p (less p p e)))
-    by false e = e
+itself p = grind (arith, nat_tests, less, not_back)
 
 pub put_in_place : (p : Pair) (l : List Pair) (k : ℕ) → k < length l
     → take k l ++ put_pair p (drop k l) ≡ put_pair p l → is_pair_before (get_or l k p) p ≡ false
@@ -203,10 +180,7 @@ put_there p l k below puts stops same =
 -- a pair that comes after all others
 pub put_last : (p : Pair) (l : List Pair) (k : ℕ) → length l ≤ k
     → take k l ++ put_pair p (drop k l) ≡ put_pair p l → insert l k p ≡ put_pair p l
-put_last p l k past puts =
-    let none : drop k l ≡ [] = drop_all k l past in
-    ap (λ (m : List Pair). take k l ++ p ∷ m) none
-    ∙ sym (ap (λ (m : List Pair). take k l ++ put_pair p m) none) ∙ puts
+put_last p l k past puts = grind (arith, nat_tests, drop_all)
 
 pub joined : (p : Pair) (l : List Pair) → IsStrictlySortedBy pair_cmp l
     → put_pair p l ≡ set_of (p ∷ l)

@@ -1,18 +1,16 @@
 -- Places listed, removed and looked up.
-use Rattle.std.proofs.Common.{◌≡◌, ℕ, ◌≤◌, ◌==◌, ◌&&◌, ◌+◌, Bool, true, false, not, List, [], ◌∷◌}
-use Rattle.std.proofs.Common.{filter, Some, refl, sym, ap, subst, ◌∙◌, arith, inl, inr}
-use Rattle.std.proofs.Common.{if◌then◌else◌, String, string_bytes}
+use Rattle.std.proofs.Common.{◌≡◌, ℕ, ◌≤◌, ◌==◌, ◌+◌, Bool, true, false, List, [], ◌∷◌, filter}
+use Rattle.std.proofs.Common.{Some, refl, sym, ap, subst, ◌∙◌, arith, if◌then◌else◌, String}
+use Rattle.std.proofs.Common.{string_bytes}
 use Rattle.std.specs.BTreeMap.{insert_entry}
 use Rattle.std.specs.BTreeMap.Range.{range_contains}
 use Rattle.std.specs.Map.{lookup, remove_entry}
-use Rattle.std.specs.Ordering.{nat_cmp, ordering_then, is_eq, is_le, match_ordering}
+use Rattle.std.specs.Ordering.{nat_cmp, ordering_then, is_eq, is_le}
 use Rattle.std.specs.Cmp.Lexicographic.{slice_cmp}
 use Rattle.std.specs.String.{string_cmp}
-use Rattle.std.specs.declared.cmp.Ordering.{Ordering}
-use Rattle.std.specs.declared.cmp.Ordering.TheVariants.{Less, Equal, Greater}
+use Rattle.std.specs.declared.cmp.Ordering.TheVariants.{Greater}
 use Rattle.std.specs.declared.ops.Bound.TheVariants.{Included, Excluded, Unbounded}
-use Rattle.std.proofs.lemmas.Bool.{cases_Bool, cases_order, false≢true, and_parts, and_from}
-use Rattle.std.proofs.lemmas.Bool.{and_left, eqb-true, ne_eqb, eq-eqb, cond-true, cond-false}
+use Rattle.std.proofs.lemmas.Bool.{false≢true, and_parts, and_from, eqb-true, eq-eqb}
 use Rattle.std.proofs.lemmas.Bool.{false_from_ne_true}
 use Rattle.std.proofs.lemmas.Cmp.{nat_list_eq_equiv}
 use Rattle.std.proofs.lemmas.Map.Text.{is_eq-slice_cmp}
@@ -23,13 +21,12 @@ use Rattle.room_tree.proofs.Numbered.{cmp_less, cmp_equal, cmp_greater}
 use Rattle.room_tree.proofs.Listed.{place_cmp}
 use Rattle.room_entry.proofs.Facts.Lists.{filter_weaker}
 use Rattle.room_entry.proofs.Texts.{same_text-true}
+use Rattle.std.proofs.lemmas.Bool.Decides.{nat_tests}
 
 lookup_same : {K X : Type 0} (t u : K → Bool) → ((k : K) → t k ≡ u k) → (es : List (K × X))
     → lookup t es ≡ lookup u es
 lookup_same t u same [] = refl
-lookup_same t u same (e ∷ es) =
-    ap (λ b. if b then Some e.1 else lookup t es) (same e.0)
-    ∙ ap (λ o. if u e.0 then Some e.1 else o) (lookup_same t u same es)
+lookup_same t u same (e ∷ es) = grind (arith, nat_tests, lookup_same t u same es)
 
 empty_first : (t : List ℕ) → is_le (slice_cmp nat_cmp [] t) ≡ true
 empty_first [] = refl
@@ -40,26 +37,8 @@ module _ {Y : Type 0} where
   pub is_place_key : (place key : ℕ × String Y)
       → is_eq (ordering_then (nat_cmp place.0 key.0) (string_cmp place.1 key.1))
       ≡ is_place place.0 (string_bytes place.1) key
-  is_place_key place key = elim (cases_order place.0 key.0) [
-    | inl same ↦
-        ap (λ o. is_eq (ordering_then o (string_cmp place.1 key.1))) (cmp_equal place.0 key.0 same)
-        ∙ is_eq-slice_cmp (string_bytes place.1) (string_bytes key.1)
-        ∙ nat_list_eq_equiv.symm (string_bytes place.1) (string_bytes key.1)
-        ∙ sym (ap (λ b. b && same_text (string_bytes key.1) (string_bytes place.1))
-        (eq-eqb key.0 place.0 (sym same)))
-    | inr apart ↦ elim apart [
-      | inl below ↦
-          ap (λ o. is_eq (ordering_then o (string_cmp place.1 key.1)))
-          (cmp_less place.0 key.0 below)
-          ∙ sym (and_left (key.0 == place.0) _
-          (ne_eqb key.0 place.0 (λ e. absurd (omega (arith, e, below)))))
-      | inr above ↦
-          ap (λ o. is_eq (ordering_then o (string_cmp place.1 key.1)))
-          (cmp_greater place.0 key.0 above)
-          ∙ sym (and_left (key.0 == place.0) _
-          (ne_eqb key.0 place.0 (λ e. absurd (omega (arith, e, above)))))
-    ]
-  ]
+  is_place_key place key =
+      grind (arith, nat_tests, cmp_equal, cmp_greater, cmp_less, is_eq-slice_cmp, nat_list_eq_equiv)
 
   pub looked_up : (place : ℕ × String Y) (es : List ((ℕ × String Y) × ℕ))
       → lookup (λ key. is_eq (ordering_then (nat_cmp place.0 key.0) (string_cmp place.1 key.1))) es
@@ -70,19 +49,12 @@ module _ {Y : Type 0} where
   equal_places : (place key : ℕ × String Y)
       → is_eq (ordering_then (nat_cmp place.0 key.0) (string_cmp place.1 key.1)) ≡ true
       → (key.0 ≡ place.0) × (string_bytes key.1 ≡ string_bytes place.1)
-  equal_places place key is =
-      let parts = and_parts (key.0 == place.0) _ (sym (is_place_key place key) ∙ is) in (
-        eqb-true key.0 place.0 parts.0,
-        same_text-true (string_bytes key.1) (string_bytes place.1) parts.1,
-      )
+  equal_places place key is = grind (arith, nat_tests, is_place_key, same_text-true)
 
   same_test : (p : ℕ) (n : List ℕ) (place key : ℕ × String Y)
       → is_eq (ordering_then (nat_cmp place.0 key.0) (string_cmp place.1 key.1)) ≡ true
       → is_place p n key ≡ is_place p n place
-  same_test p n place key is =
-      let same = equal_places place key is in
-      ap (λ (k : ℕ). (k == p) && same_text (string_bytes key.1) n) same.0
-      ∙ ap (λ (t : List ℕ). (place.0 == p) && same_text t n) same.1
+  same_test p n place key is = grind (arith, nat_tests, equal_places)
 
   -- two places that pass the same test are equal
   apart_tests : (p : ℕ) (n : List ℕ) (place key : ℕ × String Y)
@@ -104,39 +76,8 @@ module _ {Y : Type 0} where
       (insert_entry (λ x y. ordering_then (nat_cmp x.0 y.0) (string_cmp x.1 y.1)) es place id)
       ≡ (if is_place p n place then Some id else id_at p n es)
   put_listed p n place id [] = refl
-  put_listed p n place id (e ∷ es) = by (place_cmp place e.0) refl (put_listed p n place id es)
-    where
-      by : (o : Ordering) → place_cmp place e.0 ≡ o
-          → id_at p n
-          (insert_entry (λ x y. ordering_then (nat_cmp x.0 y.0) (string_cmp x.1 y.1)) es place id)
-          ≡ (if is_place p n place then Some id else id_at p n es)
-          → id_at p n (match_ordering (place_cmp place e.0) ((place, id) ∷ e ∷ es) ((e.0, id) ∷ es)
-          (e ∷ insert_entry (λ x y. ordering_then (nat_cmp x.0 y.0) (string_cmp x.1 y.1)) es place
-          id)) ≡ (if is_place p n place then Some id else id_at p n (e ∷ es))
-      by Less is rest =
-          ap (λ o. id_at p n (match_ordering o ((place, id) ∷ e ∷ es) ((e.0, id) ∷ es)
-          (e ∷ insert_entry (λ x y. ordering_then (nat_cmp x.0 y.0) (string_cmp x.1 y.1)) es place
-          id))) is
-      by Equal is rest =
-          let test = same_test p n place e.0 (ap is_eq is) in
-          ap (λ o. id_at p n (match_ordering o ((place, id) ∷ e ∷ es) ((e.0, id) ∷ es)
-          (e ∷ insert_entry (λ x y. ordering_then (nat_cmp x.0 y.0) (string_cmp x.1 y.1)) es place
-          id))) is
-          ∙ elim (cases_Bool (is_place p n place)) [
-            | inl here ↦ cond-true _ _ _ (test ∙ here) ∙ sym (cond-true _ _ _ here)
-            | inr isnt ↦ cond-false _ _ _ (test ∙ isnt)
-                ∙ sym (cond-false _ (Some e.1) _ (test ∙ isnt)) ∙ sym (cond-false _ _ _ isnt)
-          ]
-      by Greater is rest =
-          ap (λ o. id_at p n (match_ordering o ((place, id) ∷ e ∷ es) ((e.0, id) ∷ es)
-          (e ∷ insert_entry (λ x y. ordering_then (nat_cmp x.0 y.0) (string_cmp x.1 y.1)) es place
-          id))) is
-          ∙ elim (cases_Bool (is_place p n e.0)) [
-            | inl here ↦ cond-true _ _ _ here ∙ sym (cond-true _ _ _ here)
-                ∙ sym (cond-false _ _ _ (apart_tests p n place e.0 is here))
-            | inr isnt ↦ cond-false _ _ _ isnt ∙ rest
-                ∙ ap (λ o. if is_place p n place then Some id else o) (sym (cond-false _ _ _ isnt))
-          ]
+  put_listed p n place id (e ∷ es) =
+      grind (arith, nat_tests, apart_tests, place_cmp, same_test, put_listed p n place id es)
 
   pub puts : (place : ℕ × String Y) (id : ℕ) (old new : List ((ℕ × String Y) × ℕ))
       → new ≡ insert_entry (λ x y. ordering_then (nat_cmp x.0 y.0) (string_cmp x.1 y.1)) old place
@@ -151,22 +92,7 @@ module _ {Y : Type 0} where
       ≡ id_at p n es
   take_others p n place [] apart = refl
   take_others p n place (e ∷ es) apart =
-      elim (cases_Bool (is_eq (ordering_then (nat_cmp place.0 e.0.0) (string_cmp place.1 e.0.1)))) [
-        | inl is ↦
-            ap (id_at p n)
-            (cond-true _ es
-            (e ∷ remove_entry
-            (λ key. is_eq (ordering_then (nat_cmp place.0 key.0) (string_cmp place.1 key.1))) es)
-            is)
-            ∙ sym (cond-false _ _ _ (same_test p n place e.0 is ∙ apart))
-        | inr isnt ↦
-            ap (id_at p n)
-            (cond-false _ es
-            (e ∷ remove_entry
-            (λ key. is_eq (ordering_then (nat_cmp place.0 key.0) (string_cmp place.1 key.1))) es)
-            isnt)
-            ∙ ap (λ o. if is_place p n e.0 then Some e.1 else o) (take_others p n place es apart)
-      ]
+      grind (arith, nat_tests, same_test, take_others p n place es apart)
 
   pub takes : (place : ℕ × String Y) (old new : List ((ℕ × String Y) × ℕ))
       → new
@@ -179,18 +105,7 @@ module _ {Y : Type 0} where
 
   from_start : (start key : ℕ × String Y) → string_bytes start.1 ≡ [] → start.0 ≤ key.0
       → is_le (ordering_then (nat_cmp start.0 key.0) (string_cmp start.1 key.1)) ≡ true
-  from_start start key empty up = elim (cases_order start.0 key.0) [
-    | inl same ↦
-        ap (λ o. is_le (ordering_then o (string_cmp start.1 key.1))) (cmp_equal start.0 key.0 same)
-        ∙ ap (λ (t : List ℕ). is_le (slice_cmp nat_cmp t (string_bytes key.1))) empty
-        ∙ empty_first (string_bytes key.1)
-    | inr apart ↦ elim apart [
-      | inl below ↦
-          ap (λ o. is_le (ordering_then o (string_cmp start.1 key.1)))
-          (cmp_less start.0 key.0 below)
-      | inr above ↦ absurd (omega (arith, up, above))
-    ]
-  ]
+  from_start start key empty up = grind (arith, nat_tests, cmp_equal, cmp_less, empty_first)
 
   pub between : (parent : ℕ) (start end : ℕ × String Y) (es : List ((ℕ × String Y) × ℕ))
       → start.0 ≡ parent → string_bytes start.1 ≡ [] → end.0 ≡ parent + 1
@@ -198,18 +113,11 @@ module _ {Y : Type 0} where
       (filter (λ e. range_contains (λ x y. ordering_then (nat_cmp x.0 y.0) (string_cmp x.1 y.1))
       (Included start) (Excluded end) e.0) es) ≡ places_under parent es
   between parent start end es from empty to =
-      filter_weaker (λ (e : (ℕ × String Y) × ℕ). e.0.0 == parent) _ (λ e is.
-      let at : e.0.0 ≡ parent = eqb-true e.0.0 parent is in
-      and_from _ _ (from_start start e.0 empty (omega (arith, at, from)))
-      (ap (λ o. not (is_le (ordering_then o (string_cmp end.1 e.0.1))))
-      (cmp_greater end.0 e.0.0 (omega (arith, at, to))))) es
+      grind (arith, nat_tests, cmp_greater, filter_weaker, from_start)
 
   pub from : (parent : ℕ) (start : ℕ × String Y) (es : List ((ℕ × String Y) × ℕ)) → start.0 ≡ parent
       → string_bytes start.1 ≡ []
       → places_under parent
       (filter (λ e. range_contains (λ x y. ordering_then (nat_cmp x.0 y.0) (string_cmp x.1 y.1))
       (Included start) Unbounded e.0) es) ≡ places_under parent es
-  from parent start es is empty =
-      filter_weaker (λ (e : (ℕ × String Y) × ℕ). e.0.0 == parent) _ (λ e under.
-      let at : e.0.0 ≡ parent = eqb-true e.0.0 parent under in
-      and_from _ _ (from_start start e.0 empty (omega (arith, at, is))) refl) es
+  from parent start es is empty = grind (arith, nat_tests, filter_weaker, from_start)

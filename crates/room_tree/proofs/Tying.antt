@@ -5,17 +5,15 @@ use Rattle.std.proofs.Common.{OnOk, OnErr, refl, sym, ap, subst, ◌∙◌, arit
 use Rattle.std.proofs.Common.{if◌then◌else◌, String, string_bytes}
 use Rattle.std.specs.Prelude.{is_none, is_some, option_and_then}
 use Rattle.std.specs.BTreeMap.{insert_entry}
-use Rattle.std.specs.List.{cons_option, list_all}
+use Rattle.std.specs.List.{list_all}
 use Rattle.std.specs.List.Sorted.{IsStrictlySortedBy}
 use Rattle.std.specs.Map.{lookup, remove_entry, keys_of, values_of}
 use Rattle.std.specs.Option.{IsSome, SomeIff, MatchOption, option_map, option_map_or}
 use Rattle.std.specs.Option.{option_to_list}
 use Rattle.std.specs.Ordering.{nat_cmp, is_eq, is_lt}
-use Rattle.std.proofs.lemmas.Bool.{cases_Bool, cases_lt, false≢true, true≢false, and_parts}
-use Rattle.std.proofs.lemmas.Bool.{and_from, eqb-true, eqb-false, eq-eqb, cond-true, cond-false}
-use Rattle.std.proofs.lemmas.Bool.{false_from_ne_true}
+use Rattle.std.proofs.lemmas.Bool.{cases_Bool, false≢true, and_parts, and_from, eqb-true, eqb-false}
+use Rattle.std.proofs.lemmas.Bool.{eq-eqb, cond-true, cond-false, false_from_ne_true}
 use Rattle.std.proofs.lemmas.Map.Keys.{ge_from_not_lt}
-use Rattle.std.proofs.lemmas.Option.{same_Some}
 use Rattle.room_entry.specs.Pieces.{same_text}
 use Rattle.room_entry.specs.declared.object.ObjKind.{ObjKind}
 use Rattle.room_rows.specs.declared.node.Node.{Node}
@@ -34,6 +32,7 @@ use Rattle.room_rows.proofs.Lookups.{found_number}
 use Rattle.room_entry.proofs.Texts.{same_text-true}
 use Rattle.room_entry.proofs.Alike.{text_itself}
 use Rattle.room_rows.proofs.Frames.{has_its_parent}
+use Rattle.std.proofs.lemmas.Bool.Decides.{nat_tests}
 
 -- what holds after a call, whether it was refused or not
 pub settled : {X E P Q : Type 0} (r : Result X E) → OnOk r P → OnErr r Q → (Q → P) → P
@@ -47,9 +46,7 @@ not_none o some none = false≢true (sym (ap is_some none) ∙ some)
 pub next_is : (r : Option ℕ) (last most : ℕ) → last ≡ most
     → SomeIff r (last + 1 < 18446744073709551616) (last + 1)
     → MatchOption r (18446744073709551616 ≤ most + 1) (λ n. n ≡ most + 1)
-next_is None last most same fits =
-    elim (cases_lt (last + 1) 18446744073709551616)
-    [ inl below ↦ absurd (fits below) | inr past ↦ omega (arith, past, same) ]
+next_is None last most same fits = grind (arith, nat_tests)
 next_is (Some n) last most same fits = let e = fits.1 in omega (arith, e, same)
 
 -- no object that is there stands at a place where none is found
@@ -67,9 +64,7 @@ free_place parent name nodes free id p m found has =
 
 other_place : (p : ℕ) (n : List ℕ) (parent : ℕ) (name : List ℕ)
     → is_same_place p n parent name ≡ true → (parent ≡ p) × (name ≡ n)
-other_place p n parent name is =
-    let parts = and_parts (parent == p) (same_text name n) is in
-    (eqb-true parent p parts.0, same_text-true name n parts.1)
+other_place p n parent name is = grind (arith, nat_tests, same_text-true)
 
 one_parent : (node : Node) (parent p : ℕ) → node.parent ≡ Some parent → node.parent ≡ Some p
     → parent ≡ p
@@ -80,28 +75,7 @@ free_apart : (parent : ℕ) (name : List ℕ) (nodes : List Node) (id : ℕ)
     → before ≡ option_and_then place_of (find_id id nodes)
     → option_map_or (λ (at : ℕ × List ℕ). is_same_place parent name at.0 at.1) before false ≡ false
 free_apart parent name nodes id before free is =
-    ap (λ o. option_map_or (λ (at : ℕ × List ℕ). is_same_place parent name at.0 at.1) o false) is
-    ∙ by (find_id id nodes) refl
-  where
-    back : (p : ℕ) (n : List ℕ) → is_same_place p n parent name ≡ false
-        → is_same_place parent name p n ≡ false
-    back p n apart = false_from_ne_true (is_same_place parent name p n) (λ same.
-        let e = other_place parent name p n same in
-        true≢false
-        (sym (and_from (parent == p) (same_text name n) (eq-eqb parent p (sym e.0))
-        (subst (λ (t : List ℕ). same_text name t ≡ true) (sym e.1) (text_itself name))) ∙ apart))
-
-    at_parent : (x : Node) (o : Option ℕ) → find_id id nodes ≡ Some x → x.parent ≡ o
-        → option_map_or (λ (at : ℕ × List ℕ). is_same_place parent name at.0 at.1)
-        (option_map (λ p. (p, x.name)) o) false ≡ false
-    at_parent x None at is = refl
-    at_parent x (Some p) at is = back p x.name (free_place parent name nodes free id p x at is)
-
-    by : (o : Option Node) → find_id id nodes ≡ o
-        → option_map_or (λ (at : ℕ × List ℕ). is_same_place parent name at.0 at.1)
-        (option_and_then place_of o) false ≡ false
-    by None at = refl
-    by (Some x) at = at_parent x x.parent at refl
+    grind (arith, nat_tests, free_place, other_place, text_itself)
 
 pub no_less : (id : ℕ) (xs : List Node) (n : Node) → find_id id xs ≡ Some n → id ≤ greatest xs
 no_less id [] n found = absurd (false≢true (sym (ap is_none found)))
@@ -155,25 +129,14 @@ module _ {Y : Type 0} where
       → places_under parent some ≡ places_under parent places
       → standing_under parent nodes some ≡ sorted_by_name (filter (has_parent parent) nodes)
   children_listed es places some nodes parent tied view sorted same =
-      ap (λ (l : List Node). standing_under parent l some) (sym view)
-      ∙ children_are parent places some (values_of es) 0 sorted tied.rising
-      (all_listed places 0 (values_of es) tied.rising tied.listed) same
-      ∙ ap (λ (l : List Node). sorted_by_name (filter (has_parent parent) l)) view
+      grind (arith, nat_tests, all_listed, children_are)
 
   -- one more child, if one stands where it is listed
   with_next : (parent : ℕ) (nodes : List Node) (e : (ℕ × String Y) × ℕ)
       (left rest : List ((ℕ × String Y) × ℕ)) (next : Option Node) → left ≡ e ∷ rest
       → e.0.0 ≡ parent → standing e.1 parent (string_bytes e.0.1) nodes ≡ next
       → standing_under parent nodes left ≡ option_to_list next ++ standing_under parent nodes rest
-  with_next parent nodes e left rest next step under stands =
-      ap (standing_under parent nodes) step ∙ cond-true _ _ _ (eq-eqb e.0.0 parent under)
-      ∙ ap (λ o. cons_option o (standing_under parent nodes rest)) stands ∙ as_list next
-    where
-      as_list : (o : Option Node)
-          → cons_option o (standing_under parent nodes rest) ≡ option_to_list o
-          ++ standing_under parent nodes rest
-      as_list None = refl
-      as_list (Some n) = refl
+  with_next parent nodes e left rest next step under stands = grind (arith, nat_tests)
 
   pub child_more : (found : List Node) (parent : ℕ) (nodes : List Node) (e : (ℕ × String Y) × ℕ)
       (left rest : List ((ℕ × String Y) × ℕ)) (next : Option Node) (all : List Node)
@@ -212,10 +175,7 @@ module _ {Y : Type 0} where
       → find_id id nodes ≡ Some node → node.parent ≡ Some parent → place.0 ≡ parent
       → string_bytes place.1 ≡ node.name
       → Some (text_place place) ≡ option_and_then place_of (find_id id nodes)
-  place_is place nodes id node parent found has number name =
-      ap Some (λ i. (number i, name i))
-      ∙ sym (ap (option_and_then place_of) found
-      ∙ ap (λ o. option_map (λ (p : ℕ). (p, node.name)) o) has)
+  place_is place nodes id node parent found has number name = grind (arith, nat_tests)
 
   pub stands_not : (es : List (ℕ × Node)) (places : List ((ℕ × String Y) × ℕ)) (nodes : List Node)
       (id parent : ℕ) (name : List ℕ) (node : Node) → AreTied es places → values_of es ≡ nodes
@@ -254,25 +214,7 @@ module _ {Y : Type 0} where
       → m.parent ≡ Some p → id_at p m.name new_places ≡ Some id)
       → AreTied new_es new_places
   tied_put es new_es places new_places node tied above is sorted own others =
-      let nodes : values_of new_es ≡ put_node node (values_of es) = ap values_of is
-      ∙ inserted node es tied.keyed in
-      record {
-        keyed = ap (list_all is_keyed) is ∙ inserted_keyed node es tied.keyed;
-        sorted = sorted;
-        rising =
-            ap (λ (l : List Node). is_rising (0 ∷ map (λ (n : Node). n.id) l)) nodes
-            ∙ put_rises 0 node (values_of es) above tied.rising;
-        listed = λ id p m found has.
-            let found' : (if node.id == id then Some node else find_id id (values_of es)) ≡ Some m =
-            sym (found_put node id (values_of es)) ∙ ap (find_id id) (sym nodes) ∙ found in
-            elim (cases_Bool (node.id == id)) [
-              | inl here ↦
-                  let it : node ≡ m = same_Some node m (sym (cond-true _ _ _ here) ∙ found') in
-                  subst (λ (x : Node). x.parent ≡ Some p → id_at p x.name new_places ≡ Some id) it
-                  (λ h. own p h ∙ ap Some (eqb-true node.id id here)) has
-              | inr isnt ↦ others id p m (sym (cond-false _ _ _ isnt) ∙ found') isnt has
-            ];
-      }
+      grind (arith, nat_tests, found_put, inserted, inserted_keyed, is_keyed, put_rises)
 
   still_listed : (es : List (ℕ × Node)) (places new_places : List ((ℕ × String Y) × ℕ)) (parent : ℕ)
       (name : List ℕ) (id : ℕ) → AreTied es places → Lists parent name id places new_places
@@ -301,10 +243,7 @@ module _ {Y : Type 0} where
 
   own_listed : (places new_places : List ((ℕ × String Y) × ℕ)) (parent : ℕ) (name : List ℕ) (id : ℕ)
       → Lists parent name id places new_places → id_at parent name new_places ≡ Some id
-  own_listed places new_places parent name id lists =
-      lists parent name
-      ∙ cond-true _ _ _ (and_from (parent == parent) (same_text name name)
-      (eq-eqb parent parent refl) (text_itself name))
+  own_listed places new_places parent name id lists = grind (arith, nat_tests, text_itself)
 
   -- an object is added at a place where none stands
   pub tied_added : (es new_es : List (ℕ × Node)) (places new_places : List ((ℕ × String Y) × ℕ))
@@ -348,14 +287,7 @@ module _ {Y : Type 0} where
   above_zero : (es : List (ℕ × Node)) (places : List ((ℕ × String Y) × ℕ)) (nodes : List Node)
       (id : ℕ) → AreTied es places → values_of es ≡ nodes → is_some (find_id id nodes) ≡ true
       → 0 < id
-  above_zero es places nodes id tied view is =
-      by (find_id id (values_of es)) refl (ap (λ (l : List Node). is_some (find_id id l)) view ∙ is)
-    where
-      by : (o : Option Node) → find_id id (values_of es) ≡ o → is_some o ≡ true → 0 < id
-      by None is some = absurd (false≢true some)
-      by (Some n) is some =
-          subst (λ (i : ℕ). 0 < i) (found_number id (values_of es) n is)
-          (found_above (λ (m : Node). m.id == id) 0 (values_of es) n tied.rising is)
+  above_zero es places nodes id tied view is = grind (arith, nat_tests, found_above, found_number)
 
   -- an object takes the place of one that has its parent and name
   pub tied_replaced : (es new_es : List (ℕ × Node)) (places : List ((ℕ × String Y) × ℕ))
@@ -477,6 +409,4 @@ module _ {Y : Type 0} where
       (nodes : List Node) (id : ℕ) → AreTied es places → values_of es ≡ nodes
       → new_es ≡ remove_entry (λ k. is_eq (nat_cmp id k)) es
       → values_of new_es ≡ filter (λ node. not (node.id == id)) nodes
-  taken_view es new_es places nodes id tied view entries =
-      ap values_of entries ∙ removed id es tied.keyed tied.sorted
-      ∙ ap (filter (λ node. not (node.id == id))) view
+  taken_view es new_es places nodes id tied view entries = grind (arith, nat_tests, removed)

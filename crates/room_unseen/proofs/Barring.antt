@@ -1,21 +1,19 @@
 -- The way to what is behind ends at the front or before it, for who is barred.
 use Rattle.std.proofs.Common.{ℕ, ◌==◌, ◌≡◌, Bool, true, false, cond, not, ◌&&◌, List, [], ◌∷◌, ◌++◌}
-use Rattle.std.proofs.Common.{Option, Some, None, refl, sym, ap, subst, ◌∙◌}
+use Rattle.std.proofs.Common.{Option, Some, None, refl, sym, ap, subst, ◌∙◌, arith}
 use Rattle.std.specs.List.{list_any}
 use Rattle.std.specs.Option.{option_map_or}
 use Rattle.std.specs.Prelude.{is_some}
-use Rattle.std.proofs.lemmas.Bool.{and_right}
 use Rattle.std.proofs.lemmas.Option.{none-some}
 use Rattle.room_entry.specs.Rights.{execute}
 use Rattle.room_entry.specs.declared.parties.Caller.{Caller}
-use Rattle.room_rows.specs.Content.{Content, child_of, root_of, is_empty, is_folder}
+use Rattle.room_rows.specs.Content.{Content, child_of, is_empty, is_folder}
 use Rattle.room_rows.specs.declared.node.Node.{Node}
 use Rattle.room_machine.specs.Judge.{first_failure, or_else}
 use Rattle.room_machine.specs.Laws.{first_path}
 use Rattle.room_machine.specs.Plan.{Item, Check, Deletion, Refusal, way, where_found, plan_of}
 use Rattle.room_machine.specs.Plan.{move_items, right_to_add}
-use Rattle.room_machine.specs.Site.{Site, site_below, root_site, sites_along, site_at, front}
-use Rattle.room_machine.specs.Site.{last_name}
+use Rattle.room_machine.specs.Site.{Site, site_below, sites_along, site_at, front, last_name}
 use Rattle.room_machine.specs.declared.reply.Reason.TheVariants.{NotFolder, Loop, Exists}
 use Rattle.room_machine.specs.declared.reply.Reply.{Reply}
 use Rattle.room_machine.specs.declared.request.Request.{Request}
@@ -27,6 +25,7 @@ use Rattle.room_unseen.specs.Outside.{IsBehind, way_behind}
 use Rattle.room_unseen.proofs.LikeItems.{next}
 use Rattle.room_unseen.proofs.OnePlace.{not_empty}
 use Rattle.room_unseen.proofs.Seen.{along_from, sites_from}
+use Rattle.std.proofs.lemmas.Bool.Decides.{nat_tests}
 
 -- the objects after one, along names, where this child has the first name or none has
 abbrev child_sites : Content → Site → Option Node → List (List ℕ) → List Site
@@ -51,10 +50,8 @@ module _ (caller : Caller) (content : Content) (reply : Reply) where
       → or_else p (or_else q (or_else (cond u (Some r) None) y)) ≡ Some reply
   late (Some s) q t u r x y same on is = is
   late None (Some s) t u r x y same on is = is
-  late None None true u r x y same on is =
-      ap (λ (k : Bool). or_else (cond k (Some r) None) y) (sym same) ∙ is
-  late None None false u r x y same on is =
-      ap (λ (k : Bool). or_else (cond k (Some r) None) y) (sym same) ∙ on is
+  late None None true u r x y same on is = grind (arith, nat_tests)
+  late None None false u r x y same on is = grind (arith, nat_tests)
 
   more_names : (f : List (List ℕ)) (name : List ℕ) (names : List (List ℕ))
       → is_empty (f ++ name ∷ names) ≡ false
@@ -70,9 +67,7 @@ module _ (caller : Caller) (content : Content) (reply : Reply) where
   lacks : (lack may : Bool) (f : List (List ℕ)) (x : List ℕ) (xs : List (List ℕ)) (y : List ℕ)
       (ys : List (List ℕ)) → not (lack && is_empty (f ++ x ∷ xs))
       ≡ not (may && is_empty (f ++ y ∷ ys))
-  lacks lack may f x xs y ys =
-      ap (λ t. not (lack && t)) (more_names f x xs) ∙ ap not (and_right lack false refl)
-      ∙ sym (ap (λ t. not (may && t)) (more_names f y ys) ∙ ap not (and_right may false refl))
+  lacks lack may f x xs y ys = grind (arith, nat_tests, more_names)
 
   -- the way to what is behind ends in the same reply, however it goes on
   bar_from : (site : Site) (f : List (List ℕ)) (name : List ℕ) (names : List (List ℕ)) (lack : Bool)
@@ -145,51 +140,16 @@ module _ (caller : Caller) (content : Content) (reply : Reply) where
         → first_failure caller
         (way lack (sites_along content (f ++ name ∷ names)) (f ++ name ∷ names) ++ more)
         ≡ Some reply
-    bar_names name names lack more =
-        ap (λ (l : List Site). first_failure caller (way lack l (f ++ name ∷ names) ++ more))
-        (along_from content (f ++ name ∷ names))
-        ∙ on (root_of content)
-        (sym (ap (λ (l : List Site). first_failure caller (way true l (f ++ [] ∷ [])))
-        (along_from content f)) ∙ barred)
-      where
-        on : (o : Option Node)
-            → first_failure caller (way true
-            (option_map_or (λ root. sites_from content (root_site root) f) o [])
-            (f ++ [] ∷ [])) ≡ Some reply
-            → first_failure caller (way lack
-            (option_map_or (λ root. sites_from content (root_site root) (f ++ name ∷ names)) o [])
-            (f ++ name ∷ names) ++ more) ≡ Some reply
-        on None is = absurd (none-some reply is)
-        on (Some root) is = bar_from (root_site root) f name names lack more is
+    bar_names name names lack more = grind (arith, nat_tests, along_from, bar_from, sites_from)
 
     bar_way : (path : List (List ℕ)) → IsBehind f path → (lack : Bool) (more : List Item)
         → first_failure caller (way lack (sites_along content path) path ++ more) ≡ Some reply
-    bar_way path is lack more =
-        subst
-        (λ (p : List (List ℕ)). first_failure caller (way lack (sites_along content p) p ++ more)
-        ≡ Some reply) (sym is.2) (bar_names is.0 is.1 lack more)
+    bar_way path is lack more = grind (arith, nat_tests, bar_names)
 
     bar_folder : (more : Site → List Item)
         → first_failure caller (way false (sites_along content f) f
         ++ where_found (site_at (sites_along content f) f) (enter more)) ≡ Some reply
-    bar_folder more =
-        ap (λ (l : List Site). first_failure caller (way false l f
-        ++ where_found (site_at l f) (enter more))) (along_from content f)
-        ∙ on (root_of content)
-        (sym (ap (λ (l : List Site). first_failure caller (way true l (f ++ [] ∷ [])))
-        (along_from content f)) ∙ barred)
-      where
-        on : (o : Option Node)
-            → first_failure caller (way true
-            (option_map_or (λ root. sites_from content (root_site root) f) o [])
-            (f ++ [] ∷ [])) ≡ Some reply
-            → first_failure caller (way false
-            (option_map_or (λ root. sites_from content (root_site root) f) o []) f
-            ++ where_found (site_at
-            (option_map_or (λ root. sites_from content (root_site root) f) o []) f) (enter more))
-            ≡ Some reply
-        on None is = absurd (none-some reply is)
-        on (Some root) is = bar_at (root_site root) f more is
+    bar_folder more = grind (arith, nat_tests, along_from, bar_at, sites_from)
 
     -- a move to what is behind comes to the same
     pub bar_move : (to : List (List ℕ)) → IsBehind f to → (target from : Site)

@@ -1,16 +1,15 @@
 -- What happens behind a folder changes what is behind it alone.
-use Rattle.std.proofs.Common.{ℕ, ℤ, ◌≡◌, ◌<◌, ◌==◌, Bool, true, false, not, List, [], ◌∷◌, ◌++◌}
-use Rattle.std.proofs.Common.{Option, Some, None, refl, sym, ap, subst, ◌∙◌}
+use Rattle.std.proofs.Common.{ℕ, ℤ, ◌≡◌, ◌<◌, ◌==◌, false, not, List, [], ◌∷◌, ◌++◌, Option, Some}
+use Rattle.std.proofs.Common.{None, refl, sym, ap, subst, ◌∙◌, arith}
 use Rattle.std.specs.Option.{option_map, option_map_or}
 use Rattle.std.specs.Prelude.{option_and_then, is_none, if◌then◌else◌}
 use Rattle.std.proofs.lemmas.Bool.{false≢true, cond-false}
 use Rattle.std.proofs.lemmas.Option.{none-some, same_Some}
 use Rattle.room_entry.specs.declared.object.Which.{Which}
-use Rattle.room_entry.specs.declared.object.Which.TheVariants.{Dacl, Sacl}
 use Rattle.room_entry.specs.declared.parties.Caller.{Caller}
 use Rattle.room_ace.specs.Sent.{Sent}
-use Rattle.room_rows.specs.Content.{Content, child_of, root_of, node_at, has_parent, with_node}
-use Rattle.room_rows.specs.Content.{with_body, without_node, with_each, with_records}
+use Rattle.room_rows.specs.Content.{Content, child_of, node_at, has_parent, with_node, with_body}
+use Rattle.room_rows.specs.Content.{without_node, with_each, with_records}
 use Rattle.room_rows.specs.Held.{with_held}
 use Rattle.room_rows.specs.HeldList.{Held}
 use Rattle.room_rows.specs.declared.node.AuditRow.{AuditRow}
@@ -20,12 +19,10 @@ use Rattle.room_rows.proofs.InPlace.{node_at-with_each, KeepsPlaces}
 use Rattle.room_rows.proofs.Lookups as lookups
 use Rattle.room_rows.proofs.SamePlace.{IsSamePlace, same_place}
 use Rattle.room_machine.specs.Effect.{effect, put_bytes}
-use Rattle.room_machine.specs.Judge.{first_failure, records_of_plan}
 use Rattle.room_machine.specs.Laws.{first_path}
-use Rattle.room_machine.specs.Plan.{plan_of}
 use Rattle.room_machine.specs.Run.{Event, Asked, WasReset, Replaced, Happens, Run}
-use Rattle.room_machine.specs.Site.{Site, sites_along, site_at, parent_at, root_site, site_below}
-use Rattle.room_machine.specs.Site.{front, last_name}
+use Rattle.room_machine.specs.Site.{Site, sites_along, site_at, parent_at, site_below, front}
+use Rattle.room_machine.specs.Site.{last_name}
 use Rattle.room_machine.specs.Step.{Step, IsFree, caller_in, failure_or}
 use Rattle.room_machine.specs.declared.reply.Reply.{Reply}
 use Rattle.room_machine.specs.declared.reply.Reply.TheVariants.{Done}
@@ -45,6 +42,7 @@ use Rattle.room_unseen.proofs.Local.{under_below, under_inside}
 use Rattle.room_unseen.proofs.OnePlace.{found_there, split_last}
 use Rattle.room_unseen.proofs.SameReplies.{bar_same, same_replies}
 use Rattle.room_unseen.proofs.Seen.{along_from, found_at, sites_from}
+use Rattle.std.proofs.lemmas.Bool.Decides.{nat_tests}
 
 -- ---- what is found before the end of a path
 
@@ -71,16 +69,7 @@ prefix_from content site (name ∷ names) more =
 pub found_before : (content : Content) (names more : List (List ℕ))
     → option_map (λ (s : Site). s.node) (site_at (sites_along content (names ++ more)) names)
     ≡ found content names
-found_before content names more =
-    ap (λ (l : List Site). option_map (λ (s : Site). s.node) (site_at l names))
-    (along_from content (names ++ more)) ∙ on (root_of content)
-  where
-    on : (o : Option Node)
-        → option_map (λ (s : Site). s.node)
-        (site_at (option_map_or (λ root. sites_from content (root_site root) (names ++ more)) o [])
-        names) ≡ option_and_then (λ root. found_from content root names) o
-    on None = refl
-    on (Some root) = prefix_from content (root_site root) names more
+found_before content names more = grind (arith, nat_tests, along_from, prefix_from, sites_from)
 
 pub front_snoc : (names : List (List ℕ)) (name : List ℕ) → front (names ++ name ∷ []) ≡ names
 front_snoc [] name = refl
@@ -112,22 +101,10 @@ module _ (which : Which) (keep : Node → Held) (at : ℕ) where
   change node = if has_parent at node then with_held which (keep node) node else node
 
   pub change_place : (n : Node) → IsSamePlace (change n) n
-  change_place n = on (has_parent at n)
-    where
-      on : (t : Bool) → IsSamePlace (if t then with_held which (keep n) n else n) n
-      on true = place-with_held which (keep n) n
-      on false = same_place n
+  change_place n = grind (arith, nat_tests, place-with_held, same_place)
 
   pub change_shown : (n : Node) → shown_of (change n) ≡ shown_of n
-  change_shown n = on (has_parent at n)
-    where
-      held : (w : Which) → shown_of (with_held w (keep n) n) ≡ shown_of n
-      held Dacl = refl
-      held Sacl = refl
-
-      on : (t : Bool) → shown_of (if t then with_held which (keep n) n else n) ≡ shown_of n
-      on true = held which
-      on false = refl
+  change_shown n = grind (arith, nat_tests, shown_of)
 
   pub change_none : (n : Node) → has_parent at n ≡ false → change n ≡ n
   change_none n isnt = cond-false _ _ _ isnt
@@ -276,13 +253,8 @@ module _ (a : Content) (numbered : IsNumbered a) where
     -- the folder of what is behind is inside
     front_inside : (path : List (List ℕ)) → IsBehind f path → (folder : Node)
         → found a (front path) ≡ Some folder → IsInside f a folder.id
-    front_inside path (name, names, is) folder found_it = (
-      front (name ∷ names),
-      folder,
-      ap (found a) (sym (ap front (is ∙ split_behind f a name names)
-          ∙ front_snoc (f ++ front (name ∷ names)) (last_name (name ∷ names)))) ∙ found_it,
-      refl,
-    )
+    front_inside path (name, names, is) folder found_it =
+        grind (arith, nat_tests, front_snoc, split_behind)
 
     folder_inside : (path : List (List ℕ)) → IsBehind f path → (folder : Site)
         → parent_at (sites_along a path) path ≡ Some folder → IsInside f a folder.node.id
@@ -373,10 +345,7 @@ pub after_step : (P : Content → Type 0) → ((c : Content) (rows : List AuditR
     → (s : Step content user moment request reply after) → P content
     → P (effect content (caller_in content user) s.0 request).1 → P after
 after_step P noted content user moment request reply after s same done =
-    subst P (ap (λ (d : Reply × Content). d.1) s.2)
-    (noted _ (records_of_plan (caller_in content user) moment (plan_of content request))
-    (either_holds P (first_failure (caller_in content user) (plan_of content request)) content
-    (effect content (caller_in content user) s.0 request) same done))
+    grind (arith, nat_tests, either_holds)
 
 noted_numbers : (c : Content) (rows : List AuditRow) → Numbered c → Numbered (with_records c rows)
 noted_numbers c rows numbered = record { rises = numbered.rises }
@@ -417,26 +386,14 @@ stays_behind f before event after numbered is happens = (
 -- ---- runs
 
 pub same_itself : (f : List (List ℕ)) (a : Content) → SameOutside f a a
-same_itself f a = record {
-  members = refl;
-  views = λ path outside. refl;
-  names = λ path outside other. refl;
-}
+same_itself f a = grind (arith, nat_tests)
 
 pub same_back : (f : List (List ℕ)) (a b : Content) → SameOutside f a b → SameOutside f b a
-same_back f a b same = record {
-  members = sym same.members;
-  views = λ path outside. sym (same.views path outside);
-  names = λ path outside other. sym (same.names path outside other);
-}
+same_back f a b same = grind (arith, nat_tests)
 
 pub same_on : (f : List (List ℕ)) (a b c : Content) → SameOutside f a b → SameOutside f b c
     → SameOutside f a c
-same_on f a b c first second = record {
-  members = first.members ∙ second.members;
-  views = λ path outside. first.views path outside ∙ second.views path outside;
-  names = λ path outside other. first.names path outside other ∙ second.names path outside other;
-}
+same_on f a b c first second = grind (arith, nat_tests)
 
 pub run_behind : (f : List (List ℕ)) (events : List Event) (a b : Content) → IsNumbered a
     → AllBehind f events → Run a events b → SameOutside f a b × IsNumbered b

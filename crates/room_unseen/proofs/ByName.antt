@@ -1,6 +1,6 @@
 -- Children in order of name are determined by what is found by each name.
 use Rattle.std.proofs.Common.{◌≡◌, ℕ, ◌⊎◌, inl, inr, Bool, true, false, cond, not, ◌&&◌, List, []}
-use Rattle.std.proofs.Common.{◌∷◌, map, filter, Option, Some, None, refl, sym, ap, ◌∙◌}
+use Rattle.std.proofs.Common.{◌∷◌, map, filter, Option, Some, None, refl, sym, ap, ◌∙◌, arith}
 use Rattle.std.specs.Cmp.Lexicographic.{slice_cmp}
 use Rattle.std.specs.List.{find, AllByRecursion, list_any}
 use Rattle.std.specs.Option.{option_map}
@@ -23,28 +23,19 @@ use Rattle.room_rows.proofs.Frames.{parent_is}
 use Rattle.room_rows.proofs.Lookups as lookups
 use Rattle.room_machine.specs.Effect.{names_at}
 use Rattle.room_unseen.proofs.Local.{shown_of}
+use Rattle.std.proofs.lemmas.Bool.Decides.{nat_tests}
 
 -- ---- the order of names
 
 less_of : (a b : List ℕ) → is_before a b ≡ true → slice_cmp nat_cmp a b ≡ Less
-less_of a b is = on (slice_cmp nat_cmp a b) is
-  where
-    on : (o : Ordering) → is_lt o ≡ true → o ≡ Less
-    on Less is = refl
-    on Equal is = absurd (false≢true is)
-    on Greater is = absurd (false≢true is)
+less_of a b is = grind (arith, nat_tests)
 
 before_on : (a b c : List ℕ) → is_before a b ≡ true → is_before b c ≡ true → is_before a c ≡ true
 before_on a b c first second =
     ap is_lt (nat_list_cmp_total.trans a b c (less_of a b first) (less_of b c second))
 
 never_itself : (a : List ℕ) → is_before a a ≡ false
-never_itself a = on (slice_cmp nat_cmp a a) (nat_list_cmp_total.antisymm a a)
-  where
-    on : (o : Ordering) → o ≡ ordering_reverse o → is_lt o ≡ false
-    on Less is = absurd (let wrong : ⊥ = cc in wrong)
-    on Equal is = refl
-    on Greater is = refl
+never_itself a = grind (arith, nat_tests, nat_list_cmp_total)
 
 -- a name that comes before another isn't it
 before_differs : (a b : List ℕ) → is_before a b ≡ true → same_text a b ≡ false
@@ -94,12 +85,7 @@ after_put : (first node : Node) (nodes : List Node) → is_before first.name nod
     → After first nodes → After first (put_by_name node nodes)
 after_put first node [] here all = (here, tt)
 after_put first node (x ∷ xs) here all =
-    on (is_before x.name node.name) (after_put first node xs here all.1)
-  where
-    on : (t : Bool) → After first (put_by_name node xs)
-        → After first (cond t (x ∷ put_by_name node xs) (node ∷ x ∷ xs))
-    on true rest = (all.0, rest)
-    on false rest = (here, all)
+    grind (arith, nat_tests, after_put first node xs here all.1)
 
 rising_put : (node : Node) (nodes : List Node) → Others node nodes → Rising nodes
     → Rising (put_by_name node nodes)
@@ -172,13 +158,7 @@ none_of name (x ∷ xs) all =
 after_none : (name : List ℕ) (x : Node) (nodes : List Node) → Rising (x ∷ nodes)
     → (is_before name x.name ≡ true) ⊎ (name ≡ x.name) → by_name name nodes ≡ None
 after_none name x nodes rising first =
-    none_of name nodes (each_weaker _ _ (λ n later. same_text-sym n.name name
-    ∙ before_differs name n.name (on first n later)) nodes rising.0)
-  where
-    on : (is_before name x.name ≡ true) ⊎ (name ≡ x.name) → (n : Node)
-        → is_before x.name n.name ≡ true → is_before name n.name ≡ true
-    on (inl before) n later = before_on name x.name n.name before later
-    on (inr same) n later = ap (λ k. is_before k n.name) same ∙ later
+    grind (arith, nat_tests, before_differs, before_on, each_weaker, none_of, same_text-sym)
 
 here : (x : Node) (xs : List Node) → by_name x.name (x ∷ xs) ≡ Some x
 here x xs = lookups.find_yes (λ (n : Node). same_text n.name x.name) x xs (text_itself x.name)
@@ -245,13 +225,7 @@ shown_same (x ∷ xs) (y ∷ ys) one two same =
 find_filter : (p q : Node → Bool) (nodes : List Node)
     → find q (filter p nodes) ≡ find (λ (n : Node). p n && q n) nodes
 find_filter p q [] = refl
-find_filter p q (x ∷ xs) = on (p x) (find_filter p q xs)
-  where
-    on : (t : Bool) → find q (filter p xs) ≡ find (λ (n : Node). p n && q n) xs
-        → find q (cond t (x ∷ filter p xs) (filter p xs))
-        ≡ cond (t && q x) (Some x) (find (λ (n : Node). p n && q n) xs)
-    on true rest = ap (λ (o : Option Node). cond (q x) (Some x) o) rest
-    on false rest = rest
+find_filter p q (x ∷ xs) = grind (arith, nat_tests, find_filter p q xs)
 
 apart_children : (id : ℕ) (nodes : List Node) → are_names_apart nodes ≡ true
     → Apart (filter (has_parent id) nodes)
@@ -289,9 +263,7 @@ apart_children id (x ∷ xs) apart =
 -- a child is found by its name among the children in order
 pub child_by_name : (c : Content) (id : ℕ) → are_names_apart c.nodes ≡ true → (name : List ℕ)
     → by_name name (children_of c id) ≡ child_of c id name
-child_by_name c id apart name =
-    name_sorted name (filter (has_parent id) c.nodes) (apart_children id c.nodes apart)
-    ∙ find_filter (has_parent id) (λ (n : Node). same_text n.name name) c.nodes
+child_by_name c id apart name = grind (arith, nat_tests, apart_children, find_filter, name_sorted)
 
 -- The names and kinds below an object are determined by what is found below it by each name.
 pub names_by_name : (a b : Content) (i j : ℕ) → are_names_apart a.nodes ≡ true
@@ -300,8 +272,4 @@ pub names_by_name : (a b : Content) (i j : ℕ) → are_names_apart a.nodes ≡ 
     ≡ option_map shown_of (child_of b j name))
     → names_at a i ≡ names_at b j
 names_by_name a b i j one two same =
-    shown_same (children_of a i) (children_of b j)
-    (rising_sorted _ (apart_children i a.nodes one))
-    (rising_sorted _ (apart_children j b.nodes two))
-    (λ name. ap (option_map shown_of) (child_by_name a i one name) ∙ same name
-    ∙ sym (ap (option_map shown_of) (child_by_name b j two name)))
+    grind (arith, nat_tests, apart_children, child_by_name, rising_sorted, shown_of, shown_same)

@@ -1,12 +1,11 @@
 -- Views after objects were changed in their places.
-use Rattle.std.proofs.Common.{ℕ, ◌≡◌, ◌==◌, Bool, true, false, ◌&&◌, List, [], ◌∷◌, map, Option}
-use Rattle.std.proofs.Common.{Some, None, refl, sym, ap, ◌∙◌}
-use Rattle.std.specs.List.{find, AllByRecursion}
+use Rattle.std.proofs.Common.{ℕ, ◌≡◌, ◌==◌, Bool, true, false, List, [], ◌∷◌, map, Option, Some}
+use Rattle.std.proofs.Common.{None, refl, sym, ap, ◌∙◌, arith}
+use Rattle.std.specs.List.{AllByRecursion}
 use Rattle.std.specs.Option.{option_map, option_map_or}
-use Rattle.std.specs.Prelude.{option_and_then, is_none, if◌then◌else◌}
+use Rattle.std.specs.Prelude.{option_and_then, if◌then◌else◌}
 use Rattle.std.proofs.lemmas.Bool.{eqb-true, eq-eqb, false≢true}
-use Rattle.std.proofs.lemmas.Option.{none-some, same_Some}
-use Rattle.room_entry.specs.Pieces.{same_text}
+use Rattle.std.proofs.lemmas.Option.{none-some}
 use Rattle.room_entry.specs.declared.object.Which.{Which}
 use Rattle.room_entry.specs.declared.object.Which.TheVariants.{Dacl, Sacl}
 use Rattle.room_entry.specs.declared.parties.Owners.{Owners}
@@ -31,6 +30,7 @@ use Rattle.room_unseen.specs.Tidy.{IsNumbered}
 use Rattle.room_unseen.proofs.Behind.{change, change_place}
 use Rattle.room_unseen.proofs.OnePlace.{found_snoc, found_there, one_place, split_last}
 use Rattle.room_unseen.proofs.Placed.{names_decide, same_names}
+use Rattle.std.proofs.lemmas.Bool.Decides.{nat_tests}
 
 -- ---- objects found after a change
 
@@ -71,47 +71,17 @@ module _ (a : Content) (g : Node → Node) (places : (n : Node) → IsSamePlace 
       → unnumbered (g n) ≡ G path (unnumbered n))
       → (path : List (List ℕ))
       → view (with_each a g) path ≡ option_map (λ (v : Seen). (G path v.0, v.1)) (view a path)
-  each_view G known path =
-      ap (option_map (sight (with_each a g))) (found_each path)
-      ∙ on (found a path) refl
-    where
-      changed : Seen → Seen
-      changed v = (G path v.0, v.1)
-
-      on : (o : Option Node) → found a path ≡ o
-          → option_map (sight (with_each a g)) (option_map g o)
-          ≡ option_map (λ (v : Seen). (G path v.0, v.1)) (option_map (sight a) o)
-      on None is = refl
-      on (Some n) is =
-          ap (λ (x : Node). Some (x, body_of a (g n).id)) (known path n is)
-          ∙ ap (λ (i : ℕ). Some (G path (unnumbered n), body_of a i)) (places n).number
+  each_view G known path = grind (arith, nat_tests, found_each)
 
 -- where the objects are the same, the same are found
 nodes_from : (a c : Content) → c.nodes ≡ a.nodes → (node : Node) (names : List (List ℕ))
     → found_from c node names ≡ found_from a node names
 nodes_from a c same node [] = refl
-nodes_from a c same node (name ∷ names) =
-    ap (λ (l : List Node). option_and_then (λ child. found_from c child names)
-    (find (λ (n : Node). has_parent node.id n && same_text n.name name) l)) same
-    ∙ on (child_of a node.id name) (λ child. nodes_from a c same child names)
-  where
-    on : (o : Option Node)
-        → ((child : Node) → found_from c child names ≡ found_from a child names)
-        → option_and_then (λ child. found_from c child names) o
-        ≡ option_and_then (λ child. found_from a child names) o
-    on None more = refl
-    on (Some child) more = more child
+nodes_from a c same node (name ∷ names) = grind (arith, nat_tests)
 
 pub nodes_found : (a c : Content) → c.nodes ≡ a.nodes → (path : List (List ℕ))
     → found c path ≡ found a path
-nodes_found a c same path =
-    ap (λ (l : List Node). option_and_then (λ root. found_from c root path)
-    (find (λ (n : Node). is_none n.parent) l)) same ∙ on (root_of a)
-  where
-    on : (o : Option Node) → option_and_then (λ root. found_from c root path) o
-        ≡ option_and_then (λ root. found_from a root path) o
-    on None = refl
-    on (Some root) = nodes_from a c same root path
+nodes_found a c same path = grind (arith, nat_tests, nodes_from)
 
 -- an object changed, and the others left
 abbrev pub only : ℕ → (Node → Node) → Node → Node
@@ -119,11 +89,7 @@ only id u node = if node.id == id then u node else node
 
 pub only_place : (id : ℕ) (u : Node → Node) → ((n : Node) → IsSamePlace (u n) n) → (n : Node)
     → IsSamePlace (only id u n) n
-only_place id u places n = on (n.id == id)
-  where
-    on : (t : Bool) → IsSamePlace (if t then u n else n) n
-    on true = places n
-    on false = same_place n
+only_place id u places n = grind (arith, nat_tests, same_place)
 
 map_only : (u : Node → Node) (all : List Node) (target : Node)
     → find_id target.id all ≡ Some target → (u target).id ≡ target.id → (nodes : List Node)
@@ -131,16 +97,7 @@ map_only : (u : Node → Node) (all : List Node) (target : Node)
     → map (replaced (u target)) nodes ≡ map (only target.id u) nodes
 map_only u all target at number [] each = refl
 map_only u all target at number (x ∷ xs) each =
-    ap (λ (n : Node). n ∷ map (replaced (u target)) xs)
-    (ap (λ (i : ℕ). if x.id == i then u target else x) number ∙ on (x.id == target.id) refl)
-    ∙ ap (λ (l : List Node). only target.id u x ∷ l) (map_only u all target at number xs each.1)
-  where
-    on : (t : Bool) → (x.id == target.id) ≡ t
-        → (if t then u target else x) ≡ (if t then u x else x)
-    on true is =
-        ap u (same_Some target x
-        (sym at ∙ ap (λ (i : ℕ). find_id i all) (sym (eqb-true x.id target.id is)) ∙ each.0))
-    on false is = refl
+    grind (arith, nat_tests, replaced, map_only u all target at number xs each.1)
 
 -- an object put in its place, changed, is a change of it alone
 pub put_only : (a : Content) → IsNumbered a → (target : Node)
@@ -157,11 +114,7 @@ module _ (a : Content) (numbered : IsNumbered a) where
   pub number_path : (p q : List (List ℕ)) (n m : Node) → found a p ≡ Some n → found a q ≡ Some m
       → (n.id == m.id) ≡ same_names p q
   number_path p q n m first second =
-      same_truth (n.id == m.id) (same_names p q)
-      (λ is. (names_decide p q).1 (one_place a numbered p q n m first second
-      (eqb-true n.id m.id is)))
-      (λ is. eq-eqb n.id m.id (ap (λ (x : Node). x.id) (same_Some n m
-      (sym first ∙ ap (found a) ((names_decide p q).0 is) ∙ second))))
+      grind (arith, nat_tests, names_decide, one_place, same_names, same_truth)
 
   module _ (path : List (List ℕ)) (target : Node) (at : found a path ≡ Some target) where
     there : node_at a target.id ≡ Some target

@@ -1,6 +1,6 @@
 -- A request leaves two rooms the same outside.
-use Rattle.std.proofs.Common.{append_assoc, ℕ, ◌≡◌, ◌⊎◌, inl, inr, true, false, List, [], ◌∷◌}
-use Rattle.std.proofs.Common.{◌++◌, Option, Some, None, refl, sym, ap, subst, ◌∙◌, append-nil}
+use Rattle.std.proofs.Common.{append_assoc, ℕ, ◌≡◌, ◌⊎◌, inl, inr, true, false, List, [], ◌∷◌, ◌++◌}
+use Rattle.std.proofs.Common.{Option, Some, None, refl, sym, ap, subst, ◌∙◌, append-nil, arith}
 use Rattle.std.specs.Option.{option_map, option_map_or}
 use Rattle.std.specs.Prelude.{unwrap_or}
 use Rattle.std.proofs.lemmas.Bool.{true≢false}
@@ -11,16 +11,14 @@ use Rattle.room_entry.specs.declared.object.Which.{Which}
 use Rattle.room_entry.specs.declared.parties.Caller.{Caller}
 use Rattle.room_entry.specs.declared.parties.Owners.{Owners}
 use Rattle.room_ace.specs.Sent.{Sent}
-use Rattle.room_rows.specs.Content.{Content, body_of, children_of, is_empty, with_node}
-use Rattle.room_rows.specs.Content.{with_body, without_node}
+use Rattle.room_rows.specs.Content.{Content, body_of, children_of, is_empty, with_node, with_body}
+use Rattle.room_rows.specs.Content.{without_node}
 use Rattle.room_rows.specs.declared.node.Node.{Node}
-use Rattle.room_machine.specs.Effect.{effect, set_list, new_node}
-use Rattle.room_machine.specs.Effect.{moved_node, put_bytes, with_site}
+use Rattle.room_machine.specs.Effect.{effect, set_list, new_node, moved_node, put_bytes, with_site}
 use Rattle.room_machine.specs.Judge.{failure, first_failure}
 use Rattle.room_machine.specs.Laws.{first_path}
 use Rattle.room_machine.specs.Plan.{plan_of, move_items, Deletion, Refusal}
-use Rattle.room_machine.specs.Site.{Site, front, last_name, site_at, parent_at}
-use Rattle.room_machine.specs.Site.{sites_along}
+use Rattle.room_machine.specs.Site.{Site, front, last_name, site_at, parent_at, sites_along}
 use Rattle.room_machine.specs.Step.{IsFree}
 use Rattle.room_machine.specs.declared.reply.Reason.TheVariants.{Exists}
 use Rattle.room_machine.specs.declared.reply.Reply.{Reply}
@@ -31,12 +29,12 @@ use Rattle.room_machine.specs.declared.request.Request.TheVariants.{Append, Make
 use Rattle.room_machine.specs.declared.request.Request.TheVariants.{Move, ReadList, SetList}
 use Rattle.room_machine.specs.declared.request.Request.TheVariants.{ReadAttr, SetOwners, Can}
 use Rattle.room_unseen.specs.Laws.{front_done, rest_after}
-use Rattle.room_unseen.specs.Outside.{Seen, found, unnumbered, view, IsBehind}
-use Rattle.room_unseen.specs.Outside.{SameOutside, last_path}
+use Rattle.room_unseen.specs.Outside.{Seen, found, unnumbered, view, IsBehind, SameOutside}
+use Rattle.room_unseen.specs.Outside.{last_path}
 use Rattle.room_unseen.specs.Tidy.{IsTidy, IsNumbered}
 use Rattle.room_unseen.proofs.Changed.{bytes_view, filled, list_view, owned, owners_view, relisted}
-use Rattle.room_unseen.proofs.Grown.{GoesOn, filled_here, filled_view, goes_on}
-use Rattle.room_unseen.proofs.Grown.{gone_here, gone_view, grown_here, grown_view}
+use Rattle.room_unseen.proofs.Grown.{GoesOn, filled_here, filled_view, goes_on, gone_here}
+use Rattle.room_unseen.proofs.Grown.{gone_view, grown_here, grown_view}
 use Rattle.room_unseen.proofs.Moved.{view_apart, view_below, view_new, view_old}
 use Rattle.room_unseen.proofs.OnePlace.{split_last, start_outside}
 use Rattle.room_unseen.proofs.Orphans.{bare, orphans}
@@ -49,6 +47,7 @@ use Rattle.room_unseen.proofs.PlansAlike.{IsSeen, parent_same, sites_same, targe
 use Rattle.room_unseen.proofs.Seen.{Both, IsLike}
 use Rattle.room_unseen.proofs.Settings.{keeper, keeper_blank, Setting, setting, setting_like}
 use Rattle.room_unseen.proofs.Settings.{no_children}
+use Rattle.std.proofs.lemmas.Bool.Decides.{nat_tests}
 
 module _ (f : List (List ℕ)) (a b : Content) (same : SameOutside f a b)
     (content_a : IsTidy a) (content_b : IsTidy b)
@@ -247,9 +246,7 @@ module _ (f : List (List ℕ)) (a b : Content) (same : SameOutside f a b)
     moved_b = moved_node t d (last_name (first ∷ more))
 
     moved_like : unnumbered moved_a ≡ unnumbered moved_b
-    moved_like =
-        ap (λ (x : Site). unnumbered (moved_node x c (last_name (first ∷ more)))) seen.like
-        ∙ ap (λ (x : Site). unnumbered (moved_node t x (last_name (first ∷ more)))) place.like
+    moved_like = grind (arith, nat_tests)
 
     moved_alike : SeenAlike g (with_node a moved_a) (with_node b moved_b)
     moved_alike = record {

@@ -24,6 +24,7 @@ use Rattle.room_unseen.proofs.Kept.{is_named}
 use Rattle.room_unseen.proofs.Kept as kept
 use Rattle.room_unseen.proofs.OnePlace.{found_snoc, found_there, head_same, not_empty, one_place}
 use Rattle.room_unseen.proofs.OnePlace.{split_last, tail_same}
+use Rattle.std.proofs.lemmas.Bool.Decides.{nat_tests}
 
 -- ---- paths that go on from others
 
@@ -80,14 +81,7 @@ append_from content node (name ∷ names) more =
 pub found_append : (content : Content) (names more : List (List ℕ))
     → found content (names ++ more)
     ≡ option_and_then (λ n. found_from content n more) (found content names)
-found_append content names more = on (root_of content)
-  where
-    on : (o : Option Node)
-        → option_and_then (λ root. found_from content root (names ++ more)) o
-        ≡ option_and_then (λ n. found_from content n more)
-        (option_and_then (λ root. found_from content root names) o)
-    on None = refl
-    on (Some root) = append_from content root names more
+found_append content names more = grind (arith, nat_tests, append_from)
 
 -- ---- where each step of a walk is as before
 
@@ -251,11 +245,7 @@ module _ (a : Content) (numbered : IsNumbered a) (name : List ℕ) (names : List
 
   pub filled_here : (bytes : List ℕ)
       → view (with_body grown new.id bytes) path ≡ Some (unnumbered new, Some bytes)
-  filled_here bytes =
-      ap (option_map (sight (with_body grown new.id bytes)))
-      (nodes_found grown (with_body grown new.id bytes) refl path ∙ found_new)
-      ∙ ap (λ (body : Option (List ℕ)). Some (unnumbered new, body))
-      (body_of-with_body grown new.id bytes)
+  filled_here bytes = grind (arith, nat_tests, body_of-with_body, found_new, nodes_found)
 
 -- ---- an object where it stands
 

@@ -1,9 +1,8 @@
 -- Objects that are put, removed or changed, and what a test finds of the others.
 use Rattle.std.proofs.Common.{ℕ, ◌≡◌, ◌<◌, ◌≤◌, ◌==◌, Bool, true, false, cond, not, ◌&&◌, List, []}
-use Rattle.std.proofs.Common.{◌∷◌, map, filter, Option, Some, None, nat_lt, refl, sym, ap, ◌∙◌}
-use Rattle.std.proofs.Common.{arith, subst, inl, inr}
+use Rattle.std.proofs.Common.{◌∷◌, map, filter, Some, None, nat_lt, refl, sym, ap, ◌∙◌, arith}
+use Rattle.std.proofs.Common.{subst, inl, inr}
 use Rattle.std.specs.List.{find, AllByRecursion, list_any}
-use Rattle.std.specs.Option.{option_map_or}
 use Rattle.std.proofs.lemmas.Bool.{not-true, and_parts, and_from, eqb-true, false≢true, ltb-true}
 use Rattle.std.proofs.lemmas.Bool.{lt-ltb, cases_order, eq-eqb, or_parts}
 use Rattle.std.proofs.lemmas.Option.{same_Some}
@@ -15,6 +14,7 @@ use Rattle.room_rows.specs.Content.{are_names_apart}
 use Rattle.room_rows.specs.Finding.{find_id}
 use Rattle.room_rows.specs.declared.node.Node.{Node}
 use Rattle.room_rows.proofs.Lookups as lookups
+use Rattle.std.proofs.lemmas.Bool.Decides.{nat_tests}
 
 -- the numbers rise, from above this one
 abbrev pub RisesFrom : ℕ → List Node → Type 0
@@ -28,10 +28,8 @@ each_fails_at : (p : Node → Bool) (id : ℕ) (all nodes : List Node)
     → ((n : Node) → find_id id all ≡ Some n → p n ≡ false)
     → AllByRecursion (λ (n : Node). find_id n.id all ≡ Some n) nodes → Fails p id nodes
 each_fails_at p id all [] known each = tt
-each_fails_at p id all (x ∷ xs) known each = (
-  λ is. known x (ap (λ (i : ℕ). find_id i all) (sym (eqb-true x.id id is)) ∙ each.0),
-  each_fails_at p id all xs known each.1,
-)
+each_fails_at p id all (x ∷ xs) known each =
+    grind (arith, nat_tests, each_fails_at p id all xs known each.1)
 
 -- the object that is found by a number is the only one that has it
 pub fails_at : (p : Node → Bool) (id : ℕ) (nodes : List Node) → RisesFrom 0 nodes
@@ -44,86 +42,36 @@ fails_at p id nodes rises known =
 pub find-put : (p : Node → Bool) (new : Node) (nodes : List Node) → p new ≡ false
     → Fails p new.id nodes → find p (put_node new nodes) ≡ find p nodes
 find-put p new [] fails each = lookups.find_no p new [] fails
-find-put p new (x ∷ xs) fails each =
-    on (nat_lt x.id new.id) (x.id == new.id) refl (find-put p new xs fails each.1)
-  where
-    on : (t u : Bool) → (x.id == new.id) ≡ u → find p (put_node new xs) ≡ find p xs
-        → find p (cond t (x ∷ put_node new xs) (cond u (new ∷ xs) (new ∷ x ∷ xs)))
-        ≡ find p (x ∷ xs)
-    on true u is rest = ap (λ (o : Option Node). cond (p x) (Some x) o) rest
-    on false true is rest =
-        lookups.find_no p new xs fails ∙ sym (lookups.find_no p x xs (each.0 is))
-    on false false is rest = lookups.find_no p new (x ∷ xs) fails
+find-put p new (x ∷ xs) fails each = grind (arith, nat_tests, find-put p new xs fails each.1)
 
 pub filter-put : (p : Node → Bool) (new : Node) (nodes : List Node) → p new ≡ false
     → Fails p new.id nodes → filter p (put_node new nodes) ≡ filter p nodes
 filter-put p new [] fails each = lookups.keep_no p new [] fails
-filter-put p new (x ∷ xs) fails each =
-    on (nat_lt x.id new.id) (x.id == new.id) refl (filter-put p new xs fails each.1)
-  where
-    on : (t u : Bool) → (x.id == new.id) ≡ u → filter p (put_node new xs) ≡ filter p xs
-        → filter p (cond t (x ∷ put_node new xs) (cond u (new ∷ xs) (new ∷ x ∷ xs)))
-        ≡ filter p (x ∷ xs)
-    on true u is rest = ap (λ (l : List Node). cond (p x) (x ∷ l) l) rest
-    on false true is rest =
-        lookups.keep_no p new xs fails ∙ sym (lookups.keep_no p x xs (each.0 is))
-    on false false is rest = lookups.keep_no p new (x ∷ xs) fails
+filter-put p new (x ∷ xs) fails each = grind (arith, nat_tests, filter-put p new xs fails each.1)
 
 -- ---- an object removed
 
 pub find-removed : (p : Node → Bool) (id : ℕ) (nodes : List Node) → Fails p id nodes
     → find p (filter (λ (n : Node). not (n.id == id)) nodes) ≡ find p nodes
 find-removed p id [] each = refl
-find-removed p id (x ∷ xs) each = on (x.id == id) refl (find-removed p id xs each.1)
-  where
-    on : (t : Bool) → (x.id == id) ≡ t
-        → find p (filter (λ (n : Node). not (n.id == id)) xs) ≡ find p xs
-        → find p (cond (not t) (x ∷ filter (λ (n : Node). not (n.id == id)) xs)
-        (filter (λ (n : Node). not (n.id == id)) xs)) ≡ find p (x ∷ xs)
-    on true is rest = rest ∙ sym (lookups.find_no p x xs (each.0 is))
-    on false is rest = ap (λ (o : Option Node). cond (p x) (Some x) o) rest
+find-removed p id (x ∷ xs) each = grind (arith, nat_tests, find-removed p id xs each.1)
 
 pub filter-removed : (p : Node → Bool) (id : ℕ) (nodes : List Node) → Fails p id nodes
     → filter p (filter (λ (n : Node). not (n.id == id)) nodes) ≡ filter p nodes
 filter-removed p id [] each = refl
-filter-removed p id (x ∷ xs) each = on (x.id == id) refl (filter-removed p id xs each.1)
-  where
-    on : (t : Bool) → (x.id == id) ≡ t
-        → filter p (filter (λ (n : Node). not (n.id == id)) xs) ≡ filter p xs
-        → filter p (cond (not t) (x ∷ filter (λ (n : Node). not (n.id == id)) xs)
-        (filter (λ (n : Node). not (n.id == id)) xs)) ≡ filter p (x ∷ xs)
-    on true is rest = rest ∙ sym (lookups.keep_no p x xs (each.0 is))
-    on false is rest = ap (λ (l : List Node). cond (p x) (x ∷ l) l) rest
+filter-removed p id (x ∷ xs) each = grind (arith, nat_tests, filter-removed p id xs each.1)
 
 pub body-removed : (id other : ℕ) → (other ≡ id → ⊥) → (bodies : List (ℕ × List ℕ))
     → body_at (filter (λ (row : ℕ × List ℕ). not (row.0 == id)) bodies) other
     ≡ body_at bodies other
 body-removed id other isnt [] = refl
-body-removed id other isnt (row ∷ rows) =
-    on (row.0 == id) refl (row.0 == other) refl (body-removed id other isnt rows)
-  where
-    on : (t : Bool) → (row.0 == id) ≡ t → (u : Bool) → (row.0 == other) ≡ u
-        → body_at (filter (λ (r : ℕ × List ℕ). not (r.0 == id)) rows) other
-        ≡ body_at rows other
-        → body_at (cond (not t) (row ∷ filter (λ (r : ℕ × List ℕ). not (r.0 == id)) rows)
-        (filter (λ (r : ℕ × List ℕ). not (r.0 == id)) rows)) other
-        ≡ cond u (Some row.1) (body_at rows other)
-    on true is true same rest =
-        absurd (isnt (sym (eqb-true row.0 other same) ∙ eqb-true row.0 id is))
-    on true is false same rest = rest
-    on false is u same rest =
-        ap (λ (t : Bool). cond t (Some row.1)
-        (body_at (filter (λ (r : ℕ × List ℕ). not (r.0 == id)) rows) other)) same
-        ∙ ap (λ (o : Option (List ℕ)). cond u (Some row.1) o) rest
+body-removed id other isnt (row ∷ rows) = grind (arith, nat_tests, body-removed id other isnt rows)
 
 -- ---- numbers still rise
 
 pub rises_lower : (k j : ℕ) (nodes : List Node) → k ≤ j → RisesFrom j nodes → RisesFrom k nodes
 rises_lower k j [] below rises = refl
-rises_lower k j (x ∷ xs) below rises =
-    let parts = and_parts (nat_lt j x.id) (is_rising (x.id ∷ map (λ (n : Node). n.id) xs)) rises in
-    let up = ltb-true j x.id parts.0 in
-    and_from _ _ (lt-ltb k x.id (omega (arith, up, below))) parts.1
+rises_lower k j (x ∷ xs) below rises = grind (arith, nat_tests)
 
 pub rises-removed : (k : ℕ) (keep : Node → Bool) (nodes : List Node) → RisesFrom k nodes
     → RisesFrom k (filter keep nodes)
@@ -189,19 +137,7 @@ is_named id name node = has_parent id node && same_text node.name name
 
 same_named : (id : ℕ) (name : List ℕ) (x y : Node) → is_named id name x ≡ true
     → is_named id name y ≡ true → (same_parent x.parent y.parent && same_text x.name y.name) ≡ true
-same_named id name x y first second =
-    let one = and_parts (has_parent id x) (same_text x.name name) first in
-    let two = and_parts (has_parent id y) (same_text y.name name) second in
-    and_from _ _ (on x.parent y.parent one.0 two.0)
-    (ap (λ n. same_text n y.name) (same_text-true x.name name one.1)
-    ∙ ap (same_text name) (same_text-true y.name name two.1) ∙ text_itself name)
-  where
-    on : (p q : Option ℕ) → option_map_or (λ (i : ℕ). i == id) p false ≡ true
-        → option_map_or (λ (i : ℕ). i == id) q false ≡ true → same_parent p q ≡ true
-    on None q first second = absurd (false≢true first)
-    on (Some i) None first second = absurd (false≢true second)
-    on (Some i) (Some j) first second =
-        eq-eqb i j (eqb-true i id first ∙ sym (eqb-true j id second))
+same_named id name x y first second = grind (arith, nat_tests, same_text-true, text_itself)
 
 none_named : (id : ℕ) (name : List ℕ) (x : Node) → is_named id name x ≡ true → (nodes : List Node)
     → list_any (λ (n : Node). same_parent x.parent n.parent && same_text x.name n.name) nodes

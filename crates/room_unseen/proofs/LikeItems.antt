@@ -1,11 +1,8 @@
 -- Items and replies at objects that are alike.
 use Rattle.std.proofs.Common.{ℕ, ◌≡◌, Bool, not, ◌&&◌, List, [], ◌∷◌, ◌++◌, Option, Some, None}
-use Rattle.std.proofs.Common.{refl, sym, ap, ◌∙◌, map}
+use Rattle.std.proofs.Common.{refl, sym, ap, ◌∙◌, map, arith}
 use Rattle.room_entry.specs.Rights.{execute}
-use Rattle.room_entry.specs.declared.object.Which.TheVariants.{Dacl}
 use Rattle.room_entry.specs.declared.parties.Caller.{Caller}
-use Rattle.room_eval.specs.Deletion.{deletion}
-use Rattle.room_eval.specs.Verdict.{verdict}
 use Rattle.room_eval.specs.declared.deletion.DeleteVerdict.{DeleteVerdict}
 use Rattle.room_eval.specs.declared.deletion.DeleteVerdict.TheVariants.{Granted as MayDelete}
 use Rattle.room_eval.specs.declared.deletion.DeleteVerdict.TheVariants.{AtTarget, AtParent}
@@ -16,13 +13,14 @@ use Rattle.room_machine.specs.Effect.{with_site}
 use Rattle.room_machine.specs.Judge.{entry_at, failure, first_failure, of_verdict, of_deletion}
 use Rattle.room_machine.specs.Judge.{or_else}
 use Rattle.room_machine.specs.Plan.{Item, Check, Deletion, Refusal, way, where_found}
-use Rattle.room_machine.specs.Site.{Site, full_at}
+use Rattle.room_machine.specs.Site.{Site}
 use Rattle.room_machine.specs.declared.reply.Reason.{Reason}
 use Rattle.room_machine.specs.declared.reply.Reason.TheVariants.{NotFolder, NoSuch}
 use Rattle.room_machine.specs.declared.reply.Reply.{Reply}
 use Rattle.room_machine.specs.declared.reply.Reply.TheVariants.{Denied}
 use Rattle.room_unseen.proofs.OnePlace.{head_same, not_empty, tail_same}
 use Rattle.room_unseen.proofs.Seen.{Both, IsLike, blank}
+use Rattle.std.proofs.lemmas.Bool.Decides.{nat_tests}
 
 pub path_like : (s t : Site) → IsLike s t → s.path ≡ t.path
 path_like s t same = ap (λ (x : Site). x.path) same
@@ -52,33 +50,20 @@ module _ (caller : Caller) where
 
   pub refused : (p q : List (List ℕ)) (why : Reason) (h k : Bool) → p ≡ q → h ≡ k
       → failure caller (Refusal p why h) ≡ failure caller (Refusal q why k)
-  refused p q why h k paths same =
-      ap (λ x. failure caller (Refusal x why h)) paths
-      ∙ ap (λ x. failure caller (Refusal q why x)) same
+  refused p q why h k paths same = grind (arith, nat_tests)
 
   pub check_like : (s t : Site) (bits : List ℕ) → IsLike s t
       → failure caller (Check s bits) ≡ failure caller (Check t bits)
-  check_like s t bits same =
-      verdict_blank s (verdict (full_at Dacl s) caller s.node.owners bits)
-      ∙ ap (λ (x : Site). failure caller (Check x bits)) same
-      ∙ sym (verdict_blank t (verdict (full_at Dacl t) caller t.node.owners bits))
+  check_like s t bits same = grind (arith, nat_tests, verdict_blank)
 
   pub deletion_like : (s t p q : Site) → IsLike s t → IsLike p q
       → failure caller (Deletion s p) ≡ failure caller (Deletion t q)
-  deletion_like s t p q same above =
-      deletion_blank s p
-      (deletion (full_at Dacl s) s.node.owners (full_at Dacl p) p.node.owners caller)
-      ∙ ap (λ (x : Site). failure caller (Deletion x (blank p))) same
-      ∙ ap (λ (x : Site). failure caller (Deletion (blank t) x)) above
-      ∙ sym (deletion_blank t q
-      (deletion (full_at Dacl t) t.node.owners (full_at Dacl q) q.node.owners caller))
+  deletion_like s t p q same above = grind (arith, nat_tests, blank, deletion_blank)
 
   pub folder_like : (s t : Site) → IsLike s t
       → failure caller (Refusal s.path NotFolder (not (is_folder s.node)))
       ≡ failure caller (Refusal t.path NotFolder (not (is_folder t.node)))
-  folder_like s t same =
-      refused s.path t.path NotFolder _ _ (path_like s t same)
-      (ap (λ (x : Site). not (is_folder x.node)) same)
+  folder_like s t same = grind (arith, nat_tests, path_like, refused)
 
   pub empty_like : (s t : List Site) → map blank s ≡ map blank t → is_empty s ≡ is_empty t
   empty_like [] [] same = refl

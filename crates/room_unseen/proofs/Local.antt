@@ -1,10 +1,9 @@
 -- Changes of what is behind a folder alone.
 use Rattle.std.proofs.Common.{ℕ, ◌≡◌, ◌==◌, false, ◌&&◌, List, [], ◌∷◌, ◌++◌, map, Option, Some}
-use Rattle.std.proofs.Common.{None, refl, sym, ap, subst, ◌∙◌, append-nil, append_assoc}
+use Rattle.std.proofs.Common.{None, refl, sym, ap, subst, ◌∙◌, append-nil, append_assoc, arith}
 use Rattle.std.specs.Option.{option_map, option_map_or}
 use Rattle.std.specs.Prelude.{option_and_then, is_none}
 use Rattle.std.proofs.lemmas.Bool.{and_left, ne_eqb}
-use Rattle.std.proofs.lemmas.Option.{none-some}
 use Rattle.room_entry.specs.Pieces.{same_text}
 use Rattle.room_entry.specs.declared.object.ObjKind.{ObjKind}
 use Rattle.room_rows.specs.Content.{Content, child_of, root_of, node_at, body_of, children_of}
@@ -17,11 +16,11 @@ use Rattle.room_rows.proofs.InPlace.{body_of-with_body-other, KeepsPlaces, child
 use Rattle.room_rows.proofs.InPlace.{root_of-with_each, children_of-with_each}
 use Rattle.room_machine.specs.Effect.{names_at}
 use Rattle.room_machine.specs.Site.{front, last_name}
-use Rattle.room_unseen.specs.Outside.{sight, found, found_from, unnumbered, view, listing, IsBehind}
-use Rattle.room_unseen.specs.Outside.{SameOutside}
+use Rattle.room_unseen.specs.Outside.{found, found_from, view, listing, IsBehind, SameOutside}
 use Rattle.room_unseen.specs.Tidy.{IsNumbered}
 use Rattle.room_unseen.proofs.Kept as kept
 use Rattle.room_unseen.proofs.OnePlace.{found_snoc, found_there, one_place, split_last}
+use Rattle.std.proofs.lemmas.Bool.Decides.{nat_tests}
 
 -- what a listing shows of an object
 abbrev pub shown_of : Node → List ℕ × ObjKind
@@ -102,20 +101,7 @@ module _ (f : List (List ℕ)) (a : Content) where
             from path [] root (ap (option_and_then (λ r. found_from a r [])) is) outside
 
     views_same : (path : List (List ℕ)) → (IsBehind f path → ⊥) → view a path ≡ view c path
-    views_same path outside =
-        sym (ap (option_map (sight c)) (found_same path outside) ∙ on (found a path) refl)
-      where
-        on : (o : Option Node) → found a path ≡ o
-            → option_map (sight c) o ≡ option_map (sight a) o
-        on None is = refl
-        on (Some n) is =
-            ap (λ (body : Option (List ℕ)). Some (unnumbered n, body))
-            (local.body n (found_there a numbered path n is) (λ (name, rest, other, there, same).
-            outside (
-              name,
-              rest,
-              sym (one_place a numbered (f ++ name ∷ rest) path other n there is same),
-            )))
+    views_same path outside = grind (arith, nat_tests, found_same, found_there, one_place)
 
     names_same : (path : List (List ℕ)) → (IsBehind f path → ⊥) → (path ≡ f → ⊥)
         → listing a path ≡ listing c path
@@ -138,45 +124,21 @@ module _ (f : List (List ℕ)) (a : Content) where
 
     -- a change of what is behind alone leaves all outside
     pub local_outside : SameOutside f a c
-    local_outside = record {
-      members = sym local.members;
-      views = views_same;
-      names = names_same;
-    }
+    local_outside = grind (arith, nat_tests, names_same, views_same)
 
   -- ---- changes that are local
 
   pub itself_local : IsLocal a
-  itself_local = record {
-    members = refl;
-    root = refl;
-    child = λ id other name. refl;
-    names = λ id other. refl;
-    body = λ node there other. refl;
-  }
+  itself_local = grind (arith, nat_tests)
 
   pub records_local : (c : Content) (rows : List AuditRow) → IsLocal c
       → IsLocal (with_records c rows)
-  records_local c rows local = record {
-    members = local.members;
-    root = local.root;
-    child = local.child;
-    names = local.names;
-    body = local.body;
-  }
+  records_local c rows local = grind (arith, nat_tests)
 
   pub body_local : (c : Content) (id : ℕ) (bytes : List ℕ) → IsLocal c
       → ((node : Node) → node_at a node.id ≡ Some node → (IsUnder node.id → ⊥) → node.id ≡ id → ⊥)
       → IsLocal (with_body c id bytes)
-  body_local c id bytes local apart = record {
-    members = local.members;
-    root = local.root;
-    child = local.child;
-    names = local.names;
-    body = λ node there other.
-        body_of-with_body-other c id bytes node.id (apart node there other)
-        ∙ local.body node there other;
-  }
+  body_local c id bytes local apart = grind (arith, nat_tests, body_of-with_body-other)
 
   -- below an object inside
   abbrev pub IsBelowInside : Node → Type 0
@@ -187,9 +149,7 @@ module _ (f : List (List ℕ)) (a : Content) where
 
   no_parent : (node : Node) → IsBelowInside node → (id : ℕ) → (IsInside id → ⊥)
       → has_parent id node ≡ false
-  no_parent node (above, is, inside) id other =
-      ap (λ (o : Option ℕ). option_map_or (λ (parent : ℕ). parent == id) o false) is
-      ∙ ne_eqb above id (λ same. other (subst IsInside same inside))
+  no_parent node (above, is, inside) id other = grind (arith, nat_tests)
 
   no_child : (node : Node) → IsBelowInside node → (id : ℕ) → (IsInside id → ⊥) → (name : List ℕ)
       → (has_parent id node && same_text node.name name) ≡ false
@@ -290,14 +250,7 @@ module _ (f : List (List ℕ)) (a : Content) where
   -- the parent of what is behind is inside
   pub parent_inside : (names : List (List ℕ)) (name : List ℕ) (node : Node)
       → found a ((f ++ names) ++ name ∷ []) ≡ Some node → IsBelowInside node
-  parent_inside names name node is =
-      on (found a (f ++ names)) refl (sym (found_snoc a (f ++ names) name) ∙ is)
-    where
-      on : (o : Option Node) → found a (f ++ names) ≡ o
-          → option_and_then (λ n. child_of a n.id name) o ≡ Some node → IsBelowInside node
-      on None none at = absurd (none-some node at)
-      on (Some above) there at =
-          (above.id, child_of-parent a above.id name node at, (names, above, there, refl))
+  parent_inside names name node is = grind (arith, nat_tests, child_of-parent, found_snoc)
 
   pub split_behind : (name : List ℕ) (names : List (List ℕ)) → f ++ name ∷ names
       ≡ (f ++ front (name ∷ names)) ++ last_name (name ∷ names) ∷ []
@@ -307,6 +260,4 @@ module _ (f : List (List ℕ)) (a : Content) where
 
   pub under_below : (name : List ℕ) (names : List (List ℕ)) (node : Node)
       → found a (f ++ name ∷ names) ≡ Some node → IsBelowInside node
-  under_below name names node is =
-      parent_inside (front (name ∷ names)) (last_name (name ∷ names)) node
-      (ap (found a) (sym (split_behind name names)) ∙ is)
+  under_below name names node is = grind (arith, nat_tests, parent_inside, split_behind)

@@ -1,6 +1,6 @@
 -- Views after an object was moved.
 use Rattle.std.proofs.Common.{ℕ, ◌≡◌, ◌⊎◌, inl, inr, Bool, true, false, ◌&&◌, List, [], ◌∷◌, ◌++◌}
-use Rattle.std.proofs.Common.{Some, None, refl, sym, ap, ◌∙◌, append-nil}
+use Rattle.std.proofs.Common.{Some, None, refl, sym, ap, ◌∙◌, append-nil, arith}
 use Rattle.std.specs.Option.{option_map}
 use Rattle.std.specs.Prelude.{option_and_then, is_none}
 use Rattle.std.proofs.lemmas.Bool.{and_parts, cases_Bool}
@@ -20,6 +20,7 @@ use Rattle.room_unseen.proofs.Grown.{its_parent, step_target, walk_below, walk_s
 use Rattle.room_unseen.proofs.Kept.{is_named}
 use Rattle.room_unseen.proofs.Kept as kept
 use Rattle.room_unseen.proofs.OnePlace.{found_snoc, not_empty, one_place, split_last}
+use Rattle.std.proofs.lemmas.Bool.Decides.{nat_tests}
 
 front_on : (l : List (List ℕ)) (x : List ℕ) (r : List (List ℕ))
     → front (l ++ x ∷ r) ≡ l ++ front (x ∷ r)
@@ -194,9 +195,7 @@ module _ (a : Content) (numbered : IsNumbered a) (apart : are_names_apart a.node
   view_old rest = ap (option_map (sight a)) (found_old rest)
 
   pub view_new : view moved new_path ≡ Some (unnumbered new, body_of a target.id)
-  view_new =
-      ap (option_map (sight a)) found_new
-      ∙ ap (λ (i : ℕ). Some (unnumbered new, body_of a i)) number
+  view_new = grind (arith, nat_tests, found_new)
 
   pub view_below : (x : List ℕ) (rest : List (List ℕ))
       → view moved (new_path ++ x ∷ rest) ≡ view a (old_path ++ x ∷ rest)

@@ -16,6 +16,7 @@ use Rattle.room_rows.proofs.Frames.{Rises, child_of-is_there, child_of-name, chi
 use Rattle.room_rows.proofs.Frames.{root_of-is_there, root_of-parent}
 use Rattle.room_machine.specs.Site.{front, last_name}
 use Rattle.room_unseen.specs.Outside.{found, found_from, IsBehind}
+use Rattle.std.proofs.lemmas.Bool.Decides.{nat_tests}
 
 -- ---- lists of names
 
@@ -114,15 +115,7 @@ snoc_from content node (first ∷ names) name =
 pub found_snoc : (content : Content) (names : List (List ℕ)) (name : List ℕ)
     → found content (names ++ name ∷ [])
     ≡ option_and_then (λ n. child_of content n.id name) (found content names)
-found_snoc content names name =
-    on (root_of content)
-  where
-    on : (o : Option Node)
-        → option_and_then (λ root. found_from content root (names ++ name ∷ [])) o
-        ≡ option_and_then (λ n. child_of content n.id name)
-        (option_and_then (λ root. found_from content root names) o)
-    on None = refl
-    on (Some root) = snoc_from content root names name
+found_snoc content names name = grind (arith, nat_tests, snoc_from)
 
 -- ---- from the end on
 
@@ -158,26 +151,14 @@ module _ (content : Content) where
       on (Some child) there more = more child there
 
   pub up_found : (path : List (List ℕ)) → found content path ≡ found_up (reverse path)
-  up_found path = on (root_of content) refl
-    where
-      on : (o : Option Node) → root_of content ≡ o
-          → option_and_then (λ root. found_from content root path) o
-          ≡ found_up (reverse path)
-      on None none = sym (none_up path [] none)
-      on (Some root) is = some_up path [] root is
+  up_found path = grind (arith, nat_tests, none_up, some_up)
 
   module _ (rises : Rises content) where
     -- what is found has its number
     up_there : (path : List (List ℕ)) (node : Node) → found_up path ≡ Some node
         → node_at content node.id ≡ Some node
     up_there [] node is = root_of-is_there content rises node is
-    up_there (name ∷ above) node is = on (found_up above) is
-      where
-        on : (o : Option Node)
-            → option_and_then (λ n. child_of content n.id name) o ≡ Some node
-            → node_at content node.id ≡ Some node
-        on None none = absurd (none-some node none)
-        on (Some n) there = child_of-is_there content rises n.id name node there
+    up_there (name ∷ above) node is = grind (arith, nat_tests, child_of-is_there)
 
     pub found_there : (path : List (List ℕ)) (node : Node) → found content path ≡ Some node
         → node_at content node.id ≡ Some node

@@ -1,6 +1,6 @@
 -- What the operator does in two rooms leaves them the same outside.
 use Rattle.std.proofs.Common.{ℕ, ◌≡◌, Bool, false, List, [], ◌∷◌, ◌++◌, Option, Some, None, refl}
-use Rattle.std.proofs.Common.{sym, ap, ◌∙◌, map, filter, ◌&&◌, not}
+use Rattle.std.proofs.Common.{sym, ap, ◌∙◌, map, filter, ◌&&◌, not, arith}
 use Rattle.std.specs.Option.{option_map}
 use Rattle.std.proofs.lemmas.Option.{none-some, same_Some}
 use Rattle.room_entry.specs.Rights.{write_acl}
@@ -28,6 +28,7 @@ use Rattle.room_unseen.proofs.PairsStay.{either_members, members_stay}
 use Rattle.room_unseen.proofs.PlansAlike.{IsSeen, parent_same, sites_same, target_seen}
 use Rattle.room_unseen.proofs.SameReplies.{done_same}
 use Rattle.room_unseen.proofs.Seen.{Both, IsLike, blank}
+use Rattle.std.proofs.lemmas.Bool.Decides.{nat_tests}
 
 -- pairs that are replaced in both
 pub replaced_alike : (f : List (List ℕ)) (a b c d : Content) (pairs : List (List ℕ × List ℕ))
@@ -84,9 +85,7 @@ module _ (f : List (List ℕ)) (a b : Content) (same : SameOutside f a b)
   items_like None None both = refl
   items_like None (Some t) both = absurd both
   items_like (Some s) None both = absurd both
-  items_like (Some s) (Some t) both =
-      ap (λ (x : Site). refusals (bad_list path
-      (first_bad_entry 1 which x.node.kind sent.entries))) both.like
+  items_like (Some s) (Some t) both = grind (arith, nat_tests)
 
   abbrev refused_a : Option Reply
   refused_a = refusals (plan_of a (SetList path which sent))
@@ -141,9 +140,7 @@ module _ (f : List (List ℕ)) (a b : Content) (same : SameOutside f a b)
         on (Some r) (Some q) is done = same_Some r q is
 
     views_after : (q : List (List ℕ)) → (IsBehind f q → ⊥) → view after q ≡ view other q
-    views_after q apart =
-        ap (λ (d : Reply × Content). view d.1 q) (sym s) ∙ reset_views.views q apart
-        ∙ ap (λ (d : Reply × Content). view d.1 q) t
+    views_after q apart = grind (arith, nat_tests, reset_views)
 
     pub reset_stays : IsTidy after → IsTidy other → SameOutside f after other
     reset_stays content_after content_other = record {

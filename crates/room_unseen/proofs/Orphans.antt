@@ -1,6 +1,6 @@
 -- In a tidy content nothing belongs to a number that isn't in use.
 use Rattle.std.proofs.Common.{ℕ, ◌≡◌, ◌==◌, inl, inr, Bool, true, false, cond, ◌||◌, List, [], ◌∷◌}
-use Rattle.std.proofs.Common.{map, filter, Option, Some, None, refl, sym, ap, ◌∙◌}
+use Rattle.std.proofs.Common.{map, filter, Option, Some, None, refl, sym, ap, ◌∙◌, arith}
 use Rattle.std.specs.List.{find, list_all, list_any}
 use Rattle.std.specs.Option.{option_map_or}
 use Rattle.std.specs.Prelude.{option_and_then, is_none, is_some, IsTrue}
@@ -15,6 +15,7 @@ use Rattle.room_rows.proofs.Lookups as lookups
 use Rattle.room_machine.specs.Step.{IsFree}
 use Rattle.room_unseen.specs.Tidy.{IsNumbered, IsTidy, ContentIsTidy}
 use Rattle.room_unseen.proofs.Behind.{free_none}
+use Rattle.std.proofs.lemmas.Bool.Decides.{nat_tests}
 
 passes_there : (p : Node → Bool) (nodes : List Node) (node : Node) → list_all p nodes ≡ true
     → lookups.Stands node nodes → p node ≡ true
@@ -43,14 +44,7 @@ orphans a numbered tidy id free name = on (child_of a id name) refl
 body_number : (id : ℕ) (bytes : List ℕ) (rows : List (ℕ × List ℕ)) → body_at rows id ≡ Some bytes
     → list_any (λ i. i == id) (map (λ (row : ℕ × List ℕ). row.0) rows) ≡ true
 body_number id bytes [] is = absurd (none-some bytes is)
-body_number id bytes (row ∷ rows) is = on (row.0 == id) is (body_number id bytes rows)
-  where
-    on : (t : Bool) → cond t (Some row.1) (body_at rows id) ≡ Some bytes
-        → (body_at rows id ≡ Some bytes
-        → list_any (λ i. i == id) (map (λ (r : ℕ × List ℕ). r.0) rows) ≡ true)
-        → (t || list_any (λ i. i == id) (map (λ (r : ℕ × List ℕ). r.0) rows)) ≡ true
-    on true is rest = refl
-    on false is rest = rest is
+body_number id bytes (row ∷ rows) is = grind (arith, nat_tests, body_number id bytes rows)
 
 no_number : (id : ℕ) (p : Node → Bool) (nodes : List Node) → find (λ (n : Node). n.id == id) nodes
     ≡ None
@@ -71,11 +65,7 @@ no_number id p (x ∷ xs) none =
 
 -- no bytes belong to a number that isn't in use
 pub bare : (a : Content) → IsTidy a → (id : ℕ) → IsFree a id → body_of a id ≡ None
-bare a tidy id free = tidy.bodies id (none (node_at a id) refl)
-  where
-    none : (o : Option Node) → node_at a id ≡ o → node_at a id ≡ None
-    none None is = is
-    none (Some n) is = absurd (free_none a id free n is)
+bare a tidy id free = grind (arith, nat_tests, free_none)
 
 -- each content is tidy
 pub content_is_tidy : ContentIsTidy

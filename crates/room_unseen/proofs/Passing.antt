@@ -1,6 +1,6 @@
 -- What a plan that passes says of paths.
 use Rattle.std.proofs.Common.{cond, ◌&&◌, not, ℕ, ◌≡◌, ◌==◌, ◌⊎◌, inl, inr, Bool, true, false, ◌||◌}
-use Rattle.std.proofs.Common.{List, [], ◌∷◌, ◌++◌, Option, Some, None, refl, sym, ap, ◌∙◌}
+use Rattle.std.proofs.Common.{List, [], ◌∷◌, ◌++◌, Option, Some, None, refl, sym, ap, ◌∙◌, arith}
 use Rattle.std.specs.List.{list_any}
 use Rattle.std.specs.Option.{option_map_or, option_map}
 use Rattle.std.specs.Prelude.{option_and_then, is_some}
@@ -11,25 +11,26 @@ use Rattle.room_entry.specs.Rights.{execute, append_data}
 use Rattle.room_entry.specs.declared.parties.Caller.{Caller}
 use Rattle.room_entry.proofs.Alike.{text_itself}
 use Rattle.room_entry.proofs.Texts.{same_text-true}
-use Rattle.room_rows.specs.Content.{root_of, Content, child_of, children_of, is_empty, is_folder}
+use Rattle.room_rows.specs.Content.{Content, child_of, children_of, is_empty, is_folder}
 use Rattle.room_rows.specs.declared.node.Node.{Node}
 use Rattle.room_machine.specs.Judge.{failure, first_failure, or_else}
 use Rattle.room_machine.specs.Plan.{Item, Check, Deletion, Refusal, plan_of, move_items, way}
 use Rattle.room_machine.specs.Plan.{where_found, right_to_add}
-use Rattle.room_machine.specs.Site.{site_below, root_site, Site, front, last_name, site_at}
-use Rattle.room_machine.specs.Site.{parent_at, sites_along}
+use Rattle.room_machine.specs.Site.{site_below, Site, front, last_name, site_at, parent_at}
+use Rattle.room_machine.specs.Site.{sites_along}
 use Rattle.room_machine.specs.declared.reply.Reason.{Reason}
 use Rattle.room_machine.specs.declared.reply.Reason.TheVariants.{NoSuch, NotFolder, NotEmpty}
 use Rattle.room_machine.specs.declared.reply.Reason.TheVariants.{Exists, Loop, Root}
 use Rattle.room_machine.specs.declared.reply.Reply.{Reply}
 use Rattle.room_machine.specs.declared.request.Request.TheVariants.{MakeFolder, Remove, Move}
 use Rattle.room_unseen.specs.Laws.{rest_after}
-use Rattle.room_unseen.specs.Outside.{found_from, found, IsBehind}
+use Rattle.room_unseen.specs.Outside.{found, IsBehind}
 use Rattle.room_unseen.proofs.Behind.{found_before}
 use Rattle.room_unseen.proofs.Grown.{GoesOn}
 use Rattle.room_unseen.proofs.OnePlace.{not_empty, found_snoc, head_same, split_last, tail_same}
 use Rattle.room_unseen.proofs.Placed.{names_decide, same_names}
 use Rattle.room_unseen.proofs.Seen.{sites_from, along_from, found_at}
+use Rattle.std.proofs.lemmas.Bool.Decides.{nat_tests}
 
 -- ---- paths
 
@@ -168,11 +169,7 @@ never_meets content path to n at none (rest, is) =
 module _ (caller : Caller) where
   pub passed : (i : Item) (is : List Item) → first_failure caller (i ∷ is) ≡ None
       → (failure caller i ≡ None) × (first_failure caller is ≡ None)
-  passed i is none = on (failure caller i) (first_failure caller is) none
-    where
-      on : (o p : Option Reply) → or_else o p ≡ None → (o ≡ None) × (p ≡ None)
-      on None p none = (refl, none)
-      on (Some reply) p none = absurd (none-some reply (sym none))
+  passed i is none = grind (arith, nat_tests)
 
   pub passed_on : (is js : List Item) → first_failure caller (is ++ js) ≡ None
       → first_failure caller js ≡ None
@@ -393,16 +390,4 @@ module _ (caller : Caller) (content : Content) where
       → first_failure caller (way false (sites_along content path) path ++ more) ≡ None
       → site_at (sites_along content path) path ≡ None → ⊥
   way_leads p n there path more passes none =
-      on (root_of content) there
-      (ap (λ (l : List Site). first_failure caller (way false l path ++ more))
-      (sym (along_from content path)) ∙ passes)
-      (ap (λ (l : List Site). site_at l path) (sym (along_from content path)) ∙ none)
-    where
-      on : (o : Option Node) → option_and_then (λ root. found_from content root p) o ≡ Some n
-          → first_failure caller (way false
-          (option_map_or (λ root. sites_from content (root_site root) path) o []) path ++ more)
-          ≡ None
-          → site_at (option_map_or (λ root. sites_from content (root_site root) path) o []) path
-          ≡ None → ⊥
-      on None there passes none = none-some n there
-      on (Some root) there passes none = leads_from (root_site root) path more passes none
+      grind (arith, nat_tests, along_from, leads_from, sites_from)

@@ -1,25 +1,24 @@
 -- Objects where a walk finds them: whether a way meets one is seen from paths alone.
-use Rattle.std.proofs.Common.{ℕ, ◌==◌, ◌≡◌, Bool, true, List, [], ◌∷◌, Option, Some, None, refl}
-use Rattle.std.proofs.Common.{sym, ap, subst, ◌∙◌, map}
+use Rattle.std.proofs.Common.{ℕ, ◌==◌, ◌≡◌, Bool, true, List, [], ◌∷◌, Option, Some, None, refl, ap}
+use Rattle.std.proofs.Common.{◌∙◌, map, arith}
 use Rattle.std.specs.Cmp.Lexicographic.{pointwise}
 use Rattle.std.specs.List.{list_any, AllByRecursion}
 use Rattle.std.specs.Option.{option_map_or}
 use Rattle.std.specs.Prelude.{option_and_then}
-use Rattle.std.proofs.lemmas.Bool.{eqb-true, eq-eqb}
-use Rattle.std.proofs.lemmas.Option.{same_Some}
 use Rattle.std.proofs.lemmas.Slice.Eq.{slice_eq-Decides, bytes_eq-Decides}
 use Rattle.room_entry.specs.Pieces.{same_text}
 use Rattle.room_entry.proofs.Facts.Booleans.{same_truth}
 use Rattle.room_entry.proofs.Facts.Members.{any_agree, any_map}
-use Rattle.room_rows.specs.Content.{Content, child_of, root_of}
+use Rattle.room_rows.specs.Content.{Content, child_of}
 use Rattle.room_rows.specs.declared.node.Node.{Node}
 use Rattle.room_rows.proofs.Frames.{child_of-name}
 use Rattle.room_machine.specs.Plan.{way}
-use Rattle.room_machine.specs.Site.{Site, site_below, root_site, sites_along}
-use Rattle.room_unseen.specs.Outside.{found, found_from}
+use Rattle.room_machine.specs.Site.{Site, site_below, sites_along}
+use Rattle.room_unseen.specs.Outside.{found}
 use Rattle.room_unseen.specs.Tidy.{IsNumbered}
 use Rattle.room_unseen.proofs.OnePlace.{found_snoc, one_place}
 use Rattle.room_unseen.proofs.Seen.{along_from, blank, sites_from}
+use Rattle.std.proofs.lemmas.Bool.Decides.{nat_tests}
 
 -- each stands where its path says
 abbrev IsPlaced : Content → Site → Type 0
@@ -49,16 +48,7 @@ placed_from content site (name ∷ names) placed = (
 
 all_placed : (content : Content) (path : List (List ℕ))
     → AllByRecursion (IsPlaced content) (sites_along content path)
-all_placed content path =
-    subst (AllByRecursion (IsPlaced content)) (sym (along_from content path))
-    (on (root_of content) refl)
-  where
-    on : (o : Option Node) → root_of content ≡ o → AllByRecursion (IsPlaced content)
-        (option_map_or (λ root. sites_from content (root_site root) path) o [])
-    on None is = tt
-    on (Some root) is =
-        placed_from content (root_site root) path
-        (ap (option_and_then (λ r. found_from content r [])) is)
+all_placed content path = grind (arith, nat_tests, along_from, placed_from, sites_from)
 
 abbrev pub same_names : List (List ℕ) → List (List ℕ) → Bool
 same_names p q = pointwise same_text p q
@@ -72,13 +62,7 @@ same_number : (content : Content) → IsNumbered content → (path : List (List 
     → found content path ≡ Some node → (site : Site) → IsPlaced content site
     → (site.node.id == node.id) ≡ same_names site.path path
 same_number content numbered path node there site placed =
-    same_truth (site.node.id == node.id) (same_names site.path path)
-    (λ is. (names_decide site.path path).1
-    (one_place content numbered site.path path site.node node placed there
-    (eqb-true site.node.id node.id is)))
-    (λ is. eq-eqb site.node.id node.id
-    (ap (λ (n : Node). n.id) (same_Some site.node node
-    (sym placed ∙ ap (found content) ((names_decide site.path path).0 is) ∙ there))))
+    grind (arith, nat_tests, names_decide, one_place, same_truth)
 
 each_same : (P : Site → Type 0) (p q : Site → Bool) → ((s : Site) → P s → p s ≡ q s)
     → (sites : List Site) → AllByRecursion P sites → AllByRecursion (λ s. p s ≡ q s) sites
@@ -91,8 +75,4 @@ pub meets : (content : Content) → IsNumbered content → (path : List (List �
     → list_any (λ (s : Site). s.node.id == node.id) (sites_along content way)
     ≡ list_any (λ (s : Site). same_names s.path path) (map blank (sites_along content way))
 meets content numbered path node there way =
-    any_agree _ _ (sites_along content way)
-    (each_same (IsPlaced content) _ (λ (s : Site). same_names s.path path)
-    (same_number content numbered path node there) (sites_along content way)
-    (all_placed content way))
-    ∙ sym (any_map (λ (s : Site). same_names s.path path) blank (sites_along content way))
+    grind (arith, nat_tests, all_placed, any_agree, any_map, blank, each_same, same_number)

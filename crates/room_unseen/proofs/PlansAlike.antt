@@ -1,15 +1,13 @@
 -- Plans in two contents that are the same but for what is behind.
 use Rattle.std.proofs.Common.{ℕ, ◌+◌, ◌==◌, ◌≡◌, true, false, not, List, [], ◌∷◌, length, take}
-use Rattle.std.proofs.Common.{Option, Some, None, refl, sym, ap, subst, ◌∙◌, map, filter}
+use Rattle.std.proofs.Common.{Option, Some, None, refl, sym, ap, subst, ◌∙◌, map, arith}
 use Rattle.std.specs.List.{list_any}
 use Rattle.std.specs.Option.{option_map}
 use Rattle.std.specs.Prelude.{option_and_then, is_some, unwrap_or}
 use Rattle.std.proofs.lemmas.Option.{none-some, same_Some}
-use Rattle.room_entry.specs.Pieces.{same_text}
-use Rattle.room_entry.specs.Rights.{execute, read_data, write_data, append_data, read_acl}
-use Rattle.room_entry.specs.Rights.{write_acl, write_owner, read_attributes}
+use Rattle.room_entry.specs.Rights.{execute, read_data, append_data, read_acl, write_acl}
+use Rattle.room_entry.specs.Rights.{write_owner, read_attributes}
 use Rattle.room_entry.specs.Valid.{first_bad_entry}
-use Rattle.room_entry.specs.declared.object.ObjKind.{ObjKind}
 use Rattle.room_entry.specs.declared.parties.Caller.{Caller}
 use Rattle.room_rows.specs.Content.{Content, child_of, body_of, children_of, is_empty, is_folder}
 use Rattle.room_rows.specs.Content.{groups_for}
@@ -36,13 +34,12 @@ use Rattle.room_unseen.proofs.OnePlace.{found_snoc, part_outside, split_last, st
 use Rattle.room_unseen.proofs.Placed.{meets, same_names}
 use Rattle.room_unseen.proofs.Seen.{Both, IsLike, blank, both_like, found_at, like_at, same_along}
 use Rattle.room_unseen.proofs.Seen.{seen_of_view}
+use Rattle.std.proofs.lemmas.Bool.Decides.{nat_tests}
 
 groups_same : (a b : Content) (user : Option (List ℕ)) → a.members ≡ b.members
     → groups_for a user ≡ groups_for b user
 groups_same a b None same = refl
-groups_same a b (Some user) same =
-    ap (λ (pairs : List (List ℕ × List ℕ)).
-    map (λ (pair : List ℕ × List ℕ). pair.0) (filter (λ pair. same_text pair.1 user) pairs)) same
+groups_same a b (Some user) same = grind (arith, nat_tests)
 
 -- the same pairs give a user the same groups
 pub members_same : (a b : Content) (user : Option (List ℕ)) → a.members ≡ b.members
@@ -52,13 +49,7 @@ members_same a b user same = same_caller a b user (groups_same a b user same)
 -- there are names below an object where it has children
 no_names : (content : Content) (id : ℕ)
     → is_empty (names_at content id) ≡ is_empty (children_of content id)
-no_names content id = on (children_of content id)
-  where
-    on : (nodes : List Node)
-        → is_empty {A = List ℕ × ObjKind} (map (λ (n : Node). (n.name, n.kind)) nodes)
-        ≡ is_empty nodes
-    on [] = refl
-    on (x ∷ xs) = refl
+no_names content id = grind (arith, nat_tests)
 
 module _ (f : List (List ℕ)) (a b : Content) (same : SameOutside f a b) where
   -- what is seen of an object at a path that isn't behind
@@ -129,15 +120,7 @@ module _ (f : List (List ℕ)) (a b : Content) (same : SameOutside f a b) where
   -- whether there is something at a path
   there_same : (path : List (List ℕ)) → Outside path
       → is_some (found a path) ≡ is_some (found b path)
-  there_same path outside =
-      on (found a path) (found b path) (same.views path outside)
-    where
-      on : (o p : Option Node) → option_map (sight a) o ≡ option_map (sight b) p
-          → is_some o ≡ is_some p
-      on None None is = refl
-      on None (Some t) is = absurd (none-some _ is)
-      on (Some s) None is = absurd (none-some _ (sym is))
-      on (Some s) (Some t) is = refl
+  there_same path outside = grind (arith, nat_tests)
 
   module _ (caller : Caller) where
     pub target_same : (path : List (List ℕ)) → Outside path → (g h : Site → List Item)
@@ -152,15 +135,11 @@ module _ (f : List (List ℕ)) (a b : Content) (same : SameOutside f a b) where
         → Both IsLike q r
         → fails caller (put_items path size o q) ≡ fails caller (put_items path size p r)
     put_same path size None None q r both above =
-        found_like caller IsLike q r _ _ above (λ s t like.
-        next caller (check_like caller s t (write_data ∷ []) like) refl)
+        grind (arith, nat_tests, check_like, found_like, next)
     put_same path size None (Some t) q r both above = absurd both
     put_same path size (Some s) None q r both above = absurd both
     put_same path size (Some s) (Some t) q r both above =
-        next caller
-        (refused caller s.path t.path WrongKind _ _ (path_like s t both.like)
-        (ap (λ (x : Site). is_folder x.node) both.like))
-        (next caller (check_like caller s t (write_data ∷ []) both.like) refl)
+        grind (arith, nat_tests, check_like, next, path_like, refused)
 
     -- a move to a place that isn't behind
     move_same : IsNumbered a → IsNumbered b → (path to : List (List ℕ)) → Outside to

@@ -1,15 +1,15 @@
 -- Objects that are seen along a path, without their numbers.
 use Rattle.std.proofs.Common.{ℕ, suc, ◌≡◌, List, [], ◌∷◌, length, take, Option, Some, None, refl}
-use Rattle.std.proofs.Common.{sym, ap, ◌∙◌, map}
+use Rattle.std.proofs.Common.{sym, ap, ◌∙◌, map, arith}
 use Rattle.std.specs.Option.{option_map, option_map_or}
 use Rattle.std.specs.Prelude.{option_and_then}
 use Rattle.std.proofs.lemmas.Option.{none-some, same_Some}
 use Rattle.room_rows.specs.Content.{Content, child_of, root_of}
 use Rattle.room_rows.specs.Walk.{walk_from, behind}
 use Rattle.room_rows.specs.declared.node.Node.{Node}
-use Rattle.room_machine.specs.Site.{Site, sites_of, sites_below, site_below, root_site, sites_along}
-use Rattle.room_machine.specs.Site.{site_at}
-use Rattle.room_unseen.specs.Outside.{sight, found, found_from, unnumbered, view}
+use Rattle.room_machine.specs.Site.{Site, sites_below, site_below, root_site, sites_along, site_at}
+use Rattle.room_unseen.specs.Outside.{found, found_from, unnumbered, view}
+use Rattle.std.proofs.lemmas.Bool.Decides.{nat_tests}
 
 -- ---- the objects along a path, each with its lists
 
@@ -62,15 +62,7 @@ sites_tail content site (name ∷ names) =
 -- the objects that a walk along the path finds, by recursion on the path
 pub along_from : (content : Content) (path : List (List ℕ)) → sites_along content path
     ≡ option_map_or (λ root. sites_from content (root_site root) path) (root_of content) []
-along_from content path = on (root_of content)
-  where
-    on : (o : Option Node)
-        → sites_of (option_map_or (λ root. walk_from content root path) o
-        (record { chain = []; rest = length path })).chain
-        ≡ option_map_or (λ root. sites_from content (root_site root) path) o []
-    on None = refl
-    on (Some root) =
-        ap sites_of (walk_chain content root path) ∙ sites_tail content (root_site root) path
+along_from content path = grind (arith, nat_tests, sites_tail, walk_chain)
 
 -- the object at the end is the one that the path leads to
 site_found : (content : Content) (site : Site) (names : List (List ℕ))
@@ -94,16 +86,7 @@ site_found content site (name ∷ names) =
 pub found_at : (content : Content) (path : List (List ℕ))
     → option_map (λ (s : Site). s.node) (site_at (sites_along content path) path)
     ≡ found content path
-found_at content path =
-    ap (λ (l : List Site). option_map (λ (s : Site). s.node) (site_at l path))
-    (along_from content path) ∙ on (root_of content)
-  where
-    on : (o : Option Node)
-        → option_map (λ (s : Site). s.node)
-        (site_at (option_map_or (λ root. sites_from content (root_site root) path) o []) path)
-        ≡ option_and_then (λ root. found_from content root path) o
-    on None = refl
-    on (Some root) = site_found content (root_site root) path
+found_at content path = grind (arith, nat_tests, along_from, site_found)
 
 -- ---- sites without numbers
 
@@ -120,11 +103,7 @@ below_blank site node = refl
 
 like_below : (s t : Site) (c d : Node) → IsLike s t → unnumbered c ≡ unnumbered d
     → IsLike (site_below s c) (site_below t d)
-like_below s t c d same nodes =
-    below_blank s c
-    ∙ ap (λ (site : Site). site_below site (unnumbered c)) same
-    ∙ ap (λ (node : Node). site_below (blank t) node) nodes
-    ∙ sym (below_blank t d)
+like_below s t c d same nodes = grind (arith, nat_tests, below_blank)
 
 root_like : (c d : Node) → unnumbered c ≡ unnumbered d → IsLike (root_site c) (root_site d)
 root_like c d nodes = ap root_site nodes
@@ -199,14 +178,7 @@ same_along a b path seen = like_along unnumbered blank root_like like_below a b 
 
 pub seen_of_view : (a b : Content) (path : List (List ℕ)) → view a path ≡ view b path
     → option_map unnumbered (found a path) ≡ option_map unnumbered (found b path)
-seen_of_view a b path same = on (found a path) (found b path) same
-  where
-    on : (o p : Option Node) → option_map (sight a) o ≡ option_map (sight b) p
-        → option_map unnumbered o ≡ option_map unnumbered p
-    on None None is = refl
-    on None (Some d) is = absurd (none-some _ is)
-    on (Some c) None is = absurd (none-some _ (sym is))
-    on (Some c) (Some d) is = ap (λ (p : Node × Option (List ℕ)). Some p.0) (same_Some _ _ is)
+seen_of_view a b path same = grind (arith, nat_tests)
 
 pub map_at : (g : Site → Site) (sites : List Site) (names : List (List ℕ))
     → site_at (map g sites) names ≡ option_map g (site_at sites names)

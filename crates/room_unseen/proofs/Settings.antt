@@ -1,14 +1,11 @@
 -- What a list that is set depends on, and what has no children.
-use Rattle.std.proofs.Common.{ℕ, ◌≡◌, Bool, true, List, [], ◌∷◌}
-use Rattle.std.proofs.Common.{Option, Some, None, refl, sym, ap, ◌∙◌}
+use Rattle.std.proofs.Common.{ℕ, ◌≡◌, Bool, true, List, Option, Some, None, refl, ap, arith}
 use Rattle.std.specs.Option.{option_map}
-use Rattle.std.proofs.lemmas.Bool.{false≢true}
 use Rattle.room_entry.specs.Ace.{Ace}
 use Rattle.room_entry.specs.declared.object.Which.{Which}
 use Rattle.room_entry.specs.declared.object.Which.TheVariants.{Dacl, Sacl}
 use Rattle.room_ace.specs.Sent.{Sent}
-use Rattle.room_rows.specs.Content.{Content, child_of, children_of, is_empty}
-use Rattle.room_rows.specs.Content.{are_names_apart}
+use Rattle.room_rows.specs.Content.{Content, child_of, children_of, is_empty, are_names_apart}
 use Rattle.room_rows.specs.Held.{held_of}
 use Rattle.room_rows.specs.HeldList.{Held}
 use Rattle.room_rows.specs.declared.node.Node.{Node}
@@ -17,6 +14,7 @@ use Rattle.room_machine.specs.Site.{Site, full_at}
 use Rattle.room_unseen.specs.Outside.{unnumbered}
 use Rattle.room_unseen.proofs.ByName.{by_name, child_by_name}
 use Rattle.room_unseen.proofs.Seen.{Both, IsLike}
+use Rattle.std.proofs.lemmas.Bool.Decides.{nat_tests}
 
 -- the inherited entries that a child keeps when a list above it is set
 abbrev pub keeper : Which → Bool → Bool → List Ace → Node → Held
@@ -45,16 +43,9 @@ setting_like Dacl sent None None s t above like = ap (setting Dacl sent None) li
 setting_like Sacl sent None None s t above like = ap (setting Sacl sent None) like
 setting_like which sent None (Some q) s t above like = absurd above
 setting_like which sent (Some p) None s t above like = absurd above
-setting_like Dacl sent (Some p) (Some q) s t above like =
-    ap (λ (x : Site). setting Dacl sent (Some x) s) above ∙ ap (setting Dacl sent (Some q)) like
-setting_like Sacl sent (Some p) (Some q) s t above like =
-    ap (λ (x : Site). setting Sacl sent (Some x) s) above ∙ ap (setting Sacl sent (Some q)) like
+setting_like Dacl sent (Some p) (Some q) s t above like = grind (arith, nat_tests)
+setting_like Sacl sent (Some p) (Some q) s t above like = grind (arith, nat_tests)
 
 pub no_children : (c : Content) (id : ℕ) → are_names_apart c.nodes ≡ true
     → is_empty (children_of c id) ≡ true → (name : List ℕ) → child_of c id name ≡ None
-no_children c id apart empty name =
-    sym (child_by_name c id apart name) ∙ on (children_of c id) empty
-  where
-    on : (l : List Node) → is_empty l ≡ true → by_name name l ≡ None
-    on [] is = refl
-    on (x ∷ xs) is = absurd (false≢true is)
+no_children c id apart empty name = grind (arith, nat_tests, by_name, child_by_name)

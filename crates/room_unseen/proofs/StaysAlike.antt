@@ -1,6 +1,6 @@
 -- A request of one caller leaves two rooms the same outside.
 use Rattle.std.proofs.Common.{[], List, ◌∷◌, Bool, cond, true, ℕ, ℤ, ◌≡◌, ◌⊎◌, inl, inr, false}
-use Rattle.std.proofs.Common.{Option, Some, None, refl, sym, ap, subst, ◌∙◌}
+use Rattle.std.proofs.Common.{Option, Some, None, refl, sym, ap, subst, ◌∙◌, arith}
 use Rattle.std.specs.Option.{option_map}
 use Rattle.std.proofs.lemmas.Bool.{false≢true}
 use Rattle.std.proofs.lemmas.Option.{none-some, same_Some}
@@ -10,15 +10,15 @@ use Rattle.room_eval.specs.declared.deletion.DeleteVerdict.TheVariants.{Granted 
 use Rattle.room_eval.specs.declared.deletion.DeleteVerdict.TheVariants.{AtTarget, AtParent}
 use Rattle.room_eval.specs.declared.outcome.Verdict.{Verdict}
 use Rattle.room_eval.specs.declared.outcome.Verdict.TheVariants.{Granted, Denied as DeniedWith}
-use Rattle.room_rows.specs.Content.{Content, with_records, is_empty, with_node, without_node}
+use Rattle.room_rows.specs.Content.{Content, with_records, is_empty}
 use Rattle.room_rows.specs.declared.node.AuditRow.{AuditRow}
-use Rattle.room_machine.specs.Effect.{effect, moved_node, with_site}
-use Rattle.room_machine.specs.Judge.{of_verdict, of_deletion, or_else, failure, first_failure}
+use Rattle.room_machine.specs.Effect.{effect}
+use Rattle.room_machine.specs.Judge.{of_verdict, of_deletion, failure, first_failure}
 use Rattle.room_machine.specs.Judge.{records_of_plan}
 use Rattle.room_machine.specs.Laws.{first_path}
 use Rattle.room_machine.specs.Plan.{Item, Check, Deletion, Refusal, plan_of, move_items}
 use Rattle.room_machine.specs.Run.{Asked}
-use Rattle.room_machine.specs.Site.{Site, sites_along, site_at, parent_at, front, last_name}
+use Rattle.room_machine.specs.Site.{Site, sites_along, parent_at}
 use Rattle.room_machine.specs.Step.{Step, caller_in, failure_or}
 use Rattle.room_machine.specs.declared.reply.Reason.{Reason}
 use Rattle.room_machine.specs.declared.reply.Reply.{Reply}
@@ -44,6 +44,7 @@ use Rattle.room_unseen.proofs.Passing.{none_at, move_passed}
 use Rattle.room_unseen.proofs.PlansAlike.{IsSeen, caller_same, plan_same, target_seen}
 use Rattle.room_unseen.proofs.SameReplies.{bar_same, plan_in}
 use Rattle.room_unseen.proofs.TidySteps.{tidy_stays}
+use Rattle.std.proofs.lemmas.Bool.Decides.{nat_tests}
 
 -- records aren't seen
 records_unseen : (c : Content) (rows : List AuditRow) (q : List (List ℕ))
@@ -78,13 +79,7 @@ failure_undone : (caller : Caller) (items : List Item) (r : Reply)
     → first_failure caller items ≡ Some r → is_done r ≡ false
 failure_undone caller [] r is = absurd (none-some r is)
 failure_undone caller (i ∷ items) r is =
-    on (failure caller i) (item_undone caller i r) is (failure_undone caller items r)
-  where
-    on : (o : Option Reply) → (o ≡ Some r → is_done r ≡ false)
-        → or_else o (first_failure caller items) ≡ Some r
-        → (first_failure caller items ≡ Some r → is_done r ≡ false) → is_done r ≡ false
-    on None here is rest = rest is
-    on (Some x) here is rest = here is
+    grind (arith, nat_tests, item_undone, failure_undone caller items r)
 
 either_way : (t : Bool) (f : List (List ℕ)) → cond t f f ≡ f
 either_way true f = refl
@@ -94,17 +89,7 @@ either_way false f = refl
 done_front : (f : List (List ℕ)) (content : Content) (caller : Caller) (id : ℕ) (q : Request)
     (reply : Reply) → reply ≡ (effect content caller id q).0 → front_after f q reply
     ≡ front_done f q
-done_front f content caller id (Move path to) reply is =
-    ap (λ r. front_after f (Move path to) r) (is
-    ∙ on (site_at (sites_along content path) path)
-    (site_at (sites_along content (front to)) (front to)))
-  where
-    on : (o p : Option Site)
-        → (with_site content o (λ target. with_site content p
-        (λ folder. (Done, with_node content (moved_node target folder (last_name to)))))).0 ≡ Done
-    on None p = refl
-    on (Some x) None = refl
-    on (Some x) (Some y) = refl
+done_front f content caller id (Move path to) reply is = grind (arith, nat_tests)
 done_front f content caller id (Remove path) reply is = either_way (is_done reply) f
 done_front f content caller id (Read path) reply is = either_way (is_done reply) f
 done_front f content caller id (ListFolder path) reply is = either_way (is_done reply) f
@@ -119,13 +104,7 @@ done_front f content caller id (Can path mask) reply is = either_way (is_done re
 
 removal_done : (f : List (List ℕ)) (content : Content) (caller : Caller) (id : ℕ) (q : Request)
     → q ≡ Remove f → (effect content caller id q).0 ≡ Done
-removal_done f content caller id q is =
-    ap (λ r. (effect content caller id r).0) is ∙ on (site_at (sites_along content f) f)
-  where
-    on : (o : Option Site)
-        → (with_site content o (λ target. (Done, without_node content target.node.id))).0 ≡ Done
-    on None = refl
-    on (Some x) = refl
+removal_done f content caller id q is = grind (arith, nat_tests)
 
 -- ---- one step
 
@@ -148,16 +127,11 @@ module _ (f : List (List ℕ)) (a b : Content) (user : Option (List ℕ)) (momen
   first_is = reply_of a user moment request first after s
 
   second_is : second ≡ or_reply plan_b (effect b caller t.0 request).0
-  second_is =
-      reply_of b user later request second other t
-      ∙ ap (λ c. or_reply (first_failure c (plan_of b request)) (effect b c t.0 request).0)
-      (sym (caller_same f a b same user))
+  second_is = grind (arith, nat_tests, caller_same, or_reply, reply_of)
 
   bar_there : (r : Reply) → first_failure caller (way_behind a f) ≡ Some r
       → first_failure caller (way_behind b f) ≡ Some r
-  bar_there r bar =
-      ap (λ c. first_failure c (way_behind b f)) (caller_same f a b same user)
-      ∙ sym (bar_same f a b same user) ∙ bar
+  bar_there r bar = grind (arith, nat_tests, bar_same, caller_same)
 
   -- a move to what is behind that doesn't fail has no object
   in_alike : (r : Reply) → first_failure caller (way_behind a f) ≡ Some r → (q : Request)
@@ -261,21 +235,10 @@ module _ (f : List (List ℕ)) (a b : Content) (user : Option (List ℕ)) (momen
   other_is : other ≡ with_records
       (failure_or plan_b b (effect b caller t.0 request)).1
       (records_of_plan (caller_in b user) later (plan_of b request))
-  other_is =
-      sym (ap (λ (d : Reply × Content). d.1) t.2)
-      ∙ ap (λ c. with_records (failure_or (first_failure c (plan_of b request)) b
-      (effect b c t.0 request)).1 (records_of_plan (caller_in b user) later (plan_of b request)))
-      (sym (caller_same f a b same user))
+  other_is = grind (arith, nat_tests, caller_same)
 
   views_stay : (q : List (List ℕ)) → (IsBehind next_front q → ⊥) → view after q ≡ view other q
-  views_stay q outside =
-      ap (λ c. view c q) after_is
-      ∙ records_unseen (failure_or plan_a a (effect a caller s.0 request)).1
-      (records_of_plan caller moment (plan_of a request)) q
-      ∙ alike.views q outside
-      ∙ sym (ap (λ c. view c q) other_is
-      ∙ records_unseen (failure_or plan_b b (effect b caller t.0 request)).1
-      (records_of_plan (caller_in b user) later (plan_of b request)) q)
+  views_stay q outside = grind (arith, nat_tests, after_is, alike, other_is, records_unseen)
 
   pub outside_stays : IsTidy after → IsTidy other
       → SameOutside (front_after f request first) after other

@@ -1,6 +1,7 @@
 -- Contents stay tidy, whatever happens.
 use Rattle.std.proofs.Common.{ℕ, ◌≡◌, ◌==◌, ◌⊎◌, inl, inr, Bool, true, false, cond, not, ◌&&◌, List}
 use Rattle.std.proofs.Common.{[], ◌∷◌, map, filter, Option, Some, None, nat_lt, refl, sym, ap, ◌∙◌}
+use Rattle.std.proofs.Common.{arith}
 use Rattle.std.specs.List.{find, list_any, AllByRecursion}
 use Rattle.std.specs.Option.{option_map, option_map_or}
 use Rattle.std.specs.Prelude.{is_some, IsTrue}
@@ -23,6 +24,7 @@ use Rattle.room_rows.proofs.SamePlace.{IsSamePlace}
 use Rattle.room_unseen.specs.Tidy.{IsTidy}
 use Rattle.room_unseen.proofs.Kept.{is_named}
 use Rattle.room_unseen.proofs.Kept as kept
+use Rattle.std.proofs.lemmas.Bool.Decides.{nat_tests}
 
 -- one stands where the other does
 abbrev clash : Node → Node → Bool
@@ -33,34 +35,12 @@ clash x y = same_parent x.parent y.parent && same_text x.name y.name
 apart_each : (g : Node → Node) → ((n : Node) → IsSamePlace (g n) n) → (nodes : List Node)
     → are_names_apart (map g nodes) ≡ are_names_apart nodes
 apart_each g places [] = refl
-apart_each g places (x ∷ xs) =
-    ap (λ t. not t && are_names_apart (map g xs))
-    (any_map (clash (g x)) g xs
-    ∙ any_agree (λ y. clash (g x) (g y)) (clash x) xs (each xs))
-    ∙ ap (λ t. not (list_any (clash x) xs) && t) (apart_each g places xs)
-  where
-    agree : (y : Node) → clash (g x) (g y) ≡ clash x y
-    agree y =
-        ap (λ p. same_parent p (g y).parent && same_text (g x).name (g y).name) (places x).parent
-        ∙ ap (λ p. same_parent x.parent p && same_text (g x).name (g y).name) (places y).parent
-        ∙ ap (λ n. same_parent x.parent y.parent && same_text n (g y).name) (places x).name
-        ∙ ap (λ n. same_parent x.parent y.parent && same_text x.name n) (places y).name
-
-    each : (ys : List Node) → AllByRecursion (λ y. clash (g x) (g y) ≡ clash x y) ys
-    each [] = tt
-    each (y ∷ ys) = (agree y, each ys)
+apart_each g places (x ∷ xs) = grind (arith, nat_tests, any_agree, any_map, apart_each g places xs)
 
 each_put : (P : Node → Type 0) (new : Node) (nodes : List Node) → P new → AllByRecursion P nodes
     → AllByRecursion P (put_node new nodes)
 each_put P new [] here all = (here, tt)
-each_put P new (x ∷ xs) here all =
-    on (nat_lt x.id new.id) (x.id == new.id) (each_put P new xs here all.1)
-  where
-    on : (t u : Bool) → AllByRecursion P (put_node new xs)
-        → AllByRecursion P (cond t (x ∷ put_node new xs) (cond u (new ∷ xs) (new ∷ x ∷ xs)))
-    on true u rest = (all.0, rest)
-    on false true rest = (here, all.1)
-    on false false rest = (here, all)
+each_put P new (x ∷ xs) here all = grind (arith, nat_tests, each_put P new xs here all.1)
 
 module _ (id : ℕ) (new : Node) (parent : new.parent ≡ Some id) where
   clash_named : (y : Node) → is_named id new.name y ≡ false → clash new y ≡ false
@@ -80,18 +60,7 @@ module _ (id : ℕ) (new : Node) (parent : new.parent ≡ Some id) where
       on (Some i) is = eq-eqb i id (sym (eqb-true id i is))
 
   named_clash : (y : Node) → is_named id new.name y ≡ false → clash y new ≡ false
-  named_clash y isnt = elim (cases_Bool (clash y new)) [
-    | inl is ↦
-        let parts = and_parts (same_parent y.parent new.parent) (same_text y.name new.name) is in
-        absurd (false≢true (sym isnt ∙ and_from (has_parent id y) (same_text y.name new.name)
-        (on y.parent (ap (same_parent y.parent) (sym parent) ∙ parts.0)) parts.1))
-    | inr differ ↦ differ
-  ]
-    where
-      on : (p : Option ℕ) → same_parent p (Some id) ≡ true
-          → option_map_or (λ (i : ℕ). i == id) p false ≡ true
-      on None is = absurd (false≢true is)
-      on (Some i) is = is
+  named_clash y isnt = grind (arith, nat_tests)
 
   apart_put : (nodes : List Node) → are_names_apart nodes ≡ true
       → AllByRecursion (λ y. is_named id new.name y ≡ false) nodes
@@ -183,14 +152,7 @@ module _ (a : Content) (tidy : IsTidy a) where
   -- an object that is there gets bytes
   pub body_tidy : (id : ℕ) (bytes : List ℕ) → is_some (node_at a id) ≡ true
       → IsTidy (with_body a id bytes)
-  body_tidy id bytes there = record {
-    names = tidy.names;
-    parents = tidy.parents;
-    bodies = λ other none.
-        body_of-with_body-other a id bytes other
-        (λ same. false≢true (ap is_some (sym none ∙ ap (node_at a) same) ∙ there))
-        ∙ tidy.bodies other none;
-  }
+  body_tidy id bytes there = grind (arith, nat_tests, body_of-with_body-other)
 
   -- an object comes to a place that is free
   pub put_tidy : (new : Node) (id : ℕ) → new.parent ≡ Some id → is_some (node_at a id) ≡ true

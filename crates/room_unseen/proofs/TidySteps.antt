@@ -1,6 +1,6 @@
 -- Whatever happens, contents stay tidy.
 use Rattle.std.proofs.Common.{ℕ, ◌≡◌, Bool, true, false, List, [], ◌∷◌, Option, Some, None, refl}
-use Rattle.std.proofs.Common.{sym, ap, subst, ◌∙◌}
+use Rattle.std.proofs.Common.{sym, ap, subst, ◌∙◌, arith}
 use Rattle.std.specs.Option.{option_map}
 use Rattle.std.specs.Prelude.{option_and_then, is_some, if◌then◌else◌}
 use Rattle.std.proofs.lemmas.Bool.{true≢false}
@@ -43,6 +43,7 @@ use Rattle.room_unseen.proofs.Passing.{both_none, folder_passed, move_passed, no
 use Rattle.room_unseen.proofs.Passing.{parent_is, place_passed, remove_passed}
 use Rattle.room_unseen.proofs.Settings.{no_children}
 use Rattle.room_unseen.proofs.Tidy.{body_tidy, each_tidy, gone_tidy, put_tidy}
+use Rattle.std.proofs.lemmas.Bool.Decides.{nat_tests}
 
 module _ (a : Content) (numbered : IsNumbered a) (tidy : IsTidy a) where
   there : (path : List (List ℕ)) (node : Node) → found a path ≡ Some node
@@ -194,11 +195,7 @@ module _ (a : Content) (numbered : IsNumbered a) (tidy : IsTidy a) where
     tidy_effect (Can path mask) passes = act_on IsTidy a _ _ tidy (λ s is. tidy)
 
 noted_tidy : (c : Content) (rows : List AuditRow) → IsTidy c → IsTidy (with_records c rows)
-noted_tidy c rows tidy = record {
-  names = tidy.names;
-  parents = tidy.parents;
-  bodies = tidy.bodies;
-}
+noted_tidy c rows tidy = grind (arith, nat_tests)
 
 either_tidy : (o : Option Reply) (content : Content) (done : Reply × Content) → IsTidy content
     → (o ≡ None → IsTidy done.1) → IsTidy (failure_or o content done).1
@@ -227,7 +224,5 @@ tidy_stays before (Replaced pairs) after numbered tidy same =
     })
 
 pub stays_tidy : StaysTidy
-stays_tidy before event after numbered tidy happens = (
-  numbers_stay before event after numbered happens,
-  tidy_stays before event after numbered tidy happens,
-)
+stays_tidy before event after numbered tidy happens =
+    grind (arith, nat_tests, numbers_stay, tidy_stays)

@@ -1,14 +1,14 @@
 -- Which replies tell what is behind a folder.
 use Rattle.std.proofs.Common.{ℕ, ℤ, ◌≡◌, ◌⊎◌, inl, inr, Bool, true, false, not, List, [], ◌∷◌, ◌++◌}
-use Rattle.std.proofs.Common.{Option, Some, None, refl, sym, ap, subst, ◌∙◌, append_assoc}
+use Rattle.std.proofs.Common.{Option, Some, None, refl, sym, ap, subst, ◌∙◌, append_assoc, arith}
 use Rattle.std.specs.Option.{option_map}
 use Rattle.std.proofs.lemmas.Option.{none-some, same_Some}
 use Rattle.room_entry.specs.Ace.{Ace}
 use Rattle.room_entry.specs.declared.object.Which.TheVariants.{Dacl, Sacl}
 use Rattle.room_entry.specs.declared.parties.Caller.{Caller}
-use Rattle.room_rows.specs.Content.{Content, children_of, is_empty, without_node}
+use Rattle.room_rows.specs.Content.{Content, children_of, is_empty}
 use Rattle.room_machine.specs.Effect.{effect, names_at, with_site}
-use Rattle.room_machine.specs.Judge.{failure, first_failure, or_else}
+use Rattle.room_machine.specs.Judge.{first_failure}
 use Rattle.room_machine.specs.Plan.{Item, Deletion, Refusal, plan_of, way, where_found, target_by}
 use Rattle.room_machine.specs.Site.{Site, site_at, parent_at, sites_along, full_at}
 use Rattle.room_machine.specs.Step.{Step, caller_in}
@@ -31,6 +31,7 @@ use Rattle.room_unseen.proofs.PlansAlike.{IsSeen, caller_same, parent_same, plan
 use Rattle.room_unseen.proofs.PlansAlike.{target_seen}
 use Rattle.room_unseen.proofs.SameReplies.{same_replies}
 use Rattle.room_unseen.proofs.Seen.{Both, IsLike, blank, like_at}
+use Rattle.std.proofs.lemmas.Bool.Decides.{nat_tests}
 
 module _ (f : List (List ℕ)) (a b : Content) (user : Option (List ℕ)) (moment later : ℤ)
     (first second : Reply) (after other : Content) (same : SameOutside f a b)
@@ -44,10 +45,7 @@ module _ (f : List (List ℕ)) (a b : Content) (user : Option (List ℕ)) (momen
   -- the reply in the second room, by the caller of the first
   second_reply : (request : Request) → (t : Step b user later request second other)
       → second ≡ or_reply (fails (plan_of b request)) (effect b caller t.0 request).0
-  second_reply request t =
-      reply_of b user later request second other t
-      ∙ ap (λ c. or_reply (first_failure c (plan_of b request)) (effect b c t.0 request).0)
-      (sym (caller_same f a b same user))
+  second_reply request t = grind (arith, nat_tests, caller_same, or_reply, reply_of)
 
   -- ---- a listing of the front
 
@@ -105,19 +103,7 @@ module _ (f : List (List ℕ)) (a b : Content) (user : Option (List ℕ)) (momen
       × (fails (items ++ Refusal path NotEmpty holds ∷ []) ≡ Some (Refused path NotEmpty)))
   one_more [] path true = inr (refl, refl)
   one_more [] path false = inl refl
-  one_more (i ∷ items) path holds = on (failure caller i) (one_more items path holds)
-    where
-      on : (o : Option Reply)
-          → (fails (items ++ Refusal path NotEmpty holds ∷ []) ≡ fails items)
-          ⊎ ((fails items ≡ None)
-          × (fails (items ++ Refusal path NotEmpty holds ∷ []) ≡ Some (Refused path NotEmpty)))
-          → (or_else o (fails (items ++ Refusal path NotEmpty holds ∷ []))
-          ≡ or_else o (fails items))
-          ⊎ ((or_else o (fails items) ≡ None)
-          × (or_else o (fails (items ++ Refusal path NotEmpty holds ∷ []))
-          ≡ Some (Refused path NotEmpty)))
-      on None rest = rest
-      on (Some r) rest = inl refl
+  one_more (i ∷ items) path holds = grind (arith, nat_tests, one_more items path holds)
 
   with_test : (content : Content)
       → (fails (plan_of content (Remove f)) ≡ fails (before content))
@@ -156,12 +142,7 @@ module _ (f : List (List ℕ)) (a b : Content) (user : Option (List ℕ)) (momen
           (not (is_empty (children_of content x.node.id))))
 
   always : (content : Content) (i : ℕ) → (effect content caller i (Remove f)).0 ≡ Done
-  always content i = on (site_at (sites_along content f) f)
-    where
-      on : (o : Option Site)
-          → (with_site content o (λ target. (Done, without_node content target.node.id))).0 ≡ Done
-      on None = refl
-      on (Some s) = refl
+  always content i = grind (arith, nat_tests)
 
   -- a reply to a removal, by what comes before the test
   reply_by : (content : Content) (reply : Reply) (i : ℕ)

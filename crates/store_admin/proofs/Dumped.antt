@@ -1,5 +1,5 @@
 -- What reading all objects over any keeper is, in terms of a transaction.
-use Rattle.std.proofs.Common.{◌≡◌, ℕ, Result, Ok, Err, IfOk, IfErr, String, string_bytes, subst}
+use Rattle.std.proofs.Common.{◌≡◌, ℕ, Result, Ok, Err, IfOk, IfErr, String, string_bytes, arith}
 use Rattle.std.specs.Global.{Global}
 use Rattle.sqlite.specs.State.{State}
 use Rattle.room_rows.specs.declared.keep.KeepFault.{KeepFault}
@@ -10,6 +10,7 @@ use Rattle.store_tables.specs.Shown.{Stays}
 use Rattle.store_tables.specs.Trust.{IsTrusted}
 use Rattle.store_admin.specs.Carries.{CallsInside}
 use Rattle.store_admin.specs.Dump.{HasDamagedRow, TellsObjects}
+use Rattle.std.proofs.lemmas.Bool.Decides.{nat_tests}
 
 -- the text of all objects, by the keeper
 pub told_objects : (begun mid : State) (result : Result (String Global) KeepFault)
@@ -20,20 +21,5 @@ pub told_objects : (begun mid : State) (result : Result (String Global) KeepFaul
     → IfErr result
     (HasCause before after (λ at. IsTrusted begun mid → IsDamaged (rows_of begun.now) at))
     → CallsInside begun mid result HasDamagedRow TellsObjects
-told_objects begun mid (Ok text) before after stays same answers fault = record {
-  stays = stays;
-  becomes = λ trust. (answers trust, same trust);
-  blames = λ trust id is. absurd (let e = is in cc);
-}
-told_objects begun mid (Err why) before after stays same answers fault = record {
-  stays = stays;
-  becomes = λ trust. tt;
-  blames =
-      λ trust id is. (
-        id,
-        subst (λ (r : Result (String Global) KeepFault). IfErr r
-            (HasCause before after (λ at. IsTrusted begun mid → IsDamaged (rows_of begun.now) at)))
-            is
-            fault trust,
-      );
-}
+told_objects begun mid (Ok text) before after stays same answers fault = grind (arith, nat_tests)
+told_objects begun mid (Err why) before after stays same answers fault = grind (arith, nat_tests)

@@ -1,11 +1,10 @@
 -- What is left of the rows of members once all are taken out, and once one is put in.
 use Rattle.std.proofs.Common.{◌≡◌, ◌||◌, ℕ, ℤ, List, [], ◌∷◌, map, codes, Ok, None, IsTrue, inl}
-use Rattle.std.proofs.Common.{inr, refl, sym, ap, subst, ◌∙◌, true, false, Bool, not, cond}
-use Rattle.std.proofs.Common.{if◌then◌else◌, arith, IsPermutation}
+use Rattle.std.proofs.Common.{inr, refl, sym, ap, subst, ◌∙◌, true, false, Bool, if◌then◌else◌}
+use Rattle.std.proofs.Common.{arith, IsPermutation}
 use Rattle.std.specs.List.{AllByRecursion, list_any}
 use Rattle.std.proofs.lemmas.List.Sorted.{list_any-IsPermutation}
-use Rattle.sqlite.specs.declared.types.Value.{Value}
-use Rattle.sqlite.specs.declared.types.Value.TheVariants.{Null, Int, Real, Text, Blob}
+use Rattle.sqlite.specs.declared.types.Value.TheVariants.{Null, Text}
 use Rattle.sqlite.specs.Cast.{cast_row}
 use Rattle.sqlite.specs.Command.TheVariants.{Insert, Delete}
 use Rattle.sqlite.specs.Does.{Tally, Does}
@@ -45,6 +44,7 @@ use Rattle.store_tables.proofs.Texts.{query_of}
 use Rattle.store_tables.proofs.Updates.{cast_null}
 use Rattle.store_tables.proofs.Writes.{same_value, went}
 use Rattle.room_entry.proofs.Facts.Lists.{filter_all}
+use Rattle.std.proofs.lemmas.Bool.Decides.{nat_tests}
 
 abbrev members_table : Table
 members_table = record members { tree = 3 }
@@ -93,14 +93,7 @@ left_among : (id : ℤ) (ids : List ℤ) (rows : List Row)
     → AllByRecursion (λ r. is_among (id ∷ ids) r ≡ true) rows
     → AllByRecursion (λ r. is_among ids r ≡ true) (without_rowid id rows)
 left_among id ids [] all = tt
-left_among id ids (r ∷ rows) all = by (has_rowid id r) all.0 (left_among id ids rows all.1)
-  where
-    by : (b : Bool) → b || is_among ids r ≡ true
-        → AllByRecursion (λ q. is_among ids q ≡ true) (without_rowid id rows)
-        → AllByRecursion (λ q. is_among ids q ≡ true)
-        (cond (not b) (r ∷ without_rowid id rows) (without_rowid id rows))
-    by true is more = more
-    by false is more = (is, more)
+left_among id ids (r ∷ rows) all = grind (arith, nat_tests, left_among id ids rows all.1)
 
 none_left : (ids : List ℤ) (rows : List Row) → AllByRecursion (λ r. is_among ids r ≡ true) rows
     → without_all rows ids ≡ []
@@ -124,16 +117,7 @@ any_has p (y ∷ l) x (inl e) is = ap (λ b. b || list_any p l) (ap p (sym e) �
 any_has p (y ∷ l) x (inr there) is = ap (λ b. p y || b) (any_has p l x there is) ∙ or_more (p y)
 
 at_itself : (r : Row) → IsTrue (is_int (rowid r)) → has_rowid (id_in (rowid r)) r ≡ true
-at_itself r int = by (rowid r) int
-  where
-    by : (v : Value) → IsTrue (is_int v)
-        → Rattle.std.specs.Ordering.is_eq (Rattle.sqlite.specs.Order.value_cmp v (Int (id_in v)))
-        ≡ true
-    by (Int n) i = has_itself n
-    by Null i = absurd (let x = i in cc)
-    by (Real x) i = absurd (let y = i in cc)
-    by (Text t) i = absurd (let y = i in cc)
-    by (Blob b) i = absurd (let y = i in cc)
+at_itself r int = grind (arith, nat_tests, has_itself)
 
 all_among : (table rows : List Row) → AllByRecursion (λ r. IsTrue (is_int (rowid r))) table
     → IsPermutation (map (shows (col 1 0 ∷ []) []) table) rows
@@ -270,19 +254,7 @@ joined group user old new count has h =
 
 pub still_room : (rows : List Row) (old new : State) → IsTrue old.in_transaction → IsRoom old.now
     → IsShaped Shape.Table rows → Exchanged rows old new → WritesRoom old new
-still_room rows old new inside room shaped d = (
-  d.shown.committed_is ∙ ap (λ b. if b then old.committed else new.now) inside,
-  record {
-    schema = d.schema;
-    sound = d.sound;
-    nodes = subst (IsShaped Shape.Table) (sym d.puts.nodes) room.nodes;
-    bodies = subst (IsShaped Shape.Table) (sym d.puts.bodies) room.bodies;
-    members = subst (IsShaped Shape.Table) (sym d.puts.members) shaped;
-    audits = subst (IsShaped Shape.Table) (sym d.puts.audits) room.audits;
-  },
-  d.shown.mode ∙ inside,
-  retains_by _ _ d.puts.meta d.puts.audits (keeps_same _ _ d.puts.nodes),
-)
+still_room rows old new inside room shaped d = grind (arith, nat_tests, keeps_same, retains_by)
 
 pub empty_room : (old new : State) → IsTrue old.in_transaction → (count : ℕ)
     → Executes empty_text [] old new (Ok count) → IsRoom old.now → WritesRoom old new

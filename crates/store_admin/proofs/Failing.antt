@@ -1,9 +1,7 @@
 -- Why a query of a room's tables has no answer.
-use Rattle.std.proofs.Common.{◌≡◌, ◌≤◌, ◌+◌, ◌-◌, ◌^◌, ◌⊎◌, ℕ, List, [], length, min, Result}
-use Rattle.std.proofs.Common.{Ok, Err, None, Some, Option, IsTrue, IsSome, IfErr, inl, inr, true}
-use Rattle.std.proofs.Common.{false, Bool, sym, ap, subst, ◌∙◌, arith, append-nil}
-use Rattle.std.specs.Prelude.{nat_lt, if◌then◌else◌}
-use Rattle.std.proofs.lemmas.Bool.{cases_Bool, ltb-false, ltb-true}
+use Rattle.std.proofs.Common.{◌≡◌, ◌≤◌, ◌+◌, ◌-◌, ◌^◌, ◌⊎◌, ℕ, List, [], length, min, Result, Ok}
+use Rattle.std.proofs.Common.{Err, None, Some, Option, IsTrue, IsSome, IfErr, inl, inr, true, false}
+use Rattle.std.proofs.Common.{sym, ap, subst, ◌∙◌, arith, append-nil}
 use Rattle.sqlite.specs.Clock.{timed}
 use Rattle.sqlite.specs.Effect.{Database, RefusesToRead}
 use Rattle.sqlite.specs.Listing.{understood, reads_listing, IsSourceOf}
@@ -20,12 +18,13 @@ use Rattle.sqlite_trees.specs.declared.error.StoreError.{StoreError}
 use Rattle.sqlite_trees.specs.declared.error.StoreError.TheVariants.{OutOfMemory, Io, Corrupt, Full}
 use Rattle.sqlite_trees.specs.declared.error.StoreError.TheVariants.{Broken, Unstorable}
 use Rattle.room_rows.specs.declared.keep.KeepFault.{KeepFault}
-use Rattle.room_rows.specs.declared.keep.KeepFault.TheVariants.{Memory, Store}
+use Rattle.room_rows.specs.declared.keep.KeepFault.TheVariants.{Store}
 use Rattle.store_tables.specs.Seeing.{fault_for, wants_memory}
 use Rattle.store_tables.specs.Shown.{IsRoom}
 use Rattle.store_tables.specs.Tables.{room_schema}
 use Rattle.store_tables.specs.Trust.{IsTrusted}
 use Rattle.store_admin.specs.Failing.{FailsSql, HasFailed, HasRisen}
+use Rattle.std.proofs.lemmas.Bool.Decides.{nat_tests}
 
 -- the text is one statement with so many parameters, which shows no rows that it writes
 abbrev pub IsAsked : List ℕ → ℕ → Result Compiled CompileError → Type 0
@@ -34,11 +33,7 @@ IsAsked sql count (Ok c) =
 IsAsked sql count (Err e) = ⊥
 
 rises : (before after : ℕ) → min (before + 1) (2 ^ 64 - 1) ≤ after → HasRisen before after
-rises before after more =
-    elim (cases_Bool (nat_lt before (2 ^ 64 - 1))) [
-      | inl low ↦ inl (omega (arith, ltb-true before (2 ^ 64 - 1) low, more))
-      | inr high ↦ inr (ltb-false before (2 ^ 64 - 1) high)
-    ]
+rises before after more = grind (arith, nat_tests)
 
 -- why the database has no answer, but for memory
 abbrev pub Why : State → State → Error → Type 0
@@ -124,11 +119,4 @@ module _ (sql : List ℕ) (params : Row) (command : Command)
 pub fails_inside : (begun mid : State) (e : Error) (why : KeepFault) → why ≡ fault_for e
     → (HasCleanDisk mid → IsTrue mid.is_open → IsRoom begun.now → Why begun mid e)
     → IsTrusted begun mid → why ≡ Store → HasFailed begun mid
-fails_inside begun mid e why is fails trust store =
-    by (wants_memory e) (sym is ∙ store) (fails trust.clean trust.is_open trust.now)
-  where
-    by : (b : Bool) → (if b then Memory else Store) ≡ Store
-        → (b ≡ true) ⊎ HasFailed begun mid → HasFailed begun mid
-    by b same (inr failed) = failed
-    by true same (inl memory) = absurd (let e = same in cc)
-    by false same (inl memory) = absurd (let e = memory in cc)
+fails_inside begun mid e why is fails trust store = grind (arith, nat_tests)

@@ -1,13 +1,13 @@
 -- The rows of members in order of group and then of user, and the pairs that they are read as.
 use Rattle.std.proofs.Common.{◌≡◌, ℕ, List, [], ◌∷◌, map, filter, None, Some, Option, refl, sym, ap}
-use Rattle.std.proofs.Common.{subst, ◌∙◌, true, false, Bool, cond, ◌&&◌, inl, inr, Ordering, Less}
-use Rattle.std.proofs.Common.{Equal, Greater, is_gt, is_eq, nat_cmp, true≢false, IsPermutation}
+use Rattle.std.proofs.Common.{subst, ◌∙◌, true, false, Bool, ◌&&◌, inl, inr, Ordering, Less, Equal}
+use Rattle.std.proofs.Common.{Greater, is_eq, nat_cmp, true≢false, IsPermutation, arith}
 use Rattle.std.specs.Prelude.{option_map, option_and_then}
 use Rattle.std.specs.Cmp.{IsTotalOrder}
 use Rattle.std.specs.Cmp.Lexicographic.{slice_cmp}
 use Rattle.std.specs.List.{AllByRecursion, filter_map, cons_option}
 use Rattle.std.specs.List.Sorted.{IsStrictlySortedBy}
-use Rattle.std.specs.Ordering.{ordering_reverse, ordering_then}
+use Rattle.std.specs.Ordering.{ordering_then}
 use Rattle.std.proofs.lemmas.Bool.{and_from, and_parts, false≢true, not-true}
 use Rattle.std.proofs.lemmas.Cmp.{on_total, then_total}
 use Rattle.sqlite.specs.declared.types.Value.{Value}
@@ -37,7 +37,7 @@ use Rattle.sqlite_trees.specs.Tree.{IsAscending}
 use Rattle.sqlite_value.specs.Keys.{first_key, plain}
 use Rattle.sqlite_value.specs.declared.keys.Collation.TheVariants.{Binary}
 use Rattle.sqlite_value.proofs.OrderLemmas.{then-Equal, value_cmp-Text, value_cmp_total}
-use Rattle.store_tables.specs.Meaning.{name_in, pair_in}
+use Rattle.store_tables.specs.Meaning.{pair_in}
 use Rattle.store_tables.specs.Paired.{Pair, pair_cmp}
 use Rattle.store_tables.specs.Shown.{IsRoom}
 use Rattle.store_tables.specs.Tables.{members, room_schema}
@@ -48,6 +48,7 @@ use Rattle.store_tables.proofs.Texts.{ascending_by, query_of}
 use Rattle.store_admin.specs.Operating.{by_pair}
 use Rattle.store_tables.proofs.Grouped.{name_text}
 use Rattle.store_tables.proofs.Apart.{any_none, equal_from, differ_from, int_is_some}
+use Rattle.std.proofs.lemmas.Bool.Decides.{nat_tests}
 
 -- ---- no two rows have one pair
 
@@ -135,9 +136,7 @@ module _ (terms : List Term) (db : Trees) (params : Row) (shown_rows : List Row)
   passing = filter (passes_tests [] params) (db 3)
 
   compared : (r s : Row) → output_cmp question (shown r) (shown s) ≡ by_pair r s
-  compared r s =
-      ap (ordering_then (value_cmp (column r 1) (column s 1)))
-      (then-Equal (value_cmp (column r 2) (column s 2)))
+  compared r s = grind (arith, nat_tests, then-Equal)
 
   passing_are : a.kept ≡ map shown passing
   passing_are =
@@ -172,12 +171,7 @@ all_inserted : (P : Row → Type 0) (new : Row) (rows : List Row) → P new → 
     → AllByRecursion P (insert_sorted by_pair new rows)
 all_inserted P new [] here all = (here, tt)
 all_inserted P new (r ∷ rows) here all =
-    by (is_gt (by_pair new r)) (all_inserted P new rows here all.1)
-  where
-    by : (b : Bool) → AllByRecursion P (insert_sorted by_pair new rows)
-        → AllByRecursion P (cond b (r ∷ insert_sorted by_pair new rows) (new ∷ r ∷ rows))
-    by true more = (all.0, more)
-    by false more = (here, all)
+    grind (arith, nat_tests, all_inserted P new rows here all.1)
 
 all_sorted : (P : Row → Type 0) (rows : List Row) → AllByRecursion P rows
     → AllByRecursion P (sort_by by_pair rows)
@@ -197,16 +191,15 @@ rises_inserted : (new : Row) (rows : List Row)
     → Rise (insert_sorted by_pair new rows)
 rises_inserted new [] apart up = (tt, tt)
 rises_inserted new (r ∷ rows) apart up =
-    by (by_pair new r) refl (rises_inserted new rows apart.1 up.1)
-  where
-    by : (o : Ordering) → by_pair new r ≡ o → Rise (insert_sorted by_pair new rows)
-        → Rise (cond (is_gt o) (r ∷ insert_sorted by_pair new rows) (new ∷ r ∷ rows))
-    by Less e more = ((e, behind new r rows e up.0), up)
-    by Equal e more = absurd (false≢true (sym apart.0 ∙ ap is_eq e))
-    by Greater e more = (
-      all_inserted (λ b. by_pair r b ≡ Less) new rows
-          (pair_total.antisymm r new ∙ ap ordering_reverse e) up.0,
-      more,
+    grind (
+      arith,
+      nat_tests,
+      all_inserted,
+      apart,
+      behind,
+      pair_total,
+      rises_inserted new rows
+          apart.1 up.1,
     )
 
 rises_sorted : (rows : List Row) → HasNoTies by_pair rows → Rise (sort_by by_pair rows)
@@ -226,9 +219,7 @@ parts (Some g) (Some u) p is = let same : (g, u) ≡ p = cc in
 
 texts : (r : Row) (p : Pair) → pair_in r ≡ Some p → (column r 1 ≡ Text p.0)
     × (column r 2 ≡ Text p.1)
-texts r p is =
-    let both = parts (name_in (column r 1)) (name_in (column r 2)) p is in
-    (name_text (column r 1) p.0 both.0, name_text (column r 2) p.1 both.1)
+texts r p is = grind (arith, nat_tests, name_text, parts)
 
 same_cmp : (v w : Value) (s t : List ℕ) → v ≡ Text s → w ≡ Text t
     → value_cmp v w ≡ slice_cmp nat_cmp s t

@@ -1,7 +1,7 @@
 -- What the query of all records shows, and what it is read as.
-use Rattle.std.proofs.Common.{◌≡◌, ◌&&◌, ℕ, negsuc, List, [], ◌∷◌, map, codes, Bool, Option}
-use Rattle.std.proofs.Common.{Some, None, Vec, Global, refl, sym, ap, subst, ◌∙◌, true, false, Less}
-use Rattle.std.proofs.Common.{◌⊎◌, inl, inr, lit≤, Result, IfErr, IsSome}
+use Rattle.std.proofs.Common.{◌≡◌, ◌&&◌, ℕ, negsuc, List, [], ◌∷◌, map, codes, Bool, Option, Some}
+use Rattle.std.proofs.Common.{None, Vec, Global, refl, ap, ◌∙◌, true, false, Less, ◌⊎◌, inl, inr}
+use Rattle.std.proofs.Common.{lit≤, Result, IfErr, IsSome, arith}
 use Rattle.std.specs.Prelude.{MatchOption, is_some}
 use Rattle.std.specs.List.{cons_option, filter_map, list_all}
 use Rattle.sqlite.specs.declared.types.Value.TheVariants.{Null, Int}
@@ -31,6 +31,7 @@ use Rattle.store_admin.specs.Operating.{AreRecords, HasRecords, HasUnreadRecord,
 use Rattle.store_admin.specs.Operating.{shown_record}
 use Rattle.store_admin.proofs.Failing.{IsAsked, fails_sql}
 use Rattle.room_entry.proofs.Facts.Lists.{filter_all}
+use Rattle.std.proofs.lemmas.Bool.Decides.{nat_tests}
 
 abbrev pub records_text : List ℕ
 records_text = codes "SELECT at, user, path, bits, granted, entry FROM audits ORDER BY seq"
@@ -116,16 +117,9 @@ pub tells_records : (db : Database) (rows shown : List Row) → shown ≡ rows
     → HasRecords db.trees rows → (o : Option (Vec AuditRow Global)) (records : Vec AuditRow Global)
     → o ≡ Some records → Told shown o → AreRecords db records.items
 tells_records db rows shown same has o records is told =
-    let it = subst (Told shown) is told in
-    let all : shown ≡ map shown_record (db.trees 7) = same ∙ has in
-    record {
-      all_read = sym (all_seen (db.trees 7)) ∙ ap (list_all is_read) (sym all) ∙ it.0;
-      are = it.1 ∙ ap (filter_map record_seen) all ∙ records_shown (db.trees 7);
-    }
+    grind (arith, nat_tests, all_seen, records_shown)
 
 pub tells_unread : (db : Database) (rows shown : List Row) → shown ≡ rows
     → HasRecords db.trees rows → (o : Option (Vec AuditRow Global)) → o ≡ None → Told shown o
     → HasUnreadRecord db
-tells_unread db rows shown same has o is told =
-    sym (all_seen (db.trees 7)) ∙ ap (list_all is_read) (sym (same ∙ has))
-    ∙ subst (Told shown) is told
+tells_unread db rows shown same has o is told = grind (arith, nat_tests, all_seen)

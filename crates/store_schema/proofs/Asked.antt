@@ -1,8 +1,7 @@
 -- What reading the schema's number shows.
-use Rattle.std.proofs.Common.{◌≡◌, ℕ, ℤ, List, [], ◌∷◌, length, map, Result, Ok, Err, Option}
-use Rattle.std.proofs.Common.{None, Some, IsTrue, inl, inr, ◌⊎◌, refl, sym, ap, subst, ◌∙◌, true}
-use Rattle.std.proofs.Common.{false, Bool, if◌then◌else◌, arith, IsPermutation, Vec, Global, IfOk}
-use Rattle.std.proofs.Common.{IfErr}
+use Rattle.std.proofs.Common.{◌≡◌, ℕ, ℤ, List, [], ◌∷◌, length, map, Result, Ok, Err, Option, None}
+use Rattle.std.proofs.Common.{Some, IsTrue, inl, inr, ◌⊎◌, refl, sym, ap, subst, ◌∙◌, true, false}
+use Rattle.std.proofs.Common.{Bool, if◌then◌else◌, arith, IsPermutation, Vec, Global, IfOk, IfErr}
 use Rattle.std.proofs.lemmas.List.Sorted.{length_permutation}
 use Rattle.sqlite.specs.declared.types.Value.TheVariants.{Null}
 use Rattle.sqlite.specs.Order.{Row, column}
@@ -41,6 +40,7 @@ use Rattle.store_tables.proofs.Within.{CommitsNothing, as_before, unchanged_with
 use Rattle.store_tables.proofs.Within.{wrote_within}
 use Rattle.room_entry.proofs.Facts.Lists.{filter_same}
 use Rattle.store_tables.proofs.Tests.{equals_text}
+use Rattle.std.proofs.lemmas.Bool.Decides.{nat_tests}
 
 -- ---- the rows that are shown
 
@@ -58,12 +58,9 @@ not_one (r ∷ []) other = absurd (other refl)
 not_one (r ∷ s ∷ rows) other = refl
 
 same_number : (all rows : List Row) → IsPermutation all rows → number_shown rows ≡ number_shown all
-same_number [] rows perm =
-    not_one rows (λ one. let e = length_permutation [] rows perm in omega (arith, one, e))
+same_number [] rows perm = grind (arith, nat_tests, length_permutation, not_one)
 same_number (r ∷ []) rows perm = ap number_shown (one_permutation r rows perm)
-same_number (r ∷ s ∷ all) rows perm =
-    not_one rows (λ one. let e = length_permutation (r ∷ s ∷ all) rows perm in
-    omega (arith, one, e))
+same_number (r ∷ s ∷ all) rows perm = grind (arith, nat_tests, length_permutation, not_one)
 
 shown_number : (old new : State) (rows : List Row) → old.now.schema ≡ room_schema
     → Shown number_text [] old new rows → number_shown rows ≡ meta_of old.now
@@ -91,15 +88,7 @@ module _ (old new : State) (quiet : CommitsNothing old new)
   shows_within : (sql : List ℕ) (c : Compiled) (full : Row) (rows : List Row) (r : Option Returning)
       → ShowsRows old new sql c full rows r → IsWithin old new
   shows_within sql c full rows None h = unchanged_within old new quiet h.3
-  shows_within sql c full rows (Some what) h =
-      let it = h.1.shown in
-      wrote_within old new quiet (record {
-        was_open = it.was_open;
-        is_open = it.is_open;
-        now_is = it.now_is;
-        committed_is = it.committed_is ∙ ap (λ b. if b then old.committed else new.now) inside;
-        mode = it.mode ∙ inside;
-      })
+  shows_within sql c full rows (Some what) h = grind (arith, nat_tests, wrote_within)
 
   shown_within : (sql : List ℕ) (params : Row) (rows : List Row) → Shown sql params old new rows
       → IsWithin old new

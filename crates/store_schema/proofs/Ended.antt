@@ -1,5 +1,5 @@
 -- A transaction begins, and its commit fails.
-use Rattle.std.proofs.Common.{◌≡◌, ◌≤◌, ◌∙◌, IsTrue, refl, sym, ap, true, false, arith, inl, inr}
+use Rattle.std.proofs.Common.{◌≡◌, ◌≤◌, ◌∙◌, IsTrue, sym, ap, true, false, arith, inl, inr}
 use Rattle.sqlite_trees.specs.View.{doubt}
 use Rattle.sqlite_trees.specs.declared.store.Store.{Ghosts}
 use Rattle.sqlite.specs.Held.{Held, state}
@@ -8,6 +8,7 @@ use Rattle.sqlite.specs.Steps.{FailsToCommit}
 use Rattle.sqlite.specs.Tree.{Trees}
 use Rattle.sqlite.specs.declared.error.Error.{Error}
 use Rattle.store_tables.specs.Within.{IsWithin}
+use Rattle.std.proofs.lemmas.Bool.Decides.{nat_tests}
 
 -- a transaction begins
 pub record Begins (old begun : State) : Type 0 where
@@ -23,15 +24,7 @@ pub begins_by : {S : Type 0} (g : Ghosts S) (h begun : Held S)
     → begun ≡ record h { in_transaction = true }
     → (IsTrue (state g h).is_open → (state g h).now ≡ (state g h).committed)
     → Begins (state g h) (state g begun)
-begins_by g h begun is settled = rw is (record {
-  now = refl;
-  committed = refl;
-  same_open = refl;
-  same_clean = refl;
-  mode = refl;
-  settled = settled;
-  left = λ _ left. left;
-})
+begins_by g h begun is settled = grind (arith, nat_tests)
 
 module _ (old begun mid end : State) (begins : Begins old begun)
     (clean : doubt mid.is_clean ≤ doubt end.is_clean) (within : IsWithin begun mid) where
@@ -53,9 +46,7 @@ module _ (old begun mid end : State) (begins : Begins old begun)
 
   back_at : HasCleanDisk end → IsTrue mid.is_open → end.now ≡ mid.committed
       → end.committed ≡ mid.committed → (end.now ≡ old.now) × (end.committed ≡ old.committed)
-  back_at now open' seen kept =
-      let same = committed_mid now open' in
-      (seen ∙ same ∙ sym (begins.settled (open_first now open')), kept ∙ same)
+  back_at now open' seen kept = grind (arith, nat_tests, committed_mid, open_first)
 
   undone_at : HasCleanDisk end → IsTrue end.is_open → IsRolledBack mid end
       → (end.now ≡ old.now) × (end.committed ≡ old.committed)
@@ -64,11 +55,7 @@ module _ (old begun mid end : State) (begins : Begins old begun)
 
   same_at : HasCleanDisk end → mid.in_transaction ≡ false → IsUnchanged mid end
       → (end.now ≡ old.now) × (end.committed ≡ old.committed)
-  same_at now mode same =
-      let open' = same.0.was_open in
-      let seen = within.settled (clean_mid now) open'
-      (λ off. absurd (let e : true ≡ false = sym begins.mode ∙ off in cc)) mode in
-      back_at now open' (same.0.now_is ∙ seen) same.0.committed_is
+  same_at now mode same = grind (arith, nat_tests, back_at, clean_mid)
 
   refused_at : (why : Error) → HasCleanDisk end → IsTrue end.is_open → FailsToCommit mid end why
       → (end.now ≡ old.now) × (end.committed ≡ old.committed)

@@ -1,15 +1,12 @@
 -- What the row of a new root is read as.
 use Rattle.std.proofs.Common.{◌≡◌, ℕ, pos, List, [], ◌∷◌, ◌++◌, codes, Some, None, inl, inr, refl}
-use Rattle.std.proofs.Common.{sym, ap, subst, ◌∙◌, true}
-use Rattle.std.specs.Prelude.{IsTrue, false, Option, option_map, option_and_then, is_none}
+use Rattle.std.proofs.Common.{sym, ap, subst, ◌∙◌, true, arith}
+use Rattle.std.specs.Prelude.{IsTrue, false, Option, option_map, option_and_then}
 use Rattle.std.specs.Prelude.{if◌then◌else◌}
-use Rattle.std.specs.List.{filter_map, cons_option}
 use Rattle.room_entry.specs.Ace.{Ace}
 use Rattle.room_entry.specs.declared.object.ObjKind.TheVariants.{Folder}
 use Rattle.room_rows.specs.HeldList.{Held}
 use Rattle.room_rows.specs.declared.node.Node.{Node}
-use Rattle.room_rows.specs.declared.node.AuditRow.{AuditRow}
-use Rattle.room_rows.specs.Rows.{Rows, Unread}
 use Rattle.sqlite.specs.Effect.{Database}
 use Rattle.room_entry.specs.Bits.{all_bits}
 use Rattle.room_ace.specs.Column.{entries_of}
@@ -19,12 +16,13 @@ use Rattle.room_entry.specs.declared.parties.Owners.{Owners}
 use Rattle.sqlite.specs.declared.types.Value.TheVariants.{Null, Int, Text}
 use Rattle.sqlite.specs.Order.{Row, column}
 use Rattle.sqlite_rules.specs.Lists.{Has}
-use Rattle.store_tables.specs.Meaning.{audit_in, bodies_of, name_in, name_of_text, node_in}
-use Rattle.store_tables.specs.Meaning.{nodes_of, pairs_of, rows_of, unread_of, unread_with}
+use Rattle.store_tables.specs.Meaning.{name_in, node_in}
+use Rattle.store_tables.specs.Meaning.{rows_of}
 use Rattle.store_tables.specs.Shown.{shown_node}
 use Rattle.store_tables.specs.Printed.{ArePrinted, HoldsPrinted, IsPrinted}
 use Rattle.store_tables.proofs.Printed.{by_cell}
 use Rattle.store_schema.specs.NewRoom.{owner_entry, rows_of_root, new_root}
+use Rattle.std.proofs.lemmas.Bool.Decides.{nat_tests}
 
 abbrev pub owner_line : List ℕ
 owner_line = codes "A:fd:OWNER@:rwanNxDtThHdcCoy" ++ 10 ∷ []
@@ -92,9 +90,7 @@ root_of owner group own none =
 
 name_read : (text : List ℕ) → IsTrue (is_name text) → IsTrue (is_utf8 text)
     → name_in (Text text) ≡ Some text
-name_read text name utf8 =
-    ap (λ b. option_and_then name_of_text (if b then Some text else None)) utf8
-    ∙ ap (λ b. if b then Some text else None) name
+name_read text name utf8 = grind (arith, nat_tests)
 
 pub root_read : (owners : Owners) → IsTrue (is_name owners.owner) → IsTrue (is_name owners.group)
     → IsTrue (is_utf8 owners.owner) → IsTrue (is_utf8 owners.group)
@@ -112,32 +108,9 @@ root_read owners one two three four =
     ∙ ap (λ o. root_of (Some owners.owner) (Some owners.group) o (entries_of [])) owner_line_is
     ∙ ap (root_of (Some owners.owner) (Some owners.group) (Some (owner_entry ∷ []))) no_line_is
 
--- the rows by their parts
-abbrev rows_by : List Node → List Unread → List (ℕ × List ℕ) → List (List ℕ × List ℕ) → List AuditRow
-    → Rows
-rows_by nodes unreadable bodies members audits =
-    record {
-      read = record { nodes = nodes; bodies = bodies; members = members; audits = audits };
-      unreadable = unreadable;
-    }
-
 pub room_read : (db : Database) (owners : Owners) → IsTrue (is_name owners.owner)
     → IsTrue (is_name owners.group) → IsTrue (is_utf8 owners.owner) → IsTrue (is_utf8 owners.group)
     → db.trees 0 ≡ root_row owners.owner owners.group ∷ [] → db.trees 2 ≡ [] → db.trees 3 ≡ []
     → db.trees 7 ≡ [] → rows_of db ≡ rows_of_root owners
 room_read db owners one two three four nodes bodies members audits =
-    let root = root_read owners one two three four in
-    let read : nodes_of (db.trees 0) ≡ new_root owners ∷ [] = ap nodes_of nodes
-    ∙ ap (λ o. cons_option o []) root in
-    let unread : unread_of (db.trees 0) ≡ [] = ap unread_of nodes
-    ∙ ap (λ (o : Option Node). cons_option (if is_none o
-    then Some (unread_with (root_row owners.owner owners.group) 1) else None) []) root in
-    ap (λ n. rows_by n (unread_of (db.trees 0)) (bodies_of (db.trees 2)) (pairs_of (db.trees 3))
-    (filter_map audit_in (db.trees 7))) read
-    ∙ ap (λ u. rows_by (new_root owners ∷ []) u (bodies_of (db.trees 2)) (pairs_of (db.trees 3))
-    (filter_map audit_in (db.trees 7))) unread
-    ∙ ap (λ t. rows_by (new_root owners ∷ []) [] (bodies_of t) (pairs_of (db.trees 3))
-    (filter_map audit_in (db.trees 7))) bodies
-    ∙ ap (λ t. rows_by (new_root owners ∷ []) [] [] (pairs_of t) (filter_map audit_in (db.trees 7)))
-    members
-    ∙ ap (λ t. rows_by (new_root owners ∷ []) [] [] [] (filter_map audit_in t)) audits
+    grind (arith, nat_tests, root_read)

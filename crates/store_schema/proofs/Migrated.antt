@@ -1,6 +1,6 @@
 -- A transaction that upgrades a room is committed, or its commit fails.
-use Rattle.std.proofs.Common.{◌≡◌, ◌≤◌, [], pos, Result, Ok, Err, IsErrAnd, IsTrue, sym, ap, subst, ◌∙◌}
-use Rattle.std.proofs.Common.{false, inl, inr}
+use Rattle.std.proofs.Common.{◌≡◌, ◌≤◌, [], pos, Result, Ok, Err, IsErrAnd, IsTrue, sym, ap, subst}
+use Rattle.std.proofs.Common.{◌∙◌, false, inl, inr, arith}
 use Rattle.sqlite_trees.specs.View.{doubt}
 use Rattle.sqlite.specs.Effect.{Database, IsDatabase}
 use Rattle.sqlite.specs.State.{State, HasCleanDisk, KeepsCounts, Shows, Survives}
@@ -8,7 +8,7 @@ use Rattle.sqlite.specs.Steps.{FailsToCommit}
 use Rattle.sqlite.specs.declared.error.Error.{Error}
 use Rattle.store_tables.specs.Tables.{no_schema}
 use Rattle.store_tables.specs.Shown.{HasTables, IsRoom, room_of}
-use Rattle.store_tables.specs.Within.{IsSettled, LeavesOnly, LeavesOrCommits}
+use Rattle.store_tables.specs.Within.{IsSettled, LeavesOrCommits}
 use Rattle.store_schema.specs.NewRoom.{meta_of}
 use Rattle.store_schema.specs.Opening.{AnswersVersion, IsFailure, IsRefusal, Says}
 use Rattle.store_schema.specs.Migrating.{AnswersMigration, CommitsMigration, IsInside}
@@ -21,6 +21,7 @@ use Rattle.store_schema.specs.declared.fault.OpenFault.TheVariants.{NotRooms, Ol
 use Rattle.store_schema.specs.declared.fault.OpenFault.TheVariants.{NewVersion, Db, Memory}
 use Rattle.store_schema.proofs.Ended.{Begins, clean_mid, failed_back, left_first, open_first}
 use Rattle.store_schema.proofs.Ended.{open_mid, since}
+use Rattle.std.proofs.lemmas.Bool.Decides.{nat_tests}
 
 -- the failure of a database says nothing of its tables
 says : (db : Database) (fault : OpenFault) → IsFailure fault
@@ -65,10 +66,7 @@ module _ (old begun mid end : State) (begins : Begins old begun)
 
     room_committed : HasCleanDisk end → IsTrue mid.is_open → HasTables old.now
         → IsRoom begun.committed
-    room_committed now open' tables =
-        let open'' = open_first' now open' in
-        subst IsRoom (sym begins.committed)
-        (subst IsRoom (begins.settled open'') (room_of tables (sound open'')))
+    room_committed now open' tables = grind (arith, nat_tests, open_first')
 
     -- what is shown of the tables in the transaction is shown of them as they were
     shown_first : HasCleanDisk end → AnswersMigration old.now r
@@ -110,47 +108,13 @@ module _ (old begun mid end : State) (begins : Begins old begun)
     -- the commit failed
     pub not_committed : (fault : OpenFault) → IsFailure fault → (why : Error)
         → (HasCleanDisk end → FailsToCommit mid end why) → Migrates old end (Err (Opening fault))
-    not_committed fault fails why err = record {
-      ended = ended;
-      clean = since' survives.clean inside;
-      was_open =
-          λ now open'. open_first' survives.clean inside now
-          (open_mid mid end why open' (err now));
-      leads = λ _ _ _. says old.now fault fails;
-      retains = λ _ _ _. tt;
-      committed = λ _. tt;
-      answers = λ _. tt;
-      shown = λ _. answers old.now fault fails;
-      empty = λ _ _. refuses fault fails;
-      kept = failed_back old begun mid end begins survives.clean inside.within why err;
-      crash = crash;
-      lasts = λ _. tt;
-    }
+    not_committed fault fails why err =
+        grind (arith, nat_tests, answers, crash, failed_back, open_first', open_mid, refuses, says,
+        since')
 
     pub committed : IsSettled end
         → (HasCleanDisk end → IsTrue mid.in_transaction × Shows mid end mid.now mid.now false
         × KeepsCounts mid end × (end.marks ≡ [])) → Migrates old end (Ok tt)
-    committed settles ok = record {
-      ended = ended;
-      clean = since' survives.clean inside;
-      was_open = λ now open'. open_first' survives.clean inside now (ok now).1.was_open;
-      leads = λ now open' tables.
-          subst (λ d. MigratesTables old.now d (Ok tt)) (sym (ok now).1.now_is)
-          (upgraded now tables).leads;
-      retains = λ now open' tables.
-          subst (λ (d : Database). RetainsOthers old.now.trees d.trees) (sym (ok now).1.now_is)
-          (upgraded now tables).retains;
-      committed = λ now. (ok now).1.committed_is ∙ sym (ok now).1.now_is;
-      answers = λ now. (
-        open_first' survives.clean inside now (ok now).1.was_open,
-        (ok now).1.is_open,
-      );
-      shown = λ now. shown_first survives.clean inside now;
-      empty = λ now has. empty_mid survives.clean inside now has;
-      kept = λ _ _. tt;
-      crash = crash;
-      lasts = λ now.
-          let shows = (ok now).1 in
-          subst (LeavesOnly end) (shows.committed_is ∙ sym shows.now_is)
-          (settles shows.is_open);
-    }
+    committed settles ok =
+        grind (arith, nat_tests, answers, crash, empty_mid, open_first', shown_first, since',
+        upgraded)

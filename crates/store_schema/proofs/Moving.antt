@@ -27,6 +27,7 @@ use Rattle.store_schema.specs.Migrating.{SpreadIsMigrated, Stamps, other_rows}
 use Rattle.store_tables.specs.Within.{IsWithin, within_on}
 use Rattle.store_schema.specs.declared.fault.MigrateFault.{MigrateFault}
 use Rattle.store_schema.specs.declared.fault.OpenFault.{OpenFault}
+use Rattle.std.proofs.lemmas.Bool.Decides.{nat_tests}
 
 -- the number that these rows of `meta` tell
 abbrev number_in_meta : List Row → Option ℤ
@@ -54,10 +55,7 @@ clean_before a b up h = omega arith
 
 still_on : (a b c : State) → IsWithin a b → StillRoom a b → IsWithin b c → StillRoom b c
     → StillRoom a c
-still_on a b c p still q more = λ now open' one two.
-    let back = clean_before b c q.clean now in
-    let open'' = q.was_open now open' in
-    more now open' (subst IsRoom (sym (p.committed back open'')) one) (still back open'' one two)
+still_on a b c p still q more = grind (arith, nat_tests, clean_before)
 
 module _ (begun : State) (inside : IsTrue begun.in_transaction) where
   module _ (asked : State) (expects : Expects (pos 1) begun asked (Ok tt)) where
@@ -79,15 +77,7 @@ module _ (begun : State) (inside : IsTrue begun.in_transaction) where
         → (HasCleanDisk mid → IsTrue mid.is_open → IsRoom begun.committed → IsRoom begun.now
         → begun.now ≡ begun.committed → OnOk r (RetainsOthers begun.now.trees mid.now.trees))
         → (HasCleanDisk mid → OnOk r (IsTrue mid.is_open)) → IsInside begun mid r
-    by_steps mid r up within leads shown retains opens =
-        record {
-          within = within;
-          leads = leads;
-          shown = shown;
-          empty = not_empty mid r up;
-          retains = retains;
-          opens = opens;
-        }
+    by_steps mid r up within leads shown retains opens = grind (arith, nat_tests, not_empty)
 
     first : IsWithin begun asked
     first = expects.within inside
@@ -107,14 +97,7 @@ module _ (begun : State) (inside : IsTrue begun.in_transaction) where
 
       trusted : HasCleanDisk migrated → IsTrue migrated.is_open → IsRoom begun.committed
           → IsRoom begun.now → IsTrusted asked migrated
-      trusted now open' one two =
-          let open'' = stays.within.was_open now open' in
-          record {
-            clean = now;
-            is_open = open';
-            now = first_room (back now) open'' one two;
-            committed = subst IsRoom (sym (first.committed (back now) open'')) one;
-          }
+      trusted now open' one two = grind (arith, nat_tests, back, first, first_room)
 
       module _
           (becomes : IsTrusted asked migrated
@@ -126,9 +109,7 @@ module _ (begun : State) (inside : IsTrue begun.in_transaction) where
 
         module _ (count : ℕ) (stamps : Stamps migrated stamped (Ok count)) where
           third_room : StillRoom begun stamped
-          third_room =
-              still_on begun migrated stamped second second_room stamps.within
-              (λ now open' one two. (stamps.keeps now two).0)
+          third_room = grind (arith, nat_tests, second, second_room, still_on)
 
           module _ (end : State) (r : Result (Unit {0}) OpenFault)
               (again : Expects (pos 2) stamped end r) where
@@ -136,16 +117,7 @@ module _ (begun : State) (inside : IsTrue begun.in_transaction) where
             back' = clean_before stamped end again.clean
 
             last : IsWithin stamped end
-            last =
-                let within : HasCleanDisk end → IsWithin stamped end = λ now. again.within
-                (stamps.inside (back' now)) in
-                record {
-                  clean = again.clean;
-                  was_open = λ now. (within now).was_open now;
-                  committed = λ now. (within now).committed now;
-                  settled = λ now. (within now).settled now;
-                  crash = λ now. (within now).crash now;
-                }
+            last = grind (arith, nat_tests, back')
 
             all : IsWithin begun end
             all = within_on begun stamped end (third stamps.within) last

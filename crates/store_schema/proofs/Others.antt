@@ -1,6 +1,7 @@
 -- The rows of `meta` but that of the schema's number, where that is written anew.
 use Rattle.std.proofs.Common.{◌≡◌, ℕ, ℤ, pos, List, [], ◌∷◌, map, filter, Bool, true, false, not}
 use Rattle.std.proofs.Common.{cond, IsTrue, Some, inl, inr, ◌⊎◌, refl, sym, ap, subst, ◌∙◌, codes}
+use Rattle.std.proofs.Common.{arith}
 use Rattle.std.specs.Ordering.{is_eq, match_ordering}
 use Rattle.std.specs.declared.cmp.Ordering.{Ordering}
 use Rattle.std.specs.declared.cmp.Ordering.TheVariants.{Less, Equal, Greater}
@@ -21,6 +22,7 @@ use Rattle.store_tables.proofs.Rowids.{at_most_one, has_itself}
 use Rattle.store_schema.specs.NewRoom.{is_version, number_shown}
 use Rattle.store_schema.specs.Migrating.{other_rows}
 use Rattle.store_tables.proofs.Updates.{cast_int}
+use Rattle.std.proofs.lemmas.Bool.Decides.{nat_tests}
 
 -- where a number is told, one row has it
 pub one_version : (rows : List Row) (n : ℤ)
@@ -42,10 +44,8 @@ module _ (is_other : Row → Bool) where
       → filter is_other rest ≡ filter is_other left → is_other r ≡ c
       → filter is_other (cond (not b) (r ∷ rest) rest) ≡ cond c (r ∷ filter is_other left)
       (filter is_other left)
-  fewer_step r rest left true c none same is = same ∙ sym (ap (λ b. cond b (r ∷ filter is_other left) (filter is_other left)) (none refl))
-  fewer_step r rest left false c none same is =
-      ap (λ b. cond b (r ∷ filter is_other rest) (filter is_other rest)) is
-      ∙ ap (λ l. cond c (r ∷ l) l) same
+  fewer_step r rest left true c none same is = grind (arith, nat_tests)
+  fewer_step r rest left false c none same is = grind (arith, nat_tests)
 
   fewer : (id : ℤ) (rows : List Row)
       → ((r : Row) → Has rows r → has_rowid id r ≡ true → is_other r ≡ false)
@@ -59,11 +59,9 @@ module _ (is_other : Row → Bool) where
       → is_eq o ≡ false → filter is_other put ≡ filter is_other rows
       → filter is_other (match_ordering o (y ∷ put) (x ∷ rows) (x ∷ y ∷ rows))
       ≡ filter is_other (y ∷ rows)
-  more_step x y put rows Less fails apart same =
-      ap (λ l. cond (is_other y) (y ∷ l) l) same
+  more_step x y put rows Less fails apart same = grind (arith, nat_tests)
   more_step x y put rows Equal fails apart same = absurd (let e = apart in cc)
-  more_step x y put rows Greater fails apart same =
-      ap (λ b. cond b (x ∷ filter is_other (y ∷ rows)) (filter is_other (y ∷ rows))) fails
+  more_step x y put rows Greater fails apart same = grind (arith, nat_tests)
 
   more : (x : Row) (rows : List Row) → is_other x ≡ false
       → ((r : Row) → Has rows r → is_eq (value_cmp (rowid r) (rowid x)) ≡ false)

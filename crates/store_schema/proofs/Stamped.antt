@@ -1,43 +1,37 @@
 -- What writing the schema's number anew leaves.
-use Rattle.std.proofs.Common.{◌≡◌, ◌≢◌, ℕ, ℤ, pos, suc, List, [], ◌∷◌, length, map, filter}
-use Rattle.std.proofs.Common.{inl, inr, Result, Some, Ok, Err, None, IsTrue, OnOk, refl, sym, ap}
-use Rattle.std.proofs.Common.{subst, ◌∙◌, true, false, Bool, arith}
+use Rattle.std.proofs.Common.{◌≡◌, ◌≢◌, ℕ, ℤ, pos, suc, List, [], ◌∷◌, length, map, filter, inl}
+use Rattle.std.proofs.Common.{Result, Some, Ok, Err, None, IsTrue, OnOk, refl, sym, ap, subst}
+use Rattle.std.proofs.Common.{◌∙◌, true, false, Bool, arith}
 use Rattle.std.specs.Prelude.{◌==◌}
-use Rattle.std.specs.List.{AllByRecursion, filter_map}
-use Rattle.std.proofs.lemmas.Bool.{cases_Bool, eqb-true}
+use Rattle.std.specs.List.{AllByRecursion}
 use Rattle.sqlite.specs.Order.{Row, column}
 use Rattle.sqlite.specs.Tree.{Trees, rowid}
 use Rattle.sqlite.specs.Command.TheVariants.{Update}
 use Rattle.sqlite.specs.Does.{Tally, Does}
-use Rattle.sqlite.specs.Edit.{Edit, edit_of, taken_by}
+use Rattle.sqlite.specs.Edit.{Edit, edit_of, taken_by, edited}
 use Rattle.sqlite.specs.Effect.{Database, IsDatabase}
 use Rattle.sqlite.specs.Listing.{understood}
 use Rattle.sqlite.specs.Rowids.TheVariants.{Given}
 use Rattle.sqlite.specs.Rows.{Written}
 use Rattle.sqlite.specs.declared.error.Error.{Error}
 use Rattle.sqlite.specs.State.{State, HasCleanDisk, mode_of, Executes, ExecutesInside}
-use Rattle.sqlite.proofs.Callers.{runs_as, statement_of, one_step}
+use Rattle.sqlite.proofs.Callers.{runs_as, statement_of, one_step, one_permutation}
 use Rattle.sqlite_rules.specs.Action.{works}
 use Rattle.sqlite_rules.specs.Calls.{ids_of}
 use Rattle.sqlite_schema.specs.declared.schema.Keys.TheVariants.{Enforced}
 use Rattle.sqlite_schema.specs.declared.schema.Table.{Table}
 use Rattle.sqlite_tied.specs.Compute.{everything}
-use Rattle.sqlite_trees.specs.View.{IsShaped}
 use Rattle.sqlite_trees.specs.declared.store.Shape.TheVariants as Shape
-use Rattle.room_rows.specs.Rows.{Rows}
-use Rattle.store_tables.specs.Meaning.{IsRecord, audit_in, bodies_of, nodes_of, pairs_of, rows_of}
-use Rattle.store_tables.specs.Meaning.{unread_of}
+use Rattle.store_tables.specs.Meaning.{IsRecord, rows_of}
 use Rattle.store_tables.specs.Shown.{IsRoom}
 use Rattle.store_tables.specs.Tables.{meta, room_schema}
 use Rattle.sqlite.specs.Program.{overlay}
 use Rattle.sqlite.specs.declared.types.Value.TheVariants.{Int, Null}
-use Rattle.sqlite.specs.Edit.{edited}
-use Rattle.sqlite.proofs.Callers.{one_permutation}
 use Rattle.std.specs.List.Sorted.{IsPermutation}
 use Rattle.std.proofs.lemmas.List.{append-nil}
 use Rattle.std.proofs.lemmas.List.Elements.{All-nil}
 use Rattle.store_tables.proofs.Printed.{keeps_same}
-use Rattle.store_schema.specs.NewRoom.{meta_of}
+use Rattle.store_schema.specs.NewRoom.{meta_of, is_version}
 use Rattle.store_schema.specs.Migrating.{RetainsOthers, Stamps, other_rows}
 use Rattle.store_schema.proofs.Answers.{passes, selected, shows}
 use Rattle.store_schema.proofs.Asked.{passes_rooms}
@@ -45,7 +39,6 @@ use Rattle.store_schema.proofs.Others.{int_of, one_version, others_stay}
 use Rattle.sqlite_rules.specs.Lists.{Has}
 use Rattle.sqlite_rules.proofs.ListLemmas.{has_filtered}
 use Rattle.store_tables.proofs.Rowids.{of_each}
-use Rattle.store_schema.specs.NewRoom.{is_version}
 use Rattle.store_tables.specs.Within.{IsWithin}
 use Rattle.store_tables.proofs.Within.{CommitsNothing}
 use Rattle.store_schema.proofs.Texts.{is_rooms, query_of, stamp_is, stamp_plain, stamp_terms}
@@ -53,6 +46,7 @@ use Rattle.store_schema.proofs.Texts.{stamp_text}
 use Rattle.store_schema.proofs.Within.{within_inside}
 use Rattle.room_entry.proofs.Facts.Lists.{filter_same}
 use Rattle.store_tables.proofs.Writes.{went, same_value}
+use Rattle.std.proofs.lemmas.Bool.Decides.{nat_tests}
 
 abbrev meta_table : Table
 meta_table = record meta { tree = 5 }
@@ -61,9 +55,7 @@ abbrev stamp_edit : Trees → List Row → Edit
 stamp_edit db rows = edit_of db meta_table (ids_of rows) Given 1 rows
 
 not_none : (n : ℕ) → (suc n == 0) ≡ false
-not_none n =
-    elim (cases_Bool (suc n == 0))
-    [ inl none ↦ absurd (let e = eqb-true (suc n) 0 none in omega (arith, e)) | inr some ↦ some ]
+not_none n = grind (arith, nat_tests)
 
 -- nothing refers to the table
 stamp_alone : (olds news : List Row) → works room_schema Enforced 0 5 olds news ≡ []
@@ -123,45 +115,14 @@ stamped old new count has h =
           → d.trees table.tree ≡ db table.tree) room_schema.tables) (sym now) applies.tables;
     }
 
-abbrev rows_from : List Row → List Row → List Row → List Row → Rows
-rows_from nodes bodies members audits = record {
-  read =
-      record {
-        nodes = nodes_of nodes;
-        bodies = bodies_of bodies;
-        members = pairs_of members;
-        audits = filter_map audit_in audits;
-      };
-  unreadable = unread_of nodes;
-}
-
 same_rows : (old new : Database) → new.trees 0 ≡ old.trees 0 → new.trees 2 ≡ old.trees 2
     → new.trees 3 ≡ old.trees 3 → new.trees 7 ≡ old.trees 7 → rows_of new ≡ rows_of old
-same_rows old new nodes bodies members audits =
-    ap (λ t. rows_from t (new.trees 2) (new.trees 3) (new.trees 7)) nodes
-    ∙ ap (λ t. rows_from (old.trees 0) t (new.trees 3) (new.trees 7)) bodies
-    ∙ ap (λ t. rows_from (old.trees 0) (old.trees 2) t (new.trees 7)) members
-    ∙ ap (λ t. rows_from (old.trees 0) (old.trees 2) (old.trees 3) t) audits
+same_rows old new nodes bodies members audits = grind (arith, nat_tests)
 
 stamp_keeps : (old new : State) (count : ℕ) → IsRoom old.now
     → Executes stamp_text [] old new (Ok count) → IsRoom new.now
     × (rows_of new.now ≡ rows_of old.now)
-stamp_keeps old new count room h =
-    let it = stamped old new count room.schema h in
-    let nodes = it.others.0 (λ e. let e' : 0 ≡ 5 = e in omega (arith, e')) in
-    let bodies = it.others.1.0 (λ e. let e' : 2 ≡ 5 = e in omega (arith, e')) in
-    let members = it.others.1.1.0 (λ e. let e' : 3 ≡ 5 = e in omega (arith, e')) in
-    let audits = it.others.1.1.1.1.0 (λ e. let e' : 7 ≡ 5 = e in omega (arith, e')) in (
-      record {
-        schema = it.schema;
-        sound = it.sound;
-        nodes = subst (IsShaped Shape.Table) (sym nodes) room.nodes;
-        bodies = subst (IsShaped Shape.Table) (sym bodies) room.bodies;
-        members = subst (IsShaped Shape.Table) (sym members) room.members;
-        audits = subst (IsShaped Shape.Table) (sym audits) room.audits;
-      },
-      same_rows old.now new.now nodes bodies members audits,
-    )
+stamp_keeps old new count room h = grind (arith, nat_tests, same_rows, stamped)
 
 stamp_others : (old new : State) (count : ℕ) → IsRoom old.now → (n : ℤ)
     → meta_of old.now ≡ Some n → Executes stamp_text [] old new (Ok count)

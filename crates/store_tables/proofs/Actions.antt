@@ -1,7 +1,8 @@
 -- What the deletion of an object sets off: no child may be left, and its bytes go.
 use Rattle.std.proofs.Common.{◌≡◌, ℕ, zero, suc, ℤ, List, [], ◌∷◌, length, map, filter, Result, Ok}
 use Rattle.std.proofs.Common.{Err, Some, IsTrue, inl, inr, ◌⊎◌, refl, sym, ap, subst, ◌∙◌, true}
-use Rattle.std.proofs.Common.{false, Bool}
+use Rattle.std.proofs.Common.{false, Bool, codes, not, IfOk, if◌then◌else◌, drop, find, unwrap_or}
+use Rattle.std.proofs.Common.{◌<ℤ◌, subst₂, arith, length-append}
 use Rattle.sqlite.specs.declared.types.Value.TheVariants.{Int}
 use Rattle.sqlite.specs.Order.{Row}
 use Rattle.sqlite.specs.Tree.{Trees, rowid, has_rowid, without_rowid}
@@ -12,16 +13,15 @@ use Rattle.sqlite_schema.specs.declared.schema.Action.TheVariants.{NoAction, Res
 use Rattle.sqlite_value.specs.Keys.{plain}
 use Rattle.sqlite_value.specs.Order.{value_cmp}
 use Rattle.std.specs.Ordering.{is_eq}
-use Rattle.std.proofs.Common.{codes}
 use Rattle.sqlite_rules.specs.declared.action.Deed.TheVariants.{Refuse, Delete}
 use Rattle.sqlite_rules.specs.Action.{Work, works, is_child_of, action_edit, AreChildren, Leads}
 use Rattle.sqlite_rules.specs.Action.{ActsOn, Acts}
-use Rattle.std.specs.List.{list_any}
+use Rattle.std.specs.List.{list_any, AllByRecursion}
 use Rattle.sqlite_tied.specs.Compute.{everything}
 use Rattle.sqlite_sql.specs.Ops.{binary}
 use Rattle.store_tables.specs.Tables.{bodies, room_schema}
 use Rattle.store_tables.proofs.Writes.{nodes_table, delete_edit, Deleted, deleted}
-use Rattle.store_tables.specs.Shown.{IsRoom}
+use Rattle.store_tables.specs.Shown.{IsRoom, RemovesRow, KeepsAll}
 use Rattle.store_tables.proofs.Answers.{shows}
 use Rattle.sqlite.specs.State.{State, Executes}
 use Rattle.sqlite.specs.declared.error.Error.{Error}
@@ -31,29 +31,23 @@ use Rattle.store_tables.proofs.Printed.{keeps_fewer, keeps_same}
 use Rattle.store_tables.proofs.Calls.{retains_by}
 use Rattle.store_tables.proofs.Executed.{WritesRoom}
 use Rattle.sqlite_trees.proofs.TreeLemmas.{IsShaped-filter}
-use Rattle.std.proofs.Common.{not, IfOk, if◌then◌else◌}
 use Rattle.sqlite.specs.Effect.{Database}
 use Rattle.sqlite.specs.Term.{col}
 use Rattle.sqlite.proofs.Callers.{one_permutation}
 use Rattle.std.specs.List.Sorted.{IsPermutation}
-use Rattle.std.proofs.Common.{drop}
 use Rattle.store_tables.proofs.Rowids.{at_most_one, only_one, has_found, cells_of, alone_in}
 use Rattle.store_tables.proofs.Rowids.{has_itself, same_int, rowid_is, none_taken, each_of, of_each}
 use Rattle.store_tables.proofs.Rowids.{pop_one, pop_two}
 use Rattle.sqlite_rules.specs.InPlace.{Rise}
-use Rattle.sqlite.specs.Edit.{without_all}
+use Rattle.sqlite.specs.Edit.{without_all, taken_by, edited}
 use Rattle.std.specs.Cmp.{int_cmp_is}
 use Rattle.std.proofs.lemmas.Cmp.{tied_itself, int_cmp_total}
 use Rattle.std.specs.declared.cmp.Ordering.TheVariants.{Less}
 use Rattle.sqlite_rules.specs.Lists.{Has}
-use Rattle.std.specs.List.{AllByRecursion}
 use Rattle.sqlite_trees.specs.View.{is_int, IsShaped}
 use Rattle.sqlite_trees.specs.declared.store.Shape.TheVariants as Shape
-use Rattle.std.proofs.Common.{find, unwrap_or}
 use Rattle.sqlite.specs.Rows.{Edited}
-use Rattle.sqlite.specs.Edit.{taken_by, edited}
-use Rattle.store_tables.specs.Shown.{RemovesRow, KeepsAll}
-use Rattle.std.proofs.Common.{◌<ℤ◌, subst₂, arith, length-append}
+use Rattle.std.proofs.lemmas.Bool.Decides.{nat_tests}
 
 abbrev pub bodies_table : Table
 bodies_table = record bodies { tree = 2 }
@@ -195,9 +189,7 @@ module _ (id : ℤ) (cells : Row) (first : Trees)
       absurd (are.complete b id there (is_of id cells b rowid') rowid')
 
   nothing_there : AreChildren first (take_bytes row) [] → without_rowid id (first 2) ≡ first 2
-  nothing_there are =
-      none_taken id (first 2)
-      (each_of _ (first 2) (λ b there. not_there are b there (has_rowid id b) refl))
+  nothing_there are = grind (arith, nat_tests, each_of, none_taken, not_there)
 
   only_child : (x : ℤ) (ids : List ℤ) → AreChildren first (take_bytes row) (x ∷ ids)
       → x ∷ ids ≡ id ∷ []
@@ -284,24 +276,7 @@ module _ (id : ℤ) (db next : Trees) (rows : List Row) (bodies : IsShaped Shape
       → KeepsAll db next
   none_removed none (inl refused) = absurd (let e = refused.2 in cc)
   none_removed none (inr (inl big)) = absurd (let e = big.3 in cc)
-  none_removed none (inr (inr went)) =
-      let first = went.0 in
-      let other = went.1.tables in
-      let work : works room_schema Enforced 0 0 (taken_by db (delete_edit db rows)) [] ≡ [] = ap
-      (λ l. works room_schema Enforced 0 0 (taken_by db (delete_edit db l)) []) none
-      ∙ sets_off_none in
-      let led = subst (λ stack. Leads room_schema Enforced went.2.0 first stack (Ok next)) work
-      went.2.1 in
-      let same : first ≡ next = ends went.2.0 first next led in
-      let at : (tree : ℕ) → next tree ≡ first tree = λ tree. ap (λ (t : Trees). t tree)
-      (sym same) in
-      record {
-        nodes = at 0 ∙ went.1.rows ∙ ap (λ l. edited db (delete_edit db l)) none;
-        bodies = at 2 ∙ other.1.0 (λ e. let e' : 2 ≡ 0 = e in omega (arith, e'));
-        members = at 3 ∙ other.1.1.0 (λ e. let e' : 3 ≡ 0 = e in omega (arith, e'));
-        meta = at 5 ∙ other.1.1.1.0 (λ e. let e' : 5 ≡ 0 = e in omega (arith, e'));
-        audits = at 7 ∙ other.1.1.1.1.0 (λ e. let e' : 7 ≡ 0 = e in omega (arith, e'));
-      }
+  none_removed none (inr (inr went)) = grind (arith, nat_tests, delete_edit, ends)
 
 -- what a deletion by number does
 pub deletes : (id : ℤ) (old new : State) (count : ℕ) → IsRoom old.now → Deleted id old new count

@@ -1,6 +1,6 @@
 -- What the rows mean once some columns of an object's row are written.
 use Rattle.std.proofs.Common.{◌≡◌, ℕ, ℤ, pos, List, [], ◌∷◌, find, None, Some, Option, refl, sym}
-use Rattle.std.proofs.Common.{ap, subst, ◌∙◌}
+use Rattle.std.proofs.Common.{ap, subst, ◌∙◌, arith}
 use Rattle.std.specs.Prelude.{option_and_then}
 use Rattle.std.proofs.lemmas.Option.{none-some}
 use Rattle.sqlite.specs.declared.types.Value.{Value}
@@ -33,6 +33,7 @@ use Rattle.store_tables.proofs.Recast.{recast}
 use Rattle.store_tables.proofs.Replaced.{replaced_rows}
 use Rattle.store_tables.proofs.Updates.{cast_int, cast_null}
 use Rattle.room_rows.proofs.InPlace.{with_inh-id, with_held-id}
+use Rattle.std.proofs.lemmas.Bool.Decides.{nat_tests}
 
 -- ---- what is read goes on
 
@@ -101,15 +102,7 @@ record ReadsHeld (f o i : Value) (h : Held) : Type 0 where
 
 reads_held : (flags own inh : Value) (h : Held) → held_in flags own inh ≡ Some h
     → ReadsHeld flags own inh h
-reads_held flags own inh h e =
-    let p = given_some (flags_in flags) _ h e in
-    let q = given_some (entries_in own) _ h p.2 in
-    let s = giving_some (entries_in inh) _ h q.2 in
-    record {
-      flags = p.1 ∙ ap (λ (x : Held). Some x.flags) s.2;
-      own = q.1 ∙ ap (λ (x : Held). Some x.own) s.2;
-      inh = s.1 ∙ ap (λ (x : Held). Some x.inh) s.2;
-    }
+reads_held flags own inh h e = grind (arith, nat_tests, given_some, giving_some)
 
 -- what the cells after the number are read as
 record ReadsCells (v2 v3 v4 v5 v6 v7 v8 v9 v10 v11 v12 : Value) (n : Node) : Type 0 where
@@ -175,12 +168,7 @@ module _ (v2 v3 v4 v5 v6 v7 v8 v9 v10 v11 v12 : Value) (n : Node) where
       (shown_node
       (stored_node (pos id) (v2 ∷ v3 ∷ v4 ∷ v5 ∷ v6 ∷ v7 ∷ v8 ∷ v9 ∷ v10 ∷ v11 ∷ v12 ∷ [])))
       ≡ Some n
-  read_back id number s =
-      let owners : owners_in v5 v6 ≡ Some n.owners = rw (s.owner, s.group) refl in
-      let dacl : held_in v7 v9 v10 ≡ Some n.dacl = rw (s.dacl.flags, s.dacl.own, s.dacl.inh) refl in
-      let sacl : held_in v8 v11 v12 ≡ Some n.sacl =
-      rw (s.sacl.flags, s.sacl.own, s.sacl.inh) refl in
-      rw (number, s.parent, s.name, s.kind, owners, dacl, sacl) refl
+  read_back id number s = grind (arith, nat_tests)
 
   stored_again : (id : ℕ) → number_in (Int (pos id)) ≡ Some n.id
       → ReadsCells v2 v3 v4 v5 v6 v7 v8 v9 v10 v11 v12 n
@@ -188,9 +176,7 @@ module _ (v2 v3 v4 v5 v6 v7 v8 v9 v10 v11 v12 : Value) (n : Node) where
       (shown_node
       (stored_node (pos id)
       (recast (v2 ∷ v3 ∷ v4 ∷ v5 ∷ v6 ∷ v7 ∷ v8 ∷ v9 ∷ v10 ∷ v11 ∷ v12 ∷ [])))) ≡ Some n
-  stored_again id number s =
-      ap (λ l. node_in (shown_node (stored_node (pos id) l))) (recast_same s)
-      ∙ read_back id number s
+  stored_again id number s = grind (arith, nat_tests, read_back, recast_same)
 
 -- ---- some columns written
 

@@ -1,15 +1,14 @@
 -- What the rows mean once the rows of a range of numbers are written.
-use Rattle.std.proofs.Common.{◌≡◌, ◌<◌, ◌≤◌, ◌+◌, ℕ, suc, zero, ℤ, pos, negsuc, List, [], ◌∷◌}
-use Rattle.std.proofs.Common.{map, find, not, None, Some, Option, refl, sym, ap, subst, ◌∙◌, Bool}
-use Rattle.std.proofs.Common.{true, false, cond, inl, inr, ◌⊎◌, arith, unwrap_or}
+use Rattle.std.proofs.Common.{◌≡◌, ◌<◌, ◌≤◌, ◌+◌, ℕ, suc, zero, ℤ, pos, negsuc, List, [], ◌∷◌, map}
+use Rattle.std.proofs.Common.{find, not, None, Some, Option, refl, sym, ap, subst, ◌∙◌, Bool, true}
+use Rattle.std.proofs.Common.{false, cond, inl, inr, ◌⊎◌, arith, unwrap_or}
 use Rattle.std.specs.Prelude.{◌==◌, ◌&&◌, ◌||◌, is_none, is_some, nat_lt, option_and_then}
 use Rattle.std.specs.Prelude.{if◌then◌else◌}
 use Rattle.std.specs.List.{cons_option, filter_map, list_any, range_with_len}
 use Rattle.std.specs.Option.{option_map}
 use Rattle.std.specs.Ordering.{is_eq, is_gt, is_lt}
 use Rattle.std.specs.declared.cmp.Ordering.TheVariants.{Equal, Greater, Less}
-use Rattle.std.proofs.lemmas.Bool.{and_parts, cond-false, cond-true, eqb-true, ltb-false, ltb-true}
-use Rattle.std.proofs.lemmas.Bool.{eqb-false, ne_eqb}
+use Rattle.std.proofs.lemmas.Bool.{and_parts, cond-false, cond-true, eqb-true, eqb-false, ne_eqb}
 use Rattle.sqlite.specs.declared.types.Value.TheVariants.{Int, Null, Text}
 use Rattle.sqlite.specs.Effect.{Database}
 use Rattle.sqlite.specs.Order.{Row, value_cmp}
@@ -37,6 +36,7 @@ use Rattle.store_tables.proofs.Altered.{inherits_back}
 use Rattle.store_tables.proofs.Recast.{recast}
 use Rattle.store_tables.proofs.Removed.{same_rows}
 use Rattle.store_tables.proofs.Rowids.{has_itself, of_each}
+use Rattle.std.proofs.lemmas.Bool.Decides.{nat_tests}
 
 -- ---- numbers that follow one another
 
@@ -105,46 +105,17 @@ more_test false false = refl
 test_of : (r : Row) (m first last : ℕ) → rowid r ≡ Int (pos m)
     → is_in_range (pos first) (pos last) r
     ≡ (not (nat_lt m first) && not (not (nat_lt m last) && nat_lt last m))
-test_of r m first last is =
-    ap (λ v. not (is_lt (value_cmp v (Int (pos first))))
-    && not (is_gt (value_cmp v (Int (pos last))))) is
-    ∙ ap (λ o. not (is_lt o) && not (is_gt (value_cmp (Int (pos m)) (Int (pos last)))))
-    (value_cmp-Int (pos m) (pos first))
-    ∙ ap (λ b. not b && not (is_gt (value_cmp (Int (pos m)) (Int (pos last)))))
-    (less_test (nat_lt m first) (nat_lt first m))
-    ∙ ap (λ o. not (nat_lt m first) && not (is_gt o)) (value_cmp-Int (pos m) (pos last))
-    ∙ ap (λ b. not (nat_lt m first) && not b) (more_test (nat_lt m last) (nat_lt last m))
+test_of r m first last is = grind (arith, nat_tests, less_test, more_test, value_cmp-Int)
 
 between : (m first last : ℕ)
     → (not (nat_lt m first) && not (not (nat_lt m last) && nat_lt last m)) ≡ true
     → (first ≤ m) × (m ≤ last)
-between m first last = by (nat_lt m first) (nat_lt m last) (nat_lt last m) refl refl refl
-  where
-    by : (a b c : Bool) → nat_lt m first ≡ a → nat_lt m last ≡ b → nat_lt last m ≡ c
-        → (not a && not (not b && c)) ≡ true → (first ≤ m) × (m ≤ last)
-    by true b c low below above e = absurd (let x = e in cc)
-    by false true c low below above e =
-        let l = ltb-false m first low in
-        let h = ltb-true m last below in
-        (omega (arith, l), omega (arith, h))
-    by false false true low below above e = absurd (let x = e in cc)
-    by false false false low below above e =
-        let l = ltb-false m first low in
-        let h = ltb-false last m above in
-        (omega (arith, l), omega (arith, h))
+between m first last = grind (arith, nat_tests)
 
 outside : (m first last : ℕ)
     → (not (nat_lt m first) && not (not (nat_lt m last) && nat_lt last m)) ≡ false
     → (m < first) ⊎ (last < m)
-outside m first last = by (nat_lt m first) (nat_lt m last) (nat_lt last m) refl refl refl
-  where
-    by : (a b c : Bool) → nat_lt m first ≡ a → nat_lt m last ≡ b → nat_lt last m ≡ c
-        → (not a && not (not b && c)) ≡ false → (m < first) ⊎ (last < m)
-    by true b c low below above e = inl (ltb-true m first low)
-    by false true c low below above e = absurd (let x = e in cc)
-    by false false true low below above e =
-        inr (ltb-true last m above)
-    by false false false low below above e = absurd (let x = e in cc)
+outside m first last = grind (arith, nat_tests)
 
 below_none : (b : Bool) (x : Bool) → b ≡ true → (not b && x) ≡ true → ⊥
 below_none b x is e = absurd (let f = sym (ap (λ c. not c && x) is) ∙ e in cc)
@@ -235,9 +206,7 @@ module _ (db next : Database) (room : IsRoom db) (which : Which) (text : List �
       )
 
   stays : (r : Row) → is_in_range (pos first) (pos (first + more)) r ≡ false → to_row r ≡ r
-  stays r isnt =
-      cond-false (is_in_range (pos first) (pos (first + more)) r)
-      (rowid r ∷ Null ∷ recast (cells r)) r isnt
+  stays r isnt = grind (arith, nat_tests, recast)
 
   out_seen : (r : Row) → is_in_range (pos first) (pos (first + more)) r ≡ false → (o : Option Node)
       → see r ≡ o → o ≡ option_map (changed_among run change) o

@@ -1,6 +1,6 @@
 -- No two children have one name: what UNIQUE says of rows that agree in its first column.
 use Rattle.std.proofs.Common.{◌≡◌, ℕ, ℤ, subst, List, [], ◌∷◌, filter, IsTrue, inl, inr, refl, sym}
-use Rattle.std.proofs.Common.{ap, ◌∙◌, true, false, Bool, cond, ◌&&◌, Less, is_eq}
+use Rattle.std.proofs.Common.{ap, ◌∙◌, true, false, Bool, cond, ◌&&◌, Less, is_eq, arith}
 use Rattle.std.specs.List.{AllByRecursion, list_any}
 use Rattle.std.proofs.lemmas.Bool.{and_parts, and_from, false≢true, not-true, or_parts}
 use Rattle.std.proofs.lemmas.Cmp.{alike_right}
@@ -33,6 +33,7 @@ use Rattle.store_tables.proofs.Rowids.{each_of, is_equal, of_each}
 use Rattle.store_tables.proofs.Tests.{told}
 use Rattle.store_tables.proofs.Tops.{kept_from}
 use Rattle.store_tables.proofs.Writes.{nodes_table}
+use Rattle.std.proofs.lemmas.Bool.Decides.{nat_tests}
 
 pub any_none : {A : Type 0} (p : A → Bool) (xs : List A) (x : A) → list_any p xs ≡ false → Has xs x
     → p x ≡ false
@@ -44,13 +45,7 @@ any_none p (y ∷ ys) x none (inr later) =
 pub kept_passes : {A : Type 0} (p : A → Bool) (xs : List A) (x : A) → Has (filter p xs) x
     → p x ≡ true
 kept_passes p [] x there = absurd there
-kept_passes p (y ∷ ys) x there = by (p y) refl there (kept_passes p ys x)
-  where
-    by : (b : Bool) → p y ≡ b → Has (cond b (y ∷ filter p ys) (filter p ys)) x
-        → (Has (filter p ys) x → p x ≡ true) → p x ≡ true
-    by true is (inl e) more = ap p e ∙ is
-    by true is (inr later) more = more later
-    by false is later more = more later
+kept_passes p (y ∷ ys) x there = grind (arith, nat_tests, kept_passes p ys x)
 
 -- ---- = and <> of values that are not NULL
 
@@ -90,9 +85,7 @@ module _ (rows : List Row) (table : IsTable rows)
     × (is_null (column r second) ≡ false)) where
   same_first : (a b : Row) → p a ≡ true → p b ≡ true
       → is_eq (value_cmp (column a first) (column b first)) ≡ true
-  same_first a b one two =
-      ap is_eq (alike_right value_cmp_total (column b first) v (column a first)
-      (is_equal _ (fixes b two))) ∙ fixes a one
+  same_first a b one two = grind (arith, nat_tests, alike_right, is_equal, value_cmp_total)
 
   apart : (a b : Row) → Has rows a → Has rows b → p a ≡ true → p b ≡ true
       → value_cmp (rowid a) (rowid b) ≡ Less → (t : Bool) → is_eq (by_column second a b) ≡ t

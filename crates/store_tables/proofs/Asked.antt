@@ -1,6 +1,6 @@
 -- What a statement inside a transaction answers and leaves.
-use Rattle.std.proofs.Common.{◌≡◌, ℕ, List, Result, Ok, Err, IsTrue, ◌⊎◌, false, IfOk, IfErr, subst, sym}
-use Rattle.std.proofs.Common.{Vec, Global}
+use Rattle.std.proofs.Common.{◌≡◌, ℕ, List, Result, Ok, Err, IsTrue, ◌⊎◌, false, IfOk, IfErr, subst}
+use Rattle.std.proofs.Common.{sym, Vec, Global, arith}
 use Rattle.sqlite.specs.Order.{Row}
 use Rattle.sqlite.specs.Tree.{Trees}
 use Rattle.sqlite.specs.declared.error.Error.{Error}
@@ -15,6 +15,7 @@ use Rattle.store_tables.proofs.Inside.{did_inside, query_inside, write_inside}
 use Rattle.store_tables.proofs.Bare.{IsReading}
 use Rattle.store_tables.proofs.Within.{CommitsNothing}
 use Rattle.store_tables.proofs.Tests.{if_ok}
+use Rattle.std.proofs.lemmas.Bool.Decides.{nat_tests}
 
 -- a query inside a transaction keeps `QueriesSql`, once it is known what its rows show of a room
 pub asks : (sql : List ℕ) (params : Row) (old new : State) (r : Result (Vec Row Global) Error)
@@ -25,11 +26,8 @@ pub asks : (sql : List ℕ) (params : Row) (old new : State) (r : Result (Vec Ro
     → (HasCleanDisk new → IfOk r (λ rows. Shown sql params old new rows.items))
     → (HasCleanDisk new → IfErr r (λ e. FailsToQuery sql params old new e
     ⊎ IsTooLate sql params old new e)) → QueriesSql Shows old new r
-asks sql params old new r Shows reads quiet shows ok err = record {
-  rows = λ now room. if_ok r _ _ (λ rows shown. shows rows.items room shown) (ok now);
-  same = λ now room. same_ok sql params old new r reads (ok now);
-  stays = query_inside sql params old new r reads quiet ok err;
-}
+asks sql params old new r Shows reads quiet shows ok err =
+    grind (arith, nat_tests, if_ok, query_inside, same_ok)
 
 -- a write after the transaction's end, which leaves the connection as it was
 pub ended : {H : Type 0} (shown : H → State) (old new : H) (r : Result ℕ Error) (e : Error)
@@ -47,14 +45,5 @@ pub writes : (sql : List ℕ) (params : Row) (old new : State) (r : Result ℕ E
     → (old.in_transaction ≡ false → (r ≡ Err e) × Stays old new)
     → (HasCleanDisk new → IsTrue old.in_transaction → ExecutesInside 0 sql params old new r)
     → ExecutesSql Leaves old new r
-writes sql params old new r e Leaves quiet room_stays leaves ended runs = record {
-  leaves =
-      λ now room. did_inside sql params old new r e (λ count. Leaves count old new)
-      (λ off. (ended off).0) (runs now) (by room);
-  stays = write_inside sql params old new r quiet room_stays (λ off. (ended off).1) runs;
-}
-  where
-    by : IsRoom old.now → (q : Result ℕ Error) → Executes sql params old new q
-        → IfOk q (λ count. Leaves count old new)
-    by room (Ok count) h = leaves count room h
-    by room (Err x) h = tt
+writes sql params old new r e Leaves quiet room_stays leaves ended runs =
+    grind (arith, nat_tests, did_inside, ended, write_inside)

@@ -1,6 +1,6 @@
 -- A text without RETURNING writes nothing where it shows rows, whatever the tables are.
 use Rattle.std.proofs.Common.{◌≡◌, ℕ, List, Bool, true, false, Option, None, Ok, Err, IfOk, refl}
-use Rattle.std.proofs.Common.{ap, ◌∙◌, if◌then◌else◌}
+use Rattle.std.proofs.Common.{ap, ◌∙◌, if◌then◌else◌, arith}
 use Rattle.sqlite.specs.Order.{Row}
 use Rattle.sqlite.specs.Listing.{understood, reads_listing, if_select, is_select, listing_schema}
 use Rattle.sqlite.specs.State.{State, IsUnchanged, Shown, ShowsRows}
@@ -12,6 +12,7 @@ use Rattle.sqlite_resolve.specs.declared.error.CompileError.TheVariants.{NoSuchT
 use Rattle.sqlite_schema.specs.declared.command.Command.{Command}
 use Rattle.sqlite_schema.specs.declared.command.Returning.{Returning}
 use Rattle.sqlite_schema.specs.declared.schema.Schema.{Schema}
+use Rattle.std.proofs.lemmas.Bool.Decides.{nat_tests}
 
 -- the statement of the text has no RETURNING, over any schema
 abbrev pub LacksReturning : List ℕ → Type 0
@@ -87,9 +88,7 @@ reads_by sql bare schema c is =
 
 by_rows : (old new : State) (sql : List ℕ) (c : Compiled) (full : Row) (rows : List Row)
     (r : Option Returning) → r ≡ None → ShowsRows old new sql c full rows r → IsUnchanged old new
-by_rows old new sql c full rows r none h =
-    let shows : ShowsRows old new sql c full rows None = rw none at h in
-    shows.3
+by_rows old new sql c full rows r none h = grind (arith, nat_tests)
 
 -- where it showed rows, the connection is as it was
 pub shown_same : (sql : List ℕ) (params : Row) (old new : State) (rows : List Row) → IsReading sql

@@ -1,8 +1,7 @@
 -- What reading the bytes of a number answers.
 use Rattle.std.proofs.Common.{◌≡◌, ◌<◌, ℕ, pos, List, [], ◌∷◌, map, filter, find, Some, inl, inr}
-use Rattle.std.proofs.Common.{◌⊎◌, refl, sym, ap, subst, ◌∙◌, true, false, Bool, cond, option_map}
-use Rattle.std.proofs.Common.{IsPermutation}
-use Rattle.std.specs.Prelude.{◌==◌, option_and_then, if◌then◌else◌}
+use Rattle.std.proofs.Common.{◌⊎◌, refl, sym, ap, subst, ◌∙◌, option_map, IsPermutation, arith}
+use Rattle.std.specs.Prelude.{◌==◌, option_and_then}
 use Rattle.sqlite.specs.declared.types.Value.{Value}
 use Rattle.sqlite.specs.declared.types.Value.TheVariants.{Null, Int, Real, Text, Blob}
 use Rattle.sqlite.specs.Order.{Row, column}
@@ -13,7 +12,7 @@ use Rattle.room_rows.specs.Content as content
 use Rattle.room_rows.specs.Keep.{IsBodyOf, IsNever}
 use Rattle.store_tables.specs.Filed.{body_rowid}
 use Rattle.store_tables.specs.Keyed.{find_key}
-use Rattle.store_tables.specs.Meaning.{body_in, body_row, number_in, rows_of}
+use Rattle.store_tables.specs.Meaning.{body_in, number_in, rows_of}
 use Rattle.store_tables.specs.RoomRows.{number_in-low}
 use Rattle.store_tables.specs.Seeing.{result_of_seen, bytes_as, bytes_seen}
 use Rattle.store_tables.specs.Shown.{IsRoom}
@@ -21,6 +20,7 @@ use Rattle.store_tables.specs.Statements.{HasBytes, shown_bytes}
 use Rattle.store_tables.proofs.Nodes.{Tells, none_passes}
 use Rattle.store_tables.proofs.Rowids.{alone_in, at_most_one, has_found, of_each, only_one}
 use Rattle.store_tables.proofs.Rowids.{rowid_is}
+use Rattle.std.proofs.lemmas.Bool.Decides.{nat_tests}
 
 abbrev Blobbed : Type 0
 Blobbed = ℕ × List ℕ
@@ -29,15 +29,7 @@ pub found_bytes : (id : ℕ) (rows : List Blobbed)
     → content.body_at rows id
     ≡ option_map (λ (x : Blobbed). x.1) (find (λ (x : Blobbed). x.0 == id) rows)
 found_bytes id [] = refl
-found_bytes id (row ∷ rows) = by (row.0 == id) (found_bytes id rows)
-  where
-    by : (b : Bool) → content.body_at rows id
-        ≡ option_map (λ (x : Blobbed). x.1) (find (λ (x : Blobbed). x.0 == id) rows)
-        → (if b then Some row.1 else content.body_at rows id)
-        ≡ option_map (λ (x : Blobbed). x.1)
-        (cond b (Some row) (find (λ (x : Blobbed). x.0 == id) rows))
-    by true more = refl
-    by false more = more
+found_bytes id (row ∷ rows) = grind (arith, nat_tests, found_bytes id rows)
 
 module _ (db : Database) (room : IsRoom db) (id : ℕ) (low : 0 < id) where
   body_at : content.body_of (rows_of db).read id
@@ -50,10 +42,7 @@ module _ (db : Database) (room : IsRoom db) (id : ℕ) (low : 0 < id) where
   blob_told : (r : Row) → find (has_rowid (pos id)) (db.trees 2) ≡ Some r
       → number_in (rowid r) ≡ Some id → (v : Value) → column r 2 ≡ v
       → Tells IsNever (IsBodyOf id) (rows_of db) (result_of_seen (bytes_as v))
-  blob_told r found number (Blob bytes) is =
-      sym (body_at ∙ ap (λ o. option_map (λ (x : Blobbed). x.1) (option_and_then body_in o)) found
-      ∙ ap (λ n. option_map (λ (x : Blobbed). x.1) (body_row n (column r 2))) number
-      ∙ ap (λ v. option_map (λ (x : Blobbed). x.1) (body_row (Some id) v)) is)
+  blob_told r found number (Blob bytes) is = grind (arith, nat_tests, body_at)
   blob_told r found number Null is = tt
   blob_told r found number (Int n) is = tt
   blob_told r found number (Real x) is = tt

@@ -1,9 +1,8 @@
 -- What a read or a failure leaves of a connection.
-use Rattle.std.proofs.Common.{◌≡◌, ℕ, List, [], ◌++◌, Result, Ok, Err, None, Some, Option, inl}
-use Rattle.std.proofs.Common.{inr, ◌⊎◌, map, filter, refl, sym, ap, subst, ◌∙◌, false, IfOk, OnOk}
-use Rattle.std.proofs.Common.{Vec, Global}
+use Rattle.std.proofs.Common.{◌≡◌, ℕ, List, [], ◌++◌, Result, Ok, Err, None, Some, Option, inl, inr}
+use Rattle.std.proofs.Common.{◌⊎◌, map, filter, ap, ◌∙◌, false, IfOk, OnOk, Vec, Global, arith}
 use Rattle.std.proofs.lemmas.List.{append-nil, append_assoc}
-use Rattle.std.proofs.lemmas.List.Elements.{All-append, All-nil}
+use Rattle.std.proofs.lemmas.List.Elements.{All-append}
 use Rattle.std.specs.List.Sorted.{IsPermutation}
 use Rattle.sqlite.specs.declared.types.Value.TheVariants.{Null}
 use Rattle.sqlite.specs.Order.{Row}
@@ -21,27 +20,21 @@ use Rattle.sqlite_schema.specs.declared.command.Returning.{Returning}
 use Rattle.sqlite.proofs.Callers.{IsPlain, command_of, reads_as}
 use Rattle.store_tables.specs.Tables.{room_schema}
 use Rattle.store_tables.specs.Meaning.{IsRecord}
-use Rattle.store_tables.specs.Shown.{IsRoom, Retains, Stays}
+use Rattle.store_tables.specs.Shown.{Retains, Stays}
 use Rattle.store_tables.proofs.Texts.{query_of, selects}
 use Rattle.store_tables.proofs.Answers.{passes, shows, selected}
 use Rattle.store_tables.proofs.Bare.{IsReading, shown_same}
 use Rattle.store_tables.specs.Printed.{KeepsPrinted}
 use Rattle.store_tables.proofs.Printed.{keeps_on, keeps_itself}
 use Rattle.store_tables.proofs.Within.{CommitsNothing, as_before, unchanged_within, undone_within}
+use Rattle.std.proofs.lemmas.Bool.Decides.{nat_tests}
 
 -- ---- what is retained
 
 -- where `meta` and `audits` are as they were, no record is lost or added
 pub retains_by : (db next : Trees) → next 5 ≡ db 5 → next 7 ≡ db 7 → KeepsPrinted (db 0) (next 0)
     → Retains db next
-retains_by db next meta audits texts =
-    record {
-      meta = meta;
-      more = [];
-      audits = audits ∙ sym (append-nil (db 7));
-      records = All-nil IsRecord;
-      texts = texts;
-    }
+retains_by db next meta audits texts = grind (arith, nat_tests, append-nil)
 
 -- two changes, each of which keeps `meta` and all records, keep them together
 pub retains_on : (a b c : Trees) → Retains a b → Retains b c → Retains a c
@@ -56,37 +49,22 @@ retains_on a b c p q =
 
 -- a database that is as it was has `meta` and all its records
 pub retains_same : (db next : Database) → next ≡ db → Retains db.trees next.trees
-retains_same db next same =
-    subst (λ (d : Database). Retains db.trees d.trees) (sym same)
-    (retains_by db.trees db.trees refl refl (keeps_itself (db.trees 0)))
+retains_same db next same = grind (arith, nat_tests, keeps_itself, retains_by)
 
 retains_at : (a b c d : Database) → c ≡ a → d ≡ b → Retains a.trees b.trees
     → Retains c.trees d.trees
-retains_at a b c d one two h =
-    subst (λ (x : Database). Retains x.trees d.trees) (sym one)
-    (subst (λ (x : Database). Retains a.trees x.trees) (sym two) h)
+retains_at a b c d one two h = grind (arith, nat_tests)
 
 -- ---- calls
 
 module _ (old new : State) (quiet : CommitsNothing old new) where
   -- a call that leaves the state unchanged leaves all that any call has to
   pub unchanged_stays : IsUnchanged old new → Stays old new
-  unchanged_stays h =
-      record {
-        within = unchanged_within old new quiet h;
-        room = λ _ _ _ room. subst IsRoom (sym h.0.now_is) room;
-        retains =
-            λ _ _ _ _ was. retains_at _ _ _ _ h.0.committed_is h.0.now_is was;
-      }
+  unchanged_stays h = grind (arith, nat_tests, retains_at, unchanged_within)
 
   -- so does one that undoes the transaction, after which what was committed is seen
   pub rolled_back_stays : IsRolledBack old new → Stays old new
-  rolled_back_stays h =
-      record {
-        within = undone_within old new quiet h;
-        room = λ _ open' room _. subst IsRoom (sym (h.undone open').0) room;
-        retains = λ _ open' _ _ _. retains_same _ _ ((h.undone open').0 ∙ sym (h.undone open').1);
-      }
+  rolled_back_stays h = grind (arith, nat_tests, retains_same, undone_within)
 
   -- and so does one that either leaves the state or undoes the transaction
   pub left_stays : IsUnchanged old new ⊎ IsRolledBack old new → Stays old new
@@ -95,17 +73,7 @@ module _ (old new : State) (quiet : CommitsNothing old new) where
 
   -- what is so of the end of a clean disk is so of the call
   pub stays_by : (HasCleanDisk new → Stays old new) → Stays old new
-  stays_by h = record {
-    within = record {
-      clean = quiet.clean;
-      was_open = λ now. (h now).within.was_open now;
-      committed = λ now. (h now).within.committed now;
-      settled = λ now. (h now).within.settled now;
-      crash = as_before old new quiet;
-    };
-    room = λ now. (h now).room now;
-    retains = λ now. (h now).retains now;
-  }
+  stays_by h = grind (arith, nat_tests, as_before)
 
 not_shown : (sql : List ℕ) (c : Compiled) (full : Row) (old new : State) (e : Error)
     (r : Option Returning) → FailsToShow old new sql c full e r → IsUnchanged old new

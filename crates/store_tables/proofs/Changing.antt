@@ -1,10 +1,10 @@
 -- A fault of the later of two calls, and the count of writes after a call.
-use Rattle.std.proofs.Common.{◌≡◌, ◌≤◌, ◌+◌, ℕ, Result, Ok, Err, IfErr, arith}
+use Rattle.std.proofs.Common.{◌≡◌, ◌≤◌, ℕ, Result, Ok, Err, IfErr, arith}
 use Rattle.room_rows.specs.declared.keep.KeepFault.{KeepFault}
-use Rattle.room_rows.specs.Counts.{capped_below, capped_ends, capped_rises}
 use Rattle.room_rows.specs.Keep.{HasCause, capped, writes_after}
 use Rattle.room_rows.proofs.Steps.{later_cause}
 use Rattle.store_tables.specs.Seeing.{Nowhere}
+use Rattle.std.proofs.lemmas.Bool.Decides.{nat_tests}
 
 -- a fault of the later of two calls
 pub cause_later : {X : Type 0} (r : Result X KeepFault) (first mid last : ℕ) (E : ℕ → Type 0)
@@ -17,8 +17,5 @@ cause_later (Err e) first mid last E up on h =
 -- no call takes back what was counted
 pub writes_rise : {X : Type 0} (count : ℕ) (r : Result X KeepFault) (before after : ℕ)
     → capped after ≡ writes_after count r (capped before) → capped before ≤ capped after
-writes_rise count (Ok x) before after is =
-    let ends = capped_below (capped before) (capped_ends before) in
-    let more = capped_rises (capped before) (capped before + count) (omega arith) in
-    omega (arith, is, ends, more)
+writes_rise count (Ok x) before after is = grind (arith, nat_tests)
 writes_rise count (Err fault) before after is = omega (arith, is)

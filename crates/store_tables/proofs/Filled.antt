@@ -38,6 +38,7 @@ use Rattle.store_tables.proofs.Texts.{query_of}
 use Rattle.store_tables.proofs.Updates.{cast_int, cast_null}
 use Rattle.store_tables.proofs.Writes.{same_value, went}
 use Rattle.room_entry.proofs.Facts.Lists.{filter_same}
+use Rattle.std.proofs.lemmas.Bool.Decides.{nat_tests}
 
 pub cast_body : (id : ℤ) (bytes : List ℕ)
     → cast_row bodies_table (stored_body id bytes) ≡ stored_body id bytes
@@ -223,6 +224,4 @@ fill_room id bytes old new inside count h room =
 pub fill_one : (id : ℤ) (bytes : List ℕ) (old new : State) (count : ℕ) → IsRoom old.now
     → Executes fill_text (Int id ∷ Blob bytes ∷ []) old new (Ok count) → count ≡ 1
     → Fills id bytes old.now.trees new.now.trees
-fill_one id bytes old new count room h one =
-    elim (fills id bytes old new count room (filled id bytes old new count room.schema h))
-    [ inl same ↦ absurd (let e : 0 ≡ 1 = sym same.0 ∙ one in omega (arith, e)) | inr put ↦ put ]
+fill_one id bytes old new count room h one = grind (arith, nat_tests, filled, fills)

@@ -1,6 +1,5 @@
 -- What the rows mean once bytes are written anew.
-use Rattle.std.proofs.Common.{◌≡◌, ◌<◌, ℕ, pos, List, [], ◌∷◌, Some, refl, sym, ap, ◌∙◌, not}
-use Rattle.std.specs.Prelude.{if◌then◌else◌, ◌==◌, nat_lt}
+use Rattle.std.proofs.Common.{◌≡◌, ◌<◌, ℕ, pos, List, [], ◌∷◌, Some, refl, sym, ap, ◌∙◌, not, arith}
 use Rattle.std.specs.List.{filter_map}
 use Rattle.sqlite.specs.declared.types.Value.TheVariants.{Blob}
 use Rattle.sqlite.specs.Effect.{Database}
@@ -16,6 +15,7 @@ use Rattle.store_tables.specs.RoomRows.{number_in-low}
 use Rattle.store_tables.specs.Shown.{Fills, IsRoom, stored_body}
 use Rattle.store_tables.proofs.Put.{others, put_again, put_by, put_seen}
 use Rattle.store_tables.proofs.Removed.{read_without, same_rows}
+use Rattle.std.proofs.lemmas.Bool.Decides.{nat_tests}
 
 abbrev pub Bytes : Type 0
 Bytes = ℕ × List ℕ
@@ -26,9 +26,7 @@ number x = x.0
 pub body_put : (id : ℕ) (bytes : List ℕ) (rows : List Bytes)
     → put_body id bytes rows ≡ put_by number (id, bytes) rows
 body_put id bytes [] = refl
-body_put id bytes (row ∷ rows) =
-    ap (λ l. if nat_lt row.0 id then row ∷ l else if row.0 == id then (id, bytes)
-    ∷ rows else (id, bytes) ∷ row ∷ rows) (body_put id bytes rows)
+body_put id bytes (row ∷ rows) = grind (arith, nat_tests, body_put id bytes rows)
 
 pub stored_bytes : (id : ℕ) (bytes : List ℕ) → 0 < id
     → body_in (stored_body (pos id) bytes) ≡ Some (id, bytes)

@@ -1,6 +1,6 @@
 -- What a new row leaves.
-use Rattle.std.proofs.Common.{◌≡◌, ◌&&◌, ℕ, List, [], ◌∷◌, Ok, None, IsTrue, inl, refl, sym, ap}
-use Rattle.std.proofs.Common.{subst, ◌∙◌, true, false, Bool, not, if◌then◌else◌, unwrap_or, arith}
+use Rattle.std.proofs.Common.{◌≡◌, ℕ, List, [], ◌∷◌, Ok, None, IsTrue, inl, refl, sym, ap, subst}
+use Rattle.std.proofs.Common.{◌∙◌, true, false, if◌then◌else◌, unwrap_or, arith}
 use Rattle.sqlite.specs.declared.types.Value.TheVariants.{Null}
 use Rattle.sqlite.specs.Order.{Row}
 use Rattle.sqlite.specs.Cast.{cast_row}
@@ -30,6 +30,7 @@ use Rattle.store_tables.proofs.Printed.{by_cell, keeps_itself, keeps_more, print
 use Rattle.store_tables.proofs.Calls.{retains_by}
 use Rattle.store_tables.proofs.Executed.{WritesRoom}
 use Rattle.store_tables.proofs.Updates.{Columns, values, cast_null, cast_int}
+use Rattle.std.proofs.lemmas.Bool.Decides.{nat_tests}
 
 abbrev insert_edit : Trees → List Row → Edit
 insert_edit db rows = edit_of db nodes_table [] Chosen 0 rows
@@ -42,11 +43,7 @@ cast_new c =
 -- where one row is put in and its number is fresh, no row of the table has that number
 pub fresh_alone : (rows : List Row) (r : Row) → are_fresh rows (r ∷ []) ≡ true
     → is_taken rows r ≡ false
-fresh_alone rows r h = go (is_taken rows r) h
-  where
-    go : (b : Bool) → not b && true ≡ true → b ≡ false
-    go true e = absurd (let x = e in cc)
-    go false e = refl
+fresh_alone rows r h = grind (arith, nat_tests)
 
 pub new_sets_off_nothing : (r : Row) → works room_schema Enforced 0 0 [] (r ∷ []) ≡ []
 unfolding everything

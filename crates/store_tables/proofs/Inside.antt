@@ -1,17 +1,17 @@
 -- What a call inside a `Transaction` leaves.
 use Rattle.std.proofs.Common.{◌≡◌, ℕ, List, Result, Ok, Err, IsTrue, inl, inr, ◌⊎◌, refl, sym}
-use Rattle.std.proofs.Common.{subst, true, false, Bool, IfOk, IfErr, Vec, Global}
+use Rattle.std.proofs.Common.{subst, true, false, Bool, IfOk, IfErr, Vec, Global, arith}
 use Rattle.sqlite.specs.Order.{Row}
-use Rattle.sqlite.specs.Effect.{Database}
 use Rattle.sqlite.specs.declared.error.Error.{Error}
 use Rattle.sqlite.specs.State.{State, HasCleanDisk, Shown, FailsToQuery, IsTooLate, Executes}
 use Rattle.sqlite.specs.State.{ExecutesInside}
-use Rattle.store_tables.specs.Shown.{IsRoom, Retains, Stays}
+use Rattle.store_tables.specs.Shown.{IsRoom, Stays}
 use Rattle.store_tables.proofs.Calls.{failed_query, left_stays, retains_on, stays_by}
 use Rattle.store_tables.proofs.Calls.{unchanged_stays}
 use Rattle.store_tables.proofs.Executed.{WritesRoom}
 use Rattle.store_tables.proofs.Bare.{IsReading, shown_same}
 use Rattle.store_tables.proofs.Within.{CommitsNothing, wrote_within}
+use Rattle.std.proofs.lemmas.Bool.Decides.{nat_tests}
 
 late_or : (sql : List ℕ) (params : Row) (old new : State) (e : Error)
     → CommitsNothing old new
@@ -37,17 +37,11 @@ inside_only : (sql : List ℕ) (params : Row) (old new : State) (r : Result ℕ 
     → CommitsNothing old new
     → ((count : ℕ) → Executes sql params old new (Ok count) → IsRoom old.now → WritesRoom old new)
     → ExecutesInside 0 sql params old new r → Stays old new
-inside_only sql params old new (Ok count) quiet writes h = record {
-  within = wrote_within old new quiet h.1;
-  room = λ _ _ _ room. (writes count h.0 room).1;
-  retains = λ _ _ _ room was.
-      let w = writes count h.0 room in
-      subst (λ (db : Database). Retains db.trees new.now.trees) (sym w.0)
-      (retains_on _ _ _ was w.3);
-}
+inside_only sql params old new (Ok count) quiet writes h =
+    grind (arith, nat_tests, retains_on, wrote_within)
 inside_only sql params old new (Err e) quiet writes (inl ran) = left_stays old new quiet ran.1
 inside_only sql params old new (Err e) quiet writes (inr ends) =
-    unchanged_stays old new quiet ends.2
+    grind (arith, nat_tests, unchanged_stays)
 
 pub write_inside : (sql : List ℕ) (params : Row) (old new : State) (r : Result ℕ Error)
     → CommitsNothing old new
@@ -70,13 +64,4 @@ pub did_inside : (sql : List ℕ) (params : Row) (old new : State) (r : Result �
     → (IsTrue old.in_transaction → ExecutesInside 0 sql params old new r)
     → ((q : Result ℕ Error) → Executes sql params old new q → Rattle.std.proofs.Common.IfOk q P)
     → Rattle.std.proofs.Common.IfOk r P
-did_inside sql params old new r e P ended runs did = go old.in_transaction refl
-  where
-    by : (q : Result ℕ Error) → ExecutesInside 0 sql params old new q
-        → Rattle.std.proofs.Common.IfOk q P
-    by (Ok count) h = did (Ok count) h.0
-    by (Err x) h = tt
-
-    go : (b : Bool) → old.in_transaction ≡ b → Rattle.std.proofs.Common.IfOk r P
-    go true is = by r (runs is)
-    go false is = subst (λ q. Rattle.std.proofs.Common.IfOk q P) (sym (ended is)) tt
+did_inside sql params old new r e P ended runs did = grind (arith, nat_tests)

@@ -1,11 +1,10 @@
 -- What reading the names of children answers, and reading one of them.
-use Rattle.std.proofs.Common.{◌≡◌, ◌<◌, ℕ, zero, suc, pos, negsuc, List, [], ◌∷◌, ◌++◌, map, filter}
+use Rattle.std.proofs.Common.{◌≡◌, ℕ, zero, suc, pos, negsuc, List, [], ◌∷◌, ◌++◌, map, filter}
 use Rattle.std.proofs.Common.{take, length, None, Some, Option, IsTrue, inl, inr, refl, sym, ap}
 use Rattle.std.proofs.Common.{subst, ◌∙◌, true, not, append-nil, append_assoc, arith, is_lt}
 use Rattle.std.proofs.Common.{IsPermutation, false}
 use Rattle.std.specs.Prelude.{◌==◌, is_none, option_and_then, option_map, if◌then◌else◌}
-use Rattle.std.specs.List.{AllByRecursion, filter_map, cons_option}
-use Rattle.std.specs.List.{Contains}
+use Rattle.std.specs.List.{AllByRecursion, filter_map, cons_option, Contains}
 use Rattle.std.specs.Option.{option_map_or}
 use Rattle.std.proofs.lemmas.Bool.{and_parts, eq-eqb}
 use Rattle.std.proofs.lemmas.List.Sorted.{IsPermutation-sym}
@@ -27,8 +26,8 @@ use Rattle.room_rows.specs.Keep.{AreNamedUnder, HasChildren, IsMixed, IsUnreadab
 use Rattle.room_rows.specs.Rows.{Rows, Unread}
 use Rattle.room_rows.proofs.Mixed.{mixed_other}
 use Rattle.store_tables.specs.Filed.{node_parts}
-use Rattle.store_tables.specs.Meaning.{named_in, node_in, number_in, rows_of, text_in}
-use Rattle.store_tables.specs.Meaning.{unread_in, unread_of, unread_with, whole_in}
+use Rattle.store_tables.specs.Meaning.{named_in, node_in, number_in, rows_of, text_in, unread_in}
+use Rattle.store_tables.specs.Meaning.{unread_of, unread_with, whole_in}
 use Rattle.store_tables.specs.RoomRows.{number_in-low}
 use Rattle.store_tables.specs.Seeing.{result_of_seen, seen_as, seen_behind, seen_then}
 use Rattle.store_tables.specs.Shown.{IsRoom, is_child, is_numbered, shown_node}
@@ -39,9 +38,10 @@ use Rattle.store_tables.proofs.Nodes.{Tells}
 use Rattle.store_tables.proofs.Rowids.{alone_in, each_of, of_each}
 use Rattle.store_tables.proofs.Tops.{children_read, kept_from}
 use Rattle.store_tables.proofs.Under.{IsSeen, by_name, sorted_from, sorted_read, sorted_within}
-use Rattle.store_tables.proofs.Typed.{parent_whole}
 use Rattle.store_tables.proofs.Under.{tells_by}
+use Rattle.store_tables.proofs.Typed.{parent_whole}
 use Rattle.room_rows.proofs.Lookups.{put_is_some}
+use Rattle.std.proofs.lemmas.Bool.Decides.{nat_tests}
 
 abbrev Named : Type 0
 Named = List ℕ × ObjKind
@@ -60,11 +60,9 @@ name_of n = (n.name, n.kind)
 -- an integer that isn't below 1 is a number
 number_kept : (v : Value) → IsTrue (is_int v) → not (is_lt (value_cmp v (Int (pos 1)))) ≡ true
     → (id : ℕ) × (number_in v ≡ Some id)
-number_kept (Int (pos zero)) int high =
-    absurd (let e = sym (ap (λ o. not (is_lt o)) (value_cmp-Int (pos 0) (pos 1))) ∙ high in cc)
+number_kept (Int (pos zero)) int high = grind (arith, nat_tests, value_cmp-Int)
 number_kept (Int (pos (suc n))) int high = (suc n, number_in-low (suc n) (omega arith))
-number_kept (Int (negsuc n)) int high =
-    absurd (let e = sym (ap (λ o. not (is_lt o)) (value_cmp-Int (negsuc n) (pos 1))) ∙ high in cc)
+number_kept (Int (negsuc n)) int high = grind (arith, nat_tests, value_cmp-Int)
 number_kept Null int high = absurd (let e = int in cc)
 number_kept (Real x) int high = absurd (let e = int in cc)
 number_kept (Text t) int high = absurd (let e = int in cc)
@@ -146,13 +144,7 @@ module _ (db : Database) (room : IsRoom db) (parent : ℕ) where
 
   pub tells_some : (rows : List Row) → HasSome (pos parent) db.trees rows
       → HasChildren parent (rows_of db) (not (length rows == 0))
-  tells_some rows shown = (
-    λ says. children_read db parent
-        ∙ no_child kept shown.0 shown.1 (sym (ap (λ l. not (length l == 0)) shown.2) ∙ says),
-    λ none. ap (λ l. not (length l == 0)) shown.2
-        ∙ ap not (some_child kept shown.0 refl (under_seen db room parent none) shown.1)
-        ∙ sym (ap (λ l. not (is_empty l)) (children_read db parent)),
-  )
+  tells_some rows shown = grind (arith, nat_tests, children_read, no_child, some_child, under_seen)
 
   -- ---- names and kinds
 

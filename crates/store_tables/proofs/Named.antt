@@ -3,14 +3,13 @@ use Rattle.std.proofs.Common.{◌≡◌, ◌<◌, ℕ, ℤ, pos, List, [], ◌�
 use Rattle.std.proofs.Common.{Option, Result, refl, sym, ap, subst, ◌∙◌, true, false, Bool, cond}
 use Rattle.std.proofs.Common.{not, ◌&&◌, arith}
 use Rattle.std.specs.Prelude.{option_and_then, option_map, is_none, is_some, if◌then◌else◌, ◌==◌}
-use Rattle.std.specs.Prelude.{nat_lt}
 use Rattle.std.specs.List.{filter_map, cons_option}
 use Rattle.std.specs.List.Sorted.{IsPermutation}
 use Rattle.std.specs.Option.{option_map_or}
 use Rattle.std.specs.Ordering.{is_eq, is_lt}
 use Rattle.std.proofs.lemmas.List.Sorted.{IsPermutation-sym}
 use Rattle.std.proofs.lemmas.Map.Text.{is_eq-slice_cmp}
-use Rattle.std.proofs.lemmas.Bool.{cond-true, cond-false, le-ltb}
+use Rattle.std.proofs.lemmas.Bool.{cond-true, cond-false}
 use Rattle.sqlite.specs.declared.types.Value.{Value}
 use Rattle.sqlite.specs.declared.types.Value.TheVariants.{Null, Int, Real, Text, Blob}
 use Rattle.sqlite.specs.Order.{Row, column, value_cmp}
@@ -19,7 +18,6 @@ use Rattle.sqlite.specs.Effect.{Database}
 use Rattle.sqlite.proofs.Callers.{one_permutation}
 use Rattle.sqlite_rules.specs.Lists.{Has}
 use Rattle.sqlite_value.proofs.OrderLemmas.{value_cmp-Null, value_cmp-Text, value_cmp-Int}
-use Rattle.room_entry.specs.Utf8.{is_utf8}
 use Rattle.room_entry.specs.Pieces.{same_text}
 use Rattle.room_rows.specs.declared.node.Node.{Node}
 use Rattle.room_rows.specs.Content.{has_parent}
@@ -36,6 +34,7 @@ use Rattle.std.specs.declared.cmp.Ordering.TheVariants.{Less, Equal, Greater}
 use Rattle.std.proofs.Math.Bool.{and-true}
 use Rattle.store_tables.proofs.Nodes.{Tells}
 use Rattle.store_tables.proofs.Rowids.{alone_in, has_found, only_one}
+use Rattle.std.proofs.lemmas.Bool.Decides.{nat_tests}
 
 pub no_map : {A B : Type 0} (f : A → B) (xs : List A) → map f xs ≡ [] → xs ≡ []
 no_map f [] h = refl
@@ -67,28 +66,13 @@ module _ {X : Type 0} (f : Row → Option X) (q : X → Bool) (p : Row → Bool)
 
   pub none_read : (rows : List Row) → filter p rows ≡ [] → find q (filter_map f rows) ≡ None
   none_read [] none = refl
-  none_read (r ∷ rows) none = by (p r) refl none (none_read rows)
-    where
-      by : (b : Bool) → p r ≡ b → cond b (r ∷ filter p rows) (filter p rows) ≡ []
-          → (filter p rows ≡ [] → find q (filter_map f rows) ≡ None)
-          → find q (filter_map f (r ∷ rows)) ≡ None
-      by true is e more = absurd (let z = e in cc)
-      by false is e more = none_step r (filter_map f rows) (f r) refl is (more e)
+  none_read (r ∷ rows) none = grind (arith, nat_tests, none_step, none_read rows)
 
   pub first_read : (rows : List Row) (r : Row) (later : List Row) (x : X)
       → filter p rows ≡ r ∷ later → f r ≡ Some x → find q (filter_map f rows) ≡ Some x
   first_read [] r later x one is = absurd (let z = one in cc)
-  first_read (y ∷ rows) r later x one is = by (p y) refl one (first_read rows r later x)
-    where
-      by : (b : Bool) → p y ≡ b → cond b (y ∷ filter p rows) (filter p rows) ≡ r ∷ later
-          → (filter p rows ≡ r ∷ later → f r ≡ Some x → find q (filter_map f rows) ≡ Some x)
-          → find q (filter_map f (y ∷ rows)) ≡ Some x
-      by true passes e more =
-          let it : y ≡ r = cc in
-          let here : f y ≡ Some x = ap f it ∙ is in
-          ap (λ o. find q (cons_option o (filter_map f rows))) here
-          ∙ find_yes q x (filter_map f rows) (same y x here ∙ passes)
-      by false fails e more = skip_step y (filter_map f rows) x (f y) refl fails (more e is)
+  first_read (y ∷ rows) r later x one is =
+      grind (arith, nat_tests, find_yes, skip_step, first_read rows r later x)
 
   read_step : (r : Row) (o : Option X) (b : Bool) (kept rest : List X) → f r ≡ o → p r ≡ b
       → filter q rest ≡ kept → filter q (cons_option o rest) ≡ filter_map_step o b kept
@@ -101,13 +85,7 @@ module _ {X : Type 0} (f : Row → Option X) (q : X → Bool) (p : Row → Bool)
   -- to be read and to pass can change places
   pub filter_read : (rows : List Row) → filter q (filter_map f rows) ≡ filter_map f (filter p rows)
   filter_read [] = refl
-  filter_read (r ∷ rows) =
-      read_step r (f r) (p r) _ (filter_map f rows) refl refl (filter_read rows) ∙ by (p r)
-    where
-      by : (b : Bool) → filter_map_step (f r) b (filter_map f (filter p rows))
-          ≡ filter_map f (cond b (r ∷ filter p rows) (filter p rows))
-      by true = refl
-      by false = refl
+  filter_read (r ∷ rows) = grind (arith, nat_tests, read_step, filter_read rows)
 
 -- ---- the test of SQL is that of the objects
 
@@ -117,9 +95,7 @@ at_least_by false true e = refl
 at_least_by false false e = refl
 
 pub at_least_one : (k : ℕ) → 0 < k → not (is_lt (value_cmp (Int (pos k)) (Int (pos 1)))) ≡ true
-at_least_one k low =
-    ap (λ o. not (is_lt o)) (value_cmp-Int (pos k) (pos 1))
-    ∙ at_least_by (nat_lt k 1) (nat_lt 1 k) (le-ltb k 1 (omega (arith, low)))
+at_least_one k low = grind (arith, nat_tests, at_least_by, value_cmp-Int)
 
 pub mapped : (o : Option ℕ) (p : Option ℕ) → option_map Some o ≡ Some p → (id : ℕ) × (o ≡ Some id)
     × (p ≡ Some id)
@@ -135,9 +111,7 @@ number_agrees parent z p (id, number, is) =
 
 pub parent_agrees : (parent : ℕ) (v : Value) (p : Option ℕ) → parent_in v ≡ Some p
     → option_map_or (λ id. id == parent) p false ≡ is_eq (value_cmp v (Int (pos parent)))
-parent_agrees parent Null p is =
-    ap (λ o. option_map_or (λ id. id == parent) o false) (let same : p ≡ None = cc in same)
-    ∙ sym (ap is_eq (value_cmp-Null (Int (pos parent))))
+parent_agrees parent Null p is = grind (arith, nat_tests, value_cmp-Null)
 parent_agrees parent (Int z) p is = number_agrees parent z p (mapped (number_in (Int z)) p is)
 parent_agrees parent (Real x) p is = absurd (let e = is in cc)
 parent_agrees parent (Text t) p is = absurd (let e = is in cc)
@@ -149,9 +123,7 @@ utf8_is s t false is = absurd (let e = is in cc)
 
 text_agrees : (name : List ℕ) (v : Value) (t : List ℕ) → text_in v ≡ Some t
     → same_text t name ≡ is_eq (value_cmp v (Text name))
-text_agrees name (Text s) t is =
-    sym (ap is_eq (value_cmp-Text s name) ∙ is_eq-slice_cmp s name
-    ∙ ap (λ x. same_text x name) (utf8_is s t (is_utf8 s) is))
+text_agrees name (Text s) t is = grind (arith, nat_tests, is_eq-slice_cmp, utf8_is, value_cmp-Text)
 text_agrees name Null t is = absurd (let e = is in cc)
 text_agrees name (Int z) t is = absurd (let e = is in cc)
 text_agrees name (Real x) t is = absurd (let e = is in cc)

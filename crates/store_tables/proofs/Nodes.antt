@@ -1,7 +1,7 @@
 -- What reading a row by its number answers.
 use Rattle.std.proofs.Common.{◌≡◌, ◌<◌, ℕ, pos, List, [], ◌∷◌, map, filter, find, None, Some}
 use Rattle.std.proofs.Common.{Option, Result, Ok, Err, inl, inr, ◌⊎◌, refl, sym, ap, subst, ◌∙◌}
-use Rattle.std.proofs.Common.{true, false, Bool, cond}
+use Rattle.std.proofs.Common.{Bool, arith}
 use Rattle.std.specs.Prelude.{option_and_then, option_map, is_none, is_some, if◌then◌else◌, IfOk}
 use Rattle.std.specs.Prelude.{IfErr}
 use Rattle.std.specs.List.Sorted.{IsPermutation}
@@ -22,6 +22,7 @@ use Rattle.store_tables.specs.RoomRows.{number_in-low}
 use Rattle.store_tables.specs.Seeing.{result_of_seen, seen_only, seen_as, counted_by}
 use Rattle.store_tables.proofs.Rowids.{alone_in, at_most_one, only_one, has_found, rowid_is}
 use Rattle.store_tables.proofs.Rowids.{of_each}
+use Rattle.std.proofs.lemmas.Bool.Decides.{nat_tests}
 
 -- an answer, or a row that is blamed
 abbrev pub Tells : {X : Type 0} → (Rows → ℕ → Type 0) → (Rows → X → Type 0) → Rows
@@ -77,12 +78,7 @@ reads rows failures writes Follows Trusted Blames Answers old new r mid follows 
 
 pub none_passes : {A : Type 0} (p : A → Bool) (xs : List A) → filter p xs ≡ [] → find p xs ≡ None
 none_passes p [] none = refl
-none_passes p (x ∷ xs) none = by (p x) none (none_passes p xs)
-  where
-    by : (b : Bool) → cond b (x ∷ filter p xs) (filter p xs) ≡ []
-        → (filter p xs ≡ [] → find p xs ≡ None) → cond b (Some x) (find p xs) ≡ None
-    by true e more = absurd (let z = e in cc)
-    by false e more = more e
+none_passes p (x ∷ xs) none = grind (arith, nat_tests, none_passes p xs)
 
 module _ (db : Database) (room : IsRoom db) (id : ℕ) (low : 0 < id) where
   nothing : find (has_rowid (pos id)) (db.trees 0) ≡ None → IsNodeAt id (rows_of db) None

@@ -7,7 +7,7 @@ use Rattle.std.proofs.lemmas.Int.{ints}
 use Rattle.std.proofs.lemmas.List.Elements.{All-cons, All-nil}
 use Rattle.std.specs.Bool.{MatchBool}
 use Rattle.std.specs.List.{AllByRecursion}
-use Rattle.std.specs.Ordering.{int_cmp, is_lt, match_ordering}
+use Rattle.std.specs.Ordering.{int_cmp, is_lt}
 use Rattle.sqlite.specs.declared.types.Value.TheVariants.{Null, Int}
 use Rattle.sqlite.specs.Cast.{cast_row}
 use Rattle.sqlite.specs.Command.TheVariants.{Insert}
@@ -81,12 +81,8 @@ each_before : (last top : ℤ) (rows : List Row) → HaveNumbers rows
     → AllByRecursion (λ r. id_in (rowid r) <ℤ top) rows
     → AllByRecursion (λ r. value_cmp (rowid r) (Int (at_least (Above last) top)) ≡ Less) rows
 each_before last top [] keyed low = tt
-each_before last top (r ∷ rows) keyed low = (
-  ap (λ v. value_cmp v (Int (at_least (Above last) top))) (int_is (rowid r) keyed.0)
-      ∙ below (id_in (rowid r)) (at_least (Above last) top)
-      (still_below last (id_in (rowid r)) top low.0),
-  each_before last top rows keyed.1 low.1,
-)
+each_before last top (r ∷ rows) keyed low =
+    grind (arith, nat_tests, below, int_is, still_below, each_before last top rows keyed.1 low.1)
 
 all_before : (last : ℤ) (rows : List Row) → IsTable rows → HaveNumbers rows
     → AllByRecursion (λ r. value_cmp (rowid r) (Int (at_least (Above last) (next_rowid rows)))
@@ -99,9 +95,7 @@ put_last : (new : Row) (rows : List Row)
     → AllByRecursion (λ r. value_cmp (rowid r) (rowid new) ≡ Less) rows
     → put_row new rows ≡ rows ++ new ∷ []
 put_last new [] all = refl
-put_last new (r ∷ rows) all =
-    ap (λ o. match_ordering o (r ∷ put_row new rows) (new ∷ rows) (new ∷ r ∷ rows)) all.0
-    ∙ ap (λ l. r ∷ l) (put_last new rows all.1)
+put_last new (r ∷ rows) all = grind (arith, nat_tests, put_last new rows all.1)
 
 -- ---- the two edits
 
@@ -116,14 +110,7 @@ note_edit db last rows = edit_of db audits_table [] (Above last) 0 rows
 
 cast_record : (r : Record)
     → cast_row audits_table (Null ∷ Null ∷ record_values r) ≡ Null ∷ Null ∷ record_values r
-cast_record r =
-    rw (
-      cast_null,
-      cast_int r.at,
-      cast_int (pos r.bits),
-      cast_int (if r.granted then pos 1 else pos 0),
-      cast_int r.entry,
-    ) refl
+cast_record r = grind (arith, nat_tests, cast_int, cast_null)
 
 -- nothing refers to records, nor to their count
 record_off : (r : Row) → works room_schema Enforced 0 7 [] (r ∷ []) ≡ []
@@ -273,18 +260,7 @@ noted r old new count has h =
 pub notes : (r : Record) (old new : State) (count : ℕ) → IsRoom old.now
     → Executes note_text (record_values r) old new (Ok count)
     → AddsRecordRow (record_values r) old.now.trees new.now.trees
-notes r old new count room h =
-    let d = noted r old new count room.schema h in
-    record {
-      seq = d.seq;
-      nodes = d.nodes;
-      bodies = d.bodies;
-      members = d.members;
-      meta = d.meta;
-      audits =
-          d.audits ∙ put_last (stored_record d.seq (record_values r)) (old.now.trees 7)
-          (d.last room);
-    }
+notes r old new count room h = grind (arith, nat_tests, noted, put_last)
 
 pub note_room : (r : Record) → StoresRecord r → (old new : State) → IsTrue old.in_transaction
     → (count : ℕ) → Executes note_text (record_values r) old new (Ok count) → IsRoom old.now

@@ -1,8 +1,7 @@
 -- What the rows mean once a record is put in.
-use Rattle.std.proofs.Common.{◌≡◌, ℕ, ℤ, pos, List, [], ◌∷◌, ◌++◌, Some, refl, ap, ◌∙◌, Bool, true}
-use Rattle.std.proofs.Common.{false}
+use Rattle.std.proofs.Common.{◌≡◌, ℕ, ℤ, pos, List, [], ◌∷◌, Some, refl, ap, Bool, true, false}
+use Rattle.std.proofs.Common.{arith}
 use Rattle.std.specs.Prelude.{option_map, if◌then◌else◌}
-use Rattle.std.specs.List.{cons_option, filter_map}
 use Rattle.std.proofs.lemmas.List.Elements.{filter_map-append}
 use Rattle.sqlite.specs.declared.types.Value.TheVariants.{Int, Text}
 use Rattle.sqlite.specs.Effect.{Database}
@@ -10,11 +9,11 @@ use Rattle.room_entry.specs.Names.{is_name}
 use Rattle.room_rows.specs.declared.node.AuditRow.{AuditRow}
 use Rattle.store_tables.specs.declared.columns.Record.{Record}
 use Rattle.store_tables.specs.Columns.{Recalls, record_values}
-use Rattle.store_tables.specs.Meaning.{audit_in, bodies_of, granted_in, name_in, nodes_of, pairs_of}
-use Rattle.store_tables.specs.Meaning.{unread_of, user_in}
+use Rattle.store_tables.specs.Meaning.{audit_in, granted_in, name_in, user_in}
 use Rattle.store_tables.specs.Shown.{AddsRecordRow, stored_record}
 use Rattle.store_tables.specs.Trust.{HasNoted}
 use Rattle.store_tables.proofs.Removed.{same_rows}
+use Rattle.std.proofs.lemmas.Bool.Decides.{nat_tests}
 
 -- ---- a record that is stored is read back
 
@@ -35,9 +34,4 @@ recalled seq a r s =
 
 pub noted_rows : (db now : Database) (a : AuditRow) (r : Record) → Recalls a r
     → AddsRecordRow (record_values r) db.trees now.trees → HasNoted a db now
-noted_rows db now a r recalls put =
-    let row = stored_record put.seq (record_values r) in
-    same_rows (ap nodes_of put.nodes) (ap unread_of put.nodes) (ap bodies_of put.bodies)
-    (ap pairs_of put.members)
-    (ap (filter_map audit_in) put.audits ∙ filter_map-append audit_in (db.trees 7) (row ∷ [])
-    ∙ ap (λ o. filter_map audit_in (db.trees 7) ++ cons_option o []) (recalled put.seq a r recalls))
+noted_rows db now a r recalls put = grind (arith, nat_tests, filter_map-append, recalled, same_rows)

@@ -1,6 +1,6 @@
 -- All numbers in use are those of the rows, in their order.
 use Rattle.std.proofs.Common.{◌≡◌, ◌<◌, ℕ, pos, List, [], ◌∷◌, map, filter, None, Some, Option}
-use Rattle.std.proofs.Common.{refl, sym, ap, ◌∙◌, true, false, Bool, cond, not, arith, Less, is_lt}
+use Rattle.std.proofs.Common.{refl, sym, ap, ◌∙◌, true, false, Bool, cond, arith, Less}
 use Rattle.std.specs.Prelude.{is_none, option_map, if◌then◌else◌}
 use Rattle.std.specs.List.{AllByRecursion, filter_map, cons_option}
 use Rattle.std.proofs.lemmas.Bool.{cond-true, cond-false, lt-ltb, le-ltb}
@@ -20,6 +20,7 @@ use Rattle.store_tables.specs.Seeing.{numbers_seen}
 use Rattle.store_tables.specs.Shown.{IsRoom, is_numbered, shown_node}
 use Rattle.store_tables.specs.Statements.{HasNumbers, shown_number}
 use Rattle.store_tables.proofs.Named.{at_least_one}
+use Rattle.std.proofs.lemmas.Bool.Decides.{nat_tests}
 
 abbrev number_of_row : Row → Option ℕ
 number_of_row r = number_in (rowid r)
@@ -97,31 +98,21 @@ merged : (rows : List Row) → IsTable rows
     → put_numbers (unread_ids (unread_of rows)) (map (λ (n : Node). n.id) (nodes_of rows))
     ≡ filter_map number_of_row rows
 merged [] table = refl
-merged (r ∷ rows) table =
-    merge_step r rows (node_in (shown_node r)) (number_of_row r) refl refl table.0
-    (merged rows table.1)
+merged (r ∷ rows) table = grind (arith, nat_tests, merge_step, merged rows table.1)
 
 -- ---- what is shown
 
 kept_step : (r : Row) (rest : List ℕ) (o : Option ℕ) (b : Bool) → number_of_row r ≡ o
     → is_numbered r ≡ b → (kept : List Row) → numbers_seen (map shown_number kept) ≡ rest
     → numbers_seen (map shown_number (cond b (r ∷ kept) kept)) ≡ cons_option o rest
-kept_step r rest o true is has kept more =
-    ap (cons_option (number_of_row r)) more ∙ ap (λ x. cons_option x rest) is
+kept_step r rest o true is has kept more = grind (arith, nat_tests)
 kept_step r rest None false is has kept more = more
-kept_step r rest (Some k) false is has kept more =
-    let number = number_is (rowid r) k is in
-    absurd
-    (let e =
-    sym has ∙ (ap (λ v. not (is_lt (value_cmp v (Int (pos 1))))) number.0
-    ∙ at_least_one k number.1) in cc)
+kept_step r rest (Some k) false is has kept more = grind (arith, nat_tests, at_least_one)
 
 shown_are : (rows : List Row)
     → numbers_seen (map shown_number (filter is_numbered rows)) ≡ filter_map number_of_row rows
 shown_are [] = refl
-shown_are (r ∷ rows) =
-    kept_step r (filter_map number_of_row rows) (number_of_row r) (is_numbered r) refl refl
-    (filter is_numbered rows) (shown_are rows)
+shown_are (r ∷ rows) = grind (arith, nat_tests, kept_step, shown_are rows)
 
 pub tells_numbers : (db : Database) → IsRoom db → (rows : List Row) → HasNumbers db.trees rows
     → AreNumbers (rows_of db) (numbers_seen rows)

@@ -1,6 +1,6 @@
 -- The rows of a query over one table, in the order of one column or cut off after the first.
 use Rattle.std.proofs.Common.{◌≡◌, ℕ, List, [], ◌∷◌, map, filter, false, refl, ap, subst, ◌∙◌}
-use Rattle.std.proofs.Common.{Ordering, Less, is_gt, is_eq, IsPermutation}
+use Rattle.std.proofs.Common.{Ordering, Less, is_gt, is_eq, IsPermutation, arith}
 use Rattle.std.specs.List.{AllByRecursion}
 use Rattle.std.proofs.lemmas.Bool.{cond-false}
 use Rattle.std.proofs.lemmas.List.Sorted.{IsPermutation-map}
@@ -19,6 +19,7 @@ use Rattle.sqlite_value.proofs.OrderLemmas.{then-Equal}
 use Rattle.store_tables.specs.Statements.{by_column}
 use Rattle.store_tables.proofs.Answers.{each_way, passes, shows, way}
 use Rattle.store_tables.proofs.Texts.{ascending_by, query_of}
+use Rattle.std.proofs.lemmas.Bool.Decides.{nat_tests}
 
 first_stays : {X : Type 0} (cmp : X → X → Ordering) (x : X) (xs : List X)
     → AllByRecursion (λ y. cmp x y ≡ Less) xs → insert_sorted cmp x xs ≡ x ∷ xs
@@ -109,8 +110,4 @@ module _ (tree place : ℕ) (tests terms : List Term) (limit : Term) (db : Trees
   -- the same, where the table has them in that order already
   pub as_stored : IsAscending (λ r s. by_column place r s ≡ Less) passing
       → rows ≡ page question params (map (shows terms params) passing)
-  as_stored up =
-      in_order (ascending_weaker (λ r s. by_column place r s ≡ Less)
-      (λ r s. is_eq (by_column place r s) ≡ false) (λ r s less. ap is_eq less) passing up)
-      ∙ ap (λ l. page question params (map (shows terms params) l))
-      (already_sorted (by_column place) passing up)
+  as_stored up = grind (arith, nat_tests, already_sorted, ascending_weaker, in_order, shows)

@@ -1,7 +1,7 @@
 -- What a change of `nodes` leaves of the list columns: what they held, or printed entries.
 use Rattle.std.proofs.Common.{◌≡◌, ℕ, ℤ, ◌+◌, List, [], ◌∷◌, codes, drop, find, Bool, true, false}
 use Rattle.std.proofs.Common.{not, map, Some, inl, inr, ◌⊎◌, refl, sym, ap, subst, ◌∙◌}
-use Rattle.std.proofs.Common.{if◌then◌else◌}
+use Rattle.std.proofs.Common.{if◌then◌else◌, arith}
 use Rattle.std.specs.Prelude.{◌==◌}
 use Rattle.std.proofs.lemmas.Bool.{and_parts, cases_Bool, cond-false, cond-true}
 use Rattle.std.proofs.lemmas.Grind.{get_or_after_one}
@@ -34,6 +34,7 @@ use Rattle.store_tables.specs.Tables.{column_of, nodes}
 use Rattle.store_tables.proofs.Rowids.{of_each, rowid_is}
 use Rattle.store_tables.proofs.Typed.{row_typed}
 use Rattle.store_tables.specs.NodeCells as cell
+use Rattle.std.proofs.lemmas.Bool.Decides.{nat_tests}
 
 -- ---- calls one after the other
 
@@ -87,10 +88,7 @@ typed_alone false v e h = h
 head_typed : (index : ℕ) (name : List ℕ) (cs : List Column) (vs : Row) → (0 == index) ≡ false
     → are_typed (Some 0) index (column_of name kind.Text true ∷ cs) vs ≡ true → IsText (column vs 0)
 head_typed index name cs [] other h = refl
-head_typed index name cs (v ∷ vs) other h =
-    text_of v (typed_alone (0 == index) v other
-    (and_parts (if 0 == index then is_null v else is_of kind.Text v)
-    (are_typed (Some 0) (index + 1) cs vs) h).0)
+head_typed index name cs (v ∷ vs) other h = grind (arith, nat_tests, text_of, typed_alone)
 
 pub record HasTexts (r : Row) : Type 0 where
   pub dacl_own : IsText (column r cell.dacl_own)
@@ -190,31 +188,21 @@ printed_text text printed = (text, refl, printed)
 
 pub inheriting_printed : (which : Which) (text : List ℕ) → IsCanonical text
     → WritesPrinted (sets_inh which text)
-inheriting_printed Dacl text printed id r texts =
-    by_cell _ (inr (sym texts.dacl_own)) (inl (printed_text text printed))
-    (inr (sym texts.sacl_own)) (inr (sym texts.sacl_inh))
-inheriting_printed Sacl text printed id r texts =
-    by_cell _ (inr (sym texts.dacl_own)) (inr (sym texts.dacl_inh))
-    (inr (sym texts.sacl_own)) (inl (printed_text text printed))
+inheriting_printed Dacl text printed id r texts = grind (arith, nat_tests, by_cell, printed_text)
+inheriting_printed Sacl text printed id r texts = grind (arith, nat_tests, by_cell, printed_text)
 
 pub holding_printed : (which : Which) (flags : ℤ) (own inh : List ℕ) → IsCanonical own
     → IsCanonical inh → WritesPrinted (sets_held which flags own inh)
 holding_printed Dacl flags own inh first second id r texts =
-    by_cell _ (inl (printed_text own first)) (inl (printed_text inh second))
-    (inr (sym texts.sacl_own)) (inr (sym texts.sacl_inh))
+    grind (arith, nat_tests, by_cell, printed_text)
 holding_printed Sacl flags own inh first second id r texts =
-    by_cell _ (inr (sym texts.dacl_own)) (inr (sym texts.dacl_inh))
-    (inl (printed_text own first)) (inl (printed_text inh second))
+    grind (arith, nat_tests, by_cell, printed_text)
 
 pub owning_printed : (owner group : List ℕ) → WritesPrinted (sets_owners owner group)
-owning_printed owner group id r texts =
-    by_cell _ (inr (sym texts.dacl_own)) (inr (sym texts.dacl_inh)) (inr (sym texts.sacl_own))
-    (inr (sym texts.sacl_inh))
+owning_printed owner group id r texts = grind (arith, nat_tests, by_cell)
 
 pub lying_printed : (parent : ℤ) (name : List ℕ) → WritesPrinted (sets_place parent name)
-lying_printed parent name id r texts =
-    by_cell _ (inr (sym texts.dacl_own)) (inr (sym texts.dacl_inh)) (inr (sym texts.sacl_own))
-    (inr (sym texts.sacl_inh))
+lying_printed parent name id r texts = grind (arith, nat_tests, by_cell)
 
 -- ---- the rows of a table
 

@@ -15,6 +15,7 @@ use Rattle.sqlite_value.proofs.OrderLemmas.{value_cmp_total}
 use Rattle.room_rows.proofs.Lookups.{each-weaker}
 use Rattle.room_rows.specs.Content.{is_rising}
 use Rattle.store_tables.specs.Keyed.{below}
+use Rattle.std.proofs.lemmas.Bool.Decides.{nat_tests}
 
 abbrev pub IsOther : ℕ → Row → Type 0
 IsOther id r = has_rowid (pos id) r ≡ false
@@ -51,9 +52,7 @@ module _ {X : Type 0} (f : Row → Option X) (new : Row) (id : ℕ)
   pub unseen : (rows : List Row) → f new ≡ None → AllByRecursion (IsOther id) rows
       → filter_map f (put_row new rows) ≡ filter_map f rows
   unseen [] nothing all = ap (λ o. cons_option o []) nothing
-  unseen (r ∷ rows) nothing all =
-      unseen_step r rows (value_cmp (rowid r) (rowid new)) refl nothing all.0
-      (unseen rows nothing all.1)
+  unseen (r ∷ rows) nothing all = grind (arith, nat_tests, unseen_step, unseen rows nothing all.1)
 
 -- ---- a list of things in the order of their numbers
 
@@ -67,11 +66,7 @@ module _ {X : Type 0} (key : X → ℕ) where
   put_first : (n : X) (items : List X) (k : ℕ) → (key n) ≤ k → is_rising (k ∷ map key items) ≡ true
       → put_by key n items ≡ n ∷ items
   put_first n [] k low rises = refl
-  put_first n (other ∷ others) k low rises =
-      let up : k < (key other) = ltb-true k (key other)
-      (and_parts (nat_lt k (key other)) (is_rising ((key other) ∷ map key others)) rises).0 in
-      cond-false _ _ _ (le-ltb (key other) (key n) (omega (arith, up, low)))
-      ∙ cond-false _ _ _ (ne_eqb (key other) (key n) (λ e. absurd (omega (arith, up, low, e))))
+  put_first n (other ∷ others) k low rises = grind (arith, nat_tests, others)
 
   none_gone : (n : X) (items : List X) (k : ℕ) → (key n) ≤ k → is_rising (k ∷ map key items) ≡ true
       → filter (λ (m : X). not ((key m) == (key n))) items ≡ items
@@ -135,15 +130,7 @@ module _ {X : Type 0} (f : Row → Option X) (key : X → ℕ)
         → AllByRecursion (λ (r : Row). (m : X) → f r ≡ Some m → (key n) < (key m)) rows
         → put_by key n (filter_map f rows) ≡ n ∷ filter_map f rows
     before_all [] all = refl
-    before_all (r ∷ rows) all = by (f r) refl (before_all rows all.1)
-      where
-        by : (o : Option X) → f r ≡ o → put_by key n (filter_map f rows) ≡ n ∷ filter_map f rows
-            → put_by key n (cons_option o (filter_map f rows)) ≡ n
-            ∷ cons_option o (filter_map f rows)
-        by None is more = more
-        by (Some m) is more = let up = all.0 m is in
-            cond-false _ _ _ (le-ltb (key m) (key n) (omega (arith, up)))
-            ∙ cond-false _ _ _ (ne_eqb (key m) (key n) (λ e. absurd (omega (arith, up, e))))
+    before_all (r ∷ rows) all = grind (arith, nat_tests, before_all rows all.1)
 
     later : (x : Row) (m : X) → value_cmp (rowid new) (rowid x) ≡ Less → f x ≡ Some m
         → (key n) < (key m)

@@ -1,6 +1,6 @@
 -- Parts of a call that write, one after the other.
-use Rattle.std.proofs.Common.{◌≡◌, ◌++◌, ◌+◌, ℕ, suc, zero, List, [], ◌∷◌, Result, Ok, Err}
-use Rattle.std.proofs.Common.{refl, sym, ap, subst, ◌∙◌, arith}
+use Rattle.std.proofs.Common.{◌≡◌, ◌++◌, ◌+◌, ℕ, suc, zero, List, [], ◌∷◌, Result, Ok, Err, refl}
+use Rattle.std.proofs.Common.{◌∙◌, arith}
 use Rattle.std.specs.List.{range_with_len}
 use Rattle.std.specs.List.Sorted.{IsPermutation}
 use Rattle.sqlite.specs.State.{State}
@@ -15,6 +15,7 @@ use Rattle.store_tables.specs.Trust.{Alters, AltersAll, Puts, stays_itself, stay
 use Rattle.store_tables.specs.Trust.{trusted_last}
 use Rattle.store_tables.proofs.Changing.{cause_later}
 use Rattle.store_tables.proofs.Tests.{if_ok}
+use Rattle.std.proofs.lemmas.Bool.Decides.{nat_tests}
 
 -- objects that are changed
 abbrev pub PutsAll : State → State → ℕ → ℕ → Result (Unit {0}) KeepFault → List ℕ → (Node → Node)
@@ -93,23 +94,10 @@ puts_any_order change ids others old new before after r same put =
 pub puts_failed : (change : Node → Node) (ids others : List ℕ) (old new : State)
     (before after : ℕ) (r : Result (Unit {0}) KeepFault) (e : KeepFault) → r ≡ Err e
     → PutsAll old new before after (Err e) others change → PutsAll old new before after r ids change
-puts_failed change ids others old new before after r e is put =
-    subst (λ q. PutsAll old new before after q ids change) (sym is)
-    (record {
-      stays = put.stays;
-      no_less = put.no_less;
-      unfailed = tt;
-      fault = put.fault;
-      becomes = λ trust. tt;
-    })
+puts_failed change ids others old new before after r e is put = grind (arith, nat_tests)
 
 -- the next number after those that follow one another
 pub run_grows : (first count : ℕ)
     → range_with_len first count ++ (first + count) ∷ [] ≡ range_with_len first (count + 1)
-run_grows first zero = ap (λ (n : ℕ). n ∷ []) (let e : first + 0 ≡ first = omega arith in e)
-run_grows first (suc more) =
-    ap (λ (l : List ℕ). first ∷ l)
-    (ap (λ (n : ℕ). range_with_len (first + 1) more ++ n ∷ [])
-    (let e : first + suc more ≡ first + 1 + more = omega arith in e)
-    ∙ run_grows (first + 1) more)
-    ∙ ap (range_with_len first) (let e : suc (more + 1) ≡ suc more + 1 = omega arith in e)
+run_grows first zero = grind (arith, nat_tests)
+run_grows first (suc more) = grind (arith, nat_tests, run_grows (first + 1) more)

@@ -5,7 +5,7 @@ use Rattle.std.proofs.Common.{if◌then◌else◌}
 use Rattle.std.specs.Prelude.{◌==◌, ◌||◌}
 use Rattle.std.specs.List.{AllByRecursion, filter_map, flat_map, list_any}
 use Rattle.std.specs.List.Sorted.{IsPermutation}
-use Rattle.std.specs.Ordering.{is_eq, ordering_reverse}
+use Rattle.std.specs.Ordering.{is_eq}
 use Rattle.std.specs.declared.cmp.Ordering.TheVariants.{Less}
 use Rattle.std.proofs.lemmas.Bool.{cases_Bool, cond-false, cond-true}
 use Rattle.std.proofs.lemmas.Cmp.{tied_itself}
@@ -57,6 +57,7 @@ use Rattle.store_tables.proofs.Tests.{passes_range}
 use Rattle.store_tables.proofs.Texts.{updates_where}
 use Rattle.store_tables.proofs.Updates.{update_edit}
 use Rattle.store_tables.proofs.Writes.{nodes_table}
+use Rattle.std.proofs.lemmas.Bool.Decides.{nat_tests}
 
 -- ---- rows in the order of their numbers
 
@@ -67,9 +68,7 @@ has_again xs ys x same =
 
 not_both : (a b : Row) → value_cmp (rowid a) (rowid b) ≡ Less
     → value_cmp (rowid b) (rowid a) ≡ Less → ⊥
-not_both a b p q =
-    absurd
-    (let e = sym p ∙ value_cmp_total.antisymm (rowid a) (rowid b) ∙ ap ordering_reverse q in cc)
+not_both a b p q = grind (arith, nat_tests, value_cmp_total)
 
 not_itself : (a : Row) → value_cmp (rowid a) (rowid a) ≡ Less → ⊥
 not_itself a p = absurd (let e = sym p ∙ tied_itself value_cmp_total (rowid a) in cc)
@@ -161,11 +160,7 @@ module _ (change : Row → Row) (first last : ℤ) where
   into = recast_in change first last
 
   keeps_rowid : (r : Row) → rowid (into r) ≡ rowid r
-  keeps_rowid r = by (is_in_range first last r)
-    where
-      by : (b : Bool) → rowid (if b then rowid r ∷ Null ∷ recast (change r) else r) ≡ rowid r
-      by true = refl
-      by false = refl
+  keeps_rowid r = grind (arith, nat_tests, recast)
 
   keep_ints : (rows : List Row) → AllByRecursion (λ r. IsTrue (is_int (rowid r))) rows
       → AllByRecursion (λ r. IsTrue (is_int (rowid r))) (map into rows)
@@ -174,13 +169,8 @@ module _ (change : Row → Row) (first last : ℤ) where
 
   mapped_shaped : (rows : List Row) → IsShaped Shape.Table rows
       → IsShaped Shape.Table (map into rows)
-  mapped_shaped rows shaped = (
-    ascending-map _ into rows
-        (ascending_weaker _ _
-        (λ a b less. ap (λ v. value_cmp v (rowid (into b))) (keeps_rowid a)
-        ∙ ap (value_cmp (rowid a)) (keeps_rowid b) ∙ less) rows shaped.0),
-    keep_ints rows shaped.1,
-  )
+  mapped_shaped rows shaped =
+      grind (arith, nat_tests, ascending-map, ascending_weaker, keep_ints, keeps_rowid)
 
 -- ---- the rows that are found
 
@@ -208,15 +198,7 @@ module _ (change : Row → Row) (first last : ℤ) (terms : List Term) (params :
 
   shown : (r : Row) → Has (db 0) r → is_in_range first last r ≡ true
       → Shows r (shows terms params r)
-  shown r there within =
-      let number = number_of r there in
-      record {
-        id = id_in (rowid r);
-        there = there;
-        within = within;
-        number = number;
-        is = gives r ∙ ap (λ v. v ∷ v ∷ Null ∷ change r) number;
-      }
+  shown r there within = grind (arith, nat_tests, number_of)
 
   source : (x : Row) → Has rows x → (r : Row) × Shows r x
   source x there =
@@ -248,10 +230,7 @@ module _ (change : Row → Row) (first last : ℤ) (terms : List Term) (params :
       ∙ sym (cond-true (is_in_range first last r) (rowid r ∷ Null ∷ recast (change r)) r s.within)
 
   old_is : (r x : Row) (s : Shows r x) → row_at (db 0) (id_in (rowid x)) ≡ r
-  old_is r x s =
-      ap (λ l. row_at (db 0) (id_in (rowid l))) s.is
-      ∙ row_at_is (db 0) s.id r nodes.0 s.there
-      (ap (λ v. is_eq (value_cmp v (Int s.id))) s.number ∙ has_itself s.id)
+  old_is r x s = grind (arith, nat_tests, has_itself, row_at_is)
 
   none_lost : (xs : List Row) → ((x : Row) → Has xs x → (r : Row) × Shows r x)
       → list_any (loses plain (0 ∷ [])) (pairs (map (row_at (db 0)) (ids_of xs)) (map new_of xs))

@@ -9,15 +9,13 @@ use Rattle.sqlite.specs.Order.{Row}
 use Rattle.sqlite.specs.Program.{overlay}
 use Rattle.sqlite.specs.Cast.{cast_row}
 use Rattle.sqlite.specs.Term.{Term}
-use Rattle.sqlite.specs.Tree.{Trees, rowid, has_rowid, without_rowid, put_row}
-use Rattle.sqlite.specs.Edit.{taken_by, edited}
+use Rattle.sqlite.specs.Tree.{Trees, rowid, has_rowid}
 use Rattle.sqlite.specs.Does.{Tally, Does}
 use Rattle.sqlite.specs.Rows.{Edited, Written}
 use Rattle.sqlite.specs.Effect.{Database, IsDatabase}
 use Rattle.sqlite.specs.Listing.{understood}
 use Rattle.sqlite.specs.State.{State, mode_of, Executes, Shows}
 use Rattle.sqlite.proofs.Callers.{IsPlain, command_of, runs_as, statement_of, one_permutation}
-use Rattle.sqlite_rules.specs.Action.{works, Leads}
 use Rattle.sqlite_rules.specs.Cast.{cast_all}
 use Rattle.sqlite_schema.specs.declared.schema.Keys.TheVariants.{Enforced}
 use Rattle.sqlite_trees.specs.View.{IsShaped}
@@ -38,6 +36,7 @@ use Rattle.store_tables.proofs.Rowids.{rowid_is, of_each}
 use Rattle.store_tables.proofs.Actions.{ends, sets_off_none}
 use Rattle.store_tables.proofs.Updates.{cast_int, cast_null, keeps_number, update_edit}
 use Rattle.room_entry.proofs.Facts.Lists.{filter_same}
+use Rattle.std.proofs.lemmas.Bool.Decides.{nat_tests}
 
 -- what the columns after the number make of cells
 abbrev pub recast : Row → Row
@@ -112,53 +111,14 @@ module _ (id : ℤ) (db next : Trees) (rows : List Row) where
   one_recast cells old one there (inl refused) = absurd (let e = refused.2 in cc)
   one_recast cells old one there (inr (inl big)) = absurd (let e = big.3 in cc)
   one_recast cells old one there (inr (inr went)) =
-      let first = went.0 in
-      let other = went.1.tables in
-      let olds : taken_by db (update_edit db rows) ≡ (Int id ∷ old) ∷ [] = ap
-      (λ l. taken_by db (update_edit db l)) one ∙ ap (λ o. unwrap_or o [] ∷ []) there in
-      let news : (update_edit db rows).news ≡ stored_node id (recast cells) ∷ [] = ap
-      (λ l. (update_edit db l).news) one ∙ ap (λ r. r ∷ []) (cast_head id cells) in
-      let work = ap (λ l. works room_schema Enforced 0 0 l (update_edit db rows).news) olds
-      ∙ ap (works room_schema Enforced 0 0 ((Int id ∷ old) ∷ [])) news
-      ∙ keeps_number id old (Null ∷ recast cells) in
-      let led = subst (λ stack. Leads room_schema Enforced went.2.0 first stack (Ok next)) work
-      went.2.1 in
-      let same : first ≡ next = ends went.2.0 first next led in
-      let at : (tree : ℕ) → next tree ≡ first tree = λ tree. ap (λ (t : Trees). t tree)
-      (sym same) in
-      record {
-        nodes =
-            at 0 ∙ went.1.rows ∙ ap (λ l. edited db (update_edit db l)) one
-            ∙ ap (λ r. put_row r (without_rowid id (db 0))) (cast_head id cells);
-        bodies = at 2 ∙ other.1.0 (λ e. let e' : 2 ≡ 0 = e in omega (arith, e'));
-        members = at 3 ∙ other.1.1.0 (λ e. let e' : 3 ≡ 0 = e in omega (arith, e'));
-        meta = at 5 ∙ other.1.1.1.0 (λ e. let e' : 5 ≡ 0 = e in omega (arith, e'));
-        audits = at 7 ∙ other.1.1.1.1.0 (λ e. let e' : 7 ≡ 0 = e in omega (arith, e'));
-      }
+      grind (arith, nat_tests, cast_head, ends, keeps_number, update_edit, went)
 
   none_recast : rows ≡ [] → Edited room_schema Enforced db (update_edit db rows) (Ok next)
       → KeepsAll db next
   none_recast none (inl refused) = absurd (let e = refused.2 in cc)
   none_recast none (inr (inl big)) = absurd (let e = big.3 in cc)
   none_recast none (inr (inr went)) =
-      let first = went.0 in
-      let other = went.1.tables in
-      let work : works room_schema Enforced 0 0 (taken_by db (update_edit db rows))
-      (update_edit db rows).news ≡ [] =
-      ap (λ l. works room_schema Enforced 0 0 (taken_by db (update_edit db l))
-      (update_edit db l).news) none ∙ sets_off_none in
-      let led = subst (λ stack. Leads room_schema Enforced went.2.0 first stack (Ok next)) work
-      went.2.1 in
-      let same : first ≡ next = ends went.2.0 first next led in
-      let at : (tree : ℕ) → next tree ≡ first tree = λ tree. ap (λ (t : Trees). t tree)
-      (sym same) in
-      record {
-        nodes = at 0 ∙ went.1.rows ∙ ap (λ l. edited db (update_edit db l)) none;
-        bodies = at 2 ∙ other.1.0 (λ e. let e' : 2 ≡ 0 = e in omega (arith, e'));
-        members = at 3 ∙ other.1.1.0 (λ e. let e' : 3 ≡ 0 = e in omega (arith, e'));
-        meta = at 5 ∙ other.1.1.1.0 (λ e. let e' : 5 ≡ 0 = e in omega (arith, e'));
-        audits = at 7 ∙ other.1.1.1.1.0 (λ e. let e' : 7 ≡ 0 = e in omega (arith, e'));
-      }
+      grind (arith, nat_tests, ends, sets_off_none, update_edit, went)
 
 -- the terms keep the number, and give the other cells so
 abbrev pub Gives : List Term → ℤ → Row → (Row → Row) → Type 0

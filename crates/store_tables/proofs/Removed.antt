@@ -1,8 +1,8 @@
 -- What the rows mean once an object is taken out.
 use Rattle.std.proofs.Common.{◌≡◌, ℕ, pos, List, [], ◌∷◌, filter, find, None, Some, Option, refl}
-use Rattle.std.proofs.Common.{sym, ap, ◌∙◌, true, false, Bool, cond, not}
+use Rattle.std.proofs.Common.{sym, ap, ◌∙◌, true, false, Bool, cond, not, arith}
 use Rattle.std.specs.Prelude.{option_and_then, option_map, is_none, is_some, if◌then◌else◌, ◌==◌}
-use Rattle.std.specs.Prelude.{◌||◌, map}
+use Rattle.std.specs.Prelude.{map}
 use Rattle.std.specs.List.{filter_map, cons_option}
 use Rattle.std.proofs.lemmas.Bool.{cond-true, cond-false}
 use Rattle.std.proofs.lemmas.Option.{none-some}
@@ -21,6 +21,7 @@ use Rattle.store_tables.specs.Meaning.{unread_of, unread_with, bodies_of, pairs_
 use Rattle.store_tables.specs.Keyed.{has_key}
 use Rattle.store_tables.specs.Filed.{node_keyed, unread_keyed, body_rowid, node_at_row}
 use Rattle.store_tables.specs.Filed.{unread_at_row}
+use Rattle.std.proofs.lemmas.Bool.Decides.{nat_tests}
 
 -- ---- rows that stay, and what they are read as
 
@@ -54,14 +55,7 @@ module _ {X : Type 0} (f : Row → Option X) (key : X → ℕ)
 pub none_missed : {X : Type 0} (key : X → ℕ) (id : ℕ) (xs : List X)
     → is_among (map key xs) id ≡ false → filter (λ x. not (key x == id)) xs ≡ xs
 none_missed key id [] none = refl
-none_missed key id (x ∷ xs) none = by (key x == id) none (none_missed key id xs)
-  where
-    by : (b : Bool) → (b || is_among (map key xs) id) ≡ false
-        → (is_among (map key xs) id ≡ false → filter (λ x. not (key x == id)) xs ≡ xs)
-        → cond (not b) (x ∷ filter (λ x. not (key x == id)) xs)
-        (filter (λ x. not (key x == id)) xs) ≡ x ∷ xs
-    by true e more = absurd (let z = e in cc)
-    by false e more = ap (λ l. x ∷ l) (more e)
+none_missed key id (x ∷ xs) none = grind (arith, nat_tests, none_missed key id xs)
 
 -- an object that is there can be read
 pub readable : (db : Database) (id : ℕ) (n : Node) → IsTable (db.trees 0)

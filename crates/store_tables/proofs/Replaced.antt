@@ -1,7 +1,7 @@
 -- What the rows mean once the row of an object is written anew.
 use Rattle.std.proofs.Common.{◌≡◌, ℕ, pos, List, [], ◌∷◌, filter, None, Some, Option, refl, sym, ap}
-use Rattle.std.proofs.Common.{subst, ◌∙◌, not}
-use Rattle.std.specs.Prelude.{is_none, option_map, if◌then◌else◌, ◌==◌, nat_lt}
+use Rattle.std.proofs.Common.{subst, ◌∙◌, not, arith}
+use Rattle.std.specs.Prelude.{is_none, option_map, if◌then◌else◌, ◌==◌}
 use Rattle.std.specs.List.{filter_map, AllByRecursion}
 use Rattle.sqlite.specs.Order.{Row}
 use Rattle.sqlite.specs.Tree.{rowid, has_rowid, without_rowid, IsTable}
@@ -18,13 +18,12 @@ use Rattle.store_tables.specs.Meaning.{bodies_of, pairs_of, rows_of, unread_with
 use Rattle.store_tables.proofs.Put.{IsOther, others, put_again, put_by, put_seen, unseen}
 use Rattle.store_tables.specs.Filed.{node_keyed, unread_keyed, nodes_rise}
 use Rattle.store_tables.proofs.Removed.{read_without, none_missed, readable, same_rows}
+use Rattle.std.proofs.lemmas.Bool.Decides.{nat_tests}
 
 pub node_put : (n : Node) (nodes : List Node)
     → put_node n nodes ≡ put_by (λ (m : Node). m.id) n nodes
 node_put n [] = refl
-node_put n (other ∷ others) =
-    ap (λ l. if nat_lt other.id n.id then other ∷ l else if other.id == n.id then n ∷ others else n
-    ∷ other ∷ others) (node_put n others)
+node_put n (other ∷ others) = grind (arith, nat_tests, others, node_put n others)
 
 abbrev see : Row → Option Node
 see r = node_in (shown_node r)

@@ -1,6 +1,7 @@
 -- Rows by their rowids.
-use Rattle.std.proofs.Common.{◌≡◌, ◌<◌, ℕ, ℤ, pos, to_z, of_z, w64, List, [], ◌∷◌, ◌++◌, filter, Some, IsTrue, inl, inr, ◌⊎◌}
-use Rattle.std.proofs.Common.{refl, sym, ap, subst, ◌∙◌, true, false, Bool, cond, find, arith}
+use Rattle.std.proofs.Common.{◌≡◌, ◌<◌, ℕ, ℤ, pos, to_z, of_z, w64, List, [], ◌∷◌, ◌++◌, filter}
+use Rattle.std.proofs.Common.{Some, IsTrue, inl, inr, ◌⊎◌, refl, sym, ap, subst, ◌∙◌, true, false}
+use Rattle.std.proofs.Common.{Bool, cond, find, arith, drop}
 use Rattle.std.proofs.Math.Facts.{to_z-of_z}
 use Rattle.std.specs.Prelude.{FitsSigned}
 use Rattle.std.specs.Ordering.{is_eq, is_lt}
@@ -10,7 +11,6 @@ use Rattle.sqlite.specs.declared.types.Value.TheVariants.{Null, Int, Real, Text,
 use Rattle.sqlite.specs.Order.{Row, value_cmp}
 use Rattle.sqlite.specs.Tree.{rowid, has_rowid, without_rowid, IsTable}
 use Rattle.sqlite_trees.proofs.TreeLemmas.{later_rowids}
-use Rattle.std.proofs.Common.{drop}
 use Rattle.std.specs.List.Sorted.{IsPermutation}
 use Rattle.std.proofs.lemmas.List.Sorted.{length_permutation}
 use Rattle.sqlite_trees.specs.View.{is_int}
@@ -20,6 +20,7 @@ use Rattle.std.proofs.lemmas.Cmp.{tied_itself}
 use Rattle.std.specs.FinMap.{int_cmp-IsAntisymmetric}
 use Rattle.std.specs.declared.cmp.Ordering.{Ordering}
 use Rattle.std.specs.declared.cmp.Ordering.TheVariants.{Less, Equal, Greater}
+use Rattle.std.proofs.lemmas.Bool.Decides.{nat_tests}
 
 -- a number's rowid that is passed on is that number
 pub passed_on : (row : ℤ) (id : ℕ) → FitsSigned w64 (pos id) × (row ≡ pos id) × (0 < id)
@@ -137,12 +138,7 @@ at_most_one id (r ∷ rows) table = go (has_rowid id r) refl (at_most_one id row
 -- a row that `find` gives stands in the list that was searched
 pub has_found : {A : Type 0} (p : A → Bool) (xs : List A) (x : A) → find p xs ≡ Some x → Has xs x
 has_found p [] x h = absurd (let e = h in cc)
-has_found p (y ∷ ys) x h = go (p y) h (has_found p ys x)
-  where
-    go : (b : Bool) → cond b (Some y) (find p ys) ≡ Some x → (find p ys ≡ Some x → Has ys x)
-        → Has (y ∷ ys) x
-    go true e more = inl (let e' = e in cc)
-    go false e more = inr (more e)
+has_found p (y ∷ ys) x h = grind (arith, nat_tests, has_found p ys x)
 
 -- a row whose rowid is known is that number and, after it, its other cells
 pub cells_of : (id : ℤ) (r : Row) → rowid r ≡ Int id → r ≡ Int id ∷ drop 1 r

@@ -1,7 +1,6 @@
 -- What reading the root, or one child, answers.
 use Rattle.std.proofs.Common.{◌≡◌, ℕ, pos, List, [], ◌∷◌, map, filter, take, None, Some, Option}
-use Rattle.std.proofs.Common.{inl, inr, refl, sym, ap, subst, ◌∙◌, true, false, Bool, cond, not}
-use Rattle.std.proofs.Common.{◌&&◌, arith, is_eq, is_lt}
+use Rattle.std.proofs.Common.{inl, inr, refl, sym, ap, subst, ◌∙◌, true, Bool, ◌&&◌, arith, is_eq}
 use Rattle.std.specs.Prelude.{is_none, option_map}
 use Rattle.std.specs.List.{filter_map}
 use Rattle.std.proofs.Math.Bool.{and-true}
@@ -15,7 +14,7 @@ use Rattle.sqlite_value.proofs.OrderLemmas.{value_cmp-Null, value_cmp-apart}
 use Rattle.room_rows.specs.declared.node.Node.{Node}
 use Rattle.room_rows.specs.Content.{children_of, has_parent, sorted_by_name}
 use Rattle.room_rows.specs.Keep.{HasNoRoot, IsRootOf}
-use Rattle.store_tables.specs.Filed.{node_parts, number_is}
+use Rattle.store_tables.specs.Filed.{node_parts}
 use Rattle.store_tables.specs.Meaning.{node_in, number_in, parent_in, rows_of}
 use Rattle.store_tables.specs.Seeing.{seen_as, seen_only, top_of}
 use Rattle.store_tables.specs.Shown.{IsRoom, is_child, is_numbered, is_top, shown_node}
@@ -24,23 +23,19 @@ use Rattle.store_tables.proofs.Named.{at_least_one, filter_read, first_read, map
 use Rattle.store_tables.proofs.Named.{parent_agrees, unread_row}
 use Rattle.store_tables.proofs.Nodes.{Tells}
 use Rattle.store_tables.proofs.Rowids.{first_one, has_found}
+use Rattle.std.proofs.lemmas.Bool.Decides.{nat_tests}
 
 abbrev see : Row → Option Node
 see r = node_in (shown_node r)
 
 numbered : (r : Row) (n : Node) → see r ≡ Some n → is_numbered r ≡ true
-numbered r n is =
-    let number = number_is (rowid r) n.id (node_parts (shown_node r) n is).number in
-    ap (λ v. not (is_lt (value_cmp v (Int (pos 1))))) number.0 ∙ at_least_one n.id number.1
+numbered r n is = grind (arith, nat_tests, at_least_one)
 
 -- ---- the root
 
 no_parent : (v : Value) (p : Option ℕ) → parent_in v ≡ Some p → is_none p ≡ is_eq (value_cmp v Null)
-no_parent Null p is =
-    ap is_none (let same : p ≡ None = cc in same) ∙ sym (ap is_eq (value_cmp-Null Null))
-no_parent (Int z) p is =
-    ap is_none (mapped (number_in (Int z)) p is).2
-    ∙ sym (ap is_eq (value_cmp-apart (Int z) Null (λ e. let e' : 1 ≡ 0 = e in omega (arith, e'))))
+no_parent Null p is = grind (arith, nat_tests, value_cmp-Null)
+no_parent (Int z) p is = grind (arith, nat_tests, mapped, value_cmp-apart)
 no_parent (Real x) p is = absurd (let e = is in cc)
 no_parent (Text t) p is = absurd (let e = is in cc)
 no_parent (Blob b) p is = absurd (let e = is in cc)
@@ -94,16 +89,8 @@ under_agrees parent r n is =
 pub children_read : (db : Database) (parent : ℕ)
     → children_of (rows_of db).read parent
     ≡ sorted_by_name (filter_map see (filter (is_child (pos parent)) (db.trees 0)))
-children_read db parent =
-    ap sorted_by_name (filter_read see (has_parent parent) (is_child (pos parent))
-    (under_agrees parent) (db.trees 0))
+children_read db parent = grind (arith, nat_tests, filter_read, under_agrees)
 
 pub kept_from : {A : Type 0} (p : A → Bool) (xs : List A) (x : A) → Has (filter p xs) x → Has xs x
 kept_from p [] x there = absurd there
-kept_from p (y ∷ ys) x there = by (p y) there (kept_from p ys x)
-  where
-    by : (b : Bool) → Has (cond b (y ∷ filter p ys) (filter p ys)) x
-        → (Has (filter p ys) x → Has ys x) → Has (y ∷ ys) x
-    by true (inl e) more = inl e
-    by true (inr later) more = inr (more later)
-    by false later more = inr (more later)
+kept_from p (y ∷ ys) x there = grind (arith, nat_tests, kept_from p ys x)

@@ -1,8 +1,8 @@
 -- What the rows of one parent, in order of name, are read as.
 use Rattle.std.proofs.Common.{◌≡◌, ℕ, pos, List, [], ◌∷◌, ◌++◌, map, filter, None, Some, Option}
-use Rattle.std.proofs.Common.{Result, Ok, Err, refl, sym, ap, subst, ◌∙◌, true, false, Bool, cond}
+use Rattle.std.proofs.Common.{Result, Ok, Err, refl, sym, ap, ◌∙◌, true, false, Bool, cond}
 use Rattle.std.proofs.Common.{append-nil, append_assoc, Ordering, Less, Equal, Greater, is_gt}
-use Rattle.std.proofs.Common.{is_lt, inl, inr, nat_cmp}
+use Rattle.std.proofs.Common.{is_lt, inl, inr, nat_cmp, arith}
 use Rattle.std.specs.List.{AllByRecursion, filter_map, cons_option}
 use Rattle.std.specs.Ordering.{ordering_reverse}
 use Rattle.std.specs.Cmp.Lexicographic.{slice_cmp}
@@ -38,6 +38,7 @@ use Rattle.store_tables.proofs.Named.{unread_row, utf8_is}
 use Rattle.store_tables.proofs.Nodes.{Tells}
 use Rattle.store_tables.proofs.Rowids.{each_of, of_each}
 use Rattle.store_tables.proofs.Tops.{children_read, kept_from}
+use Rattle.std.proofs.lemmas.Bool.Decides.{nat_tests}
 
 abbrev see : Row → Option Node
 see r = node_in (shown_node r)
@@ -89,29 +90,21 @@ turned_back Greater past = refl
 insert_all : (P : Row → Type 0) (r : Row) (rows : List Row) → P r → AllByRecursion P rows
     → AllByRecursion P (insert_sorted by_name r rows)
 insert_all P r [] here all = (here, tt)
-insert_all P r (o ∷ rows) here all =
-    by (is_gt (by_name r o)) (insert_all P r rows here all.1)
-  where
-    by : (b : Bool) → AllByRecursion P (insert_sorted by_name r rows)
-        → AllByRecursion P (cond b (o ∷ insert_sorted by_name r rows) (r ∷ o ∷ rows))
-    by true more = (all.0, more)
-    by false more = (here, all)
+insert_all P r (o ∷ rows) here all = grind (arith, nat_tests, insert_all P r rows here all.1)
 
 insert_ascends : (r : Row) (rows : List Row) → IsAscending AtMost rows
     → IsAscending AtMost (insert_sorted by_name r rows)
 insert_ascends r [] up = (tt, tt)
-insert_ascends r (o ∷ rows) up = by (is_gt (by_name r o)) refl (insert_ascends r rows up.1)
-  where
-    by : (b : Bool) → is_gt (by_name r o) ≡ b → IsAscending AtMost (insert_sorted by_name r rows)
-        → IsAscending AtMost (cond b (o ∷ insert_sorted by_name r rows) (r ∷ o ∷ rows))
-    by true past more = (
-      insert_all (AtMost o) r rows
-          (ap is_gt (by_name_total.antisymm o r) ∙ turned_back (by_name r o) past) up.0,
-      more,
-    )
-    by false first more = (
-      (first, each_weaker (AtMost o) (AtMost r) (λ x. upto by_name_total r o x first) rows up.0),
-      up,
+insert_ascends r (o ∷ rows) up =
+    grind (
+      arith,
+      nat_tests,
+      by_name_total,
+      each_weaker,
+      insert_all,
+      turned_back,
+      upto,
+      insert_ascends r rows up.1,
     )
 
 ascends : (rows : List Row) → IsAscending AtMost (sort_by by_name rows)
@@ -162,13 +155,7 @@ module _ (r : Row) (n : Node) (is : see r ≡ Some n) where
 insert_unseen : (r : Row) → see r ≡ None → (rows : List Row)
     → filter_map see (insert_sorted by_name r rows) ≡ filter_map see rows
 insert_unseen r is [] = ap (λ o. cons_option o []) is
-insert_unseen r is (o ∷ rows) = by (is_gt (by_name r o)) (insert_unseen r is rows)
-  where
-    by : (b : Bool) → filter_map see (insert_sorted by_name r rows) ≡ filter_map see rows
-        → filter_map see (cond b (o ∷ insert_sorted by_name r rows) (r ∷ o ∷ rows))
-        ≡ filter_map see (o ∷ rows)
-    by true more = ap (cons_option (see o)) more
-    by false more = ap (λ x. cons_option x (filter_map see (o ∷ rows))) is
+insert_unseen r is (o ∷ rows) = grind (arith, nat_tests, insert_unseen r is rows)
 
 -- the rows in order of name, without those that can't be read, are the objects in order of name
 pub sorted_read : (rows : List Row)
@@ -245,10 +232,4 @@ module _ (db : Database) (room : IsRoom db) where
       → Tells IsUnreadable (AreChildrenOf parent) (rows_of db)
       (result_of_seen (seen_behind node_in [] rows))
   tells_under parent rows shown =
-      let kept = under parent in
-      subst (λ l. Tells IsUnreadable (AreChildrenOf parent) (rows_of db)
-      (result_of_seen (seen_behind node_in [] l))) (sym shown)
-      (tells_by IsUnreadable (AreRead [] (sort_by by_name kept)) (AreChildrenOf parent) (rows_of db)
-      (λ nodes read. read ∙ sorted_read kept ∙ sym (children_read db parent))
-      (result_of_seen (seen_behind node_in [] (map shown_node (sort_by by_name kept))))
-      (reads (sort_by by_name kept) (sorted_within parent) []))
+      grind (arith, nat_tests, children_read, reads, sorted_read, sorted_within, tells_by)

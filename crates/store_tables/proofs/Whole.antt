@@ -1,7 +1,7 @@
 -- Rows that can't be read are told as damaged, and none is left out.
 use Rattle.std.proofs.Common.{◌≡◌, ℕ, ◌+◌, pos, List, [], ◌∷◌, ◌++◌, length, map, filter, take}
-use Rattle.std.proofs.Common.{Option, Some, None, true, not, IfOk, refl, sym, ap, ◌∙◌}
-use Rattle.std.proofs.Common.{arith, IsPermutation}
+use Rattle.std.proofs.Common.{Option, Some, None, true, not, IfOk, refl, sym, ap, ◌∙◌, arith}
+use Rattle.std.proofs.Common.{IsPermutation}
 use Rattle.std.specs.Prelude.{is_some, option_map, ◌==◌}
 use Rattle.std.proofs.lemmas.Cmp.{on_total}
 use Rattle.std.proofs.lemmas.List.{length-append, length-map}
@@ -20,10 +20,10 @@ use Rattle.store_tables.specs.Seeing.{result_of_seen, seen_as, seen_behind, seen
 use Rattle.store_tables.specs.Seeing.{seen_then, top_of}
 use Rattle.store_tables.specs.Shown.{is_child, is_child_named, is_top, shown_node}
 use Rattle.store_tables.specs.Statements.{HasNames, HasSome, HasTop, HasUnder, shown_name}
-use Rattle.store_tables.specs.Statements.{shown_number}
 use Rattle.store_tables.specs.Whole.{SeesEach, SeesNamed, SeesSome, SeesTop}
 use Rattle.store_tables.proofs.Tests.{if_ok}
 use Rattle.store_tables.proofs.Under.{by_name}
+use Rattle.std.proofs.lemmas.Bool.Decides.{nat_tests}
 
 -- ---- lists of which both or neither are empty
 
@@ -121,11 +121,7 @@ module _ (db : Database) where
 
     pub sees_some : (rows : List Row) → HasSome (pos parent) db.trees rows
         → SeesSome parent db (not (length rows == 0))
-    sees_some rows (all, moved, is) =
-        let kept = filter (is_child (pos parent)) (db.trees 0) in
-        ap (λ l. not (length l == 0)) is
-        ∙ ap not (empty_first all ∙ empty_moved (map shown_number kept) all moved
-        ∙ empty_map shown_number kept)
+    sees_some rows (all, moved, is) = grind (arith, nat_tests, empty_first, empty_map, empty_moved)
 
     pub sees_under : (rows : List Row) → HasUnder (pos parent) db.trees rows
         → IfOk (result_of_seen (seen_behind node_in [] rows)) (SeesEach parent db)

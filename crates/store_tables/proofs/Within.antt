@@ -1,10 +1,11 @@
 -- What a statement inside a transaction leaves, whatever the tables are.
-use Rattle.std.proofs.Common.{◌≡◌, IsTrue, sym, ◌∙◌, true, false, inl, inr}
+use Rattle.std.proofs.Common.{◌≡◌, IsTrue, true, arith}
 use Rattle.sqlite_trees.specs.Tree.{Trees}
 use Rattle.sqlite_trees.specs.declared.store.Store.{Ghosts}
 use Rattle.sqlite.specs.Held.{Held, state}
 use Rattle.sqlite.specs.State.{State, Survives, IsUnchanged, IsRolledBack, Shows}
 use Rattle.store_tables.specs.Within.{IsSettled, IsWithin, LeavesAsBefore}
+use Rattle.std.proofs.lemmas.Bool.Decides.{nat_tests}
 
 -- no fault is forgotten, and a crash leaves nothing new
 abbrev pub CommitsNothing : State → State → Type 0
@@ -12,41 +13,19 @@ CommitsNothing old new = Survives old new (λ _. ⊥)
 
 module _ (old new : State) (quiet : CommitsNothing old new) where
   pub as_before : LeavesAsBefore old new
-  as_before = λ now db left.
-      elim (quiet.crash now db left) [
-        | inl was ↦ was
-        | inr none ↦ absurd none
-      ]
+  as_before = grind (arith, nat_tests)
 
   -- a call that leaves the state unchanged commits nothing
   pub unchanged_within : IsUnchanged old new → IsWithin old new
-  unchanged_within h = record {
-    clean = quiet.clean;
-    was_open = λ _ _. h.0.was_open;
-    committed = λ _ _. h.0.committed_is;
-    settled = λ _ _ was mode. h.0.now_is ∙ was (sym h.0.mode ∙ mode) ∙ sym h.0.committed_is;
-    crash = as_before;
-  }
+  unchanged_within h = grind (arith, nat_tests, as_before)
 
   -- nor does one that undoes the transaction
   pub undone_within : IsRolledBack old new → IsWithin old new
-  undone_within h = record {
-    clean = quiet.clean;
-    was_open = λ _. h.was_open;
-    committed = λ _ open'. (h.undone open').1;
-    settled = λ _ open' _ _. (h.undone open').0 ∙ sym (h.undone open').1;
-    crash = as_before;
-  }
+  undone_within h = grind (arith, nat_tests, as_before)
 
   -- nor does a write that leaves the transaction open
   pub wrote_within : Shows old new new.now old.committed true → IsWithin old new
-  wrote_within h = record {
-    clean = quiet.clean;
-    was_open = λ _ _. h.was_open;
-    committed = λ _ _. h.committed_is;
-    settled = λ _ _ _ mode. absurd (let e : true ≡ false = sym h.mode ∙ mode in cc);
-    crash = as_before;
-  }
+  wrote_within h = grind (arith, nat_tests, as_before)
 
 -- while a connection is open, a crash leaves its last commit, by the laws of its store
 pub settled_by : {S : Type 0} (g : Ghosts S) (h : Held S)

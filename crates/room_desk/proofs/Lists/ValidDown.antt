@@ -18,6 +18,7 @@ use Rattle.room_rows.specs.Content.{reaches_root, is_linked_in}
 use Rattle.room_rows.specs.Held.{held_of, full_of}
 use Rattle.room_rows.proofs.Frames.{node_at-number}
 use Rattle.room_rows.specs.Law.{AllAgree}
+use Rattle.room_inherit.proofs.Stored.{parent_reaches}
 use Rattle.room_inherit.specs.Laws.{are_valid}
 use Rattle.room_rows.specs.Pass.{pass}
 use Rattle.room_rows.specs.Sound.{is_sound_held}
@@ -102,13 +103,6 @@ module _ (which : Which) (content : Content) (law : AllAgree content which)
   parent_there None above is = absurd (let wrong : ⊥ = cc in wrong)
   parent_there (Some id) above is = ap (node_at content) (node_at-number content id above is) ∙ is
 
-  parent_reaches : (n : ℕ) (id : Option ℕ) (above : Node) → reaches_root (suc n) content id ≡ true
-      → option_and_then (node_at content) id ≡ Some above
-      → reaches_root n content above.parent ≡ true
-  parent_reaches n None above reaches is = absurd (let wrong : ⊥ = cc in wrong)
-  parent_reaches n (Some id) above reaches is =
-      sym (ap (λ o. option_map_or (λ p. reaches_root n content p.parent) o false) is) ∙ reaches
-
   top : (id : Option ℕ) (above : Node) → reaches_root zero content id ≡ true
       → option_and_then (node_at content) id ≡ Some above → ⊥
   top None above reaches is = let wrong : ⊥ = cc in wrong
@@ -152,6 +146,6 @@ module _ (which : Which) (content : Content) (law : AllAgree content which)
             ∙ pass_inherited which node.kind (full_of (held_of which found.0))
             (full_valid found.0 above_there folder
             (valid_down m found.0 above_there
-            (parent_reaches m node.parent found.0 reaches found.1)))
+            (parent_reaches content m node.parent found.0 reaches found.1)))
         | inr apart ↦ kept node there apart
       ]

@@ -43,11 +43,6 @@ spotted_blames asker path spot old mid row spotted h =
     inl (inl (blames_first asker _ _ old mid row spotted.judged h))
 
 module _ (asker : Asker) where
-  pub judged_unread : (items : List Item) (answer : Option Reply) (old mid : Rows) (row : ℕ)
-      → IsJudged asker items old answer mid → IsUnreadable mid row → IsUnreadable old row
-  judged_unread items answer old mid row judged h =
-      blames_first asker items answer old mid row judged h
-
   -- a refusal that is handed on
   pub judged_refused : (items : List Item) (old mid new : Rows) (refusal reply : Reply)
       → IsJudged asker items old (Some refusal) mid → reply ≡ refusal → new ≡ mid

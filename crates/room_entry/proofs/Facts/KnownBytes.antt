@@ -1,9 +1,10 @@
 -- Known bytes that are written one text after another.
-use Rattle.std.proofs.Common.{◌≡◌, ℕ, ◌+◌, ◌-◌, arith, List, [], ◌++◌, length, take, drop, subst}
-use Rattle.std.proofs.Common.{Option, Some, None, sym, ap, ◌∙◌, append_assoc}
+use Rattle.std.proofs.Common.{◌≡◌, ℕ, ◌+◌, ◌-◌, arith, List, [], ◌++◌, length, take, drop, Option}
+use Rattle.std.proofs.Common.{Some, None, sym, ap, ◌∙◌, append_assoc}
 use Rattle.std.proofs.lemmas.List.{append-nil, take_all, length-drop}
 use Rattle.std.proofs.Math.Seq.{take-add}
 use Rattle.std.specs.Io.KnownBytes.{Appends, Keeps}
+use Rattle.std.proofs.lemmas.Bool.Decides.{nat_tests}
 
 -- one text was written and then another: so the two, joined, were
 pub Appends-then : (u v w : Option (List ℕ)) (a b : List ℕ) → Appends u v a → Appends v w b
@@ -32,13 +33,7 @@ pub Appends-at : (u v w : Option (List ℕ)) (text : List ℕ) (n m : ℕ)
     → Appends u v (take n text) → Appends v w (take m (take (length text - n) (drop n text)))
     → Appends u w (take (n + m) text)
 Appends-at u v w text n m x y =
-    let W : List ℕ → Type 0 = λ t. Appends u w t in
-    let V : List ℕ → Type 0 = λ t. Appends v w t in
-    let len : length (drop n text) ≡ length text - n = length-drop n text in
-    let rest : take (length text - n) (drop n text) ≡ drop n text = take_all (length text - n)
-    (drop n text) (omega (arith, len)) in
-    let y' : Appends v w (take m (drop n text)) = subst V (ap (λ t. take m t) rest) y in
-    subst W (sym (take-add n m text)) (Appends-then u v w (take n text) (take m (drop n text)) x y')
+    grind (arith, nat_tests, Appends-then, length-drop, take-add, take_all)
 
 Keeps-none : (v w : Option (List ℕ)) → Appends v w [] → Keeps v w
 Keeps-none None w x = tt
@@ -48,6 +43,4 @@ Keeps-none (Some xs) (Some ys) x = x ∙ append-nil xs
 -- where a write took 0 bytes of a text, what was written before stays as it was
 pub Keeps-zero : (v w : Option (List ℕ)) (n : ℕ) (text : List ℕ) → n ≡ 0 → Appends v w (take n text)
     → Keeps v w
-Keeps-zero v w n text e x =
-    let V : List ℕ → Type 0 = λ t. Appends v w t in
-    Keeps-none v w (subst V (ap (λ k. take k text) e) x)
+Keeps-zero v w n text e x = grind (arith, nat_tests, Keeps-none)

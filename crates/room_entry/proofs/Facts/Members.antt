@@ -5,7 +5,8 @@ use Rattle.std.proofs.Common.{◌++◌, map, filter, length, refl, ap, ◌∙◌
 use Rattle.std.specs.Prelude.{count_by}
 use Rattle.std.specs.List.{AllByRecursion as Each, list_any, list_all}
 use Rattle.std.proofs.lemmas.List.Sums.{sum_by-cons}
-use Rattle.std.proofs.lemmas.Bool.{and_from, or_parts, or_from, and_right}
+use Rattle.std.proofs.lemmas.Bool.{and_from, or_parts, or_from}
+use Rattle.std.proofs.lemmas.Bool.Decides.{nat_tests}
 
 -- what holds of each member of two lists holds of each of the two joined
 pub each_append : {A : Type 0} (P : A → Type 0) (xs ys : List A) → Each P xs → Each P ys
@@ -39,12 +40,7 @@ each_weaker P Q weaker (x ∷ xs) all = (weaker x all.0, each_weaker P Q weaker 
 pub each_filter : {A : Type 0} (P : A → Type 0) (q : A → Bool) (xs : List A)
     → Each (λ x. q x ≡ true → P x) xs → Each P (filter q xs)
 each_filter P q [] all = tt
-each_filter P q (x ∷ xs) all = on (q x) all.0 (each_filter P q xs all.1)
-  where
-    on : (t : Bool) → (t ≡ true → P x) → Each P (filter q xs)
-        → Each P (cond t (x ∷ filter q xs) (filter q xs))
-    on true here rest = (here refl, rest)
-    on false here rest = rest
+each_filter P q (x ∷ xs) all = grind (arith, nat_tests, each_filter P q xs all.1)
 
 -- the way back: what holds of each kept member holds of each that passes the test
 pub each_unfiltered : {A : Type 0} (P : A → Type 0) (q : A → Bool) (xs : List A)
@@ -67,15 +63,7 @@ no_length (x ∷ xs) none = absurd (let wrong : ⊥ = omega (arith, none) in wro
 pub filter_map : {A B : Type 0} (p : A → Bool) (q : B → Bool) (f : A → B)
     → ((x : A) → q (f x) ≡ p x) → (xs : List A) → filter q (map f xs) ≡ map f (filter p xs)
 filter_map p q f same [] = refl
-filter_map p q f same (x ∷ xs) =
-    ap (λ t. cond t (f x ∷ filter q (map f xs)) (filter q (map f xs))) (same x)
-    ∙ on (p x) (filter_map p q f same xs)
-  where
-    on : (t : Bool) → filter q (map f xs) ≡ map f (filter p xs)
-        → cond t (f x ∷ filter q (map f xs)) (filter q (map f xs))
-        ≡ map f (cond t (x ∷ filter p xs) (filter p xs))
-    on true rest = ap (λ ys. f x ∷ ys) rest
-    on false rest = rest
+filter_map p q f same (x ∷ xs) = grind (arith, nat_tests, filter_map p q f same xs)
 
 -- ---- tests
 
@@ -83,13 +71,7 @@ filter_map p q f same (x ∷ xs) =
 pub any_filter : {A : Type 0} (p q : A → Bool) (xs : List A)
     → list_any p (filter q xs) ≡ list_any (λ x. q x && p x) xs
 any_filter p q [] = refl
-any_filter p q (x ∷ xs) = on (q x) (any_filter p q xs)
-  where
-    on : (t : Bool) → list_any p (filter q xs) ≡ list_any (λ y. q y && p y) xs
-        → list_any p (cond t (x ∷ filter q xs) (filter q xs))
-        ≡ ((t && p x) || list_any (λ y. q y && p y) xs)
-    on true rest = ap (λ r. p x || r) rest
-    on false rest = rest
+any_filter p q (x ∷ xs) = grind (arith, nat_tests, any_filter p q xs)
 
 -- some member of a mapped list passes p exactly if some member passes p after f
 pub any_map : {A B : Type 0} (p : A → Bool) (f : B → A) (xs : List B)
@@ -120,9 +102,7 @@ each_fails p (x ∷ xs) none = let parts = or_parts (p x) (list_any p xs) none i
 -- none passes both tests if none passes one
 pub none_of_both : {A : Type 0} (p q : A → Bool) (xs : List A) → list_any p xs ≡ false
     → list_any (λ x. q x && p x) xs ≡ false
-none_of_both p q xs none =
-    any_none (λ x. q x && p x) xs
-    (each_weaker _ _ (λ x fails. and_right (q x) (p x) fails) xs (each_fails p xs none))
+none_of_both p q xs none = grind (arith, nat_tests, any_none, each_fails, each_weaker)
 
 -- a test that no member passes is passed by none of those kept by another test
 pub none_filter : {A : Type 0} (p q : A → Bool) (xs : List A) → list_any p xs ≡ false
@@ -155,24 +135,13 @@ count-is p (x ∷ xs) =
 -- as many members pass a test as are kept by it
 pub count_length : {A : Type 0} (p : A → Bool) (xs : List A) → length (filter p xs) ≡ count p xs
 count_length p [] = refl
-count_length p (x ∷ xs) = on (p x) (count_length p xs)
-  where
-    on : (t : Bool) → length (filter p xs) ≡ count p xs
-        → length (cond t (x ∷ filter p xs) (filter p xs)) ≡ one_if t + count p xs
-    on true rest = omega (arith, rest)
-    on false rest = omega (arith, rest)
+count_length p (x ∷ xs) = grind (arith, nat_tests, count_length p xs)
 
 -- as many kept members pass a second test as members of the whole list pass both
 pub count_filter : {A : Type 0} (p q : A → Bool) (xs : List A)
     → count q (filter p xs) ≡ count (λ x. p x && q x) xs
 count_filter p q [] = refl
-count_filter p q (x ∷ xs) = on (p x) (count_filter p q xs)
-  where
-    on : (s : Bool) → count q (filter p xs) ≡ count (λ y. p y && q y) xs
-        → count q (cond s (x ∷ filter p xs) (filter p xs))
-        ≡ one_if (s && q x) + count (λ y. p y && q y) xs
-    on true rest = ap (λ n. one_if (q x) + n) rest
-    on false rest = omega (arith, rest)
+count_filter p q (x ∷ xs) = grind (arith, nat_tests, count_filter p q xs)
 
 -- as many members of a mapped list pass q as members pass q after f
 pub count_map : {A B : Type 0} (q : A → Bool) (f : B → A) (xs : List B)
@@ -192,21 +161,9 @@ pub count_either : {A : Type 0} (p q r : A → Bool) (xs : List A)
     → Each (λ x. (r x ≡ (p x || q x)) × (q x ≡ true → p x ≡ false)) xs
     → count r xs ≡ count p xs + count q xs
 count_either p q r [] all = refl
-count_either p q r (x ∷ xs) all =
-    ap (λ t. one_if t + count r xs) all.0.0 ∙ on (p x) (q x) all.0.1 (count_either p q r xs all.1)
-  where
-    on : (s t : Bool) → (t ≡ true → s ≡ false) → count r xs ≡ count p xs + count q xs
-        → one_if (s || t) + count r xs ≡ (one_if s + count p xs) + (one_if t + count q xs)
-    on true true apart rest = absurd (let wrong : true ≡ false = apart refl in cc)
-    on true false apart rest = omega (arith, rest)
-    on false true apart rest = omega (arith, rest)
-    on false false apart rest = omega (arith, rest)
+count_either p q r (x ∷ xs) all = grind (arith, nat_tests, count_either p q r xs all.1)
 
 -- no more members pass a test than there are
 pub count_ends : {A : Type 0} (p : A → Bool) (xs : List A) → count p xs ≤ length xs
 count_ends p [] = omega arith
-count_ends p (x ∷ xs) = on (p x) (count_ends p xs)
-  where
-    on : (t : Bool) → count p xs ≤ length xs → one_if t + count p xs ≤ length (x ∷ xs)
-    on true rest = omega (arith, rest)
-    on false rest = omega (arith, rest)
+count_ends p (x ∷ xs) = grind (arith, nat_tests, count_ends p xs)

@@ -8,7 +8,8 @@ use Rattle.room_judge.specs.declared.asker.Asker.{Asker}
 use Rattle.room_judge.proofs.Calls.{done}
 use Rattle.room_desk.specs.Made.{MakesChild}
 use Rattle.room_machine.specs.Changed.{new_child}
-use Rattle.room_desk.proofs.Made.ServedItems.{added_behind, judged_unread}
+use Rattle.room_judge.proofs.Judging.{blames_first}
+use Rattle.room_desk.proofs.Made.ServedItems.{added_behind}
 use Rattle.room_rows.specs.Keep.{CanAdd}
 use Rattle.room_judge.specs.Extent.{unrecorded}
 use Rattle.room_judge.proofs.UpTo.{tail_provided}
@@ -24,7 +25,7 @@ returns-clause-done g c =
     (length child.bytes.now)
     (subst (λ (n : ℕ). n ≤ 1048576) c.len-too_many.ensures c.if-too_many.false) in
     tail_provided g.met.K.Keep.laws (done c.in_ok-check.ensures.done) c.add_child.ensures.done
-    (λ old mid at are judged h. judged_unread asker _ _ old mid at judged h)
+    (λ old mid at are judged h. blames_first asker _ _ old mid at judged h)
     (λ old mid outcome new are judged made.
     added_behind asker (found_site path folder) c.write_data.result (write_data ∷ []) path TooLarge
     (nat_lt 1048576 (length child.bytes.now))
