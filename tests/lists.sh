@@ -13,7 +13,7 @@ take_lists() { # PAGE FOLDER
   mkdir -p "$2"
   awk -v into="$2" -v header="| who | read | add | change | remove own | remove others' | manage |" '
     /^(\$ )?rooms reset office\.rooms [^ ]+ [ds]acl <<END$/ {
-      sub(/^\$ /, ""); file = into "/" ++n; pasted = 1; print n, $4, $5; print >(file ".sh"); path[n] = $4 " " $5; next
+      sub(/^\$ /, ""); file = into "/" ++n; pasted = 1; print n, $4, $5; print >(file ".sh"); place[n] = $5 == "dacl" ? $4 : ""; next
     }
     pasted { print >(file ".sh"); if ($0 == "END") pasted = 0; else print >(file ".txt"); next }
     $0 == "| " substr(header, 7) { table = 1; next }
@@ -28,8 +28,9 @@ take_lists() { # PAGE FOLDER
     END {
       for (list = 1; list <= n; list++) for (turn = 1; turn <= 2; turn++) for (each = 1; each <= rows; each++) {
         of = row[each]; sub(/\|.*/, "", of); gsub(/`/, "", of); said = row[each]; sub(/^[^|]*\|/, "", said)
-        if (path[list] == of " dacl") here[list] = 1
-        if (turn == 2 && here[list] && (of == "each" || path[list] == of " dacl")) print said >(into "/" list ".table")
+        named = index(", " of ", ", ", " place[list] ", ")
+        if (named) here[list] = 1
+        if (turn == 2 && here[list] && (named || of == "each")) print said >(into "/" list ".table")
       }
     }' "$1"
 }
