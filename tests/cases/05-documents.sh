@@ -92,7 +92,7 @@ find machine -name '*.md' | sort | while IFS= read -r page; do lost_links "$page
 none 'links of the installed pages' found
 
 if has python3; then
-  "$here/twice.py" "$data/twice.txt" "$top"/README.md "$top"/CHANGELOG.md "$top"/CONTRIBUTING.md "$top"/docs/*.md >found 2>&1
+  (cd "$top" && "$here/twice.py" "$data/twice.txt" README.md CHANGELOG.md CONTRIBUTING.md docs/*.md) >found 2>&1
   none 'what stands on two pages' found
   "$top/tools/crates" --check >found
   none 'the tables of crates' found
