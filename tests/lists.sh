@@ -6,19 +6,33 @@ closed=$(printf '%s\n' list:p "A::alice:$ALL")
 members=$'\n'$(<groups.csv)$'\n'
 in_group() { [[ $members = *$'\n'"$1,$2"$'\n'* ]]; } # GROUP USER
 
-# From a page: what is pasted to set a list, as N.sh; the list alone, as N.txt; the table below it, as N.table; and a line
-# 'N PATH dacl' or 'N PATH sacl' each, which is printed.
+# From a page: what is pasted to set a list, as N.sh; the list alone, as N.txt; its rows of a table, as N.table, which are those
+# of the table below it, or those of its folder and of each folder in a table of all lists; and a line 'N PATH dacl' or 'N PATH
+# sacl' each, which is printed.
 take_lists() { # PAGE FOLDER
   mkdir -p "$2"
-  awk -v into="$2" -v header="| | read | add | change | remove own | remove others' | manage |" '
+  awk -v into="$2" -v header="| who | read | add | change | remove own | remove others' | manage |" '
     /^(\$ )?rooms reset office\.rooms [^ ]+ [ds]acl <<END$/ {
-      sub(/^\$ /, ""); file = into "/" ++n; pasted = 1; print n, $4, $5; print >(file ".sh"); next
+      sub(/^\$ /, ""); file = into "/" ++n; pasted = 1; print n, $4, $5; print >(file ".sh"); place[n] = $5 == "dacl" ? $4 : ""; next
     }
     pasted { print >(file ".sh"); if ($0 == "END") pasted = 0; else print >(file ".txt"); next }
-    $0 == header { table = 1; next }
+    $0 == "| " substr(header, 7) { table = 1; next }
+    $0 == "| folder " header { table = 2; next }
     table && /^\|-/ { next }
-    table && /^\|/ { gsub(/^\| *| *\|$/, ""); gsub(/ *\| */, "|"); print >(file ".table"); next }
-    { table = 0 }' "$1"
+    table && /^\|/ {
+      gsub(/^\| *| *\|$/, ""); gsub(/ *\| */, "|")
+      if (table == 1) print >(file ".table"); else row[++rows] = $0
+      next
+    }
+    { table = 0 }
+    END {
+      for (list = 1; list <= n; list++) for (turn = 1; turn <= 2; turn++) for (each = 1; each <= rows; each++) {
+        of = row[each]; sub(/\|.*/, "", of); gsub(/`/, "", of); said = row[each]; sub(/^[^|]*\|/, "", said)
+        named = index(", " of ", ", ", " place[list] ", ")
+        if (named) here[list] = 1
+        if (turn == 2 && here[list] && (named || of == "each")) print said >(into "/" list ".table")
+      }
+    }' "$1"
 }
 
 # Pastes lines of a page into a shell that finds the program as `rooms`.

@@ -92,6 +92,8 @@ find machine -name '*.md' | sort | while IFS= read -r page; do lost_links "$page
 none 'links of the installed pages' found
 
 if has python3; then
+  (cd "$top" && "$here/twice.py" "$data/twice.txt" README.md CHANGELOG.md CONTRIBUTING.md docs/*.md) >found 2>&1
+  none 'what stands on two pages' found
   "$top/tools/crates" --check >found
   none 'the tables of crates' found
   "$top/tools/definitions" --check >found
@@ -131,6 +133,24 @@ awk '/^```/ { quoted = !quoted; next } quoted && length > 12' "$top"/docs/statem
 stripped "$top"/crates/*/src/*.rt "$top"/crates/*/specs/*.antt >stated
 LC_ALL=C comm -23 quoted stated >found
 none 'the quotes of statement.md' found
+
+# Two pages of which each says something that the other one says too, in other signs and in another case; a sentence is excepted.
+if has python3; then
+  printf '%s\n' 'Six words that are its own. One two *three* four five,' 'six [seven](page.md) eight nine ten eleven twelve thirteen.' '' '```' \
+    'a b c d e f g h i j k l' '```' '- It'"'"'s one more that is there again, and it is allowed here.' >first.md
+  printf '%s\n' '# One Two: three' '' 'One Two: three-four `five` six' 'seven eight nine ten eleven twelve' 'thirteen fourteen' '' 'a b c d e f g h i j k l' \
+    '| its one more that is there again and it is allowed here | |' >second.md
+  echo 'it'"'"'s one more that is there again, and it is allowed here: why' >allowed
+  "$here/twice.py" allowed first.md second.md >found
+  status=$?
+  echo 'first.md:1 and second.md: one two three four five six seven eight nine ten eleven twelve thirteen' >wanted
+  same 'what stands on two pages' found wanted
+  holds 'is refused' [ "$status" = 1 ]
+  echo >second.md
+  "$here/twice.py" allowed first.md second.md >found
+  echo "no two pages need the exception 'its one more that is there again and it is allowed here'" >wanted
+  same 'an exception that nobody needs' found wanted
+fi
 
 # The case itself finds what it is for.
 printf '%s\n' '# One `two`, three' '# A' '# A' '[x](#one-two-three) [x](#a-1) [x](page.md) [x](page.md#a "T")' '```' '[x](none.md)' '```' \
