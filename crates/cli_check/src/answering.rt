@@ -1,8 +1,9 @@
 //! An input read from a reader, and its answer written to a writer.
-ghost use Rattle.std.specs.Prelude.{◌≡◌, ◌++◌, ◌∷◌, [], ℕ, List, IfOk, OnErr, OnOk, string_bytes};
+ghost use Rattle.std.specs.Prelude.{◌≡◌, ◌+◌, ◌++◌, ◌∷◌, [], ℕ, List, IfOk, OnErr, OnOk};
+ghost use Rattle.std.specs.Prelude.{string_bytes};
 ghost use Rattle.std.specs.Io.KnownBytes.{Appends};
 ghost use Rattle.room_entry.specs.Bytes.{line_feed};
-ghost use Rattle.cli_outcome.specs.Reading.{IsInput};
+ghost use Rattle.cli_outcome.specs.Reading.{IsInput, TakesAtMost};
 ghost use Rattle.cli_outcome.specs.Written.{WritesSome};
 ghost use Rattle.cli_check.specs.Answering.{Answers, TellsCheck, reply_line};
 ghost use Rattle.cli_check.specs.Check.{judged};
@@ -17,12 +18,14 @@ use std::io::{self, Read, Write};
 /// Reads an input to its end, or as far as shows that it is too long, writes the line that answers
 /// it and nothing else, and returns its status. An error is the reader's, the writer's, or
 /// out of memory. Nothing of the line is written before all of it is known.
-pub fn answer<R: Read + Drop, W: Write>(
+pub fn answer<R: Read, W: Write>(
     alloc: Global,
-    reader: R,
+    reader: &mut R,
     writer: &mut W,
 ) -> io::Result<Status>
-    ensures { Answers (R.remaining reader) (W.contents writer.old) (W.contents writer.new) result }
+    ensures line { Answers (R.remaining reader.old) (W.contents writer.old) (W.contents writer.new)
+        result }
+    ensures few { TakesAtMost (MOST_BYTES + 1) (R.remaining reader.old) (R.remaining reader.new) }
 {
     match line_for(alloc, reader) {
         Ok(reply) => send_reply(writer, &reply),
@@ -33,14 +36,15 @@ pub fn answer<R: Read + Drop, W: Write>(
 /// Answers on standard output, and reports on standard error where that fails: `fault: file`, or
 /// `fault: memory`, and the exit status 3. For an input that can't be read, standard output gets
 /// nothing.
-pub fn tell_check<R: Read + Drop, O: Write, E: Write>(
+pub fn tell_check<R: Read, O: Write, E: Write>(
     alloc: Global,
-    reader: R,
+    reader: &mut R,
     out: &mut O,
     err: &mut E,
 ) -> u8
-    ensures { TellsCheck (R.remaining reader) (O.contents out.old) (O.contents out.new)
+    ensures line { TellsCheck (R.remaining reader.old) (O.contents out.old) (O.contents out.new)
         (E.contents err.old) (E.contents err.new) result }
+    ensures few { TakesAtMost (MOST_BYTES + 1) (R.remaining reader.old) (R.remaining reader.new) }
 {
     match line_for(alloc, reader) {
         Ok(reply) => tell_text(reply.text.as_bytes(), reply.status, out, err),
@@ -60,14 +64,14 @@ fn send_reply<W: Write>(writer: &mut W, reply: &CheckReply) -> io::Result<Status
 }
 
 // The answer to the input, with the end of its line.
-fn line_for<R: Read + Drop>(alloc: Global, reader: R) -> io::Result<CheckReply>
-    ensures { IfOk result (λ reply. (input : List ℕ) × IsInput (R.remaining reader) input
+fn line_for<R: Read>(alloc: Global, reader: &mut R) -> io::Result<CheckReply>
+    ensures line { IfOk result (λ reply. (input : List ℕ) × IsInput (R.remaining reader.old) input
         × (string_bytes reply.text ≡ reply_line input)
         × (reply.status ≡ reply_status (judged input))) }
+    ensures few { TakesAtMost (MOST_BYTES + 1) (R.remaining reader.old) (R.remaining reader.new) }
 {
     // One byte more than an input may have shows that it is too long.
-    let mut reader = reader;
-    let input = read_front(alloc, &mut reader, MOST_BYTES + 1)?;
+    let input = read_front(alloc, reader, MOST_BYTES + 1)?;
     let CheckReply { text, status } = check(alloc, &input)?;
     let text = with_end(text)?;
     Ok(CheckReply { text, status })

@@ -1,6 +1,6 @@
 -- A store that is opened, and then serves.
-use Rattle.std.proofs.Common.{◌≡◌, ◌≤◌, ◌⊎◌, ℕ, ℤ, All, List, [], ◌∷◌, length, map, Option, Result}
-use Rattle.std.proofs.Common.{Ok, Err, OnOk, Some, IsTrue, filter, pos, inl, inr, refl, subst, sym, ap, ◌∙◌}
+use Rattle.std.proofs.Common.{◌≡◌, ◌≤◌, ◌⊎◌, ℕ, ℤ, All, List, [], length, map, Option, Result}
+use Rattle.std.proofs.Common.{Ok, Err, OnOk, IsTrue, inl, inr, refl, subst, sym}
 use Rattle.sqlite.specs.Effect.{Database}
 use Rattle.cli_outcome.specs.declared.place.Place.{Place}
 use Rattle.sqlite.specs.State.{State, HasCleanDisk}
@@ -21,15 +21,14 @@ use Rattle.room_store.proofs.Outlasting.{idle, leaves_whole}
 use Rattle.room_store.proofs.Versions.{same_version}
 use Rattle.store_schema.specs.declared.fault.OpenFault.{OpenFault}
 use Rattle.room_store.specs.Kept.{IsOfThisVersion, IsShut, IsSound, Keeps, Stores}
-use Rattle.cli_serve.specs.Lines.{TellsFaults, TellsFirst, TellsPlace}
+use Rattle.cli_serve.specs.Lines.{TellsFaults, TellsPlace}
 use Rattle.cli_serve.specs.Staying.{PassesUntil}
 use Rattle.cli_serve.specs.Peers.{Adds}
-use Rattle.cli_serve.specs.Visits.{IsEnd, IsServedVisit, Visit, acts_of, moment_of}
-use Rattle.cli_serve.specs.Visits.{requests_of, unanswered_of}
+use Rattle.cli_serve.specs.Visits.{IsServedVisit, Visit, moment_of, requests_of, unanswered_of}
 use Rattle.cli_serve.specs.declared.fault.ServingFault.{ServingFault}
 use Rattle.cli_serve.specs.Hosts.{ServesRoom, LeavesRequests, LeavesShut, StaysRoom, TellsEnd}
 use Rattle.cli_serve.specs.Hosts.{end_status}
-use Rattle.cli_serve.specs.Places.{Deed, ListensAt, site_of}
+use Rattle.cli_serve.specs.Places.{Deed, ListensAt}
 
 pub ends : (end : Result (Unit {0}) ServingFault) (place : Place) (status : ℕ)
     (out out' : Option (List ℕ))
@@ -53,33 +52,29 @@ unfoldable pub served : (place : Place) (count : ℕ) (told told' : List ℤ →
     (visits : List Visit) (end : Result (Unit {0}) ServingFault)
     → length visits ≤ count → All IsServedVisit visits
     → Adds told told' (map moment_of visits)
-    → ListensAt did did' (site_of place) (acts_of visits)
     → (HasCleanDisk new → HasCleanDisk old)
     → (HasCleanDisk new → IsSound old → IsSound new)
     → (HasCleanDisk new → IsSound old → Runs (Keeps old) (requests_of visits) (Keeps new))
-    → IsEnd count end (length visits) → LeavesShut end new → status ≡ end_status end
-    → OnOk end (TellsPlace place out out')
-    → TellsFirst place (length visits) out out' → TellsFaults visits err mid end
+    → LeavesShut end new → status ≡ end_status end → OnOk end (TellsPlace place out out')
+    → ListensAt did did' place count visits end out out' → TellsFaults visits err mid end
     → TellsEnd end mid err' → Lasts old → Lasts new
     → Outlasts old (unanswered_of visits) (requests_of visits) new
     → ServesRoom place count told told' did did' old new out out' err err' status
-served place count told told' did did' old new out out' err mid err' status visits end few each moments acts
-    trusted sound run says shut is tells first connections last lasted lasts outlasts =
+served place count told told' did did' old new out out' err mid err' status visits end few each
+    moments trusted sound run shut is tells listens connections last lasted lasts outlasts =
     record {
       visits = visits;
       few = few;
       each = each;
       moments = moments;
-      acts = acts;
       leads = record { trusted = trusted; sound = sound; run = run };
       lasts = lasts;
       outlasts = outlasts;
       leaves = leaves_requests old new visits outlasts lasted;
       ends = ends end place status out out' is tells;
-      first = first;
       end = end;
       end_is = is;
-      end_says = says;
+      listens = listens;
       shut = shut;
       faults = record { mid = mid; connections = connections; last = last };
     }

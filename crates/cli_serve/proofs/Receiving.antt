@@ -16,8 +16,9 @@ use Rattle.room_http.specs.Stream.{DeskRuns, Last, last_asking, last_exchange}
 use Rattle.cli_serve.specs.Peers.{Act, Adds, Wire, met_by, wire}
 use Rattle.cli_serve.specs.Visits.{Attends, IsServedVisit, Meeting, Receives, ReceivesAll}
 use Rattle.cli_serve.specs.Visits.{ReceivesOne, Sources, Visit, acts_at, acts_of, asking_by}
-use Rattle.cli_serve.specs.Visits.{failed_last, failed_next, moment_of, requests_of, unanswered_of}
-use Rattle.cli_serve.specs.Visits.{visit_acts, visit_events, visit_unanswered}
+use Rattle.cli_serve.specs.Visits.{end_acts, failed_last, failed_next, moment_of, requests_of}
+use Rattle.cli_serve.specs.Visits.{unanswered_of, until, visit_acts, visit_events, visit_unanswered}
+use Rattle.cli_serve.specs.declared.fault.ServingFault.{ServingFault}
 use Rattle.room_http.proofs.Runs.{done-then, nothing-done}
 use Rattle.room_http.proofs.Telling.{at-value}
 
@@ -67,9 +68,12 @@ module _ {P E : Type 0} (result : Result (Option P) E) (did did' : List Act → 
       None is none met
 
   pub met_fault : (fault : E) → result ≡ Err fault → Adds did did' (met_by result bytes)
-      → Adds did did' []
+      → Adds did (λ acts. did' (acts ++ Act.Failed ∷ [])) []
   met_fault fault is met =
-      subst (λ (r : Result (Option P) E). Adds did did' (met_by r bytes)) is met
+      let failed : Adds did did' (Act.Failed ∷ []) =
+      subst (λ (r : Result (Option P) E). Adds did did' (met_by r bytes)) is met in
+      λ before has.
+      no_more (λ (acts : List Act). did' (acts ++ Act.Failed ∷ [])) before (failed before has)
 
 module _ {D : Type 0} (d : Ghosts D) (laws : DeskLaws d.Outlasts) where
   -- the same requests, however they are listed
@@ -102,6 +106,22 @@ module _ {D : Type 0} (d : Ghosts D) (laws : DeskLaws d.Outlasts) where
     each = given.each;
     moments = given.moments;
     acts = given.acts;
+    did = given.did;
+  }
+
+  -- and the listener did nothing at the end
+  unfoldable pub at_end : (count : ℕ) (from to : Sources) (old new : D)
+      (end : Result (Unit {0}) ServingFault) → end_acts end ≡ []
+      → Receives d count from to old new → Receives d count from (until end to) old new
+  at_end count from to old new end none given = record {
+    visits = given.visits;
+    few = given.few;
+    each = given.each;
+    moments = given.moments;
+    acts = λ before is.
+        let all = before ++ acts_of given.visits in
+        subst (λ (last : List Act). to.did (all ++ last)) (sym none)
+        (no_more to.did all (given.acts before is));
     did = given.did;
   }
 

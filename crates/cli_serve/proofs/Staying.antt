@@ -1,7 +1,9 @@
 -- Connections one after another, up to one that leaves the desk shut.
 use Rattle.std.proofs.Common.{◌≡◌, ℕ, ℤ, ◌+◌, ◌<◌, Bool, true, false, List, [], ◌∷◌, ◌++◌, length}
-use Rattle.std.proofs.Common.{Ok, Err, Option, Result, subst, sym, refl, inl, inr, ◌∙◌, arith, add-one}
+use Rattle.std.proofs.Common.{Ok, Err, IfErr, Option, Result, subst, sym, refl, inl, inr, ◌∙◌}
+use Rattle.std.proofs.Common.{add-one, arith}
 use Rattle.std.proofs.lemmas.List.{length-append}
+use Rattle.std.proofs.lemmas.List.Elements.{All-nil}
 use Rattle.std.specs.Io.KnownBytes.{Appends}
 use Rattle.cli_outcome.specs.Written.{WritesSome}
 use Rattle.cli_outcome.specs.declared.place.Place.{Place}
@@ -11,15 +13,17 @@ use Rattle.room_rows.specs.Content.{Content}
 use Rattle.room_rows.specs.Rows.{Rows}
 use Rattle.room_machine.proofs.Meeting.{closed_still}
 use Rattle.room_http.specs.Stream.{DeskRuns}
-use Rattle.cli_serve.specs.Lines.{TellsEach, TellsOf, Writing, listening_line}
-use Rattle.cli_serve.specs.Peers.{Act, Adds, NothingDone}
-use Rattle.cli_serve.specs.Places.{Deed, ListensAt, Site}
-use Rattle.cli_serve.specs.Staying.{Passes, PassesEach, PassesUntil, Served, ServedAt, TellsShut}
+use Rattle.cli_serve.specs.Lines.{TellsEach, TellsFirst, TellsOf, TellsPlace, Writing}
+use Rattle.cli_serve.specs.Peers.{Act, Adds}
+use Rattle.cli_serve.specs.Places.{Deed, site_of}
+use Rattle.cli_serve.specs.Staying.{Passes, PassesEach, PassesUntil, Served, ServedAt, ServedHere}
+use Rattle.cli_serve.specs.Staying.{TellsShut}
 use Rattle.room_http.specs.declared.ended.Cause.{Cause}
-use Rattle.cli_serve.specs.Visits.{IsEnd, Receives, ReceivesAll, ReceivesOne, Sources, acts_of}
-use Rattle.cli_serve.specs.Visits.{sources}
+use Rattle.room_http.proofs.Runs.{nothing-done}
+use Rattle.cli_serve.specs.Visits.{IsEnd, IsServedVisit, Receives, ReceivesAll, ReceivesOne}
+use Rattle.cli_serve.specs.Visits.{Sources, acts_of, end_acts, sources, until}
 use Rattle.cli_serve.specs.declared.fault.ServingFault.{ServingFault}
-use Rattle.cli_serve.proofs.Receiving.{fewer, nobody, one_more, others, told_on}
+use Rattle.cli_serve.proofs.Receiving.{at_end, fewer, no_more, nobody, one_more, others, told_on}
 use Rattle.cli_serve.proofs.Told.{told_next, told_no_more}
 
 module _ {D : Type 0} (d : Ghosts D) (laws : DeskLaws d.Outlasts) where
@@ -54,18 +58,38 @@ module _ {D : Type 0} (d : Ghosts D) (laws : DeskLaws d.Outlasts) where
   pub unserved : (place : Place) (count : ℕ) (from to : Sources) (desk : D) (fault : ServingFault)
       (out out' err : Option (List ℕ))
       → ((before : List ℤ) → from.told before → to.told (before ++ [])) → Adds from.did to.did []
-      → WritesSome out out' (listening_line place)
+      → end_acts (Err fault) ≡ [] → TellsFirst place 0 (Err fault) out out'
       → IsEnd count (Err fault) 0 → PassesUntil d 0 desk desk (Err fault)
       → ServedAt d place count from to desk desk out out' err err (Err fault)
-  unfolding nobody
-  unserved place count from to desk fault out out' err moments acts wrote says stays = record {
-    served = record {
-      receives = nobody d laws count from to desk moments acts;
-      end_says = says;
-      stays = stays;
-      faults = refl;
-    };
-    first = inl (refl, wrote);
+  unfolding at_end nobody
+  unserved place count from to desk fault out out' err moments acts none wrote says stays =
+      record {
+        served = record {
+          receives =
+              at_end d laws count from to desk desk (Err fault) none
+              (nobody d laws count from to desk moments acts);
+          end_says = says;
+          stays = stays;
+          faults = refl;
+        };
+        first = wrote;
+      }
+
+  -- the place couldn't be had
+  pub refused_at : (place : Place) (count : ℕ) (told : List ℤ → Type 0)
+      (did did' : List Deed → Type 0) (desk : D) (out err : Option (List ℕ))
+      → Adds did did' (Deed.Refused (site_of place) ∷ [])
+      → ServedHere d place count told told did did' desk desk out out err err
+      (Err ServingFault.Net)
+  refused_at place count told did did' desk out err asked = record {
+    visits = [];
+    few = omega arith;
+    each = All-nil IsServedVisit;
+    moments = no_more told;
+    runs = nothing-done d laws desk;
+    stays = refl;
+    faults = refl;
+    listens = inl (record { asked = asked; nobody = refl; end_is = refl; untold = refl });
   }
 
   module _ (number count : ℕ) (from via : Sources) (old mid : D)
@@ -77,9 +101,11 @@ module _ {D : Type 0} (d : Ghosts D) (laws : DeskLaws d.Outlasts) where
 
     pub all_served : number ≡ count → TellsEach Appends 0 first.0.visits err err'
         → Served d count from via old mid err err' (Ok tt)
-    unfolding fewer
+    unfolding at_end fewer
     all_served is lines = record {
-      receives = fewer d laws number count from via old mid (omega (arith, is)) first.0;
+      receives =
+          at_end d laws count from via old mid (Ok tt) refl
+          (fewer d laws number count from via old mid (omega (arith, is)) first.0);
       end_says = first.1 ∙ is;
       stays = stays_all _ is first.1;
       faults = lines;
@@ -88,9 +114,11 @@ module _ {D : Type 0} (d : Ghosts D) (laws : DeskLaws d.Outlasts) where
     -- all came, and a line couldn't be printed
     pub untold : number ≡ count → TellsEach WritesSome 0 first.0.visits err err'
         → Served d count from via old mid err err' (Err ServingFault.File)
-    unfolding fewer
+    unfolding at_end fewer
     untold is lines = record {
-      receives = fewer d laws number count from via old mid (omega (arith, is)) first.0;
+      receives =
+          at_end d laws count from via old mid (Err ServingFault.File) refl
+          (fewer d laws number count from via old mid (omega (arith, is)) first.0);
       end_says = inl (first.1 ∙ is);
       stays = stays_all _ is first.1;
       faults = lines;
@@ -99,11 +127,13 @@ module _ {D : Type 0} (d : Ghosts D) (laws : DeskLaws d.Outlasts) where
     -- the listener failed before all connections came
     pub missing : (to : Sources) (new : D) (fault : ServingFault) → number < count
         → TellsEach WritesSome 0 first.0.visits err err'
-        → (fault ≡ ServingFault.Net) × (new ≡ mid) × Receives d 0 via to mid new
+        → (fault ≡ ServingFault.Net) × (new ≡ mid)
+        × Receives d 0 via (until (Err ServingFault.Net) to) mid new
         → Served d count from to old new err err' (Err fault)
     unfolding fewer others
     missing to new fault more lines end =
-        let all = others d laws number 0 from via to old mid new first.0 end.2 in
+        let last = until (Err ServingFault.Net) to in
+        let all = others d laws number 0 from via last old mid new first.0 end.2 in
         let none = end.2.few in
         let visits : length all.visits ≡ number =
         omega (arith, length-append first.0.visits end.2.visits, first.1, none) in
@@ -111,8 +141,8 @@ module _ {D : Type 0} (d : Ghosts D) (laws : DeskLaws d.Outlasts) where
         subst (λ (n : ℕ). PassesEach d n old new) (sym visits)
         (subst (λ (desk : D). PassesEach d number old desk) (sym end.1) stays) in
         let net : Served d count from to old new err err' (Err ServingFault.Net) = record {
-          receives = fewer d laws (number + 0) count from to old new (omega (arith, more)) all;
-          end_says = inl (omega (arith, visits, more));
+          receives = fewer d laws (number + 0) count from last old new (omega (arith, more)) all;
+          end_says = omega (arith, visits, more);
           stays = here;
           faults = told_no_more WritesSome first.0.visits end.2.visits err err' none lines;
         } in
@@ -137,49 +167,56 @@ module _ {D : Type 0} (d : Ghosts D) (laws : DeskLaws d.Outlasts) where
         → TellsOf WritesSome (number + 1) fault err' err''
         → ReceivesOne d fault via to mid new → Passes d mid new shut → shut ≡ true
         → Served d count from to old new err err'' (Err ServingFault.Desk)
-    unfolding fewer
+    unfolding at_end fewer
     left_shut to new fault shut err'' more before now next leaves is =
         let all = one_more d laws number from via to old mid new fault first next in
         record {
           receives =
-              fewer d laws (number + 1) count from to old new (omega (arith, more)) all.0;
+              at_end d laws count from to old new (Err ServingFault.Desk) refl
+              (fewer d laws (number + 1) count from to old new (omega (arith, more)) all.0);
           end_says = let visits = all.1 in omega (arith, visits);
           stays =
               (number, all.1, (mid, stays, subst (λ (b : Bool). Passes d mid new b) is leaves));
           faults = lines_then WritesSome to new fault err'' next before now;
         }
 
+-- the whole line of the place is enough, unless memory ran out before it
+pub first_told : (place : Place) (visits : ℕ) (end : Result (Unit {0}) ServingFault)
+    (old new : Option (List ℕ)) → IfErr end (λ fault. fault ≡ ServingFault.Memory → ⊥)
+    → TellsPlace place old new → TellsFirst place visits end old new
+first_told place visits (Ok done) old new begun whole = whole
+first_told place visits (Err ServingFault.Memory) old new begun whole = absurd (begun refl)
+first_told place visits (Err ServingFault.File) old new begun whole = inr whole
+first_told place visits (Err ServingFault.Net) old new begun whole = whole
+first_told place visits (Err ServingFault.Desk) old new begun whole = whole
+
 -- A listener that has done nothing yet served, and was given back: all that it did came of that.
-pub by_listener : {D L : Type 0} (d : Ghosts D) (place : Place) (count : ℕ) (told told' : List ℤ → Type 0)
-    (did : L → List Act → Type 0) (first last : L) (site : Site)
+pub by_listener : {D L : Type 0} (d : Ghosts D) (place : Place) (count : ℕ)
+    (told told' : List ℤ → Type 0) (did : L → List Act → Type 0) (first last : L)
     (deeds bound closed : List Deed → Type 0) (old new : D)
     (out out' err err' : Option (List ℕ)) (end : Result (Unit {0}) ServingFault)
-    → Adds deeds bound (Deed.Bound site ∷ []) → did first []
+    → Adds deeds bound (Deed.Bound (site_of place) ∷ []) → did first []
     → ((acts : List Act) → did last acts → Adds bound closed (Deed.Closed acts ∷ []))
     → ServedAt d place count (sources told (did first)) (sources told' (did last)) old new out out'
     err err' end
-    → ServedAt d place count (sources told NothingDone) (sources told' (ListensAt deeds closed site))
-    old new out out' err err' end
-by_listener d place count told told' did first last site deeds bound closed old new out out' err
-    err' end binds begins closes at =
+    → ServedHere d place count told told' deeds closed old new out out' err err' end
+by_listener d place count told told' did first last deeds bound closed old new out out' err err'
+    end binds begins closes at =
     let r = at.served.receives in
+    let acts = acts_of r.visits ++ end_acts end in
     record {
-      served = record {
-        receives = record {
-          visits = r.visits;
-          few = r.few;
-          each = r.each;
-          moments = r.moments;
-          acts = λ before none.
-              let all = subst (λ (acts : List Act). did last (acts ++ acts_of r.visits))
-              (sym none) (r.acts [] begins) in
-              inr (told_on deeds bound closed (Deed.Bound site ∷ []) (Deed.Closed _ ∷ []) _ refl
-              binds (closes _ all));
-          did = r.did;
-        };
+      visits = r.visits;
+      few = r.few;
+      each = r.each;
+      moments = r.moments;
+      runs = r.did;
+      stays = at.served.stays;
+      faults = at.served.faults;
+      listens = inr (record {
+        acts =
+            told_on deeds bound closed (Deed.Bound (site_of place) ∷ []) (Deed.Closed acts ∷ []) _
+            refl binds (closes acts (r.acts [] begins));
         end_says = at.served.end_says;
-        stays = at.served.stays;
-        faults = at.served.faults;
-      };
-      first = at.first;
+        first = at.first;
+      });
     }

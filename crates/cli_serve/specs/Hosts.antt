@@ -1,6 +1,6 @@
 -- What the subcommand `serve` does on an open database (own).
-use Rattle.std.specs.Prelude.{◌≡◌, ◌≤◌, ◌⊎◌, ℕ, ℤ, All, List, [], ◌++◌, codes, length, map, pos}
-use Rattle.std.specs.Prelude.{IsTrue, Option, Some, Result, Ok, Err, ⊤}
+use Rattle.std.specs.Prelude.{◌≡◌, ◌≤◌, ◌⊎◌, ℕ, ℤ, All, List, [], ◌++◌, codes, length, map}
+use Rattle.std.specs.Prelude.{IsTrue, Option, Result, Ok, Err, ⊤}
 use Rattle.sqlite.specs.Effect.{Database}
 use Rattle.sqlite.specs.Held.{Held}
 use Rattle.sqlite.specs.State.{State, HasCleanDisk}
@@ -21,12 +21,11 @@ use Rattle.room_store.specs.Crash.{Lasts, Leaves, Outlasts}
 use Rattle.room_store.specs.Kept.{IsOfThisVersion, IsShut, IsSound, Keeps, Stores}
 use Rattle.room_store.specs.Leads.{Leads}
 use Rattle.room_store.specs.Opens.{Opens}
-use Rattle.cli_serve.specs.Lines.{TellsFaults, TellsFirst, TellsPlace}
+use Rattle.cli_serve.specs.Lines.{TellsFaults, TellsPlace}
 use Rattle.cli_serve.specs.Peers.{Adds}
-use Rattle.cli_serve.specs.Visits.{IsEnd, IsServedVisit, Visit, acts_of, moment_of}
-use Rattle.cli_serve.specs.Visits.{requests_of, unanswered_of}
+use Rattle.cli_serve.specs.Visits.{IsServedVisit, Visit, moment_of, requests_of, unanswered_of}
 use Rattle.cli_serve.specs.declared.fault.ServingFault.{ServingFault}
-use Rattle.cli_serve.specs.Places.{Deed, ListensAt, site_of}
+use Rattle.cli_serve.specs.Places.{Deed, ListensAt}
 
 -- the line that is printed where the database holds no room of this version
 abbrev pub refusal_line : NoRoom → List ℕ
@@ -118,26 +117,25 @@ pub record IsTurnedDown (did did' : List Deed → Type 0) (old new : State)
 -- The requests of at most `count` connections were served, each at the moment that the clock read
 -- for it. This place of this machine alone was asked for, and these are all connections that came
 -- there: no other peer was met, and nothing else was told to these. All is done, or there was a
--- fault, and what the fault says of the connections holds. The place was printed before the first of
--- them, and faults of these connections as they came. As long as the connection to the database is
--- open, a power cut leaves what is seen. Whether it is open or not, a power cut leaves all requests
--- that were answered, and at most one that wasn't, as a whole.
+-- fault, and what the fault says of the place and of the connections holds. The place was printed
+-- before the first of them, and faults of these connections as they came. As long as the connection
+-- to the database is open, a power cut leaves what is seen. Whether it is open or not, a power cut
+-- leaves all requests that were answered, and at most one that wasn't, as a whole.
 pub record ServesRoom (place : Place) (count : ℕ) (told told' : List ℤ → Type 0)
-    (did did' : List Deed → Type 0) (old new : State) (out out' err err' : Option (List ℕ)) (status : ℕ) : Type 0 where
+    (did did' : List Deed → Type 0) (old new : State) (out out' err err' : Option (List ℕ))
+    (status : ℕ) : Type 0 where
   pub visits : List Visit
   pub few : length visits ≤ count
   pub each : All IsServedVisit visits
   pub moments : Adds told told' (map moment_of visits)
-  pub acts : ListensAt did did' (site_of place) (acts_of visits)
   pub leads : Leads old (requests_of visits) new
   pub lasts : Lasts new
   pub outlasts : Outlasts old (unanswered_of visits) (requests_of visits) new
   pub leaves : LeavesRequests old visits new
   pub ends : ((status ≡ 0) × TellsPlace place out out') ⊎ (status ≡ 3)
-  pub first : TellsFirst place (length visits) out out'
   pub end : Result (Unit {0}) ServingFault
   pub end_is : status ≡ end_status end
-  pub end_says : IsEnd count end (length visits)
+  pub listens : ListensAt did did' place count visits end out out'
   pub shut : LeavesShut end new
   pub faults : TellsAll visits end err err'
 

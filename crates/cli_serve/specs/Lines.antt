@@ -18,11 +18,15 @@ listening_line (place.Socket path) = codes "listening " ++ (path.now ++ codes "\
 abbrev pub TellsPlace : Place → Option (List ℕ) → Option (List ℕ) → Type 0
 TellsPlace place old new = Appends old new (listening_line place)
 
--- The place was printed before the first of that many connections. Where there was none, a front of
--- its line may have been, or nothing.
-abbrev pub TellsFirst : Place → ℕ → Option (List ℕ) → Option (List ℕ) → Type 0
-TellsFirst place visits old new =
+-- The place was printed before the first of that many connections. Where there was none and a line
+-- couldn't be printed, a front of its line may have been. Out of memory for the table of routes,
+-- nothing was.
+abbrev pub TellsFirst : Place → ℕ → Result (Unit {0}) ServingFault → Option (List ℕ)
+    → Option (List ℕ) → Type 0
+TellsFirst place visits (Err ServingFault.Memory) old new = new ≡ old
+TellsFirst place visits (Err ServingFault.File) old new =
     ((visits ≡ 0) × WritesSome old new (listening_line place)) ⊎ TellsPlace place old new
+TellsFirst place visits end old new = TellsPlace place old new
 
 -- what ended the connection of this number
 abbrev pub connection_line : ℕ → Cause → List ℕ

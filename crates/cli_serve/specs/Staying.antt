@@ -1,13 +1,16 @@
 -- How long connections are accepted: until one leaves the desk shut (own).
-use Rattle.std.specs.Prelude.{◌≡◌, ◌⊎◌, ℕ, ℤ, ◌+◌, Bool, true, false, zero, suc, List, [], length}
-use Rattle.std.specs.Prelude.{Option, Result, Err}
+use Rattle.std.specs.Prelude.{◌≡◌, ◌⊎◌, ◌≤◌, ℕ, ℤ, ◌+◌, Bool, true, false, zero, suc, All, List, []}
+use Rattle.std.specs.Prelude.{length, map, Option, Result, Err}
 use Rattle.room_machine.specs.declared.desk.Desk.{Ghosts}
 use Rattle.cli_outcome.specs.declared.place.Place.{Place}
 use Rattle.room_rows.specs.Keep.{one_more}
 use Rattle.room_http.specs.Stream.{DeskRuns}
 use Rattle.cli_serve.specs.Lines.{TellsFaults, TellsFirst}
 use Rattle.room_http.specs.declared.ended.Cause.{Cause}
-use Rattle.cli_serve.specs.Visits.{Attends, IsEnd, Meeting, Receives, Sources}
+use Rattle.cli_serve.specs.Peers.{Adds}
+use Rattle.cli_serve.specs.Places.{Deed, ListensAt}
+use Rattle.cli_serve.specs.Visits.{Attends, IsEnd, IsServedVisit, Meeting, Receives, Sources, Visit}
+use Rattle.cli_serve.specs.Visits.{moment_of, requests_of, unanswered_of, until}
 use Rattle.cli_serve.specs.declared.fault.ServingFault.{ServingFault}
 
 -- The desk was asked whether it is shut. Where it isn't said to be, it isn't, or it couldn't find
@@ -42,11 +45,12 @@ PassesUntil {D} d visits old new (Err ServingFault.Desk) = (before : ℕ) × (vi
 PassesUntil d visits old new end = PassesEach d visits old new
 
 -- At most `count` connections were received, and what the end says of them and of the desk holds.
--- What was printed of faults is what ended these connections.
+-- The listener failed where that is the end, and nowhere else. What was printed of faults is what
+-- ended these connections.
 pub record Served {D : Type 0} (d : Ghosts D) (count : ℕ) (from to : Sources) (old new : D)
     (err err' : Option (List ℕ)) (end : Result (Unit {0}) ServingFault)
     : Type 0 where
-  pub receives : Receives d count from to old new
+  pub receives : Receives d count from (until end to) old new
   pub end_says : IsEnd count end (length receives.visits)
   pub stays : PassesUntil d (length receives.visits) old new end
   pub faults : TellsFaults receives.visits err err' end
@@ -57,4 +61,18 @@ pub record ServedAt {D : Type 0} (d : Ghosts D) (place : Place) (count : ℕ) (f
     (out out' err err' : Option (List ℕ)) (end : Result (Unit {0}) ServingFault)
     : Type 0 where
   pub served : Served d count from to old new err err' end
-  pub first : TellsFirst place (length served.receives.visits) out out'
+  pub first : TellsFirst place (length served.receives.visits) end out out'
+
+-- The same from before a place was asked for to after its listener was given back.
+pub record ServedHere {D : Type 0} (d : Ghosts D) (place : Place) (count : ℕ)
+    (told told' : List ℤ → Type 0) (did did' : List Deed → Type 0) (old new : D)
+    (out out' err err' : Option (List ℕ)) (end : Result (Unit {0}) ServingFault)
+    : Type 0 where
+  pub visits : List Visit
+  pub few : length visits ≤ count
+  pub each : All IsServedVisit visits
+  pub moments : Adds told told' (map moment_of visits)
+  pub runs : DeskRuns d old (unanswered_of visits) (requests_of visits) new
+  pub stays : PassesUntil d (length visits) old new end
+  pub faults : TellsFaults visits err err' end
+  pub listens : ListensAt did did' place count visits end out out'

@@ -106,6 +106,11 @@ visit_acts visit = acts_at visit.meeting
 abbrev pub acts_of : List Visit → List Act
 acts_of visits = flat_map visit_acts visits
 
+-- what it did at this end: where the network failed, no connection could be accepted
+abbrev pub end_acts : Result (Unit {0}) ServingFault → List Act
+end_acts (Err ServingFault.Net) = Act.Failed ∷ []
+end_acts end = []
+
 -- ---- one after another
 
 -- One connection of which this came was served by the desk at this moment, up to this fault, if
@@ -126,6 +131,10 @@ pub record Sources : Type 1 where
 
 abbrev pub sources : (List ℤ → Type 0) → (List Act → Type 0) → Sources
 sources told did = record { told = told; did = did }
+
+-- the same before what the listener did at this end
+abbrev pub until : Result (Unit {0}) ServingFault → Sources → Sources
+until end to = sources to.told (λ acts. to.did (acts ++ end_acts end))
 
 -- From one state of a desk to a later one, what it did is a run over the requests of at most
 -- `count` connections, one after another. These are all connections that the listener accepted, in
@@ -155,11 +164,11 @@ pub record ReceivesOne {D : Type 0} (d : Ghosts D) (fault : Option Cause) (from 
 
 -- What an end says of the number of visits. Where all is done, there were as many as connections
 -- were to be served. Out of memory there was none, and where the listener failed at least one is
--- missing. Where a line couldn't be printed, it was that of the port, or all were served. Where the
--- desk is shut, a connection left it so.
+-- missing. Where a line couldn't be printed, it was that of the place, or all were served. Where
+-- the desk is shut, a connection left it so.
 abbrev pub IsEnd : ℕ → Result (Unit {0}) ServingFault → ℕ → Type 0
 IsEnd count (Ok done) visits = visits ≡ count
 IsEnd count (Err ServingFault.Memory) visits = visits ≡ 0
 IsEnd count (Err ServingFault.File) visits = (visits ≡ count) ⊎ (visits ≡ 0)
-IsEnd count (Err ServingFault.Net) visits = (visits < count) ⊎ (visits ≡ 0)
+IsEnd count (Err ServingFault.Net) visits = visits < count
 IsEnd count (Err ServingFault.Desk) visits = 0 < visits

@@ -22,7 +22,8 @@ pub trait Listens {
     // Whether it may have done these, in order.
     ghost did: { Self → List Act → Type 0 };
 
-    /// The next peer, or none where the connection was lost before it could be accepted.
+    /// The next peer, or none where the connection was lost before it could be accepted. At an
+    /// error no connection can be accepted any more.
     fn meet(&mut self) -> Result<Option<Peer<Self::Reader, Self::Writer>>, ServingFault>
         ensures met { Adds (did self.old) (did self.new) (met_by result (λ peer.
             wire (Self.Reader.remaining peer.reader) (Self.Writer.contents peer.writer))) }

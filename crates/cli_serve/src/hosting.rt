@@ -2,11 +2,10 @@
 ghost use Rattle.std.specs.Prelude.{◌≡◌, IfOk, OnOk, [], ◌∷◌, false};
 ghost use Rattle.sqlite.specs.Held.{state};
 ghost use Rattle.cli_serve.specs.Lines.{TellsPlace};
-ghost use Rattle.cli_serve.specs.Peers.{Adds, NothingDone};
-ghost use Rattle.cli_serve.specs.Visits.{sources};
-ghost use Rattle.cli_serve.specs.Staying.{ServedAt};
+ghost use Rattle.cli_serve.specs.Peers.{Adds};
+ghost use Rattle.cli_serve.specs.Staying.{ServedHere};
 ghost use Rattle.cli_serve.specs.Hosts.{Hosts};
-ghost use Rattle.cli_serve.specs.Places.{ListensAt, asked_by, site_of};
+ghost use Rattle.cli_serve.specs.Places.{asked_by, site_of};
 
 use crate::fault::ServingFault;
 use crate::moment::Moments;
@@ -78,10 +77,9 @@ fn serve_at<D: Desk, P: Ports, M: Moments, O: Write, E: Write>(
     out: &mut O,
     err: &mut E,
 ) -> Result<(), ServingFault>
-    ensures served { ServedAt D.Desk service.old.place service.old.count
-        (sources (M.told service.old.clock) NothingDone)
-        (sources (M.told service.new.clock) (ListensAt (P.did service.old.ports)
-        (P.did service.new.ports) (site_of service.old.place)))
+    ensures served { ServedHere D.Desk service.old.place service.old.count
+        (M.told service.old.clock) (M.told service.new.clock)
+        (P.did service.old.ports) (P.did service.new.ports)
         desk.old desk.new (O.contents out.old) (O.contents out.new)
         (E.contents err.old) (E.contents err.new) result }
     ensures told { OnOk result

@@ -1,12 +1,12 @@
 //! Connections one after another.
-ghost use Rattle.std.specs.Prelude.{◌≡◌, ◌+◌, List, [], ◌∷◌, IfErr, IfOk, IsTrue, OnOk};
+ghost use Rattle.std.specs.Prelude.{◌≡◌, ◌+◌, List, [], ◌∷◌, Err, IfErr, IfOk, IsTrue, OnOk};
 ghost use Rattle.std.specs.Io.KnownBytes.{Appends};
 ghost use Rattle.cli_outcome.specs.Written.{WritesSome};
 ghost use Rattle.room_http.specs.Stream.{DeskRuns};
 ghost use Rattle.cli_serve.specs.Lines.{TellsOf, TellsPlace};
 ghost use Rattle.cli_serve.specs.Peers.{Act, Adds, Wire, wire};
 ghost use Rattle.cli_serve.specs.Staying.{AttendsOne, Passes, Served, ServedAt, TellsShut};
-ghost use Rattle.cli_serve.specs.Visits.{Attends, Meeting, Receives, ReceivesOne, sources};
+ghost use Rattle.cli_serve.specs.Visits.{Attends, Meeting, Receives, ReceivesOne, sources, until};
 
 use crate::accepting::{Listens, Peer};
 use crate::fault::ServingFault;
@@ -36,9 +36,9 @@ pub struct Listening<'a, L> {
 /// After each connection the desk is asked whether it is shut. While it isn't, or couldn't find
 /// out, the next connection is accepted, whatever fault it had.
 ///
-/// The error is `Memory` where nothing was served, `Net` where the listener accepts no more
-/// connections, `Desk` where a connection left the desk shut, and `File` where a line couldn't be
-/// printed.
+/// The error is `Memory` where nothing was served or printed, `Net` where the listener accepts no
+/// more connections, `Desk` where a connection left the desk shut, and `File` where a line couldn't
+/// be printed.
 pub fn serve_on<D: Desk, L: Listens, M: Moments, O: Write, E: Write>(
     alloc: Global,
     desk: &mut D,
@@ -76,9 +76,10 @@ fn serve_each<D: Desk, L: Listens, M: Moments, E: Write>(
     count: u32,
     err: &mut E,
 ) -> Result<(), ServingFault>
-    ensures { Served D.Desk count (sources (M.told clock.old) (L.did listener.old))
+    ensures served { Served D.Desk count (sources (M.told clock.old) (L.did listener.old))
         (sources (M.told clock.new) (L.did listener.new)) desk.old desk.new
         (E.contents err.old) (E.contents err.new) result }
+    ensures fault { IfErr result (λ fault. fault ≡ ServingFault.Memory → ⊥) }
 {
     let mut told = true;
     'connections: for number in 0..count {
@@ -131,7 +132,8 @@ fn pass<D: Desk, L: Listens, M: Moments>(
     ensures leaves { IfOk result (λ left. Passes D.Desk desk.old desk.new left.shut) }
     ensures fault { IfErr result (λ fault. (fault ≡ ServingFault.Net) × (desk.new ≡ desk.old)
         × Receives D.Desk 0 (sources (M.told clock.old) (L.did listener.old))
-        (sources (M.told clock.new) (L.did listener.new)) desk.old desk.new) }
+        (until (Err ServingFault.Net) (sources (M.told clock.new) (L.did listener.new)))
+        desk.old desk.new) }
 {
     let lost = serve_next(routes, desk, clock, listener)?;
     let shut = says_shut(desk);
@@ -163,7 +165,8 @@ fn serve_next<D: Desk, L: Listens, M: Moments>(
     ensures attends { OnOk result (AttendsOne D.Desk desk.old desk.new) }
     ensures fault { IfErr result (λ fault. (fault ≡ ServingFault.Net) × (desk.new ≡ desk.old)
         × Receives D.Desk 0 (sources (M.told clock.old) (L.did listener.old))
-        (sources (M.told clock.new) (L.did listener.new)) desk.old desk.new) }
+        (until (Err ServingFault.Net) (sources (M.told clock.new) (L.did listener.new)))
+        desk.old desk.new) }
 {
     match listener.meet() {
         Ok(Some(peer)) => Ok(serve_peer(routes, desk, clock.next(), listener, peer)),

@@ -77,7 +77,7 @@ fn run<S: Start>(rt: &HostRuntime, start: S) -> Result<u8, Stop> {
     match command {
         Command::Check => Ok(tell_check(
             rt.alloc(),
-            rt.reader(),
+            &mut rt.reader(),
             &mut rt.stdout(),
             &mut rt.stderr(),
         )),

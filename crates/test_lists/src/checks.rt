@@ -16,7 +16,8 @@ fn expect_told(
     status: Status,
 ) -> Result<(), Fail> {
     let mut told = Vec::new(rt.alloc());
-    let answered = answer(rt.alloc(), input, &mut told)?;
+    let mut input = input;
+    let answered = answer(rt.alloc(), &mut input, &mut told)?;
     assert_eq!(rt; answered, status);
     assert_eq!(rt; told.pop(), Some(b'\n'));
     assert_eq!(rt; told.as_slice(), text.as_bytes());
@@ -53,11 +54,12 @@ fn expect_broken(
 
 #[test]
 fn broken_reader_and_writer_are_told(rt: HostRuntime) -> Result<(), Fail> {
-    let input: &[u8] = b"caller: alice\ngroups:\nowners: root:staff\nask: r\nlist:\nA::alice:r\n";
+    let mut input: &[u8] =
+        b"caller: alice\ngroups:\nowners: root:staff\nask: r\nlist:\nA::alice:r\n";
     let mut told = Vec::new(rt.alloc());
-    expect_broken(&rt, answer(rt.alloc(), input.chain(Broken), &mut told))?;
+    expect_broken(&rt, answer(rt.alloc(), &mut input.chain(Broken), &mut told))?;
     assert_eq!(rt; told.len(), 0);
-    expect_broken(&rt, answer(rt.alloc(), input, &mut Broken))
+    expect_broken(&rt, answer(rt.alloc(), &mut input, &mut Broken))
 }
 
 #[test]

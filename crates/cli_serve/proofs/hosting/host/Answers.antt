@@ -1,4 +1,4 @@
-use Rattle.std.proofs.Common.{[], inl, inr, refl, subst, sym}
+use Rattle.std.proofs.Common.{[], inl, inr, subst, sym}
 use Rattle.sqlite.specs.Held.{Held, state}
 use Rattle.room_store.specs.Crash.{Lasts}
 use Rattle.cli_serve.specs.Hosts.{Hosts}
@@ -16,9 +16,8 @@ returns g c =
     let old = shown c.args.conn in
     let mid = shown c.in-Ok.store.conn in
     let at = c.serve_at-end.ensures.served in
-    let r = at.served.receives in
-    let all = after old mid _ (unanswered_of r.visits) (requests_of r.visits)
-    (opened old mid _ c.in-Ok.ensures.opened) r.did.outlasts.0 in
+    let all = after old mid _ (unanswered_of at.visits) (requests_of at.visits)
+    (opened old mid _ c.in-Ok.ensures.opened) at.runs.outlasts.0 in
     subst (λ (conn : Held g.row.S.Denot). Hosts shown service.place service.count
     (g.M.Moments.told service.clock) (g.M.Moments.told c.serve_at-end.new.service.clock)
     (g.P.Ports.did service.ports) (g.P.Ports.did c.serve_at-end.new.service.ports)
@@ -31,20 +30,21 @@ returns g c =
       opens = c.in-Ok.ensures.opened;
       served =
           served service.place service.count _ _ _ _ mid _ _ _ _ _ _ c.tell_end-status.result
-          r.visits c.serve_at-end.result r.few r.each r.moments (r.acts [] refl) r.did.trusted r.did.sound r.did.run at.served.end_says
+          at.visits c.serve_at-end.result at.few at.each at.moments at.runs.trusted at.runs.sound
+          at.runs.run
           (left_shut _ _ c.in-Ok.store c.serve_at-end.new.desk _ (λ is. is)
-          c.serve_at-end.result at.served.stays)
-          c.tell_end-status.ensures.status c.serve_at-end.ensures.told at.first at.served.faults
+          c.serve_at-end.result at.stays)
+          c.tell_end-status.ensures.status c.serve_at-end.ensures.told at.listens at.faults
           c.tell_end-status.ensures.told c.what_is_seen_lasts.ensures
           (subst (λ (conn : Held g.row.S.Denot). Lasts (shown conn)) c.into_conn-conn.ensures.same
-          c.into_conn-conn.ensures.lasts) r.did.outlasts.0;
+          c.into_conn-conn.ensures.lasts) at.runs.outlasts.0;
       closed =
-          closed_from old mid _ (requests_of r.visits) _ _ c.in-Ok.ensures.opened r.did.trusted
-          r.did.closed;
+          closed_from old mid _ (requests_of at.visits) _ _ c.in-Ok.ensures.opened at.runs.trusted
+          at.runs.closed;
       outlasts = all;
-      leaves = leaves_requests old _ r.visits all c.what_is_committed_lasts.ensures;
+      leaves = leaves_requests old _ at.visits all c.what_is_committed_lasts.ensures;
       stays =
-          stays_room old mid _ c.in-Ok.ensures.opened r.did.outlasts.1
+          stays_room old mid _ c.in-Ok.ensures.opened at.runs.outlasts.1
           c.what_is_committed_lasts.ensures;
     }))
 

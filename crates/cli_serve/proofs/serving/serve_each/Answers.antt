@@ -6,15 +6,15 @@ use Rattle.cli_serve.proofs.Staying.{all_served, left_shut, lines_then, missing,
 use Rattle.cli_serve.proofs.serving.serve_each.Goals as goal
 use Rattle.cli_serve.proofs.serving.serve_each.Goals.{then-told, else-told}
 
-pub returns-in-Err : goal.returns-in-Err
-returns-in-Err g c =
+pub returns-in-Err-clause-served : goal.returns-in-Err-clause-served
+returns-in-Err-clause-served g c =
     let one = c.connections.invariant in
     missing g.D.Desk g.met.D.Desk.laws c.connections.number c.args.count _ _ c.args.desk.now
     c.connections.desk one.received one.stays _ _ _ c.pass.new.desk c.in-Err.fault
     c.connections-test.true one.some c.in-Err.ensures.fault
 
-pub returns-then-left : goal.returns-then-left
-returns-then-left g c =
+pub returns-then-left-clause-served : goal.returns-then-left-clause-served
+returns-then-left-clause-served g c =
     let one = c.connections.invariant in
     left_shut g.D.Desk g.met.D.Desk.laws c.connections.number c.args.count _ _ c.args.desk.now
     c.connections.desk one.received one.stays _ _ _ c.pass.new.desk c.in-Ok.left.lost
@@ -63,16 +63,16 @@ connections-init g c = record {
   some = refl;
 }
 
-pub returns-then-told-2 : goal.returns-then-told-2
-returns-then-told-2 g c =
+pub returns-then-told-2-clause-served : goal.returns-then-told-2-clause-served
+returns-then-told-2-clause-served g c =
     let one = c.connections.invariant in
     all_served g.D.Desk g.met.D.Desk.laws c.connections.number c.args.count _ _ c.args.desk.now
     c.connections.desk one.received one.stays _ _
     (omega (arith, c.connections.auto.number-end, c.connections-test.false))
     (one.whole c.if-told-2.true)
 
-pub returns-else-told-2 : goal.returns-else-told-2
-returns-else-told-2 g c =
+pub returns-else-told-2-clause-served : goal.returns-else-told-2-clause-served
+returns-else-told-2-clause-served g c =
     let one = c.connections.invariant in
     untold g.D.Desk g.met.D.Desk.laws c.connections.number c.args.count _ _ c.args.desk.now
     c.connections.desk one.received one.stays _ _

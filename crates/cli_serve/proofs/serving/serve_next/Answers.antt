@@ -1,7 +1,8 @@
-use Rattle.std.proofs.Common.{[], ◌∷◌, refl, subst, rules, w64, ℤ, SFits}
+use Rattle.std.proofs.Common.{[], ◌∷◌, Err, refl, subst, rules, w64, ℤ, SFits}
 use Rattle.std.proofs.lemmas.Int.{to_z-of_z}
 use Rattle.cli_serve.specs.Peers.{Act, wire}
-use Rattle.cli_serve.specs.Visits.{Attends, Meeting, sources}
+use Rattle.cli_serve.specs.Visits.{Attends, Meeting, sources, until}
+use Rattle.cli_serve.specs.declared.fault.ServingFault.{ServingFault}
 use Rattle.cli_serve.proofs.Receiving.{lost, met_fault, met_lost, met_peer, nobody, no_more, one}
 use Rattle.cli_serve.proofs.Receiving.{told_on}
 use Rattle.cli_serve.proofs.serving.serve_next.Goals as goal
@@ -66,7 +67,8 @@ returns-in-Err-clause-fault g c =
       c.in-Err.ensures.fault,
       refl,
       nobody g.D.Desk g.met.D.Desk.laws 0 (sources told (did c.args.listener.now))
-          (sources told (did c.meet.new.self)) c.args.desk.now (no_more told)
+          (until (Err ServingFault.Net) (sources told (did c.meet.new.self))) c.args.desk.now
+          (no_more told)
           (met_fault c.meet.result (did c.args.listener.now) (did c.meet.new.self)
           (λ x. wire (left x.reader) (sent x.writer)) _ c.in-Err.is c.meet.ensures.met),
     )

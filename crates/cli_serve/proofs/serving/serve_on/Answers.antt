@@ -1,9 +1,8 @@
-use Rattle.std.proofs.Common.{inr, refl}
-use Rattle.cli_outcome.proofs.KnownBytes.{writes_none}
+use Rattle.std.proofs.Common.{inl, inr, refl}
 use Rattle.cli_serve.specs.Visits.{sources}
 use Rattle.cli_serve.specs.declared.fault.ServingFault.{ServingFault}
 use Rattle.cli_serve.proofs.Receiving.{no_more}
-use Rattle.cli_serve.proofs.Staying.{unserved}
+use Rattle.cli_serve.proofs.Staying.{first_told, unserved}
 use Rattle.cli_serve.proofs.serving.serve_on.Goals as goal
 
 pub returns-in_default-clause-served : goal.returns-in_default-clause-served
@@ -12,11 +11,15 @@ returns-in_default-clause-served g c =
     let did = g.L.Listens.did c.args.listening.now.listener in
     unserved g.D.Desk g.met.D.Desk.laws c.args.listening.now.place c.args.listening.now.count
     (sources told did) (sources told did) c.args.desk.now ServingFault.Memory _ _ _
-    (no_more told) (no_more did) (writes_none _ _) refl refl
+    (no_more told) (no_more did) refl refl refl refl
 
 pub returns-then-tell_place-clause-served : goal.returns-then-tell_place-clause-served
-returns-then-tell_place-clause-served g c =
-    record { served = c.serve_each.ensures; first = inr (c.tell_place.ensures.whole c.if-tell_place.true) }
+returns-then-tell_place-clause-served g c = record {
+  served = c.serve_each.ensures.served;
+  first =
+      first_told _ _ c.serve_each.result _ _ c.serve_each.ensures.fault
+      (c.tell_place.ensures.whole c.if-tell_place.true);
+}
 
 pub returns-clause-served : goal.returns-clause-served
 returns-clause-served g c =
@@ -24,4 +27,4 @@ returns-clause-served g c =
     let did = g.L.Listens.did c.args.listening.now.listener in
     unserved g.D.Desk g.met.D.Desk.laws c.args.listening.now.place c.args.listening.now.count
     (sources told did) (sources told did) c.args.desk.now ServingFault.File _ _ _
-    (no_more told) (no_more did) c.tell_place.ensures.some (inr refl) refl
+    (no_more told) (no_more did) refl (inl (refl, c.tell_place.ensures.some)) (inr refl) refl
