@@ -10,6 +10,7 @@ refuses_words 'serve wants a file' serve
 refuses_words 'groups wants a CSV file' groups F
 refuses_words 'reset wants a list' reset F /
 refuses_words 'dump wants a file' dump
+refuses_words 'get wants a path' get F
 refuses_words 'review wants a path' review F
 refuses_words 'review takes two' review F / more
 refuses_words 'unknown option' serve F --host x
@@ -36,7 +37,7 @@ run --help
 holds 'help' [ "$status" = 2 ]
 holds 'help (standard output)' [ ! -s "$work/out" ]
 cp "$work/err" help
-for name in check init serve groups groups-out audit dump review reset verify migrate; do
+for name in check init serve groups groups-out audit dump get review reset verify migrate; do
   holds "help names $name" grep -q "^  $name " help
   run "$name" --help
   holds "help of $name" [ "$status" = 2 ]

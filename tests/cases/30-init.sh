@@ -61,6 +61,7 @@ over_file() { # NAME STATUS OUT ERR FILE
     gives "$name: $command" "$wanted" "$out" "$err" "$command" "$file"
   done
   gives "$name: review" "$wanted" "$out" "$err" review "$file" /
+  gives "$name: get" "$wanted" "$out" "$err" get "$file" /f
   gives "$name: groups" "$wanted" "$out" "$err" groups "$file" pairs.csv
   from_lines list:
   gives "$name: reset" "$wanted" "$out" "$err" reset "$file" / dacl
@@ -107,6 +108,7 @@ over_lacking groups-out lacking.db
 over_lacking audit lacking.db
 over_lacking dump lacking.db
 over_lacking review lacking.db /
+over_lacking get lacking.db /f
 over_lacking verify lacking.db
 over_lacking groups lacking.db pairs.csv
 from_lines list:

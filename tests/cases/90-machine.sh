@@ -2,7 +2,7 @@
 
 open_room F
 printf 'group,user\nsales,alice\n' >in.csv
-for command in 'dump F' 'review F /' 'audit F' 'groups-out F' 'verify F' 'migrate F' 'groups F in.csv'; do
+for command in 'dump F' 'get F /' 'review F /' 'audit F' 'groups-out F' 'verify F' 'migrate F' 'groups F in.csv'; do
   "$rooms" $command </dev/null 2>"$work/err" >&-
   status=$?
   : >"$work/out"

@@ -15,6 +15,7 @@ work_ended (room.Groups pairs) old new outcome works ended = works.ran.leaves.en
 work_ended room.GroupsOut old new outcome works ended = works.looked.leaves.ended ended
 work_ended room.Audit old new outcome works ended = works.looked.leaves.ended ended
 work_ended room.Dump old new outcome works ended = works.looked.leaves.ended ended
+work_ended (room.Get path) old new outcome works ended = works.looked.leaves.ended ended
 work_ended (room.Review path user all) old new outcome works ended = works.looked.leaves.ended ended
 work_ended (room.Reset path which sent) old new outcome works ended = works.ran.leaves.ended ended
 work_ended room.Verify old new outcome works ended = works.looked.leaves.ended ended

@@ -25,6 +25,8 @@ work_outlasts room.Audit old new outcome works =
     λ now db left. inl (works.looked.crash now db left)
 work_outlasts room.Dump old new outcome works =
     λ now db left. inl (works.looked.crash now db left)
+work_outlasts (room.Get path) old new outcome works =
+    λ now db left. inl (works.looked.crash now db left)
 work_outlasts (room.Review path user all) old new outcome works =
     λ now db left. inl (works.looked.crash now db left)
 work_outlasts (room.Reset path which sent) old new outcome works = works.ran.crash
@@ -37,6 +39,7 @@ work_clean (room.Groups pairs) old new outcome works = works.ran.leaves.clean
 work_clean room.GroupsOut old new outcome works = works.looked.leaves.clean
 work_clean room.Audit old new outcome works = works.looked.leaves.clean
 work_clean room.Dump old new outcome works = works.looked.leaves.clean
+work_clean (room.Get path) old new outcome works = works.looked.leaves.clean
 work_clean (room.Review path user all) old new outcome works = works.looked.leaves.clean
 work_clean (room.Reset path which sent) old new outcome works = works.ran.leaves.clean
 work_clean room.Verify old new outcome works = works.looked.leaves.clean
@@ -57,6 +60,7 @@ module _ (old mid : State) (was_open : IsTrue mid.is_open → IsTrue old.is_open
   committed room.GroupsOut commits = commits
   committed room.Audit commits = commits
   committed room.Dump commits = commits
+  committed (room.Get path) commits = commits
   committed (room.Review path user all) commits = commits
   committed (room.Reset path which sent) commits = answered _ commits
   committed room.Verify commits = commits

@@ -30,6 +30,7 @@ CommitsWork (room.Groups pairs) old db = CommitsAnswer (ReplacesMembers pairs) o
 CommitsWork room.GroupsOut old db = ⊥
 CommitsWork room.Audit old db = ⊥
 CommitsWork room.Dump old db = ⊥
+CommitsWork (room.Get path) old db = ⊥
 CommitsWork (room.Review path user all) old db = ⊥
 CommitsWork (room.Reset path which sent) old db = CommitsAnswer (Resets path which sent) old db
 CommitsWork room.Verify old db = ⊥

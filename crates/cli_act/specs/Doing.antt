@@ -9,11 +9,16 @@ use Rattle.room_ace.specs.Sent.{Sent}
 use Rattle.room_entry.specs.declared.object.Which.{Which}
 use Rattle.room_entry.specs.declared.parties.Owners.{Owners}
 use Rattle.room_import.specs.Exports.{groups_text, records_text}
+use Rattle.room_dump.specs.Fetching.{IsFetched}
+use Rattle.room_dump.specs.declared.fetching.Fetched.{Fetched}
+use Rattle.room_dump.specs.declared.fetching.Fetched.TheVariants as fetched
 use Rattle.room_inherit.specs.Reading.{IsReport}
 use Rattle.room_rows.specs.declared.report.Report.{Report}
 use Rattle.room_rows.specs.declared.report.Report.TheVariants as report
 use Rattle.room_judge.specs.Judged.{Resets}
 use Rattle.room_machine.specs.Run.{Replaced, WasReset, event_of}
+use Rattle.room_machine.specs.declared.reply.Reason.{Reason}
+use Rattle.room_machine.specs.declared.reply.Reason.TheVariants as reason
 use Rattle.room_machine.specs.declared.reply.Reply.{Reply}
 use Rattle.room_machine.specs.declared.reply.Reply.TheVariants as reply
 use Rattle.room_review.specs.declared.question.Scope.{Scope}
@@ -82,6 +87,20 @@ after_replacing pairs (Err fault) = after_fault fault
 abbrev pub after_dump : Result (String Global) StoreFault → Outcome
 after_dump (Ok text) = Bytes (string_bytes text)
 after_dump (Err fault) = after_fault fault
+
+abbrev pub refused : List (List ℕ) → Reason → Outcome
+refused path why = Answer (answer.Refused path why)
+
+-- a document is printed, and anything else refused
+abbrev pub after_fetch : Fetched → Outcome
+after_fetch (fetched.Bytes bytes) = Bytes bytes
+after_fetch (fetched.NoSuch path) = refused path reason.NoSuch
+after_fetch (fetched.NotFolder path) = refused path reason.NotFolder
+after_fetch (fetched.WrongKind path) = refused path reason.WrongKind
+
+abbrev pub after_fetching : Result Fetched StoreFault → Outcome
+after_fetching (Ok fetched) = after_fetch fetched
+after_fetching (Err fault) = after_fault fault
 
 abbrev pub after_review : Reviewed → Outcome
 after_review (reviewed.Table text) = Bytes text
@@ -157,6 +176,14 @@ pub record GivesDump (old : State) (outcome : Outcome) (new : State) : Type 0 wh
   pub leads : Leads old [] new
   pub told : outcome ≡ after_dump result
 
+pub record GivesDocument (path : List (List ℕ)) (old : State) (outcome : Outcome) (new : State)
+    : Type 0 where
+  pub result : Result Fetched StoreFault
+  pub looked : Looked old new result HasDamagedRow
+      (λ db fetched. IsFetched path (rows_of db) fetched)
+  pub leads : Leads old [] new
+  pub told : outcome ≡ after_fetching result
+
 pub record GivesReview (question : Scope) (old : State) (outcome : Outcome) (new : State)
     : Type 0 where
   pub result : Result Reviewed StoreFault
@@ -189,6 +216,7 @@ Works (room.Groups pairs) old outcome new = PutsMembers pairs old outcome new
 Works room.GroupsOut old outcome new = GivesMembers old outcome new
 Works room.Audit old outcome new = GivesRecords old outcome new
 Works room.Dump old outcome new = GivesDump old outcome new
+Works (room.Get path) old outcome new = GivesDocument path old outcome new
 Works (room.Review path user all) old outcome new =
     GivesReview (question_of path user all) old outcome new
 Works (room.Reset path which sent) old outcome new = SetsList path which sent old outcome new

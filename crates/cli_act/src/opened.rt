@@ -2,6 +2,7 @@
 ghost use Rattle.std.specs.Prelude.{◌≡◌, IfOk};
 ghost use Rattle.sqlite.specs.Held.{state};
 ghost use Rattle.cli_act.specs.Doing.{
+  GivesDocument,
   GivesDump,
   GivesMembers,
   GivesRecords,
@@ -10,12 +11,14 @@ ghost use Rattle.cli_act.specs.Doing.{
   SetsList,
   TestsRows,
   Works,
+  after_fetch,
   after_reply,
   after_report,
   after_review,
   fault_of,
   or_failed,
   question_of,
+  refused,
 };
 
 use crate::counting::count_groups;
@@ -23,9 +26,10 @@ use crate::outcome::{Outcome, TaskAnswer};
 use cli_outcome::Fault;
 use cli_words::RoomTask;
 use room_ace::{Name, SentList, Which};
+use room_dump::Fetched;
 use room_import::{write_audits, write_groups};
 use room_inherit::Report;
-use room_machine::Reply;
+use room_machine::{Reason, Reply};
 use room_review::{Reviewed, Scope};
 use room_rows::{Bytes, Path};
 use room_store::{Store, StoreFault};
@@ -92,6 +96,37 @@ fn tell_all<S: Alter>(alloc: Global, store: &mut Store<S>) -> Result<Outcome, Fa
 {
     let text = store.dump(alloc).map_err(fault_of)?;
     Ok(Outcome::Bytes(Bytes::from_vec(text.into_bytes())))
+}
+
+fn tell_document<S: Alter>(
+    alloc: Global,
+    store: &mut Store<S>,
+    path: &Path,
+) -> Result<Outcome, Fault>
+    ensures { GivesDocument path.now (state S.Store store.old.conn) (or_failed result)
+        (state S.Store store.new.conn) }
+{
+    let fetched = store.document(alloc, path).map_err(fault_of)?;
+    Ok(after_fetch(fetched))
+}
+
+// The outcome where a document was asked for.
+fn after_fetch(fetched: Fetched) -> Outcome
+    ensures { result ≡ after_fetch fetched }
+{
+    match fetched {
+        Fetched::Bytes(bytes) => Outcome::Bytes(bytes),
+        Fetched::NoSuch(path) => refused(path, Reason::NoSuch),
+        Fetched::NotFolder(path) => refused(path, Reason::NotFolder),
+        Fetched::WrongKind(path) => refused(path, Reason::WrongKind),
+    }
+}
+
+// The outcome of what is refused at a path.
+fn refused(path: Path, why: Reason) -> Outcome
+    ensures { result ≡ refused path why }
+{
+    Outcome::Answer(TaskAnswer::Refused { path, why })
 }
 
 // What a store is asked for a review.
@@ -190,6 +225,7 @@ fn attempt<S: Alter>(alloc: Global, store: &mut Store<S>, task: &RoomTask) -> Re
         RoomTask::GroupsOut => tell_members(alloc, store),
         RoomTask::Audit => tell_records(alloc, store),
         RoomTask::Dump => tell_all(alloc, store),
+        RoomTask::Get(path) => tell_document(alloc, store, path),
         RoomTask::Review { path, user, all } => review(alloc, store, path, user, *all),
         RoomTask::Reset(path, which, sent) => set_list(alloc, store, path, *which, sent),
         RoomTask::Verify => test(alloc, store),

@@ -1,4 +1,4 @@
--- A line without fault names one of the eleven subcommands, and has the words that it wants.
+-- A line without fault names one of the twelve subcommands, and has the words that it wants.
 use Rattle.std.proofs.Common.{◌≡◌, ◌∙◌, ap, sym, subst, refl, true, false, Bool, List, [], ◌∷◌}
 use Rattle.std.proofs.Common.{Option, Some, None, inl, inr, is_some, ◌||◌, codes}
 use Rattle.std.proofs.Math.Bool.{or-false}
@@ -192,17 +192,21 @@ all_read names two = (
             (
               reads _ refl refl refl refl (inr (inr (inr (inr (inr (inr (inl refl))))))),
               (
-                reads _ refl refl refl refl (inr (inr (inr (inr (inr (inr (inr (inl refl)))))))),
+                reads _ refl refl refl refl
+                    (inr (inr (inr (inr (inr (inr (inr (inr (inr (inr (inr refl))))))))))),
                 (
-                  reset_read names two _ refl refl refl (λ text. refl) refl
-                      (inr (inr (inr (inr (inr (inr (inr (inr (inl refl))))))))),
+                  reads _ refl refl refl refl (inr (inr (inr (inr (inr (inr (inr (inl refl)))))))),
                   (
-                    reads _ refl refl refl refl
-                        (inr (inr (inr (inr (inr (inr (inr (inr (inr (inl refl)))))))))),
+                    reset_read names two _ refl refl refl (λ text. refl) refl
+                        (inr (inr (inr (inr (inr (inr (inr (inr (inl refl))))))))),
                     (
                       reads _ refl refl refl refl
-                          (inr (inr (inr (inr (inr (inr (inr (inr (inr (inr refl)))))))))),
-                      tt,
+                          (inr (inr (inr (inr (inr (inr (inr (inr (inr (inl refl)))))))))),
+                      (
+                        reads _ refl refl refl refl
+                            (inr (inr (inr (inr (inr (inr (inr (inr (inr (inr (inl refl))))))))))),
+                        tt,
+                      ),
                     ),
                   ),
                 ),

@@ -64,6 +64,7 @@ task-take (job.Groups csv) input =
 task-take job.GroupsOut input = refl
 task-take job.Audit input = refl
 task-take job.Dump input = refl
+task-take (job.Get path) input = refl
 task-take (job.Review path user all) input = refl
 task-take (job.Reset path which) input =
     ap (λ (read : Result Sent TaskRefusal).

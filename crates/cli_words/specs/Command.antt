@@ -56,6 +56,7 @@ wanted_with_file name =
     if bytes_eq name (codes "init") then codes "OWNER" ∷ codes "GROUP" ∷ []
     else if bytes_eq name (codes "groups") then codes "CSV" ∷ []
     else if bytes_eq name (codes "review") then codes "PATH" ∷ []
+    else if bytes_eq name (codes "get") then codes "PATH" ∷ []
     else if bytes_eq name (codes "reset") then codes "PATH" ∷ codes "LIST" ∷ []
     else []
 
@@ -116,6 +117,8 @@ IsJob name rows (job.Groups csv) =
 IsJob name rows job.GroupsOut = name ≡ codes "groups-out"
 IsJob name rows job.Audit = name ≡ codes "audit"
 IsJob name rows job.Dump = name ≡ codes "dump"
+IsJob name rows (job.Get path) =
+    (name ≡ codes "get") × (path.now ≡ word (codes "PATH") rows)
 IsJob name rows (job.Review path user all) = (name ≡ codes "review")
     × (path.now ≡ word (codes "PATH") rows)
     × (option_map (λ (text : Bor Text). text.now) user ≡ first_of (codes "user") rows)
@@ -134,12 +137,12 @@ IsMet name rows (command.Serve file place count) = (name ≡ codes "serve")
 IsMet name rows (command.On file job) =
     (file.now ≡ word (codes "FILE") rows) × IsJob name rows job
 
--- One of the eleven names of subcommands.
+-- One of the twelve names of subcommands.
 abbrev pub IsName : Text → Type 0
 IsName name = (name ≡ codes "check") ⊎ ((name ≡ codes "init") ⊎ ((name ≡ codes "serve")
     ⊎ ((name ≡ codes "groups") ⊎ ((name ≡ codes "groups-out") ⊎ ((name ≡ codes "audit")
     ⊎ ((name ≡ codes "dump") ⊎ ((name ≡ codes "review") ⊎ ((name ≡ codes "reset")
-    ⊎ ((name ≡ codes "verify") ⊎ (name ≡ codes "migrate"))))))))))
+    ⊎ ((name ≡ codes "verify") ⊎ ((name ≡ codes "migrate") ⊎ (name ≡ codes "get")))))))))))
 
 -- One of them was found, with the words that it wants.
 abbrev pub IsWhole : Option (Text × List Row) → Type 0

@@ -46,6 +46,9 @@ socket = record (new_rule (codes "socket")) { long = Some (codes "socket") }
 abbrev pub serve : App
 serve = sub (codes "serve") (file ∷ port ∷ socket ∷ count ∷ [])
 
+abbrev pub get : App
+get = sub (codes "get") (file ∷ wanted (codes "PATH") ∷ [])
+
 -- the only user whose rows are written
 abbrev pub user : Rule
 user = record (new_rule (codes "user")) { long = Some (codes "user") }
@@ -88,14 +91,14 @@ making = sub (codes "check") [] ∷ init ∷ serve ∷ groups ∷ []
 
 abbrev pub telling : List App
 telling =
-    over_file (codes "groups-out") ∷ over_file (codes "audit") ∷ over_file (codes "dump") ∷ review
-    ∷ []
+    over_file (codes "groups-out") ∷ over_file (codes "audit") ∷ over_file (codes "dump") ∷ get
+    ∷ review ∷ []
 
 abbrev pub keeping : Bor (List (Bor Text)) → List App
 keeping names =
     reset names ∷ over_file (codes "verify") ∷ over_file (codes "migrate") ∷ []
 
--- all eleven subcommands
+-- all twelve subcommands
 abbrev pub command_line : Bor (List (Bor Text)) → App
 command_line names = with_all (keeping names) (with_all telling (with_all making program))
 

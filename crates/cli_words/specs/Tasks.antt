@@ -64,6 +64,9 @@ abbrev pub reset_of : List ℕ → Which → List ℕ → Result Task TaskRefusa
 reset_of path which input = goes_on (task_path path) (λ path. goes_on (sent_in input) (λ list.
     Ok (task.OnRoom (room.Reset path which list))))
 
+abbrev pub get_of : List ℕ → Result Task TaskRefusal
+get_of path = goes_on (task_path path) (λ path. Ok (task.OnRoom (room.Get path)))
+
 abbrev pub review_at : List ℕ → Option (List ℕ) → Bool → Result Task TaskRefusal
 review_at path user all =
     goes_on (task_path path) (λ path. Ok (task.OnRoom (room.Review path user all)))
@@ -83,6 +86,7 @@ task_of (job.Groups csv) input =
 task_of job.GroupsOut input = Ok (task.OnRoom room.GroupsOut)
 task_of job.Audit input = Ok (task.OnRoom room.Audit)
 task_of job.Dump input = Ok (task.OnRoom room.Dump)
+task_of (job.Get path) input = get_of path.now
 task_of (job.Review path user all) input =
     review_of path.now (option_map (λ (name : Bor (List ℕ)). name.now) user) all
 task_of (job.Reset path which) input = reset_of path.now which input

@@ -39,6 +39,10 @@ pub enum Job<'a> {
     Audit,
     /// Writes all objects and members.
     Dump,
+    /// Writes the bytes of the document at a path without asking any right.
+    Get {
+        path: &'a str,
+    },
     /// Writes who may do what at a path and below it: the rows of one user or of all callers,
     /// without those that repeat what the folder above says, or all.
     Review {

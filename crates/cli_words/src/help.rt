@@ -93,6 +93,16 @@ and then the members.
 
 Example: rooms dump office.rooms";
 
+pub(crate) const GET: &str = "\
+Its bytes as they are, with nothing before or after them. No right is asked, and
+no record is left. PATH is written as it is, without escapes.
+
+  0  the bytes
+  2  refused: N1 no-such at PATH, or another refusal
+  3  a fault, printed on standard error
+
+Example: rooms get office.rooms /letters/2026.txt > 2026.txt";
+
 pub(crate) const REVIEW: &str = "\
 A row path,kind,user,rights,remove, and then a row for each object and caller:
 which rights this caller would be granted there, by their letters, and whether

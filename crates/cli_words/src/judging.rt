@@ -1,8 +1,8 @@
 //! Validates a subcommand's words and input.
 ghost use Rattle.std.specs.Prelude.{option_map};
 ghost use Rattle.room_entry.specs.Gives.{Gives};
-ghost use Rattle.cli_words.specs.Tasks.{init_task, pairs_in, reset_of, review_at, review_of};
-ghost use Rattle.cli_words.specs.Tasks.{sent_in, task_name, task_of, task_path};
+ghost use Rattle.cli_words.specs.Tasks.{get_of, init_task, pairs_in, reset_of, review_at};
+ghost use Rattle.cli_words.specs.Tasks.{review_of, sent_in, task_name, task_of, task_path};
 
 use crate::command::Job;
 use crate::refusal::TaskRefusal;
@@ -36,6 +36,8 @@ pub enum RoomTask {
     Audit,
     /// Print all objects and members.
     Dump,
+    /// Print the bytes of the document at this path.
+    Get(Path),
     /// Print who may do what at this path and below it: the rows of one user or of all callers,
     /// and whether also those that repeat what the folder above says.
     Review {
@@ -62,6 +64,7 @@ pub fn judge(alloc: Global, job: &Job<'_>, input: &[u8]) -> Result<Task, Failure
         Job::GroupsOut => Ok(Task::OnRoom(RoomTask::GroupsOut)),
         Job::Audit => Ok(Task::OnRoom(RoomTask::Audit)),
         Job::Dump => Ok(Task::OnRoom(RoomTask::Dump)),
+        Job::Get { path } => get_of(alloc, path),
         Job::Review { path, user, all } => review_of(alloc, path, *user, *all),
         Job::Reset { path, which } => reset_of(alloc, path, *which, input),
         Job::Verify => Ok(Task::OnRoom(RoomTask::Verify)),
@@ -97,6 +100,12 @@ fn pairs_in(alloc: Global, input: &[u8]) -> Result<Pairs, Failure<TaskRefusal>>
         Err(Failure::Fault(fault)) => Err(Failure::Fault(TaskRefusal::Row(fault))),
         Err(Failure::OutOfMemory) => Err(Failure::OutOfMemory),
     }
+}
+
+fn get_of(alloc: Global, path: &str) -> Result<Task, Failure<TaskRefusal>>
+    ensures { Gives result (get_of path.now) }
+{
+    Ok(Task::OnRoom(RoomTask::Get(task_path(alloc, path)?)))
 }
 
 // A review of one user, or of all callers.

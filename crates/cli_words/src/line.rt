@@ -2,7 +2,7 @@
 ghost use Rattle.std.specs.Prelude.{IfOk, [], codes};
 ghost use Rattle.clap.specs.Words.{App, with_subcommand};
 ghost use Rattle.cli_words.specs.Line.{IsArg, IsCommandLine, IsLine, IsListArg, IsReset, all};
-ghost use Rattle.cli_words.specs.Line.{count, file};
+ghost use Rattle.cli_words.specs.Line.{count, file, get};
 ghost use Rattle.cli_words.specs.Line.{groups, init, making, over_file, port, program, review};
 ghost use Rattle.cli_words.specs.Line.{serve, socket, sub, telling, user, wanted, with_all};
 
@@ -120,6 +120,13 @@ fn groups<'a>(alloc: Global) -> Result<Command<'a>, AllocError>
     ))
 }
 
+fn get<'a>(alloc: Global) -> Result<Command<'a>, AllocError>
+    ensures { IfOk result (IsLine get) }
+{
+    let about = "Writes the bytes of a document, without testing any right";
+    over_file(alloc, "get", about, help::GET)?.arg(wanted(alloc, PATH, "The path of the document"))
+}
+
 fn user<'a>(alloc: Global) -> Arg<'a>
     ensures { IsArg user result }
 {
@@ -201,6 +208,7 @@ fn with_telling<'a>(alloc: Global) -> Result<Command<'a>, AllocError>
     let line = with(line, over_file(alloc, "audit", about, help::AUDIT))?;
     let about = "Writes all objects and members";
     let line = with(line, over_file(alloc, "dump", about, help::DUMP))?;
+    let line = with(line, get(alloc))?;
     with(line, review(alloc))
 }
 

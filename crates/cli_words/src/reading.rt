@@ -120,6 +120,15 @@ fn groups<'a>(words: &ArgMatches<'a>) -> Job<'a>
     }
 }
 
+fn get<'a>(words: &ArgMatches<'a>) -> Job<'a>
+    requires { HasWords (codes "get") (rows_of (found_of words.now)) }
+    ensures { IsJob (codes "get") (rows_of (found_of words.now)) result }
+{
+    Job::Get {
+        path: word(words, PATH),
+    }
+}
+
 // The user who was named, if one was.
 fn user<'a>(words: &ArgMatches<'a>) -> Option<&'a str>
     ensures { option_map (λ text. text.now) result
@@ -166,6 +175,7 @@ fn met<'a>(name: &str, words: &ArgMatches<'a>) -> Option<Command<'a>>
         "serve" => Some(serve(words)),
         "init" => Some(Command::On(word(words, FILE), init(words))),
         "groups" => Some(Command::On(word(words, FILE), groups(words))),
+        "get" => Some(Command::On(word(words, FILE), get(words))),
         "review" => Some(Command::On(word(words, FILE), review(words))),
         "reset" => Some(Command::On(word(words, FILE), reset(words))),
         "groups-out" => Some(Command::On(word(words, FILE), Job::GroupsOut)),

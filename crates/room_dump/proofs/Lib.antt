@@ -1,5 +1,6 @@
 pub mod Counting
 pub mod Depth
+pub mod Ends
 pub mod Reached
 pub mod Reading
 pub mod Turning

@@ -3,4 +3,5 @@ pub mod Members
 pub mod Dump
 pub mod Waiting
 pub mod Telling
+pub mod Fetching
 pub mod Laws

@@ -12,6 +12,7 @@ mod Recalled
 pub mod Outlasting
 mod Retaining
 mod Reviewed
+mod Fetched
 mod FromRoot
 mod Reopened
 mod Looking

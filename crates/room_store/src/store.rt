@@ -3,6 +3,7 @@ ghost use Rattle.std.specs.Prelude.{◌≡◌, [], OnOk, false};
 ghost use Rattle.std.specs.Option.{option_copied};
 ghost use Rattle.sqlite.specs.Held.{state};
 ghost use Rattle.sqlite.specs.State.{HasCleanDisk};
+ghost use Rattle.room_dump.specs.Fetching.{IsFetched};
 ghost use Rattle.room_inherit.specs.Reading.{IsReport};
 ghost use Rattle.room_judge.specs.Closed.{Performs};
 ghost use Rattle.room_judge.specs.Judged.{Resets};
@@ -28,6 +29,7 @@ ghost use Rattle.store_admin.specs.Operating.{
 };
 
 use crate::fault::StoreFault;
+use crate::fetching::fetch_inside;
 use crate::laws::what_is_committed_lasts;
 use crate::look::{give_up, if_open, test_shut};
 use crate::resetting::reset_inside;
@@ -36,6 +38,7 @@ use crate::running::{RequestBy, end_look, known_of, perform_inside};
 use crate::turn::{begin, finish};
 use crate::verifying::verify_inside;
 use room_ace::{Name, SentList, Which};
+use room_dump::Fetched;
 use room_inherit::Report;
 use room_inherit::laws::sound_is_no_fault;
 use room_machine::{Reply, Request};
@@ -275,6 +278,25 @@ impl<S: Alter> Store<S> {
         self.memory = None;
         let mut tx = begin(&mut self.conn);
         let done = dump_all(alloc, &mut tx);
+        give_up(tx, done)
+    }
+
+    /// The bytes of the document at a path, or why there are none: no such object, a document on
+    /// the way, or a folder. No rights are asked. Nothing changes, and no record is left. The error
+    /// is `Damaged` only for a damaged row, so never on sound rows.
+    pub fn document(&mut self, alloc: Global, path: &Path) -> Result<Fetched, StoreFault>
+        ensures looked { Looked (state S.Store self.old.conn) (state S.Store self.new.conn) result
+            HasDamagedRow (λ db fetched. IsFetched path.now (rows_of db) fetched) }
+        ensures leads { Leads (state S.Store self.old.conn) [] (state S.Store self.new.conn) }
+        ensures outlasts { Outlasts (state S.Store self.old.conn) [] []
+            (state S.Store self.new.conn) }
+        ensures faults { self.new.faults ≡ self.old.faults }
+    {
+        self.memory = None;
+        let mut tx = begin(&mut self.conn);
+        let done = fetch_inside(alloc, &mut tx, path);
+        // a keeper doesn't tell whether the connection was open
+        let done = if_open(&mut tx, done);
         give_up(tx, done)
     }
 

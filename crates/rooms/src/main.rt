@@ -13,6 +13,7 @@
 //! - `groups-out FILE` prints the members as CSV.
 //! - `audit FILE` prints the records as CSV.
 //! - `dump FILE` prints all objects and all members.
+//! - `get FILE PATH` prints the bytes of the document at PATH, without testing any right.
 //! - `review FILE PATH --user NAME --all` prints as CSV who may do what with the object at PATH and
 //!   with all below it.
 //! - `reset FILE PATH dacl|sacl` sets the list on standard input, without testing any right, and

@@ -2,9 +2,10 @@
 
 use crate::words::{cut, push_lines, push_report, push_store_fault};
 use room_ace::{Failure, Name, SentList, Which, read_name};
+use room_dump::Fetched;
 use room_import::{CsvFault, read_groups, write_audits};
 use room_inherit::Report;
-use room_machine::Reply;
+use room_machine::{Reason, Reply};
 use room_review::{Reviewed, Scope};
 use room_rows::{AuditRow, Path};
 use room_store::{Store, StoreFault};
@@ -79,6 +80,7 @@ pub(crate) fn call<S: Alter>(
 ) -> Result<(), Fail> {
     match verb {
         "Dump" => dump(alloc, store, told),
+        "Get" => get(alloc, store, rest, told),
         "Members" => members(alloc, store, told),
         "Audits" => audits(alloc, store, told),
         "Review" => review(alloc, store, rest, told),
@@ -107,6 +109,41 @@ fn dump<S: Alter>(alloc: Global, store: &mut Store<S>, told: &mut String) -> Res
 
 fn dumped<S: Alter>(alloc: Global, store: &mut Store<S>) -> Result<String, StoreFault> {
     store.dump(alloc)
+}
+
+// Adds the bytes of a document, or the refusal.
+fn get<S: Alter>(
+    alloc: Global,
+    store: &mut Store<S>,
+    place: &str,
+    told: &mut String,
+) -> Result<(), Fail> {
+    let path = path_of(alloc, place)?;
+    let answer = fetched(alloc, store, &path);
+    drop(path);
+    match answer {
+        Ok(fetched) => push_reply(alloc, told, &reply_of(fetched)),
+        Err(fault) => push_store_fault(told, fault),
+    }
+}
+
+fn fetched<S: Alter>(
+    alloc: Global,
+    store: &mut Store<S>,
+    path: &Path,
+) -> Result<Fetched, StoreFault> {
+    store.document(alloc, path)
+}
+
+// The reply to a request that says the same.
+fn reply_of(fetched: Fetched) -> Reply {
+    let (at, why) = match fetched {
+        Fetched::Bytes(bytes) => return Reply::Bytes(bytes),
+        Fetched::NoSuch(at) => (at, Reason::NoSuch),
+        Fetched::NotFolder(at) => (at, Reason::NotFolder),
+        Fetched::WrongKind(at) => (at, Reason::WrongKind),
+    };
+    Reply::Refused { at, why }
 }
 
 fn members<S: Alter>(alloc: Global, store: &mut Store<S>, told: &mut String) -> Result<(), Fail> {

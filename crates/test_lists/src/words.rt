@@ -110,6 +110,8 @@ fn words_of_a_file_are_read(rt: HostRuntime) -> Result<(), Fail> {
     expect_job(&rt, &["rooms", "groups-out", "a.db"], Job::GroupsOut)?;
     expect_job(&rt, &["rooms", "audit", "a.db"], Job::Audit)?;
     expect_job(&rt, &["rooms", "dump", "a.db"], Job::Dump)?;
+    let get = Job::Get { path: "/a b" };
+    expect_job(&rt, &["rooms", "get", "a.db", "/a b"], get)?;
     expect_job(&rt, &["rooms", "verify", "a.db"], Job::Verify)?;
     expect_job(&rt, &["rooms", "migrate", "a.db"], Job::Migrate)
 }
@@ -196,6 +198,9 @@ fn other_words_are_refused(rt: HostRuntime) -> Result<(), Fail> {
     expect_refused(&rt, &["rooms", "verify"], missing)?;
     expect_refused(&rt, &["rooms", "init", "a.db", "alice"], missing)?;
     expect_refused(&rt, &["rooms", "review", "a.db"], missing)?;
+    expect_refused(&rt, &["rooms", "get", "a.db"], missing)?;
+    let second = ["rooms", "get", "a.db", "/f", "/g"];
+    expect_refused(&rt, &second, ErrorKind::UnknownArgument)?;
     let other_list = ["rooms", "reset", "a.db", "/", "facl"];
     told(&rt, &other_list, ErrorKind::InvalidValue)?;
     expect_refused(
@@ -228,6 +233,11 @@ fn help_tells_statuses_and_an_example(rt: HostRuntime) -> Result<(), Fail> {
     expect_help(&rt, "groups-out", "Example: rooms groups-out office.rooms")?;
     expect_help(&rt, "audit", "Example: rooms audit office.rooms")?;
     expect_help(&rt, "dump", "Example: rooms dump office.rooms")?;
+    expect_help(
+        &rt,
+        "get",
+        "Example: rooms get office.rooms /letters/2026.txt",
+    )?;
     expect_help(&rt, "review", "Example: rooms review office.rooms /letters")?;
     expect_help(
         &rt,

@@ -105,6 +105,27 @@ fn reset_is_refused_before_the_room_is_opened(rt: HostRuntime) -> Result<(), Fai
 }
 
 #[test]
+fn a_document_is_printed_or_refused(rt: HostRuntime) -> Result<(), Fail> {
+    let document = Ask::Get("/f");
+    let below = Ask::Get("/f/x/y");
+    plays(
+        rt.alloc(),
+        &[
+            tells(Ask::Get("f"), "refused: P1 bad object name\n", 2),
+            tells(Ask::Init, "ready\n", 0),
+            tells(document, "refused: N1 no-such at /f\n", 2),
+            after(DOCUMENT, document, "hi", 0),
+            tells(below, "refused: N2 not-folder at /f\n", 2),
+            tells(Ask::Get("/"), "refused: N3 wrong-kind at /\n", 2),
+            tells(Ask::Audit, "at,user,path,bits,granted,entry,kind\n", 0),
+            after("UPDATE bodies SET bytes = x''", document, "", 0),
+            fails("DELETE FROM bodies", document, "fault: database\n"),
+            fails("DELETE FROM nodes", Ask::Get("/"), "fault: database\n"),
+        ],
+    )
+}
+
+#[test]
 fn review_is_printed_or_refused(rt: HostRuntime) -> Result<(), Fail> {
     let bad_name = Ask::Review("q", Some("bad name"));
     let bad_path = Ask::Review("q", Some("bob"));

@@ -14,6 +14,7 @@ pub enum Ask {
     GroupsOut,
     Audit,
     Dump,
+    Get(&'static str),
     Review(&'static str, Option<&'static str>),
     Reset(&'static str, Which, &'static [u8]),
     Verify,
@@ -69,6 +70,7 @@ pub fn task_of(alloc: Global, ask: Ask) -> Result<Task, Failure<TaskRefusal>> {
         Ask::GroupsOut => judge(alloc, &Job::GroupsOut, &[]),
         Ask::Audit => judge(alloc, &Job::Audit, &[]),
         Ask::Dump => judge(alloc, &Job::Dump, &[]),
+        Ask::Get(path) => judge(alloc, &Job::Get { path }, &[]),
         Ask::Review(path, user) => {
             let all = false;
             judge(alloc, &Job::Review { path, user, all }, &[])

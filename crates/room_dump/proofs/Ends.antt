@@ -1,0 +1,57 @@
+-- The object that a walk ends at.
+use Rattle.std.proofs.Common.{◌≡◌, ℕ, List, [], ◌∷◌, length, Option, Some, None, inr, refl}
+use Rattle.std.proofs.Common.{ap, subst, ◌∙◌}
+use Rattle.std.specs.List.{AllByRecursion as Each}
+use Rattle.std.specs.Option.{option_map_or}
+use Rattle.room_rows.specs.declared.node.Node.{Node}
+use Rattle.room_rows.specs.declared.node.Walk.{Walk}
+use Rattle.room_rows.specs.Content.{Content, body_of, child_of, node_at, root_of}
+use Rattle.room_rows.specs.Keep.{IsDamaged}
+use Rattle.room_rows.specs.Rows.{AreRows, Rows}
+use Rattle.room_rows.specs.Walk.{behind, walk_from, walk_of}
+use Rattle.room_rows.proofs.Frames.{Rises, child_of-is_there, root_of-is_there}
+use Rattle.room_dump.proofs.Counting.{each_last}
+use Rattle.room_dump.proofs.Reached.{IsThere}
+use Rattle.room_dump.specs.Fetching.{EndsAt, LacksItsBytes}
+
+module _ (content : Content) (rises : Rises content) where
+  there_from : (names : List (List ℕ)) (node : Node) → IsThere content node
+      → Each (IsThere content) (walk_from content node names).chain
+  there_from [] node there = (there, tt)
+  there_from (name ∷ names) node there =
+      on (child_of content node.id name)
+      (λ child found.
+      there_from names child (child_of-is_there content rises node.id name child found))
+    where
+      on : (o : Option Node)
+          → ((child : Node) → o ≡ Some child
+          → Each (IsThere content) (walk_from content child names).chain)
+          → Each (IsThere content)
+          (option_map_or (λ child. behind node (walk_from content child names)) o
+          (record { chain = node ∷ []; rest = length (name ∷ names) })).chain
+      on None next = (there, tt)
+      on (Some child) next = (there, next child refl)
+
+  -- each object on a way is found by its number
+  there_along : (names : List (List ℕ)) → Each (IsThere content) (walk_of content names).chain
+  there_along names =
+      on (root_of content)
+      (λ root found. there_from names root (root_of-is_there content rises root found))
+    where
+      on : (o : Option Node)
+          → ((root : Node) → o ≡ Some root
+          → Each (IsThere content) (walk_from content root names).chain)
+          → Each (IsThere content)
+          (option_map_or (λ root. walk_from content root names) o
+          (record { chain = []; rest = length names })).chain
+      on None next = tt
+      on (Some root) next = next root refl
+
+-- the last object on a way can be blamed for its bytes
+pub blamed_at_end : (rows : Rows) → AreRows rows → (path : List (List ℕ)) (last : Node) (rest : ℕ)
+    → EndsAt path rows last rest → (row : ℕ) → LacksItsBytes last rows row → IsDamaged rows row
+blamed_at_end rows are path last rest (above, ends) row (is, document, none) =
+    let there = each_last (IsThere rows.read) above last
+    (subst (λ (walk : Walk). Each (IsThere rows.read) walk.chain) ends
+    (there_along rows.read are.numbers path)) in
+    inr (last, ap (node_at rows.read) is ∙ there, document, ap (body_of rows.read) is ∙ none)
