@@ -14,6 +14,7 @@ use Rattle.std.specs.Char.{digit_value, is_ascii_digit}
 use Rattle.room_http.specs.declared.refusal.Refusal.{Refusal}
 use Rattle.room_http.specs.Limits.{max_body}
 use Rattle.room_http.specs.Message.{is_number, length_of_text}
+use Rattle.std.proofs.lemmas.Bool.Decides.{nat_tests}
 
 pub refused-text : (text : List ℕ) → is_number text ≡ false
     → Err Refusal.BadLength ≡ length_of_text text
@@ -90,16 +91,10 @@ digit-at text i lt h =
     )
 
 pub digit-is : (c d : ℕ) → IsInRange 48 57 c → d ≡ (c + 208) % 256 % 10 → d ≡ digit_value c
-digit-is c d h is =
-    let v : digit_value c + 48 ≡ c = digit_value_digit c h in
-    omega (arith, h.0, h.1, v, is)
+digit-is c d h is = grind (arith, nat_tests, digit_value_digit)
 
 -- the number so far and one digit more
 pub next-number : (text : List ℕ) (i n d : ℕ) → i < length text → is_number text ≡ true
     → n ≡ digits_value 10 (take i text)
     → d ≡ (get_or text i 0 + 208) % 256 % 10 → n * 10 + d ≡ digits_value 10 (take (i + 1) text)
-next-number text i n d lt h is digit =
-    let v : d ≡ digit_value (get_or text i 0) = digit-is (get_or text i 0) d
-    (digit-at text i lt h) digit in
-    ap (λ k. k * 10 + d) is ∙ ap (λ k. digits_value 10 (take i text) * 10 + k) v
-    ∙ sym (one-more text i lt)
+next-number text i n d lt h is digit = grind (arith, nat_tests, digit-at, digit-is, one-more)

@@ -1,10 +1,10 @@
 -- How many lines of a head have ended, and whether these are the lines of too many fields.
 use Rattle.std.proofs.Common.{◌≡◌, ℕ, zero, suc, ◌+◌, ◌<◌, ◌≤◌, ◌⊎◌, Bool, true, false, cond, List}
-use Rattle.std.proofs.Common.{[], ◌∷◌, ◌++◌, length, take, drop, Option, Some, None, refl, inl, inr}
-use Rattle.std.proofs.Common.{sym, ap, subst, ◌∙◌, arith, append_assoc, append-nil}
+use Rattle.std.proofs.Common.{[], ◌∷◌, ◌++◌, length, take, drop, Some, None, refl, inl, inr, sym}
+use Rattle.std.proofs.Common.{ap, subst, ◌∙◌, arith, append_assoc, append-nil}
 use Rattle.std.specs.Prelude.{◌==◌, not}
 use Rattle.std.specs.List.{flat_map, filter, AllByRecursion, position, position_or_len}
-use Rattle.std.proofs.lemmas.Bool.{cases_Bool, cond-true, cond-false, eqb-true, ne_eqb, both_ways}
+use Rattle.std.proofs.lemmas.Bool.{cases_Bool, cond-true, cond-false, ne_eqb, both_ways}
 use Rattle.std.proofs.lemmas.List.{length-append, length-take-le, drop_all}
 use Rattle.std.proofs.lemmas.List.Elements.{All-head, All-tail, All-take, filter-append}
 use Rattle.std.proofs.lemmas.List.Elements.{recursion_from_All}
@@ -17,6 +17,7 @@ use Rattle.httparse.specs.Spans.{RequestExceeds}
 use Rattle.room_entry.proofs.Cuts.{place_of, none_of}
 use Rattle.httparse.proofs.PieceLemmas.{Stops_token}
 use Rattle.httparse.proofs.GrammarLemmas.{print_request-append, cons-append}
+use Rattle.std.proofs.lemmas.Bool.Decides.{nat_tests}
 
 abbrev is_feed : ℕ → Bool
 is_feed byte = byte == 10
@@ -57,17 +58,7 @@ ended-stops (byte ∷ text) stops =
     cond-false (is_newline byte) (ended text) (feeds (byte ∷ text)) stops
 
 feeds-more : (byte : ℕ) (text : List ℕ) → feeds text ≤ feeds (byte ∷ text)
-feeds-more byte text =
-    elim (cases_Bool (is_feed byte)) [
-      | inl is ↦
-          let one : feeds (byte ∷ text) ≡ suc (feeds text) =
-          ap length (cond-true (is_feed byte) (byte ∷ filter is_feed text) (filter is_feed text) is) in
-          omega (arith, one)
-      | inr isnt ↦
-          let none : feeds (byte ∷ text) ≡ feeds text =
-          ap length (cond-false (is_feed byte) (byte ∷ filter is_feed text) (filter is_feed text) isnt) in
-          omega (arith, none)
-    ]
+feeds-more byte text = grind (arith, nat_tests)
 
 ended-within : (text : List ℕ) → ended text ≤ feeds text
 ended-within [] = omega arith
@@ -167,11 +158,7 @@ part-feeds text u r line split some =
         absurd (omega (arith, size, sum, some))
 
 line-feeds : (text : List ℕ) → Line text → feeds text ≡ 1
-line-feeds text line =
-    let sum : feeds (line.front ++ 10 ∷ []) ≡ feeds line.front + 1 =
-    feeds-append line.front (10 ∷ []) in
-    let same : feeds text ≡ feeds (line.front ++ 10 ∷ []) = ap feeds line.whole in
-    omega (arith, sum, same, line.none)
+line-feeds text line = grind (arith, nat_tests, feeds-append)
 
 -- bytes that end a line have the whole first line
 line-cut : (p u more q : List ℕ) → Line p → u ++ more ≡ p ++ q → 0 < feeds u
@@ -204,9 +191,7 @@ abbrev start : RequestHead → List ℕ
 start h = words h ++ print_end h.line_end
 
 version-feeds : (minor : ℕ) → minor ≤ 1 → feeds (print_version minor) ≡ 0
-version-feeds minor known =
-    ap length (cond-false (is_feed (48 + minor)) ((48 + minor) ∷ []) []
-    (ne_eqb (48 + minor) 10 (λ same. absurd (omega (arith, same)))))
+version-feeds minor known = grind (arith, nat_tests)
 
 token-feeds : (text : List ℕ) → AllPass is_token_byte text → feeds text ≡ 0
 unfolding is_token_byte
@@ -439,11 +424,7 @@ ended-at (byte ∷ bytes) =
 
 pub ended-behind : (bytes : List ℕ) (i : ℕ) → Some i ≡ position is_other bytes
     → ended bytes ≡ feeds (drop i bytes)
-ended-behind bytes i found =
-    let place = place_of (position_or_len is_other bytes) (length bytes) i (sym found) in
-    ended-at bytes ∙ ap (λ n. feeds (drop n bytes)) place.1
+ended-behind bytes i found = grind (arith, nat_tests, ended-at, place_of)
 
 pub ended-nowhere : (bytes : List ℕ) → None ≡ position is_other bytes → ended bytes ≡ 0
-ended-nowhere bytes none =
-    let past = none_of (position_or_len is_other bytes) (length bytes) (sym none) in
-    ended-at bytes ∙ ap feeds (drop_all (position_or_len is_other bytes) bytes past)
+ended-nowhere bytes none = grind (arith, nat_tests, drop_all, ended-at, none_of)

@@ -1,6 +1,6 @@
 -- The message at the front of the bytes.
-use Rattle.std.proofs.Common.{◌≡◌, ℕ, ◌+◌, ◌-◌, ◌<◌, ◌≤◌, List, ◌++◌, length, map, take, drop, refl}
-use Rattle.std.proofs.Common.{inr, sym, ap, ◌∙◌, arith, append_assoc, Option, Ok}
+use Rattle.std.proofs.Common.{◌≡◌, ℕ, ◌+◌, ◌<◌, ◌≤◌, List, ◌++◌, length, take, drop, inr, sym, ap}
+use Rattle.std.proofs.Common.{◌∙◌, arith, append_assoc, Option, Ok}
 use Rattle.std.specs.List.{slice_range}
 use Rattle.std.proofs.lemmas.List.{take-append-drop, length-append, length-take-le}
 use Rattle.std.proofs.Math.Seq.{drop-append_seam, take-append_seam, drop-append-add}
@@ -8,26 +8,23 @@ use Rattle.httparse.specs.declared.spans.HeaderSpan.{HeaderSpan}
 use Rattle.httparse.specs.declared.spans.RequestSpans.{RequestSpans}
 use Rattle.httparse.specs.Grammar.{RequestHead, print_request}
 use Rattle.http_message.specs.declared.head.Head.{Head}
-use Rattle.room_http.specs.Message.{print_message, BeginsWith, IsPart, head_of, field_of, body_size}
+use Rattle.room_http.specs.Message.{print_message, BeginsWith, IsPart, head_of, body_size}
 use Rattle.room_http.specs.declared.ended.Cause.{Cause}
 use Rattle.room_http.specs.Limits.{max_body}
 use Rattle.room_http.specs.Spans.{AreSpansOf, head_at, StopsBody, StopsReading}
 use Rattle.room_http.specs.Turn.{WholeNext}
+use Rattle.std.proofs.lemmas.Bool.Decides.{nat_tests}
 
 parts-of-spans : (spans : List HeaderSpan) (r : RequestSpans) (h : RequestHead)
     → AreSpansOf spans r h
     → head_at (print_request h) spans r ≡ head_of h
-parts-of-spans spans r h s =
-    let fields = ap (map field_of) s.fields in
-    rw (s.method, s.path, s.version, fields) refl
+parts-of-spans spans r h s = grind (arith, nat_tests)
 
 -- the head's own bytes
 head-bytes : (buf : List ℕ) (h : RequestHead) (n : ℕ) → BeginsWith buf h (drop n buf)
     → n ≡ length (print_request h)
     → take n buf ≡ print_request h
-head-bytes buf h n b len =
-    ap (λ t. take n t) b.whole ∙ ap (λ k. take k (print_request h ++ drop n buf)) len
-    ∙ take-append_seam (print_request h) (drop n buf)
+head-bytes buf h n b len = grind (arith, nat_tests, take-append_seam)
 
 -- the copied parts are those of the head
 pub parts-are : (buf : List ℕ) (spans : List HeaderSpan) (r : RequestSpans) (h : RequestHead)
@@ -46,11 +43,7 @@ more-whole buf after more h n b came =
 
 body-slice : (p rest after : List ℕ) (n size : ℕ) → after ≡ p ++ rest → n ≡ length p
     → slice_range after n (n + size) ≡ take size rest
-body-slice p rest after n size all len =
-    let k : (n + size) - n ≡ size = omega arith in
-    let d : drop n after ≡ rest = ap (λ t. drop n t) all ∙ ap (λ j. drop j (p ++ rest)) len
-    ∙ drop-append_seam p rest in
-    ap (λ j. take j (drop n after)) k ∙ ap (λ t. take size t) d
+body-slice p rest after n size all len = grind (arith, nat_tests, drop-append_seam)
 
 pub whole-next : (buf after more : List ℕ) (spans : List HeaderSpan) (r : RequestSpans)
     (h : RequestHead) (head : Head) (size : ℕ)
@@ -120,14 +113,8 @@ pub stopped-next : (buf : List ℕ) (u v : Option (List ℕ)) (spans : List Head
     → head ≡ head_at (take r.len buf) spans r
     → Ok size ≡ body_size head.fields → size ≤ max_body
     → StopsBody u v buf (r.len + size) cause → StopsReading u v buf cause
-stopped-next buf u v spans r h head size Cause.Read b s copied sized small stop = (
-  stop.0,
-  stop.1,
-  inr (part-next buf stop.0 stop.1.0 spans r h head size b s copied sized stop.1.2 stop.2),
-)
+stopped-next buf u v spans r h head size Cause.Read b s copied sized small stop =
+    grind (arith, nat_tests, part-next)
 stopped-next buf u v spans r h head size Cause.Write b s copied sized small stop = absurd stop.2
 stopped-next buf u v spans r h head size Cause.Memory b s copied sized small stop =
-    let short = b.head.short in
-    let len = s.len in
-    let near = stop.2 in
-    (stop.0, stop.1, omega (arith, short, len, small, near))
+    grind (arith, nat_tests)

@@ -1,38 +1,34 @@
 -- A head found in a window of the bytes is a head of the bytes.
-use Rattle.std.proofs.Common.{◌≡◌, ℕ, ◌-◌, ◌<◌, ◌≤◌, List, [], ◌∷◌, ◌++◌, length, take, drop, map}
-use Rattle.std.proofs.Common.{refl, inl, inr, sym, ap, subst, ◌∙◌, arith, min, append_assoc}
+use Rattle.std.proofs.Common.{◌≡◌, ℕ, ◌<◌, ◌≤◌, List, [], ◌∷◌, ◌++◌, length, take, drop, map, refl}
+use Rattle.std.proofs.Common.{inl, inr, sym, ap, subst, ◌∙◌, arith, min, append_assoc, Result, Ok}
 use Rattle.std.specs.List.{All, AllByRecursion, slice_range}
 use Rattle.std.proofs.lemmas.List.{take-append-le, drop-append-le, take-append-drop, length-drop}
 use Rattle.std.proofs.lemmas.List.{length-take, take_min, take_all, length-map}
 use Rattle.std.proofs.lemmas.List.Elements.{recursion_from_All}
 use Rattle.std.proofs.Math.Seq.{drop-append_seam}
-use Rattle.std.proofs.Common.{Result, Ok}
 use Rattle.httparse.specs.declared.Status.{Status}
 use Rattle.httparse.specs.declared.Status.TheVariants.{Complete}
 use Rattle.httparse.specs.Outcome.{IfComplete}
 use Rattle.httparse.specs.declared.spans.Span.{Span}
 use Rattle.httparse.specs.declared.spans.HeaderSpan.{HeaderSpan}
 use Rattle.httparse.specs.declared.spans.RequestSpans.{RequestSpans}
-use Rattle.httparse.specs.Grammar.{RequestHead, print_request}
-use Rattle.httparse.specs.Spans.{span_bytes, header_bytes, name_and_value, IsWithin, IsHeaderWithin}
+use Rattle.httparse.specs.Grammar.{RequestHead, print_request, HasNoRequest, NeverHasRequest}
+use Rattle.httparse.specs.Grammar.{MayBecomeRequest}
+use Rattle.httparse.specs.Spans.{span_bytes, header_bytes, IsWithin, IsHeaderWithin}
 use Rattle.httparse.specs.Spans.{IsRequestWithin, IsRequestAt}
 use Rattle.room_http.specs.Limits.{max_head, max_fields}
 use Rattle.std.proofs.Math.Nat.{min_comm, le_trans}
 use Rattle.room_http.specs.Message.{IsHead, BeginsWith, HasTooMany}
 use Rattle.room_http.specs.declared.cut.HeadScan.{HeadScan}
 use Rattle.room_http.specs.declared.refusal.Refusal.{Refusal}
-use Rattle.httparse.specs.Grammar.{HasNoRequest, NeverHasRequest, MayBecomeRequest}
 use Rattle.room_http.specs.Spans.{AreSpansOf, MayGoOn, Scans, ScansWindow}
+use Rattle.std.proofs.lemmas.Bool.Decides.{nat_tests}
 
 -- a slice of the front is a slice of the whole
 pub slice_range-append : (p q : List ℕ) (a b : ℕ) → a ≤ b → b ≤ length p
     → slice_range p a b ≡ slice_range (p ++ q) a b
 slice_range-append p q a b ab bp =
-    let within : a ≤ length p = omega arith in
-    let len : length (drop a p) ≡ length p - a = length-drop a p in
-    let fits : b - a ≤ length (drop a p) = omega (arith, len) in
-    sym (ap (λ (t : List ℕ). take (b - a) t) (drop-append-le a p q within)
-    ∙ take-append-le (b - a) (drop a p) q fits)
+    grind (arith, nat_tests, drop-append-le, length-drop, take-append-le)
 
 map-agree-rec : {X Y : Type 0} (f g : X → Y) (P : X → Type 0) (each : (x : X) → P x → f x ≡ g x)
     → (xs : List X) → AllByRecursion P xs → map f xs ≡ map g xs
@@ -47,16 +43,12 @@ map-agree f g P each xs all = map-agree-rec f g P each xs (recursion_from_All P 
 -- a span of the front covers the same bytes of the whole
 pub span-front : (w p q : List ℕ) (s : Span) (n : ℕ) → w ≡ p ++ q → n ≡ length p → IsWithin n s
     → span_bytes p s ≡ span_bytes w s
-span-front w p q s n whole len within =
-    slice_range-append p q s.start s.end within.0 (subst (λ m. s.end ≤ m) len within.1)
-    ∙ sym (ap (λ t. slice_range t s.start s.end) whole)
+span-front w p q s n whole len within = grind (arith, nat_tests, slice_range-append)
 
 pub header-front : (w p q : List ℕ) (n : ℕ) → w ≡ p ++ q → n ≡ length p → (s : HeaderSpan)
     → IsHeaderWithin n s
     → header_bytes p s ≡ header_bytes w s
-header-front w p q n whole len s within =
-    ap (λ t. (t, span_bytes p s.value)) (span-front w p q s.name n whole len within.0)
-    ∙ ap (λ t. (span_bytes w s.name, t)) (span-front w p q s.value n whole len within.1)
+header-front w p q n whole len s within = grind (arith, nat_tests, span-front)
 
 pub spans-of-head : (w : List ℕ) (spans : List HeaderSpan) (r : RequestSpans) (h : RequestHead)
     → IsRequestWithin w spans r → IsRequestAt w spans r h → AreSpansOf spans r h
@@ -85,17 +77,7 @@ window-is n k buf e = ap (λ j. take j buf) (e ∙ min_comm (length buf) n) ∙ 
 
 pub few-fields : (w : List ℕ) (spans : List HeaderSpan) (r : RequestSpans) (h : RequestHead)
     → IsRequestAt w spans r h → length h.fields ≤ length spans
-few-fields w spans r h at =
-    let a : length (map (header_bytes w) (take r.headers spans))
-    ≡ length (map name_and_value h.fields) =
-    ap length at.fields in
-    let b : length (map (header_bytes w) (take r.headers spans)) ≡ length (take r.headers spans) =
-    length-map (take r.headers spans) (header_bytes w) in
-    let d : length (map name_and_value h.fields) ≡ length h.fields =
-    length-map h.fields name_and_value in
-    let e : length (take r.headers spans) ≡ min r.headers (length spans) =
-    length-take r.headers spans in
-    omega (arith, a, b, d, e)
+few-fields w spans r h at = grind (arith, nat_tests, length-map, length-take)
 
 -- what the parser answers, in a window of the limit's length with room for the limit's fields
 pub whole-in-window : (w : List ℕ) (spans : List HeaderSpan) (r : RequestSpans) (h : RequestHead)
@@ -165,7 +147,4 @@ scans-from-window buf w spans (HeadScan.Refused Refusal.TooLarge) window at = ab
 pub at-complete : {A E : Type 0} (P : A → Type 0) (result : Result (Status A) E) (status : Status A)
     (a : A)
     → result ≡ Ok status → status ≡ Complete a → IfComplete result P → P a
-at-complete {A} {E} P result status a e f h =
-    let Q : Result (Status A) E → Type 0 = λ r. IfComplete r P in
-    let S : Status A → Type 0 = λ x. IfComplete {A = A} {E = E} (Ok x) P in
-    subst S f (subst Q e h)
+at-complete {A} {E} P result status a e f h = grind (arith, nat_tests)

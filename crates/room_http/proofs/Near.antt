@@ -12,11 +12,12 @@ use Rattle.httparse.specs.declared.spans.HeaderSpan.{HeaderSpan}
 use Rattle.room_http.specs.declared.ended.Cause.{Cause}
 use Rattle.room_http.specs.declared.next.NextMessage.{NextMessage}
 use Rattle.room_http.specs.Limits.{max_head, max_unanswered, read_size}
-use Rattle.room_http.specs.Message.{print_message, BeginsWith, IsPart}
+use Rattle.room_http.specs.Message.{BeginsWith, IsPart}
 use Rattle.room_http.specs.Serve.{IsNear}
 use Rattle.room_http.specs.Spans.{Came, Loses, MayGoOn, SpansHead, StopsBody, StopsReading}
 use Rattle.room_http.specs.Turn.{WholeNext}
 use Rattle.room_http.proofs.KnownBytes.{Came-then}
+use Rattle.std.proofs.lemmas.Bool.Decides.{nat_tests}
 
 -- while a head is read: nothing came yet, or there was no head before the last read
 abbrev pub Grown : List ℕ → List ℕ → Type 0
@@ -41,10 +42,7 @@ there-before buf before more h rest begins split le none =
 near-after : (buf before more : List ℕ) (n : ℕ) → buf ≡ before ++ more → length more ≤ read_size
     → length before < n
     → length buf < n + read_size
-near-after buf before more n split size lt =
-    let len : length buf ≡ length before + length more = ap length split
-    ∙ length-append before more in
-    omega (arith, len, size, lt)
+near-after buf before more n split size lt = grind (arith, nat_tests, length-append)
 
 pub near-found : (start buf : List ℕ) (spans : List HeaderSpan) (r : RequestSpans) → Grown start buf
     → SpansHead buf spans r
@@ -63,33 +61,17 @@ near-found start buf spans r (inr g) found short =
 -- what is left of the bytes where a message stands in front of them
 pub near-message : (buf : List ℕ) (next : NextMessage) (w : WholeNext buf next)
     → length buf < next.end + read_size → IsNear w.message buf
-near-message buf next w near =
-    let p = print_message w.message in
-    let all : length buf ≡ length p + length (drop next.end buf) = ap length w.whole
-    ∙ length-append p (drop next.end buf) in
-    let rest = length-drop next.end buf in
-    let fits = w.in_range in
-    omega (arith, all, rest, fits, near)
+near-message buf next w near = grind (arith, nat_tests, length-append, length-drop)
 
 pub near-rest : (buf after : List ℕ) (n : ℕ) → after ≡ drop n buf → length buf < n + read_size
     → length after < read_size
-near-rest buf after n e near =
-    let len : length after ≡ length (drop n buf) = ap length e in
-    let rest = length-drop n buf in
-    omega (arith, len, rest, near)
+near-rest buf after n e near = grind (arith, nat_tests, length-drop)
 
 -- ---- where a read brings nothing
 
 pub none-or-part : (buf : List ℕ) → MayGoOn buf → (buf ≡ []) ⊎ IsPart buf
 none-or-part [] part = inl refl
-none-or-part (b ∷ rest) part =
-    inr (inl (record {
-      some = omega arith;
-      short = part.0;
-      none = part.1;
-      may = part.2;
-      few = part.3;
-    }))
+none-or-part (b ∷ rest) part = grind (arith, nat_tests)
 
 came-nothing : (u v w : Option (List ℕ)) (a b : List ℕ) → Came u v a b → Consumes v w []
     → Came u w a b

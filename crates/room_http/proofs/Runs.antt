@@ -1,6 +1,5 @@
 -- What a desk did from one state to another, in one part after the other.
-use Rattle.std.proofs.Common.{ℤ, List, [], ◌++◌, subst, sym, refl}
-use Rattle.std.specs.List.{flat_map}
+use Rattle.std.proofs.Common.{ℤ, List, [], ◌++◌, subst, sym, arith}
 use Rattle.std.proofs.lemmas.Grind.{flat_map-append}
 use Rattle.room_rows.specs.Content.{Content}
 use Rattle.room_machine.specs.declared.desk.Desk.{Ghosts}
@@ -8,23 +7,15 @@ use Rattle.room_machine.specs.Desk.{DeskLaws}
 use Rattle.room_machine.specs.Run.{Asking, Event}
 use Rattle.room_http.specs.Stream.{DeskRuns, Exchange, event_at, events_by, Runs}
 use Rattle.room_machine.proofs.Meeting.{closed_meet, closed_still, meet}
+use Rattle.std.proofs.lemmas.Bool.Decides.{nat_tests}
 
 Runs-then : (old mid new : Content → Type 0) (events others : List Event)
     → Runs old events mid → Runs mid others new → Runs old (events ++ others) new
-Runs-then old mid new events others first then room is =
-    let a = first room is in
-    let b = then a.0 a.2 in
-    (b.0, meet room a.0 b.0 events others a.1 b.1, b.2)
+Runs-then old mid new events others first then room is = grind (arith, nat_tests, meet)
 
 module _ {D : Type 0} (d : Ghosts D) (laws : DeskLaws d.Outlasts) where
   pub nothing-done : (desk : D) → DeskRuns d desk [] [] desk
-  nothing-done desk = record {
-    trusted = λ t. t;
-    sound = λ t s. s;
-    run = λ t s room is. (room, refl, is);
-    closed = λ t. closed_still (d.stored desk) (d.stored desk) (λ rows stored. stored);
-    outlasts = laws.itself desk;
-  }
+  nothing-done desk = grind (arith, nat_tests, closed_still)
 
   module _ (old mid new : D) where
     pub done-then : (asked later : List Asking) (events others : List Event)

@@ -1,7 +1,7 @@
 -- How one message was answered.
-use Rattle.std.proofs.Common.{◌≡◌, ℕ, ℤ, ◌+◌, ◌-◌, ◌^◌, ◌<◌, ◌≤◌, ◌⊎◌, Bool, true, false, List, []}
-use Rattle.std.proofs.Common.{min, refl, inl, inr, sym, ap, subst, ◌∙◌, arith, Option, Some, None}
-use Rattle.std.proofs.Common.{Result, Ok, Err, OnOk, OnErr, IfErr}
+use Rattle.std.proofs.Common.{◌≡◌, ℕ, ℤ, ◌+◌, ◌-◌, ◌^◌, ◌<◌, ◌≤◌, ◌⊎◌, Bool, List, [], min, refl}
+use Rattle.std.proofs.Common.{inl, inr, sym, subst, arith, Option, Some, None, Result, Ok, Err}
+use Rattle.std.proofs.Common.{OnOk, OnErr, IfErr}
 use Rattle.std.specs.Io.KnownBytes.{Appends}
 use Rattle.std.proofs.lemmas.Bool.{cases_lt}
 use Rattle.room_machine.specs.declared.desk.Desk.{Ghosts}
@@ -9,8 +9,8 @@ use Rattle.room_machine.specs.declared.reply.Reply.{Reply}
 use Rattle.room_machine.specs.Desk.{DeskLaws}
 use Rattle.http_message.specs.declared.fault.HttpFault.{HttpFault}
 use Rattle.room_http.specs.Message.{Parsed}
-use Rattle.room_http.specs.Answer.{Stepped, ActedIf, AnswersMessage, Delivers, JoinsText}
-use Rattle.room_http.specs.Answer.{Failed, Responds, SendsRefusal, TellsReply, Rose}
+use Rattle.room_http.specs.Answer.{Stepped, ActedIf, AnswersMessage, Delivers, JoinsText, Failed}
+use Rattle.room_http.specs.Answer.{Responds, SendsRefusal, TellsReply, Rose}
 use Rattle.room_http.specs.declared.told.Answer.{Answer}
 use Rattle.room_http.specs.declared.told.Response.{Response}
 use Rattle.room_http.specs.declared.told.Lost.{Lost}
@@ -24,6 +24,7 @@ use Rattle.room_http.specs.declared.server.TurnFault.{TurnFault}
 use Rattle.room_http.specs.declared.server.Wrote.{Wrote}
 use Rattle.room_http.specs.declared.ended.Cause.{Cause}
 use Rattle.room_entry.proofs.Facts.KnownBytes.{Appends-none}
+use Rattle.std.proofs.lemmas.Bool.Decides.{nat_tests}
 
 rose-by : (old new : ℕ) → (old < 2 ^ 64 - 1) ⊎ (2 ^ 64 - 1 ≤ old) → new ≡ min (old + 1) (2 ^ 64 - 1)
     → Rose old new
@@ -88,54 +89,30 @@ module _ {D : Type 0} (d : Ghosts D) (moment : ℤ) (old new : D) where
   pub joined-answers : (close : Bool) (asked : Parsed) (text : List ℕ)
       → TellsReply d moment old new close asked text → (result : Result Answer Lost)
       → JoinsText text result → AnswersMessage d moment old new close asked result
-  joined-answers close asked text tells (Ok (Answer.Text whole)) j =
-      inr (tells.0, tells.1, j ∙ tells.2)
+  joined-answers close asked text tells (Ok (Answer.Text whole)) j = grind (arith, nat_tests)
   joined-answers close asked text tells (Ok Answer.Fault) j = absurd j
-  joined-answers close asked text tells (Err lost) j =
-      subst (λ (a : Bool). ActedIf d moment old new a asked) (sym j) (tells.0, tells.1)
+  joined-answers close asked text tells (Err lost) j = grind (arith, nat_tests)
 
   -- of a message that a test refuses
   replies-refused : DeskLaws d.Outlasts → (asked : Parsed) (fault : HttpFault) → asked ≡ Err fault
       → new ≡ old → Replies d moment old new asked None
-  replies-refused laws asked fault e same =
-      let A : Parsed → Type 0 = λ a. HasReply a None in
-      let R : Parsed → Type 0 = λ a. DeskRuns d old [] (events_at moment a None) old in
-      subst (λ (desk : D). Replies d moment old desk asked None) (sym same)
-      (record {
-        agrees = subst A (sym e) tt;
-        did = subst R (sym e) (nothing-done d laws old);
-        faults = refl;
-      })
+  replies-refused laws asked fault e same = grind (arith, nat_tests, nothing-done)
 
   -- of the desk
   pub replies-stepped : (asked : Parsed) (reply : Reply) → Stepped d moment old new asked reply
       → Replies d moment old new asked (Some reply)
-  replies-stepped asked reply s =
-      let A : Parsed → Type 0 = λ a. HasReply a (Some reply) in
-      let R : Parsed → Type 0 = λ a. DeskRuns d old [] (events_at moment a (Some reply)) new in
-      record {
-        agrees = subst A (sym s.asks) tt;
-        did = subst R (sym s.asks) s.did;
-        faults = s.faults;
-      }
+  replies-stepped asked reply s = grind (arith, nat_tests)
 
   pub refused-tells : DeskLaws d.Outlasts → (close : Bool) (asked : Parsed) (text : List ℕ)
       → SendsRefusal d moment old new close asked text
       → Replies d moment old new asked None × (text ≡ answer_text close asked None)
-  refused-tells laws close asked text a = (
-    replies-refused laws asked a.0.0 a.0.1 a.1,
-    a.0.2 ∙ ap (λ (t : Parsed). answer_text close t None) (sym a.0.1),
-  )
+  refused-tells laws close asked text a = grind (arith, nat_tests, replies-refused)
 
   pub replied-tells : (close : Bool) (asked : Parsed) (text : List ℕ)
       → TellsReply d moment old new close asked text
       → (reply : Reply) × Replies d moment old new asked (Some reply)
       × (text ≡ answer_text close asked (Some reply))
-  replied-tells close asked text a = (
-    a.0,
-    replies-stepped asked a.0 a.1,
-    a.2 ∙ ap (λ (t : Parsed). answer_text close t (Some a.0)) (sym a.1.asks),
-  )
+  replied-tells close asked text a = grind (arith, nat_tests, replies-stepped)
 
   -- the whole text of a reply was written
   pub answers-whole : DeskLaws d.Outlasts → (close : Bool) (asked : Parsed)
@@ -160,10 +137,8 @@ module _ {D : Type 0} (d : Ghosts D) (moment : ℤ) (old new : D) where
       → Responds d moment old new close asked response
       → Tells response sent sent' (Ok Wrote.Failed)
       → Failed d moment old new asked × Appends sent sent' store_text
-  fails-whole close asked sent sent' (Ok (Response.Refused text)) r t =
-      absurd (let e = t.0 in cc)
-  fails-whole close asked sent sent' (Ok (Response.Replied text)) r t =
-      absurd (let e = t.0 in cc)
+  fails-whole close asked sent sent' (Ok (Response.Refused text)) r t = grind (arith, nat_tests)
+  fails-whole close asked sent sent' (Ok (Response.Replied text)) r t = grind (arith, nat_tests)
   fails-whole close asked sent sent' (Ok Response.Fault) r t = (r, t.1)
   fails-whole close asked sent sent' (Err lost) r t = absurd t
 

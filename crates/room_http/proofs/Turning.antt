@@ -2,9 +2,7 @@
 use Rattle.std.proofs.Common.{◌≡◌, ℕ, ℤ, ◌+◌, ◌<◌, ◌||◌, ◌==◌, Bool, true, false, List, [], ◌∷◌}
 use Rattle.std.proofs.Common.{◌++◌, length, drop, refl, sym, ap, subst, ◌∙◌, arith, Option, Some}
 use Rattle.std.proofs.Common.{None, Result, Ok, Err, IfOk, IfErr}
-use Rattle.std.proofs.Common.{◌≢◌}
 use Rattle.std.specs.Prelude.{is_some}
-use Rattle.std.proofs.lemmas.Bool.{eq-eqb, true≢false}
 use Rattle.std.proofs.lemmas.List.{append-nil}
 use Rattle.std.specs.List.{slice_range}
 use Rattle.std.specs.Io.KnownBytes.{Appends, IsAtEnd}
@@ -12,7 +10,6 @@ use Rattle.std.proofs.lemmas.Option.{same_Some, none-some}
 use Rattle.room_machine.specs.declared.desk.Desk.{Ghosts}
 use Rattle.room_machine.specs.declared.reply.Reply.{Reply}
 use Rattle.room_machine.specs.Desk.{DeskLaws}
-use Rattle.room_machine.specs.Run.{Event}
 use Rattle.http_message.specs.declared.head.Head.{Head}
 use Rattle.http_message.specs.Asked.{request_of}
 use Rattle.http_message.specs.Close.{asks_close}
@@ -22,11 +19,9 @@ use Rattle.room_http.specs.declared.ended.Ended.{Ended}
 use Rattle.room_http.specs.declared.server.TurnFault.{TurnFault}
 use Rattle.room_http.specs.declared.ended.Cause.{Cause}
 use Rattle.room_http.specs.Limits.{max_messages, read_size}
-use Rattle.room_http.specs.Message.{Parsed, Message, print_message, IsRefusedHead, IsPart, asked, closes}
-use Rattle.room_http.specs.Message.{head_of}
+use Rattle.room_http.specs.Message.{Message, print_message, IsRefusedHead, IsPart, asked, closes}
 use Rattle.room_http.specs.Text.{refusal_reply}
-use Rattle.room_http.specs.Stream.{DeskRuns, Last, answer_text, events_at, events_by}
-use Rattle.room_http.specs.Stream.{says_close}
+use Rattle.room_http.specs.Stream.{DeskRuns, Last, answer_text, events_at, events_by, says_close}
 use Rattle.room_http.specs.Spans.{Came}
 use Rattle.room_http.specs.Serve.{Snapshot, Next, BlamesBefore, BlamesText, IsNearHead, seen}
 use Rattle.room_http.specs.Turn.{TurnsOpen, TurnsLast, TurnsStop, Turns, WholeNext}
@@ -43,13 +38,12 @@ use Rattle.room_http.proofs.Near.{near-message, near-rest}
 use Rattle.room_http.proofs.KnownBytes.{Came-none, Came-then, Consumes-none}
 use Rattle.room_http.specs.declared.refusal.Refusal.{Refusal}
 use Rattle.room_entry.proofs.Facts.KnownBytes.{Appends-none}
+use Rattle.std.proofs.lemmas.Bool.Decides.{nat_tests}
 
 -- the message asks what its copied head and its body ask
 asks-the-same : (buf : List ℕ) (next : NextMessage) (w : WholeNext buf next)
     → request_of next.head (slice_range buf next.start next.end) ≡ asked w.message
-asks-the-same buf next w =
-    ap (λ (h : Head). request_of h (slice_range buf next.start next.end)) w.head
-    ∙ ap (λ b. request_of (head_of w.message.head) b) w.body
+asks-the-same buf next w = grind (arith, nat_tests)
 
 pub responds-to : {D : Type 0} (d : Ghosts D) (moment : ℤ) (old new : D) (buf : List ℕ)
     (next : NextMessage) (w : WholeNext buf next) (bytes : List ℕ) (close : Bool)
@@ -58,9 +52,7 @@ pub responds-to : {D : Type 0} (d : Ghosts D) (moment : ℤ) (old new : D) (buf 
     (request_of next.head (slice_range bytes next.start next.end)) response
     → Responds d moment old new close (asked w.message) response
 responds-to d moment old new buf next w bytes close response same responds =
-    subst (λ (a : Parsed). Responds d moment old new close a response)
-    (ap (λ t. request_of next.head (slice_range t next.start next.end)) same
-    ∙ asks-the-same buf next w) responds
+    grind (arith, nat_tests, asks-the-same)
 
 pub closes-the-same : (buf : List ℕ) (next : NextMessage) (w : WholeNext buf next) (n : ℕ)
     (close : Bool)
@@ -78,17 +70,13 @@ or-second true false h = refl
 or-second false b h = h
 
 not-last : (n : ℕ) → n < max_messages → ((n + 1) == max_messages) ≡ false → n + 1 < max_messages
-not-last n few off =
-    let ne : n + 1 ≢ max_messages = λ e. true≢false (sym (eq-eqb (n + 1) max_messages e) ∙ off) in
-    omega (arith, ne, few)
+not-last n few off = grind (arith, nat_tests)
 
 -- one exchange of a run
 did-one : {D : Type 0} (d : Ghosts D) (moment : ℤ) (old new : D) (m : Message)
     (reply : Option Reply) → DeskRuns d old [] (events_at moment (asked m) reply) new
     → DeskRuns d old [] (events_by moment (record { message = m; reply = reply } ∷ [])) new
-did-one d moment old new m reply did =
-    subst (λ (events : List Event). DeskRuns d old [] events new)
-    (sym (append-nil (events_at moment (asked m) reply))) did
+did-one d moment old new m reply did = grind (arith, nat_tests, append-nil)
 
 take-open : {D : Type 0} (d : Ghosts D) (moment : ℤ) (n : ℕ) (old new : Snapshot D)
     (buf : List ℕ) (connection : Connection)

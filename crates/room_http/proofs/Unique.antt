@@ -1,16 +1,15 @@
 -- A stream is these messages and no others.
 use Rattle.std.proofs.Common.{◌≡◌, ℕ, List, ◌++◌, length, take, drop, refl, sym, ap, ◌∙◌}
-use Rattle.std.proofs.Common.{append_assoc, Result, Ok, Err}
+use Rattle.std.proofs.Common.{append_assoc, Result, Ok, arith}
 use Rattle.std.proofs.Math.Seq.{take-append_seam, drop-append_seam}
 use Rattle.httparse.specs.Grammar.{RequestHead, print_request}
 use Rattle.httparse.proofs.GrammarLemmas.{request_unique}
 use Rattle.room_http.specs.Laws.{MessageUnique}
 use Rattle.room_http.specs.Message.{print_message, body_size_of}
+use Rattle.std.proofs.lemmas.Bool.Decides.{nat_tests}
 
 ok-same : {A E : Type 0} (d x y : A) (r : Result A E) → r ≡ Ok x → r ≡ Ok y → x ≡ y
-ok-same {A} {E} d x y r e f =
-    let out : Result A E → A = λ t. elim t [ Ok v ↦ v | Err w ↦ d ] in
-    sym (ap out e) ∙ ap out f
+ok-same {A} {E} d x y r e f = grind (arith, nat_tests)
 
 pub same-front : (a b p q : List ℕ) → length a ≡ length b → a ++ p ≡ b ++ q → (a ≡ b) × (p ≡ q)
 same-front a b p q len e = (

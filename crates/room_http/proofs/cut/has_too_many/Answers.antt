@@ -1,8 +1,8 @@
-use Rattle.std.proofs.Common.{◌≡◌, ◌∙◌, ap, sym, length, drop, arith, Some, None}
+use Rattle.std.proofs.Common.{◌≡◌, ◌∙◌, ap, sym, drop, arith}
 use Rattle.std.proofs.lemmas.Bool.{ltb-true, ltb-false}
 use Rattle.std.proofs.lemmas.List.{take_rest}
-use Rattle.room_http.proofs.FieldLines.{ended, ended-behind, ended-exceeds, ended-nowhere}
-use Rattle.room_http.proofs.FieldLines.{exceeds-ended, feeds}
+use Rattle.room_http.proofs.FieldLines.{ended-behind, ended-exceeds, ended-nowhere, exceeds-ended}
+use Rattle.room_http.proofs.FieldLines.{feeds}
 use Rattle.room_http.proofs.cut.has_too_many.Goals as goal
 
 pub returns-in-Some-clause-few : goal.returns-in-Some-clause-few
