@@ -16,15 +16,7 @@ use std::io::Read;
 /// The task of a job, or why it is refused. The reader has what the job's `input` names. Of an
 /// input that is too long one byte more is read than it may have. Nothing is read where the job has
 /// no input.
-pub fn read_task<R: Read + Drop>(alloc: Global, job: &Job<'_>, reader: R) -> Result<Task, Stop>
-    ensures { ReadsTask job.now (R.remaining reader) result }
-{
-    let mut input = reader;
-    task_from(alloc, job, &mut input)
-}
-
-// The task, and no more is read than shows it.
-fn task_from<R: Read>(alloc: Global, job: &Job<'_>, reader: &mut R) -> Result<Task, Stop>
+pub fn read_task<R: Read>(alloc: Global, job: &Job<'_>, reader: &mut R) -> Result<Task, Stop>
     ensures task { ReadsTask job.now (R.remaining reader.old) result }
     ensures few { TakesAtMost (most_of (input_of job.now)) (R.remaining reader.old)
         (R.remaining reader.new) }

@@ -31,9 +31,9 @@ pub fn carry_out<S: Start>(
 // The task, with what the job names as its input.
 fn task_for(rt: &HostRuntime, job: &Job<'_>) -> Result<Task, Stop> {
     match job.input() {
-        Input::Nothing => read_task(rt.alloc(), job, io::empty()),
-        Input::Standard => read_task(rt.alloc(), job, rt.reader()),
-        Input::File(name) => read_task(rt.alloc(), job, fs::open(rt, name)?),
+        Input::Nothing => read_task(rt.alloc(), job, &mut io::empty()),
+        Input::Standard => read_task(rt.alloc(), job, &mut rt.reader()),
+        Input::File(name) => read_task(rt.alloc(), job, &mut fs::open(rt, name)?),
     }
 }
 

@@ -1,5 +1,5 @@
 use Rattle.cli_words.proofs.Taking.{unread, whole}
-use Rattle.cli_words.proofs.task.task_from.Goals as goal
+use Rattle.cli_words.proofs.task.read_task.Goals as goal
 
 pub returns-in-Ok-clause-task : goal.returns-in-Ok-clause-task
 returns-in-Ok-clause-task g c =
