@@ -1,5 +1,6 @@
-"""A private copy of a backup, served by the program in a network of its own, which nobody else can
-reach. (Once the program has `rooms get FILE PATH`, no copy is served any more.)"""
+"""A private copy of a backup, and that copy served by the program in a network of its own, which
+nobody else can reach. (`rooms get` reads one document without a server. For all of a folder that
+would be a start of the program, and an opening of the room, for each document.)"""
 import ctypes
 import fcntl
 import glob

@@ -3,8 +3,8 @@ folder with a room's files, the name of one in BACKUPS, or latest."""
 import argparse
 import sys
 
-from . import backups, history, names, settings
-from .room_http import Caller, Client, argument
+from . import backups, history, names, program, settings
+from .room_http import argument
 from .said import Refused, Stop
 
 USAGE = "get [--conf CONF] BACKUP PATH"
@@ -17,17 +17,12 @@ def run(given: argparse.Namespace) -> int:
     if path == b"/" or not names.is_path(path):
         raise Refused(f"bad arguments: '{given.words[1]}' isn't the path of a document")
     room = settings.room(given.conf)
+    # A copy, since the program puts the log of a room that it opens into its file.
     with backups.private_copy(room, history.find(room, given.words[0])) as copied:
-        # Each object on the way lets this one name pass, and the last one lets it read.
-        parts = path.split(b"/")[1:]
-        for count in range(len(parts) + 1):
-            backups.set_list(room, copied, b"/" + b"/".join(parts[:count]),
-                             f"list:p\nA::{backups.USER}:rx\n".encode())
-        with backups.served(room, copied, 1):
-            got = Client(f"http://127.0.0.1:{backups.PORT}", Caller(as_user=backups.USER), "",
-                         True).ask("GET", "doc", path)
-    if got.status != 200:
-        raise Stop(f"{names.shown(path)}: {got.text()}")
-    sys.stdout.buffer.write(got.body)
+        status, out, text = program.run(room, ["get", copied, path])
+    if status != 0:
+        why = text or out[:300].decode(errors="replace").strip() or f"status {status}"
+        raise Stop(f"{names.shown(path)}: {why}")
+    sys.stdout.buffer.write(out)
     sys.stdout.buffer.flush()
     return 0

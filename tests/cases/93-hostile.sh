@@ -190,8 +190,8 @@ if has_sqlite; then
   stop_server
 fi
 
-# A document of a backup: the copy is served where nobody else gets, as the room's user, and no
-# longer than the program lives.
+# A document of a backup is read from a copy, as the room's user. A folder of it is served where
+# nobody else gets, as the room's user too, and no longer than the program lives.
 does get --conf conf latest /letters/old/a%20b
 told 'a path is no address' 1 'N1 no-such at /letters/old/a%20b'
 does get --conf conf latest '/letters/old/a b'
@@ -199,9 +199,8 @@ holds 'a document of the newest backup' [ "$status" = 0 -a "$(cat "$work/out")" 
 cat >prog <<END
 #!/bin/bash
 echo "\$(id -u) \$*" >>"$PWD/ran"
-if [ "\$1" != serve ]; then exec "$rooms" "\$@"; fi
-[ ! -e "$PWD/dies" ] || kill -KILL \$\$
-readlink /proc/self/ns/net >"$PWD/net"
+[ ! -e "$PWD/dies" ] || [ "\$1" != get -a "\$1" != serve ] || kill -KILL \$\$
+[ "\$1" != serve ] || readlink /proc/self/ns/net >"$PWD/net"
 exec "$rooms" "\$@"
 END
 chmod 755 prog
@@ -218,13 +217,22 @@ if [ "$(id -u)" = 0 ]; then
 fi
 does_anywhere get --conf conf.prog latest '/letters/old/a b'
 holds 'a document again' [ "$status" = 0 -a "$(cat "$work/out")" = text ]
+holds 'nothing is served for it' [ ! -s net ]
+holds 'its copy lies on a disk' grep -q ' get /var/tmp/rooms-get' ran
+rm -rf kept kept.acl
+does_anywhere export --backup --conf conf.prog latest /letters kept
+told 'a folder again' 0 'folders 2, documents 1, left out 0'
 holds 'the copy has a network of its own' [ "$(cat net)" != "$(readlink /proc/self/ns/net)" ]
 holds 'it lies on a disk' grep -q ' serve /var/tmp/rooms-get' ran
 if [ "$(id -u)" = 0 ]; then holds 'nothing of it runs as root' [ "$(grep -vc '^65534 ' ran)" = 0 ]; fi
 : >dies
 timeout "$patience" "$admin" get --conf conf.prog latest '/letters/old/a b' >"$work/out" 2>"$work/err"
 status=$?
-told 'a program that dies' 1 "the copy can't be served"
+told 'a program that dies' 1 '/letters/old/a b: status -9'
+rm -rf kept kept.acl
+timeout "$patience" "$admin" export --backup --conf conf.prog latest /letters kept >"$work/out" 2>"$work/err"
+status=$?
+told 'a server that dies' 1 "the copy can't be served"
 rm dies
 # A copy that a killed run left is gone after the next one, and its server ended with it.
 mkdir own
@@ -234,7 +242,8 @@ if [ "\$1" = serve ]; then echo \$\$ >"$PWD/net"; exec sleep 1000; fi
 exec "$rooms" "\$@"
 END
 : >net
-TMPDIR=$PWD/own "$admin" get --conf conf.prog latest '/letters/old/a b' >"$work/out" 2>"$work/err" </dev/null &
+rm -rf kept kept.acl
+TMPDIR=$PWD/own "$admin" export --backup --conf conf.prog latest /letters kept >"$work/out" 2>"$work/err" </dev/null &
 getting=$!
 until [ -s net ]; do sleep 0.05; done
 kill -KILL "$getting"
