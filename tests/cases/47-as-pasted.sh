@@ -230,14 +230,14 @@ else
   skip 'a backup before an upgrade' 'no flock'
   backup=
 fi
-paste_in "$(blocks upgrading.md 'contrib/install' | head -n 1)"
+paste_in "$(blocks operating.md 'contrib/install')"
 holds 'the new files' cmp -s machine/usr/local/bin/rooms "$rooms"
 paste_in "$(blocks upgrading.md '127.0.0.1:8780/can')
 $(blocks upgrading.md 'nginx -t')"
 prints 'the new program serves' '{} 200'
 answers 'what was there before' 'Dear Sir 200' alice GET /doc/letters/reply
 echo '# older' >>machine/usr/local/sbin/rooms-admin
-paste_in "$(blocks upgrading.md 'contrib/install' | sed -n 2p)"
+paste_in "$(blocks operating.md 'contrib/install')"
 same 'the files of the version before' machine/usr/local/sbin/rooms-admin "$here/../contrib/rooms-admin"
 paste_in "$(blocks upgrading.md "systemctl restart 'rooms" | tail -n 1)"
 prints_nothing() { if [ "$status" = 0 ] && [ ! -s "$work/out" ]; then pass; else fail "$1" "status $status"; fi; }

@@ -358,7 +358,7 @@ types 'the longest list' docs/operating 'where = at'
 
 # Upgrades, and the way back.
 types 'a newer version' docs/upgrading '=apt-get install -y ./rooms_VERSION_amd64.deb -o Dpkg::Options::=--force-confold </dev/null' \
-  docs/upgrading '=contrib/install' docs/upgrading '127.0.0.1:8780/can'
+  docs/upgrading '127.0.0.1:8780/can'
 shows 'serves' '{} 200'
 types 'an older one' docs/upgrading allow-downgrades docs/upgrading "=systemctl restart 'rooms@*'"
 edit=s/2026-11-20.030000/$backup/
