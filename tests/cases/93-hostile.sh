@@ -228,7 +228,7 @@ if [ "$(id -u)" = 0 ]; then holds 'nothing of it runs as root' [ "$(grep -vc '^6
 : >dies
 timeout "$patience" "$admin" get --conf conf.prog latest '/letters/old/a b' >"$work/out" 2>"$work/err"
 status=$?
-told 'a program that dies' 1 '/letters/old/a b: status -9'
+told 'a program that dies' 1 '/letters/old/a\ b: status -9'
 rm -rf kept kept.acl
 timeout "$patience" "$admin" export --backup --conf conf.prog latest /letters kept >"$work/out" 2>"$work/err"
 status=$?
