@@ -10,18 +10,20 @@ printf '%s\n' '[mypy]' 'strict = True' "cache_dir = $PWD/mypy" '[mypy-ldap.*]' '
 if has mypy; then
   MYPYPATH=$contrib mypy --config-file mypy.ini "$contrib/rooms_admin" "$here/admin/test_pure.py" >"$work/out" 2>&1
   holds "mypy --strict: $(tail -n 5 "$work/out")" [ "$?" = 0 ]
+  MYPYPATH=$contrib mypy --config-file mypy.ini "$contrib/install" >"$work/out" 2>&1
+  holds "mypy --strict of install: $(tail -n 5 "$work/out")" [ "$?" = 0 ]
 else
   skip 'types' 'mypy is missing'
 fi
 if has flake8; then
-  flake8 --isolated --max-line-length 100 "$contrib/rooms_admin" "$here/admin/test_pure.py" >"$work/out" 2>&1
+  flake8 --isolated --max-line-length 100 "$contrib/rooms_admin" "$contrib/install" "$contrib/rooms-admin" "$here/admin/test_pure.py" >"$work/out" 2>&1
   holds "flake8: $(head -n 5 "$work/out")" [ "$?" = 0 ]
 else
   skip 'style' 'flake8 is missing'
 fi
 (cd "$here/admin" && PYTHONPATH=$contrib python3 -B -m unittest test_pure) >"$work/out" 2>&1
 holds "the pure parts: $(tail -n 20 "$work/out")" [ "$?" = 0 ]
-wc -l "$contrib"/rooms_admin/*.py | awk '$2 != "total" && $1 >= 500 { print $2 }' >found
+wc -l "$contrib"/rooms_admin/*.py "$contrib/install" | awk '$2 != "total" && $1 >= 500 { print $2 }' >found
 same 'no file has 500 lines' found /dev/null
 
 # Each verb says its usage and all of its options, and so does the page for man.

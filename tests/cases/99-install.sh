@@ -281,7 +281,7 @@ fi
 if has systemd-analyze; then
   mkdir units
   for unit in "$contrib"/rooms*.service "$contrib"/rooms*.timer; do
-    sed "s|=/usr/local/|=$PWD/machine/usr/local/|; s|=+/usr/local/|=+$PWD/machine/usr/local/|; s|=/usr/sbin/\(apache2\|nft\)|=/bin/true|" "$unit" >"units/${unit##*/}"
+    sed "s#=\(+\?\)/usr/local/#=\1$PWD/machine/usr/local/#; s#=/usr/sbin/\(apache2\|nft\)#=/bin/true#" "$unit" >"units/${unit##*/}"
   done
   # It reports what it doesn't know of all units that it meets. Only these are of this project.
   systemd-analyze verify units/*.service units/*.timer >"$work/out" 2>&1
