@@ -26,6 +26,15 @@ holds "the pure parts: $(tail -n 20 "$work/out")" [ "$?" = 0 ]
 wc -l "$contrib"/rooms_admin/*.py "$contrib/install" | awk '$2 != "total" && $1 >= 500 { print $2 }' >found
 same 'no file has 500 lines' found /dev/null
 
+# Each line that it says when something isn't as it should be stands on the page of messages.
+python3 "$here/admin/messages.py" "$contrib/rooms_admin" "$here/../docs/messages.md" >found 2>&1
+same 'each message stands on its page' found /dev/null
+mkdir made
+echo 'raise Stop("a line of nobody")' >made/one.py
+python3 "$here/admin/messages.py" made "$here/../docs/messages.md" >found 2>&1
+echo 'one.py:1: a line of nobody' >wanted
+same 'another one is found' found wanted
+
 # Each verb says its usage and all of its options, and so does the page for man.
 run_admin() {
   "$admin" "$@" >"$work/out" 2>"$work/err" </dev/null
