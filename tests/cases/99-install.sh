@@ -296,11 +296,9 @@ if has systemd-analyze; then
   }
   if systemd-analyze --help | grep -q -e --offline; then
     exposed rooms@.service 1.3
-    # It goes to another machine, as a user who reads keys.
-    exposed rooms-standby@.service 3.2
     for unit in units/*.service; do
       # The one that mails isn't root, and a mail program needs what the others lack.
-      [[ ${unit##*/} = rooms-@(tell|standby)@.service ]] || exposed "${unit##*/}" 3
+      [[ ${unit##*/} = rooms-tell@.service ]] || exposed "${unit##*/}" 3
     done
     holds 'the one that mails is not root' grep -qx User=rooms-mail units/rooms-tell@.service
   else
