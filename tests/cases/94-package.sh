@@ -203,7 +203,7 @@ does 'its files are whole' 'dpkg -V rooms'
 holds 'nothing differs' [ ! -s "$work/out" ]
 does 'the user has the folder of rooms' 'stat -c "%U %a" /var/lib/rooms /var/backups/rooms
   cd /etc/nginx/sites-enabled && readlink rooms && ls'
-prints 'and so on' 'rooms 700' 'root 700' ../sites-available/rooms rooms
+prints 'and so on' 'rooms 700' 'root 710' ../sites-available/rooms rooms
 does 'the three commands' "$(block README.md 'runuser')"
 holds 'the room is made' grep -q '^ready$' "$work/out"
 does 'a folder' \
