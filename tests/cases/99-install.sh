@@ -60,6 +60,11 @@ holds 'is beside the link' [ "$(cat machine/usr/local/sbin/rooms-get.old)$(readl
 installs --replace
 same 'the unit is replaced if that is asked' machine/etc/systemd/system/rooms@.service "$contrib/rooms@.service"
 holds 'and stays beside' grep -q '^# mine' machine/etc/systemd/system/rooms@.service.old
+# What an administrator wrote there outlives the next version too.
+echo '# a later version' >>"machine/etc/systemd/system/rooms@.service"
+installs --replace
+says 'a second replacement' 0 'new /etc/systemd/system/rooms@.service, the old one is /etc/systemd/system/rooms@.service.old.2'
+holds 'leaves what stood there first' [ "$(cat machine/etc/systemd/system/rooms@.service.old{,.2} | grep -c '^# mine\|^# a later')" = 2 ]
 holds 'settings stay in any case' grep -q '^# mine' machine/etc/rooms/office.conf
 installs --program "$PWD/nowhere"
 says 'no program' 2 'no program'
