@@ -8,7 +8,7 @@ import re
 import shutil
 import subprocess
 import tempfile
-from pwd import getpwnam, getpwuid
+from pwd import getpwnam
 
 from . import apache, before, changes, directory, locks, settings, show, site
 from .changes import Changes
@@ -58,7 +58,7 @@ def _set_up(made: Changes, pair: tuple[str, str] | None, chosen: str,
         before.set_values(made, site.SETTINGS, {"CERTIFICATE": pair[0], "KEY": pair[1]})
     if chosen:
         _switch(made, chosen, where)
-    _keep_directory(made)
+    _keep_directory(made, not chosen)
     show.put_passwords(made, "office")
     if made.dry and not os.path.exists(made.root + site.SETTINGS):
         # Nothing can be rendered from settings that aren't there.
@@ -234,22 +234,29 @@ def _switch(made: Changes, chosen: str, where: settings.Directory | None) -> Non
                   "directory too")
 
 
-def _keep_directory(made: Changes) -> None:
+def _keep_directory(made: Changes, restarts: bool) -> None:
     """What follows from its settings, once it was switched on."""
     apache.key(made)
+    changed = False
     if os.path.exists(made.root + apache.FILE) and os.path.exists(made.root
                                                                   + "/etc/rooms/directory"):
-        apache.put(made, settings.directory(made.root + "/etc/rooms/directory"))
+        changed = apache.put(made, settings.directory(made.root + "/etc/rooms/directory"))
     for key in sorted(glob.glob("/etc/rooms/*.keytab")) if not made.root else []:
-        _give_key(made, key)
+        changed |= _give_key(made, key)
+    if changed and restarts:
+        made.systemctl("try-restart", _UNIT)
 
 
-def _give_key(made: Changes, key: str) -> None:
+def _give_key(made: Changes, key: str) -> bool:
     """Before it had a user of its own, Apache ran as nginx's."""
-    if getpwuid(os.lstat(key).st_uid).pw_name == changes.NGINX and made.does(
-            f"{key} belongs to {changes.CHECKER}: systemctl restart rooms-passwords"):
+    try:
+        theirs = os.lstat(key).st_uid == getpwnam(changes.NGINX).pw_uid
+    except KeyError:
+        return False
+    if theirs and made.does(f"{key} belongs to {changes.CHECKER}"):
         user = getpwnam(changes.CHECKER)
         os.chown(key, user.pw_uid, user.pw_gid, follow_symlinks=False)
+    return theirs
 
 
 def _run_passwords(made: Changes, chosen: str) -> None:
