@@ -81,13 +81,16 @@ def take_back(room: Room, within: int) -> None:
 
 
 def _bring_back(room: Room, copied: str, place: str) -> None:
-    """What verify has made of a private copy, whose log is in its file then."""
+    """What verify has made of a private copy, whose log is in its file then: a log of before would
+    be put into it again."""
     with safe.opened(safe.folder(os.path.dirname(copied))) as source, \
             safe.opened(safe.folder(place)) as target:
         for end in ("", "-wal"):
             try:
                 number = safe.file_below(source, os.path.basename(copied) + end)
             except FileNotFoundError:
+                if end and os.path.lexists(os.path.join(place, room.base + end)):
+                    os.unlink(room.base + end, dir_fd=target)
                 continue
             with safe.opened(number), safe.opened(os.open(
                     room.base + end, os.O_WRONLY | os.O_CREAT | os.O_TRUNC | os.O_NOFOLLOW

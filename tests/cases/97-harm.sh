@@ -125,10 +125,10 @@ END
     TMPDIR=$PWD/tmp verb standby "$PWD/conf"
     holds "a standby copy in $place: $(head -c 300 "$work/err")" [ "$status" = 0 ]
     holds "$place: nothing of it runs as root" [ "$(cut -d ' ' -f 1 ran | sort -u)" = "$STAND_USER" ]
+    holds "$place: a standby copy is one file" [ "$(ls "$place/standby")" = F ]
     for copy in "$place"/2*/F "$place/standby/F"; do
       holds "$copy is sound" [ "$("$rooms" verify "$copy" 2>&1)" = sound ]
     done
-    holds "$place: a standby copy is one file" [ "$(ls "$place/standby")" = F ]
     holds "$place: all of it is root's" [ -z "$(find "$place" -not -user 0)" ]
     holds "$place: no private copy stays" [ -z "$(ls tmp)" ]
     mv kept conf
