@@ -63,6 +63,8 @@ for file in usr/bin/rooms usr/bin/rooms-import usr/bin/rooms-export usr/sbin/roo
 done
 same 'the program is the one that was built' files/usr/bin/rooms "$rooms"
 holds 'no setting is a conffile, which no script may edit' [ ! -e files/etc -a ! -e control/conffiles ]
+dpkg-deb -f "$package" Recommends >found
+holds 'a mail program is recommended, without which nobody is told of a failure' grep -q 'mailx.*mail-transport-agent' found
 grep -rlE '/usr/local/(s?bin|lib|share)/rooms' files >found
 : >nothing
 same 'no file looks below /usr/local' found nothing

@@ -363,10 +363,11 @@ unit start
 
 # An interruption at each call, alone and followed by what the unit does after each run.
 for how in TERM KILL; do
+  stopped
   for number in {1..60}; do
     rm -f "$stand/hit"
-    stopped
-    asked 'MOST=9' "group staff = $([ "$(grep -c '^staff,' got)" = 1 ] && echo staff || echo Human Resources)"
+    if [ "$(grep -c '^staff,' got)" = 1 ]; then group=staff wanted='bob carol dana '; else group='Human Resources' wanted='carol '; fi
+    asked 'MOST=9' "group staff = $group"
     export KILL_AT=$number KILL_HOW=$how
     brings
     unset KILL_AT
@@ -378,6 +379,10 @@ for how in TERM KILL; do
     unit_runs "$name, and after"
     holds "$name: nothing is owed" [ -z "$(ls run)" ]
     holds "$name: nothing is left in the folder" [ -z "$(ls office | grep groups)" ]
+    # What is known of a run that was cut off is never wrong: the next one does what is left.
+    brings
+    stopped
+    holds "$name: the next run has all members" [ "$(sed -n 's/^staff,//p' got | tr '\n' ' ')" = "$wanted" ]
   done
   holds "$how: the calls came to an end" [ "$number" -gt 5 -a "$number" -lt 60 ]
 done
