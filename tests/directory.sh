@@ -77,6 +77,10 @@ as_root_of_directory() { "$1" -x -H "ldap://127.0.0.1:$ldap" -D cn=root,dc=examp
 apache2=$(command -v apache2 || ls /usr/sbin/apache2 2>/dev/null)
 modules=/usr/lib/apache2/modules
 
+# The user of Apache, where the machine has it.
+checker=rooms-passwords
+getent passwd "$checker" >/dev/null || checker=nobody
+by_checker() { sed "s/^User rooms-passwords\$/User $checker/; s/^Group rooms-passwords\$/Group $(id -gn "$checker")/" "$@"; }
 good() {
   printf '%s\n' '# where it is' "URI=ldap://127.0.0.1:${ldap-389}" 'BASE=ou=people,dc=example,dc=net' \
     'BIND=uid=reader,ou=people,dc=example,dc=net' "SECRET=$PWD/secret" 'USERS=(&(objectClass=person)(!(employeeType=gone)))'
@@ -89,7 +93,7 @@ start_apache() { # FILE-OF-SETTINGS
   awk '/^cat >.*invoices.apache/ { on = 1; next } /^END/ { on = 0 } on' "$here/../docs/directory.md" >directory.d/invoices.apache
   sed -e "s#/etc/rooms/directory.d#$PWD/directory.d#" \
     -e "s#/run/rooms-directory#$PWD/run#; s#127.0.0.1:8778#127.0.0.1:$apache#; s#^ErrorLog .*#ErrorLog $PWD/apache.log#" \
-    machine/etc/rooms/directory.apache >apache.conf
+    machine/etc/rooms/directory.apache | by_checker >apache.conf
   mkdir -p run
   chmod 755 "$work" . machine
   rm -f run/pid

@@ -2,7 +2,14 @@
 # room and its stand-ins.
 
 place=$(sed -n 's/^.*`STANDBY=\(root@[^`]*\)`.*/\1/p' "$here/../docs/machines.md")
-holds 'the page names a place' [ "$place" = root@b.example:/var/backups/rooms/standby ]
+holds 'the page names a place' [ "$place" = root@b.example:/ ]
+# What stands before the key there, by which it can do nothing else.
+forced=$(tr '\n' ' ' <"$here/../docs/machines.md" | grep -o 'restrict,command="rrsync [^"]*"')
+holds 'and what its key may do' [ "$forced" = 'restrict,command="rrsync -wo /var/backups/rooms/standby"' ]
+if ! has rrsync; then
+  skip 'a standby copy on another machine' 'no rrsync'
+  return
+fi
 
 # In place of ssh: what it would run there is run here, below the folder `elsewhere`. With STAND/cut the connection ends within the copy.
 mkdir -p elsewhere/var/backups/rooms/standby
@@ -11,7 +18,7 @@ cat >"$stand/bin/ssh" <<END
 printf '%s\n' "\$*" >>'$PWD/ssh.asked'
 while [ "\$1" != b.example ]; do shift; done
 shift
-run() { cd / && exec \${*//\/var\//$PWD/elsewhere/var/}; }
+run() { cd / && SSH_ORIGINAL_COMMAND="\$*" exec rrsync -wo '$PWD/elsewhere/var/backups/rooms/standby'; }
 if [ -e '$stand/cut' ]; then head -c 100000 | run "\$@"; else run "\$@"; fi
 END
 chmod 755 "$stand/bin/ssh"
@@ -38,6 +45,8 @@ answers 'and the room is served'
 stands
 holds 'the next run brings all' eval '[ "$status" = 0 ] && has_document "$there" after-a-cut'
 holds 'and leaves nothing else' [ "$(ls -A "$there")" = F ]
+PATH=$stand/bin:$PATH rsync -e 'ssh -l root' root@b.example:/F read >"$work/out" 2>&1
+holds 'whoever has the key reads nothing there' [ "$?" != 0 -a ! -e read ]
 rm "$stand/bin/ssh"
 
 # sshd itself, in a network of its own, where the machine b.example is this one.
@@ -90,7 +99,7 @@ says 'a machine that is not known' 1 'Host key verification failed'
 there ssh-keyscan -t ed25519 b.example >keys/known_hosts 2>said
 stands_there
 says 'a machine that does not know root' 1 'Permission denied'
-cp keys/mine.pub keys/authorized_keys
+echo "$forced $(<keys/mine.pub)" >keys/authorized_keys
 stands_there
 holds "it is brought by sshd: $(head -c 300 "$work/err")" [ "$status" = 0 ]
 holds 'all of it is there' arrived by-sshd

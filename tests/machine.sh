@@ -172,6 +172,7 @@ for name in "${units[@]}"; do
     start:rooms-nightly* | start:rooms-directory*) $(command_of "$name") || exit ;;
     stop:rooms-nightly* | stop:rooms-directory*) ;;
     stop:rooms-passwords | stop:rooms-session) ! alive "$name" || kill "$(cat "/run/$name.pid")" ;;
+    try-restart:rooms-passwords) ! alive "$name" || "$0" restart "$name" ;;
     start:rooms-passwords | restart:rooms-passwords | start:rooms-session)
       "$0" stop "$name"
       while alive "$name"; do sleep 0.02; done

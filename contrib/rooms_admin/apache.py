@@ -42,10 +42,11 @@ def key(changes: Changes) -> str:
     return made
 
 
-def put(changes: Changes, of: settings.Directory) -> None:
+def put(changes: Changes, of: settings.Directory) -> bool:
+    """Whether anything has changed."""
     source = site.template("directory.apache")
     data = text(changes.root, source, of, key(changes))
-    changes.file(FILE, data.encode(errors="surrogateescape"), 0o600)
+    return changes.file(FILE, data.encode(errors="surrogateescape"), 0o600)
 
 
 def is_there(root: str) -> bool:

@@ -20,8 +20,8 @@ import shutil
 import subprocess
 import time
 
-from . import (copying, health, history, locks, machine, mine, names, people, program, safe, said,
-               settings, unit, until)
+from . import (copying, health, history, lent, locks, machine, mine, names, people, program, safe,
+               said, settings, unit, until)
 from .history import Backup
 from .room_http import Caller, Client
 from .said import Interrupted, Refused, Stop, say
@@ -165,7 +165,7 @@ class Night:
             size = unit.size_of(os.path.join(place, self.room.base))
             self.memory = self.room.memory or 1024 + (8 * size >> 20)
         words: list[str | bytes] = [word, *rest]
-        status, out, text = program.on_lent(self.room, place, words, self.memory, stdout)
+        status, out, text = lent.on_copy(self.room, place, words, self.memory, stdout)
         if "fault: memory" in text:
             text += f", with MEMORY={self.memory}"
         return status, out, text
@@ -334,7 +334,7 @@ class Night:
         if self.kept:
             _remove_unfinished(self.kept)
             with safe.opened(safe.folder(self.kept)) as within:
-                program.take_back(self.room, within)
+                lent.take_back(self.room, within)
         if os.path.exists(self.note.place):
             os.unlink(self.note.place)
 

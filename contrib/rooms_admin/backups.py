@@ -105,16 +105,24 @@ def served(room: settings.Room, copied: str, count: int) -> Iterator[None]:
     server = subprocess.Popen(words, stdin=subprocess.DEVNULL, stdout=subprocess.PIPE,
                               stderr=subprocess.PIPE, preexec_fn=_end_with_parent,
                               **program.user_of(room))  # type: ignore
-    with server:
-        try:
-            assert server.stdout and server.stderr
-            # A server that ends closes its output: that is an end of the wait too.
-            ready, _, _ = select.select([server.stdout], [], [], 600)
-            line = server.stdout.readline() if ready else b""
-            if not line.startswith(b"listening "):
-                server.kill()
-                said = server.stderr.read(300).decode(errors="replace").strip()
-                raise Stop(f"the copy can't be served: {said or f'status {server.wait()}'}")
-            yield
-        finally:
+    try:
+        assert server.stdout and server.stderr
+        # A server that ends closes its output: that is an end of the wait too.
+        ready, _, _ = select.select([server.stdout], [], [], 600)
+        line = server.stdout.readline() if ready else b""
+        if not line.startswith(b"listening "):
+            server.kill()
+            said = server.stderr.read(300).decode(errors="replace").strip()
+            raise Stop(f"the copy can't be served: {said or f'status {server.wait()}'}")
+        yield
+    finally:
+        _end(server)
+
+
+def _end(server: subprocess.Popen[bytes]) -> None:
+    """Whatever interrupts this: nobody else ends the server, and it is waited for."""
+    try:
+        server.kill()
+    finally:
+        with server:
             server.kill()

@@ -12,6 +12,8 @@ from .said import Stop, say
 
 # The user whose processes nginx's are, on Debian.
 NGINX = "www-data"
+# The user of the Apaches that check passwords, who reaches no room.
+CHECKER = "rooms-passwords"
 
 
 class Changes:

@@ -1,8 +1,10 @@
 """Brings the groups of a room into line with a directory (LDAP, Active Directory), by the settings
 /etc/rooms/directory and NAME.groups beside those of the room. Nothing is changed if the directory
-doesn't answer, or lacks a group; if a group would have no member; or if more than MOST pairs would
-go; the last two only without --force. The server is stopped only if there is something to change,
-or if the room's file isn't the one of the last run, and is started again whatever happened."""
+doesn't answer; if a group would have no member; or if more than MOST pairs would go; the last two
+only without --force. A group that the directory hasn't, under that name, stays as it is and is
+named, with status 1; the others are brought into line. The server is stopped only if there is
+something to change, or if the room's file isn't the one of the last run, and is started again
+whatever happened."""
 import argparse
 import os
 import subprocess
@@ -18,6 +20,10 @@ LISTS = "lists.txt"
 # The program takes no more from a file.
 LIMIT = 20000
 Pair = tuple[str, str]
+
+
+class NoGroup(Refused):
+    """The directory hasn't that one, or several."""
 
 
 class Asked:
@@ -37,18 +43,17 @@ class Asked:
 
     def _find_group(self, what: str) -> str:
         """The DN of a group, by its DN or its cn."""
-        about = f", at '{what}'"
         try:
             if "=" in what and "," in what:
-                found = self.directory.search(what, False, GROUPS, [], about)
+                found = self.directory.search(what, False, GROUPS, [], what)
             else:
                 found = self.directory.search(
                     self.directory.where.base, True,
-                    f"(&{GROUPS}(cn={self.directory.quoted(what)}))", [], about)
+                    f"(&{GROUPS}(cn={self.directory.quoted(what)}))", [], what)
         except NoSuchEntry:
-            raise Refused(f"no group: the directory has no '{what}'") from None
+            raise NoGroup(f"no group: the directory has no '{what}'") from None
         if len(found) != 1:
-            raise Refused(f"no group: the directory has {len(found)} groups '{what}'")
+            raise NoGroup(f"no group: the directory has {len(found)} groups '{what}'")
         return found[0].dn
 
     def members(self, what: str) -> set[str]:
@@ -114,11 +119,21 @@ class Run:
         self.locked = True
 
     def ask(self, groups: dict[str, str]) -> set[Pair]:
+        """Takes those out of `groups` that the directory hasn't: one may have been renamed there,
+        which keeps nobody from leaving another one."""
         asked = Asked(Directory(settings.directory(_beside(self.room, "directory"))))
         wanted: set[Pair] = set()
-        for name, what in groups.items():
+        for name, what in list(groups.items()):
             pairs = set()
-            for user in sorted(asked.members(what)):
+            try:
+                members = sorted(asked.members(what))
+            except NoGroup as stop:
+                del groups[name]
+                if not groups:
+                    raise
+                self.failures.append(f"{name} stays as it is: {stop}")
+                continue
+            for user in members:
                 if names.is_user(user):
                     pairs.add((name, user))
                 else:
@@ -328,11 +343,15 @@ def run(given: argparse.Namespace) -> int:
                 task.names()
             else:
                 task.bring()
+                status = 1 if task.failures else 0
         except Stop as stop:
             failures.append(str(stop))
             say(str(stop))
             status = stop.status
         said.ignore_signals()
+        for failure in task.failures:
+            failures.append(failure)
+            say(failure)
         try:
             task.start_server()
         except Stop as stop:

@@ -365,7 +365,7 @@ def _give(number: int, name: str) -> None:
             os.fchown(number, -1, grp.getgrnam("www-data").gr_gid)
             os.fchmod(number, 0o640)
         elif name.startswith("etc/rooms/") and name.endswith(".keytab"):
-            user = pwd.getpwnam("www-data")
+            user = pwd.getpwnam("rooms-passwords")
             os.fchown(number, user.pw_uid, user.pw_gid)
     except KeyError:
         pass

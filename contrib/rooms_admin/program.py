@@ -1,4 +1,4 @@
-"""Running the program: as whom, with how much memory, and on files of root's without being root."""
+"""Running the program: as whom, and with how much memory."""
 import os
 import resource
 import subprocess
@@ -6,7 +6,6 @@ import tempfile
 from collections.abc import Callable, Iterator
 from contextlib import contextmanager
 
-from . import safe
 from .said import Stop
 from .settings import Room
 
@@ -92,69 +91,6 @@ def version_of(program: str) -> str:
     except OSError as fault:
         raise Stop(f"no program: {program} can't be run: {fault.strerror}") from fault
     return done.stderr.decode(errors="replace").strip().removeprefix("rooms ")
-
-
-def _may_enter(room: Room, place: str) -> bool:
-    """Whether the room's user gets to a folder, as far as the modes of those above it say."""
-    while True:
-        seen = os.stat(place)
-        bit = 0o100 if seen.st_uid == room.owner else (
-            0o010 if seen.st_gid == room.group else 0o001)
-        if not seen.st_mode & bit:
-            return False
-        if place == "/":
-            return True
-        place = os.path.dirname(place)
-
-
-@contextmanager
-def lent(room: Room, place: str) -> Iterator[bool]:
-    """The files of a copy of root's belong to the room's user while the program works on them: what
-    the server wrote is not read as root. The folder of backups lets others pass meanwhile, and in
-    it each folder is closed to them. False if the room's user can't get there even so. No name in
-    the folder is believed afterwards."""
-    above = os.path.dirname(os.path.realpath(place))
-    if os.geteuid() == room.owner or not _may_enter(room, os.path.dirname(above)):
-        yield False
-        return
-    with safe.opened(safe.folder(above)) as backups, safe.opened(safe.folder(place)) as within:
-        mode = os.fstat(backups).st_mode & 0o7777
-        files = []
-        for name in (room.base, room.base + "-wal"):
-            try:
-                files.append(safe.file_below(within, name))
-            except FileNotFoundError:
-                pass
-        try:
-            os.fchmod(backups, mode | 0o011)
-            for number in [*files, within]:
-                os.fchown(number, room.owner, room.group)
-            yield True
-        finally:
-            take_back(room, within)
-            os.fchmod(backups, mode)
-            for number in files:
-                os.fchown(number, os.geteuid(), os.getegid())
-                os.close(number)
-
-
-def take_back(room: Room, within: int) -> None:
-    """The folder first: from then on nobody else changes a name in it."""
-    os.fchown(within, os.geteuid(), os.getegid())
-    for name in (room.base, room.base + "-wal"):
-        try:
-            with safe.opened(safe.file_below(within, name)) as number:
-                os.fchown(number, os.geteuid(), os.getegid())
-        except (FileNotFoundError, safe.NoFile):
-            pass
-
-
-def on_lent(room: Room, place: str, words: list[str | bytes], megabytes: int,
-            stdout: int = subprocess.PIPE) -> tuple[int, bytes, str]:
-    """A subcommand on the copy in a folder of root's: its first word, the copy, the others."""
-    with lent(room, place) as is_lent:
-        return run(room, [words[0], f"./{room.base}", *words[1:]], as_owner=is_lent,
-                   megabytes=megabytes, stdout=stdout, cwd=place)
 
 
 def lacks_space(room: Room) -> str:

@@ -3,6 +3,7 @@ import os
 import re
 from dataclasses import dataclass, field
 
+from . import locks
 from .names import is_host, is_user
 from .said import Refused
 
@@ -79,9 +80,11 @@ class Room:
 
     @property
     def listens(self) -> str:
-        """The path of its server's socket, where it has one in the place of a port."""
-        root = os.environ.get("ROOMS_ROOT", "")
-        return f"{root}/run/rooms/{self.unit.partition('@')[2]}/socket" if self.socket else ""
+        """The path of its server's socket, where it has one in the place of a port: by SOCKET=yes,
+        or by a unit of somebody's own. Its folder is made anew at each start, so none of before is
+        there."""
+        place = os.path.join(locks.RUN, "rooms", self.unit.partition("@")[2] or self.unit, "socket")
+        return place if self.socket or os.path.exists(place) else ""
 
 
 _ROOM = {"FILE": "", "PORT": "", "TITLE": "", "BACKUPS": "", "KEEP": "30", "MEMORY": "",

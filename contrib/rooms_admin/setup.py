@@ -1,6 +1,7 @@
 """setup: the user, the folders, the settings of the room office, and nginx's site as the settings
 of all rooms say. It makes, opens and changes no room. A second run changes nothing."""
 import argparse
+import glob
 import hashlib
 import os
 import re
@@ -40,7 +41,7 @@ def _set_up(made: Changes, pair: tuple[str, str] | None, chosen: str,
             where: settings.Directory | None) -> int:
     _user(made)
     made.folder("/var/lib/rooms", 0o700, "rooms")
-    made.folder("/var/backups/rooms", 0o700)
+    made.folder("/var/backups/rooms", 0o710, "root", "rooms")
     made.folder("/etc/rooms", 0o755)
     if not os.path.exists(made.root + _OFFICE):
         text = room_text(made.root, "office", "8780", "office", "/var/backups/rooms")
@@ -57,7 +58,7 @@ def _set_up(made: Changes, pair: tuple[str, str] | None, chosen: str,
         before.set_values(made, site.SETTINGS, {"CERTIFICATE": pair[0], "KEY": pair[1]})
     if chosen:
         _switch(made, chosen, where)
-    _keep_directory(made)
+    _keep_directory(made, not chosen)
     show.put_passwords(made, "office")
     if made.dry and not os.path.exists(made.root + site.SETTINGS):
         # Nothing can be rendered from settings that aren't there.
@@ -86,10 +87,10 @@ def _end(made: Changes, good: bool) -> int:
 
 
 def _user(made: Changes) -> None:
-    """One for the servers, and one for mail about them."""
+    """One for the servers, one for mail about them, and one who checks passwords."""
     if made.root:
         return
-    for name in ("rooms", "rooms-mail"):
+    for name in ("rooms", "rooms-mail", changes.CHECKER):
         try:
             getpwnam(name)
         except KeyError:
@@ -180,11 +181,15 @@ def _look_at_directory(made: Changes, chosen: str) -> settings.Directory | None:
     if not (os.access("/usr/sbin/apache2", os.X_OK)
             and os.path.exists("/usr/lib/apache2/modules/mod_authnz_ldap.so")):
         raise Refused("no Apache: apt-get install apache2-bin")
+    try:
+        getpwnam(changes.CHECKER)
+    except KeyError:
+        raise Refused(f"no user {changes.CHECKER}: rooms-admin setup makes it") from None
     # Apache reads it at each connection, when it isn't root any more.
     if where.ca and os.geteuid() == 0 and changes.run(
-            "setpriv", f"--reuid={changes.NGINX}", f"--regid={changes.NGINX}", "--clear-groups",
-            "test", "-r", where.ca, check=False)[0]:
-        raise Refused(f"no way to {where.ca}: the user {changes.NGINX} can't read it")
+            "setpriv", f"--reuid={changes.CHECKER}", f"--regid={changes.CHECKER}",
+            "--clear-groups", "test", "-r", where.ca, check=False)[0]:
+        raise Refused(f"no way to {where.ca}: the user {changes.CHECKER} can't read it")
     try:
         found = directory.Directory(where).search(
             where.base, True, f"(&{where.users}({where.name}=*))", [where.name])
@@ -229,12 +234,29 @@ def _switch(made: Changes, chosen: str, where: settings.Directory | None) -> Non
                   "directory too")
 
 
-def _keep_directory(made: Changes) -> None:
+def _keep_directory(made: Changes, restarts: bool) -> None:
     """What follows from its settings, once it was switched on."""
     apache.key(made)
+    changed = False
     if os.path.exists(made.root + apache.FILE) and os.path.exists(made.root
                                                                   + "/etc/rooms/directory"):
-        apache.put(made, settings.directory(made.root + "/etc/rooms/directory"))
+        changed = apache.put(made, settings.directory(made.root + "/etc/rooms/directory"))
+    for key in sorted(glob.glob("/etc/rooms/*.keytab")) if not made.root else []:
+        changed |= _give_key(made, key)
+    if changed and restarts:
+        made.systemctl("try-restart", _UNIT)
+
+
+def _give_key(made: Changes, key: str) -> bool:
+    """Before it had a user of its own, Apache ran as nginx's."""
+    try:
+        theirs = os.lstat(key).st_uid == getpwnam(changes.NGINX).pw_uid
+    except KeyError:
+        return False
+    if theirs and made.does(f"{key} belongs to {changes.CHECKER}"):
+        user = getpwnam(changes.CHECKER)
+        os.chown(key, user.pw_uid, user.pw_gid, follow_symlinks=False)
+    return theirs
 
 
 def _run_passwords(made: Changes, chosen: str) -> None:

@@ -7,7 +7,7 @@ import os
 import shutil
 import subprocess
 
-from . import copying, locks, program, safe, said, settings, unit
+from . import copying, lent, locks, safe, said, settings, unit
 from .said import Refused, Stop, say
 from .settings import Room
 
@@ -39,7 +39,7 @@ def keep(room: Room, copied: copying.Copy, part: str) -> None:
     try:
         copying.keep(room, copied, part)
         memory = room.memory or 1024 + (8 * unit.size_of(whole) >> 20)
-        status, out, text = program.on_lent(room, part, ["verify"], memory)
+        status, out, text = lent.on_copy(room, part, ["verify"], memory)
         if status != 0:
             raise Stop(f"verify of the copy failed: {text or out.decode(errors='replace')}; {LAST}")
         # What a log has that is put into its file is no more than its head.

@@ -10,7 +10,7 @@ import ssl
 import time
 from collections.abc import Callable
 
-from . import await_server, locks, machine, settings, unit
+from . import await_server, machine, settings, unit
 from .said import Stop
 from .settings import Room
 from .used import NoRoom, Used
@@ -60,11 +60,9 @@ def within(seconds: float, look: Callable[[], list[Finding]], what: str) -> list
 
 def see_answer(room: Room) -> list[Finding]:
     """By itself: at its socket, or at its port."""
-    socket = os.path.join(locks.RUN, "rooms", unit_name(room), "socket")
-    port = "" if room.socket else room.port
-    if not port and not room.socket and not os.path.exists(socket):
+    if not room.port and not room.listens:
         return []
-    if await_server.is_well(port, socket):
+    if await_server.is_well("" if room.listens else room.port, room.listens):
         return [(OK, "answers")]
     return [(CRITICAL, f"{room.unit} doesn't answer ({unit.state(room) or 'no unit'}): "
              f"systemctl status {room.unit}")]

@@ -11,8 +11,9 @@ import sys
 import tempfile
 import threading
 import unittest
+import unittest.mock
 
-from rooms_admin import ending, mine, names, people, room_http, safe, until, web
+from rooms_admin import ending, locks, mine, names, people, room_http, safe, until, web
 from rooms_admin.said import Stop
 from rooms_admin.settings import Room
 
@@ -266,8 +267,9 @@ class Sockets(unittest.TestCase):
 
     def test_the_server_is_asked_at_its_socket(self) -> None:
         with tempfile.TemporaryDirectory() as root:
-            os.environ["ROOMS_ROOT"] = root
-            self.addCleanup(os.environ.pop, "ROOMS_ROOT")
+            run = unittest.mock.patch.object(locks, "RUN", f"{root}/run")
+            run.start()
+            self.addCleanup(run.stop)
             room = dataclasses.replace(ROOM, unit="rooms@office", socket=True)
             self.assertEqual(room.listens, f"{root}/run/rooms/office/socket")
             self.assertEqual(ROOM.listens, "")

@@ -5,6 +5,7 @@ import subprocess
 import sqlite3
 import tempfile
 import unittest
+import unittest.mock
 
 from rooms_admin import names, safe, settings, site
 from rooms_admin.said import Refused
@@ -82,8 +83,53 @@ class Safe(unittest.TestCase):
             with safe.opened(safe.file_below(at, "one")) as number:
                 self.assertEqual(safe.read_at_most(number, 3), b"hell")
 
+    def test_a_file_has_its_name_once_it_is_on_the_disk(self) -> None:
+        """A power cut leaves the old file or the new one, and neither is half written."""
+        with tempfile.TemporaryDirectory() as place:
+            target = f"{place}/settings"
+            did: list[str] = []
+            sync, rename = os.fsync, os.rename
+
+            def syncs(number: int) -> None:
+                what = os.path.basename(os.readlink(f"/proc/self/fd/{number}"))
+                did.append("sync folder" if what == os.path.basename(place) else f"sync {what}")
+                sync(number)
+
+            def renames(*given: str, **where: int) -> None:
+                did.append(f"rename {given[0]} {given[1]}")
+                rename(given[0], given[1], **where)
+
+            with unittest.mock.patch.object(os, "fsync", syncs), \
+                    unittest.mock.patch.object(os, "rename", renames):
+                safe.put_file(target, b"FILE=a\n", 0o640)
+            self.assertEqual(did, ["sync .settings.new", "rename .settings.new settings",
+                                   "sync folder"])
+            self.assertEqual(os.stat(target).st_mode & 0o777, 0o640)
+
 
 class UsedBytes(unittest.TestCase):
+    def test_a_look_reads_what_is_new(self) -> None:
+        """A log may have grown to 100 MB, and it is looked at each second."""
+        with tempfile.TemporaryDirectory() as place:
+            file = f"{place}/F"
+            link = sqlite3.connect(file, isolation_level=None)
+            link.execute("PRAGMA journal_mode=WAL")
+            link.execute("PRAGMA wal_autocheckpoint=0")
+            link.execute("CREATE TABLE t (a BLOB)")
+            for _ in range(300):
+                link.execute("INSERT INTO t VALUES (zeroblob(20000))")
+            known = Used()
+            known.look(file)
+            real = os.pread
+            with unittest.mock.patch.object(os, "pread", side_effect=real) as reads:
+                known.look(file)
+                self.assertLess(reads.call_count, 5)
+                link.execute("INSERT INTO t VALUES (1)")
+                used = known.look(file)
+                self.assertLess(reads.call_count, 20)
+            self.assertEqual(used, Used().look(file))
+            link.close()
+
     def test_it_is_what_sqlite_counts(self) -> None:
         chance = random.Random(2)
         with tempfile.TemporaryDirectory() as place:

@@ -1,14 +1,16 @@
 """Parts of check, tell and user that need no room."""
 import os
+import socketserver
 import sys
 import tempfile
+import threading
 import time
 import unittest
 import unittest.mock
 
 sys.path.insert(0, os.path.join(os.path.dirname(__file__), "..", "..", "contrib"))
 
-from rooms_admin import members, said, settings, tell, watched  # noqa: E402
+from rooms_admin import health, locks, members, said, settings, tell, unit, watched  # noqa: E402
 
 LISTS = b"""folder bob staff /
 dacl
@@ -26,6 +28,15 @@ A:fdI:a.bob:r
 member staff bob
 member bob alice
 """
+
+
+class Answers(socketserver.StreamRequestHandler):
+    """A server that is well."""
+
+    def handle(self) -> None:
+        while self.rfile.readline().strip():
+            pass
+        self.wfile.write(b"HTTP/1.1 200 OK\r\nContent-Length: 2\r\nConnection: close\r\n\r\n{}")
 
 
 class Watched(unittest.TestCase):
@@ -48,6 +59,43 @@ class Watched(unittest.TestCase):
         def fails() -> list[watched.Finding]:
             raise OSError("no")
         self.assertEqual(watched.within(60, fails, "/mnt"), [(2, "/mnt can't be looked at")])
+
+    def test_a_room_is_asked_where_it_listens(self) -> None:
+        """At its socket, if it has one, whether SOCKET says so or its unit does; never elsewhere."""
+        with tempfile.TemporaryDirectory() as home, \
+                unittest.mock.patch.object(unit, "state", return_value="active"), \
+                unittest.mock.patch.object(locks, "RUN", home), \
+                socketserver.ThreadingTCPServer(("127.0.0.1", 0), Answers) as there:
+            port = str(there.server_address[1])
+            threading.Thread(target=there.serve_forever, daemon=True).start()
+            place = f"{home}/rooms/office/socket"
+            os.makedirs(os.path.dirname(place))
+
+            def told(of_socket: str, of_port: str) -> str:
+                with open(f"{home}/office.conf", "w", encoding="ascii") as file:
+                    file.write(f"FILE={home}/F\nBACKUPS={home}\nPROGRAM=/bin/true\n"
+                               f"SOCKET={of_socket}\nPORT={of_port}\n")
+                room = settings.room(f"{home}/office.conf")
+                text = health.answer(room, 1)
+                self.assertEqual(watched.see_answer(room)[:1] == [(2, silent(room))], bool(text))
+                return text
+
+            def silent(room: settings.Room) -> str:
+                return f"{room.unit} doesn't answer (active): systemctl status {room.unit}"
+
+            self.assertEqual(told("", port), "")
+            self.assertEqual(told("", ""), "")
+            self.assertIn(f"doesn't answer at {place} ", told("yes", port))
+            self.assertIn(f"doesn't answer at {place} ", told("yes", ""))
+            with socketserver.ThreadingUnixStreamServer(place, Answers) as at_socket:
+                threading.Thread(target=at_socket.serve_forever, daemon=True).start()
+                for of_socket in ("", "yes"):
+                    for of_port in ("1", ""):
+                        self.assertEqual(told(of_socket, of_port), "")
+                at_socket.shutdown()
+            # A socket without a server, beside whatever has the port.
+            self.assertIn(f"doesn't answer at {place} ", told("", port))
+            there.shutdown()
 
     def test_lines_that_name_a_user(self) -> None:
         self.assertEqual(list(members.of_user(LISTS, "bob")),

@@ -10,19 +10,30 @@ printf '%s\n' '[mypy]' 'strict = True' "cache_dir = $PWD/mypy" '[mypy-ldap.*]' '
 if has mypy; then
   MYPYPATH=$contrib mypy --config-file mypy.ini "$contrib/rooms_admin" "$here/admin/test_pure.py" >"$work/out" 2>&1
   holds "mypy --strict: $(tail -n 5 "$work/out")" [ "$?" = 0 ]
+  MYPYPATH=$contrib mypy --config-file mypy.ini "$contrib/install" >"$work/out" 2>&1
+  holds "mypy --strict of install: $(tail -n 5 "$work/out")" [ "$?" = 0 ]
 else
   skip 'types' 'mypy is missing'
 fi
 if has flake8; then
-  flake8 --isolated --max-line-length 100 "$contrib/rooms_admin" "$here/admin/test_pure.py" >"$work/out" 2>&1
+  flake8 --isolated --max-line-length 100 "$contrib/rooms_admin" "$contrib/install" "$contrib/rooms-admin" "$here/admin/test_pure.py" >"$work/out" 2>&1
   holds "flake8: $(head -n 5 "$work/out")" [ "$?" = 0 ]
 else
   skip 'style' 'flake8 is missing'
 fi
 (cd "$here/admin" && PYTHONPATH=$contrib python3 -B -m unittest test_pure) >"$work/out" 2>&1
 holds "the pure parts: $(tail -n 20 "$work/out")" [ "$?" = 0 ]
-wc -l "$contrib"/rooms_admin/*.py | awk '$2 != "total" && $1 >= 500 { print $2 }' >found
+wc -l "$contrib"/rooms_admin/*.py "$contrib/install" | awk '$2 != "total" && $1 >= 500 { print $2 }' >found
 same 'no file has 500 lines' found /dev/null
+
+# Each line that it says when something isn't as it should be stands on the page of messages.
+python3 "$here/admin/messages.py" "$contrib/rooms_admin" "$here/../docs/messages.md" >found 2>&1
+same 'each message stands on its page' found /dev/null
+mkdir made
+echo 'raise Stop("a line of nobody")' >made/one.py
+python3 "$here/admin/messages.py" made "$here/../docs/messages.md" >found 2>&1
+echo 'one.py:1: a line of nobody' >wanted
+same 'another one is found' found wanted
 
 # Each verb says its usage and all of its options, and so does the page for man.
 run_admin() {

@@ -213,7 +213,14 @@ if has rsync; then
   holds 'it is brought there' [ "$status" = 0 ]
   holds 'all of it' has_document there to-be-sent
   holds 'as one file' [ "$(ls -A there)" = F ]
+  # While it is sent, which may take long, a nightly run may begin.
+  printf '#!/bin/bash\nflock -n "%s" true && echo free >"%s"\nexec "%s" "$@"\n' \
+    "$PWD/run/.rooms-admin/rooms" "$PWD/lock" "$(command -v rsync)" >"$stand/bin/rsync"
+  chmod 755 "$stand/bin/rsync"
   put to-be-sent-too
+  stands
+  holds 'the lock is free meanwhile' [ "$status" = 0 -a "$(cat lock)" = free ]
+  rm "$stand/bin/rsync"
   touch -d '2001-01-01' backups/standby/F there/F
   stands
   holds 'once more' has_document there to-be-sent-too

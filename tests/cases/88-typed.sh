@@ -311,7 +311,9 @@ systemctl enable --now rooms-directory@office.timer'
 shows 'come in' '+ hr,alice'
 types 'tickets' docs/directory krb5.conf
 does 'a key' 'echo key >keytab'
-types 'are taken' docs/directory 'install -o www-data' docs/directory mod_auth_gssapi docs/directory 'map "$status'
+types 'are taken' docs/directory 'install -o rooms-passwords' docs/directory mod_auth_gssapi docs/directory 'map "$status'
+does 'a key of before, which Apache read as nginx'"'"'s user' 'chown www-data /etc/rooms/kerberos.keytab && rooms-admin setup && stat -c %U /etc/rooms/kerberos.keytab'
+holds 'gets its new user' [ "$(tail -n 1 "$work/out")" = rooms-passwords ]
 holds 'a password is offered beside' grep -q '^add_header WWW-Authenticate ' "$machine/etc/rooms/nginx/server.d/tickets.conf"
 types 'and no more' docs/directory 'rm /etc/rooms/directory.d/kerberos.apache'
 types 'the way back' docs/directory 'rooms-admin setup --directory none'

@@ -63,6 +63,8 @@ for file in usr/bin/rooms usr/bin/rooms-import usr/bin/rooms-export usr/sbin/roo
 done
 same 'the program is the one that was built' files/usr/bin/rooms "$rooms"
 holds 'no setting is a conffile, which no script may edit' [ ! -e files/etc -a ! -e control/conffiles ]
+dpkg-deb -f "$package" Recommends >found
+holds 'a mail program is recommended, without which nobody is told of a failure' grep -q 'mailx.*mail-transport-agent' found
 grep -rlE '/usr/local/(s?bin|lib|share)/rooms' files >found
 : >nothing
 same 'no file looks below /usr/local' found nothing
@@ -203,7 +205,7 @@ does 'its files are whole' 'dpkg -V rooms'
 holds 'nothing differs' [ ! -s "$work/out" ]
 does 'the user has the folder of rooms' 'stat -c "%U %a" /var/lib/rooms /var/backups/rooms
   cd /etc/nginx/sites-enabled && readlink rooms && ls'
-prints 'and so on' 'rooms 700' 'root 700' ../sites-available/rooms rooms
+prints 'and so on' 'rooms 700' 'root 710' ../sites-available/rooms rooms
 does 'the three commands' "$(block README.md 'runuser')"
 holds 'the room is made' grep -q '^ready$' "$work/out"
 does 'a folder' \

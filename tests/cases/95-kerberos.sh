@@ -17,6 +17,7 @@ PATH=$PATH:/usr/sbin:/sbin
 pasted() { # TEXT-IN-THE-BLOCK: a block of the page, in this folder
   block docs/directory.md "$1" | sed -e "s#/etc/rooms/nginx/#@OWN@/#g; s#/etc/rooms/#$PWD/#g; s#/etc/krb5.conf#$PWD/krb5.conf#g" \
     -e "s#@OWN@#$PWD/machine/etc/rooms/nginx#g" \
+    -e "s#-o rooms-passwords -g rooms-passwords#-o $checker -g $(id -gn "$checker")#" \
     -e '/^apt-get /d; /^systemctl /d; /^nginx -t/d' >block
   [ -s block ] || echo "echo no block with: $1 >&2; exit 1" >block
   bash -eu block >"$work/out" 2>"$work/err" </dev/null || fail "the block with $1" "$(head -c 400 "$work/out" "$work/err")"
@@ -96,8 +97,8 @@ chmod 600 secret
 good >settings
 tells EXAMPLE.NET 'addprinc -randkey HTTP/rooms.example'
 tells EXAMPLE.NET "ktadd -k $PWD/keytab HTTP/rooms.example"
-pasted 'install -o www-data'
-holds 'only its user reads the key' [ "$(stat -c '%U %a' kerberos.keytab)" = 'www-data 400' ]
+pasted 'install -o '
+holds 'only its user reads the key' [ "$(stat -c '%U %a' kerberos.keytab)" = "$checker 400" ]
 pasted mod_auth_gssapi
 start_apache "$PWD/settings" || fail 'tickets of Kerberos' "Apache doesn't start: $(head -c 300 apache.out apache.log)"
 ask_directory

@@ -58,6 +58,7 @@ pasted '[Service]'
 holds 'the unit starts that' grep -qx "ExecStart=/usr/sbin/apache2 -f $PWD/session.apache -DFOREGROUND" rooms-session.service
 sed -i -e "s#/run/rooms-session#$PWD/run#; s#^ErrorLog .*#ErrorLog $PWD/apache.log#" -e "s#https://id.example.net#http://127.0.0.1:$provider#" \
   -e "s#https://rooms.example#$base#; s#/usr/share/rooms/signed-in#$contrib/signed-in#" session.apache
+by_checker -i session.apache
 mkdir run
 start_sessions() {
   local began=$SECONDS

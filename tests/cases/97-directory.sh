@@ -17,6 +17,7 @@ if ! {
   group büro carol jürgen 'anna maria'
   group 'Human Resources' carol
   group abroad jürgen
+  group guests dana
   entry cn=unix,ou=groups,dc=example,dc=net posixGroup 'cn: unix' 'gidNumber: 1000' 'memberUid: bob' 'memberUid: nobody' 'memberUid: gone'
   entry cn=twice,ou=groups,dc=example,dc=net posixGroup 'cn: twice' 'gidNumber: 1001'
   entry ou=more,dc=example,dc=net organizationalUnit 'ou: more'
@@ -234,6 +235,10 @@ unchanged 'a name of two groups' 2 "2 groups 'twice'"
 asked 'group staff = *'
 brings
 unchanged 'a star is no pattern' 2 "0 groups '*'"
+asked 'group staff = nothere' 'group sales = *'
+brings
+unchanged 'none of two' 2 "no group: the directory has 0 groups '*'"
+holds 'both are named' grep -qF -e "staff stays as it is: no group: the directory has 0 groups 'nothere'" "$stand/messages"
 asked 'group abroad = abroad'
 brings
 unchanged 'a group without a member' 2 'empty: abroad would have no member; --force'
@@ -296,6 +301,37 @@ brings --force
 says 'what is meant' 0 '- sales,bob'
 has_members 'is done' bureau,carol hr,carol own,erin sales,carol staff,bob staff,carol staff,dana unix,bob
 asked 'MOST=9' 'group staff = Human Resources'
+
+# A group that was renamed in the directory stays as it is, whoever left another one goes, and the
+# renamed one is named.
+rename_group() { # CN CN: the entry stays what it is, under another name
+  printf '%s\n' "dn: $(group_dn "$1")" 'changetype: modrdn' "newrdn: cn=$2" 'deleteoldrdn: 1' >change.ldif
+  as_root_of_directory ldapmodify -f change.ldif || fail 'a group gets another name' "$(cat said)"
+}
+asked 'MOST=9' 'group staff = staff' "group guests = $(group_dn guests)" 'group hr = Human Resources'
+brings
+says 'three groups' 0 'members '
+rename_group guests visitors
+rename_group 'Human Resources' People
+change interns delete carol
+brings --dry-run
+says 'a look at renamed groups' 1 "guests stays as it is: no group: the directory has no '$(group_dn guests)'"
+prints 'shows the others' '- staff,carol'
+holds 'and is no mail' [ ! -s "$stand/messages" ]
+brings
+says 'groups that were renamed' 1 "guests stays as it is: no group: the directory has no '$(group_dn guests)'"
+says 'each of them' 1 "hr stays as it is: no group: the directory has 0 groups 'Human Resources'"
+prints 'the others are taken' '- staff,carol'
+holds 'a mail names them' [ "$(grep -c '^[a-z]* stays as it is: no group: ' "$stand/messages")" = 2 ]
+unit_runs 'the server runs after renamed groups'
+has_members 'whoever left has left, and the renamed ones are as they were' bureau,carol guests,dana hr,carol own,erin \
+  sales,carol staff,bob staff,dana unix,bob
+change interns add carol
+rename_group visitors guests
+rename_group People 'Human Resources'
+brings
+says 'under their old names' 0 '+ staff,carol'
+asked 'MOST=9' 'group staff = Human Resources'
 # The server fails to start, or the import fails: the status says so, and the server runs.
 asked 'MOST=9' 'group staff = Human Resources'
 echo groups >"$stand/no-word"
@@ -327,10 +363,11 @@ unit start
 
 # An interruption at each call, alone and followed by what the unit does after each run.
 for how in TERM KILL; do
+  stopped
   for number in {1..60}; do
     rm -f "$stand/hit"
-    stopped
-    asked 'MOST=9' "group staff = $([ "$(grep -c '^staff,' got)" = 1 ] && echo staff || echo Human Resources)"
+    if [ "$(grep -c '^staff,' got)" = 1 ]; then group=staff wanted='bob carol dana '; else group='Human Resources' wanted='carol '; fi
+    asked 'MOST=9' "group staff = $group"
     export KILL_AT=$number KILL_HOW=$how
     brings
     unset KILL_AT
@@ -342,6 +379,10 @@ for how in TERM KILL; do
     unit_runs "$name, and after"
     holds "$name: nothing is owed" [ -z "$(ls run)" ]
     holds "$name: nothing is left in the folder" [ -z "$(ls office | grep groups)" ]
+    # What is known of a run that was cut off is never wrong: the next one does what is left.
+    brings
+    stopped
+    holds "$name: the next run has all members" [ "$(sed -n 's/^staff,//p' got | tr '\n' ' ')" = "$wanted" ]
   done
   holds "$how: the calls came to an end" [ "$number" -gt 5 -a "$number" -lt 60 ]
 done

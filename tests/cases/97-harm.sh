@@ -68,6 +68,73 @@ END
   printf "$STAND_USER %s\n" 'audit ./F' 'dump ./F' 'review ./F /' 'verify ./F' >wanted
   same 'what ran, and as whom' got wanted
   holds 'the backups are root'"'"'s again' [ -z "$(find backups -not -user 0)" ]
+
+  # Nor does any other account get to a copy while the program reads it, nor see that it is there.
+  cat >prog <<END
+#!/bin/bash
+[ "\$1" = --version ] || echo "\$(id -u) \$*" >>"$PWD/ran"
+if [ "\$1" = verify ]; then
+  echo at it >"$PWD/reading"
+  until [ -e "$PWD/seen" ]; do sleep 0.05; done
+fi
+exec "$rooms" "\$@"
+END
+  as_other() { setpriv --reuid=65533 --regid=65533 --clear-groups "$@" >/dev/null 2>&1; }
+  watched() { # NAME VERB
+    local copy
+    rm -f seen
+    : >reading
+    chmod 666 reading
+    verb "$2" "$PWD/conf" &
+    until [ -s reading ] || [ ! -d "/proc/$!" ]; do sleep 0.05; done
+    copy=$(echo backups/*.part)
+    for one in "ls backups" "stat $copy" "ls $copy" "cat $copy/F" "stat $copy/F"; do
+      # shellcheck disable=SC2086
+      as_other $one
+      holds "$1: no other account gets to '$one'" [ "$?" != 0 ]
+    done
+    as_user ls backups >/dev/null 2>&1
+    holds "$1: the room's user lists no backups" [ "$?" != 0 ]
+    holds "$1: only its group may pass" [ "$(stat -c '%u %a' backups)" = '0 710' -a "$(stat -c %g backups)" = "$(stat -c %g office)" ]
+    : >seen
+    wait "$!"
+  }
+  chown 0:0 backups
+  chmod 700 backups
+  sleep 1
+  watched 'a night that is watched' backup
+  watched 'a standby copy that is watched' standby
+  holds 'both have a copy' [ "$("$rooms" verify "backups/$(newest)/F" 2>&1) $("$rooms" verify backups/standby/F 2>&1)" = 'sound sound' ]
+
+  # A further room has its backups in those of office. Where a folder on the way is closed by
+  # somebody, it stays so, and the program reads a private copy.
+  mkdir -m 700 backups/inner
+  mkdir -m 750 closed
+  chgrp 1 closed
+  mkdir -m 700 closed/backups
+  printf 'BACKUPS=%s\n' "$PWD/backups" >office.conf
+  mkdir -m 1777 tmp
+  for place in backups/inner closed/backups; do
+    chown 0:0 backups
+    chmod 700 backups
+    cp conf kept
+    setting BACKUPS "$PWD/$place"
+    : >ran
+    TMPDIR=$PWD/tmp verb backup "$PWD/conf"
+    holds "backups in $place: $(head -c 300 "$work/err")" [ "$status" = 0 ]
+    TMPDIR=$PWD/tmp verb standby "$PWD/conf"
+    holds "a standby copy in $place: $(head -c 300 "$work/err")" [ "$status" = 0 ]
+    holds "$place: nothing of it runs as root" [ "$(cut -d ' ' -f 1 ran | sort -u)" = "$STAND_USER" ]
+    holds "$place: a standby copy is one file" [ "$(ls "$place/standby")" = F ]
+    for copy in "$place"/2*/F "$place/standby/F"; do
+      holds "$copy is sound" [ "$("$rooms" verify "$copy" 2>&1)" = sound ]
+    done
+    holds "$place: all of it is root's" [ -z "$(find "$place" -not -user 0)" ]
+    holds "$place: no private copy stays" [ -z "$(ls tmp)" ]
+    mv kept conf
+  done
+  holds 'a folder that somebody closed stays so' [ "$(stat -c '%u %g %a' closed)" = '0 1 750' ]
+  rm -r backups/inner closed office.conf
   setting PROGRAM "$stand/bin/rooms"
 else
   skip 'who reads a copy' 'no root, or no other user'

@@ -102,10 +102,10 @@ says 'what is left: a room' 0 '  rooms-admin restore --conf /etc/rooms/invoices.
 says 'what is left: a unit' 0 '  systemctl enable --now rooms-nightly@office.timer'
 says 'and one that may be started without it' 0 '  systemctl enable --now rooms@office.service'
 says 'what was taken away is back' 0 "Passwords are those of $(sed -n 's/^date //p' got.about): take away again"
-if [ "$(id -u)" = 0 ] && getent passwd www-data >/dev/null; then
-  holds 'the key for tickets belongs to who uses it' [ "$(stat -c '%U %a' new/etc/rooms/kerberos.keytab)" = 'www-data 400' ]
+if [ "$(id -u)" = 0 ] && getent passwd rooms-passwords >/dev/null; then
+  holds 'the key for tickets belongs to who uses it' [ "$(stat -c '%U %a' new/etc/rooms/kerberos.keytab)" = 'rooms-passwords 400' ]
 else
-  skip 'the key for tickets' 'no root, or no user www-data'
+  skip 'the key for tickets' 'no root, or no user rooms-passwords'
 fi
 cp -Rp old wanted.old
 rm -r wanted.old/etc/{hostname,cron.d,rooms/office.conf.old} wanted.old/etc/systemd/system/*.wants

@@ -60,6 +60,11 @@ holds 'is beside the link' [ "$(cat machine/usr/local/sbin/rooms-get.old)$(readl
 installs --replace
 same 'the unit is replaced if that is asked' machine/etc/systemd/system/rooms@.service "$contrib/rooms@.service"
 holds 'and stays beside' grep -q '^# mine' machine/etc/systemd/system/rooms@.service.old
+# What an administrator wrote there outlives the next version too.
+echo '# a later version' >>"machine/etc/systemd/system/rooms@.service"
+installs --replace
+says 'a second replacement' 0 'new /etc/systemd/system/rooms@.service, the old one is /etc/systemd/system/rooms@.service.old.2'
+holds 'leaves what stood there first' [ "$(cat machine/etc/systemd/system/rooms@.service.old{,.2} | grep -c '^# mine\|^# a later')" = 2 ]
 holds 'settings stay in any case' grep -q '^# mine' machine/etc/rooms/office.conf
 installs --program "$PWD/nowhere"
 says 'no program' 2 'no program'
@@ -281,7 +286,7 @@ fi
 if has systemd-analyze; then
   mkdir units
   for unit in "$contrib"/rooms*.service "$contrib"/rooms*.timer; do
-    sed "s|=/usr/local/|=$PWD/machine/usr/local/|; s|=+/usr/local/|=+$PWD/machine/usr/local/|; s|=/usr/sbin/\(apache2\|nft\)|=/bin/true|" "$unit" >"units/${unit##*/}"
+    sed "s#=\(+\?\)/usr/local/#=\1$PWD/machine/usr/local/#; s#=/usr/sbin/\(apache2\|nft\)#=/bin/true#" "$unit" >"units/${unit##*/}"
   done
   # It reports what it doesn't know of all units that it meets. Only these are of this project.
   systemd-analyze verify units/*.service units/*.timer >"$work/out" 2>&1
@@ -296,11 +301,9 @@ if has systemd-analyze; then
   }
   if systemd-analyze --help | grep -q -e --offline; then
     exposed rooms@.service 1.3
-    # It goes to another machine, as a user who reads keys.
-    exposed rooms-standby@.service 3.2
     for unit in units/*.service; do
       # The one that mails isn't root, and a mail program needs what the others lack.
-      [[ ${unit##*/} = rooms-@(tell|standby)@.service ]] || exposed "${unit##*/}" 3
+      [[ ${unit##*/} = rooms-tell@.service ]] || exposed "${unit##*/}" 3
     done
     holds 'the one that mails is not root' grep -qx User=rooms-mail units/rooms-tell@.service
   else

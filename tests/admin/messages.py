@@ -1,0 +1,84 @@
+"""For tests: each message of rooms-admin stands on docs/messages.md. PACKAGE PAGE: prints those
+that don't. A table has them between backquotes: .. stands for anything, a word in capitals for a
+name, and anything may follow."""
+import ast
+import itertools
+import os
+import re
+import sys
+
+package, page = sys.argv[1:]
+# What is said by: the faults, and what prints, mails or logs a line. The number says which argument
+# it is, and the text what a line has before it.
+SAID = {"Stop": (0, ""), "Refused": (0, ""), "Busy": (0, ""), "NoGroup": (0, ""),
+        "say": (0, ""), "failed": (0, ""), "NoFile": (0, "X: "), "report": (1, "X: "),
+        "not_done": (2, "not taken back: X: X: "), "Changed": (0, "not taken back: X: X: "),
+        "cause": (0, "")}
+# Lists of lines that are told.
+LISTS = {"undone", "failures", "lacks"}
+# Modules whose functions give a line, or a level and a line.
+GIVES = {"health.py", "watched.py", "machine.py"}
+# These hand on what was caught, or what somebody else said.
+NOTHING = re.compile(r"[X:; ]*")
+
+
+def texts(node):
+    """What a text can be, with X for what isn't known before it runs."""
+    if isinstance(node, ast.Constant) and isinstance(node.value, str):
+        return [node.value]
+    if isinstance(node, ast.JoinedStr):
+        return ["".join(parts) for parts in itertools.product(*map(texts, node.values))]
+    if isinstance(node, ast.FormattedValue):
+        return texts(node.value) if isinstance(node.value, ast.IfExp) else ["X"]
+    if isinstance(node, ast.BinOp) and isinstance(node.op, ast.Add):
+        return [a + b for a in texts(node.left) for b in texts(node.right)]
+    if isinstance(node, ast.IfExp):
+        return texts(node.body) + texts(node.orelse)
+    if isinstance(node, ast.BoolOp):
+        return [text for value in node.values for text in texts(value)]
+    return ["X"]
+
+
+def name_of(function):
+    return getattr(function, "id", getattr(function, "attr", ""))
+
+
+def given(node, file):
+    """The texts of a message that begins at this node, if one does."""
+    if isinstance(node, ast.Call):
+        name = name_of(node.func)
+        if name in SAID and len(node.args) > SAID[name][0]:
+            number, before = SAID[name]
+            return [before + text for text in texts(node.args[number])]
+        if name == "append" and name_of(node.func.value) in LISTS:
+            return texts(node.args[0])
+    if file in GIVES and isinstance(node, ast.Tuple) and len(node.elts) == 2:
+        level, text = node.elts
+        if name_of(level) in ("WARNING", "CRITICAL") or (
+                isinstance(level, ast.Constant) and level.value in (1, 2)):
+            return texts(text)
+    if file == "health.py" and isinstance(node, ast.Return) and isinstance(
+            node.value, (ast.JoinedStr, ast.BinOp)):
+        return texts(node.value)
+    return []
+
+
+def patterns():
+    with open(page, encoding="utf-8") as source:
+        for line in source:
+            if line.startswith("| "):
+                for one in re.findall(r"`([^`]+)`", line.replace(r"\|", "|").split(" | ")[0]):
+                    one = re.escape(one).replace(r"\ ", " ")
+                    one = re.sub(r"\\\.\\\.", ".*", one)
+                    yield re.compile(re.sub(r"\b[A-Z]{1,}\b", ".+", one) + ".*", re.DOTALL)
+
+
+known = list(patterns())
+for file in sorted(os.listdir(package)):
+    if file.endswith(".py"):
+        with open(os.path.join(package, file), encoding="utf-8") as source:
+            tree = ast.parse(source.read())
+        for node in ast.walk(tree):
+            for text in given(node, file):
+                if not NOTHING.fullmatch(text) and not any(one.fullmatch(text) for one in known):
+                    print(f"{file}:{node.lineno}: {text}")
