@@ -164,8 +164,8 @@ const hasAll = (powers, others) =>
   others.every((power, index) => (power & ~(powers[index] ?? 0)) === 0);
 const rank = (level) => RANKS.indexOf(level);
 
-// How a caller's rights differ: {from, to, more}, or null. 'more' is false for whoever also loses
-// something. Either state is {target, folder}, or null where the caller can't get there.
+// How a caller's rights differ: {from, to, more, isRemoval}, or null. 'more' is false for whoever
+// also loses something, and 'isRemoval' says that only removing the object itself differs. Either state is {target, folder}, or null where the caller can't get there.
 function differenceOf(before, after, caller) {
   const states = [before, after];
   const [had, has] = states.map((one) => (one === null ? []
@@ -173,7 +173,9 @@ function differenceOf(before, after, caller) {
   if (hasAll(had, has) && hasAll(has, had)) return null;
   const [from, to] = states.map((one) => (one === null ? 'none'
     : reached(one.target, one.folder, caller)));
-  return { from, to, more: hasAll(has, had) && rank(to) >= rank(from) };
+  const isRemoval = from === to && had.length === has.length
+    && had.every((power, index) => (power ^ has[index]) === (index === 0 ? REMOVES : 0));
+  return { from, to, more: hasAll(has, had) && rank(to) >= rank(from), isRemoval };
 }
 
 // Whose rights at an object differ: [{name, user, groups, from, to, more}].
@@ -257,6 +259,19 @@ function isOfUse({ kind, sides }, caller) {
   return (here & ~passing) !== 0 || more.some((powers) => powers !== 0);
 }
 
+// One of those that follow the same folder stands for all of them, since there may be thousands.
+function unlike(states) {
+  const seen = new Set();
+  return states.filter((state) => {
+    const { path, kind, object: { owner, group } } = state;
+    const key = JSON.stringify([parentOf(path), kind, owner, group]);
+    if (isException(state)) return true;
+    return !seen.has(key) && seen.add(key);
+  });
+}
+
 // Whether a line of the top that only lets these callers pass is needed by something further down.
-export const isNeeded = (states, callers) => callers.some((caller) =>
-  states.some((state) => isOfUse(state, caller)));
+export function isNeeded(states, callers) {
+  const some = unlike(states);
+  return callers.some((caller) => some.some((state) => isOfUse(state, caller)));
+}

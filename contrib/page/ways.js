@@ -2,7 +2,7 @@
 // that do nothing else.
 
 import * as api from './api.js';
-import { attributesAt, nodesBelow } from './around.js';
+import { attributesAt } from './around.js';
 import { barring, callersFor, isGranted, isNeeded, passes, statesBelow } from './effects.js';
 import { entriesOf, keyOf, readLevels } from './levels.js';
 import { isInherited, printList, readListText } from './list.js';
@@ -20,8 +20,13 @@ export async function wayTo(path) {
   }));
 }
 
-const mayChange = async (path) =>
-  (await api.can(path, 'C').catch(() => null))?.C.ruling === 'allowed';
+// Asked once for each panel, which may be drawn several times.
+function mayChange({ changeable }, path) {
+  if (!changeable.has(path)) {
+    changeable.set(path, api.can(path, 'C').then((may) => may.C.ruling === 'allowed', () => false));
+  }
+  return changeable.get(path);
+}
 
 // The list with a line that lets somebody pass, at the end of its own ones.
 function opened(list, { who, isGroup }) {
@@ -33,7 +38,8 @@ function opened(list, { who, isGroup }) {
 // The folders that bar those who gain something, and what would let them pass, from the top down:
 // [{path, callers, next, before, folder}]. 'next' is null where I may not change the list, or where
 // that won't do.
-export async function openings({ folders }, gaining, subject) {
+export async function openings(state, gaining, subject) {
+  const { folders } = state;
   const barred = new Map();
   for (const caller of gaining) {
     for (const path of barring(folders, caller)) {
@@ -43,7 +49,8 @@ export async function openings({ folders }, gaining, subject) {
   return Promise.all(folders.filter(({ path }) => barred.has(path)).map(async (folder) => {
     const { path } = folder;
     const callers = barred.get(path);
-    const next = subject !== null && await mayChange(path) ? opened(folder.list, subject) : null;
+    const isOffered = subject !== null && await mayChange(state, path);
+    const next = isOffered ? opened(folder.list, subject) : null;
     const lets = next !== null && callers.every((caller) =>
       isGranted(next.entries, 'x', caller, folder.object));
     return { path, callers, folder, before: folder.text, next: lets ? next : null };
@@ -63,8 +70,8 @@ function withoutLine(list, subject) {
 
 async function leftoverAt(folder, state, next, subject) {
   const without = folder.list && withoutLine(folder.list, subject);
-  if (!without || !(await mayChange(folder.path))) return null;
-  const { nodes, unread, all } = await nodesBelow(folder.path);
+  if (!without || !(await mayChange(state, folder.path))) return null;
+  const { nodes, unread, all } = state.looking.below(folder.path);
   const states = statesBelow(nodes, { path: folder.path, object: folder.object,
     lists: [folder.list, folder.list], ways: [[], []] }, new Map([[state.path, next]]));
   const callers = callersFor([folder.list], state.known, folder.object).filter(({ user, groups }) =>
@@ -84,25 +91,36 @@ export async function leftovers(state, next, subject) {
   return found.filter((one) => one !== null);
 }
 
-const textAt = (path) => api.readList('dacl', path).catch(() => null);
+// A list's text, null where it can't be read, and undefined where the room doesn't answer.
+const textAt = (path) => api.readList('dacl', path)
+  .catch((fault) => (isUnanswered(fault) ? undefined : null));
 const ownText = (text) => {
   const { list } = readListText(text ?? '');
   return list && printList({ ...list, entries: list.entries.filter((one) => !isInherited(one)) });
 };
 
-// Whether a list was sent although its answer was lost.
-const hasArrived = async ({ path, next }, fault) => (isUnanswered(fault) || fault.status === 500)
-  && ownText(await textAt(path)) === ownText(printList(next));
-
-// Takes back what was sent, unless somebody changed it since. Returns the paths where it stays.
-async function takeBack(sent) {
+// Takes back what was sent, unless somebody changed it since. Returns the paths where it stays. A
+// room that doesn't answer was waited for long enough.
+async function takeBack(sent, isAway) {
   const left = [];
+  let away = isAway;
   for (const { path, before, after } of [...sent].reverse()) {
-    const isDone = after !== null && await textAt(path) === after
+    const now = away ? undefined : await textAt(path);
+    away = now === undefined;
+    const isDone = typeof after === 'string' && now === after
       && await api.setList('dacl', path, before).then(() => true, () => false);
     if (!isDone) left.push(path);
   }
   return left;
+}
+
+// Where a list wasn't sent by what is known: whether it was all the same, as when its answer was
+// lost. Otherwise what was sent before it is taken back, and the fault has what is 'left' of it.
+async function afterFault({ path, next }, fault, sent) {
+  const isOpen = isUnanswered(fault) || fault.status === 500;
+  const now = isOpen ? await textAt(path) : null;
+  if (typeof now === 'string' && ownText(now) === ownText(printList(next))) return;
+  throw Object.assign(fault, { left: await takeBack(sent, now === undefined), taken: sent.length });
 }
 
 // Sends lists one after the other: [{path, before, next}]. Returns {done, left}: nothing is sent
@@ -115,13 +133,11 @@ export async function sendAll(steps) {
   for (const step of steps) {
     try {
       if (sent.length > 0 && !(await isSame(step))) {
-        return { done: false, left: await takeBack(sent) };
+        return { done: false, left: await takeBack(sent, false) };
       }
       await api.setList('dacl', step.path, printList(step.next));
     } catch (fault) {
-      if (!(await hasArrived(step, fault))) {
-        throw Object.assign(fault, { left: await takeBack(sent), taken: sent.length });
-      }
+      await afterFault(step, fault, sent);
     }
     sent.push({ ...step, after: step === steps.at(-1) ? null : await textAt(step.path) });
   }

@@ -147,6 +147,12 @@ Promise.all(names.map((name) => import(`${base}/${name}`))).then(([lists, judgin
     { day: '2027-05-31', asker: 'OFFICE\\alice' }))[1], 'A:g:until.2027-05-31.read.g.a+2Bb+40c@OFFICE-5Calice:');
   const past = list('list:a', 'A:g:ended.2027-06-01.read.u.eve@alice:', 'A:g:until.2027-13-31.read.u.eve@alice:');
   equal('ended', readLevels(past, 'folder').ended.map(({ who, day }) => [who, day]), [['eve', '2027-06-01']]);
+  const until = 'A:g:until.2027-05-31.read.u.eve@alice:';
+  const endsIn = (...lines) => readLevels(list('list:a', ...lines), 'folder');
+  equal('ends by itself', endsIn('A:fd:eve:rxtc', until).rows.map(({ ends }) => ends), [true]);
+  equal('changed since', endsIn(`A:fd:eve:${LETTERS}`, until).rows.map(({ ends }) => ends), [false]);
+  equal('a day alone', endsIn(until, 'A:fdg:eve:rxtc').loose.map(({ who, day }) => [who, day]), [['eve', '2027-05-31']]);
+  equal('none alone', endsIn('A:fd:eve:rxtc', until, 'A:g:ended.2027-06-01.read.u.bob@alice:').loose, []);
   equal('no day is no date', levelsOf(past), ['until.2027-13-31.read.u.eve@alice custom']);
   equal('a name too long for a date', withLevel(list('list:a'), 'folder', user('e'.repeat(60)), 'read', false,
     { day: '2027-05-31', asker: 'alice' }), null);
