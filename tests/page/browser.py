@@ -123,6 +123,10 @@ class Browser:
         field.clear()
         field.send_keys(text)
 
+    def type(self, *keys):
+        """Keys for whatever has the focus."""
+        ActionChains(self.driver).send_keys(*keys).perform()
+
     def names(self):
         return self.texts('table.folder .name')
 
