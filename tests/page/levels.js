@@ -188,7 +188,7 @@ Promise.all(names.map((name) => import(`${base}/${name}`))).then(([lists, judgin
       : entryOf(`${entry.type}:I${entry.flags}:${entry.who}:${entry.mask}`)));
     return { auto: true, protect: false, entries };
   };
-  const seen = { simple: 0 };
+  const seen = { simple: 0, changed: 0 };
   const tryOne = () => {
     const kind = random(4) === 0 ? 'document' : 'folder';
     const before = atRandom(kind);
@@ -214,7 +214,41 @@ Promise.all(names.map((name) => import(`${base}/${name}`))).then(([lists, judgin
         printList(before)}${printList(after)}`);
     }
   };
-  for (let count = 0; count < given.count; count += 1) tryOne();
+  // One who is there gets another level, or none: again nobody else's rights change.
+  const isMeantBy = ({ who, isGroup }, caller) => who.endsWith('@')
+    || (isGroup ? caller.groups.includes(who) : caller.user === who);
+  const changeOne = () => {
+    const kind = random(4) === 0 ? 'document' : 'folder';
+    const before = atRandom(kind);
+    const rows = readLevels(before, kind).rows.filter(({ inherited }) => !inherited);
+    if (whyNot(before, kind) !== null || rows.length === 0) return;
+    const row = pick(rows);
+    const isPass = row.level === 'pass';
+    // As the menu of a line has them.
+    const forms = kind === 'folder' ? FOLDER.filter((one) => one !== 'pass') : ['read', 'change', 'manage'];
+    const level = isPass ? null : pick([...forms, null]);
+    const after = withLevel(before, kind, row, level, isPass);
+    // Whoever has more from above, or something that isn't a level, stays as they are.
+    if (after === null) return;
+    seen.changed += 1;
+    const has = readLevels(after, kind).rows.filter((one) => !one.inherited && one.key === row.key
+      && (one.level === 'pass') === isPass).map((one) => one.level);
+    if (String(has) !== String(level === null ? [] : [level])) {
+      told.push(`${row.who} has ${has}, not ${level}\n${printList(before)}${printList(after)}`);
+    }
+    for (const caller of callers.filter((one) => !isMeantBy(row, one))) {
+      const [had, now] = [before, after].map((one) => String(powers(one.entries, kind, caller)));
+      if (had !== now) {
+        told.push(`${JSON.stringify(caller)} had ${had}, then ${now}: ${row.who} gets ${level}\n${
+          printList(before)}${printList(after)}`);
+      }
+    }
+  };
+  for (let count = 0; count < given.count; count += 1) {
+    tryOne();
+    changeOne();
+  }
+  if (seen.changed * 5 < given.count) told.push(`only ${seen.changed} of ${given.count} were changed`);
   if (seen.simple * 2 < given.count) told.push(`only ${seen.simple} of ${given.count} were simple`);
 
   // The rule of deleting: the object's own list, then its folder's, then the right to add.
