@@ -221,9 +221,11 @@ class Clicks:
 
     def judge(self, path, text, lines, before, after):
         claims = self.claims(path, text, lines)
+
         # Whoever has no row is one of all others.
         def row(told, user, place):
             return told.get((user, place), told['*', place])
+
         for user in {user for user, _ in [*before, *after]}:
             for place in PLACES:
                 fault = self.fault_of(claims, text, user, place, row(before, user, place), row(after, user, place))

@@ -100,7 +100,7 @@ class Tree:
         """The room takes 64 entries of an object's own: the 65th is refused in words, and nothing is lost."""
         alice = self.alice
         self.ask('POST', '/folder/many')
-        lines = [f'A:fd:alice:rwanNxDtThHdcCoy', *[f'A:fd:user{number}:rxtc' for number in range(63)]]
+        lines = ['A:fd:alice:rwanNxDtThHdcCoy', *[f'A:fd:user{number}:rxtc' for number in range(63)]]
         self.put_list('/many', 'list:ap', *lines)
         self.panel('/many')
         assert len(self.lines()) == 64
@@ -141,7 +141,7 @@ class Tree:
         """In either light each text stands out from its ground, at the panel and in a question, as far as 4.5 to 1."""
         alice = self.alice
         self.names.put('people.json', people())
-        self.put_list('/letters/2026', 'list:a', f'A:fd:noa:rwanNxDtThHdcCoy', 'A:fdg:staff:rxtc', 'A::kim:x', 'A::zoe:a')
+        self.put_list('/letters/2026', 'list:a', 'A:fd:noa:rwanNxDtThHdcCoy', 'A:fdg:staff:rxtc', 'A::kim:x', 'A::zoe:a')
         grounds = []
         for is_dark in (False, True):
             alice.dark(is_dark)
