@@ -58,7 +58,7 @@ async function change(state, row, value, again, back) {
     back();
     return;
   }
-  const subject = { who: row.who, isGroup: row.isGroup, name, isLeaving: isGone };
+  const subject = { who: row.who, isGroup: row.isGroup, name, isLeaving: isGone, level: value };
   const line = `[aria-label="${CSS.escape(labelOf(row))}"]`;
   const done = await confirm(state, next, isGone
     ? { title: `Remove access to ${placeName(path)}?`, words: 'Remove access', subject,

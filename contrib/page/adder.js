@@ -82,6 +82,7 @@ class Picked {
       return;
     }
     const isWanted = () => look === this.looks && this.body.isConnected;
+    this.subject.level = level;
     await followOutcome(state, next, this.subject, isWanted, (outcome, isBusy) =>
       this.show(next, outcome, isBusy)).catch(tellFault);
   }

@@ -164,8 +164,9 @@ const hasAll = (powers, others) =>
   others.every((power, index) => (power & ~(powers[index] ?? 0)) === 0);
 const rank = (level) => RANKS.indexOf(level);
 
-// How a caller's rights differ: {from, to, more, isRemoval}, or null. 'more' is false for whoever
-// also loses something, and 'isRemoval' says that only removing the object itself differs. Either state is {target, folder}, or null where the caller can't get there.
+// How a caller's rights differ: {from, to, more, isRemoval, alsoRemoves}, or null. 'more' is false
+// for whoever also loses something. 'isRemoval' says that only removing the object itself differs,
+// and 'alsoRemoves' that they may then do that though their level doesn't say so. Either state is {target, folder}, or null where the caller can't get there.
 function differenceOf(before, after, caller) {
   const states = [before, after];
   const [had, has] = states.map((one) => (one === null ? []
@@ -175,12 +176,17 @@ function differenceOf(before, after, caller) {
     : reached(one.target, one.folder, caller)));
   const isRemoval = from === to && had.length === has.length
     && had.every((power, index) => (power ^ has[index]) === (index === 0 ? REMOVES : 0));
-  return { from, to, more: hasAll(has, had) && rank(to) >= rank(from), isRemoval };
+  const mayRemove = ([powers = 0]) => (powers & REMOVES) !== 0;
+  const alsoRemoves = mayRemove(has) && !mayRemove(had) && !['remove', 'manage'].includes(to);
+  const more = hasAll(has, had) && rank(to) >= rank(from);
+  return { from, to, more, isRemoval, alsoRemoves };
 }
 
-// Whose rights at an object differ: [{name, user, groups, from, to, more}].
-export const changesOf = (before, after, callers) => callers.flatMap((caller) => {
-  const difference = differenceOf(before, after, caller);
+// Whose rights at an object differ: callers, each with what differenceOf says. 'ways' are the
+// folders above it, before and after.
+export const changesOf = (before, after, callers, ways = [[], []]) => callers.flatMap((caller) => {
+  const difference = differenceOf(...[before, after].map((side, index) =>
+    (passes(ways[index], caller) ? side : null)), caller);
   return difference === null ? [] : [{ ...caller, ...difference }];
 });
 

@@ -37,8 +37,12 @@ function besideOf(state, opening, callers) {
   const others = new Map(opening.filter(({ next }) => next).map(({ path, next }) => [path, next]));
   const states = statesBelow(nodes, { path: first.path, object: first.folder.object,
     lists: [first.folder.list, first.next], ways: [above, above] }, others);
-  const isBeside = ({ path }) => !isBelow(path, state.path) && !others.has(path);
-  return { changes: changesBelow(states, callers, []).filter(isBeside), unread, all };
+  // That somebody passes through what is opened is said already.
+  const unsaid = (one) => (others.has(one.path)
+    ? { ...one, changes: one.changes.filter(({ to }) => to !== 'pass') } : one);
+  const changes = changesBelow(states, callers, []).map(unsaid)
+    .filter((one) => !isBelow(one.path, state.path) && one.changes.length > 0);
+  return { changes, unread, all };
 }
 
 // Whoever changes at the top or is let pass, and whom lines further down mean.
@@ -94,9 +98,11 @@ export async function outcomeOf(state, next, subject = null) {
   const callers = callersFor([list, next, after], known, object);
   const folder = last?.list ? { entries: last.list.entries, object: last.object } : null;
   const side = ({ entries }) => ({ target: { entries, object, kind }, folder });
-  const changes = changesOf(side(list), side(after), callers);
-  const gains = changes.filter(({ more }) => more);
-  const opening = await openings(state, comingTo(gains, callers, subject), subject);
+  const sides = [side(list), side(after)];
+  const byList = changesOf(...sides, callers).filter(({ more }) => more);
+  const opening = await openings(state, comingTo(byList, callers, subject), subject);
+  // Whoever is let pass may also do what others lines here gave already.
+  const changes = changesOf(...sides, callers, [folders, waysAfter(folders, opening)]);
   const left = subject?.isLeaving ? await leftovers(state, next, subject) : [];
   const warned = await removalOf(kind, { path, entries: list.entries, object },
     { path, entries: after.entries, object, protect: next.protect }, () => protectedOf(state));
@@ -105,7 +111,8 @@ export async function outcomeOf(state, next, subject = null) {
   const hasOwn = (entries) => entries.some((entry) => isOwn(entry, kind));
   const reach = (caller) => reached({ entries: after.entries, object, kind }, folder, caller);
   return {
-    changes, gains, losses: changes.filter(({ more }) => !more), opening, left, warned,
+    changes, gains: changes.filter(({ more }) => more), opening, left, warned,
+    losses: changes.filter(({ more }) => !more),
     isOwnNew: hasOwn(after.entries) && !hasOwn(list.entries),
     isKnown: after.known, hasGroups: [list, after].some(({ entries }) =>
       entries.some((entry) => isGroup(entry) && entry.mask !== '')),

@@ -23,12 +23,13 @@ export const mayWords = (level, kind, path) => `${verbOf(level, kind)} ${placeNa
 const shortOf = (level, kind) => (level === 'none' ? 'no access'
   : levelWords(level, kind).replace(/^./, (first) => first.toLowerCase()));
 
-function changeWords({ from, to, more, isRemoval }, kind) {
+function changeWords({ from, to, more, isRemoval, alsoRemoves }, kind) {
   if (isRemoval) return more ? 'can also remove it' : 'can’t remove it any more';
   if (from === to) return more ? 'some more rights' : 'not the same rights as now';
-  if (more) return shortOf(to, kind);
+  const after = `${shortOf(to, kind)}${alsoRemoves ? ' and remove it' : ''}`;
+  if (more) return after;
   return to === 'none' ? `no access any more (${shortOf(from, kind)} now)`
-    : `${shortOf(from, kind)} now, then ${shortOf(to, kind)}`;
+    : `${shortOf(from, kind)} now, then ${after}`;
 }
 
 export const shownName = (known) => ({ user, name }) =>
@@ -60,7 +61,8 @@ function line(look, head, words, more = null) {
 function changesList({ known, kind }, outcome, subject) {
   const { changes, gains, losses, below, isAll } = outcome;
   // What the sentence above says already isn't said twice.
-  const isSaid = subject && !subject.isGroup && gains.length === 1 && gains[0].user === subject.who;
+  const isSaid = subject && !subject.isGroup && gains.length === 1
+    && gains[0].user === subject.who && gains[0].to === subject.level && !gains[0].alsoRemoves;
   const deeper = below.slice(0, MOST_PLACES).flatMap((one) =>
     changeLines(one.changes, one.kind, known, `, at ${isolated(one.path)}`));
   const more = below.length - MOST_PLACES;

@@ -5,7 +5,8 @@ import * as api from './api.js';
 import { attributesAt } from './around.js';
 import { barring, callersFor, isGranted, isNeeded, passes, statesBelow } from './effects.js';
 import { entriesOf, keyOf, readLevels } from './levels.js';
-import { isInherited, printList, readListText } from './list.js';
+import { isGroup, isInherited, printList, readListText } from './list.js';
+import { isOld } from './people.js';
 import { isUnanswered } from './again.js';
 
 // The folders on the way, from the top down: [{path, text, list, object}].
@@ -68,24 +69,38 @@ function withoutLine(list, subject) {
   return row && { ...list, entries: list.entries.filter((entry) => !row.entries.includes(entry)) };
 }
 
+const allowing = ({ list }) => list.entries.filter(({ type, mask }) => type === 'A' && mask !== '');
+
+// Whether it is known who is in the groups by which somebody may need the line: those that are
+// given something further down, and that don't pass by themselves.
+function areGroupsKnown({ known }, states, way) {
+  if (known?.members && !isOld(known.made)) return true;
+  const groups = new Set(states.flatMap(allowing).filter(isGroup).map(({ who }) => who));
+  return [...groups].every((group) => passes([way], { user: null, groups: [group] }));
+}
+
 async function leftoverAt(folder, state, next, subject) {
   const without = folder.list && withoutLine(folder.list, subject);
   if (!without || !(await mayChange(state, folder.path))) return null;
   const { nodes, unread, all } = state.looking.below(folder.path);
   const states = statesBelow(nodes, { path: folder.path, object: folder.object,
     lists: [folder.list, folder.list], ways: [[], []] }, new Map([[state.path, next]]));
-  const callers = callersFor([folder.list], state.known, folder.object).filter(({ user, groups }) =>
+  const meant = callersFor([folder.list], state.known, folder.object).filter(({ user, groups }) =>
     (subject.isGroup ? groups.includes(subject.who) : user === subject.who));
-  const isRedundant = callers.every((caller) => passes([{ ...folder, list: without }], caller));
+  // Somebody may be in the group of whom nothing is known.
+  const callers = subject.isGroup ? [...meant, { user: null, groups: [subject.who] }] : meant;
+  const way = { ...folder, list: without };
+  const isRedundant = callers.every((caller) => passes([way], caller));
   if (!isRedundant && isNeeded(states, callers)) return null;
-  return { path: folder.path, before: folder.text, next: without,
-    sure: isRedundant || (all && unread.length === 0) };
+  const isSeen = all && unread.length === 0 && areGroupsKnown(state, states, way);
+  return { path: folder.path, before: folder.text, next: without, sure: isRedundant || isSeen };
 }
 
 // The lines on the way to an object that only let somebody pass, and that nobody needs any more
 // once its list is this one: [{path, before, next, sure}]. 'sure' is false where not everything
-// below could be looked at.
+// below could be looked at, or it isn't known who is in a group. What lets everyone pass stays.
 export async function leftovers(state, next, subject) {
+  if (subject.who.endsWith('@')) return [];
   const found = await Promise.all(state.folders.map((folder) =>
     leftoverAt(folder, state, next, subject)));
   return found.filter((one) => one !== null);

@@ -193,7 +193,7 @@ class Checks:
             act()
         except Exception as fault:  # Each check is told, whatever stopped it.
             words = ' '.join(str(getattr(fault, 'msg', None) or fault).split()) or type(fault).__name__
-            print(f'fail\t{name}\t{words[:600]}', flush=True)
+            print(f'fail\t{name}\t{words[:2400]}', flush=True)
             return
         took = time.monotonic() - began
         print(f'pass\t{name}\t{took:.1f} s', flush=True)

@@ -183,11 +183,11 @@ class Clicks:
                 found.append((match[1] == 'Gains', set(re.split(r', | and ', named)), words, match[4] or path))
         said = re.search(r'(\w+) can then (.*?) “', text)
         goes = re.search(r'(\w+) goes from “.*?” to “(.*?)”', text)
-        # A level that is said of one person isn't said twice.
+        # A level that is said of one person isn't said twice, and a line that says more counts.
         if said and said[1] in USERS:
-            found.append((True, {said[1]}, VERBS[said[2]], path))
+            found.insert(0, (True, {said[1]}, VERBS[said[2]], path))
         if goes and goes[1] in USERS:
-            found.append((True, {goes[1]}, goes[2].lower(), path))
+            found.insert(0, (True, {goes[1]}, goes[2].lower(), path))
         return found
 
     def fault_of(self, claims, text, user, place, had, has):
@@ -213,6 +213,11 @@ class Clicks:
             return None
         if level == 'can also remove it':
             return f'got {gains}, beyond removing it' if gains or place != own[-1][3] else None
+        if level.endswith(' and remove it'):
+            level, removing = level.removesuffix(' and remove it'), removing and place != own[-1][3]
+        # 'reads, adds and changes; removes only what they added'
+        if level == 'can add and change' and OWNS.get(place) == user:
+            removing = False
         # On a document, D says nothing.
         beyond = gains - set('' if level.startswith('no access any more') else SAID[level]) - set('D' if place in OWNS else '')
         if beyond or (removing and level not in REMOVING):
@@ -226,7 +231,8 @@ class Clicks:
         def row(told, user, place):
             return told.get((user, place), told['*', place])
 
-        for user in {user for user, _ in [*before, *after]}:
+        known = {*USERS, *(user for users in GROUPS.values() for user in users), '*'}
+        for user in {user for user, _ in [*before, *after] if user in known}:
             for place in PLACES:
                 fault = self.fault_of(claims, text, user, place, row(before, user, place), row(after, user, place))
                 if fault:
