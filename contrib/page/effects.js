@@ -166,7 +166,8 @@ const rank = (level) => RANKS.indexOf(level);
 
 // How a caller's rights differ: {from, to, more, isRemoval, alsoRemoves}, or null. 'more' is false
 // for whoever also loses something. 'isRemoval' says that only removing the object itself differs,
-// and 'alsoRemoves' that they may then do that though their level doesn't say so. Either state is {target, folder}, or null where the caller can't get there.
+// and 'alsoRemoves' that they may then do that though their level doesn't say so. Either state is
+// {target, folder}, or null where the caller can't get there.
 function differenceOf(before, after, caller) {
   const states = [before, after];
   const [had, has] = states.map((one) => (one === null ? []

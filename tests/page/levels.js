@@ -284,6 +284,24 @@ Promise.all(names.map((name) => import(`${base}/${name}`))).then(([lists, judgin
   equal('read further down', at(reader), [['/f/board', 'read'], ['/f/loose/plan', 'change']]);
   equal('meant further down', effects.meantIn(nodes, [{ user: 'kim', groups: [] }, { user: 'bob', groups: [] }])
     .map((one) => one.user), ['kim']);
+  // Whoever is let pass gets what other lines gave already.
+  const kimAlone = { user: 'kim', groups: [], name: 'kim' };
+  const way = (text) => [{ list: list('list:a', text), object }];
+  const side = (target, folder, kind) => ({
+    target: { entries: list('list:a', ...target).entries, object, kind },
+    folder: { entries: list('list:a', ...folder).entries, object },
+  });
+  const differs = (one, other, ...ways) => effects.changesOf(one, other, [kimAlone], ways)
+    .map(({ from, to, more, isRemoval, alsoRemoves }) => [from, to, more, isRemoval, alsoRemoves]);
+  const managed = side([`A:fd:kim:${LETTERS}`], [], 'folder');
+  equal('let pass', differs(managed, managed, way('A::alice:x'), way('A::kim:x')),
+    [['none', 'manage', true, false, false]]);
+  equal('still barred', differs(managed, managed, way('A::alice:x'), way('A::alice:x')), []);
+  const read = side(['A::kim:rxtc'], ['A:fd:kim:rwaxDtc'], 'document');
+  equal('read, and removed', differs(read, read, way('A::alice:x'), way('A::kim:x')),
+    [['none', 'read', true, false, true]]);
+  equal('removed as well', differs(side(['A::kim:rxtc'], ['A:fd:kim:rxtc'], 'document'), read, [], []),
+    [['read', 'read', true, true, true]]);
   equal('barred above', at(reader, [[{ list: barred, object }], [{ list: barred, object }]]), []);
   finish(told);
 }).catch((fault) => finish([String(fault?.stack ?? fault)]));
