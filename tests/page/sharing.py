@@ -326,6 +326,7 @@ PLAY = [
     ('what is shared, and isn’t', Sharing.bad_places),
     ('a room that stops in the middle', Sharing.stops),
     ('the way is taken back', Sharing.way_back),
+    ('one folder deep down', Sharing.deep_folder),
     ('a way that may be needed', Sharing.way_back_unsure),
     ('exceptions further down', Sharing.exceptions),
     ('a thousand objects further down', Sharing.thousand),
