@@ -114,13 +114,17 @@ function line(state, row, again) {
     levelControl(state, row, again));
 }
 
-// Own lines first, those who may do the most above. What comes from above too is said once, and
-// those who only pass through stand apart.
+const isOwnRow = ({ inherited }) => !inherited;
+
+// The lines that are shown as those of the folder above: what is here too is said once.
+export const rowsFromAbove = (rows) => rows.filter((row) => row.inherited
+  && !rows.some((one) => isOwnRow(one) && one.key === row.key && one.level === row.level));
+
+// Own lines first, those who may do the most above. Those who only pass through stand apart.
 export function accessRows(state, again) {
   const { rows } = state.model;
-  const own = rows.filter(({ inherited }) => !inherited);
-  const above = rows.filter((row) => row.inherited
-    && !own.some((one) => one.key === row.key && one.level === row.level));
+  const own = rows.filter(isOwnRow);
+  const above = rowsFromAbove(rows);
   const sorted = (those) => [...those].sort((one, other) => rank(other.level) - rank(one.level));
   const isWay = ({ level, who }) => level === 'pass' && !who.endsWith('@');
   const list = (those) => element('ul', { class: 'holders' },

@@ -2,7 +2,7 @@
 // list stays behind 'Advanced': what the levels can't say is shown here and never altered.
 
 import * as api from './api.js';
-import { accessRows } from './accessrows.js';
+import { accessRows, rowsFromAbove } from './accessrows.js';
 import { adder } from './adder.js';
 import { attributesAt } from './around.js';
 import { button, element, icon } from './dom.js';
@@ -75,7 +75,7 @@ function following(state, again) {
   });
   const linked = folders.at(-1).list?.auto === false ? `This ${kind} doesn’t follow ${above}.`
     : `This ${kind} follows ${above}: whoever has access there has it here too.${
-      model.rows.some(({ inherited }) => inherited) ? ' The grey lines come from there.' : ''}`;
+      rowsFromAbove(model.rows).length > 0 ? ' The grey lines come from there.' : ''}`;
   const hint = list.protect
     ? `This ${kind} has a list of its own: what changes at ${above} doesn’t count here.` : linked;
   return element('div', { class: 'following' }, icon('lock'), element('div', {},

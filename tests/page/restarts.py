@@ -203,14 +203,14 @@ class Restarts:
         """Shares a document below a folder that bars the way, and holds the second list that is sent."""
         alice = self.alice
         alice.open('#/deep/plan?access')
-        alice.write('.picker input', 'kim')
+        alice.write('.picker input', 'lea')
         alice.press_choice('as a person')
         alice.until(lambda: alice.all('.adding .outcome[aria-busy=false]'), 'what comes of it')
-        alice.says('Let kim pass through “All documents” and “deep” on the way here', css='.adding')
+        alice.says('Let lea pass through “All documents” and “deep” on the way here', css='.adding')
         alice.script(HOLD)
         alice.press('Share', '.adding')
         alice.until(lambda: alice.script('return window.held === true'), 'the second list')
-        assert b'A::kim:x\n' in self.list_of('/')
+        assert b'A::lea:x\n' in self.list_of('/')
         self.kill()
         alice.script('window.go()')
         alice.says('The room doesn’t answer. The page tries again for half a minute.')
@@ -223,8 +223,8 @@ class Restarts:
         before = [self.list_of(path) for path in ('/', '/deep', '/deep/plan')]
         self.share_deep()
         self.start()
-        alice.says('kim can now read “plan”')
-        assert b'A::kim:x\n' in self.list_of('/deep') and b'A::kim:rxtc\n' in self.list_of('/deep/plan')
+        alice.says('lea can now read “plan”')
+        assert b'A::lea:x\n' in self.list_of('/deep') and b'A::lea:rxtc\n' in self.list_of('/deep/plan')
         for path, text in zip(('/', '/deep', '/deep/plan'), before):
             self.ask('PUT', f'/dacl{path}', text)
         self.share_deep()
