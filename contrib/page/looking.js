@@ -48,7 +48,8 @@ export class Looking {
     this.known = new Set();
     this.looked = new Set();
     this.running = 0;
-    this.followers = 0;
+    // What says whether somebody still waits for it.
+    this.followers = new Set();
     // Why it rests before all was looked at: 'stopped' or 'failed'.
     this.ended = null;
     this.resting = new Set();
@@ -98,7 +99,8 @@ export class Looking {
   }
 
   run() {
-    while (this.ended === null && this.followers > 0 && this.running < AT_ONCE) {
+    const isWanted = [...this.followers].some((wanted) => wanted());
+    while (this.ended === null && isWanted && this.running < AT_ONCE) {
       const from = this.folders.length > 0 ? this.folders : this.documents;
       const task = from.shift();
       if (task === undefined) break;
@@ -144,7 +146,8 @@ export class Looking {
 
   // Calls 'draw' soon, then again and again as long as it is busy and 'isWanted()', and at its end.
   async follow(draw, isWanted) {
-    this.followers += 1;
+    const wanted = () => isWanted();
+    this.followers.add(wanted);
     try {
       for (let time = SOON; ; time = LATER) {
         this.run();
@@ -155,7 +158,7 @@ export class Looking {
         if (!isBusy && !this.isBusy) return;
       }
     } finally {
-      this.followers -= 1;
+      this.followers.delete(wanted);
     }
   }
 }

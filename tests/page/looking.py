@@ -150,8 +150,9 @@ class Looking:
         alice.until(lambda: alice.script('return window.looks') > 20, 'some requests')
         alice.script("location.hash = '#/letters?access'")
         alice.until(lambda: alice.texts('h1') == ['letters'], 'another place')
-        alice.until(lambda: alice.script('return window.now') == 0, 'the end of it')
-        before = alice.script('return window.looks')
+        # Those that were on their way come to their end.
+        time.sleep(1)
+        before, now = alice.script('return [window.looks, window.now]')
+        assert now == 0 and before < FOLDERS * DOCUMENTS, (now, before)
         time.sleep(1.5)
         assert alice.script('return window.looks') == before
-        assert before < FOLDERS * DOCUMENTS, before
