@@ -228,10 +228,12 @@ class Restarts:
         for path, text in zip(('/', '/deep', '/deep/plan'), before):
             self.ask('PUT', f'/dacl{path}', text)
         self.share_deep()
-        alice.says('The room doesn’t answer at the moment', patience=60 + PATIENCE)
-        alice.says('“All documents” lets somebody pass through now, which couldn’t be taken back. Do that there',
-                   patience=60 + PATIENCE)
+        alice.until(lambda: any('couldn’t be taken back' in text for text in alice.texts('.notice')), 'what stays', 120)
+        told = alice.texts('.notice')
         self.start()
+        assert any('“All documents” lets somebody pass through now, which' in text for text in told), told
+        assert any('The room doesn’t answer at the moment' in text for text in told), told
+        alice.script("document.querySelectorAll('.notice').forEach((one) => one.remove())")
         assert [self.list_of(path) for path in ('/deep', '/deep/plan')] == before[1:]
         self.ask('PUT', '/dacl/', before[0])
 
