@@ -22,7 +22,7 @@ play() { # NAME SCRIPT ARGUMENT ..
       skip) skip "$check" "$why" ;;
       end) ended=yes ;;
     esac
-  done < <(LC_ALL=C.UTF-8 PYTHONDONTWRITEBYTECODE=1 timeout -k 10 900 \
+  done < <(LC_ALL=C.UTF-8 PYTHONDONTWRITEBYTECODE=1 timeout -k 10 1800 \
     "$python" "$here/page/$1" "${@:2}" 2>play.err)
   [ -n "$ended" ] || fail "$name" "it broke off: $(tail -c 600 play.err)"
 }

@@ -155,13 +155,14 @@ stop_unit() { if [ -n "$stand" ] && [ -s "$stand/pid" ]; then unit stop; fi; }
 
 # A verb of rooms-admin with the stand-ins; its status is in $status, and its output in $work/out and
 # $work/err. KILL_AT and KILL_HOW name the call at which it is interrupted.
+# Its standard input is the file $typed, if that is set.
 verb() { # VERB WORD ..
   echo 0 >"$stand/count"
   : >"$stand/steps"
   : >"$stand/messages"
   # shellcheck disable=SC2016
   { PATH=$stand/bin:$PATH bash -c 'echo $$ >"$STAND/script"; exec "$@"' script /usr/bin/python3 -I "$here/admin/hooked.py" "$@" \
-    </dev/null >"$work/out" 2>"$work/err"; } 2>/dev/null
+    <"${typed-/dev/null}" >"$work/out" 2>"$work/err"; } 2>/dev/null
   status=$?
 }
 

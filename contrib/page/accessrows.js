@@ -6,7 +6,7 @@ import { element, nameText } from './dom.js';
 import { confirm } from './grant.js';
 import { RANKS, keyOf, withLevel } from './levels.js';
 import { linkTo } from './links.js';
-import { endWords } from './ends.js';
+import { endWords, isPast } from './ends.js';
 import { isInherited } from './list.js';
 import { tell, tellFault } from './notice.js';
 import { levelWords, placeName } from './told.js';
@@ -58,16 +58,19 @@ async function change(state, row, value, again, back) {
     back();
     return;
   }
-  const subject = { who: row.who, isGroup: row.isGroup, name, isLeaving: isGone };
+  const subject = { who: row.who, isGroup: row.isGroup, name, isLeaving: isGone, level: value };
+  const line = `[aria-label="${CSS.escape(labelOf(row))}"]`;
   const done = await confirm(state, next, isGone
     ? { title: `Remove access to ${placeName(path)}?`, words: 'Remove access', subject,
       sentence: ({ changes }) => goneWords(capital(name), row, changes) }
     : { title: 'Change access?', words: 'Change it', subject,
-      sentence: () => `In the list of ${placeName(path)} ${name} goes from “${
+      sentence: () => `At ${placeName(path)} ${name} goes from “${
         levelWords(row.level, kind)}” to “${levelWords(value, kind)}”.` });
-  if (done) await again();
+  if (done) await again(line);
   else back();
 }
+
+const labelOf = (row) => `What ${row.isGroup ? 'the group ' : ''}${row.who} can do`;
 
 function levelControl(state, row, again) {
   const { kind, edits, model } = state;
@@ -80,19 +83,25 @@ function levelControl(state, row, again) {
   const levels = row.level === 'pass' ? ['pass'] : [...new Set([...offered(kind), row.level])];
   const options = levels.sort((one, other) => rank(one) - rank(other))
     .map((one) => [one, levelWords(one, kind)]);
-  const label = `What ${row.isGroup ? 'the group ' : ''}${row.who} can do`;
-  return select(label, hasBoth ? options : [...options, ['gone', 'Remove access']], row.level,
-    (value, made) => {
-      const back = () => { made.value = row.level; };
-      change(state, row, value, again, back).catch((fault) => {
-        tellFault(fault);
-        back();
-      });
+  const all = hasBoth ? options : [...options, ['gone', 'Remove access']];
+  return select(labelOf(row), all, row.level, (value, made) => {
+    const back = () => { made.value = row.level; };
+    change(state, row, value, again, back).catch((fault) => {
+      tellFault(fault);
+      back();
     });
+  });
 }
 
 const customWords = (row, kind) => row.entries.map((entry) =>
   `${entry.type === 'A' ? 'may' : 'may not'} ${maskWords(entry.mask, kind)}`).join('; ');
+
+// What is said of a last day: also that the nightly run can't keep to it, or didn't.
+function untilWords({ until, ends }) {
+  const day = endWords(until);
+  if (!ends) return `was to end on ${day}, but was changed since: it doesn’t end by itself`;
+  return isPast(until) ? `was to end on ${day}, and isn’t taken back yet` : `until ${day}`;
+}
 
 function line(state, row, again) {
   const { known, kind, me } = state;
@@ -100,19 +109,22 @@ function line(state, row, again) {
     mark(known, row.who, row.isGroup),
     element('div', { class: 'name-of' }, nameText(whoName(known, row.who, row.isGroup)),
       below(known, row, me, sourceWords(state, row)),
-      row.until === null ? null
-        : element('p', { class: 'hint' }, `until ${endWords(row.until)}`),
+      row.until === null ? null : element('p', { class: 'hint' }, untilWords(row)),
       row.level === 'custom' ? element('p', { class: 'hint' }, customWords(row, kind)) : null),
     levelControl(state, row, again));
 }
 
-// Own lines first, those who may do the most above. What comes from above too is said once, and
-// those who only pass through stand apart.
+const isOwnRow = ({ inherited }) => !inherited;
+
+// The lines that are shown as those of the folder above: what is here too is said once.
+export const rowsFromAbove = (rows) => rows.filter((row) => row.inherited
+  && !rows.some((one) => isOwnRow(one) && one.key === row.key && one.level === row.level));
+
+// Own lines first, those who may do the most above. Those who only pass through stand apart.
 export function accessRows(state, again) {
   const { rows } = state.model;
-  const own = rows.filter(({ inherited }) => !inherited);
-  const above = rows.filter((row) => row.inherited
-    && !own.some((one) => one.key === row.key && one.level === row.level));
+  const own = rows.filter(isOwnRow);
+  const above = rowsFromAbove(rows);
   const sorted = (those) => [...those].sort((one, other) => rank(other.level) - rank(one.level));
   const isWay = ({ level, who }) => level === 'pass' && !who.endsWith('@');
   const list = (those) => element('ul', { class: 'holders' },

@@ -2,13 +2,13 @@
 
 import { button, element, nameText } from './dom.js';
 import { endWords } from './ends.js';
-import { deliver } from './grant.js';
+import { Told, deliver } from './grant.js';
 import { LEVELS, RANKS, readLevels, withLevel } from './levels.js';
-import { tell, tellFault, waitFor } from './notice.js';
-import { outcomeOf } from './outcome.js';
+import { tell, tellFault } from './notice.js';
+import { followOutcome } from './outcome.js';
 import { fullName } from './people.js';
 import { picker } from './picker.js';
-import { levelWords, mayWords, tellOutcome } from './told.js';
+import { levelWords, mayWords } from './told.js';
 import { below, inSentence, mark, membersOf, whoName } from './who.js';
 import { capital, isolated } from './words.js';
 
@@ -57,8 +57,9 @@ class Picked {
     Object.assign(this, { state, choice, level: 'read', looks: 0, subject: { ...choice, name } });
     this.said = element('p', { class: 'said', role: 'status' });
     this.hint = element('p', { class: 'hint' });
-    this.body = element('div', {});
     this.share = button('Share', () => this.send(again), { class: 'primary', disabled: true });
+    this.told = new Told(state, this.subject, this.share, () => this.draw());
+    this.body = this.told.shown;
     this.until = element('input', { type: 'date', 'aria-label': 'Until, if it is to end' });
     this.until.addEventListener('change', () => this.draw());
     this.levels = select('What they can do', offered(state.kind).map((one) =>
@@ -80,34 +81,29 @@ class Picked {
       this.said.textContent = day === '' ? NO_LEVEL : NO_DATE;
       return;
     }
-    try {
-      const outcome = await waitFor(outcomeOf(state, next, this.subject));
-      if (look !== this.looks) return;
-      this.show(next, outcome);
-    } catch (fault) {
-      tellFault(fault);
-    }
+    const isWanted = () => look === this.looks && this.body.isConnected;
+    this.subject.level = level;
+    await followOutcome(state, next, this.subject, isWanted, (outcome, isBusy) =>
+      this.show(next, outcome, isBusy)).catch(tellFault);
   }
 
-  show(next, outcome) {
+  show(next, outcome, isBusy) {
     const { state, choice, level } = this;
     this.next = next;
-    this.told = tellOutcome(state, outcome, this.subject);
     const end = this.until.value;
     this.said.textContent = addedWords(state, choice, level)
       .replace(/\.$/, end === '' ? '.' : ` until ${endWords(end)}, as far as the nightly run can.`);
     this.hint.textContent = levelHint(state.kind, level, next);
-    this.body.replaceChildren(this.told.shown);
     this.share.textContent = outcome.lock === null ? 'Share' : 'Share all the same';
     this.share.className = outcome.lock === null ? 'primary' : 'danger';
-    this.share.disabled = false;
+    this.told.draw(outcome, isBusy);
   }
 
   async send(again) {
     this.share.disabled = true;
     const words = this.said.textContent.replace(' can then ', ' can now ');
-    const done = await deliver(this.state, this.next, this.told);
-    await again();
+    const done = await deliver(this.state, this.next, this.told.told);
+    await again('.picker input');
     if (done === 'sent') tell('good', words);
   }
 
@@ -118,7 +114,8 @@ class Picked {
       element('div', { class: 'name-of' }, element('strong', {}, nameText(name)),
         below(state.known, choice, state.me)), this.levels),
     ...[unsureWords(state, choice)].filter(Boolean),
-    element('label', { class: 'until' }, 'Until', this.until), this.said, this.hint, this.body,
+    element('label', { class: 'until' }, 'Until', this.until,
+      element('span', { class: 'hint' }, 'only if it is to end')), this.said, this.hint, this.body,
     element('div', { class: 'actions' }, button('Cancel', cancel), this.share)];
   }
 }

@@ -37,7 +37,7 @@ const isBelow = (path, folder) => folder === '/' || path.startsWith(`${folder}/`
 
 function mayWords(rights) {
   if (rights.includes('C')) return 'Can manage';
-  if (!rights.includes('r')) return 'Can drop documents in';
+  if (!rights.includes('r')) return 'Can drop documents into it';
   return /[wa]/.test(rights) ? 'Can change' : 'Can read';
 }
 

@@ -164,8 +164,10 @@ const hasAll = (powers, others) =>
   others.every((power, index) => (power & ~(powers[index] ?? 0)) === 0);
 const rank = (level) => RANKS.indexOf(level);
 
-// How a caller's rights differ: {from, to, more}, or null. 'more' is false for whoever also loses
-// something. Either state is {target, folder}, or null where the caller can't get there.
+// How a caller's rights differ: {from, to, more, isRemoval, alsoRemoves}, or null. 'more' is false
+// for whoever also loses something. 'isRemoval' says that only removing the object itself differs,
+// and 'alsoRemoves' that they may then do that though their level doesn't say so. Either state is
+// {target, folder}, or null where the caller can't get there.
 function differenceOf(before, after, caller) {
   const states = [before, after];
   const [had, has] = states.map((one) => (one === null ? []
@@ -173,12 +175,19 @@ function differenceOf(before, after, caller) {
   if (hasAll(had, has) && hasAll(has, had)) return null;
   const [from, to] = states.map((one) => (one === null ? 'none'
     : reached(one.target, one.folder, caller)));
-  return { from, to, more: hasAll(has, had) && rank(to) >= rank(from) };
+  const isRemoval = from === to && had.length === has.length
+    && had.every((power, index) => (power ^ has[index]) === (index === 0 ? REMOVES : 0));
+  const mayRemove = ([powers = 0]) => (powers & REMOVES) !== 0;
+  const alsoRemoves = mayRemove(has) && !mayRemove(had) && !['remove', 'manage'].includes(to);
+  const more = hasAll(has, had) && rank(to) >= rank(from);
+  return { from, to, more, isRemoval, alsoRemoves };
 }
 
-// Whose rights at an object differ: [{name, user, groups, from, to, more}].
-export const changesOf = (before, after, callers) => callers.flatMap((caller) => {
-  const difference = differenceOf(before, after, caller);
+// Whose rights at an object differ: callers, each with what differenceOf says. 'ways' are the
+// folders above it, before and after.
+export const changesOf = (before, after, callers, ways = [[], []]) => callers.flatMap((caller) => {
+  const difference = differenceOf(...[before, after].map((side, index) =>
+    (passes(ways[index], caller) ? side : null)), caller);
   return difference === null ? [] : [{ ...caller, ...difference }];
 });
 
@@ -257,6 +266,19 @@ function isOfUse({ kind, sides }, caller) {
   return (here & ~passing) !== 0 || more.some((powers) => powers !== 0);
 }
 
+// One of those that follow the same folder stands for all of them, since there may be thousands.
+function unlike(states) {
+  const seen = new Set();
+  return states.filter((state) => {
+    const { path, kind, object: { owner, group } } = state;
+    const key = JSON.stringify([parentOf(path), kind, owner, group]);
+    if (isException(state)) return true;
+    return !seen.has(key) && seen.add(key);
+  });
+}
+
 // Whether a line of the top that only lets these callers pass is needed by something further down.
-export const isNeeded = (states, callers) => callers.some((caller) =>
-  states.some((state) => isOfUse(state, caller)));
+export function isNeeded(states, callers) {
+  const some = unlike(states);
+  return callers.some((caller) => some.some((state) => isOfUse(state, caller)));
+}

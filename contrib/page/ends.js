@@ -44,3 +44,8 @@ export function endingOf(entry) {
 
 export const endWords = (day) => new Date(`${day}T00:00:00Z`).toLocaleDateString('en-GB',
   { day: 'numeric', month: 'long', year: 'numeric', timeZone: 'UTC' });
+
+const dayOf = (time) => [time.getFullYear(), time.getMonth() + 1, time.getDate()]
+  .map((part) => String(part).padStart(2, '0')).join('-');
+// The last day has gone by. Days are those of this machine.
+export const isPast = (day) => day < dayOf(new Date());

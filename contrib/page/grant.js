@@ -2,7 +2,8 @@
 
 import { button, element } from './dom.js';
 import { showDialog, tell, tellFault, waitFor } from './notice.js';
-import { outcomeOf } from './outcome.js';
+import { followOutcome } from './outcome.js';
+import { lookingLine } from './progress.js';
 import { placeName, tellOutcome } from './told.js';
 import { sendAll } from './ways.js';
 import { listed, sentenceOf } from './words.js';
@@ -43,17 +44,55 @@ export async function deliver(state, next, told) {
   }
 }
 
+// What comes of a list, drawn as it is seen. Nothing is sent before all further down was looked at,
+// or somebody stopped that: 'send' is the button that it waits for.
+export class Told {
+  constructor(state, subject, send, again) {
+    Object.assign(this, { state, subject, send, ticks: new Map(), told: null, text: null });
+    this.line = lookingLine(state.looking, again);
+    this.box = element('div', {});
+    this.shown = element('div', {}, this.box, this.line.shown);
+  }
+
+  draw(outcome, isBusy) {
+    const told = tellOutcome(this.state, outcome, this.subject, this.ticks);
+    // What says the same stays, with what has the focus in it.
+    if (this.text !== told.shown.textContent) {
+      this.told = told;
+      this.text = told.shown.textContent;
+      this.box.replaceChildren(told.shown);
+    }
+    this.box.firstChild.setAttribute('aria-busy', String(isBusy));
+    this.line.draw(isBusy);
+    this.send.disabled = isBusy;
+  }
+}
+
 // A dialog that says what comes of a list, and sends it. 'words' are {title, words, sentence,
 // subject}. Returns 'sent', 'not sent', or null if it was cancelled.
 export async function confirm(state, next, { title, words, sentence, subject = null }) {
-  const outcome = await waitFor(outcomeOf(state, next, subject));
-  const told = tellOutcome(state, outcome, subject);
-  const danger = outcome.lock !== null;
-  const answer = await showDialog(title, (finish) => [
-    element('p', {}, sentence(outcome)), told.shown,
-    element('div', { class: 'actions' },
-      button('Cancel', () => finish(null), { autofocus: danger }),
-      button(danger ? `${words} all the same` : words, () => finish('send'),
-        { class: danger ? 'danger' : 'primary', autofocus: !danger }))], 'sharing');
-  return answer === null ? null : deliver(state, next, told);
+  let isOpen = true;
+  let danger = false;
+  const said = element('p', {});
+  const [cancel, send] = ['Cancel', words].map((text) => button(text, () => {}));
+  const look = (draw) => followOutcome(state, next, subject, () => isOpen, draw);
+  const told = new Told(state, subject, send, () => look(draw).catch(tellFault));
+  const draw = (outcome, isBusy) => {
+    danger = outcome.lock !== null;
+    said.textContent = sentence(outcome);
+    send.textContent = danger ? `${words} all the same` : words;
+    send.className = danger ? 'danger' : 'primary';
+    told.draw(outcome, isBusy);
+  };
+  await waitFor(new Promise((resolve, reject) => {
+    look((...drawn) => resolve(draw(...drawn))).catch(reject);
+  }));
+  const answer = await showDialog(title, (finish) => {
+    cancel.addEventListener('click', () => finish(null));
+    send.addEventListener('click', () => finish('send'));
+    (danger || send.disabled ? cancel : send).autofocus = true;
+    return [said, told.shown, element('div', { class: 'actions' }, cancel, send)];
+  }, 'sharing');
+  isOpen = false;
+  return answer === null ? null : deliver(state, next, told.told);
 }

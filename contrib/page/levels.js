@@ -136,9 +136,11 @@ const endsOf = ({ entries }) => entries.map((entry) => ({ entry, end: endingOf(e
 const isEndOf = ({ who, isGroup: group, isPass }) => (end) => !end.over && end.who === who
   && end.isGroup === group && (end.level === 'pass') === isPass;
 
-// {rows: [{key, who, isGroup, level, entries, inherited, until}], keep, own, ended, why}. The rows
-// are in the order of the list; one person or group may have an own one and an inherited one.
-// 'until' is a day or null, and 'ended' are the accesses that were taken back.
+// {rows: [{key, who, isGroup, level, entries, inherited, until, ends}], keep, own, ended, loose,
+// why}. The rows are in the order of the list; one person or group may have an own one and an
+// inherited one. 'until' is a day or null, and 'ends' says whether the nightly run can take the
+// access away after it. 'ended' are the accesses that were taken back, and 'loose' are the days
+// whose access is gone.
 export function readLevels(list, kind) {
   const rows = new Map();
   const ends = endsOf(list);
@@ -154,11 +156,15 @@ export function readLevels(list, kind) {
   }
   const withEnd = (row) => {
     const end = row.inherited ? null : ends.find(isEndOf({ ...row, isPass: row.level === 'pass' }));
-    return { ...row, until: end?.day ?? null };
+    return { ...row, until: end?.day ?? null, ends: end?.level === row.level };
   };
+  const leveled = [...rows.values()].map((row) => withEnd({ ...row,
+    level: levelOf(row.entries, kind) }));
+  const isTaken = (end) => leveled.some((row) => !row.inherited
+    && isEndOf({ ...row, isPass: row.level === 'pass' })(end));
   return {
-    rows: [...rows.values()].map((row) => withEnd({ ...row, level: levelOf(row.entries, kind) })),
-    ended: ends.filter(({ over }) => over),
+    rows: leveled, ended: ends.filter(({ over }) => over),
+    loose: ends.filter((end) => !end.over && !isTaken(end)),
     keep: list.entries.some(isKeep),
     own: list.entries.some((entry) => isOwn(entry, kind)),
     why: whyNot(list, kind),

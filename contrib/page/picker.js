@@ -4,6 +4,7 @@ import { element, freshId, icon, nameText } from './dom.js';
 import { isName } from './list.js';
 import { dayWords, fullName } from './people.js';
 import { mark, membersOf } from './who.js';
+import { counted } from './words.js';
 
 const MOST = 8;
 const LABEL = 'Add people or groups';
@@ -45,7 +46,7 @@ function wordsFor({ who, isGroup, sure }, known) {
   }
   if (!isGroup) return fullName(known, who) === who ? 'person' : who;
   const members = membersOf(known, who);
-  return members === null ? 'group' : `group, ${members.length} members`;
+  return members === null ? 'group' : `group, ${counted(members.length, 'member')}`;
 }
 
 function line(choice, known, id, onPick) {

@@ -75,11 +75,11 @@ export function itselfWords(kind, before, after) {
 }
 
 // For a list that is about to be sent. Both are {path, entries, object}: 'before' as the room has
-// it, and 'after' as it will be, with 'protect'.
-export async function removalOf(kind, before, after) {
+// it, and 'after' as it will be, with 'protect'. 'look' finds the protected folders below.
+export async function removalOf(kind, before, after, look = protectedBelow) {
   const itself = after.path === '/' ? [] : itselfWords(kind, before, after);
   const isInside = kind === 'folder' && gaining(before, after, mayRemoveIn).length > 0;
-  const inside = isInside ? insideWords(before, after, await protectedBelow(after.path)) : [];
+  const inside = isInside ? insideWords(before, after, await look(after.path)) : [];
   const opens = inside.length > 0 || (itself.length > 0 && !after.protect);
   return [...inside, ...itself, ...(opens ? [{ kind: 'unsure', text: OPENS }] : [])];
 }

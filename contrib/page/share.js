@@ -2,7 +2,7 @@
 // list stays behind 'Advanced': what the levels can't say is shown here and never altered.
 
 import * as api from './api.js';
-import { accessRows } from './accessrows.js';
+import { accessRows, rowsFromAbove } from './accessrows.js';
 import { adder } from './adder.js';
 import { attributesAt } from './around.js';
 import { button, element, icon } from './dom.js';
@@ -12,11 +12,13 @@ import { callersFor, isException, removes } from './effects.js';
 import { confirm } from './grant.js';
 import { closedUp, cutOff, joined, readLevels } from './levels.js';
 import { linkTo } from './links.js';
+import { Looking } from './looking.js';
 import { readListText } from './list.js';
 import { askedFor } from './managers.js';
 import { notShown, tellFault, waitFor } from './notice.js';
 import { belowOf } from './outcome.js';
 import { people } from './people.js';
+import { lookingLine } from './progress.js';
 import { placeName, shownName } from './told.js';
 import { wayTo } from './ways.js';
 import { some } from './who.js';
@@ -33,8 +35,12 @@ const WHY = {
 const OPEN = 'Whoever may add documents here may also remove and rename what others made.';
 const KEEPS = 'Let only those remove who are said to';
 const OWN = 'Whoever adds a document may also remove and rename it.';
-const FOLLOWS = 'As far as it can be seen, everything further down follows this list.';
+const FOLLOWS = {
+  all: 'Everything further down follows this list.',
+  rest: 'Everything else further down follows this list.',
+};
 const MOST_NAMED = 6;
+const FIELD = '.picker input';
 
 async function stateOf(path, kind) {
   const [text, may, object, me, known, folders] = await Promise.all([
@@ -45,12 +51,12 @@ async function stateOf(path, kind) {
   const isMine = may?.C.ruling === 'allowed';
   const why = hasUnsentAt('dacl', path) ? 'unsent' : model.why;
   return { path, kind, text, list, object, me, known, folders, model, isMine, why,
-    edits: isMine && why === null };
+    edits: isMine && why === null, looking: new Looking(), changeable: new Map() };
 }
 
 // Whether the object follows the folder above.
 function following(state, again) {
-  const { path, kind, list, edits, folders } = state;
+  const { path, kind, list, edits, folders, model } = state;
   if (path === '/') return null;
   const above = placeName(api.parentOf(path));
   const box = element('input', { type: 'checkbox', checked: list.protect, disabled: !edits });
@@ -64,12 +70,12 @@ function following(state, again) {
         + 'changes. Those below keep it.' });
   box.addEventListener('change', async () => {
     const done = await ask(box.checked).catch(tellFault);
-    if (done) await again();
+    if (done) await again('.following input');
     else box.checked = list.protect;
   });
   const linked = folders.at(-1).list?.auto === false ? `This ${kind} doesn’t follow ${above}.`
-    : `This ${kind} follows ${above}: the grey lines come from there, and change when they change `
-      + 'there.';
+    : `This ${kind} follows ${above}: whoever has access there has it here too.${
+      rowsFromAbove(model.rows).length > 0 ? ' The grey lines come from there.' : ''}`;
   const hint = list.protect
     ? `This ${kind} has a list of its own: what changes at ${above} doesn’t count here.` : linked;
   return element('div', { class: 'following' }, icon('lock'), element('div', {},
@@ -90,7 +96,7 @@ function openNote(state, again) {
     title: 'Keep things in place?', words: 'Keep them in place',
     sentence: () => 'Then only those remove and rename who “can add, change and remove” or '
       + '“can manage”.',
-  }).then((done) => (done ? again() : null)).catch(tellFault);
+  }).then((done) => (done ? again(FIELD) : null)).catch(tellFault);
   return element('div', { class: 'note-of' }, element('p', {}, OPEN),
     state.isMine ? button(KEEPS, keep, { class: 'small' }) : null);
 }
@@ -120,32 +126,48 @@ const placeLink = ({ path, list }) => element('li', {},
   element('a', { href: linkTo(path, 'access') }, isolated(path)),
   element('span', { class: 'hint' }, list.protect ? 'only these people' : 'lines of its own'));
 
+// What is said of what was seen further down: its exceptions, and what can't be seen.
+function exceptionsSeen(state) {
+  const { nodes, unread, all } = belowOf(state);
+  const found = nodes.filter(isException);
+  const hints = [
+    unread.length > 0 ? `You may not see who has access to ${
+      some(unread.map((path) => `“${isolated(path)}”`), 3)}.` : null,
+    all ? FOLLOWS[found.length + unread.length > 0 ? 'rest' : 'all'] : null,
+  ].filter(Boolean);
+  return element('div', {}, element('ul', {}, found.map(placeLink)),
+    ...hints.map((words) => element('p', { class: 'hint' }, words)));
+}
+
 // What further down doesn't only follow this list, looked for when somebody wants to know.
 function exceptions(state) {
-  if (state.kind !== 'folder') return null;
-  const body = element('div', { class: 'exceptions' });
-  const look = async () => {
-    const { nodes, unread, all } = await waitFor(belowOf(state));
-    const found = nodes.filter(isException);
-    const hints = [
-      found.length === 0 ? FOLLOWS : null,
-      unread.length > 0 ? `You may not see who has access to ${
-        some(unread.map((path) => `“${isolated(path)}”`), 3)}.` : null,
-      all ? null : 'There is more further down than could be looked at.',
-    ].filter(Boolean);
-    body.replaceChildren(element('ul', {}, found.map(placeLink)),
-      ...hints.map((words) => element('p', { class: 'hint' }, words)));
+  const { kind, looking } = state;
+  if (kind !== 'folder') return null;
+  const seen = element('div', {});
+  const draw = (isBusy) => {
+    const next = exceptionsSeen(state);
+    if (next.textContent !== seen.textContent) seen.replaceChildren(next);
+    line.draw(isBusy);
   };
-  const made = element('details', {}, element('summary', {}, 'Exceptions further down'), body);
-  made.addEventListener('toggle', () => {
-    if (made.open && body.childElementCount === 0) look().catch(tellFault);
-  });
+  const look = () => {
+    belowOf(state);
+    looking.follow(draw, () => made.open && made.isConnected).catch(tellFault);
+  };
+  const line = lookingLine(looking, look);
+  const made = element('details', {}, element('summary', {}, 'Exceptions further down'),
+    element('div', { class: 'exceptions' }, seen, line.shown));
+  made.addEventListener('toggle', () => made.open && look());
   return made;
 }
 
 // An access that the nightly run has taken back.
 const endedHint = ({ who, day }) => element('p', { class: 'hint' },
   `The access of ${isolated(who)} ended, and was taken back on ${endWords(day)}.`);
+
+// A day that nobody's access has any more, as after an edit of the list itself.
+const looseHint = ({ who, day }) => element('p', { class: 'hint' },
+  `${isolated(who)} was to have access until ${endWords(day)}, and has none now. The day can be `
+  + 'removed under “Advanced”.');
 
 const hintOf = (words) => (words === null ? null : element('p', { class: 'hint' }, words));
 
@@ -155,7 +177,7 @@ function view(state, again) {
     edits ? adder(state, again) : null,
     isMine ? null : hintOf('You can see who has access, but not change it.'),
     note(state), openNote(state, again), element('h2', {}, 'Who has access'),
-    accessRows(state, again), model.ended.map(endedHint),
+    accessRows(state, again), model.ended.map(endedHint), model.loose.map(looseHint),
     hintOf(model.own && kind === 'folder' ? OWN : null),
     hintOf(removersNote(state)), following(state, again), exceptions(state));
 }
@@ -175,13 +197,16 @@ async function unseen(path, kind) {
 
 // Shows who has access in 'box', as long as 'isCurrent()'.
 export async function showAccess(path, kind, box, isCurrent) {
-  const again = async () => {
+  // What is changed at 'place' has the focus afterwards, or else the field for a name.
+  const again = async (place = null) => {
     try {
       const state = await waitFor(stateOf(path, kind));
-      if (isCurrent()) box.replaceChildren(view(state, again));
+      if (!isCurrent()) return;
+      box.replaceChildren(view(state, again));
+      if (place !== null) (box.querySelector(place) ?? box.querySelector(FIELD))?.focus();
     } catch (fault) {
       const shown = fault.status === 403 ? await unseen(path, kind)
-        : notShown(sentenceOf(fault), again);
+        : notShown(sentenceOf(fault), () => again());
       if (!isCurrent()) return;
       box.replaceChildren(shown);
       if (fault.status === 401 || fault.status === undefined) tellFault(fault);

@@ -2,10 +2,11 @@
 // that do nothing else.
 
 import * as api from './api.js';
-import { attributesAt, nodesBelow } from './around.js';
+import { attributesAt } from './around.js';
 import { barring, callersFor, isGranted, isNeeded, passes, statesBelow } from './effects.js';
 import { entriesOf, keyOf, readLevels } from './levels.js';
-import { isInherited, printList, readListText } from './list.js';
+import { isGroup, isInherited, printList, readListText } from './list.js';
+import { isOld } from './people.js';
 import { isUnanswered } from './again.js';
 
 // The folders on the way, from the top down: [{path, text, list, object}].
@@ -20,8 +21,13 @@ export async function wayTo(path) {
   }));
 }
 
-const mayChange = async (path) =>
-  (await api.can(path, 'C').catch(() => null))?.C.ruling === 'allowed';
+// Asked once for each panel, which may be drawn several times.
+function mayChange({ changeable }, path) {
+  if (!changeable.has(path)) {
+    changeable.set(path, api.can(path, 'C').then((may) => may.C.ruling === 'allowed', () => false));
+  }
+  return changeable.get(path);
+}
 
 // The list with a line that lets somebody pass, at the end of its own ones.
 function opened(list, { who, isGroup }) {
@@ -33,7 +39,8 @@ function opened(list, { who, isGroup }) {
 // The folders that bar those who gain something, and what would let them pass, from the top down:
 // [{path, callers, next, before, folder}]. 'next' is null where I may not change the list, or where
 // that won't do.
-export async function openings({ folders }, gaining, subject) {
+export async function openings(state, gaining, subject) {
+  const { folders } = state;
   const barred = new Map();
   for (const caller of gaining) {
     for (const path of barring(folders, caller)) {
@@ -43,7 +50,8 @@ export async function openings({ folders }, gaining, subject) {
   return Promise.all(folders.filter(({ path }) => barred.has(path)).map(async (folder) => {
     const { path } = folder;
     const callers = barred.get(path);
-    const next = subject !== null && await mayChange(path) ? opened(folder.list, subject) : null;
+    const isOffered = subject !== null && await mayChange(state, path);
+    const next = isOffered ? opened(folder.list, subject) : null;
     const lets = next !== null && callers.every((caller) =>
       isGranted(next.entries, 'x', caller, folder.object));
     return { path, callers, folder, before: folder.text, next: lets ? next : null };
@@ -61,48 +69,73 @@ function withoutLine(list, subject) {
   return row && { ...list, entries: list.entries.filter((entry) => !row.entries.includes(entry)) };
 }
 
+const allowing = ({ list }) => list.entries.filter(({ type, mask }) => type === 'A' && mask !== '');
+
+// Whether it is known who is in the groups by which somebody may need the line: those that are
+// given something further down, and that don't pass by themselves.
+function areGroupsKnown({ known }, states, way) {
+  if (known?.members && !isOld(known.made)) return true;
+  const groups = new Set(states.flatMap(allowing).filter(isGroup).map(({ who }) => who));
+  return [...groups].every((group) => passes([way], { user: null, groups: [group] }));
+}
+
 async function leftoverAt(folder, state, next, subject) {
   const without = folder.list && withoutLine(folder.list, subject);
-  if (!without || !(await mayChange(folder.path))) return null;
-  const { nodes, unread, all } = await nodesBelow(folder.path);
+  if (!without || !(await mayChange(state, folder.path))) return null;
+  const { nodes, unread, all } = state.looking.below(folder.path);
   const states = statesBelow(nodes, { path: folder.path, object: folder.object,
     lists: [folder.list, folder.list], ways: [[], []] }, new Map([[state.path, next]]));
-  const callers = callersFor([folder.list], state.known, folder.object).filter(({ user, groups }) =>
+  const meant = callersFor([folder.list], state.known, folder.object).filter(({ user, groups }) =>
     (subject.isGroup ? groups.includes(subject.who) : user === subject.who));
-  const isRedundant = callers.every((caller) => passes([{ ...folder, list: without }], caller));
+  // Somebody may be in the group of whom nothing is known.
+  const callers = subject.isGroup ? [...meant, { user: null, groups: [subject.who] }] : meant;
+  const way = { ...folder, list: without };
+  const isRedundant = callers.every((caller) => passes([way], caller));
   if (!isRedundant && isNeeded(states, callers)) return null;
-  return { path: folder.path, before: folder.text, next: without,
-    sure: isRedundant || (all && unread.length === 0) };
+  const isSeen = all && unread.length === 0 && areGroupsKnown(state, states, way);
+  return { path: folder.path, before: folder.text, next: without, sure: isRedundant || isSeen };
 }
 
 // The lines on the way to an object that only let somebody pass, and that nobody needs any more
 // once its list is this one: [{path, before, next, sure}]. 'sure' is false where not everything
-// below could be looked at.
+// below could be looked at, or it isn't known who is in a group. What lets everyone pass stays.
 export async function leftovers(state, next, subject) {
+  if (subject.who.endsWith('@')) return [];
   const found = await Promise.all(state.folders.map((folder) =>
     leftoverAt(folder, state, next, subject)));
   return found.filter((one) => one !== null);
 }
 
-const textAt = (path) => api.readList('dacl', path).catch(() => null);
+// A list's text, null where it can't be read, and undefined where the room doesn't answer.
+const textAt = (path) => api.readList('dacl', path)
+  .catch((fault) => (isUnanswered(fault) ? undefined : null));
 const ownText = (text) => {
   const { list } = readListText(text ?? '');
   return list && printList({ ...list, entries: list.entries.filter((one) => !isInherited(one)) });
 };
 
-// Whether a list was sent although its answer was lost.
-const hasArrived = async ({ path, next }, fault) => (isUnanswered(fault) || fault.status === 500)
-  && ownText(await textAt(path)) === ownText(printList(next));
-
-// Takes back what was sent, unless somebody changed it since. Returns the paths where it stays.
-async function takeBack(sent) {
+// Takes back what was sent, unless somebody changed it since. Returns the paths where it stays. A
+// room that doesn't answer was waited for long enough.
+async function takeBack(sent, isAway) {
   const left = [];
+  let away = isAway;
   for (const { path, before, after } of [...sent].reverse()) {
-    const isDone = after !== null && await textAt(path) === after
+    const now = away ? undefined : await textAt(path);
+    away = now === undefined;
+    const isDone = typeof after === 'string' && now === after
       && await api.setList('dacl', path, before).then(() => true, () => false);
     if (!isDone) left.push(path);
   }
   return left;
+}
+
+// Where a list wasn't sent by what is known: whether it was all the same, as when its answer was
+// lost. Otherwise what was sent before it is taken back, and the fault has what is 'left' of it.
+async function afterFault({ path, next }, fault, sent) {
+  const isOpen = isUnanswered(fault) || fault.status === 500;
+  const now = isOpen ? await textAt(path) : null;
+  if (typeof now === 'string' && ownText(now) === ownText(printList(next))) return;
+  throw Object.assign(fault, { left: await takeBack(sent, now === undefined), taken: sent.length });
 }
 
 // Sends lists one after the other: [{path, before, next}]. Returns {done, left}: nothing is sent
@@ -115,13 +148,11 @@ export async function sendAll(steps) {
   for (const step of steps) {
     try {
       if (sent.length > 0 && !(await isSame(step))) {
-        return { done: false, left: await takeBack(sent) };
+        return { done: false, left: await takeBack(sent, false) };
       }
       await api.setList('dacl', step.path, printList(step.next));
     } catch (fault) {
-      if (!(await hasArrived(step, fault))) {
-        throw Object.assign(fault, { left: await takeBack(sent), taken: sent.length });
-      }
+      await afterFault(step, fault, sent);
     }
     sent.push({ ...step, after: step === steps.at(-1) ? null : await textAt(step.path) });
   }

@@ -95,6 +95,19 @@ people_are 'without passwords' "${few/"$users"/\"OFFICE\\\\dave\",\"alice\",\"bo
 mv kept "$passwords"
 room_verb people
 
+# A password or members that are new are there at once, and gone at once.
+if has htpasswd; then
+  echo secret >typed
+  typed=typed room_verb user add zoe --groups clerks
+  ended_well 'somebody joins'
+  holds 'who can be chosen at once' grep -q '"eve","zoe"\]' "$web/people.json"
+  room_verb user remove zoe
+  ended_well 'somebody leaves'
+  people_are 'who can be chosen no more' "$few"
+else
+  skip 'somebody joins' 'missing: htpasswd'
+fi
+
 names_are_whole() { people_are "$name" "$few"; }
 killed_everywhere names_are_whole people 8
 holds 'nothing else is left' [ "$(ls -A "$web" | tr '\n' ' ')" = 'members.csv people.json ' ]

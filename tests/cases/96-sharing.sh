@@ -44,5 +44,5 @@ fi
 
 # Every right of every user, before and after, by the program's own review of a copy.
 start_sharing K || return
-play 'clicks at random' clicks.py "$PWD" "$front" "$rooms" "$PWD/K" "${PAGE_ROUNDS:-15}" "${PAGE_SEED:-1}"
+play 'clicks at random' clicks.py "$PWD" "$front" "$rooms" "$PWD/K" "${PAGE_ROUNDS:-40}" "${PAGE_SEED:-1}"
 end_sharing K

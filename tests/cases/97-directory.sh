@@ -91,6 +91,8 @@ all=(bureau,carol hr,carol own,erin sales,bob sales,dana staff,alice staff,bob s
 has_members 'they are the members' "${all[@]}"
 holds 'nothing is left in the folder' [ -z "$(ls office | grep groups)" ]
 holds 'nothing is owed' [ -z "$(ls run)" ]
+holds 'the web interface offers them at once' grep -qF '"groups":{"bureau":[],"hr":[],"own":[],"sales":[],"staff":[]}' \
+  root/var/lib/rooms-web/office/people.json
 brings
 says 'the same again' 0 ''
 holds 'says only who is left out' [ ! -s "$work/out" ]

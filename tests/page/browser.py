@@ -123,6 +123,10 @@ class Browser:
         field.clear()
         field.send_keys(text)
 
+    def type(self, *keys):
+        """Keys for whatever has the focus."""
+        ActionChains(self.driver).send_keys(*keys).perform()
+
     def names(self):
         return self.texts('table.folder .name')
 
@@ -189,7 +193,7 @@ class Checks:
             act()
         except Exception as fault:  # Each check is told, whatever stopped it.
             words = ' '.join(str(getattr(fault, 'msg', None) or fault).split()) or type(fault).__name__
-            print(f'fail\t{name}\t{words[:600]}', flush=True)
+            print(f'fail\t{name}\t{words[:2400]}', flush=True)
             return
         took = time.monotonic() - began
         print(f'pass\t{name}\t{took:.1f} s', flush=True)

@@ -26,13 +26,23 @@ ALL = 'rwanNxDtThHdcCoy'
 USERS = ['alice', 'bob', 'carol', 'dana', 'kim', 'zoe']
 PLACES = ['/r', '/r/sub', '/r/doc', '/r/sub/doc', '/r/sub/deep', '/r/sub/deep/doc']
 LEVELS = ['rxtc', 'rwaxtc', 'rwaxDtc', ALL]
+OWNS = {'/r/doc': 'bob', '/r/sub/doc': 'dana', '/r/sub/deep/doc': 'bob'}
 # What may be said of a level, and the letters that it may then have at most.
 SAID = {
     'can pass through': 'xt', 'can drop documents in': 'wx', 'can see the names here': 'rxtc', 'can read': 'rxtc',
     'can read and add': 'rwaxtc', 'can add and change': 'rwaxtc', 'can change': 'rwaxtc',
     'can add, change and remove': 'rwaxDdtc', 'can change and remove': 'rwaxDdtc', 'can manage': ALL, 'no access': '',
 }
+REMOVING = ('can add, change and remove', 'can change and remove', 'can manage')
+VERBS = {'read': 'can read', 'change': 'can change', 'add to and change': 'can add and change', 'manage': 'can manage',
+         'add to, change and remove from': 'can add, change and remove'}
+# What says that there are rights, and not which.
+VAGUE = ('some more rights', 'not the same rights as now')
 OWNERS = 'Whoever made a document here may then also remove and rename it.'
+
+
+def covers(place, other):
+    return other == place or other.startswith(f'{place}/')
 
 
 class Clicks:
@@ -51,7 +61,7 @@ class Clicks:
     def make(self):
         for path in ('/r', '/r/sub', '/r/sub/deep'):
             self.ask('POST', f'/folder{path}')
-        for path, owner in (('/r/doc', 'bob'), ('/r/sub/doc', 'dana'), ('/r/sub/deep/doc', 'bob')):
+        for path, owner in OWNS.items():
             self.ask('PUT', f'/doc{path}', b'x')
             self.ask('PUT', f'/attr{path}', f'{{"group":"staff","owner":"{owner}"}}'.encode())
 
@@ -126,15 +136,20 @@ class Clicks:
         if not found:
             return None
         level = self.random.choice(alice.script("return [...document.querySelectorAll('.picked option')].map((one) => one.value)"))
+        day = '2999-05-31' if self.random.random() < 0.2 else ''
         alice.script("""const menu = document.querySelector('.picked select');
             menu.value = arguments[0];
-            menu.dispatchEvent(new Event('change'));""", level)
+            menu.dispatchEvent(new Event('change'));
+            if (arguments[1] === '') return;
+            const field = document.querySelector('.until input');
+            field.value = arguments[1];
+            field.dispatchEvent(new Event('change'));""", level, day)
         return self.shown('.adding', '.adding .actions button:last-child')
 
     def shown(self, css, send):
         """What is said, and the button that sends it; None if nothing is to be sent."""
         alice = self.alice
-        alice.until(lambda: (alice.all(f'{css} .outcome') and not alice.script(
+        alice.until(lambda: (alice.all(f'{css} .outcome[aria-busy=false]') and not alice.script(
             'return document.querySelector(arguments[0]).disabled', send)) or alice.all('.notice')
             or any('can’t be said' in text for text in alice.texts('.said')), 'what comes of it')
         if not alice.all(f'{css} .outcome') or alice.all('.lock-out'):
@@ -143,7 +158,10 @@ class Clicks:
         for index in range(len(ticks)):
             if self.random.random() < 0.2:
                 alice.script("document.querySelectorAll('.way input')[arguments[0]].click()", index)
-        return alice.texts(css)[0], alice.texts(f'{css} .changes li'), send
+        # Many names are all there below the line that counts them.
+        lines = alice.script("""return [...document.querySelectorAll(`${arguments[0]} .changes li`)].map((one) =>
+            [one.querySelector('p').innerText, one.querySelector('details p')?.textContent ?? null])""", css)
+        return alice.texts(css)[0], lines, send
 
     def send(self, css):
         alice = self.alice
@@ -153,43 +171,72 @@ class Clicks:
 
     # What was said, against what is granted.
 
-    def claims(self, lines):
-        """[(is a gain, names, words, path or None)] of the lines."""
+    def claims(self, path, text, lines):
+        """[(is a gain, names, words, place)] of the lines, and of the sentence about one person."""
         found = []
-        for line in lines:
-            match = re.match(r'(Gains|Loses):\s+(.*) – (.*?)(?:, at (/\S+))?$', line.replace('\n', ' '))
+        for line, names in lines:
+            plain = re.sub('[\u2068\u2069]', '', line).replace('\n', ' ')
+            match = re.match(r'(Gains|Loses):\s+(.*) – (.*?)(?:, at (/\S+))?$', plain)
             if match:
-                names = re.split(r', | and ', match[2].replace('everyone else who signs in', '*'))
-                found.append((match[1] == 'Gains', names, match[3], match[4]))
+                named = re.sub('[\u2068\u2069]', '', names or match[2]).replace('everyone else who signs in', '*')
+                words = match[3].rpartition('now, then ')[2]
+                found.append((match[1] == 'Gains', set(re.split(r', | and ', named)), words, match[4] or path))
+        said = re.search(r'(\w+) can then (.*?) “', text)
+        goes = re.search(r'(\w+) goes from “.*?” to “(.*?)”', text)
+        # A level that is said of one person isn't said twice, and a line that says more counts.
+        if said and said[1] in USERS:
+            found.insert(0, (True, {said[1]}, VERBS[said[2]], path))
+        if goes and goes[1] in USERS:
+            found.insert(0, (True, {goes[1]}, goes[2].lower(), path))
         return found
 
+    def fault_of(self, claims, text, user, place, had, has):
+        """What of these rights wasn't said; both are (letters, removes)."""
+        gains = has[0] - had[0]
+        removing = has[1] and not had[1]
+        if had[0] - has[0] or (had[1] and not has[1]):
+            if not any(not is_gain and user in names and covers(at, place) for is_gain, names, _, at in claims):
+                return f'lost {had[0] - has[0]}'
+        if removing and OWNERS in text and OWNS.get(place) == user:
+            removing = False
+        # By the names of the folders that are opened.
+        if gains == {'x'} and re.search(rf'pass through [^.]*“{place.rpartition("/")[2]}”', text):
+            gains = set()
+        if not gains and not removing:
+            return None
+        # What is said of the place itself, or of the nearest folder above it.
+        own = sorted((claim for claim in claims if user in claim[1] and covers(claim[3], place)), key=lambda one: len(one[3]))
+        if not own:
+            return f'got {gains}, which wasn’t said'
+        level = own[-1][2]
+        if level in VAGUE:
+            return None
+        if level == 'can also remove it':
+            return f'got {gains}, beyond removing it' if gains or place != own[-1][3] else None
+        if level.endswith(' and remove it'):
+            level, removing = level.removesuffix(' and remove it'), removing and place != own[-1][3]
+        # 'reads, adds and changes; removes only what they added'
+        if level == 'can add and change' and OWNS.get(place) == user:
+            removing = False
+        # On a document, D says nothing.
+        beyond = gains - set('' if level.startswith('no access any more') else SAID[level]) - set('D' if place in OWNS else '')
+        if beyond or (removing and level not in REMOVING):
+            return f'got {gains}, removes: {has[1]}, beyond “{level}”'
+        return None
+
     def judge(self, path, text, lines, before, after):
-        claims = self.claims(lines)
-        # What the sentence says of one person isn't said twice.
-        subject = re.search(r'(\w+)(?: can then | goes from “)', text)
-        said = {name for is_gain, names, *_ in claims if is_gain for name in names}
-        moved = {name for is_gain, names, words, _ in claims if not is_gain and 'no access' not in words for name in names}
-        lost = {name for is_gain, names, *_ in claims if not is_gain for name in names}
-        if subject and subject[1] in USERS:
-            said.add(subject[1])
-        for (user, place), (rights, removes) in after.items():
-            had, removed = before[user, place]
-            gains = (rights - had) | ({'removes'} if removes and not removed else set())
-            # Of many who are let pass, some are only counted.
-            if (gains == {'removes'} and OWNERS in text) or (gains == {'x'} and ' pass through ' in text):
-                continue
-            if gains and user not in said | moved:
-                return f'{user} got {gains} at {place}, which wasn’t said'
-            if (had - rights or (removed and not removes)) and user not in lost:
-                return f'{user} lost {had - rights} at {place}, which wasn’t said'
-        for is_gain, names, level, place in claims:
-            # On a document, D says nothing.
-            idle = 'D' if (place or path).endswith('doc') else ''
-            for name in names:
-                if is_gain and level in SAID and (name, place or path) in after:
-                    more = after[name, place or path][0] - set(SAID[level] + idle)
-                    if more:
-                        return f'{name} has {more} at {place or path} beyond “{level}”'
+        claims = self.claims(path, text, lines)
+
+        # Whoever has no row is one of all others.
+        def row(told, user, place):
+            return told.get((user, place), told['*', place])
+
+        known = {*USERS, *(user for users in GROUPS.values() for user in users), '*'}
+        for user in {user for user, _ in [*before, *after] if user in known}:
+            for place in PLACES:
+                fault = self.fault_of(claims, text, user, place, row(before, user, place), row(after, user, place))
+                if fault:
+                    return f'{user} at {place}: {fault}'
         return None
 
     def one(self):

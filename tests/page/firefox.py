@@ -1,8 +1,10 @@
 """A headless Firefox by its own protocol, Marionette, since Debian has no geckodriver. It answers to the calls of selenium's
 driver and elements that the plays use."""
 
+import base64
 import json
 import os
+import re
 import socket
 import subprocess
 import time
@@ -19,7 +21,21 @@ PREFERENCES = {
     'browser.download.useDownloadDir': True, 'browser.download.always_ask_before_handling_new_types': False,
     'browser.helperApps.neverAsk.saveToDisk': 'application/octet-stream', 'network.auth.confirmAuth.enabled': False,
     'network.http.prompt-temp-redirect': False, 'browser.newtabpage.enabled': False, 'remote.prefs.recommended': True,
+    'devtools.console.stdout.content': True,
 }
+
+
+SIZE = """
+for (const [name, length] of [['width', arguments[0]], ['height', arguments[1]]]) {
+  for (const word of [name, `min-${name}`, `max-${name}`]) gBrowser.selectedBrowser.style.setProperty(word, `${length}px`);
+}
+"""
+
+THROWN = """
+return Services.console.getMessageArray().filter((one) => one instanceof Ci.nsIScriptError
+  && !(one.flags & Ci.nsIScriptError.warningFlag) && one.sourceName.startsWith(arguments[0]))
+  .map((one) => one.errorMessage);
+"""
 
 
 def has_firefox():
@@ -50,6 +66,14 @@ class Element:
     def text(self):
         return self.ask('WebDriver:GetElementText')
 
+    @property
+    def accessible_name(self):
+        return self.ask('WebDriver:GetComputedLabel')
+
+    @property
+    def aria_role(self):
+        return self.ask('WebDriver:GetComputedRole')
+
 
 class Driver:
     def __init__(self, folder, port):
@@ -59,7 +83,8 @@ class Driver:
             file.writelines(f'user_pref({json.dumps(name)}, {json.dumps(value)});\n' for name, value in preferences.items())
         with open(f'{folder}/firefox.log', 'wb') as log:
             self.process = subprocess.Popen(
-                [found('firefox-esr', 'firefox'), '--headless', '--marionette', '--no-remote', '--profile', f'{folder}/profile'],
+                [found('firefox-esr', 'firefox'), '--headless', '--marionette', '--remote-allow-system-access', '--no-remote',
+                 '--profile', f'{folder}/profile'],
                 stdin=subprocess.DEVNULL, stdout=log, stderr=log, env={**os.environ, 'HOME': folder, 'MOZ_DISABLE_CONTENT_SANDBOX': '1'})
         self.socket, self.rest, self.count = self.connected(port), b'', 0
         self.told()
@@ -116,6 +141,14 @@ class Driver:
     def execute_async_script(self, text, *words):
         return self.ask('WebDriver:ExecuteAsyncScript', script=text, args=[self.given(one) for one in words])
 
+    def in_browser(self, text, *words):
+        """A script of the browser itself, beside any page."""
+        self.ask('Marionette:SetContext', value='chrome')
+        try:
+            return self.execute_script(text, *words)
+        finally:
+            self.ask('Marionette:SetContext', value='content')
+
     def given(self, word):
         return {REFERENCE: word.number} if isinstance(word, Element) else word
 
@@ -153,12 +186,19 @@ class Firefox(Browser):
         os.makedirs(f'{folder}/downloads')
         self.base = base
         self.downloads = f'{folder}/downloads'
+        self.log = f'{folder}/firefox.log'
         self.driver = Driver(folder, port)
         scheme, rest = base.split('//')
         self.driver.get(f'{scheme}//{user}:{password}@{rest}/me')
 
+    def type(self, *keys):
+        presses = [{'type': word, 'value': key} for key in ''.join(keys) for word in ('keyDown', 'keyUp')]
+        self.driver.ask('WebDriver:PerformActions', actions=[{'type': 'key', 'id': 'keys', 'actions': presses}])
+
     def resize(self, width, height):
-        self.driver.ask('WebDriver:SetWindowRect', width=width, height=height)
+        """The part of the window that has the page, since a whole window isn't as narrow as a telephone."""
+        self.driver.in_browser(SIZE, width, height)
+        self.until(lambda: self.script('return innerWidth') == width, f'{width} px')
 
     def downloaded(self, name):
         """It makes an empty file first, and writes into another one beside it."""
@@ -167,5 +207,18 @@ class Firefox(Browser):
                    'a download')
         return super().downloaded(name)
 
+    def dark(self, dark=True):
+        self.driver.in_browser("Services.prefs.setIntPref('layout.css.prefers-color-scheme.content-override', arguments[0])",
+                               0 if dark else 1)
+
+    def picture(self, path):
+        self.until(lambda: not self.all('.notice.good'), 'no message')
+        with open(path, 'wb') as file:
+            file.write(base64.b64decode(self.driver.ask('WebDriver:TakeScreenshot', full=False)))
+
     def errors(self):
-        return []
+        """Exceptions that nothing caught, and what a page wrote as an error."""
+        with open(self.log, encoding='utf-8', errors='replace') as log:
+            # What is the browser's own has a word before it.
+            written = [line for line in log if re.match(r'console\.error: [("\[{]', line)]
+        return self.driver.in_browser(THROWN, self.base) + written

@@ -58,6 +58,12 @@ class Lasting:
         assert alice.script("return document.querySelector('#uploads').scrollTop") > 100
         # But for the width of the panel's border.
         assert abs(before['top'] - after['top']) <= 1, (before, after)
+        # At another place it folds to its head, and shows the rest again on demand.
+        alice.script("location.hash = '#/'")
+        alice.until(lambda: alice.texts('h1') == ['All documents'] and not alice.all('.uploads li'), 'the head alone')
+        assert alice.texts('.uploads .count') == ['25 of 25']
+        alice.press('Details', '.uploads')
+        assert len(alice.all('.uploads li')) == 25
         alice.press('Close', '.uploads')
         for path in paths[:-1]:
             self.ask('DELETE', f'/object/panel/{urllib.request.quote(path.split("/")[-1])}')

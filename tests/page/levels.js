@@ -147,6 +147,12 @@ Promise.all(names.map((name) => import(`${base}/${name}`))).then(([lists, judgin
     { day: '2027-05-31', asker: 'OFFICE\\alice' }))[1], 'A:g:until.2027-05-31.read.g.a+2Bb+40c@OFFICE-5Calice:');
   const past = list('list:a', 'A:g:ended.2027-06-01.read.u.eve@alice:', 'A:g:until.2027-13-31.read.u.eve@alice:');
   equal('ended', readLevels(past, 'folder').ended.map(({ who, day }) => [who, day]), [['eve', '2027-06-01']]);
+  const until = 'A:g:until.2027-05-31.read.u.eve@alice:';
+  const endsIn = (...lines) => readLevels(list('list:a', ...lines), 'folder');
+  equal('ends by itself', endsIn('A:fd:eve:rxtc', until).rows.map(({ ends }) => ends), [true]);
+  equal('changed since', endsIn(`A:fd:eve:${LETTERS}`, until).rows.map(({ ends }) => ends), [false]);
+  equal('a day alone', endsIn(until, 'A:fdg:eve:rxtc').loose.map(({ who, day }) => [who, day]), [['eve', '2027-05-31']]);
+  equal('none alone', endsIn('A:fd:eve:rxtc', until, 'A:g:ended.2027-06-01.read.u.bob@alice:').loose, []);
   equal('no day is no date', levelsOf(past), ['until.2027-13-31.read.u.eve@alice custom']);
   equal('a name too long for a date', withLevel(list('list:a'), 'folder', user('e'.repeat(60)), 'read', false,
     { day: '2027-05-31', asker: 'alice' }), null);
@@ -182,7 +188,7 @@ Promise.all(names.map((name) => import(`${base}/${name}`))).then(([lists, judgin
       : entryOf(`${entry.type}:I${entry.flags}:${entry.who}:${entry.mask}`)));
     return { auto: true, protect: false, entries };
   };
-  const seen = { simple: 0 };
+  const seen = { simple: 0, changed: 0 };
   const tryOne = () => {
     const kind = random(4) === 0 ? 'document' : 'folder';
     const before = atRandom(kind);
@@ -208,7 +214,41 @@ Promise.all(names.map((name) => import(`${base}/${name}`))).then(([lists, judgin
         printList(before)}${printList(after)}`);
     }
   };
-  for (let count = 0; count < given.count; count += 1) tryOne();
+  // One who is there gets another level, or none: again nobody else's rights change.
+  const isMeantBy = ({ who, isGroup }, caller) => who.endsWith('@')
+    || (isGroup ? caller.groups.includes(who) : caller.user === who);
+  const changeOne = () => {
+    const kind = random(4) === 0 ? 'document' : 'folder';
+    const before = atRandom(kind);
+    const rows = readLevels(before, kind).rows.filter(({ inherited }) => !inherited);
+    if (whyNot(before, kind) !== null || rows.length === 0) return;
+    const row = pick(rows);
+    const isPass = row.level === 'pass';
+    // As the menu of a line has them.
+    const forms = kind === 'folder' ? FOLDER.filter((one) => one !== 'pass') : ['read', 'change', 'manage'];
+    const level = isPass ? null : pick([...forms, null]);
+    const after = withLevel(before, kind, row, level, isPass);
+    // Whoever has more from above, or something that isn't a level, stays as they are.
+    if (after === null) return;
+    seen.changed += 1;
+    const has = readLevels(after, kind).rows.filter((one) => !one.inherited && one.key === row.key
+      && (one.level === 'pass') === isPass).map((one) => one.level);
+    if (String(has) !== String(level === null ? [] : [level])) {
+      told.push(`${row.who} has ${has}, not ${level}\n${printList(before)}${printList(after)}`);
+    }
+    for (const caller of callers.filter((one) => !isMeantBy(row, one))) {
+      const [had, now] = [before, after].map((one) => String(powers(one.entries, kind, caller)));
+      if (had !== now) {
+        told.push(`${JSON.stringify(caller)} had ${had}, then ${now}: ${row.who} gets ${level}\n${
+          printList(before)}${printList(after)}`);
+      }
+    }
+  };
+  for (let count = 0; count < given.count; count += 1) {
+    tryOne();
+    changeOne();
+  }
+  if (seen.changed * 5 < given.count) told.push(`only ${seen.changed} of ${given.count} were changed`);
   if (seen.simple * 2 < given.count) told.push(`only ${seen.simple} of ${given.count} were simple`);
 
   // The rule of deleting: the object's own list, then its folder's, then the right to add.
@@ -244,6 +284,24 @@ Promise.all(names.map((name) => import(`${base}/${name}`))).then(([lists, judgin
   equal('read further down', at(reader), [['/f/board', 'read'], ['/f/loose/plan', 'change']]);
   equal('meant further down', effects.meantIn(nodes, [{ user: 'kim', groups: [] }, { user: 'bob', groups: [] }])
     .map((one) => one.user), ['kim']);
+  // Whoever is let pass gets what other lines gave already.
+  const kimAlone = { user: 'kim', groups: [], name: 'kim' };
+  const way = (text) => [{ list: list('list:a', text), object }];
+  const side = (target, folder, kind) => ({
+    target: { entries: list('list:a', ...target).entries, object, kind },
+    folder: { entries: list('list:a', ...folder).entries, object },
+  });
+  const differs = (one, other, ...ways) => effects.changesOf(one, other, [kimAlone], ways)
+    .map(({ from, to, more, isRemoval, alsoRemoves }) => [from, to, more, isRemoval, alsoRemoves]);
+  const managed = side([`A:fd:kim:${LETTERS}`], [], 'folder');
+  equal('let pass', differs(managed, managed, way('A::alice:x'), way('A::kim:x')),
+    [['none', 'manage', true, false, false]]);
+  equal('still barred', differs(managed, managed, way('A::alice:x'), way('A::alice:x')), []);
+  const read = side(['A::kim:rxtc'], ['A:fd:kim:rwaxDtc'], 'document');
+  equal('read, and removed', differs(read, read, way('A::alice:x'), way('A::kim:x')),
+    [['none', 'read', true, false, true]]);
+  equal('removed as well', differs(side(['A::kim:rxtc'], ['A:fd:kim:rxtc'], 'document'), read, [], []),
+    [['read', 'read', true, true, true]]);
   equal('barred above', at(reader, [[{ list: barred, object }], [{ list: barred, object }]]), []);
   finish(told);
 }).catch((fault) => finish([String(fault?.stack ?? fault)]));

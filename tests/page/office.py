@@ -95,7 +95,7 @@ class Office(Documents, Dropping, Handling, Readers, Lists, Warned, Recommended,
         alice.resize(1200, 900)
         alice.write('.picker input', 'dana')
         alice.press_choice('as a person')
-        alice.until(lambda: alice.all('.adding .outcome'), 'what comes of it')
+        alice.until(lambda: alice.all('.adding .outcome[aria-busy=false]'), 'what comes of it')
         alice.picture(f'{self.pictures}/share.png')
         alice.resize(1200, 1000)
         alice.open('#/contracts?dacl')

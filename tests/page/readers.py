@@ -88,5 +88,9 @@ class Readers:
         assert 'remove it or move it away' in told.lower(), told
         assert 'By line 1 of its list, from a folder above, which denies it to the user bob.' in told, told
         assert 'By line 2 of its list, from a folder above, which allows it to the group staff.' in told, told
+        # Letters stand in the entry alone, which is told to whoever points at the line.
+        titles = bob.script("return [...document.querySelectorAll('.rights [title]')].map((one) => one.title)")
+        assert 'D:I:bob:waDd' in titles, titles
+        assert not any(word in told for word in ('waDd', 'rxtc', ' (')), told
         bob.open('#/letters?dacl')
         assert 'You may look at this list' in bob.one('.sheet').text and not bob.all('.entries select')

@@ -22,6 +22,18 @@ MANY = 80
 SIZE = 150000
 # So many bytes a second that two documents are sent in a second, until the upload was interrupted.
 SLOW = 300000
+# The second list that is sent waits until 'window.go()'.
+HOLD = """
+const real = window.fetch;
+let count = 0;
+window.fetch = async (target, words) => {
+  count += words?.method === 'PUT' ? 1 : 0;
+  if (words?.method === 'PUT' && count === 2) {
+    await new Promise((resolve) => { Object.assign(window, { held: true, go: resolve }); });
+  }
+  return real(target, words);
+};
+"""
 CHOOSE = "document.querySelector('input.files').hidden = false"
 
 
@@ -176,13 +188,54 @@ class Restarts:
         alice.open('#/many?access')
         alice.write('.picker input', 'kim')
         alice.press_choice('as a person')
-        alice.until(lambda: alice.all('.adding .outcome'), 'what comes of it')
+        alice.until(lambda: alice.all('.adding .outcome[aria-busy=false]'), 'what comes of it')
         self.kill()
         alice.press('Share', '.adding')
         alice.says('The room doesn’t answer. The page tries again for half a minute.')
         self.start()
         alice.says('kim can now read “many” and what is in it')
         assert b'A:fd:kim:rxtc\n' in self.ask('GET', '/dacl/many')
+
+    def list_of(self, path):
+        return self.ask('GET', f'/dacl{path}')
+
+    def share_deep(self):
+        """Shares a document below a folder that bars the way, and holds the second list that is sent."""
+        alice = self.alice
+        alice.open('#/deep/plan?access')
+        alice.write('.picker input', 'lea')
+        alice.press_choice('as a person')
+        alice.until(lambda: alice.all('.adding .outcome[aria-busy=false]'), 'what comes of it')
+        alice.says('Let lea pass through “All documents” and “deep” on the way here', css='.adding')
+        alice.script(HOLD)
+        alice.press('Share', '.adding')
+        alice.until(lambda: alice.script('return window.held === true'), 'the second list')
+        assert b'A::lea:x\n' in self.list_of('/')
+        self.kill()
+        alice.script('window.go()')
+        alice.says('The room doesn’t answer. The page tries again for half a minute.')
+
+    def shared_deep(self):
+        """It ends between the lists that are sent: it goes on once the room is there, and says what stays if it isn't."""
+        alice = self.alice
+        self.ask('POST', '/folder/deep')
+        self.ask('PUT', '/doc/deep/plan', b'x')
+        before = [self.list_of(path) for path in ('/', '/deep', '/deep/plan')]
+        self.share_deep()
+        self.start()
+        alice.says('lea can now read “plan”')
+        assert b'A::lea:x\n' in self.list_of('/deep') and b'A::lea:rxtc\n' in self.list_of('/deep/plan')
+        for path, text in zip(('/', '/deep', '/deep/plan'), before):
+            self.ask('PUT', f'/dacl{path}', text)
+        self.share_deep()
+        alice.until(lambda: any('couldn’t be taken back' in text for text in alice.texts('.notice')), 'what stays', 120)
+        told = alice.texts('.notice')
+        self.start()
+        assert any('“All documents” lets somebody pass through now, which' in text for text in told), told
+        assert any('The room doesn’t answer at the moment' in text for text in told), told
+        alice.script("document.querySelectorAll('.notice').forEach((one) => one.remove())")
+        assert [self.list_of(path) for path in ('/deep', '/deep/plan')] == before[1:]
+        self.ask('PUT', '/dacl/', before[0])
 
     def gone_for_long(self):
         """After half a minute the page gives up, and offers another try: of an upload, of a removal of several, of a
@@ -227,7 +280,6 @@ class Restarts:
         self.kept('/later', made)
         assert self.names('/few') == []
 
-
     def full(self):
         """The front end refuses what adds, as long as the flag of a full room is there. That is said once, with what
         helps, and the rest isn't sent."""
@@ -262,6 +314,7 @@ PLAY = [
     ('the panel of an upload goes by itself', Restarts.goes_by_itself),
     ('an upload while the room is set back', Restarts.set_back),
     ('access while the server restarts', Restarts.shared),
+    ('a server that ends in the middle of that', Restarts.shared_deep),
     ('a server that is gone for long', Restarts.gone_for_long),
     ('a room that is full', Restarts.full),
 ]

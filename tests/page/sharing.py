@@ -14,6 +14,7 @@ import urllib.request
 
 from browser import Browser, Checks
 from deeper import Deeper
+from looking import Looking
 from names import Known
 from people import Names
 from tree import Tree
@@ -21,7 +22,7 @@ from tree import Tree
 ALL = 'rwanNxDtThHdcCoy'
 
 
-class Sharing(Known, Deeper, Tree):
+class Sharing(Known, Deeper, Looking, Tree):
     def __init__(self, folder, front, browser):
         self.folder, self.browser = folder, browser
         self.base = f'http://127.0.0.1:{front}'
@@ -69,7 +70,7 @@ class Sharing(Known, Deeper, Tree):
         alice = self.alice
         alice.write('.picker input', typed)
         alice.press_choice(words)
-        alice.until(lambda: alice.all('.adding .outcome'), 'what comes of it')
+        alice.until(lambda: alice.all('.adding .outcome[aria-busy=false]'), 'what comes of it')
 
     def share(self):
         self.alice.until(lambda: self.alice.one('.adding .primary').get_attribute('disabled') in (None, False, 'false'), 'Share')
@@ -85,7 +86,7 @@ class Sharing(Known, Deeper, Tree):
             menu.value = arguments[2];
             menu.dispatchEvent(new Event('change'));
             return true;""", css, who, value), f'the menu of {who}')
-        alice.until(lambda: alice.all('dialog .outcome'), 'the question')
+        alice.until(lambda: alice.all('dialog .outcome[aria-busy=false]'), 'the question')
 
     def confirm(self, words):
         """The panel is drawn anew once all is sent."""
@@ -167,7 +168,7 @@ class Sharing(Known, Deeper, Tree):
         self.set_level('the group staff', 'remove')
         told = alice.texts('dialog')[0]
         assert 'can also move it to a folder of their own and open it there' in told, told
-        assert 'the protected folder “/letters/board”' in told, told
+        assert 'the folder “/letters/board”, set to “Only these people”: they could make another one in its place' in told, told
         assert 'left as it is: “/letters/board”' in told, told
         alice.press('Cancel', 'dialog')
         alice.until(lambda: not alice.all('dialog'), 'the end of the question')
@@ -185,7 +186,7 @@ class Sharing(Known, Deeper, Tree):
         alice.says('Whoever may add documents here may also remove and rename what others made.', css='.note-of')
         assert not alice.all('.picker') and not alice.all('.holders select')
         alice.press('Let only those remove who are said to')
-        alice.until(lambda: alice.all('dialog .outcome'), 'the question')
+        alice.until(lambda: alice.all('dialog .outcome[aria-busy=false]'), 'the question')
         told = alice.texts('dialog')[0]
         assert 'Loses: the group staff – can add, change and remove now, then can add and change' in told, told
         self.confirm('Keep them in place')
@@ -200,7 +201,7 @@ class Sharing(Known, Deeper, Tree):
         self.panel('/letters/2026')
         before = self.list_of('/letters/2026')
         alice.click(alice.one('.following input'))
-        alice.until(lambda: alice.all('dialog .outcome'), 'the question')
+        alice.until(lambda: alice.all('dialog .outcome[aria-busy=false]'), 'the question')
         assert 'Nobody gains or loses anything' in alice.texts('dialog')[0]
         self.confirm('Only these people')
         assert self.list_of('/letters/2026').startswith('list:ap\n')
@@ -208,7 +209,7 @@ class Sharing(Known, Deeper, Tree):
         assert self.ask('GET', '/folder/letters/2026', user='bob') != ''
         alice.until(lambda: alice.one('.following input').get_attribute('checked') not in (None, False), 'the box')
         alice.click(alice.one('.following input'))
-        alice.until(lambda: alice.all('dialog .outcome'), 'the question')
+        alice.until(lambda: alice.all('dialog .outcome[aria-busy=false]'), 'the question')
         self.confirm('Follow it')
         self.put_list('/letters/2026', 'list:a')
         assert self.list_of('/letters/2026') == before
@@ -267,7 +268,6 @@ class Sharing(Known, Deeper, Tree):
         assert not alice.all('.picker')
         self.ask('DELETE', '/object/odd')
 
-
     def ends(self):
         """A last day is an entry beside the others; a day that is over is refused, and the day goes with the access."""
         alice = self.alice
@@ -290,6 +290,17 @@ class Sharing(Known, Deeper, Tree):
         self.put_list('/letters/2026', 'list:a', 'A:g:ended.2027-06-01.read.u.eve@alice:')
         self.panel('/letters/2026')
         alice.says('The access of eve ended, and was taken back on 1 June 2027.', css='.sharing-view')
+        # What couldn't be taken back is said too: a day that went by, another level by now, and a line that is gone.
+        self.put_list('/letters/2026', 'list:a', 'A:fd:kim:rxtc', 'A:g:until.2020-02-01.read.u.kim@alice:', 'A:fd:zoe:rxtc',
+                      'A:g:until.2999-05-31.manage.u.zoe@alice:', 'A:g:until.2999-05-31.read.u.lea@alice:')
+        self.panel('/letters/2026')
+        for words in ('was to end on 1 February 2020, and isn’t taken back yet',
+                      'was to end on 31 May 2999, but was changed since: it doesn’t end by itself',
+                      'lea was to have access until 31 May 2999, and has none now.'):
+            alice.says(words, css='.sharing-view')
+        self.set_level('kim', 'gone')
+        self.confirm('Remove access')
+        assert [line for line in self.own_of('/letters/2026') if 'kim' in line] == []
         self.put_list('/letters/2026', 'list:a')
 
 
@@ -305,6 +316,7 @@ PLAY = [
     ('another manager changes the list', Sharing.changed_meanwhile),
     ('what the levels can’t say', Sharing.not_by_levels),
     ('people by their names', Sharing.by_name),
+    ('names that are wrong', Sharing.wrong_names),
     ('names alone, without members', Sharing.names_only),
     ('names that came long ago', Sharing.old_names),
     ('names that are none', Sharing.bad_names),
@@ -314,12 +326,20 @@ PLAY = [
     ('what is shared, and isn’t', Sharing.bad_places),
     ('a room that stops in the middle', Sharing.stops),
     ('the way is taken back', Sharing.way_back),
+    ('one folder deep down', Sharing.deep_folder),
+    ('a way that may be needed', Sharing.way_back_unsure),
     ('exceptions further down', Sharing.exceptions),
+    ('a thousand objects further down', Sharing.thousand),
+    ('a look that is stopped', Sharing.stopped_look),
+    ('a look that fails', Sharing.failed_look),
+    ('shared above a thousand objects', Sharing.shared_above),
+    ('a look that nobody waits for', Sharing.unwanted_look),
     ('an access with a last day', Sharing.ends),
     ('by keyboard alone', Sharing.keyboard),
     ('five thousand users', Sharing.many_users),
     ('a list that is full', Sharing.full_list),
-    ('it fits a telephone, light and dark', Sharing.looks),
+    ('it fits a telephone', Sharing.looks),
+    ('light and dark', Sharing.lights),
     ('what a screen reader is told', Sharing.read_aloud),
     ('levels, by the lists of docs and at random', Sharing.level_tests),
 ]
