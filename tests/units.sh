@@ -65,7 +65,7 @@ step() {
 STEP
 }
 
-# STAND/no-start makes a start fail, STAND/no-answer a server that never gets so far as to listen, STAND/no-tool a tool of that
+# STAND/socket names the socket at which a server listens, in the place of a port. STAND/no-start makes a start fail, STAND/no-answer a server that never gets so far as to listen, STAND/no-tool a tool of that
 # name, and STAND/no-word the program at that subcommand, after a part of its output. What is in STAND/at-TOOL is done once, before
 # that tool does anything.
 write_tool() {
@@ -114,7 +114,12 @@ serve() {
   : >"$STAND/out"
   user=(setpriv "--reuid=$STAND_USER" "--regid=$STAND_USER" --clear-groups)
   [ "$STAND_USER" != "$(id -u)" ] || user=()
-  setsid "${user[@]}" "$STAND_ROOMS" serve "$STAND_FILE" --port "$port" --count 1000000 </dev/null >"$STAND/out" 2>"$STAND/err" &
+  place=(--port "$port")
+  if [ -e "$STAND/socket" ]; then
+    place=(--socket "$(<"$STAND/socket")")
+    rm -f "${place[1]}"
+  fi
+  setsid "${user[@]}" "$STAND_ROOMS" serve "$STAND_FILE" "${place[@]}" --count 1000000 </dev/null >"$STAND/out" 2>"$STAND/err" &
   pid=$!
   echo "$pid" >"$STAND/pid"
   until grep -q '^listening ' "$STAND/out" || ! alive; do sleep 0.02; done

@@ -49,10 +49,11 @@ def _look_at(words: list[str]) -> None:
         raise Refused(f"no lists: {lists} doesn't begin as what rooms dump prints")
 
 
-def run(given: argparse.Namespace, caller: Caller) -> int:
+def run(given: argparse.Namespace, caller: Caller, at_socket: str = "") -> int:
     _look_at(given.words)
     address, lists, giver, taker = given.words
-    client = Client(address, caller, "the same command goes on where this one stopped", True)
+    client = Client(address, caller, "the same command goes on where this one stopped", True,
+                    at_socket)
     if not knows(lists, taker):
         say(f"{taker} owns nothing and is in no group, as {lists} says: is the name right?")
     mine = [path for owner, path in objects(lists) if owner == giver]

@@ -91,7 +91,7 @@ def _hand_over(room: Room, lists: bytes, name: str, heir: str) -> int:
         file.flush()
         given = argparse.Namespace(words=[f"http://127.0.0.1:{room.port}", file.name, name, heir],
                                    dry_run=False)
-        return handover.run(given, Caller(as_user=heir))
+        return handover.run(given, Caller(as_user=heir), room.listens)
 
 
 def run(given: argparse.Namespace) -> int:
