@@ -109,12 +109,31 @@ module _ (old begun mid end : State) (begins : Begins old begun)
     pub not_committed : (fault : OpenFault) → IsFailure fault → (why : Error)
         → (HasCleanDisk end → FailsToCommit mid end why) → Migrates old end (Err (Opening fault))
     not_committed fault fails why err =
-        grind (arith, nat_tests, answers, crash, failed_back, open_first', open_mid, refuses, says,
-        since')
+        grind (
+          arith,
+          nat_tests,
+          answers,
+          crash,
+          failed_back,
+          open_first',
+          open_mid,
+          refuses,
+          says,
+          since',
+        )
 
     pub committed : IsSettled end
         → (HasCleanDisk end → IsTrue mid.in_transaction × Shows mid end mid.now mid.now false
         × KeepsCounts mid end × (end.marks ≡ [])) → Migrates old end (Ok tt)
     committed settles ok =
-        grind (arith, nat_tests, answers, crash, empty_mid, open_first', shown_first, since',
-        upgraded)
+        grind (
+          arith,
+          nat_tests,
+          answers,
+          crash,
+          empty_mid,
+          open_first',
+          shown_first,
+          since',
+          upgraded,
+        )
