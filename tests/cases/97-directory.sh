@@ -23,7 +23,7 @@ if ! {
   entry ou=more,dc=example,dc=net organizationalUnit 'ou: more'
   entry cn=twice,ou=more,dc=example,dc=net posixGroup 'cn: twice' 'gidNumber: 1002'
 } | load_directory || ! start_directory; then
-  skip 'groups of a directory' "$why"
+  skip 'groups of a directory' "${why-no slapd, ldap-utils or openssl}"
   return
 fi
 # slapd sets memberOf when members are set and are there, which what it was loaded with wasn't.
@@ -398,7 +398,7 @@ ldap=
 { for ((n = 10000; n < 20000; n++)); do person "user$n" x; done
   echo "dn: $(group_dn all)"; printf '%s\n' 'objectClass: groupOfNames' 'cn: all'
   for ((n = 10000; n < 20000; n++)); do echo "member: uid=user$n,ou=people,dc=example,dc=net"; done
-  echo; } | load_directory && start_directory || fail 'ten thousand members' "$why"
+  echo; } | load_directory && start_directory || fail 'ten thousand members' "${why-}"
 where >directory
 asked 'MOST=9' 'group all = all'
 began=$SECONDS
