@@ -61,7 +61,11 @@ def side_by_side(crates, work):
     left = sorted(crates, key=lambda it: -chain[it])
     with ThreadPoolExecutor(lanes) as pool:
         while left or running:
-            ready = [it for it in left if all(given.get(low) is True for low in it.below() if low in chain)]
+            ready = [
+                it
+                for it in left
+                if all(given.get(low) is True for low in it.below() if low in chain)
+            ]
             idle = lanes - sum(jobs for _, jobs in running.values())
             for at, crate in enumerate(ready):
                 taken = sum(need(it) for it, _ in running.values())
@@ -87,4 +91,8 @@ def need(crate):
 
 def free_memory():
     with open("/proc/meminfo", encoding="ascii") as lines:
-        return next(1024 * int(it.split()[1]) for it in lines if it.startswith("MemAvailable:")) * 9 // 10
+        return (
+            next(1024 * int(it.split()[1]) for it in lines if it.startswith("MemAvailable:"))
+            * 9
+            // 10
+        )

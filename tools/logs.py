@@ -1,5 +1,4 @@
 """What the logs of tools/build and of .ci/run say of their times."""
-import os
 import re
 import subprocess
 import textwrap

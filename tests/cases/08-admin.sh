@@ -18,6 +18,10 @@ fi
 if has flake8; then
   flake8 --isolated --max-line-length 100 "$contrib/rooms_admin" "$contrib/install" "$contrib/rooms-admin" "$here/admin/test_pure.py" >"$work/out" 2>&1
   holds "flake8: $(head -n 5 "$work/out")" [ "$?" = 0 ]
+  # (tools/kit.py may leave no byte code behind, so a line stands before the imports)
+  mapfile -t tools < <(grep -lx '#!/usr/bin/env python3' "$here"/../tools/*)
+  flake8 --isolated --max-line-length 100 --extend-ignore E203,E402,E731 "${tools[@]}" "$here/../tools/"*.py >"$work/out" 2>&1
+  holds "flake8 of tools: $(head -n 5 "$work/out")" [ "$?" = 0 ]
 else
   skip 'style' 'flake8 is missing'
 fi
