@@ -104,8 +104,8 @@ fn note_deletion<K: Keep>(
     note_check(alloc, keep, asker, &second)
 }
 
-/// The deletion rule on an object and its folder. The records of its two checks, of DELETE on
-/// the object and of the right that decides on the folder, are noted.
+/// The deletion rule on an object and its folder. The records of its two checks, of DELETE on the
+/// object and of the right that decides on the folder, are noted.
 pub fn check_deletion<K: Keep>(
     alloc: Global,
     keep: &mut K,

@@ -13,8 +13,8 @@ use room_machine::Reason;
 use room_rows::{Keep, Node, Path};
 use std::alloc::Global;
 
-/// The walk to the folder of the path's last name, and what has that name in it. The folder has
-/// to grant EXECUTE. The path isn't the root's. Faults are those of `walk_along`.
+/// The walk to the folder of the path's last name, and what has that name in it. The folder has to
+/// grant EXECUTE. The path isn't the root's. Faults are those of `walk_along`.
 pub fn to_spot<K: Keep>(
     alloc: Global,
     keep: &mut K,
@@ -30,8 +30,8 @@ pub fn to_spot<K: Keep>(
     spot_in(alloc, keep, asker, path, Found { node, depth })
 }
 
-/// The walk to an object that has to be there, and to its folder. The path isn't the root's.
-/// Faults are those of `walk_along`.
+/// The walk to an object that has to be there, and to its folder. The path isn't the root's. Faults
+/// are those of `walk_along`.
 pub fn to_pair<K: Keep>(
     alloc: Global,
     keep: &mut K,

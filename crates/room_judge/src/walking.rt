@@ -183,8 +183,8 @@ pub fn check_kind<K: Keep>(
     check(alloc, keep, asker, path, found, mask)
 }
 
-/// The walk to the object at the path, which has to be of this kind, and a check of these bits
-/// on it. Faults are those of `walk_along`.
+/// The walk to the object at the path, which has to be of this kind, and a check of these bits on
+/// it. Faults are those of `walk_along`.
 pub fn reach_kind<K: Keep>(
     alloc: Global,
     keep: &mut K,
