@@ -10,22 +10,25 @@ ghost use Rattle.room_machine.specs.declared.request.Request.TheVariants.{Can};
 
 use room_ace::Mask;
 use room_eval::{Ruling, ruling};
-use room_judge::{Asker, Halt, Walker};
+use room_judge::{Asker, Halt, walk_to};
 use room_machine::{Reply, Rulings};
 use room_rows::{Keep, Node, Path};
 use std::alloc::{AllocError, Global};
 
 /// The ruling on each asked bit for the caller.
-pub(crate) fn can<K: Keep>(walk: &mut Walker<'_, K>, path: &Path, mask: Mask) -> Result<Reply, Halt>
-    ensures same_keep { walk.new.keep.ghost_name ≡ walk.old.keep.ghost_name }
-    ensures same_asker { walk.new.asker.now ≡ walk.old.asker.now }
-    ensures done { Tries K.Keep walk.old.keep.now walk.new.keep.now result IsDamaged
-        (Serves walk.old.asker.now (Can path.now mask)) }
-    ensures counted { K.reads walk.new.keep.now
-        ≤ K.reads walk.old.keep.now + (length path.now + 1) }
+pub(crate) fn can<K: Keep>(
+    alloc: Global,
+    keep: &mut K,
+    asker: &Asker,
+    path: &Path,
+    mask: Mask,
+) -> Result<Reply, Halt>
+    ensures done { Tries K.Keep keep.old keep.new result IsDamaged
+        (Serves asker.now (Can path.now mask)) }
+    ensures counted { K.reads keep.new ≤ K.reads keep.old + (length path.now + 1) }
 {
-    let node = walk.walk_to(path)?;
-    Ok(rulings_reply(walk.alloc, walk.asker, &node, mask)?)
+    let node = walk_to(alloc, keep, asker, path)?;
+    Ok(rulings_reply(alloc, asker, &node, mask)?)
 }
 
 // The ruling of the object's dacl on each of these bits.

@@ -17,7 +17,7 @@ ghost use Rattle.room_inherit.specs.Spread.{Holds};
 use crate::writing::put_bytes;
 use room_ace::{ListFlags, MOST_BYTES, Mask, Name, ObjKind, Owners};
 use room_inherit::pass;
-use room_judge::{Asker, Found, Halt, Under, Walker, refusal};
+use room_judge::{Asker, Found, Halt, Under, check, check_kind, refusal, to_spot, walk_to};
 use room_machine::{Reason, Reply};
 use room_rows::{Bytes, Held, Keep, NewNode, Node, Path, Text};
 use std::alloc::{AllocError, Global};
@@ -32,193 +32,199 @@ struct NewChild<'a> {
 
 /// Gives a document these bytes, or makes a new one.
 pub(crate) fn put<K: Keep>(
-    walk: &mut Walker<'_, K>,
+    alloc: Global,
+    keep: &mut K,
+    asker: &Asker,
     path: &Path,
     bytes: &Bytes,
 ) -> Result<Reply, Halt>
-    ensures same_keep { walk.new.keep.ghost_name ≡ walk.old.keep.ghost_name }
-    ensures same_asker { walk.new.asker.now ≡ walk.old.asker.now }
-    ensures done { TriesUpTo K.Keep walk.old.keep.now walk.new.keep.now result OneAndBoth
-        IsDamaged (Serves walk.old.asker.now (Put path.now bytes.now)) }
-    ensures counted { K.reads walk.new.keep.now
-        ≤ K.reads walk.old.keep.now + (length path.now + 1) }
+    ensures done { TriesUpTo K.Keep keep.old keep.new result OneAndBoth IsDamaged
+        (Serves asker.now (Put path.now bytes.now)) }
+    ensures counted { K.reads keep.new ≤ K.reads keep.old + (length path.now + 1) }
 {
     match path.split_last() {
-        None => put_root(walk, path, bytes),
-        Some((name, _)) => put_below(walk, path, name, bytes),
+        None => put_root(alloc, keep, asker, path, bytes),
+        Some((name, _)) => put_below(alloc, keep, asker, path, name, bytes),
     }
 }
 
 // Puts the root. A folder is refused, as anywhere.
-fn put_root<K: Keep>(walk: &mut Walker<'_, K>, path: &Path, bytes: &Bytes) -> Result<Reply, Halt>
+fn put_root<K: Keep>(
+    alloc: Global,
+    keep: &mut K,
+    asker: &Asker,
+    path: &Path,
+    bytes: &Bytes,
+) -> Result<Reply, Halt>
     requires { path.now ≡ [] }
-    ensures same_keep { walk.new.keep.ghost_name ≡ walk.old.keep.ghost_name }
-    ensures same_asker { walk.new.asker.now ≡ walk.old.asker.now }
-    ensures done { TriesUpTo K.Keep walk.old.keep.now walk.new.keep.now result OneAndBoth
-        IsDamaged (Serves walk.old.asker.now (Put path.now bytes.now)) }
-    ensures counted { K.reads walk.new.keep.now
-        ≤ K.reads walk.old.keep.now + (length path.now + 1) }
+    ensures done { TriesUpTo K.Keep keep.old keep.new result OneAndBoth IsDamaged
+        (Serves asker.now (Put path.now bytes.now)) }
+    ensures counted { K.reads keep.new ≤ K.reads keep.old + (length path.now + 1) }
 {
-    let node = walk.walk_to(path)?;
-    put_there(walk, path, &Found { node, depth: 0 }, bytes)
+    let node = walk_to(alloc, keep, asker, path)?;
+    put_there(alloc, keep, asker, path, &Found { node, depth: 0 }, bytes)
 }
 
 // Puts the document at a path with a last name.
 fn put_below<K: Keep>(
-    walk: &mut Walker<'_, K>,
+    alloc: Global,
+    keep: &mut K,
+    asker: &Asker,
     path: &Path,
     name: &Text,
     bytes: &Bytes,
 ) -> Result<Reply, Halt>
     requires { IsNameOf path.now name.now }
-    ensures same_keep { walk.new.keep.ghost_name ≡ walk.old.keep.ghost_name }
-    ensures same_asker { walk.new.asker.now ≡ walk.old.asker.now }
-    ensures done { TriesUpTo K.Keep walk.old.keep.now walk.new.keep.now result OneAndBoth
-        IsDamaged (Serves walk.old.asker.now (Put path.now bytes.now)) }
-    ensures counted { K.reads walk.new.keep.now
-        ≤ K.reads walk.old.keep.now + (length path.now + 1) }
+    ensures done { TriesUpTo K.Keep keep.old keep.new result OneAndBoth IsDamaged
+        (Serves asker.now (Put path.now bytes.now)) }
+    ensures counted { K.reads keep.new ≤ K.reads keep.old + (length path.now + 1) }
 {
-    let spot = walk.to_spot(path)?;
+    let spot = to_spot(alloc, keep, asker, path)?;
     let Under { folder, child } = spot;
     let depth = path.names().len();
     match child {
-        Some(node) => put_there(walk, path, &Found { node, depth }, bytes),
+        Some(node) => put_there(alloc, keep, asker, path, &Found { node, depth }, bytes),
         None => {
             let kind = ObjKind::Document;
-            put_new(walk, path, &folder, &NewChild { name, kind, bytes })
+            let document = NewChild { name, kind, bytes };
+            put_new(alloc, keep, asker, path, &folder, &document)
         }
     }
 }
 
 // Replaces the bytes of what is there, if it is a document and there aren't too many.
 fn put_there<K: Keep>(
-    walk: &mut Walker<'_, K>,
+    alloc: Global,
+    keep: &mut K,
+    asker: &Asker,
     path: &Path,
     target: &Found,
     bytes: &Bytes,
 ) -> Result<Reply, Halt>
-    ensures same_keep { walk.new.keep.ghost_name ≡ walk.old.keep.ghost_name }
-    ensures same_asker { walk.new.asker.now ≡ walk.old.asker.now }
-    ensures done { TriesUpTo K.Keep walk.old.keep.now walk.new.keep.now result
+    ensures done { TriesUpTo K.Keep keep.old keep.new result
         (Provided (Holds target.now.node) OneWrite) IsUnreadable
-        (λ old outcome new. IsJudgedAndDone walk.old.asker.now (no_folder
-        (found_site path.now target.now) ∷ Check (found_site path.now target.now) (write_data ∷ [])
-        ∷ not_over path.now (length bytes.now) ∷ []) Done
-        (SetsBody target.now.node.id bytes.now) old (replied outcome) new) }
-    ensures counted { K.reads walk.new.keep.now ≤ K.reads walk.old.keep.now }
+        (λ old outcome new. IsJudgedAndDone asker.now (no_folder (found_site path.now target.now)
+        ∷ Check (found_site path.now target.now) (write_data ∷ []) ∷ not_over path.now
+        (length bytes.now) ∷ []) Done (SetsBody target.now.node.id bytes.now) old (replied outcome)
+        new) }
+    ensures counted { K.reads keep.new ≤ K.reads keep.old }
 {
-    walk.check_kind(path, target, ObjKind::Document, Mask::write_data())?;
-    put_bytes(walk, path, target.node.id, bytes.as_slice())
+    let mask = Mask::write_data();
+    check_kind(alloc, keep, asker, path, target, ObjKind::Document, mask)?;
+    put_bytes(alloc, keep, path, target.node.id, bytes.as_slice())
 }
 
 // Makes a document in the folder, if it hasn't too many bytes.
 fn put_new<K: Keep>(
-    walk: &mut Walker<'_, K>,
+    alloc: Global,
+    keep: &mut K,
+    asker: &Asker,
     path: &Path,
     folder: &Found,
     child: &NewChild<'_>,
 ) -> Result<Reply, Halt>
-    ensures same_keep { walk.new.keep.ghost_name ≡ walk.old.keep.ghost_name }
-    ensures same_asker { walk.new.asker.now ≡ walk.old.asker.now }
-    ensures done { TriesUpTo K.Keep walk.old.keep.now walk.new.keep.now result
-        (Provided (CanAdd (new_child walk.old.asker.now.caller child.now.kind folder.now.node
+    ensures done { TriesUpTo K.Keep keep.old keep.new result
+        (Provided (CanAdd (new_child asker.now.caller child.now.kind folder.now.node
         child.now.name.now child.now.bytes.now)) OneWrite) IsUnreadable
-        (λ old outcome new. IsJudgedAndDone walk.old.asker.now (Check
-        (found_site path.now folder.now) (write_data ∷ []) ∷ not_over path.now
-        (length child.now.bytes.now) ∷ []) Made (IsMade (new_child walk.old.asker.now.caller
-        child.now.kind folder.now.node child.now.name.now child.now.bytes.now)) old
-        (replied outcome) new) }
-    ensures counted { K.reads walk.new.keep.now ≤ K.reads walk.old.keep.now }
+        (λ old outcome new. IsJudgedAndDone asker.now (Check (found_site path.now folder.now)
+        (write_data ∷ []) ∷ not_over path.now (length child.now.bytes.now) ∷ []) Made (IsMade
+        (new_child asker.now.caller child.now.kind folder.now.node child.now.name.now
+        child.now.bytes.now)) old (replied outcome) new) }
+    ensures counted { K.reads keep.new ≤ K.reads keep.old }
 {
-    walk.check(path, folder, Mask::write_data())?;
+    check(alloc, keep, asker, path, folder, Mask::write_data())?;
     let too_many = child.bytes.len() > MOST_BYTES;
     if too_many {
-        return Err(refusal(walk.alloc, path, path.names().len(), Reason::TooLarge));
+        return Err(refusal(alloc, path, path.names().len(), Reason::TooLarge));
     }
-    add_child(walk, &folder.node, child)
+    add_child(alloc, keep, asker, &folder.node, child)
 }
 
 /// Makes a folder.
-pub(crate) fn make_folder<K: Keep>(walk: &mut Walker<'_, K>, path: &Path) -> Result<Reply, Halt>
-    ensures same_keep { walk.new.keep.ghost_name ≡ walk.old.keep.ghost_name }
-    ensures same_asker { walk.new.asker.now ≡ walk.old.asker.now }
-    ensures done { TriesUpTo K.Keep walk.old.keep.now walk.new.keep.now result OneAndBoth
-        IsDamaged (Serves walk.old.asker.now (MakeFolder path.now)) }
-    ensures counted { K.reads walk.new.keep.now
-        ≤ K.reads walk.old.keep.now + (length path.now + 1) }
+pub(crate) fn make_folder<K: Keep>(
+    alloc: Global,
+    keep: &mut K,
+    asker: &Asker,
+    path: &Path,
+) -> Result<Reply, Halt>
+    ensures done { TriesUpTo K.Keep keep.old keep.new result OneAndBoth IsDamaged
+        (Serves asker.now (MakeFolder path.now)) }
+    ensures counted { K.reads keep.new ≤ K.reads keep.old + (length path.now + 1) }
 {
     match path.split_last() {
-        None => Err(refusal(walk.alloc, path, 0, Reason::Exists)),
-        Some((name, _)) => make_below(walk, path, name),
+        None => Err(refusal(alloc, path, 0, Reason::Exists)),
+        Some((name, _)) => make_below(alloc, keep, asker, path, name),
     }
 }
 
 // Makes the folder at a path with a last name.
-fn make_below<K: Keep>(walk: &mut Walker<'_, K>, path: &Path, name: &Text) -> Result<Reply, Halt>
+fn make_below<K: Keep>(
+    alloc: Global,
+    keep: &mut K,
+    asker: &Asker,
+    path: &Path,
+    name: &Text,
+) -> Result<Reply, Halt>
     requires { IsNameOf path.now name.now }
-    ensures same_keep { walk.new.keep.ghost_name ≡ walk.old.keep.ghost_name }
-    ensures same_asker { walk.new.asker.now ≡ walk.old.asker.now }
-    ensures done { TriesUpTo K.Keep walk.old.keep.now walk.new.keep.now result OneAndBoth
-        IsDamaged (Serves walk.old.asker.now (MakeFolder path.now)) }
-    ensures counted { K.reads walk.new.keep.now
-        ≤ K.reads walk.old.keep.now + (length path.now + 1) }
+    ensures done { TriesUpTo K.Keep keep.old keep.new result OneAndBoth IsDamaged
+        (Serves asker.now (MakeFolder path.now)) }
+    ensures counted { K.reads keep.new ≤ K.reads keep.old + (length path.now + 1) }
 {
-    let spot = walk.to_spot(path)?;
-    let bytes = Bytes::new(walk.alloc);
+    let spot = to_spot(alloc, keep, asker, path)?;
+    let bytes = Bytes::new(alloc);
     let kind = ObjKind::Folder;
     let child = NewChild {
         name,
         kind,
         bytes: &bytes,
     };
-    make_new(walk, path, &spot, &child)
+    make_new(alloc, keep, asker, path, &spot, &child)
 }
 
 // Makes a folder in this one, if nothing is there.
 fn make_new<K: Keep>(
-    walk: &mut Walker<'_, K>,
+    alloc: Global,
+    keep: &mut K,
+    asker: &Asker,
     path: &Path,
     spot: &Under,
     child: &NewChild<'_>,
 ) -> Result<Reply, Halt>
-    ensures same_keep { walk.new.keep.ghost_name ≡ walk.old.keep.ghost_name }
-    ensures same_asker { walk.new.asker.now ≡ walk.old.asker.now }
-    ensures done { TriesUpTo K.Keep walk.old.keep.now walk.new.keep.now result
-        (Provided (λ rows. is_some spot.now.child ≡ false → CanAdd
-        (new_child walk.old.asker.now.caller child.now.kind spot.now.folder.node child.now.name.now
-        child.now.bytes.now) rows) OneWrite) IsUnreadable
-        (λ old outcome new. IsJudgedAndDone walk.old.asker.now (Check
-        (found_site path.now spot.now.folder) (append_data ∷ []) ∷ Refusal path.now Exists
-        (is_some spot.now.child) ∷ []) Made (IsMade (new_child walk.old.asker.now.caller
-        child.now.kind spot.now.folder.node child.now.name.now child.now.bytes.now)) old
-        (replied outcome) new) }
-    ensures counted { K.reads walk.new.keep.now ≤ K.reads walk.old.keep.now }
+    ensures done { TriesUpTo K.Keep keep.old keep.new result
+        (Provided (λ rows. is_some spot.now.child ≡ false → CanAdd (new_child asker.now.caller
+        child.now.kind spot.now.folder.node child.now.name.now child.now.bytes.now) rows) OneWrite)
+        IsUnreadable
+        (λ old outcome new. IsJudgedAndDone asker.now (Check (found_site path.now spot.now.folder)
+        (append_data ∷ []) ∷ Refusal path.now Exists (is_some spot.now.child) ∷ []) Made (IsMade
+        (new_child asker.now.caller child.now.kind spot.now.folder.node child.now.name.now
+        child.now.bytes.now)) old (replied outcome) new) }
+    ensures counted { K.reads keep.new ≤ K.reads keep.old }
 {
-    walk.check(path, &spot.folder, Mask::append_data())?;
+    check(alloc, keep, asker, path, &spot.folder, Mask::append_data())?;
     let is_there = spot.child.is_some();
     if is_there {
-        return Err(refusal(walk.alloc, path, path.names().len(), Reason::Exists));
+        return Err(refusal(alloc, path, path.names().len(), Reason::Exists));
     }
-    add_child(walk, &spot.folder.node, child)
+    add_child(alloc, keep, asker, &spot.folder.node, child)
 }
 
 // Adds the object under the parent.
 fn add_child<K: Keep>(
-    walk: &mut Walker<'_, K>,
+    alloc: Global,
+    keep: &mut K,
+    asker: &Asker,
     parent: &Node,
     child: &NewChild<'_>,
 ) -> Result<Reply, Halt>
-    ensures same_keep { walk.new.keep.ghost_name ≡ walk.old.keep.ghost_name }
-    ensures same_asker { walk.new.asker.now ≡ walk.old.asker.now }
-    ensures done { TriesUpTo K.Keep walk.old.keep.now walk.new.keep.now result
-        (Provided (CanAdd (new_child walk.old.asker.now.caller child.now.kind parent.now
-        child.now.name.now child.now.bytes.now)) OneWrite) IsUnreadable
-        (λ old outcome new. MakesChild walk.old.asker.now.caller child.now.kind parent.now
-        child.now.name.now child.now.bytes.now old (replied outcome) new) }
-    ensures counted { K.reads walk.new.keep.now ≤ K.reads walk.old.keep.now }
+    ensures done { TriesUpTo K.Keep keep.old keep.new result
+        (Provided (CanAdd (new_child asker.now.caller child.now.kind parent.now child.now.name.now
+        child.now.bytes.now)) OneWrite) IsUnreadable
+        (λ old outcome new. MakesChild asker.now.caller child.now.kind parent.now child.now.name.now
+        child.now.bytes.now old (replied outcome) new) }
+    ensures counted { K.reads keep.new ≤ K.reads keep.old }
 {
-    let node = child_at(walk.alloc, walk.asker, parent, child)?;
-    walk.keep.add(node)?;
+    let node = child_at(alloc, asker, parent, child)?;
+    keep.add(node)?;
     Ok(Reply::Made)
 }
 

@@ -9,25 +9,25 @@ ghost use Rattle.room_desk.specs.Counted.{OneAndBoth, OneWrite, Provided};
 ghost use Rattle.room_inherit.specs.Spread.{Holds};
 
 use room_ace::{Mask, Owners};
-use room_judge::{Halt, Walker};
+use room_judge::{Asker, Halt, reach};
 use room_machine::Reply;
 use room_rows::{Keep, KeepFault, Node, Path};
+use std::alloc::Global;
 
 /// Gives an object another owner and group.
 pub(crate) fn set_owners<K: Keep>(
-    walk: &mut Walker<'_, K>,
+    alloc: Global,
+    keep: &mut K,
+    asker: &Asker,
     path: &Path,
     owners: &Owners,
 ) -> Result<Reply, Halt>
-    ensures same_keep { walk.new.keep.ghost_name ≡ walk.old.keep.ghost_name }
-    ensures same_asker { walk.new.asker.now ≡ walk.old.asker.now }
-    ensures done { TriesUpTo K.Keep walk.old.keep.now walk.new.keep.now result OneAndBoth
-        IsDamaged (Serves walk.old.asker.now (SetOwners path.now owners.now)) }
-    ensures counted { K.reads walk.new.keep.now
-        ≤ K.reads walk.old.keep.now + (length path.now + 1) }
+    ensures done { TriesUpTo K.Keep keep.old keep.new result OneAndBoth IsDamaged
+        (Serves asker.now (SetOwners path.now owners.now)) }
+    ensures counted { K.reads keep.new ≤ K.reads keep.old + (length path.now + 1) }
 {
-    let node = walk.reach(path, Mask::write_owner())?;
-    Ok(set_at(walk.keep, &node, owners)?)
+    let node = reach(alloc, keep, asker, path, Mask::write_owner())?;
+    Ok(set_at(keep, &node, owners)?)
 }
 
 // Gives the object these owners. Where they are what it has, nothing is written.

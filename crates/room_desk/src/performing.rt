@@ -17,7 +17,7 @@ use crate::removing::remove;
 use crate::setting::set_list;
 use crate::writing::append;
 use room_ace::Name;
-use room_judge::{Asker, Halt, Walker, caller_of};
+use room_judge::{Asker, Halt, caller_of};
 use room_machine::{Reply, Request};
 use room_rows::{Keep, KeepFault};
 use std::alloc::Global;
@@ -65,8 +65,7 @@ fn perform_for<K: Keep>(
     ensures counted { ReadsFew K.Keep (hands_down request.now) (calls_for request.now)
         keep.old keep.new result }
 {
-    let mut walk = Walker { alloc, keep, asker };
-    reply_of(serve(&mut walk, request))
+    reply_of(serve(alloc, keep, asker, request))
 }
 
 // A refusal is a reply.
@@ -81,27 +80,30 @@ fn reply_of(outcome: Result<Reply, Halt>) -> Result<Reply, KeepFault>
 }
 
 // Serves one request.
-fn serve<K: Keep>(walk: &mut Walker<'_, K>, request: &Request) -> Result<Reply, Halt>
-    ensures same_keep { walk.new.keep.ghost_name ≡ walk.old.keep.ghost_name }
-    ensures same_asker { walk.new.asker.now ≡ walk.old.asker.now }
-    ensures done { TriesWithin K.Keep walk.old.keep.now walk.new.keep.now result
+fn serve<K: Keep>(
+    alloc: Global,
+    keep: &mut K,
+    asker: &Asker,
+    request: &Request,
+) -> Result<Reply, Halt>
+    ensures done { TriesWithin K.Keep keep.old keep.new result
         (λ outcome. extent_of request.now (replied outcome)) IsDamaged
-        (Serves walk.old.asker.now request.now) }
-    ensures counted { ReadsFew K.Keep (hands_down request.now) (calls_for request.now)
-        walk.old.keep.now walk.new.keep.now (settled result) }
+        (Serves asker.now request.now) }
+    ensures counted { ReadsFew K.Keep (hands_down request.now) (calls_for request.now) keep.old
+        keep.new (settled result) }
 {
     match request {
-        Request::Read(path) => read(walk, path),
-        Request::List(path) => list(walk, path),
-        Request::Put(path, bytes) => put(walk, path, bytes),
-        Request::Append(path, bytes) => append(walk, path, bytes),
-        Request::MakeFolder(path) => make_folder(walk, path),
-        Request::Remove(path) => remove(walk, path),
-        Request::Move(path, to) => move_object(walk, path, to),
-        Request::ReadList(path, which) => read_full_list(walk, path, *which),
-        Request::SetList(path, which, sent) => set_list(walk, path, *which, sent),
-        Request::ReadAttr(path) => read_attr(walk, path),
-        Request::SetOwners(path, owners) => set_owners(walk, path, owners),
-        Request::Can(path, mask) => can(walk, path, *mask),
+        Request::Read(path) => read(alloc, keep, asker, path),
+        Request::List(path) => list(alloc, keep, asker, path),
+        Request::Put(path, bytes) => put(alloc, keep, asker, path, bytes),
+        Request::Append(path, bytes) => append(alloc, keep, asker, path, bytes),
+        Request::MakeFolder(path) => make_folder(alloc, keep, asker, path),
+        Request::Remove(path) => remove(alloc, keep, asker, path),
+        Request::Move(path, to) => move_object(alloc, keep, asker, path, to),
+        Request::ReadList(path, which) => read_full_list(alloc, keep, asker, path, *which),
+        Request::SetList(path, which, sent) => set_list(alloc, keep, asker, path, *which, sent),
+        Request::ReadAttr(path) => read_attr(alloc, keep, asker, path),
+        Request::SetOwners(path, owners) => set_owners(alloc, keep, asker, path, owners),
+        Request::Can(path, mask) => can(alloc, keep, asker, path, *mask),
     }
 }

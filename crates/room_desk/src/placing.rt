@@ -25,33 +25,34 @@ ghost use Rattle.room_desk.specs.Counted.{EachList, OneAndBoth, Provided};
 use crate::carrying::carry_below;
 use room_ace::{Entries, Which};
 use room_inherit::{pass, takes_from};
-use room_judge::{Found, Halt, Walker, refusal};
+use room_judge::{Found, Halt, refusal};
 use room_machine::{Reason, Reply};
 use room_rows::{Keep, KeepFault, Node, Path, Text};
+use std::alloc::Global;
 
 /// Nothing has the new name, and the object's path doesn't begin that of the folder.
 pub(crate) fn check_free<K: Keep>(
-    walk: &mut Walker<'_, K>,
+    alloc: Global,
+    keep: &mut K,
     path: &Path,
     to: &Path,
     folder: &Found,
 ) -> Result<(), Halt>
     requires { length to.now ≡ folder.now.depth + 1 }
-    ensures same_keep { walk.new.keep.ghost_name ≡ walk.old.keep.ghost_name }
-    ensures same_asker { walk.new.asker.now ≡ walk.old.asker.now }
-    ensures done { Tries K.Keep walk.old.keep.now walk.new.keep.now result IsUnreadable
-        (λ old outcome new. JudgesAll (λ rows. free_place rows.read to.now
-        (begins path.now (front to.now)) folder.now.node) old (refusal_of outcome) new) }
-    ensures counted { K.reads walk.new.keep.now ≤ K.reads walk.old.keep.now + 1 }
+    ensures done { Tries K.Keep keep.old keep.new result IsUnreadable
+        (λ old outcome new. JudgesAll
+        (λ rows. free_place rows.read to.now (begins path.now (front to.now)) folder.now.node) old
+        (refusal_of outcome) new) }
+    ensures counted { K.reads keep.new ≤ K.reads keep.old + 1 }
 {
     let name = &to.names()[folder.depth];
-    let is_taken = is_taken(walk.keep, folder.node.id, name.as_str())?;
+    let is_taken = is_taken(keep, folder.node.id, name.as_str())?;
     if is_taken {
-        return Err(refusal(walk.alloc, to, to.names().len(), Reason::Exists));
+        return Err(refusal(alloc, to, to.names().len(), Reason::Exists));
     }
     let is_below = begins(path.names(), &to.names()[..folder.depth]);
     if is_below {
-        return Err(refusal(walk.alloc, to, to.names().len(), Reason::Loop));
+        return Err(refusal(alloc, to, to.names().len(), Reason::Loop));
     }
     Ok(())
 }
@@ -91,64 +92,61 @@ fn is_same_name(name: &Text, other: &Text) -> bool
 /// Gives the object another parent and another name. What is linked there takes the entries that
 /// the new parent passes, and hands them down.
 pub(crate) fn place_at<K: Keep>(
-    walk: &mut Walker<'_, K>,
+    alloc: Global,
+    keep: &mut K,
     target: &Node,
     folder: &Node,
     name: &str,
 ) -> Result<Reply, KeepFault>
-    ensures same_keep { walk.new.keep.ghost_name ≡ walk.old.keep.ghost_name }
-    ensures same_asker { walk.new.asker.now ≡ walk.old.asker.now }
-    ensures done { RepliesUpTo K.Keep walk.old.keep.now walk.new.keep.now result
+    ensures done { RepliesUpTo K.Keep keep.old keep.new result
         (Provided (CanGo target.now folder.now name.now) OneAndBoth)
         (FailsToPlace target.now folder.now name.now) (PlacesAt target.now folder.now name.now) }
-    ensures counted { IfOk result (λ _. ReadsBeside K.Keep 6 walk.old.keep.now walk.new.keep.now) }
+    ensures counted { IfOk result (λ _. ReadsBeside K.Keep 6 keep.old keep.new) }
 {
-    walk.keep.set_place(target.id, folder.id, name)?;
-    renew_list(walk, target, folder, Which::Dacl)?;
-    renew_list(walk, target, folder, Which::Sacl)?;
+    keep.set_place(target.id, folder.id, name)?;
+    renew_list(alloc, keep, target, folder, Which::Dacl)?;
+    renew_list(alloc, keep, target, folder, Which::Sacl)?;
     Ok(Reply::Done)
 }
 
 // Where the list is linked to the folder's, it takes what that passes.
 fn renew_list<K: Keep>(
-    walk: &mut Walker<'_, K>,
+    alloc: Global,
+    keep: &mut K,
     target: &Node,
     folder: &Node,
     which: Which,
 ) -> Result<(), KeepFault>
-    ensures same_keep { walk.new.keep.ghost_name ≡ walk.old.keep.ghost_name }
-    ensures same_asker { walk.new.asker.now ≡ walk.old.asker.now }
-    ensures done { DoesUpTo K.Keep walk.old.keep.now walk.new.keep.now result
+    ensures done { DoesUpTo K.Keep keep.old keep.new result
         (Provided (StandsListed which target.now) (EachList which)) (FailsToRenew target.now)
         (Renews which target.now folder.now) }
-    ensures counted { IfOk result (λ _. ReadsBeside K.Keep 3 walk.old.keep.now walk.new.keep.now) }
+    ensures counted { IfOk result (λ _. ReadsBeside K.Keep 3 keep.old keep.new) }
 {
     if !takes_from(target, folder, which) {
         return Ok(());
     }
-    let passed = pass(walk.alloc, target.kind, folder.held(which).full())?;
-    take_passed(walk, target, which, &passed)
+    let passed = pass(alloc, target.kind, folder.held(which).full())?;
+    take_passed(alloc, keep, target, which, &passed)
 }
 
 // Stores these inherited entries, and carries them down, unless they are stored already: then
 // nothing below has changed.
 fn take_passed<K: Keep>(
-    walk: &mut Walker<'_, K>,
+    alloc: Global,
+    keep: &mut K,
     target: &Node,
     which: Which,
     passed: &Entries,
 ) -> Result<(), KeepFault>
-    ensures same_keep { walk.new.keep.ghost_name ≡ walk.old.keep.ghost_name }
-    ensures same_asker { walk.new.asker.now ≡ walk.old.asker.now }
-    ensures done { DoesUpTo K.Keep walk.old.keep.now walk.new.keep.now result
+    ensures done { DoesUpTo K.Keep keep.old keep.new result
         (Provided (StandsListed which target.now) (EachList which)) (FailsToRenew target.now)
         (TakesPassed which target.now passed.now) }
-    ensures counted { IfOk result (λ _. ReadsBeside K.Keep 3 walk.old.keep.now walk.new.keep.now) }
+    ensures counted { IfOk result (λ _. ReadsBeside K.Keep 3 keep.old keep.new) }
 {
     let is_stored = passed.is_same(target.held(which).inh());
     if is_stored {
         return Ok(());
     }
-    walk.keep.set_inh(target.id, which, passed.as_slice())?;
-    carry_below(walk.alloc, walk.keep, target.id, which)
+    keep.set_inh(target.id, which, passed.as_slice())?;
+    carry_below(alloc, keep, target.id, which)
 }

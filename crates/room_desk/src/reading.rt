@@ -15,24 +15,27 @@ ghost use Rattle.room_machine.specs.declared.request.Request.TheVariants.{
 };
 
 use room_ace::{Entries, Mask, ObjKind, Which};
-use room_judge::{Halt, Walker};
+use room_judge::{Asker, Halt, reach, reach_kind};
 use room_machine::Reply;
 use room_rows::{Held, Keep, KeepFault, Node, Path};
 use std::alloc::{AllocError, Global};
 
 /// The bytes of a document.
-pub(crate) fn read<K: Keep>(walk: &mut Walker<'_, K>, path: &Path) -> Result<Reply, Halt>
-    ensures same_keep { walk.new.keep.ghost_name ≡ walk.old.keep.ghost_name }
-    ensures same_asker { walk.new.asker.now ≡ walk.old.asker.now }
-    ensures done { Tries K.Keep walk.old.keep.now walk.new.keep.now result IsDamaged
-        (Serves walk.old.asker.now (Read path.now)) }
-    ensures counted { K.reads walk.new.keep.now
-        ≤ K.reads walk.old.keep.now + (length path.now + 2) }
+pub(crate) fn read<K: Keep>(
+    alloc: Global,
+    keep: &mut K,
+    asker: &Asker,
+    path: &Path,
+) -> Result<Reply, Halt>
+    ensures done { Tries K.Keep keep.old keep.new result IsDamaged
+        (Serves asker.now (Read path.now)) }
+    ensures counted { K.reads keep.new ≤ K.reads keep.old + (length path.now + 2) }
 {
-    let node = walk.reach_kind(path, ObjKind::Document, Mask::read_data())?;
+    let mask = Mask::read_data();
+    let node = reach_kind(alloc, keep, asker, path, ObjKind::Document, mask)?;
     let id = node.id;
     drop(node);
-    Ok(read_at(walk.keep, id)?)
+    Ok(read_at(keep, id)?)
 }
 
 // The bytes of the document of this number.
@@ -49,19 +52,18 @@ fn read_at<K: Keep>(keep: &mut K, id: u64) -> Result<Reply, KeepFault>
 
 /// The flags and the full list of an object.
 pub(crate) fn read_full_list<K: Keep>(
-    walk: &mut Walker<'_, K>,
+    alloc: Global,
+    keep: &mut K,
+    asker: &Asker,
     path: &Path,
     which: Which,
 ) -> Result<Reply, Halt>
-    ensures same_keep { walk.new.keep.ghost_name ≡ walk.old.keep.ghost_name }
-    ensures same_asker { walk.new.asker.now ≡ walk.old.asker.now }
-    ensures done { Tries K.Keep walk.old.keep.now walk.new.keep.now result IsDamaged
-        (Serves walk.old.asker.now (ReadList path.now which)) }
-    ensures counted { K.reads walk.new.keep.now
-        ≤ K.reads walk.old.keep.now + (length path.now + 1) }
+    ensures done { Tries K.Keep keep.old keep.new result IsDamaged
+        (Serves asker.now (ReadList path.now which)) }
+    ensures counted { K.reads keep.new ≤ K.reads keep.old + (length path.now + 1) }
 {
-    let node = walk.reach(path, Mask::read_acl())?;
-    Ok(list_reply(walk.alloc, node.held(which))?)
+    let node = reach(alloc, keep, asker, path, Mask::read_acl())?;
+    Ok(list_reply(alloc, node.held(which))?)
 }
 
 // The flags and a copy of the full list.
@@ -74,15 +76,17 @@ fn list_reply(alloc: Global, held: &Held) -> Result<Reply, AllocError>
 }
 
 /// The kind and the owners of an object.
-pub(crate) fn read_attr<K: Keep>(walk: &mut Walker<'_, K>, path: &Path) -> Result<Reply, Halt>
-    ensures same_keep { walk.new.keep.ghost_name ≡ walk.old.keep.ghost_name }
-    ensures same_asker { walk.new.asker.now ≡ walk.old.asker.now }
-    ensures done { Tries K.Keep walk.old.keep.now walk.new.keep.now result IsDamaged
-        (Serves walk.old.asker.now (ReadAttr path.now)) }
-    ensures counted { K.reads walk.new.keep.now
-        ≤ K.reads walk.old.keep.now + (length path.now + 1) }
+pub(crate) fn read_attr<K: Keep>(
+    alloc: Global,
+    keep: &mut K,
+    asker: &Asker,
+    path: &Path,
+) -> Result<Reply, Halt>
+    ensures done { Tries K.Keep keep.old keep.new result IsDamaged
+        (Serves asker.now (ReadAttr path.now)) }
+    ensures counted { K.reads keep.new ≤ K.reads keep.old + (length path.now + 1) }
 {
-    let node = walk.reach(path, Mask::read_attributes())?;
+    let node = reach(alloc, keep, asker, path, Mask::read_attributes())?;
     Ok(attr_reply(node))
 }
 
@@ -94,18 +98,20 @@ fn attr_reply(node: Node) -> Reply
 }
 
 /// The names and kinds of the children of a folder, in order of name.
-pub(crate) fn list<K: Keep>(walk: &mut Walker<'_, K>, path: &Path) -> Result<Reply, Halt>
-    ensures same_keep { walk.new.keep.ghost_name ≡ walk.old.keep.ghost_name }
-    ensures same_asker { walk.new.asker.now ≡ walk.old.asker.now }
-    ensures done { Tries K.Keep walk.old.keep.now walk.new.keep.now result IsDamaged
-        (Serves walk.old.asker.now (List path.now)) }
-    ensures counted { K.reads walk.new.keep.now
-        ≤ K.reads walk.old.keep.now + (length path.now + 2) }
+pub(crate) fn list<K: Keep>(
+    alloc: Global,
+    keep: &mut K,
+    asker: &Asker,
+    path: &Path,
+) -> Result<Reply, Halt>
+    ensures done { Tries K.Keep keep.old keep.new result IsDamaged
+        (Serves asker.now (List path.now)) }
+    ensures counted { K.reads keep.new ≤ K.reads keep.old + (length path.now + 2) }
 {
-    let node = walk.reach_kind(path, ObjKind::Folder, Mask::read_data())?;
+    let node = reach_kind(alloc, keep, asker, path, ObjKind::Folder, Mask::read_data())?;
     let id = node.id;
     drop(node);
-    Ok(list_at(walk.keep, id)?)
+    Ok(list_at(keep, id)?)
 }
 
 // The names and kinds of the children of the folder of this number.

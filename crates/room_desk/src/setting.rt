@@ -29,7 +29,7 @@ ghost use Rattle.room_inherit.specs.Spread.{Holds};
 use crate::carrying::carry_from;
 use room_ace::{Entries, Entry, ListFlags, Mask, ObjKind, SentList, Which, first_bad_entry};
 use room_inherit::pass;
-use room_judge::{Found, Halt, Walker, refused};
+use room_judge::{Asker, Found, Halt, check, refused, to_pair};
 use room_machine::{Reason, Reply};
 use room_rows::{Held, Keep, KeepFault, Node, Path};
 use std::alloc::{AllocError, Global};
@@ -47,22 +47,22 @@ pub(crate) struct Setting<'p, 't, 'a, 's> {
 
 /// Sets one of an object's lists, and carries it down.
 pub(crate) fn set_list<K: Keep>(
-    walk: &mut Walker<'_, K>,
+    alloc: Global,
+    keep: &mut K,
+    asker: &Asker,
     path: &Path,
     which: Which,
     sent: &SentList,
 ) -> Result<Reply, Halt>
-    ensures same_keep { walk.new.keep.ghost_name ≡ walk.old.keep.ghost_name }
-    ensures same_asker { walk.new.asker.now ≡ walk.old.asker.now }
-    ensures done { TriesUpTo K.Keep walk.old.keep.now walk.new.keep.now result OneAndBoth
-        IsDamaged (Serves walk.old.asker.now (SetList path.now which sent.now)) }
+    ensures done { TriesUpTo K.Keep keep.old keep.new result OneAndBoth IsDamaged
+        (Serves asker.now (SetList path.now which sent.now)) }
     ensures counted { IfOk (settled result)
-        (λ _. ReadsBeside K.Keep (length path.now + 3) walk.old.keep.now walk.new.keep.now) }
+        (λ _. ReadsBeside K.Keep (length path.now + 3) keep.old keep.new) }
 {
     if path.is_root() {
-        return set_root(walk, path, which, sent);
+        return set_root(alloc, keep, asker, path, which, sent);
     }
-    let pair = walk.to_pair(path)?;
+    let pair = to_pair(alloc, keep, asker, path)?;
     let above = Some(&pair.folder.node);
     let setting = Setting {
         path,
@@ -71,25 +71,24 @@ pub(crate) fn set_list<K: Keep>(
         which,
         sent,
     };
-    set_allowed(walk, &setting)
+    set_allowed(alloc, keep, asker, &setting)
 }
 
 // Sets the list of the root, which has nothing above it.
 fn set_root<K: Keep>(
-    walk: &mut Walker<'_, K>,
+    alloc: Global,
+    keep: &mut K,
+    asker: &Asker,
     path: &Path,
     which: Which,
     sent: &SentList,
 ) -> Result<Reply, Halt>
     requires { path.now ≡ [] }
-    ensures same_keep { walk.new.keep.ghost_name ≡ walk.old.keep.ghost_name }
-    ensures same_asker { walk.new.asker.now ≡ walk.old.asker.now }
-    ensures done { TriesUpTo K.Keep walk.old.keep.now walk.new.keep.now result OneAndBoth
-        IsDamaged (Serves walk.old.asker.now (SetList path.now which sent.now)) }
-    ensures counted { IfOk (settled result)
-        (λ _. ReadsBeside K.Keep 3 walk.old.keep.now walk.new.keep.now) }
+    ensures done { TriesUpTo K.Keep keep.old keep.new result OneAndBoth IsDamaged
+        (Serves asker.now (SetList path.now which sent.now)) }
+    ensures counted { IfOk (settled result) (λ _. ReadsBeside K.Keep 3 keep.old keep.new) }
 {
-    let node = walk.keep.root()?;
+    let node = keep.root()?;
     let root = Found { node, depth: 0 };
     let setting = Setting {
         path,
@@ -98,27 +97,28 @@ fn set_root<K: Keep>(
         which,
         sent,
     };
-    set_allowed(walk, &setting)
+    set_allowed(alloc, keep, asker, &setting)
 }
 
 // Sets the list of the object that the walk came to, where the caller may write it.
 fn set_allowed<K: Keep>(
-    walk: &mut Walker<'_, K>,
+    alloc: Global,
+    keep: &mut K,
+    asker: &Asker,
     setting: &Setting<'_, '_, '_, '_>,
 ) -> Result<Reply, Halt>
-    ensures same_keep { walk.new.keep.ghost_name ≡ walk.old.keep.ghost_name }
-    ensures same_asker { walk.new.asker.now ≡ walk.old.asker.now }
-    ensures done { TriesUpTo K.Keep walk.old.keep.now walk.new.keep.now result
+    ensures done { TriesUpTo K.Keep keep.old keep.new result
         (Provided (StandsRooted setting.now.target.now.node) (OneAndEach setting.now.which))
-        (FailsToSet walk.old.asker.now setting.now.path.now setting.now.target.now
-        (option_copied setting.now.above)) (λ old outcome new. SetsOn walk.old.asker.now
-        setting.now.path.now setting.now.which setting.now.sent.now setting.now.target.now
-        (option_copied setting.now.above) old (replied outcome) new) }
-    ensures counted { IfOk (settled result)
-        (λ _. ReadsBeside K.Keep 2 walk.old.keep.now walk.new.keep.now) }
+        (FailsToSet asker.now setting.now.path.now setting.now.target.now
+        (option_copied setting.now.above))
+        (λ old outcome new. SetsOn asker.now setting.now.path.now setting.now.which
+        setting.now.sent.now setting.now.target.now (option_copied setting.now.above) old
+        (replied outcome) new) }
+    ensures counted { IfOk (settled result) (λ _. ReadsBeside K.Keep 2 keep.old keep.new) }
 {
-    walk.check(setting.path, setting.target, Mask::write_acl())?;
-    Ok(set_found(walk.alloc, walk.keep, setting)?)
+    let mask = Mask::write_acl();
+    check(alloc, keep, asker, setting.path, setting.target, mask)?;
+    Ok(set_found(alloc, keep, setting)?)
 }
 
 /// Sets the list of the object that was found at the path, unless an entry may not stand there.

@@ -15,54 +15,52 @@ ghost use Rattle.room_machine.specs.declared.request.Request.TheVariants.{Append
 ghost use Rattle.room_desk.specs.Counted.{OneAndBoth, OneWrite, Provided};
 
 use room_ace::{MOST_BYTES, Mask, ObjKind};
-use room_judge::{Halt, Walker, refusal};
+use room_judge::{Asker, Halt, reach_kind, refusal};
 use room_machine::{Reason, Reply};
 use room_rows::{Bytes, Keep, KeepFault, Path};
 use std::alloc::{AllocError, Global};
 
 /// Adds bytes at the end of a document.
 pub(crate) fn append<K: Keep>(
-    walk: &mut Walker<'_, K>,
+    alloc: Global,
+    keep: &mut K,
+    asker: &Asker,
     path: &Path,
     bytes: &Bytes,
 ) -> Result<Reply, Halt>
-    ensures same_keep { walk.new.keep.ghost_name ≡ walk.old.keep.ghost_name }
-    ensures same_asker { walk.new.asker.now ≡ walk.old.asker.now }
-    ensures done { TriesUpTo K.Keep walk.old.keep.now walk.new.keep.now result OneAndBoth
-        IsDamaged (Serves walk.old.asker.now (Append path.now bytes.now)) }
-    ensures counted { K.reads walk.new.keep.now
-        ≤ K.reads walk.old.keep.now + (length path.now + 2) }
+    ensures done { TriesUpTo K.Keep keep.old keep.new result OneAndBoth IsDamaged
+        (Serves asker.now (Append path.now bytes.now)) }
+    ensures counted { K.reads keep.new ≤ K.reads keep.old + (length path.now + 2) }
 {
-    let node = walk.reach_kind(path, ObjKind::Document, Mask::append_data())?;
+    let mask = Mask::append_data();
+    let node = reach_kind(alloc, keep, asker, path, ObjKind::Document, mask)?;
     let id = node.id;
     drop(node);
-    append_at(walk, path, id, bytes)
+    append_at(alloc, keep, path, id, bytes)
 }
 
 // Adds the bytes to those of the document of this number. Where there are none to add, nothing is
 // written.
 fn append_at<K: Keep>(
-    walk: &mut Walker<'_, K>,
+    alloc: Global,
+    keep: &mut K,
     path: &Path,
     id: u64,
     bytes: &Bytes,
 ) -> Result<Reply, Halt>
-    ensures same_keep { walk.new.keep.ghost_name ≡ walk.old.keep.ghost_name }
-    ensures same_asker { walk.new.asker.now ≡ walk.old.asker.now }
-    ensures done { TriesUpTo K.Keep walk.old.keep.now walk.new.keep.now result
+    ensures done { TriesUpTo K.Keep keep.old keep.new result
         (Provided (λ rows. IsDocumentAt rows id) OneWrite) (HasNoBytes id)
         (λ old outcome new. IsAppended path.now id bytes.now old (replied outcome) new) }
-    ensures quiet { bytes.now ≡ [] → IfOk result
-        (λ _. K.writes walk.new.keep.now ≡ K.writes walk.old.keep.now) }
-    ensures counted { K.reads walk.new.keep.now ≤ K.reads walk.old.keep.now + 1 }
+    ensures quiet { bytes.now ≡ [] → IfOk result (λ _. K.writes keep.new ≡ K.writes keep.old) }
+    ensures counted { K.reads keep.new ≤ K.reads keep.old + 1 }
 {
-    let before = body_of(walk.keep, id)?;
+    let before = body_of(keep, id)?;
     let are_none = bytes.as_slice().is_empty();
     if are_none {
-        return sized_reply(walk.alloc, path, before.len());
+        return sized_reply(alloc, path, before.len());
     }
     let joined = join(before, bytes)?;
-    put_bytes(walk, path, id, joined.as_slice())
+    put_bytes(alloc, keep, path, id, joined.as_slice())
 }
 
 // The bytes of the document of this number.
@@ -97,22 +95,21 @@ fn join(before: Bytes, bytes: &Bytes) -> Result<Vec<u8>, AllocError>
 
 /// Gives the document of this number these bytes, if there aren't too many.
 pub(crate) fn put_bytes<K: Keep>(
-    walk: &mut Walker<'_, K>,
+    alloc: Global,
+    keep: &mut K,
     path: &Path,
     id: u64,
     bytes: &[u8],
 ) -> Result<Reply, Halt>
-    ensures same_keep { walk.new.keep.ghost_name ≡ walk.old.keep.ghost_name }
-    ensures same_asker { walk.new.asker.now ≡ walk.old.asker.now }
-    ensures done { TriesUpTo K.Keep walk.old.keep.now walk.new.keep.now result
+    ensures done { TriesUpTo K.Keep keep.old keep.new result
         (Provided (λ rows. IsDocumentAt rows id) OneWrite) IsUnreadable
         (λ old outcome new. IsPut path.now id bytes.now old (replied outcome) new) }
-    ensures counted { K.reads walk.new.keep.now ≤ K.reads walk.old.keep.now }
+    ensures counted { K.reads keep.new ≤ K.reads keep.old }
 {
     let too_many = bytes.len() > MOST_BYTES;
     if too_many {
-        return Err(refusal(walk.alloc, path, path.names().len(), Reason::TooLarge));
+        return Err(refusal(alloc, path, path.names().len(), Reason::TooLarge));
     }
-    walk.keep.set_body(id, bytes)?;
+    keep.set_body(id, bytes)?;
     Ok(Reply::Done)
 }

@@ -10,7 +10,6 @@ ghost use Rattle.room_judge.specs.Stored.{found_site};
 use crate::arrival::Found;
 use crate::asker::{Asker, copy_user};
 use crate::halt::Halt;
-use crate::walk::Walker;
 use room_ace::{Entry, EntryKind, Mask};
 use room_eval::{Verdict, decide, events};
 use room_machine::Reply;
@@ -137,28 +136,31 @@ pub(crate) fn note_check<K: Keep>(
     Ok(())
 }
 
-impl<K: Keep> Walker<'_, K> {
-    /// One check of these bits on the object.
-    pub fn check(&mut self, path: &Path, found: &Found, mask: Mask) -> Result<(), Halt>
-        ensures same_keep { self.new.keep.ghost_name ≡ self.old.keep.ghost_name }
-        ensures same_asker { self.new.asker.now ≡ self.old.asker.now }
-        ensures done { Tries K.Keep self.old.keep.now self.new.keep.now result IsNever
-            (Judges self.old.asker.now (Check (found_site path.now found.now) mask ∷ [])) }
-        ensures counted { K.reads self.new.keep.now ≤ K.reads self.old.keep.now }
-    {
-        let verdict = decide(
-            found.node.dacl.full(),
-            &self.asker.caller,
-            &found.node.owners,
-            mask,
-        );
-        let checked = Checked {
-            path,
-            found,
-            bits: mask,
-            granted: is_grant(verdict),
-        };
-        note_check(self.alloc, self.keep, self.asker, &checked)?;
-        granted(self.alloc, path, found, &verdict)
-    }
+/// One check of these bits on the object.
+pub fn check<K: Keep>(
+    alloc: Global,
+    keep: &mut K,
+    asker: &Asker,
+    path: &Path,
+    found: &Found,
+    mask: Mask,
+) -> Result<(), Halt>
+    ensures done { Tries K.Keep keep.old keep.new result IsNever
+        (Judges asker.now (Check (found_site path.now found.now) mask ∷ [])) }
+    ensures counted { K.reads keep.new ≤ K.reads keep.old }
+{
+    let verdict = decide(
+        found.node.dacl.full(),
+        &asker.caller,
+        &found.node.owners,
+        mask,
+    );
+    let checked = Checked {
+        path,
+        found,
+        bits: mask,
+        granted: is_grant(verdict),
+    };
+    note_check(alloc, keep, asker, &checked)?;
+    granted(alloc, path, found, &verdict)
 }

@@ -9,12 +9,13 @@ ghost use Rattle.room_judge.specs.Judged.{Does, is_deletable, second_right, with
 ghost use Rattle.room_judge.specs.Stored.{found_site};
 
 use crate::arrival::Found;
+use crate::asker::Asker;
 use crate::checking::{Checked, granted, note_check};
 use crate::halt::Halt;
-use crate::walk::Walker;
 use room_ace::Mask;
 use room_eval::{DeleteVerdict, Verdict, may_delete};
 use room_rows::{Keep, KeepFault, Path};
+use std::alloc::Global;
 
 // Whether the object may be deleted.
 fn is_deletable(verdict: &DeleteVerdict) -> bool
@@ -48,90 +49,89 @@ struct Leaving<'a> {
     verdict: &'a DeleteVerdict,
 }
 
-impl<K: Keep> Walker<'_, K> {
-    // Nothing where the rule grants, and else the denial.
-    fn deletable(&self, leaving: &Leaving<'_>) -> Result<(), Halt>
-        ensures { Grants result (of_deletion
-            (found_site leaving.now.path.now leaving.now.target.now)
-            (found_site leaving.now.path.now leaving.now.folder.now) leaving.now.verdict.now) }
-    {
-        match leaving.verdict {
-            DeleteVerdict::Granted { by_add: _ } => Ok(()),
-            DeleteVerdict::AtTarget { place } => {
-                let bits = Mask::delete();
-                let place = Some(*place);
-                let denied = Verdict::Denied { bits, place };
-                granted(self.alloc, leaving.path, leaving.target, &denied)
-            }
-            DeleteVerdict::AtParent { bits, place } => {
-                let bits = *bits;
-                let place = *place;
-                let denied = Verdict::Denied { bits, place };
-                granted(self.alloc, leaving.path, leaving.folder, &denied)
-            }
+// Nothing where the rule grants, and else the denial.
+fn deletable(alloc: Global, leaving: &Leaving<'_>) -> Result<(), Halt>
+    ensures { Grants result (of_deletion
+        (found_site leaving.now.path.now leaving.now.target.now)
+        (found_site leaving.now.path.now leaving.now.folder.now) leaving.now.verdict.now) }
+{
+    match leaving.verdict {
+        DeleteVerdict::Granted { by_add: _ } => Ok(()),
+        DeleteVerdict::AtTarget { place } => {
+            let bits = Mask::delete();
+            let place = Some(*place);
+            let denied = Verdict::Denied { bits, place };
+            granted(alloc, leaving.path, leaving.target, &denied)
+        }
+        DeleteVerdict::AtParent { bits, place } => {
+            let bits = *bits;
+            let place = *place;
+            let denied = Verdict::Denied { bits, place };
+            granted(alloc, leaving.path, leaving.folder, &denied)
         }
     }
+}
 
-    // Notes the records of the two checks of a deletion with this verdict.
-    fn note_deletion(&mut self, leaving: &Leaving<'_>) -> Result<(), KeepFault>
-        ensures same_keep { self.new.keep.ghost_name ≡ self.old.keep.ghost_name }
-        ensures same_asker { self.new.asker.now ≡ self.old.asker.now }
-        ensures done { Does K.Keep self.old.keep.now self.new.keep.now result IsNever
-            (λ old _ new. new ≡ with_notes old
-            (records_of_checks self.old.asker.now.caller self.old.asker.now.moment
-            (is_deletable leaving.now.verdict.now)
-            ((found_site leaving.now.path.now leaving.now.target.now, delete ∷ []) ∷ (
-              found_site leaving.now.path.now leaving.now.folder.now,
-              second_right leaving.now.verdict.now,
-            ) ∷ []))) }
-        ensures counted { K.reads self.new.keep.now ≤ K.reads self.old.keep.now }
-    {
-        let granted = is_deletable(leaving.verdict);
-        let first = Checked {
-            path: leaving.path,
-            found: leaving.target,
-            bits: Mask::delete(),
-            granted,
-        };
-        note_check(self.alloc, self.keep, self.asker, &first)?;
-        let second = Checked {
-            path: leaving.path,
-            found: leaving.folder,
-            bits: second_right(leaving.verdict),
-            granted,
-        };
-        note_check(self.alloc, self.keep, self.asker, &second)
-    }
+// Notes the records of the two checks of a deletion with this verdict.
+fn note_deletion<K: Keep>(
+    alloc: Global,
+    keep: &mut K,
+    asker: &Asker,
+    leaving: &Leaving<'_>,
+) -> Result<(), KeepFault>
+    ensures done { Does K.Keep keep.old keep.new result IsNever (λ old _ new. new ≡ with_notes old
+        (records_of_checks asker.now.caller asker.now.moment (is_deletable leaving.now.verdict.now)
+        ((found_site leaving.now.path.now leaving.now.target.now, delete ∷ []) ∷ (
+          found_site leaving.now.path.now leaving.now.folder.now,
+          second_right leaving.now.verdict.now,
+        ) ∷ []))) }
+    ensures counted { K.reads keep.new ≤ K.reads keep.old }
+{
+    let granted = is_deletable(leaving.verdict);
+    let first = Checked {
+        path: leaving.path,
+        found: leaving.target,
+        bits: Mask::delete(),
+        granted,
+    };
+    note_check(alloc, keep, asker, &first)?;
+    let second = Checked {
+        path: leaving.path,
+        found: leaving.folder,
+        bits: second_right(leaving.verdict),
+        granted,
+    };
+    note_check(alloc, keep, asker, &second)
+}
 
-    /// The deletion rule on an object and its folder. The records of its two checks, of DELETE on
-    /// the object and of the right that decides on the folder, are noted.
-    pub fn check_deletion(
-        &mut self,
-        path: &Path,
-        target: &Found,
-        folder: &Found,
-    ) -> Result<(), Halt>
-        ensures same_keep { self.new.keep.ghost_name ≡ self.old.keep.ghost_name }
-        ensures same_asker { self.new.asker.now ≡ self.old.asker.now }
-        ensures done { Tries K.Keep self.old.keep.now self.new.keep.now result IsNever
-            (Judges self.old.asker.now
-            (Deletion (found_site path.now target.now) (found_site path.now folder.now) ∷ [])) }
-        ensures counted { K.reads self.new.keep.now ≤ K.reads self.old.keep.now }
-    {
-        let verdict = may_delete(
-            target.node.dacl.full(),
-            &target.node.owners,
-            folder.node.dacl.full(),
-            &folder.node.owners,
-            &self.asker.caller,
-        );
-        let leaving = Leaving {
-            path,
-            target,
-            folder,
-            verdict: &verdict,
-        };
-        self.note_deletion(&leaving)?;
-        self.deletable(&leaving)
-    }
+/// The deletion rule on an object and its folder. The records of its two checks, of DELETE on the
+/// object and of the right that decides on the folder, are noted.
+pub fn check_deletion<K: Keep>(
+    alloc: Global,
+    keep: &mut K,
+    asker: &Asker,
+    path: &Path,
+    target: &Found,
+    folder: &Found,
+) -> Result<(), Halt>
+    ensures done { Tries K.Keep keep.old keep.new result IsNever
+        (Judges asker.now
+        (Deletion (found_site path.now target.now) (found_site path.now folder.now) ∷ [])) }
+    ensures counted { K.reads keep.new ≤ K.reads keep.old }
+{
+    let verdict = may_delete(
+        target.node.dacl.full(),
+        &target.node.owners,
+        folder.node.dacl.full(),
+        &folder.node.owners,
+        &asker.caller,
+    );
+    let leaving = Leaving {
+        path,
+        target,
+        folder,
+        verdict: &verdict,
+    };
+    note_deletion(alloc, keep, asker, &leaving)?;
+    deletable(alloc, &leaving)
 }

@@ -1,4 +1,6 @@
-//! Walks and checks over a keeper, judged as they go, with the records that they leave.
+//! Walks and checks over a keeper, judged as they go: what is refused or denied ends them with
+//! `Refused`, a fault of the keeper or of memory with `Fault`. The records that a check calls for are
+//! noted either way.
 #![tactic(auto)]
 
 mod arrival;
@@ -7,10 +9,12 @@ mod checking;
 mod deleting;
 mod halt;
 mod spotting;
-mod walk;
 mod walking;
 
 pub use arrival::{Both, Found, Under};
 pub use asker::{Asker, caller_of};
+pub use checking::check;
+pub use deleting::check_deletion;
 pub use halt::{Halt, refusal, refused};
-pub use walk::Walker;
+pub use spotting::{to_pair, to_pair_from, to_spot};
+pub use walking::{check_kind, pass_through, reach, reach_kind, walk_along, walk_from, walk_to};

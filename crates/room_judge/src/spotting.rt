@@ -6,87 +6,98 @@ ghost use Rattle.room_judge.specs.Judged.{FromRoot, IsUnreadableFrom};
 ghost use Rattle.room_judge.specs.Spot.{IsPaired, IsSpotted, SpotsUnder};
 
 use crate::arrival::{Both, Found, Under};
+use crate::asker::Asker;
 use crate::halt::{Halt, refusal};
-use crate::walk::Walker;
+use crate::walking::{pass_through, walk_along, walk_from};
 use room_machine::Reason;
 use room_rows::{Keep, Node, Path};
 use std::alloc::Global;
 
-impl<K: Keep> Walker<'_, K> {
-    /// The walk to the folder of the path's last name, and what has that name in it. The folder has
-    /// to grant EXECUTE. The path isn't the root's. Faults are those of `walk_along`.
-    pub fn to_spot(&mut self, path: &Path) -> Result<Under, Halt>
-        requires { 0 < length path.now }
-        ensures same_keep { self.new.keep.ghost_name ≡ self.old.keep.ghost_name }
-        ensures same_asker { self.new.asker.now ≡ self.old.asker.now }
-        ensures done { Tries K.Keep self.old.keep.now self.new.keep.now result HasNoRoot
-            (IsSpotted self.old.asker.now path.now) }
-        ensures counted { K.reads self.new.keep.now
-            ≤ K.reads self.old.keep.now + (length path.now + 1) }
-    {
-        let depth = path.names().len() - 1;
-        let node = self.walk_along(path, depth)?;
-        self.spot_in(path, Found { node, depth })
-    }
+/// The walk to the folder of the path's last name, and what has that name in it. The folder has to
+/// grant EXECUTE. The path isn't the root's. Faults are those of `walk_along`.
+pub fn to_spot<K: Keep>(
+    alloc: Global,
+    keep: &mut K,
+    asker: &Asker,
+    path: &Path,
+) -> Result<Under, Halt>
+    requires { 0 < length path.now }
+    ensures done { Tries K.Keep keep.old keep.new result HasNoRoot (IsSpotted asker.now path.now) }
+    ensures counted { K.reads keep.new ≤ K.reads keep.old + (length path.now + 1) }
+{
+    let depth = path.names().len() - 1;
+    let node = walk_along(alloc, keep, asker, path, depth)?;
+    spot_in(alloc, keep, asker, path, Found { node, depth })
+}
 
-    /// The walk to an object that has to be there, and to its folder. The path isn't the root's.
-    /// Faults are those of `walk_along`.
-    pub fn to_pair(&mut self, path: &Path) -> Result<Both, Halt>
-        requires { 0 < length path.now }
-        ensures same_keep { self.new.keep.ghost_name ≡ self.old.keep.ghost_name }
-        ensures same_asker { self.new.asker.now ≡ self.old.asker.now }
-        ensures done { Tries K.Keep self.old.keep.now self.new.keep.now result HasNoRoot
-            (IsPaired self.old.asker.now path.now) }
-        ensures counted { K.reads self.new.keep.now
-            ≤ K.reads self.old.keep.now + (length path.now + 1) }
-    {
-        let spot = self.to_spot(path)?;
-        both_at(self.alloc, path, spot)
-    }
+/// The walk to an object that has to be there, and to its folder. The path isn't the root's. Faults
+/// are those of `walk_along`.
+pub fn to_pair<K: Keep>(
+    alloc: Global,
+    keep: &mut K,
+    asker: &Asker,
+    path: &Path,
+) -> Result<Both, Halt>
+    requires { 0 < length path.now }
+    ensures done { Tries K.Keep keep.old keep.new result HasNoRoot (IsPaired asker.now path.now) }
+    ensures counted { K.reads keep.new ≤ K.reads keep.old + (length path.now + 1) }
+{
+    let spot = to_spot(alloc, keep, asker, path)?;
+    both_at(alloc, path, spot)
+}
 
-    /// As `to_pair`, from a root that was read already.
-    pub fn to_pair_from(&mut self, path: &Path, root: &Node) -> Result<Both, Halt>
-        requires { 0 < length path.now }
-        ensures same_keep { self.new.keep.ghost_name ≡ self.old.keep.ghost_name }
-        ensures same_asker { self.new.asker.now ≡ self.old.asker.now }
-        ensures done { Tries K.Keep self.old.keep.now self.new.keep.now result
-            (IsUnreadableFrom root.now)
-            (FromRoot root.now (IsPaired self.old.asker.now path.now)) }
-        ensures counted { K.reads self.new.keep.now ≤ K.reads self.old.keep.now + length path.now }
-    {
-        let spot = self.to_spot_from(path, root)?;
-        both_at(self.alloc, path, spot)
-    }
+/// As `to_pair`, from a root that was read already.
+pub fn to_pair_from<K: Keep>(
+    alloc: Global,
+    keep: &mut K,
+    asker: &Asker,
+    path: &Path,
+    root: &Node,
+) -> Result<Both, Halt>
+    requires { 0 < length path.now }
+    ensures done { Tries K.Keep keep.old keep.new result (IsUnreadableFrom root.now)
+        (FromRoot root.now (IsPaired asker.now path.now)) }
+    ensures counted { K.reads keep.new ≤ K.reads keep.old + length path.now }
+{
+    let spot = to_spot_from(alloc, keep, asker, path, root)?;
+    both_at(alloc, path, spot)
+}
 
-    // As `to_spot`, from a root that was read already.
-    fn to_spot_from(&mut self, path: &Path, root: &Node) -> Result<Under, Halt>
-        requires { 0 < length path.now }
-        ensures same_keep { self.new.keep.ghost_name ≡ self.old.keep.ghost_name }
-        ensures same_asker { self.new.asker.now ≡ self.old.asker.now }
-        ensures done { Tries K.Keep self.old.keep.now self.new.keep.now result
-            (IsUnreadableFrom root.now)
-            (FromRoot root.now (IsSpotted self.old.asker.now path.now)) }
-        ensures counted { K.reads self.new.keep.now ≤ K.reads self.old.keep.now + length path.now }
-    {
-        let depth = path.names().len() - 1;
-        let node = self.walk_from(path, depth, root)?;
-        self.spot_in(path, Found { node, depth })
-    }
+// As `to_spot`, from a root that was read already.
+fn to_spot_from<K: Keep>(
+    alloc: Global,
+    keep: &mut K,
+    asker: &Asker,
+    path: &Path,
+    root: &Node,
+) -> Result<Under, Halt>
+    requires { 0 < length path.now }
+    ensures done { Tries K.Keep keep.old keep.new result (IsUnreadableFrom root.now)
+        (FromRoot root.now (IsSpotted asker.now path.now)) }
+    ensures counted { K.reads keep.new ≤ K.reads keep.old + length path.now }
+{
+    let depth = path.names().len() - 1;
+    let node = walk_from(alloc, keep, asker, path, depth, root)?;
+    spot_in(alloc, keep, asker, path, Found { node, depth })
+}
 
-    // What has the last name of the path in this folder, which has to grant EXECUTE.
-    fn spot_in(&mut self, path: &Path, folder: Found) -> Result<Under, Halt>
-        requires { length path.now ≡ folder.depth + 1 }
-        ensures same_keep { self.new.keep.ghost_name ≡ self.old.keep.ghost_name }
-        ensures same_asker { self.new.asker.now ≡ self.old.asker.now }
-        ensures done { Tries K.Keep self.old.keep.now self.new.keep.now result IsUnreadable
-            (SpotsUnder self.old.asker.now path.now folder) }
-        ensures counted { K.reads self.new.keep.now ≤ K.reads self.old.keep.now + 1 }
-    {
-        self.pass_through(path, &folder)?;
-        let name = &path.names()[folder.depth];
-        let child = self.keep.child(folder.node.id, name.as_str())?;
-        Ok(Under { folder, child })
-    }
+// What has the last name of the path in this folder, which has to grant EXECUTE.
+fn spot_in<K: Keep>(
+    alloc: Global,
+    keep: &mut K,
+    asker: &Asker,
+    path: &Path,
+    folder: Found,
+) -> Result<Under, Halt>
+    requires { length path.now ≡ folder.depth + 1 }
+    ensures done { Tries K.Keep keep.old keep.new result IsUnreadable
+        (SpotsUnder asker.now path.now folder) }
+    ensures counted { K.reads keep.new ≤ K.reads keep.old + 1 }
+{
+    pass_through(alloc, keep, asker, path, &folder)?;
+    let name = &path.names()[folder.depth];
+    let child = keep.child(folder.node.id, name.as_str())?;
+    Ok(Under { folder, child })
 }
 
 // What is at the spot has to be there.

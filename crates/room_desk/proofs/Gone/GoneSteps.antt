@@ -1,6 +1,6 @@
 -- A request that removes an object is a step.
-use Rattle.std.proofs.Common.{◌≡◌, ℕ, ◌==◌, Bool, true, false, not, List, [], ◌∷◌, ◌++◌, map}
-use Rattle.std.proofs.Common.{length, Option, Some, None, refl, sym, ap, subst, ◌∙◌}
+use Rattle.std.proofs.Common.{◌≡◌, ℕ, Bool, true, false, not, List, [], ◌∷◌, ◌++◌, map}
+use Rattle.std.proofs.Common.{Option, Some, None, refl, sym, ap, subst, ◌∙◌}
 use Rattle.std.proofs.Common.{arith}
 use Rattle.std.proofs.Common.{Err}
 use Rattle.std.proofs.Math.Seq.{take-length}
@@ -44,12 +44,6 @@ use Rattle.room_desk.proofs.Sound.Filled.{way_filled}
 use Rattle.room_desk.proofs.Steps.Stepping.{changed_step, refused_step}
 use Rattle.room_desk.proofs.Steps.Serving.{along_there}
 use Rattle.room_desk.proofs.Made.FolderPlans.{parent_filled}
-use Rattle.std.proofs.lemmas.Bool.Decides.{nat_tests}
-
-pub no_names : (path names : List (List ℕ)) (t : Bool) → names ≡ path → t ≡ (length names == 0)
-    → t ≡ true → path ≡ []
-no_names [] names t same is holds = refl
-no_names (name ∷ more) names t same is holds = grind (arith, nat_tests)
 
 -- what is stored and what is meant agree on whether there are children
 empty_kept : (content : Content) (id : ℕ)

@@ -1,10 +1,7 @@
-use Rattle.std.proofs.Common.{[], refl, ap, ◌∙◌}
-use Rattle.room_judge.specs.declared.asker.Asker.{Asker}
+use Rattle.std.proofs.Common.{[], refl}
 use Rattle.room_judge.proofs.Calls.{done, finish}
 use Rattle.room_judge.proofs.Halts.{halts_first, memory_out}
-use Rattle.room_machine.specs.declared.reply.Reply.TheVariants.{Rulings}
 use Rattle.room_machine.specs.declared.request.Request.TheVariants.{Can}
-use Rattle.room_desk.specs.Asked.{rulings_at}
 use Rattle.room_desk.proofs.Sound.Blamed.{rootless_damaged}
 use Rattle.room_desk.proofs.Steps.Serving.{not_served, served_rulings}
 use Rattle.room_desk.proofs.asking.can.Goals as goal
@@ -15,7 +12,7 @@ returns-in_err-node-clause-done g c =
     halts_first g.met.K.Keep.laws _ c.in_err-node.ensures.done
     (λ old at h. rootless_damaged old old at refl h)
     (λ old new reply are reached.
-    not_served c.args.walk.now.asker.now path (Can path c.args.mask) (λ _. []) (λ along content. refl)
+    not_served c.args.asker.now path (Can path c.args.mask) (λ _. []) (λ along content. refl)
     (λ site. refl) old new reply are reached)
     c.from_residual.result c.from_residual.ensures.1
 
@@ -29,8 +26,5 @@ returns-clause-done g c =
     let mask = c.args.mask in
     finish g.met.K.Keep.laws _ (done c.in_ok-node.ensures.done)
     (λ old new are reached.
-    served_rulings c.args.walk.now.asker.now c.args.path.now mask old new c.in_ok-node.node _ are
-    reached
-    (c.in_ok-rulings_reply.ensures
-    ∙ ap (λ (a : Asker). Rulings (rulings_at a c.in_ok-node.node mask))
-    c.in_ok-node.ensures.same_asker))
+    served_rulings c.args.asker.now c.args.path.now mask old new c.in_ok-node.node _ are reached
+    c.in_ok-rulings_reply.ensures)

@@ -15,12 +15,12 @@ pub returns-in_err-spot-clause-done : goal.returns-in_err-spot-clause-done
 returns-in_err-spot-clause-done g c =
     halts_first g.met.K.Keep.laws _ c.in_err-spot.ensures.done
     (λ old at h. rootless_damaged old old at refl h)
-    (folder_barred c.args.walk.now.asker.now c.args.path.now c.requires.some)
+    (folder_barred c.args.asker.now c.args.path.now c.requires.some)
     c.from_residual.result c.from_residual.ensures.1
 
 pub returns-clause-done : goal.returns-clause-done
 returns-clause-done g c =
-    let asker = c.args.walk.now.asker.now in
+    let asker = c.args.asker.now in
     let path = c.args.path.now in
     let name = c.args.name.now in
     let folder = c.in_ok-spot.spot.folder in
@@ -29,8 +29,7 @@ returns-clause-done g c =
     (λ old mid at are spotted h. spotted_blames asker path _ old mid at spotted h)
     (λ old mid outcome new are spotted served.
     make_in asker path old mid folder child name c.requires are spotted (is_some child) refl new
-    (replied outcome)
-    (rw (c.in_ok-spot.ensures.same_asker, c.new-bytes.ensures) at served))
+    (replied outcome) (rw c.new-bytes.ensures at served))
     (λ old mid new more are spotted enough. (
       λ none. can_make path folder.node child _ old refl c.requires
           (found_folder asker path c.requires.some old mid folder child are spotted)

@@ -16,8 +16,8 @@ pub returns-in-None-clause-done : goal.returns-in-None-clause-done
 returns-in-None-clause-done g c =
     let m = g.met.K.Keep in
     let path = c.args.path.now in
-    refused_as m.laws (none_done m.laws c.args.walk.now.keep.now) c.refusal.result
+    refused_as m.laws (none_done m.laws c.args.keep.now) c.refusal.result
     (Refused (take 0 path) Exists) c.refusal.ensures
     (λ old new are same.
-    folder_root c.args.walk.now.asker.now path old new (Refused (take 0 path) Exists)
+    folder_root c.args.asker.now path old new (Refused (take 0 path) Exists)
     c.in-None.ensures.parts refl same)

@@ -1,23 +1,19 @@
-use Rattle.std.proofs.Common.{[], ◌∷◌, None, refl, sym, subst, ◌∙◌}
+use Rattle.std.proofs.Common.{[], ◌∷◌, None, refl, sym, ◌∙◌}
 use Rattle.std.specs.Prelude.{is_some}
 use Rattle.room_entry.specs.Rights.{append_data}
 use Rattle.room_machine.specs.declared.reply.Reason.TheVariants.{Exists}
 use Rattle.room_judge.specs.Halted.{replied}
 use Rattle.room_judge.specs.Stored.{found_site}
-use Rattle.room_judge.specs.declared.asker.Asker.{Asker}
 use Rattle.room_judge.proofs.Calls.{done}
-use Rattle.room_desk.specs.Made.{MakesChild}
 use Rattle.room_machine.specs.Changed.{new_child}
 use Rattle.room_judge.proofs.Judging.{blames_first}
 use Rattle.room_desk.proofs.Made.ServedItems.{added_behind}
-use Rattle.room_rows.specs.Keep.{CanAdd}
-use Rattle.room_judge.specs.Extent.{unrecorded}
 use Rattle.room_judge.proofs.UpTo.{tail_provided}
 use Rattle.room_desk.proofs.making.make_new.Goals as goal
 
 pub returns-clause-done : goal.returns-clause-done
 returns-clause-done g c =
-    let asker = c.args.walk.now.asker.now in
+    let asker = c.args.asker.now in
     let path = c.args.path.now in
     let folder = c.args.spot.now.folder in
     let child = c.args.child.now in
@@ -28,12 +24,8 @@ returns-clause-done g c =
     (is_some c.args.spot.now.child)
     (new_child asker.caller child.kind folder.node child.name.now child.bytes.now) old mid new None
     (replied outcome) c.append_data.ensures refl
-    (sym c.is_some-is_there.ensures ∙ c.if-is_there.false) judged
-    (subst (λ (a : Asker). MakesChild a.caller child.kind folder.node child.name.now
-    child.bytes.now mid (replied outcome) new) c.in_ok-check.ensures.same_asker made))
+    (sym c.is_some-is_there.ensures ∙ c.if-is_there.false) judged made)
     (λ old mid new more are judged enough. (
-      subst (λ (a : Asker). CanAdd (new_child a.caller child.kind folder.node child.name.now
-          child.bytes.now) (unrecorded old)) (sym c.in_ok-check.ensures.same_asker)
-          (enough.0 (sym c.is_some-is_there.ensures ∙ c.if-is_there.false)),
+      enough.0 (sym c.is_some-is_there.ensures ∙ c.if-is_there.false),
       enough.1,
     ))

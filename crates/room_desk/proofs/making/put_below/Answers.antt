@@ -18,12 +18,12 @@ pub returns-in_err-spot-clause-done : goal.returns-in_err-spot-clause-done
 returns-in_err-spot-clause-done g c =
     halts_first g.met.K.Keep.laws _ c.in_err-spot.ensures.done
     (λ old at h. rootless_damaged old old at refl h)
-    (put_barred c.args.walk.now.asker.now c.args.path.now c.args.bytes.now)
+    (put_barred c.args.asker.now c.args.path.now c.args.bytes.now)
     c.from_residual.result c.from_residual.ensures.1
 
 pub returns-in-Some-clause-done : goal.returns-in-Some-clause-done
 returns-in-Some-clause-done g c =
-    let asker = c.args.walk.now.asker.now in
+    let asker = c.args.asker.now in
     let path = c.args.path.now in
     let node = c.in-Some.node in
     let spot = λ (old mid : Rows).
@@ -32,8 +32,7 @@ returns-in-Some-clause-done g c =
     (λ old mid at are spotted h. spotted_blames asker path _ old mid at spotted h)
     (λ old mid outcome new are spotted served.
     put_on asker path c.args.bytes.now old mid _ node are (spot old mid spotted) _
-    (ap length c.names-depth.ensures) new (replied outcome)
-    (rw c.in_ok-spot.ensures.same_asker at served))
+    (ap length c.names-depth.ensures) new (replied outcome) served)
     (λ old mid new more are spotted enough. (
       along_there old.read are.numbers path (stored_site path node) (spot old mid spotted).child,
       one_of_both old new more enough,
@@ -41,7 +40,7 @@ returns-in-Some-clause-done g c =
 
 pub returns-clause-done : goal.returns-clause-done
 returns-clause-done g c =
-    let asker = c.args.walk.now.asker.now in
+    let asker = c.args.asker.now in
     let path = c.args.path.now in
     let folder = c.in_ok-spot.spot.folder in
     let spot = λ (old mid : Rows).
@@ -50,7 +49,7 @@ returns-clause-done g c =
     (λ old mid at are spotted h. spotted_blames asker path _ old mid at spotted h)
     (λ old mid outcome new are spotted served.
     put_in asker path c.args.bytes.now old mid folder c.args.name.now c.requires are
-    (spot old mid spotted) new (replied outcome) (rw c.in_ok-spot.ensures.same_asker at served))
+    (spot old mid spotted) new (replied outcome) served)
     (λ old mid new more are spotted enough. (
       can_make path folder.node None _ old refl c.requires
           (found_folder asker path c.requires.some old mid folder None are (spot old mid spotted))

@@ -1,23 +1,19 @@
-use Rattle.std.proofs.Common.{ℕ, ◌≡◌, ◌≤◌, false, [], ◌∷◌, None, nat_lt, length, refl, sym, subst}
+use Rattle.std.proofs.Common.{ℕ, ◌≡◌, ◌≤◌, false, [], ◌∷◌, None, nat_lt, length, refl, subst}
 use Rattle.std.proofs.lemmas.Bool.{le-ltb}
 use Rattle.room_entry.specs.Rights.{write_data}
 use Rattle.room_machine.specs.declared.reply.Reason.TheVariants.{TooLarge}
 use Rattle.room_judge.specs.Halted.{replied}
 use Rattle.room_judge.specs.Stored.{found_site}
-use Rattle.room_judge.specs.declared.asker.Asker.{Asker}
 use Rattle.room_judge.proofs.Calls.{done}
-use Rattle.room_desk.specs.Made.{MakesChild}
 use Rattle.room_machine.specs.Changed.{new_child}
 use Rattle.room_judge.proofs.Judging.{blames_first}
 use Rattle.room_desk.proofs.Made.ServedItems.{added_behind}
-use Rattle.room_rows.specs.Keep.{CanAdd}
-use Rattle.room_judge.specs.Extent.{unrecorded}
 use Rattle.room_judge.proofs.UpTo.{tail_provided}
 use Rattle.room_desk.proofs.making.put_new.Goals as goal
 
 pub returns-clause-done : goal.returns-clause-done
 returns-clause-done g c =
-    let asker = c.args.walk.now.asker.now in
+    let asker = c.args.asker.now in
     let path = c.args.path.now in
     let folder = c.args.folder.now in
     let child = c.args.child.now in
@@ -30,11 +26,5 @@ returns-clause-done g c =
     added_behind asker (found_site path folder) c.write_data.result (write_data ∷ []) path TooLarge
     (nat_lt 1048576 (length child.bytes.now))
     (new_child asker.caller child.kind folder.node child.name.now child.bytes.now) old mid new None
-    (replied outcome) c.write_data.ensures refl few judged
-    (subst (λ (a : Asker). MakesChild a.caller child.kind folder.node child.name.now
-    child.bytes.now mid (replied outcome) new) c.in_ok-check.ensures.same_asker made))
-    (λ old mid new more are judged enough. (
-      subst (λ (a : Asker). CanAdd (new_child a.caller child.kind folder.node child.name.now
-          child.bytes.now) (unrecorded old)) (sym c.in_ok-check.ensures.same_asker) enough.0,
-      enough.1,
-    ))
+    (replied outcome) c.write_data.ensures refl few judged made)
+    (λ old mid new more are judged enough. enough)

@@ -1,15 +1,7 @@
-use Rattle.std.proofs.Common.{[], ◌∷◌, length, refl, subst}
-use Rattle.room_entry.specs.Rights.{write_data}
-use Rattle.room_rows.specs.Keep.{SetsBody}
-use Rattle.room_machine.specs.Plan.{Check, no_folder, not_over}
-use Rattle.room_machine.specs.declared.reply.Reply.TheVariants.{Done}
+use Rattle.std.proofs.Common.{refl}
 use Rattle.room_judge.specs.Halted.{replied}
-use Rattle.room_judge.specs.Stored.{found_site}
-use Rattle.room_judge.specs.declared.arrival.Found.{Found}
-use Rattle.room_judge.specs.declared.asker.Asker.{Asker}
 use Rattle.room_judge.proofs.Calls.{done}
 use Rattle.room_judge.proofs.Halts.{halts_first}
-use Rattle.room_desk.specs.Made.{IsJudgedAndDone}
 use Rattle.room_desk.proofs.Made.PutMade.{put_root, root_barred}
 use Rattle.room_desk.proofs.Sound.Blamed.{noted_unread, rootless_damaged}
 use Rattle.room_machine.specs.Stored.{stored_site}
@@ -23,25 +15,20 @@ returns-in_err-node-clause-done g c =
     halts_first g.met.K.Keep.laws _ c.in_err-node.ensures.done
     (λ old at h. rootless_damaged old old at refl h)
     (λ old new reply are reached.
-    root_barred c.args.walk.now.asker.now c.args.path.now c.args.bytes.now c.requires old new reply
+    root_barred c.args.asker.now c.args.path.now c.args.bytes.now c.requires old new reply
     are reached)
     c.from_residual.result c.from_residual.ensures.1
 
 pub returns-clause-done : goal.returns-clause-done
 returns-clause-done g c =
-    let asker = c.args.walk.now.asker.now in
+    let asker = c.args.asker.now in
     let path = c.args.path.now in
     let bytes = c.args.bytes.now in
     let node = c.in_ok-node.node in
-    let target : Found = record { node = node; depth = 0 } in
     tail_provided g.met.K.Keep.laws (done c.in_ok-node.ensures.done) c.put_there.ensures.done
     (λ old mid at are reached h. noted_unread old mid _ at reached.judged.notes h)
     (λ old mid outcome new are reached served.
-    put_root asker path bytes c.requires old mid node are reached new (replied outcome)
-    (subst (λ (a : Asker). IsJudgedAndDone a
-    (no_folder (found_site path target) ∷ Check (found_site path target) (write_data ∷ [])
-    ∷ not_over path (length bytes) ∷ []) Done (SetsBody node.id bytes) mid (replied outcome) new)
-    c.in_ok-node.ensures.same_asker served))
+    put_root asker path bytes c.requires old mid node are reached new (replied outcome) served)
     (λ old mid new more are reached enough. (
       along_there old.read are.numbers path (stored_site path node) reached.found,
       one_of_both old new more enough,

@@ -10,19 +10,19 @@ use Rattle.room_desk.proofs.making.put_there.Goals as goal
 
 pub returns-clause-done : goal.returns-clause-done
 returns-clause-done g c =
-    let asker = c.args.walk.now.asker.now in
+    let asker = c.args.asker.now in
     let target = c.args.target.now in
     tail_provided g.met.K.Keep.laws (done c.in_ok-check_kind.ensures.done) c.put_bytes.ensures.done
     (λ old mid at are judged h. blames_first asker _ _ old mid at judged h)
     (λ old mid outcome new are judged put.
-    put_behind asker (found_site c.args.path.now target) c.write_data.result c.args.path.now
+    put_behind asker (found_site c.args.path.now target) c.write_data-mask.result c.args.path.now
     target.node.id c.args.bytes.now c.as_slice.result.now old mid new None (replied outcome)
-    c.write_data.ensures refl c.as_slice.ensures judged put)
+    c.write_data-mask.ensures refl c.as_slice.ensures judged put)
     (λ old mid new more are judged enough. (
       (
         target.node,
         enough.0,
-        document_passed asker (found_site c.args.path.now target) c.write_data.result old mid
+        document_passed asker (found_site c.args.path.now target) c.write_data-mask.result old mid
             judged,
       ),
       enough.1,

@@ -1,4 +1,4 @@
-use Rattle.std.proofs.Common.{Bool, List, [], ◌∷◌, ◌++◌, ◌∙◌, None, Some}
+use Rattle.std.proofs.Common.{Bool, List, [], ◌∷◌, ◌++◌, None, Some}
 use Rattle.room_machine.specs.Plan.{Check, Deletion, Item, right_to_add}
 use Rattle.room_machine.specs.Site.{Site, front}
 use Rattle.room_judge.specs.Judged.{refusal_of, through}
@@ -21,13 +21,13 @@ returns-in_err-pass_through-clause-done g c =
     halts_first g.met.K.Keep.laws _ c.in_err-pass_through.ensures.done
     (λ old at never. absurd never)
     (λ old new reply are judged.
-    fails_first c.args.walk.now.asker.now (through site)
+    fails_first c.args.asker.now (through site)
     (leave ++ free_place old.read to (begins path (front to)) folder.node) old new reply judged)
     c.from_residual.result c.from_residual.ensures.1
 
 pub returns-in_err-check_deletion-clause-done : goal.returns-in_err-check_deletion-clause-done
 returns-in_err-check_deletion-clause-done g c =
-    let asker = c.args.walk.now.asker.now in
+    let asker = c.args.asker.now in
     let path = c.args.moving.now.path.now in
     let to = c.args.to.now in
     let folder = c.args.folder.now in
@@ -43,14 +43,13 @@ returns-in_err-check_deletion-clause-done g c =
     (leave ∷ come ∷ free_place old.read to (begins path (front to)) folder.node) old mid new
     (Some reply) passed
     (fails_first asker (leave ∷ [])
-    (come ∷ free_place old.read to (begins path (front to)) folder.node) mid new reply
-    (rw c.in_ok-pass_through.ensures.same_asker at judged)))
+    (come ∷ free_place old.read to (begins path (front to)) folder.node) mid new reply judged))
     c.from_residual-in_err-check_deletion.result c.from_residual-in_err-check_deletion.ensures.1
 
 pub returns-in_err-check-clause-done : goal.returns-in_err-check-clause-done
 returns-in_err-check-clause-done g c =
     let m = g.met.K.Keep in
-    let asker = c.args.walk.now.asker.now in
+    let asker = c.args.asker.now in
     let path = c.args.moving.now.path.now in
     let to = c.args.to.now in
     let folder = c.args.folder.now in
@@ -58,13 +57,10 @@ returns-in_err-check-clause-done g c =
     let site : Site = found_site to folder in
     let leave : Item = Deletion (found_site path target)
     (found_site path c.args.moving.now.from.now) in
-    let same = c.in_ok-check_deletion.ensures.same_asker ∙ c.in_ok-pass_through.ensures.same_asker
-    in
     halts m.laws _ (then m.laws (done c.in_ok-pass_through.ensures.done)
     (done c.in_ok-check_deletion.ensures.done)
     (λ old mid new passed judged.
-    passes_first asker (through site) (leave ∷ []) old mid new None passed
-    (rw c.in_ok-pass_through.ensures.same_asker at judged)))
+    passes_first asker (through site) (leave ∷ []) old mid new None passed judged))
     c.in_err-check.ensures.done (λ old mid at are passed never. absurd never)
     (λ old mid new reply are passed judged.
     passes_first asker (through site ++ leave ∷ [])
@@ -72,13 +68,13 @@ returns-in_err-check-clause-done g c =
     ∷ free_place old.read to (begins path (front to)) folder.node) old mid new (Some reply) passed
     (fails_first asker (Check site (right_to_add target.node ∷ []) ∷ [])
     (free_place old.read to (begins path (front to)) folder.node) mid new reply
-    (rw (same, c.right_to_add.ensures) at judged)))
+    (rw c.right_to_add-right.ensures at judged)))
     c.from_residual-in_err-check.result c.from_residual-in_err-check.ensures.1
 
 pub returns-clause-done : goal.returns-clause-done
 returns-clause-done g c =
     let m = g.met.K.Keep in
-    let asker = c.args.walk.now.asker.now in
+    let asker = c.args.asker.now in
     let path = c.args.moving.now.path.now in
     let to = c.args.to.now in
     let below : Bool = begins path (front to) in
@@ -87,18 +83,15 @@ returns-clause-done g c =
     let from : Site = found_site path c.args.moving.now.from.now in
     let site : Site = found_site to folder in
     let leave : Item = Deletion (found_site path target) from in
-    let same = c.in_ok-check_deletion.ensures.same_asker ∙ c.in_ok-pass_through.ensures.same_asker
-    in
     tail m.laws (then m.laws (then m.laws (done c.in_ok-pass_through.ensures.done)
     (done c.in_ok-check_deletion.ensures.done)
     (λ old mid new passed judged.
-    passes_first asker (through site) (leave ∷ []) old mid new None passed
-    (rw c.in_ok-pass_through.ensures.same_asker at judged)))
+    passes_first asker (through site) (leave ∷ []) old mid new None passed judged))
     (done c.in_ok-check.ensures.done)
     (λ old mid new passed judged.
     passes_first asker (through site ++ leave ∷ [])
     (Check site (right_to_add target.node ∷ []) ∷ []) old mid new None passed
-    (rw (same, c.right_to_add.ensures) at judged)))
+    (rw c.right_to_add-right.ensures at judged)))
     c.check_free.ensures.done (λ old mid at passed h. blames_first asker _ None old mid at passed h)
     (λ old mid outcome new passed free.
     free_after to below folder.node asker

@@ -12,12 +12,11 @@ use Rattle.room_desk.proofs.moving.move_found.Goals as goal
 pub returns-in-None-clause-done : goal.returns-in-None-clause-done
 returns-in-None-clause-done g c =
     let m = g.met.K.Keep in
-    let asker = c.args.walk.now.asker.now in
+    let asker = c.args.asker.now in
     let path = c.args.moving.now.path.now in
     let from = c.args.moving.now.from.now in
     let target = c.args.moving.now.target.now in
-    tail m.laws (none_done m.laws c.args.walk.now.keep.now)
-    (widened m.laws c.refuse_root.ensures.done)
+    tail m.laws (none_done m.laws c.args.keep.now) (widened m.laws c.refuse_root.ensures.done)
     (λ old mid at same never. absurd never)
     (λ old mid outcome new same judged rooted first are paired.
     root_refused asker path c.args.to.now from target first old are paired new (replied outcome)
@@ -26,7 +25,7 @@ returns-in-None-clause-done g c =
 
 pub returns-in_err-folder-in-Some-clause-done : goal.returns-in_err-folder-in-Some-clause-done
 returns-in_err-folder-in-Some-clause-done g c =
-    let asker = c.args.walk.now.asker.now in
+    let asker = c.args.asker.now in
     let path = c.args.moving.now.path.now in
     let to = c.args.to.now in
     let from = c.args.moving.now.from.now in
@@ -42,7 +41,7 @@ returns-in_err-folder-in-Some-clause-done g c =
 
 pub returns-in_err-place_at-in-Some-clause-done : goal.returns-in_err-place_at-in-Some-clause-done
 returns-in_err-place_at-in-Some-clause-done g c =
-    let asker = c.args.walk.now.asker.now in
+    let asker = c.args.asker.now in
     let path = c.args.moving.now.path.now in
     let to = c.args.to.now in
     let from = c.args.moving.now.from.now in
@@ -65,7 +64,7 @@ returns-in_err-place_at-in-Some-clause-done g c =
 pub returns-in_ok-place_at-in-Some-clause-done : goal.returns-in_ok-place_at-in-Some-clause-done
 returns-in_ok-place_at-in-Some-clause-done g c =
     let m = g.met.K.Keep in
-    let asker = c.args.walk.now.asker.now in
+    let asker = c.args.asker.now in
     let path = c.args.moving.now.path.now in
     let to = c.args.to.now in
     let from = c.args.moving.now.from.now in

@@ -1,15 +1,13 @@
-use Rattle.std.proofs.Common.{◌≡◌, Some, ap, refl, subst, take, ◌∙◌}
+use Rattle.std.proofs.Common.{◌≡◌, Some, ap, refl, take, ◌∙◌}
 use Rattle.std.proofs.Common.{Result, Err, arith, length, ◌+◌}
 use Rattle.room_rows.specs.Content.{root_of}
 use Rattle.room_rows.specs.Rows.{Rows}
 use Rattle.room_machine.specs.declared.reply.Reply.TheVariants.{Refused}
 use Rattle.room_machine.specs.declared.reply.Reason.TheVariants.{Root}
-use Rattle.room_judge.specs.Halted.{replied, settled}
+use Rattle.room_judge.specs.Halted.{settled}
 use Rattle.room_judge.specs.Spot.{IsPaired, pair_of}
-use Rattle.room_judge.specs.declared.asker.Asker.{Asker}
 use Rattle.room_judge.proofs.Calls.{done, none_done, of_read, then}
 use Rattle.room_judge.proofs.Halts.{faults, halts, refused_as}
-use Rattle.room_desk.specs.Moving.{FailsToMove, MovesOn}
 use Rattle.room_desk.proofs.Moves.MovingSteps.{empty_path, root_after, root_stays, rooted_pair}
 use Rattle.room_desk.proofs.Moves.MovingSteps.{way_halted}
 use Rattle.room_desk.proofs.Sound.Blamed.{rootless_damaged, unread_damaged}
@@ -27,20 +25,20 @@ returns-then-is_root-clause-done g c =
     refused_as m.laws (done (of_read c.in_ok-root.ensures.read)) c.refusal.result
     (Refused (take 0 path) Root) c.refusal.ensures
     (λ old new are both.
-    root_stays c.args.walk.now.asker.now path c.args.to.now c.in_ok-root.root old new
+    root_stays c.args.asker.now path c.args.to.now c.in_ok-root.root old new
     (Refused (take 0 path) Root) are
     (empty_path path c.is_root.result c.is_root.ensures c.if-is_root.true) both.0 refl both.1)
 
 pub returns-in_err-root-clause-done : goal.returns-in_err-root-clause-done
 returns-in_err-root-clause-done g c =
     let m = g.met.K.Keep in
-    faults m.laws (none_done m.laws c.args.walk.now.keep.now) (of_read c.in_err-root.ensures.read)
+    faults m.laws (none_done m.laws c.args.keep.now) (of_read c.in_err-root.ensures.read)
     (λ old mid at are same h. rootless_damaged old mid at same h)
     c.from_residual.result c.from_residual.ensures.1
 
 pub returns-in_err-pair-clause-done : goal.returns-in_err-pair-clause-done
 returns-in_err-pair-clause-done g c =
-    let asker = c.args.walk.now.asker.now in
+    let asker = c.args.asker.now in
     let path = c.args.path.now in
     halts g.met.K.Keep.laws _ (done (of_read c.in_ok-root.ensures.read)) c.in_err-pair.ensures.done
     (λ old mid at are both h.
@@ -53,7 +51,7 @@ returns-in_err-pair-clause-done g c =
 pub returns-clause-done : goal.returns-clause-done
 returns-clause-done g c =
     let m = g.met.K.Keep in
-    let asker = c.args.walk.now.asker.now in
+    let asker = c.args.asker.now in
     let path = c.args.path.now in
     let to = c.args.to.now in
     let root = c.in_ok-root.root in
@@ -67,13 +65,9 @@ returns-clause-done g c =
     (both.0, rooted_pair asker path root pair old mid new both.0 both.1 paired)))
     c.move_found.ensures.done
     (λ old mid at are both never.
-    subst (λ (a : Asker). FailsToMove a path root folder target mid at)
-    c.in_ok-pair.ensures.same_asker never
-    (root_after asker path root pair old mid both.0 both.1) old are both.1)
+    never (root_after asker path root pair old mid both.0 both.1) old are both.1)
     (λ old mid outcome new are both moved.
-    subst (λ (a : Asker). MovesOn a path to root folder target mid (replied outcome) new)
-    c.in_ok-pair.ensures.same_asker moved
-    (root_after asker path root pair old mid both.0 both.1) old are both.1)
+    moved (root_after asker path root pair old mid both.0 both.1) old are both.1)
     (λ old mid new more are both enough. (
       stands_unrecorded path root target.node old both.0 both.1.target,
       enough,
@@ -85,8 +79,8 @@ returns-clause-counted g c =
     let path = c.args.path.now in
     let to = c.args.to.now in
     let grows = laws.grow _ _ c.in_ok-root.ensures.read.follows in
-    reads_on g.K.Keep (settled c.move_found.result) c.args.walk.now.keep.now
-    c.to_pair_from.new.self.keep.now c.move_found.new.walk.keep.now (length path + 1)
+    reads_on g.K.Keep (settled c.move_found.result) c.args.keep.now
+    c.to_pair_from.new.keep c.move_found.new.keep (length path + 1)
     (length to + 6) (length path + length to + 7)
     (omega (arith, c.in_ok-root.ensures.counted, c.in_ok-pair.ensures.counted))
     (omega (arith, grows, laws.grow _ _ c.in_ok-pair.ensures.done.follows)) (omega arith)

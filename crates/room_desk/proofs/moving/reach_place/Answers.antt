@@ -5,10 +5,7 @@ use Rattle.std.proofs.Common.{Ok, Err}
 use Rattle.room_rows.specs.Keep.{IsUnreadable}
 use Rattle.room_rows.specs.Rows.{Rows}
 use Rattle.room_machine.specs.Site.{Site, front}
-use Rattle.room_judge.specs.Judged.{IsJudged}
 use Rattle.room_judge.specs.Stored.{found_site}
-use Rattle.room_judge.specs.declared.arrival.Found.{Found}
-use Rattle.room_judge.specs.declared.asker.Asker.{Asker}
 use Rattle.room_judge.proofs.Calls.{done, finish, then}
 use Rattle.room_judge.proofs.Halts.{halts, halts_first}
 use Rattle.room_judge.proofs.Ways.{not_reached}
@@ -18,7 +15,7 @@ use Rattle.room_desk.proofs.moving.reach_place.Goals as goal
 
 pub returns-in_err-node-clause-done : goal.returns-in_err-node-clause-done
 returns-in_err-node-clause-done g c =
-    let asker = c.args.walk.now.asker.now in
+    let asker = c.args.asker.now in
     let path = c.args.moving.now.path.now in
     let to = c.args.to.now in
     let depth : ℕ = length c.names.result.now - 1 in
@@ -37,7 +34,7 @@ returns-in_err-node-clause-done g c =
 
 pub returns-in_err-check_place-clause-done : goal.returns-in_err-check_place-clause-done
 returns-in_err-check_place-clause-done g c =
-    let asker = c.args.walk.now.asker.now in
+    let asker = c.args.asker.now in
     let path = c.args.moving.now.path.now in
     let to = c.args.to.now in
     let below : Bool = begins path (front to) in
@@ -45,7 +42,6 @@ returns-in_err-check_place-clause-done g c =
     let from : Site = found_site path c.args.moving.now.from.now in
     let node = c.in_ok-node.node in
     let depth : ℕ = length c.names.result.now - 1 in
-    let folder : Found = record { node = node; depth = depth } in
     let size : length c.names.result.now ≡ length to = ap
     (λ (l : List (List ℕ)). length l) c.names.ensures in
     let some : 0 < length to = c.requires in
@@ -55,16 +51,13 @@ returns-in_err-check_place-clause-done g c =
     subst (λ (r : Rows). IsUnreadable r at) (reached rooted).judged.notes h)
     (λ old mid new reply are reached judged rooted.
     place_reached asker to below target from old mid new node depth (Some reply) deep
-    (front_reached asker to depth (Ok node) old mid deep (reached rooted))
-    (subst (λ (a : Asker). IsJudged a
-    (at_place mid.read to below target from (found_site to folder)) mid (Some reply) new)
-    c.in_ok-node.ensures.same_asker judged))
+    (front_reached asker to depth (Ok node) old mid deep (reached rooted)) judged)
     c.from_residual-in_err-check_place.result c.from_residual-in_err-check_place.ensures.1
 
 pub returns-clause-done : goal.returns-clause-done
 returns-clause-done g c =
     let m = g.met.K.Keep in
-    let asker = c.args.walk.now.asker.now in
+    let asker = c.args.asker.now in
     let path = c.args.moving.now.path.now in
     let to = c.args.to.now in
     let below : Bool = begins path (front to) in
@@ -72,7 +65,6 @@ returns-clause-done g c =
     let from : Site = found_site path c.args.moving.now.from.now in
     let node = c.in_ok-node.node in
     let depth : ℕ = length c.names.result.now - 1 in
-    let folder : Found = record { node = node; depth = depth } in
     let size : length c.names.result.now ≡ length to = ap
     (λ (l : List (List ℕ)). length l) c.names.ensures in
     let some : 0 < length to = c.requires in
@@ -82,6 +74,4 @@ returns-clause-done g c =
     (λ old mid new reached judged rooted.
     place_reached asker to below target from old mid new node depth None deep
     (front_reached asker to depth (Ok node) old mid deep (reached rooted))
-    (subst (λ (a : Asker). IsJudged a
-    (at_place mid.read to below target from (found_site to folder)) mid None new)
-    c.in_ok-node.ensures.same_asker judged))) (λ old new are h. h)
+    judged)) (λ old new are h. h)

@@ -10,8 +10,7 @@ pub returns-in_err-set_place-clause-done : goal.returns-in_err-set_place-clause-
 returns-in_err-set_place-clause-done g c =
     let k = g.K.Keep in
     let m = g.met.K.Keep in
-    fails m.laws (none_done m.laws c.args.walk.now.keep.now)
-    (of_write c.in_err-set_place.ensures.written)
+    fails m.laws (none_done m.laws c.args.keep.now) (of_write c.in_err-set_place.ensures.written)
     (λ old mid at same h.
     unplaced c.args.target.now c.args.folder.now c.args.name.now old mid at same h)
     c.from_residual.result c.from_residual.ensures.1

@@ -10,7 +10,7 @@ pub returns-then-not-takes_from-clause-done : goal.returns-then-not-takes_from-c
 returns-then-not-takes_from-clause-done g c =
     let k = g.K.Keep in
     let m = g.met.K.Keep in
-    finish m.laws tt (none_done m.laws c.args.walk.now.keep.now)
+    finish m.laws tt (none_done m.laws c.args.keep.now)
     (λ old new are same.
     unlinked_renews c.args.which c.args.target.now c.args.folder.now old new
     (sym c.takes_from.ensures ∙ c.if-not-takes_from.true) same)
@@ -24,7 +24,7 @@ returns-clause-done g c =
     c.in_ok-passed.ensures
     ∙ ap (pass c.args.target.now.kind)
     (c.full.ensures ∙ ap (λ (h : Held). full_of h) c.held.ensures) in
-    tail m.laws (none_done m.laws c.args.walk.now.keep.now) c.take_passed.ensures.done
+    tail m.laws (none_done m.laws c.args.keep.now) c.take_passed.ensures.done
     (λ old mid at same h. renewing_before c.args.target.now old mid at same h)
     (λ old mid x new same takes.
     taken_renews c.args.which c.args.target.now c.args.folder.now c.in_ok-passed.passed old

@@ -15,7 +15,7 @@ returns-then-is_stored-clause-done g c =
     let k = g.K.Keep in
     let m = g.met.K.Keep in
     let inh = c.inh.ensures ∙ ap (λ (h : Held). h.inh) c.held.ensures in
-    finish m.laws tt (none_done m.laws c.args.walk.now.keep.now)
+    finish m.laws tt (none_done m.laws c.args.keep.now)
     (λ old new are same.
     inl (
       entries_equal c.args.passed.now c.inh.result.now
@@ -27,8 +27,7 @@ pub returns-in_err-set_inh-clause-done : goal.returns-in_err-set_inh-clause-done
 returns-in_err-set_inh-clause-done g c =
     let k = g.K.Keep in
     let m = g.met.K.Keep in
-    fails m.laws (none_done m.laws c.args.walk.now.keep.now)
-    (of_write c.in_err-set_inh.ensures.written)
+    fails m.laws (none_done m.laws c.args.keep.now) (of_write c.in_err-set_inh.ensures.written)
     (λ old mid at same h. unrenewed c.args.target.now old mid at same h)
     c.from_residual.result c.from_residual.ensures.1
 

@@ -11,7 +11,7 @@ use Rattle.room_desk.proofs.reading.list.Goals as goal
 
 pub returns-in_err-node-clause-done : goal.returns-in_err-node-clause-done
 returns-in_err-node-clause-done g c =
-    let asker = c.args.walk.now.asker.now in
+    let asker = c.args.asker.now in
     let path = c.args.path.now in
     halts_first g.met.K.Keep.laws _ c.in_err-node.ensures.done
     (λ old at h. rootless_damaged old old at refl h)
@@ -27,14 +27,13 @@ returns-in_err-list_at-clause-done g c =
     faults g.met.K.Keep.laws (done c.in_ok-node.ensures.done)
     (of_read c.in_err-list_at.ensures.read)
     (λ old mid at are reached h.
-    reached_damaged c.args.walk.now.asker.now c.args.path.now _ (Ok c.in_ok-node.node) old mid at
-    reached h)
+    reached_damaged c.args.asker.now c.args.path.now _ (Ok c.in_ok-node.node) old mid at reached h)
     c.from_residual-in_err-list_at.result c.from_residual-in_err-list_at.ensures.1
 
 pub returns-clause-done : goal.returns-clause-done
 returns-clause-done g c =
     let m = g.met.K.Keep in
-    let asker = c.args.walk.now.asker.now in
+    let asker = c.args.asker.now in
     let path = c.args.path.now in
     finish m.laws _ (then_known m.laws (done c.in_ok-node.ensures.done)
     (done (of_read c.in_ok-list_at.ensures.read))

@@ -10,19 +10,18 @@ returns-in_err-check-clause-done g c =
     let setting = c.args.setting.now in
     halts_first g.met.K.Keep.laws _ c.in_err-check.ensures.done (λ old at never. absurd never)
     (λ mid new reply are judged old found.
-    not_allowed c.args.walk.now.asker.now setting.path.now setting.which setting.sent.now
-    setting.target.now (option_copied setting.above) old mid found new c.write_acl.result reply
-    c.write_acl.ensures judged)
-    c.from_residual.result c.from_residual.ensures.1
+    not_allowed c.args.asker.now setting.path.now setting.which setting.sent.now
+    setting.target.now (option_copied setting.above) old mid found new c.write_acl-mask.result reply
+    c.write_acl-mask.ensures judged) c.from_residual.result c.from_residual.ensures.1
 
 pub returns-in_err-set_found-clause-done : goal.returns-in_err-set_found-clause-done
 returns-in_err-set_found-clause-done g c =
     let setting = c.args.setting.now in
     faults g.met.K.Keep.laws (done c.in_ok-check.ensures.done) c.in_err-set_found.ensures.done
     (λ mid end at are judged fails old found.
-    allowed_blames c.args.walk.now.asker.now setting.path.now setting.which setting.sent.now
-    setting.target.now (option_copied setting.above) old mid found end c.write_acl.result
-    c.write_acl.ensures judged at fails)
+    allowed_blames c.args.asker.now setting.path.now setting.which setting.sent.now
+    setting.target.now (option_copied setting.above) old mid found end c.write_acl-mask.result
+    c.write_acl-mask.ensures judged at fails)
     c.from_residual-in_err-set_found.result c.from_residual-in_err-set_found.ensures.1
 
 pub returns-clause-done : goal.returns-clause-done
@@ -32,6 +31,6 @@ returns-clause-done g c =
     finish_up_to m.laws _ (then m.laws (done c.in_ok-check.ensures.done)
     (done c.in_ok-set_found.ensures.done)
     (λ mid end new judged said old found.
-    allowed_done c.args.walk.now.asker.now setting.path.now setting.which setting.sent.now
-    setting.target.now (option_copied setting.above) old mid found end c.write_acl.result
-    c.write_acl.ensures judged new _ said)) (λ old new are h. h)
+    allowed_done c.args.asker.now setting.path.now setting.which setting.sent.now
+    setting.target.now (option_copied setting.above) old mid found end c.write_acl-mask.result
+    c.write_acl-mask.ensures judged new _ said)) (λ old new are h. h)

@@ -1,9 +1,7 @@
-use Rattle.std.proofs.Common.{Some, arith, length, refl, subst, ◌+◌}
-use Rattle.room_judge.specs.Halted.{replied, settled}
-use Rattle.room_judge.specs.declared.asker.Asker.{Asker}
+use Rattle.std.proofs.Common.{arith, length, refl, ◌+◌}
+use Rattle.room_judge.specs.Halted.{settled}
 use Rattle.room_judge.proofs.Calls.{done}
 use Rattle.room_judge.proofs.Halts.{halts_first}
-use Rattle.room_desk.specs.Setting.{FailsToSet, SetsOn}
 use Rattle.room_desk.proofs.Lists.SetRequest.{found_pair, set_halted}
 use Rattle.room_desk.proofs.Sound.Blamed.{rootless_damaged}
 use Rattle.room_judge.proofs.UpTo.{tail_provided}
@@ -16,25 +14,21 @@ returns-in_err-pair-clause-done g c =
     halts_first g.met.K.Keep.laws _ c.in_err-pair.ensures.done
     (λ old at h. rootless_damaged old old at refl h)
     (λ old new reply are paired.
-    set_halted c.args.walk.now.asker.now c.args.path.now c.args.which c.args.sent.now old new reply
+    set_halted c.args.asker.now c.args.path.now c.args.which c.args.sent.now old new reply
     are paired)
     c.from_residual.result c.from_residual.ensures.1
 
 pub returns-clause-done : goal.returns-clause-done
 returns-clause-done g c =
-    let asker = c.args.walk.now.asker.now in
+    let asker = c.args.asker.now in
     let path = c.args.path.now in
     let folder = c.in_ok-pair.pair.folder in
     let target = c.in_ok-pair.pair.target in
     tail_provided g.met.K.Keep.laws (done c.in_ok-pair.ensures.done) c.set_allowed.ensures.done
     (λ old mid at are paired fails.
-    subst (λ (a : Asker). FailsToSet a path target (Some folder.node) mid at)
-    c.in_ok-pair.ensures.same_asker fails old
-    (found_pair asker path folder target old mid are paired))
+    fails old (found_pair asker path folder target old mid are paired))
     (λ old mid outcome new are paired sets.
-    subst (λ (a : Asker). SetsOn a path c.args.which c.args.sent.now target (Some folder.node) mid
-    (replied outcome) new) c.in_ok-pair.ensures.same_asker sets old
-    (found_pair asker path folder target old mid are paired))
+    sets old (found_pair asker path folder target old mid are paired))
     (λ old mid new more are paired enough. (
       stands_along path target.node old are paired.target,
       each_of_both c.args.which old new more enough,
@@ -42,8 +36,8 @@ returns-clause-done g c =
 
 pub returns-clause-counted : goal.returns-clause-counted
 returns-clause-counted g c =
-    reads_on g.K.Keep (settled c.set_allowed.result) c.args.walk.now.keep.now
-    c.to_pair.new.self.keep.now c.set_allowed.new.walk.keep.now (length c.args.path.now + 1) 2
+    reads_on g.K.Keep (settled c.set_allowed.result) c.args.keep.now
+    c.to_pair.new.keep c.set_allowed.new.keep (length c.args.path.now + 1) 2
     (length c.args.path.now + 3) c.in_ok-pair.ensures.counted
     (g.met.K.Keep.laws.grow _ _ c.in_ok-pair.ensures.done.follows) (omega arith)
     c.set_allowed.ensures.counted

@@ -9,13 +9,13 @@ use Rattle.room_desk.proofs.setting.set_root.Goals as goal
 pub returns-in_err-node-clause-done : goal.returns-in_err-node-clause-done
 returns-in_err-node-clause-done g c =
     let m = g.met.K.Keep in
-    faults m.laws (none_done m.laws c.args.walk.now.keep.now) (of_read c.in_err-node.ensures.read)
+    faults m.laws (none_done m.laws c.args.keep.now) (of_read c.in_err-node.ensures.read)
     (λ old mid at are same h. rootless_damaged old mid at same h)
     c.from_residual.result c.from_residual.ensures.1
 
 pub returns-clause-done : goal.returns-clause-done
 returns-clause-done g c =
-    let asker = c.args.walk.now.asker.now in
+    let asker = c.args.asker.now in
     let path = c.args.path.now in
     tail_provided g.met.K.Keep.laws (done (of_read c.in_ok-node.ensures.read))
     c.set_allowed.ensures.done

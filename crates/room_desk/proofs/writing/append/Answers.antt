@@ -13,32 +13,31 @@ use Rattle.room_desk.proofs.writing.append.Goals as goal
 
 pub returns-in_err-node-clause-done : goal.returns-in_err-node-clause-done
 returns-in_err-node-clause-done g c =
-    let asker = c.args.walk.now.asker.now in
+    let asker = c.args.asker.now in
     let path = c.args.path.now in
     halts_first g.met.K.Keep.laws _ c.in_err-node.ensures.done
     (λ old at h. rootless_damaged old old at refl h)
     (λ old new reply are reached.
     append_ended asker path c.args.bytes.now old new reply are
-    (reached_as asker path DocumentAt c.append_data.result (append_data ∷ []) (Err reply) old
-    new c.append_data.ensures reached))
-    c.from_residual.result c.from_residual.ensures.1
+    (reached_as asker path DocumentAt c.append_data-mask.result (append_data ∷ []) (Err reply) old
+    new c.append_data-mask.ensures reached)) c.from_residual.result c.from_residual.ensures.1
 
 pub returns-clause-done : goal.returns-clause-done
 returns-clause-done g c =
-    let asker = c.args.walk.now.asker.now in
+    let asker = c.args.asker.now in
     let path = c.args.path.now in
     let node = c.in_ok-node.node in
     tail_provided g.met.K.Keep.laws (done c.in_ok-node.ensures.done) c.append_at.ensures.done
     (λ old mid at are reached h.
     append_blames asker path c.args.bytes.now old mid node are
-    (reached_as asker path DocumentAt c.append_data.result (append_data ∷ []) (Ok node) old mid
-    c.append_data.ensures reached) at h)
+    (reached_as asker path DocumentAt c.append_data-mask.result (append_data ∷ []) (Ok node) old mid
+    c.append_data-mask.ensures reached) at h)
     (λ old mid outcome new are reached appended.
     append_done asker path c.args.bytes.now old mid node are
-    (reached_as asker path DocumentAt c.append_data.result (append_data ∷ []) (Ok node) old mid
-    c.append_data.ensures reached) new (replied outcome) appended)
+    (reached_as asker path DocumentAt c.append_data-mask.result (append_data ∷ []) (Ok node) old mid
+    c.append_data-mask.ensures reached) new (replied outcome) appended)
     (λ old mid new more are reached enough.
     let document = document_there asker path (append_data ∷ []) old mid node are
-    (reached_as asker path DocumentAt c.append_data.result (append_data ∷ []) (Ok node) old mid
-    c.append_data.ensures reached) in
+    (reached_as asker path DocumentAt c.append_data-mask.result (append_data ∷ []) (Ok node) old mid
+    c.append_data-mask.ensures reached) in
     ((node, document.0, document.1), one_of_both old new more enough))

@@ -11,7 +11,7 @@ use Rattle.room_desk.proofs.writing.append_at.Goals as goal
 pub returns-in_err-before-clause-done : goal.returns-in_err-before-clause-done
 returns-in_err-before-clause-done g c =
     let m = g.met.K.Keep in
-    faults m.laws (none_done m.laws c.args.walk.now.keep.now) (of_read c.in_err-before.ensures.read)
+    faults m.laws (none_done m.laws c.args.keep.now) (of_read c.in_err-before.ensures.read)
     (λ old mid at are same h. subst (λ (r : Rows). HasNoBytes c.args.id r at) same h)
     c.from_residual.result c.from_residual.ensures.1
 

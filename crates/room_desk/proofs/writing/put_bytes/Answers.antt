@@ -16,7 +16,7 @@ pub returns-then-too_many-clause-done : goal.returns-then-too_many-clause-done
 returns-then-too_many-clause-done g c =
     let m = g.met.K.Keep in
     let path = c.args.path.now in
-    refused_as m.laws (none_done m.laws c.args.walk.now.keep.now) c.refusal.result
+    refused_as m.laws (none_done m.laws c.args.keep.now) c.refusal.result
     (Refused (take (length c.names.result.now) path) TooLarge) c.refusal.ensures
     (λ old new are same.
     put_refused path c.args.id c.args.bytes.now old new
@@ -28,8 +28,7 @@ returns-then-too_many-clause-done g c =
 pub returns-in_err-set_body-clause-done : goal.returns-in_err-set_body-clause-done
 returns-in_err-set_body-clause-done g c =
     let m = g.met.K.Keep in
-    faults m.laws (none_done m.laws c.args.walk.now.keep.now)
-    (of_write c.in_err-set_body.ensures.written)
+    faults m.laws (none_done m.laws c.args.keep.now) (of_write c.in_err-set_body.ensures.written)
     (λ old mid at are same h. subst (λ (r : Rows). IsUnreadable r at) same h)
     c.from_residual.result c.from_residual.ensures.1
 

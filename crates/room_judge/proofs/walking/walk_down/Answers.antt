@@ -1,69 +1,54 @@
-use Rattle.std.proofs.Common.{◌≡◌, ◌∙◌, Ok, Err, refl, take, subst, arith}
+use Rattle.std.proofs.Common.{◌≡◌, refl, take, arith}
 use Rattle.room_judge.specs.declared.arrival.Found.{Found}
-use Rattle.room_judge.specs.declared.asker.Asker.{Asker}
-use Rattle.room_judge.specs.Judged.{IsStepDown}
 use Rattle.room_judge.proofs.Calls.{done, finish, none_done, then}
 use Rattle.room_judge.proofs.Halts.{halts}
 use Rattle.room_judge.proofs.Walked.{walk_done, walk_ends, walks_on}
 use Rattle.room_judge.proofs.Ways.{way_begins, way_blames}
-use Rattle.room_judge.proofs.walk.Walker.walk_down.Goals as goal
+use Rattle.room_judge.proofs.walking.walk_down.Goals as goal
 
 pub names-init : goal.names-init
 names-init g c =
     let m = g.met.K.Keep in
     record {
       counted = omega arith;
-      same_keep = refl;
-      same_asker = refl;
       done = record {
-        follows = m.laws.itself c.args.self.now.keep.now;
+        follows = m.laws.itself c.args.keep.now;
         becomes =
-            λ t is. way_begins c.args.self.now.asker.now (take c.args.depth c.args.path.now)
-            c.args.root (g.K.Keep.rows c.args.self.now.keep.now)
-            (g.K.Keep.rows c.args.self.now.keep.now) is refl;
-        few = λ t. (none_done m.laws c.args.self.now.keep.now).few t;
+            λ t is. way_begins c.args.asker.now (take c.args.depth c.args.path.now) c.args.root
+            (g.K.Keep.rows c.args.keep.now) (g.K.Keep.rows c.args.keep.now) is refl;
+        few = λ t. (none_done m.laws c.args.keep.now).few t;
       };
     }
 
 pub returns-in_err-node : goal.returns-in_err-node
 returns-in_err-node g c =
-    let asker = c.args.self.now.asker.now in
+    let asker = c.args.asker.now in
     let path = c.args.path.now in
     let from : Found = record { node = c.names.node; depth = c.names.index } in
     record {
       counted = omega
           (arith, c.names.invariant.counted, c.in_err-node.ensures.counted, c.names-test.true);
-      same_keep = c.in_err-node.ensures.same_keep ∙ c.names.invariant.same_keep;
-      same_asker = c.in_err-node.ensures.same_asker ∙ c.names.invariant.same_asker;
       done =
           halts g.met.K.Keep.laws _ c.names.invariant.done c.in_err-node.ensures.done
           (λ old mid at are walking h is.
           way_blames asker (take c.args.depth path) from old mid at (walking is) h)
           (λ old mid new reply are walking step is.
           walk_ends asker path c.args.depth c.requires c.names.index c.names.node old mid new reply
-          c.names-test.true (walking is)
-          (subst (λ (a : Asker). IsStepDown a path from mid (Err reply) new)
-          c.names.invariant.same_asker step))
-          c.from_residual.result c.from_residual.ensures.1;
+          c.names-test.true (walking is) step) c.from_residual.result c.from_residual.ensures.1;
     }
 
 pub names-preserved : goal.names-preserved
 names-preserved g c =
-    let asker = c.args.self.now.asker.now in
+    let asker = c.args.asker.now in
     let path = c.args.path.now in
-    let from : Found = record { node = c.names.node; depth = c.names.index } in
     let next = c.in_ok-node.node in
     record {
       counted = omega (arith, c.names.invariant.counted, c.in_ok-node.ensures.counted);
-      same_keep = c.in_ok-node.ensures.same_keep ∙ c.names.invariant.same_keep;
-      same_asker = c.in_ok-node.ensures.same_asker ∙ c.names.invariant.same_asker;
       done =
           then g.met.K.Keep.laws c.names.invariant.done (done c.in_ok-node.ensures.done)
           (λ old mid new walking step is.
           walks_on asker path c.args.depth c.requires c.names.index c.names.node next old mid new
-          c.names-test.true (walking is)
-          (subst (λ (a : Asker). IsStepDown a path from mid (Ok next) new)
-          c.names.invariant.same_asker step));
+          c.names-test.true (walking is) step);
     }
 
 pub returns-clause-counted : goal.returns-clause-counted
@@ -76,5 +61,5 @@ returns-clause-done g c =
     let stops = c.names-test.false in
     let all : c.names.index ≡ c.args.depth = omega arith in
     finish g.met.K.Keep.laws _ c.names.invariant.done (λ old new are walking is.
-    walk_done c.args.self.now.asker.now c.args.path.now c.args.depth c.requires c.names.index
+    walk_done c.args.asker.now c.args.path.now c.args.depth c.requires c.names.index
     c.names.node old new all (walking is))

@@ -5,13 +5,13 @@ use Rattle.room_judge.proofs.Folders.{spot_found}
 use Rattle.room_judge.proofs.Halts.{faults}
 use Rattle.room_judge.proofs.Judging.{blames_first}
 use Rattle.room_judge.proofs.Ways.{name_read}
-use Rattle.room_judge.proofs.walk.Walker.spot_in.Goals as goal
+use Rattle.room_judge.proofs.spotting.spot_in.Goals as goal
 
 pub returns-in_err-child-clause-done : goal.returns-in_err-child-clause-done
 returns-in_err-child-clause-done g c =
     faults g.met.K.Keep.laws (done c.in_ok-pass_through.ensures.done)
     (of_read c.in_err-child.ensures.read)
-    (λ old mid at are judged h. blames_first c.args.self.now.asker.now _ _ old mid at judged h)
+    (λ old mid at are judged h. blames_first c.args.asker.now _ _ old mid at judged h)
     c.from_residual-in_err-child.result c.from_residual-in_err-child.ensures.1
 
 pub returns-clause-done : goal.returns-clause-done
@@ -27,6 +27,6 @@ returns-clause-done g c =
     finish m.laws _ (then m.laws (done c.in_ok-pass_through.ensures.done)
     (done (of_read c.in_ok-child.ensures.read))
     (λ old mid new judged both.
-    spot_found c.args.self.now.asker.now path folder old mid new c.in_ok-child.child judged
+    spot_found c.args.asker.now path folder old mid new c.in_ok-child.child judged
     (both.0 ∙ ap (λ (n : List ℕ). child_of mid.read folder.node.id n) named) both.1))
     (λ old new are h. h)

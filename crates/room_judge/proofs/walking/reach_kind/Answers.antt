@@ -1,14 +1,12 @@
-use Rattle.std.proofs.Common.{ℕ, List, [], ◌∷◌, Some, None, ap, length, subst}
+use Rattle.std.proofs.Common.{ℕ, List, [], ◌∷◌, ap, length}
 use Rattle.room_machine.specs.Plan.{Check, Item}
 use Rattle.room_machine.specs.Site.{Site}
-use Rattle.room_judge.specs.Judged.{IsJudged, of_kind}
-use Rattle.room_judge.specs.Stored.{found_site}
+use Rattle.room_judge.specs.Judged.{of_kind}
 use Rattle.room_judge.specs.declared.arrival.Found.{Found}
-use Rattle.room_judge.specs.declared.asker.Asker.{Asker}
 use Rattle.room_judge.proofs.Calls.{done, finish, then}
 use Rattle.room_judge.proofs.Halts.{halts, halts_first}
 use Rattle.room_judge.proofs.Ways.{not_reached, target_passed, target_refused}
-use Rattle.room_judge.proofs.walk.Walker.reach_kind.Goals as goal
+use Rattle.room_judge.proofs.walking.reach_kind.Goals as goal
 
 pub returns-in_err-node-clause-done : goal.returns-in_err-node-clause-done
 returns-in_err-node-clause-done g c =
@@ -16,7 +14,7 @@ returns-in_err-node-clause-done g c =
     of_kind c.args.kind target ∷ Check target c.args.mask ∷ [] in
     halts_first g.met.K.Keep.laws _ c.in_err-node.ensures.done (λ old at h. h)
     (λ old new reply are reached.
-    not_reached c.args.self.now.asker.now c.args.path.now items old new reply reached)
+    not_reached c.args.asker.now c.args.path.now items old new reply reached)
     c.from_residual.result c.from_residual.ensures.1
 
 pub returns-in_err-check_kind-clause-done : goal.returns-in_err-check_kind-clause-done
@@ -28,10 +26,8 @@ returns-in_err-check_kind-clause-done g c =
     halts g.met.K.Keep.laws _ (done c.in_ok-node.ensures.done) c.in_err-check_kind.ensures.done
     (λ old mid at are reached never. absurd never)
     (λ old mid new reply are reached judged.
-    target_refused c.args.self.now.asker.now path items old mid new found reply
-    (ap (λ (l : List (List ℕ)). length l) c.names.ensures) reached
-    (subst (λ (a : Asker). IsJudged a (items (found_site path found)) mid (Some reply) new)
-    c.in_ok-node.ensures.same_asker judged))
+    target_refused c.args.asker.now path items old mid new found reply
+    (ap (λ (l : List (List ℕ)). length l) c.names.ensures) reached judged)
     c.from_residual-in_err-check_kind.result c.from_residual-in_err-check_kind.ensures.1
 
 pub returns-clause-done : goal.returns-clause-done
@@ -44,7 +40,5 @@ returns-clause-done g c =
     finish m.laws _ (then m.laws (done c.in_ok-node.ensures.done)
     (done c.in_ok-check_kind.ensures.done)
     (λ old mid new reached judged.
-    target_passed c.args.self.now.asker.now path items old mid new found
-    (ap (λ (l : List (List ℕ)). length l) c.names.ensures) reached
-    (subst (λ (a : Asker). IsJudged a (items (found_site path found)) mid None new)
-    c.in_ok-node.ensures.same_asker judged))) (λ old new are h. h)
+    target_passed c.args.asker.now path items old mid new found
+    (ap (λ (l : List (List ℕ)). length l) c.names.ensures) reached judged)) (λ old new are h. h)

@@ -4,7 +4,7 @@ use Rattle.room_rows.specs.Keep.{IsUnreadable}
 use Rattle.room_rows.specs.Rows.{Rows}
 use Rattle.room_judge.proofs.Calls.{done, of_read, tail}
 use Rattle.room_judge.proofs.Walked.{reached_from}
-use Rattle.room_judge.proofs.walk.Walker.walk_along.Goals as goal
+use Rattle.room_judge.proofs.walking.walk_along.Goals as goal
 
 pub returns-clause-done : goal.returns-clause-done
 returns-clause-done g c =
@@ -13,5 +13,5 @@ returns-clause-done g c =
     inl (subst (λ (r : Rows). IsUnreadable r at) both.1
     (h (ap (λ (r : Rows). root_of r.read) both.1 ∙ both.0))))
     (λ old mid outcome new both reached.
-    reached_from c.args.self.now.asker.now (take c.args.depth c.args.path.now) c.in_ok-root.root
+    reached_from c.args.asker.now (take c.args.depth c.args.path.now) c.in_ok-root.root
     outcome old mid new both.0 both.1 reached)
