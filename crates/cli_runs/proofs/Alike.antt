@@ -6,9 +6,9 @@ use Rattle.sqlite.specs.State.{State}
 use Rattle.room_inherit.specs.Laws.{SoundIsContent}
 use Rattle.room_machine.specs.Run.{Event, Run}
 use Rattle.room_machine.specs.declared.reply.Reply.{Reply}
-use Rattle.room_unseen.specs.Laws.{front_after}
-use Rattle.room_unseen.specs.Tidy.{ContentIsTidy}
-use Rattle.room_unseen.specs.Twins.{AnswersAlike, Turn, Unseen, first_events, second_events}
+use Rattle.room_laws.specs.Laws.{front_after}
+use Rattle.room_laws.specs.Tidy.{ContentIsTidy}
+use Rattle.room_laws.specs.Twins.{AnswersAlike, Turn, Unseen, first_events, second_events}
 use Rattle.room_http.specs.Message.{Message, Parsed, asked}
 use Rattle.room_http.specs.Stream.{Exchange, HasReply, event_at, events_at, events_by}
 use Rattle.room_store.specs.Leads.{Leads}

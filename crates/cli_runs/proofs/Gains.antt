@@ -6,7 +6,7 @@ use Rattle.sqlite.specs.State.{State}
 use Rattle.room_rows.specs.Content.{Content}
 use Rattle.room_machine.specs.Run.{Asking, Event}
 use Rattle.room_machine.specs.declared.reply.Reply.{Reply}
-use Rattle.room_changed.specs.WhoChanged.{IsHarmless}
+use Rattle.room_laws.specs.WhoChanged.{IsHarmless}
 use Rattle.room_http.specs.Message.{Message, Parsed, asked}
 use Rattle.room_http.specs.Stream.{Exchange, asking_at, event_at, events_at, events_by}
 use Rattle.store_runs.specs.Rights.{CrashGainsNothing, GainsNothing, IsHarmlessAsking}

@@ -5,9 +5,9 @@ use Rattle.room_rows.specs.Content.{Content}
 use Rattle.room_machine.specs.Run.{Run}
 use Rattle.room_machine.specs.declared.reply.Reply.{Reply}
 use Rattle.room_machine.specs.declared.request.Request.TheVariants.{List as ListFolder}
-use Rattle.room_unseen.specs.Laws.{front_after}
-use Rattle.room_unseen.specs.Outside.{SameOutside}
-use Rattle.room_unseen.specs.Twins.{AnswersAlike, AreAlike, InBoth, Turn, first_events, front_at_end}
+use Rattle.room_laws.specs.Laws.{front_after}
+use Rattle.room_laws.specs.Outside.{SameOutside}
+use Rattle.room_laws.specs.Twins.{AnswersAlike, AreAlike, InBoth, Turn, first_events, front_at_end}
 use Rattle.room_http.specs.Message.{Parsed, asked}
 use Rattle.room_http.specs.Stream.{Exchange}
 use Rattle.room_store.specs.Crash.{IsRoomOf}

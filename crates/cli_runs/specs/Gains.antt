@@ -6,7 +6,7 @@ use Rattle.sqlite.specs.Tree.{Trees}
 use Rattle.room_entry.specs.Rights.{write_acl, write_owner}
 use Rattle.room_rows.specs.Content.{Content}
 use Rattle.room_machine.specs.Run.{Run}
-use Rattle.room_changed.specs.WhoChanged.{HasRight, IsFrom, IsThere, MayRemove, SameRights}
+use Rattle.room_laws.specs.WhoChanged.{HasRight, IsFrom, IsThere, MayRemove, SameRights}
 use Rattle.room_http.specs.Message.{Parsed, asked}
 use Rattle.room_store.specs.Crash.{HoldsRoom, IsRoomOf, Lasts}
 use Rattle.room_store.specs.Kept.{Keeps}

@@ -8,9 +8,8 @@ ghost use Rattle.cli_runs.specs.Gains.{ServingGainsNothing};
 ghost use Rattle.cli_runs.specs.Sent.{ExchangesAreBytes};
 
 use cli_serve::{Moments, Ports};
-use room_changed::laws::nothing_gained;
 use room_inherit::laws::sound_is_content;
-use room_unseen::laws::{content_is_tidy, unseen};
+use room_laws::laws::{content_is_tidy, nothing_gained, unseen};
 use sqlite::Alter;
 use std::io::Write;
 use store_runs::laws::{nothing_gained_by_a_crash, nothing_gained_in_a_store};

@@ -5,10 +5,10 @@ use Rattle.sqlite.specs.State.{State, HasCleanDisk}
 use Rattle.room_rows.specs.Content.{Content}
 use Rattle.room_inherit.specs.Laws.{SoundIsContent}
 use Rattle.room_machine.specs.Run.{Asked, Replaced, Run, WasReset}
-use Rattle.room_unseen.specs.Laws.{front_after}
-use Rattle.room_unseen.specs.Tidy.{ContentIsTidy}
-use Rattle.room_unseen.specs.Twins.{AreAlike, InBoth, InBothReplaced, InBothReset, InFirst}
-use Rattle.room_unseen.specs.Twins.{InSecond, Turn, Unseen, first_events, front_by, second_events}
+use Rattle.room_laws.specs.Laws.{front_after}
+use Rattle.room_laws.specs.Tidy.{ContentIsTidy}
+use Rattle.room_laws.specs.Twins.{AreAlike, InBoth, InBothReplaced, InBothReset, InFirst}
+use Rattle.room_laws.specs.Twins.{InSecond, Turn, Unseen, first_events, front_by, second_events}
 use Rattle.room_store.specs.Kept.{IsSound, Keeps}
 use Rattle.room_store.specs.Leads.{Leads}
 use Rattle.room_store.proofs.Leading.{one_step}

@@ -7,9 +7,9 @@ use Rattle.sqlite.specs.State.{State}
 use Rattle.room_rows.specs.Content.{Content}
 use Rattle.room_inherit.specs.Laws.{SoundIsContent}
 use Rattle.room_machine.specs.Run.{Asking, Event, Run, RunsMeet}
-use Rattle.room_unseen.specs.Tidy.{ContentIsTidy}
-use Rattle.room_changed.specs.WhoChanged.{IsHarmless, IsThere, NothingGained, RightsChangedInRun}
-use Rattle.room_changed.specs.WhoChanged.{SameRights}
+use Rattle.room_laws.specs.Tidy.{ContentIsTidy}
+use Rattle.room_laws.specs.WhoChanged.{IsHarmless, IsThere, NothingGained, RightsChangedInRun}
+use Rattle.room_laws.specs.WhoChanged.{SameRights}
 use Rattle.room_store.specs.Crash.{HoldsRoom, HoldsRoomAfter, IsRoomOf, LeavesWhole}
 use Rattle.room_store.specs.Leads.{Leads}
 use Rattle.store_runs.specs.Rights.{CrashGainsNothing, GainsNothing, GrantsChanges}

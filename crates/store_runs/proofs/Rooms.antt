@@ -6,7 +6,7 @@ use Rattle.room_rows.specs.Content.{Content, IsContent}
 use Rattle.room_rows.specs.Meaning.{kept_node}
 use Rattle.room_rows.proofs.InPlace.{keeps_places, rises-with_each}
 use Rattle.room_inherit.specs.Laws.{SoundIsContent}
-use Rattle.room_unseen.specs.Tidy.{ContentIsTidy, IsNumbered, IsTidy}
+use Rattle.room_laws.specs.Tidy.{ContentIsTidy, IsNumbered, IsTidy}
 use Rattle.store_tables.specs.Meaning.{rows_of}
 use Rattle.store_tables.specs.RoomRows.{room_rows}
 use Rattle.store_tables.specs.Shown.{tables_of}

@@ -4,9 +4,9 @@ use Rattle.sqlite.specs.Held.{Held}
 use Rattle.sqlite.specs.State.{State, HasCleanDisk}
 use Rattle.room_rows.specs.Content.{Content}
 use Rattle.room_machine.specs.Run.{Run}
-use Rattle.room_unseen.specs.Outside.{SameOutside}
-use Rattle.room_unseen.specs.Twins.{AnswersAlike, IsAlike, Turn, first_events, front_at_end}
-use Rattle.room_unseen.specs.Twins.{front_by, second_events}
+use Rattle.room_laws.specs.Outside.{SameOutside}
+use Rattle.room_laws.specs.Twins.{AnswersAlike, IsAlike, Turn, first_events, front_at_end}
+use Rattle.room_laws.specs.Twins.{front_by, second_events}
 use Rattle.room_store.specs.Crash.{IsRoomOf}
 use Rattle.room_store.specs.Kept.{Keeps}
 use Rattle.room_store.specs.Leads.{Leads}

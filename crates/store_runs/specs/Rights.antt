@@ -6,7 +6,7 @@ use Rattle.sqlite.specs.Tree.{Trees}
 use Rattle.room_rows.specs.Content.{Content}
 use Rattle.room_machine.specs.Run.{Asking, Event, Run}
 use Rattle.room_machine.specs.declared.reply.Reply.{Reply}
-use Rattle.room_changed.specs.WhoChanged.{FirstGranted, IsHarmless, IsThere, SameBasis, SameRights}
+use Rattle.room_laws.specs.WhoChanged.{FirstGranted, IsHarmless, IsThere, SameBasis, SameRights}
 use Rattle.room_store.specs.Crash.{HoldsRoom, IsRoomOf, Lasts}
 use Rattle.room_store.specs.Kept.{Keeps}
 

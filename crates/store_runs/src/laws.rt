@@ -13,11 +13,10 @@ ghost use Rattle.store_runs.specs.Alike.{
 };
 ghost use Rattle.store_runs.specs.Rights.{CrashGainsNothing, GainsNothing, GrantsChanges};
 
-use room_changed::laws::{nothing_gained, rights_changed_in_run};
 use room_inherit::laws::sound_is_content;
+use room_laws::laws::{content_is_tidy, nothing_gained, rights_changed_in_run, unseen};
 use room_machine::laws::two_runs_meet;
 use room_store::laws::{a_crash_leaves_whole_requests, calls_are_a_run};
-use room_unseen::laws::{content_is_tidy, unseen};
 use sqlite::Alter;
 
 /// Two stores whose rooms differ behind a folder alone answer the same over any lists of calls, to

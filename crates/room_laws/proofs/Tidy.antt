@@ -1,0 +1,266 @@
+-- Contents stay tidy, whatever happens.
+use Rattle.std.proofs.Common.{ℕ, ◌≡◌, ◌==◌, ◌⊎◌, inl, inr, Bool, true, false, cond, not, ◌&&◌, List}
+use Rattle.std.proofs.Common.{[], ◌∷◌, map, filter, Option, Some, None, nat_lt, refl, sym, ap, ◌∙◌}
+use Rattle.std.proofs.Common.{arith}
+use Rattle.std.specs.List.{find, list_any, AllByRecursion}
+use Rattle.std.specs.Option.{option_map, option_map_or}
+use Rattle.std.specs.Prelude.{is_some, IsTrue}
+use Rattle.std.proofs.lemmas.Bool.{not-true, cases_Bool, and_parts, and_from, eqb-true, eq-eqb}
+use Rattle.std.proofs.lemmas.Bool.{false≢true}
+use Rattle.std.proofs.lemmas.Option.{none-some, same_Some}
+use Rattle.room_entry.specs.Pieces.{same_text}
+use Rattle.room_entry.proofs.Alike.{text_itself}
+use Rattle.room_entry.proofs.Facts.Members.{any_map, any_agree, any_none, each_fails, each_weaker}
+use Rattle.room_entry.proofs.Facts.Members.{each_filter}
+use Rattle.room_entry.proofs.Texts.{same_text-true}
+use Rattle.room_rows.specs.Content.{Content, node_at, body_of, child_of, has_parent, put_node}
+use Rattle.room_rows.specs.Content.{are_names_apart, same_parent, with_node, with_body}
+use Rattle.room_rows.specs.Content.{without_node, with_each, body_at}
+use Rattle.room_rows.specs.declared.node.Node.{Node}
+use Rattle.room_rows.proofs.Frames.{has_its_parent, node_at-without_node-other, node_at-number}
+use Rattle.room_rows.proofs.InPlace.{keeps_places, node_at-with_each, body_of-with_body-other}
+use Rattle.room_rows.proofs.Lookups as lookups
+use Rattle.room_rows.proofs.SamePlace.{IsSamePlace}
+use Rattle.room_laws.specs.Tidy.{IsTidy}
+use Rattle.room_laws.proofs.Kept.{is_named}
+use Rattle.room_laws.proofs.Kept as kept
+use Rattle.std.proofs.lemmas.Bool.Decides.{nat_tests}
+
+-- one stands where the other does
+abbrev clash : Node → Node → Bool
+clash x y = same_parent x.parent y.parent && same_text x.name y.name
+
+-- ---- names apart
+
+apart_each : (g : Node → Node) → ((n : Node) → IsSamePlace (g n) n) → (nodes : List Node)
+    → are_names_apart (map g nodes) ≡ are_names_apart nodes
+apart_each g places [] = refl
+apart_each g places (x ∷ xs) = grind (arith, nat_tests, any_agree, any_map, apart_each g places xs)
+
+each_put : (P : Node → Type 0) (new : Node) (nodes : List Node) → P new → AllByRecursion P nodes
+    → AllByRecursion P (put_node new nodes)
+each_put P new [] here all = (here, tt)
+each_put P new (x ∷ xs) here all = grind (arith, nat_tests, each_put P new xs here all.1)
+
+module _ (id : ℕ) (new : Node) (parent : new.parent ≡ Some id) where
+  clash_named : (y : Node) → is_named id new.name y ≡ false → clash new y ≡ false
+  clash_named y isnt = elim (cases_Bool (clash new y)) [
+    | inl is ↦
+        let parts = and_parts (same_parent new.parent y.parent) (same_text new.name y.name) is in
+        absurd (false≢true (sym isnt ∙ and_from (has_parent id y) (same_text y.name new.name)
+        (on y.parent (ap (λ p. same_parent p y.parent) (sym parent) ∙ parts.0))
+        (ap (λ n. same_text n new.name) (sym (same_text-true new.name y.name parts.1))
+        ∙ text_itself new.name)))
+    | inr differ ↦ differ
+  ]
+    where
+      on : (p : Option ℕ) → same_parent (Some id) p ≡ true
+          → option_map_or (λ (i : ℕ). i == id) p false ≡ true
+      on None is = absurd (false≢true is)
+      on (Some i) is = eq-eqb i id (sym (eqb-true id i is))
+
+  named_clash : (y : Node) → is_named id new.name y ≡ false → clash y new ≡ false
+  named_clash y isnt = grind (arith, nat_tests)
+
+  apart_put : (nodes : List Node) → are_names_apart nodes ≡ true
+      → AllByRecursion (λ y. is_named id new.name y ≡ false) nodes
+      → are_names_apart (put_node new nodes) ≡ true
+  apart_put [] apart others = refl
+  apart_put (x ∷ xs) apart others =
+      let parts = and_parts (not (list_any (clash x) xs)) (are_names_apart xs) apart in
+      on (nat_lt x.id new.id) (x.id == new.id) parts.0 parts.1 (apart_put xs parts.1 others.1)
+    where
+      on : (t u : Bool) → not (list_any (clash x) xs) ≡ true → are_names_apart xs ≡ true
+          → are_names_apart (put_node new xs) ≡ true
+          → are_names_apart (cond t (x ∷ put_node new xs) (cond u (new ∷ xs) (new ∷ x ∷ xs)))
+          ≡ true
+      on true u first later rest =
+          and_from _ _ (ap not (any_none (clash x) (put_node new xs)
+          (each_put (λ y. clash x y ≡ false) new xs (named_clash x others.0)
+          (each_fails (clash x) xs (not-true _ first))))) rest
+      on false true first later rest =
+          and_from _ _ (ap not (any_none (clash new) xs
+          (each_weaker _ _ clash_named xs others.1))) later
+      on false false first later rest =
+          and_from _ _ (ap not (any_none (clash new) (x ∷ xs)
+          (each_weaker _ _ clash_named (x ∷ xs) others))) apart
+
+apart_filter : (keep : Node → Bool) (nodes : List Node) → are_names_apart nodes ≡ true
+    → are_names_apart (filter keep nodes) ≡ true
+apart_filter keep [] apart = refl
+apart_filter keep (x ∷ xs) apart =
+    let parts = and_parts (not (list_any (clash x) xs)) (are_names_apart xs) apart in
+    on (keep x) parts.0 (apart_filter keep xs parts.1)
+  where
+    always : (ys : List Node) → AllByRecursion (λ y. clash x y ≡ false) ys
+        → AllByRecursion (λ y. keep y ≡ true → clash x y ≡ false) ys
+    always [] all = tt
+    always (y ∷ ys) all = (λ is. all.0, always ys all.1)
+
+    on : (t : Bool) → not (list_any (clash x) xs) ≡ true
+        → are_names_apart (filter keep xs) ≡ true
+        → are_names_apart (cond t (x ∷ filter keep xs) (filter keep xs)) ≡ true
+    on true first rest =
+        and_from _ _ (ap not (any_none (clash x) (filter keep xs)
+        (each_filter (λ y. clash x y ≡ false) keep xs
+        (always xs (each_fails (clash x) xs (not-true _ first)))))) rest
+    on false first rest = rest
+
+none_each : (p : Node → Bool) (nodes : List Node) → find p nodes ≡ None
+    → AllByRecursion (λ y. p y ≡ false) nodes
+none_each p [] none = tt
+none_each p (x ∷ xs) none =
+    let parts = lookups.none_found p x xs none in (parts.0, none_each p xs parts.1)
+
+-- ---- changes
+
+module _ (a : Content) (tidy : IsTidy a) where
+  -- each object is changed in its place
+  pub each_tidy : (g : Node → Node) → ((n : Node) → IsSamePlace (g n) n) → IsTidy (with_each a g)
+  each_tidy g places = record {
+    names = apart_each g places a.nodes ∙ tidy.names;
+    parents = parents;
+    bodies = λ id none. tidy.bodies id (gone (node_at a id)
+        (sym (node_at-with_each a g (keeps_places a g places) id) ∙ none));
+  }
+    where
+      gone : (o : Option Node) → option_map g o ≡ None → o ≡ None
+      gone None is = refl
+      gone (Some n) is = absurd (none-some (g n) (sym is))
+
+      some_map : (o : Option Node) → is_some o ≡ true → is_some (option_map g o) ≡ true
+      some_map None is = is
+      some_map (Some n) is = refl
+
+      parents : (node : Node) (id : ℕ) → node_at (with_each a g) node.id ≡ Some node
+          → node.parent ≡ Some id → IsTrue (is_some (node_at (with_each a g) id))
+      parents node id at above =
+          ap is_some (node_at-with_each a g (keeps_places a g places) id)
+          ∙ some_map (node_at a id)
+          (on (node_at a node.id) refl
+          (sym (node_at-with_each a g (keeps_places a g places) node.id) ∙ at))
+        where
+          on : (o : Option Node) → node_at a node.id ≡ o → option_map g o ≡ Some node
+              → is_some (node_at a id) ≡ true
+          on None is same = absurd (none-some node same)
+          on (Some n) is same =
+              tidy.parents n id
+              (ap (node_at a) (node_at-number a node.id n is) ∙ is)
+              (sym (places n).parent ∙ ap (λ (x : Node). x.parent) (same_Some (g n) node same)
+              ∙ above)
+
+  -- an object that is there gets bytes
+  pub body_tidy : (id : ℕ) (bytes : List ℕ) → is_some (node_at a id) ≡ true
+      → IsTidy (with_body a id bytes)
+  body_tidy id bytes there = grind (arith, nat_tests, body_of-with_body-other)
+
+  -- an object comes to a place that is free
+  pub put_tidy : (new : Node) (id : ℕ) → new.parent ≡ Some id → is_some (node_at a id) ≡ true
+      → child_of a id new.name ≡ None → IsTidy (with_node a new)
+  put_tidy new id parent there free = record {
+    names = apart_put id new parent a.nodes tidy.names
+        (none_each (is_named id new.name) a.nodes free);
+    parents = parents;
+    bodies = λ other none. tidy.bodies other (elsewhere other none (cases_Bool (other == new.id)));
+  }
+    where
+      here : node_at (with_node a new) new.id ≡ Some new
+      here = lookups.find-put_same new a.nodes
+
+      apart : (other : ℕ) → (other == new.id) ≡ false
+          → node_at (with_node a new) other ≡ node_at a other
+      apart other isnt =
+          lookups.find-put_other new a.nodes other
+          (λ same. false≢true (sym isnt ∙ eq-eqb other new.id same))
+
+      elsewhere : (other : ℕ) → node_at (with_node a new) other ≡ None
+          → ((other == new.id) ≡ true) ⊎ ((other == new.id) ≡ false) → node_at a other ≡ None
+      elsewhere other none (inl is) =
+          absurd (none-some new (sym none
+          ∙ ap (node_at (with_node a new)) (eqb-true other new.id is) ∙ here))
+      elsewhere other none (inr isnt) = sym (apart other isnt) ∙ none
+
+      still : (other : ℕ) → is_some (node_at a other) ≡ true
+          → ((other == new.id) ≡ true) ⊎ ((other == new.id) ≡ false)
+          → is_some (node_at (with_node a new) other) ≡ true
+      still other was (inl is) =
+          ap is_some (ap (node_at (with_node a new)) (eqb-true other new.id is) ∙ here)
+      still other was (inr isnt) = ap is_some (apart other isnt) ∙ was
+
+      above : (node : Node) (other : ℕ) → node_at (with_node a new) node.id ≡ Some node
+          → node.parent ≡ Some other
+          → ((node.id == new.id) ≡ true) ⊎ ((node.id == new.id) ≡ false)
+          → is_some (node_at a other) ≡ true
+      above node other at up (inl is) =
+          let it : new ≡ node = same_Some new node (sym here
+          ∙ ap (node_at (with_node a new)) (sym (eqb-true node.id new.id is)) ∙ at) in
+          ap (λ i. is_some (node_at a i)) (same_Some other id
+          (sym up ∙ ap (λ (x : Node). x.parent) (sym it) ∙ parent)) ∙ there
+      above node other at up (inr isnt) = tidy.parents node other (sym (apart node.id isnt) ∙ at) up
+
+      parents : (node : Node) (other : ℕ) → node_at (with_node a new) node.id ≡ Some node
+          → node.parent ≡ Some other → IsTrue (is_some (node_at (with_node a new) other))
+      parents node other at up =
+          still other (above node other at up (cases_Bool (node.id == new.id)))
+          (cases_Bool (other == new.id))
+
+  -- an object without children is removed
+  pub gone_tidy : (id : ℕ) → ((name : List ℕ) → child_of a id name ≡ None)
+      → IsTidy (without_node a id)
+  gone_tidy id childless = record {
+    names = apart_filter (λ (n : Node). not (n.id == id)) a.nodes tidy.names;
+    parents = parents;
+    bodies = λ other none. bytes other none (cases_Bool (other == id));
+  }
+    where
+      dropped : (rows : List (ℕ × List ℕ))
+          → body_at (filter (λ (row : ℕ × List ℕ). not (row.0 == id)) rows) id ≡ None
+      dropped [] = refl
+      dropped (row ∷ rows) = on (row.0 == id) refl (dropped rows)
+        where
+          on : (t : Bool) → (row.0 == id) ≡ t
+              → body_at (filter (λ (r : ℕ × List ℕ). not (r.0 == id)) rows) id ≡ None
+              → body_at (cond (not t) (row ∷ filter (λ (r : ℕ × List ℕ). not (r.0 == id)) rows)
+              (filter (λ (r : ℕ × List ℕ). not (r.0 == id)) rows)) id ≡ None
+          on true is rest = rest
+          on false is rest =
+              ap (λ t. cond t (Some row.1)
+              (body_at (filter (λ (r : ℕ × List ℕ). not (r.0 == id)) rows) id)) is ∙ rest
+
+      bytes : (other : ℕ) → node_at (without_node a id) other ≡ None
+          → ((other == id) ≡ true) ⊎ ((other == id) ≡ false)
+          → body_of (without_node a id) other ≡ None
+      bytes other none (inl is) =
+          ap (body_of (without_node a id)) (eqb-true other id is) ∙ dropped a.bodies
+      bytes other none (inr isnt) =
+          let differ = λ (same : other ≡ id). false≢true (sym isnt ∙ eq-eqb other id same) in
+          kept.body-removed id other differ a.bodies
+          ∙ tidy.bodies other (sym (node_at-without_node-other a id other differ) ∙ none)
+
+      no_child : (node : Node) → node_at a node.id ≡ Some node → node.parent ≡ Some id → ⊥
+      no_child node at up =
+          false≢true (sym
+          (lookups.stands-each (λ (n : Node). is_named id node.name n ≡ false) a.nodes
+          node (none_each (is_named id node.name) a.nodes (childless node.name))
+          (lookups.stands-found (λ (n : Node). n.id == node.id) a.nodes node at))
+          ∙ and_from (has_parent id node) (same_text node.name node.name)
+          (has_its_parent id node up) (text_itself node.name))
+
+      found_before : (node : Node) → node_at (without_node a id) node.id ≡ Some node
+          → ((node.id == id) ≡ true) ⊎ ((node.id == id) ≡ false) → node_at a node.id ≡ Some node
+      found_before node at (inl is) =
+          absurd (none-some node (sym (lookups.find-kept_gone (λ (n : Node). n.id == node.id)
+          (λ (n : Node). not (n.id == id)) a.nodes
+          (λ n same. ap not (eq-eqb n.id id (eqb-true n.id node.id same ∙ eqb-true node.id id is))))
+          ∙ at))
+      found_before node at (inr isnt) =
+          sym (node_at-without_node-other a id node.id
+          (λ same. false≢true (sym isnt ∙ eq-eqb node.id id same))) ∙ at
+
+      parents : (node : Node) (other : ℕ) → node_at (without_node a id) node.id ≡ Some node
+          → node.parent ≡ Some other → IsTrue (is_some (node_at (without_node a id) other))
+      parents node other at up =
+          let was = found_before node at (cases_Bool (node.id == id)) in
+          ap is_some (node_at-without_node-other a id other
+          (λ same. no_child node was (up ∙ ap (λ (i : ℕ). Some i) same)))
+          ∙ tidy.parents node other was up

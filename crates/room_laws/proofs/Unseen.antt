@@ -1,0 +1,81 @@
+-- What happens behind a folder isn't seen outside, over runs.
+use Rattle.std.proofs.Common.{ℕ, ◌≡◌, ◌⊎◌, inl, inr, List, [], ◌∷◌, sym, subst}
+use Rattle.room_machine.specs.Run.{Asked, WasReset, Replaced}
+use Rattle.room_machine.specs.declared.reply.Reply.{Reply}
+use Rattle.room_machine.specs.declared.request.Request.{Request}
+use Rattle.room_machine.specs.declared.request.Request.TheVariants.{Remove}
+use Rattle.room_laws.specs.Laws.{IsTold, TellsNames, front_after}
+use Rattle.room_laws.specs.Outside.{SameOutside}
+use Rattle.room_laws.specs.Twins.{Unseen, InBoth, InFirst, InBothReplaced, InBothReset, InSecond}
+use Rattle.room_laws.proofs.Behind.{numbers_stay, same_back, same_on, stays_behind}
+use Rattle.room_laws.proofs.OperatorAlike.{replaced_alike, reset_replies, reset_stays}
+use Rattle.room_laws.proofs.StaysAlike.{outside_stays}
+use Rattle.room_laws.proofs.TidySteps.{tidy_stays}
+use Rattle.room_laws.proofs.Told.{nothing_else_tells}
+
+-- whether the front could be removed isn't told where it is removed in both or in neither
+replies_alike : (f : List (List ℕ)) (request : Request) (first second : Reply)
+    → (request ≡ Remove f → first ≡ second)
+    → (first ≡ second) ⊎ IsTold f request first second
+    → (first ≡ second) ⊎ TellsNames f request first second
+replies_alike f request first second removes (inl same) = inl same
+replies_alike f request first second removes (inr (inl names)) = inr names
+replies_alike f request first second removes (inr (inr (is, one, two))) = inl (removes is)
+
+pub unseen : Unseen
+unseen f [] a b c d same content_a content_b one two is_c is_d alike =
+    (tt, subst (λ x. SameOutside f x d) (sym is_c) (subst (SameOutside f a) (sym is_d) same))
+unseen f (InBoth user moment later request first second ∷ turns) a b c d same content_a content_b
+    one two (mid, s, run) (other, t, others) ((removes, barred), alike) =
+    let content_mid = tidy_stays a (Asked user moment request first) mid one content_a s in
+    let content_other = tidy_stays b (Asked user later request second) other two content_b t in
+    let on = unseen (front_after f request first) turns mid other c d
+    (outside_stays f a b user moment later request first second mid other same content_a content_b
+    one two removes barred s t content_mid content_other) content_mid content_other
+    (numbers_stay a (Asked user moment request first) mid one s)
+    (numbers_stay b (Asked user later request second) other two t) run others alike in (
+      (
+        replies_alike f request first second removes
+            (nothing_else_tells f a b user moment later request first second mid other same one two
+            barred s t),
+        on.0,
+      ),
+      on.1,
+    )
+unseen f (InBothReset path which sent first second ∷ turns) a b c d same content_a content_b one two
+    (mid, s, run) (other, t, others) (outside, alike) =
+    let content_mid = tidy_stays a (WasReset path which sent first) mid one content_a s in
+    let content_other = tidy_stays b (WasReset path which sent second) other two content_b t in
+    let on = unseen f turns mid other c d
+    (reset_stays f a b same content_a content_b one two path which sent outside first second mid
+    other s t content_mid content_other) content_mid content_other
+    (numbers_stay a (WasReset path which sent first) mid one s)
+    (numbers_stay b (WasReset path which sent second) other two t) run others alike in (
+      (
+        reset_replies f a b same content_a content_b one two path which sent outside first second
+            mid other s t,
+        on.0,
+      ),
+      on.1,
+    )
+unseen f (InBothReplaced pairs ∷ turns) a b c d same content_a content_b one two
+    (mid, is_mid, run) (other, is_other, others) alike =
+    let content_mid = tidy_stays a (Replaced pairs) mid one content_a is_mid in
+    let content_other = tidy_stays b (Replaced pairs) other two content_b is_other in
+    unseen f turns mid other c d
+    (replaced_alike f a b mid other pairs same is_mid is_other content_mid content_other)
+    content_mid content_other
+    (numbers_stay a (Replaced pairs) mid one is_mid)
+    (numbers_stay b (Replaced pairs) other two is_other) run others alike
+unseen f (InFirst event ∷ turns) a b c d same content_a content_b one two (mid, happens, run) others
+    (behind, alike) =
+    let content_mid = tidy_stays a event mid one content_a happens in
+    let stays = stays_behind f a event mid one behind happens in
+    unseen f turns mid b c d (same_on f mid a b (same_back f a mid stays.0) same) content_mid
+    content_b stays.1 two run others alike
+unseen f (InSecond event ∷ turns) a b c d same content_a content_b one two run
+    (other, happens, others) (behind, alike) =
+    let content_other = tidy_stays b event other two content_b happens in
+    let stays = stays_behind f b event other two behind happens in
+    unseen f turns a other c d (same_on f a b other same stays.0) content_a content_other one
+    stays.1 run others alike

@@ -1,0 +1,5 @@
+use Rattle.room_laws.proofs.RightsChanged as changed
+use Rattle.room_laws.proofs.laws.rights_changed_in_run.Goals as goal
+
+pub returns : goal.returns
+returns c = changed.rights_changed_in_run

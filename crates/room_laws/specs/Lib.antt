@@ -1,0 +1,5 @@
+pub mod Outside
+pub mod Tidy
+pub mod Laws
+pub mod Twins
+pub mod WhoChanged

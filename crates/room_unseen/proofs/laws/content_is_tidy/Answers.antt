@@ -1,5 +1,0 @@
-use Rattle.room_unseen.proofs.Orphans as unseen
-use Rattle.room_unseen.proofs.laws.content_is_tidy.Goals as goal
-
-pub returns : goal.returns
-returns c = unseen.content_is_tidy

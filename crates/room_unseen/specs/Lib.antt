@@ -1,4 +1,0 @@
-pub mod Outside
-pub mod Tidy
-pub mod Laws
-pub mod Twins
