@@ -1,8 +1,3 @@
--- Sound rows, test by test, and what they blame; what is stored there is what the machine computes.
-pub mod SoundParts
-pub mod Sites
-pub mod Filled
-pub mod Targets
-pub mod Blamed
+-- The ways up from an object to the root, in rooted rows.
 pub mod Anchored
 pub mod RootedWays

@@ -12,9 +12,9 @@ use Rattle.room_machine.specs.Plan.{Deletion}
 use Rattle.room_machine.specs.Site.{Site, site_at, sites_along}
 use Rattle.room_machine.specs.Step.{caller_in}
 use Rattle.room_machine.specs.Stored.{stored_along}
-use Rattle.room_desk.proofs.Sound.Filled.{site_filled}
-use Rattle.room_desk.proofs.Sound.Sites.{fill, sites_filled}
-use Rattle.room_desk.proofs.Sound.SoundParts.{sound_parts}
+use Rattle.room_sound.proofs.Filled.{site_filled}
+use Rattle.room_sound.proofs.Sites.{fill, sites_filled}
+use Rattle.room_sound.proofs.SoundParts.{sound_parts}
 use Rattle.room_machine.specs.Rights.{last_of, lets_through, may_remove, may_remove_at, reaches}
 use Rattle.room_machine.specs.Rights.{rights, rights_at}
 use Rattle.room_review.specs.Standing.{granted}

@@ -18,7 +18,7 @@ use Rattle.room_rows.specs.Walk.{behind, walk_from, walk_of}
 use Rattle.room_machine.specs.declared.reply.Reason.TheVariants.{NoSuch, NotFolder}
 use Rattle.room_machine.specs.Site.{Site, site_at}
 use Rattle.room_machine.specs.Stored.{stored_along, stored_from, stored_site}
-use Rattle.room_desk.proofs.Lists.ResetWay.{same_front, same_last}
+use Rattle.room_sound.proofs.Ends.{same_front, same_last}
 use Rattle.room_review.specs.declared.question.Reviewed.TheVariants.{Refused}
 use Rattle.room_machine.specs.Rights.{last_of}
 use Rattle.room_review.specs.Standing.{before_last}

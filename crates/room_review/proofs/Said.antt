@@ -1,7 +1,7 @@
 -- In sound rows a table says what the lists grant that are computed from the root.
 use Rattle.std.proofs.Common.{arith}
 use Rattle.room_entry.proofs.Facts.Members.{each_weaker}
-use Rattle.room_desk.proofs.Sound.SoundParts.{sound_parts}
+use Rattle.room_sound.proofs.SoundParts.{sound_parts}
 use Rattle.room_review.specs.Laws.{TableSaysRights}
 use Rattle.room_review.proofs.Computed.{stored_grants}
 use Rattle.room_review.proofs.Named.{all_named}

@@ -18,9 +18,9 @@ use Rattle.room_rows.specs.Meaning.{meaning}
 use Rattle.room_rows.specs.Paths.{path_text}
 use Rattle.room_rows.specs.Rows.{AreRows, Rows, numbers_of}
 use Rattle.room_rows.specs.Sound.{AreSound}
-use Rattle.room_desk.proofs.Sound.Filled.{site_filled, target_there}
-use Rattle.room_desk.proofs.Sound.Sites.{fill, sites_filled}
-use Rattle.room_desk.proofs.Sound.SoundParts.{sound_parts}
+use Rattle.room_sound.proofs.Filled.{site_filled, target_there}
+use Rattle.room_sound.proofs.Sites.{fill, sites_filled}
+use Rattle.room_sound.proofs.SoundParts.{sound_parts}
 use Rattle.room_dump.proofs.Counting.{each_always, each_both, each_filter}
 use Rattle.room_dump.proofs.Reached.{Reached, all_there, goes_down}
 use Rattle.room_machine.specs.Rights.{may_remove_at, rights_at}

@@ -33,9 +33,9 @@ use Rattle.room_judge.proofs.Calls.{HasDone, finish, memory}
 use Rattle.room_desk.specs.Written.{Answers, HasNoBytes, IsAppended, IsPut, TakesBytes, sized_reply}
 use Rattle.room_judge.proofs.Closing.{closed_done, closed_failed}
 use Rattle.room_judge.proofs.Judging.{fails_first, passes_first, refuses, passes_on, judged_none}
-use Rattle.room_desk.proofs.Sound.SoundParts.{sound_parts, sound_noted}
+use Rattle.room_sound.proofs.SoundParts.{sound_parts, sound_noted}
 use Rattle.room_desk.proofs.Bytes.SoundBytes.{sound_bytes}
-use Rattle.room_desk.proofs.Sound.Filled.{plan_judged, target_there}
+use Rattle.room_sound.proofs.Filled.{plan_judged, target_there}
 use Rattle.room_desk.proofs.Steps.Stepping.{refused_step, changed_step}
 use Rattle.room_desk.proofs.Steps.Serving.{DocumentAt, document_there, no_bytes}
 use Rattle.std.proofs.lemmas.Bool.Decides.{nat_tests}

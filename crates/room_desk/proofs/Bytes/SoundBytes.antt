@@ -15,7 +15,7 @@ use Rattle.room_rows.specs.Rows.{Rows, AreRows}
 use Rattle.room_rows.proofs.InPlace.{body_of-with_body, body_of-with_body-other}
 use Rattle.room_rows.proofs.Lookups.{each_found}
 use Rattle.room_rows.specs.Sound.{AreSound, fits_kind, has_sound_body, reaches}
-use Rattle.room_desk.proofs.Sound.SoundParts.{sound_parts, parts_sound, find_same}
+use Rattle.room_sound.proofs.SoundParts.{sound_parts, parts_sound, find_same}
 use Rattle.std.proofs.Common.{arith}
 use Rattle.std.proofs.lemmas.Bool.Decides.{nat_tests}
 

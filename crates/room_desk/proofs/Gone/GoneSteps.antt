@@ -33,14 +33,14 @@ use Rattle.room_desk.specs.Made.{Ends}
 use Rattle.room_desk.specs.Removed.{RemovesFrom, RemovesIfGranted, refused_where}
 use Rattle.room_judge.proofs.Closing.{closed_done, closed_failed, closed_more}
 use Rattle.room_judge.proofs.Judging.{fails_first, judged_none, passes_first, passes_on, refuses}
-use Rattle.room_desk.proofs.Sound.SoundParts.{none_unreadable, sound_noted, sound_parts}
+use Rattle.room_sound.proofs.SoundParts.{none_unreadable, sound_noted, sound_parts}
 use Rattle.room_desk.proofs.Gone.SoundRemoved.{CanGo, removed_means, sound_removed}
 use Rattle.room_desk.proofs.Gone.Childless.{childless}
 use Rattle.room_desk.proofs.Made.Pairs.{parent_along}
 use Rattle.room_desk.proofs.Made.ServedItems.{judged_refused}
-use Rattle.room_desk.proofs.Sound.Sites.{fill, sites_filled}
-use Rattle.room_desk.proofs.Sound.Filled.{fill_item, judged_filled, site_filled, target_there}
-use Rattle.room_desk.proofs.Sound.Filled.{way_filled}
+use Rattle.room_sound.proofs.Sites.{fill, sites_filled}
+use Rattle.room_sound.proofs.Filled.{fill_item, judged_filled, site_filled, target_there}
+use Rattle.room_sound.proofs.Filled.{way_filled}
 use Rattle.room_desk.proofs.Steps.Stepping.{changed_step, refused_step}
 use Rattle.room_desk.proofs.Steps.Serving.{along_there}
 use Rattle.room_desk.proofs.Made.FolderPlans.{parent_filled}

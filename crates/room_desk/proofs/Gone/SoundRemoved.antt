@@ -25,8 +25,8 @@ use Rattle.room_inherit.proofs.Enough.{enough_steps}
 use Rattle.room_entry.proofs.Facts.Members.{none_filter}
 use Rattle.room_desk.proofs.Gone.Childless.{bad_at, body_kept, by_objects, chosen_kept, each_both}
 use Rattle.room_desk.proofs.Gone.Childless.{map_kept, of_objects, still_pass}
-use Rattle.room_desk.proofs.Sound.SoundParts.{SoundParts, map_same, sound_parts, parts_sound}
-use Rattle.room_desk.proofs.Sound.SoundParts.{none_numbered, none_unreadable}
+use Rattle.room_sound.proofs.SoundParts.{SoundParts, map_same, sound_parts, parts_sound}
+use Rattle.room_sound.proofs.SoundParts.{none_numbered, none_unreadable}
 use Rattle.std.proofs.Common.{arith}
 use Rattle.std.proofs.lemmas.Bool.{not-true}
 use Rattle.std.proofs.lemmas.Bool.Decides.{nat_tests}

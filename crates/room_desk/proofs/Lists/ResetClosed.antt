@@ -22,7 +22,7 @@ use Rattle.room_machine.specs.Stored.{stored_along, stored_from, stored_site}
 use Rattle.room_judge.specs.Judged.{Resets}
 use Rattle.room_desk.specs.Setting.{Beneath, IsResetAtEnd, IsSetOrRefused, ended_at}
 use Rattle.room_desk.specs.Setting.{reason_of}
-use Rattle.room_desk.proofs.Lists.ResetWay.{same_last}
+use Rattle.room_sound.proofs.Ends.{same_last}
 use Rattle.room_desk.proofs.Lists.SetReset.{reset_done}
 use Rattle.room_desk.proofs.Sound.RootedWays.{above_end, stands_last}
 use Rattle.std.proofs.Common.{arith}

@@ -18,9 +18,9 @@ use Rattle.room_machine.specs.Effect.{effect, sent_held, set_list, with_site}
 use Rattle.room_desk.specs.Setting.{kept_site}
 use Rattle.room_machine.specs.Site.{Site, front, parent_at, site_at, sites_along}
 use Rattle.room_machine.specs.Stored.{stored_along, stored_site}
-use Rattle.room_desk.proofs.Sound.Filled.{IsTarget, site_filled, target_there}
-use Rattle.room_desk.proofs.Sound.Sites.{fill, sites_filled}
-use Rattle.room_desk.proofs.Sound.SoundParts.{SoundParts}
+use Rattle.room_sound.proofs.Filled.{IsTarget, site_filled, target_there}
+use Rattle.room_sound.proofs.Sites.{fill, sites_filled}
+use Rattle.room_sound.proofs.SoundParts.{SoundParts}
 use Rattle.room_desk.proofs.Made.Uplink.{IsAbove, root_alone, target_above}
 use Rattle.std.proofs.Common.{arith}
 use Rattle.std.proofs.lemmas.Bool.Decides.{nat_tests}

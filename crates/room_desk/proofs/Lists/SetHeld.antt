@@ -28,7 +28,7 @@ use Rattle.room_inherit.proofs.NoFault.{no_fault}
 use Rattle.room_desk.proofs.Lists.Relisted.{relist, relisted, found_relisted, held_relisted}
 use Rattle.room_desk.proofs.Lists.Relisted.{kind_kept, number_kept, linked_relisted, folders_kept}
 use Rattle.room_desk.proofs.Lists.Relisted.{reach_kept, one_list, relisted_sound}
-use Rattle.room_desk.proofs.Sound.SoundParts.{map_same}
+use Rattle.room_sound.proofs.SoundParts.{map_same}
 use Rattle.room_desk.proofs.Lists.ValidDown.{are_inherited, are_own, all_found, held_parts}
 use Rattle.room_desk.proofs.Lists.ValidDown.{valid_down}
 use Rattle.room_desk.proofs.Made.SoundAdded.{lists_here}

@@ -35,7 +35,7 @@ use Rattle.room_judge.proofs.Ways.{not_reached, reaches_with, unless}
 use Rattle.room_judge.proofs.Walked.{root_reached}
 use Rattle.room_machine.specs.Plan.{Check, Item, bad_list, plan_of, way, where_found}
 use Rattle.room_desk.specs.Carrying.{IsRooted, IsUnreadableIfHeld}
-use Rattle.room_desk.proofs.Sound.Blamed.{noted_unread}
+use Rattle.room_sound.proofs.Blamed.{noted_unread}
 use Rattle.room_desk.proofs.Moves.MovingPlan.{along_noted}
 use Rattle.room_desk.proofs.Sound.RootedWays.{rooted_along}
 use Rattle.room_desk.specs.Setting.{Beneath, IsFoundUnder, IsSetOnly, IsSetOrRefused, IsSetWell}
@@ -43,13 +43,13 @@ use Rattle.room_desk.specs.Setting.{SetUnless, kept_site, reason_of}
 use Rattle.room_machine.specs.Site.{Site, site_at}
 use Rattle.room_machine.specs.Stored.{stored_along, stored_plan, stored_site, to_stored}
 use Rattle.room_judge.specs.Stored.{found_site}
-use Rattle.room_desk.proofs.Sound.Filled.{fill_item, plan_judged}
+use Rattle.room_sound.proofs.Filled.{fill_item, plan_judged}
 use Rattle.room_judge.proofs.Judging.{fails_first, judged_none, passes_first, refuses}
 use Rattle.room_desk.proofs.Steps.Serving.{CheckAt}
 use Rattle.room_desk.proofs.Lists.HandedDown.{beside, set_noted}
 use Rattle.room_desk.proofs.Lists.SetEffect.{set_effect}
-use Rattle.room_desk.proofs.Sound.Sites.{fill}
-use Rattle.room_desk.proofs.Sound.SoundParts.{sound_noted, sound_parts}
+use Rattle.room_sound.proofs.Sites.{fill}
+use Rattle.room_sound.proofs.SoundParts.{sound_noted, sound_parts}
 use Rattle.room_desk.proofs.Steps.Stepping.{changed_step, refused_step}
 use Rattle.room_desk.proofs.Made.Uplink.{parent_paired, target_stands}
 use Rattle.room_desk.proofs.Bytes.Appending.{more_items}

@@ -28,18 +28,19 @@ use Rattle.room_judge.specs.Judged.{ResetsSound}
 use Rattle.room_machine.specs.Plan.{Item, Check, Deletion, Refusal, bad_list, plan_of, way}
 use Rattle.room_machine.specs.Plan.{where_found}
 use Rattle.room_desk.specs.Carrying.{IsRooted, IsUnreadableIfHeld}
-use Rattle.room_desk.proofs.Sound.Blamed.{unread_damaged}
+use Rattle.room_sound.proofs.Blamed.{unread_damaged}
 use Rattle.room_desk.proofs.Sound.RootedWays.{above_end, rooted_last, stands_last}
 use Rattle.room_desk.specs.Setting.{Beneath, IsResetAtEnd, IsSetOrRefused, SetUnless, reason_of}
 use Rattle.room_machine.specs.Site.{Site, site_at, sites_along}
 use Rattle.room_machine.specs.Step.{failure_or, is_refusal, reset}
 use Rattle.room_machine.specs.Stored.{stored_along, stored_from, stored_site}
-use Rattle.room_desk.proofs.Sound.Filled.{fill_item, target_filled}
-use Rattle.room_desk.proofs.Lists.ResetWay.{Comes, comes, end_from, refusals, same_last, walk_end}
+use Rattle.room_sound.proofs.Filled.{fill_item, target_filled}
+use Rattle.room_desk.proofs.Lists.ResetWay.{Comes, comes, end_from, refusals, walk_end}
+use Rattle.room_sound.proofs.Ends.{same_last}
 use Rattle.room_desk.proofs.Lists.SetEffect.{set_effect}
 use Rattle.room_desk.proofs.Lists.SetRequest.{items, items_filled}
-use Rattle.room_desk.proofs.Sound.Sites.{sites_filled}
-use Rattle.room_desk.proofs.Sound.SoundParts.{root_there, sound_parts}
+use Rattle.room_sound.proofs.Sites.{sites_filled}
+use Rattle.room_sound.proofs.SoundParts.{root_there, sound_parts}
 use Rattle.room_desk.proofs.Lists.ValidDown.{all_found}
 use Rattle.std.proofs.Common.{arith}
 use Rattle.std.proofs.lemmas.Bool.Decides.{nat_tests}

@@ -30,7 +30,7 @@ use Rattle.room_judge.specs.Spot.{IsSpotted, spot_of}
 use Rattle.room_judge.proofs.Closing.{closed_done, closed_failed}
 use Rattle.room_judge.proofs.Judging.{fails_first, passes_first, refuses}
 use Rattle.room_desk.proofs.Steps.Serving.{none_both}
-use Rattle.room_desk.proofs.Sound.SoundParts.{sound_parts}
+use Rattle.room_sound.proofs.SoundParts.{sound_parts}
 use Rattle.room_desk.proofs.Made.FolderFound.{IsFoundFolder, found_folder}
 use Rattle.room_desk.proofs.Made.FolderPlans.{folder_at, folder_judged, folder_plan, making}
 use Rattle.room_desk.proofs.Made.FolderPlans.{planned_parent}

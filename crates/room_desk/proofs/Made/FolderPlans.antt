@@ -18,9 +18,9 @@ use Rattle.room_machine.specs.Plan.{Along, Item, Check, Refusal, plan_by, plan_o
 use Rattle.room_machine.specs.Plan.{where_found}
 use Rattle.room_machine.specs.Stored.{stored_along}
 use Rattle.room_judge.specs.Judged.{IsJudged}
-use Rattle.room_desk.proofs.Sound.SoundParts.{SoundParts}
-use Rattle.room_desk.proofs.Sound.Sites.{fill, sites_filled}
-use Rattle.room_desk.proofs.Sound.Filled.{fill_item, judged_filled, site_filled, way_filled}
+use Rattle.room_sound.proofs.SoundParts.{SoundParts}
+use Rattle.room_sound.proofs.Sites.{fill, sites_filled}
+use Rattle.room_sound.proofs.Filled.{fill_item, judged_filled, site_filled, way_filled}
 
 -- ---- the sites of the plan
 

@@ -34,7 +34,7 @@ use Rattle.room_machine.specs.Effect.{new_node}
 use Rattle.room_machine.specs.Changed.{new_child, passed_held}
 use Rattle.room_machine.specs.Stored.{stored_site}
 use Rattle.room_desk.proofs.Made.SoundAdded.{above_new, above_old, lists_here, sound_added}
-use Rattle.room_desk.proofs.Sound.SoundParts.{none_numbered, none_unreadable, sound_parts}
+use Rattle.room_sound.proofs.SoundParts.{none_numbered, none_unreadable, sound_parts}
 use Rattle.room_desk.proofs.Lists.ValidDown.{passed_marked}
 use Rattle.room_inherit.proofs.Migrated.{folder_is}
 use Rattle.std.proofs.Common.{arith}

@@ -25,7 +25,7 @@ use Rattle.room_machine.specs.Changed.{AddsNew, new_child}
 use Rattle.room_machine.specs.Step.{IsFree}
 use Rattle.room_machine.specs.Stored.{stored_site}
 use Rattle.room_desk.proofs.Made.NewObject.{added, added_means, added_sound, bodies_then}
-use Rattle.room_desk.proofs.Sound.SoundParts.{sound_noted}
+use Rattle.room_sound.proofs.SoundParts.{sound_noted}
 use Rattle.std.proofs.Common.{arith}
 use Rattle.std.proofs.lemmas.Bool.Decides.{nat_tests}
 

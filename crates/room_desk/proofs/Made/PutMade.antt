@@ -34,8 +34,8 @@ use Rattle.room_judge.proofs.Closing.{closed_done, closed_failed}
 use Rattle.room_judge.proofs.Judging.{fails_first, passes_first}
 use Rattle.room_desk.proofs.Steps.Serving.{none_both, along_there, folder_fails}
 use Rattle.room_desk.proofs.Bytes.SoundBytes.{sound_bytes}
-use Rattle.room_desk.proofs.Sound.SoundParts.{sound_parts, sound_noted}
-use Rattle.room_desk.proofs.Sound.Filled.{target_there}
+use Rattle.room_sound.proofs.SoundParts.{sound_parts, sound_noted}
+use Rattle.room_sound.proofs.Filled.{target_there}
 use Rattle.room_desk.proofs.Made.FolderFound.{IsFoundFolder, found_folder}
 use Rattle.room_desk.proofs.Made.FolderPlans.{planned_none, planned_parent, put_at, put_judged}
 use Rattle.room_desk.proofs.Made.NewStep.{made_adds, made_new}

@@ -32,7 +32,7 @@ use Rattle.room_inherit.proofs.NoFault.{no_fault, sound}
 use Rattle.room_desk.proofs.Made.Added.{after, stays, comes, each_after, all_after, same_above}
 use Rattle.room_desk.proofs.Made.Added.{reaches_still, reaches_more, length_put, filter_put}
 use Rattle.room_desk.proofs.Made.Added.{each_put}
-use Rattle.room_desk.proofs.Sound.SoundParts.{none_numbered, none_unreadable, sound_parts}
+use Rattle.room_sound.proofs.SoundParts.{none_numbered, none_unreadable, sound_parts}
 use Rattle.std.proofs.lemmas.Bool.Decides.{nat_tests}
 
 -- each object that is found passes a test that all pass

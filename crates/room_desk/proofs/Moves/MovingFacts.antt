@@ -24,7 +24,7 @@ use Rattle.room_desk.specs.Moving.{CanGo, CanPlace, at_place, begins, goes_past}
 use Rattle.room_desk.proofs.Moves.MovingPlan.{along_noted}
 use Rattle.room_desk.proofs.Moves.OnePath.{met_by_names}
 use Rattle.room_desk.proofs.Steps.Serving.{along_there, none_both}
-use Rattle.room_desk.proofs.Sound.SoundParts.{sound_noted}
+use Rattle.room_sound.proofs.SoundParts.{sound_noted}
 use Rattle.room_judge.proofs.Spots.{below_of, folder_found, target_found}
 use Rattle.std.proofs.Common.{arith}
 use Rattle.std.proofs.lemmas.Bool.Decides.{nat_tests}

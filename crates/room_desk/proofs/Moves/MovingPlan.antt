@@ -23,11 +23,11 @@ use Rattle.room_machine.specs.Stored.{stored_from, stored_along, to_stored}
 use Rattle.room_machine.specs.Stored.{stored_plan}
 use Rattle.room_judge.specs.Judged.{IsJudged, through, with_notes}
 use Rattle.room_desk.specs.Moving.{at_place, begins, rights_to_move}
-use Rattle.room_desk.proofs.Sound.Filled.{fill_item, judged_filled, site_filled, way_filled}
+use Rattle.room_sound.proofs.Filled.{fill_item, judged_filled, site_filled, way_filled}
 use Rattle.room_desk.proofs.Moves.OnePath.{met_by_names}
 use Rattle.room_desk.proofs.Steps.Serving.{along_there}
-use Rattle.room_desk.proofs.Sound.Sites.{fill, sites_filled}
-use Rattle.room_desk.proofs.Sound.SoundParts.{SoundParts}
+use Rattle.room_sound.proofs.Sites.{fill, sites_filled}
+use Rattle.room_sound.proofs.SoundParts.{SoundParts}
 use Rattle.room_desk.proofs.Made.FolderPlans.{parent_filled}
 use Rattle.std.proofs.Common.{arith}
 

@@ -32,16 +32,16 @@ use Rattle.room_judge.specs.Judged.{CarriesOut, FromRoot, IsJudged, IsReached, w
 use Rattle.room_desk.specs.Moving.{CanGo, CanPlace, FailsToPlace, IsMovedOnly, IsPlaced, at_place}
 use Rattle.room_desk.specs.Moving.{begins}
 use Rattle.room_desk.proofs.Lists.HandedDown.{beside, moved_noted}
-use Rattle.room_desk.proofs.Sound.Filled.{IsTarget, target_there}
+use Rattle.room_sound.proofs.Filled.{IsTarget, target_there}
 use Rattle.room_judge.proofs.Judging.{failure_of_parts, fails_first, passes_first, passes_on}
 use Rattle.room_judge.proofs.Judging.{refuses}
 use Rattle.room_desk.proofs.Moves.MovingFacts.{IsFree, all_passed, goable, placeable}
 use Rattle.room_desk.proofs.Moves.MovingPlan.{along_noted, at_found, move_judged, move_stored}
 use Rattle.room_desk.proofs.Moves.MovingPlan.{stored_items, stored_move, way_noted}
-use Rattle.room_desk.proofs.Sound.Blamed.{noted_unread}
+use Rattle.room_sound.proofs.Blamed.{noted_unread}
 use Rattle.room_desk.proofs.Steps.Serving.{none_both}
-use Rattle.room_desk.proofs.Sound.Sites.{fill}
-use Rattle.room_desk.proofs.Sound.SoundParts.{sound_parts}
+use Rattle.room_sound.proofs.Sites.{fill}
+use Rattle.room_sound.proofs.SoundParts.{sound_parts}
 use Rattle.room_desk.proofs.Steps.Stepping.{changed_step, refused_step}
 use Rattle.room_judge.proofs.Spots.{last_of}
 use Rattle.room_judge.specs.declared.arrival.Both.{Both}

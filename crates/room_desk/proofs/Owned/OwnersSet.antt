@@ -24,9 +24,9 @@ use Rattle.room_machine.specs.Stored.{stored_site}
 use Rattle.room_judge.specs.Judged.{IsReached, CarriesOut}
 use Rattle.room_judge.specs.Closed.{IsServed}
 use Rattle.room_judge.proofs.Closing.{closed_done}
-use Rattle.room_desk.proofs.Sound.SoundParts.{sound_parts, sound_noted}
+use Rattle.room_sound.proofs.SoundParts.{sound_parts, sound_noted}
 use Rattle.room_desk.proofs.Owned.SoundOwners.{owned, owned_means, put_owned, sound_owned}
-use Rattle.room_desk.proofs.Sound.Filled.{plan_judged, target_there}
+use Rattle.room_sound.proofs.Filled.{plan_judged, target_there}
 use Rattle.room_desk.proofs.Steps.Stepping.{changed_step}
 use Rattle.room_desk.proofs.Steps.Serving.{CheckAt, along_there}
 use Rattle.std.proofs.Common.{arith}

@@ -21,7 +21,7 @@ use Rattle.room_rows.proofs.SamePlace.{replaced_elsewhere}
 use Rattle.room_rows.specs.Sound.{AreSound, keeps_law}
 use Rattle.room_inherit.proofs.NoFault.{no_fault, sound_checked}
 use Rattle.room_inherit.proofs.Unmoved.{above, all_kept, still_sound}
-use Rattle.room_desk.proofs.Sound.SoundParts.{map_same}
+use Rattle.room_sound.proofs.SoundParts.{map_same}
 use Rattle.std.proofs.Common.{arith}
 use Rattle.std.proofs.lemmas.Bool.Decides.{nat_tests}
 

@@ -33,7 +33,7 @@ use Rattle.room_desk.proofs.Placed.PlacedParts.{placed_held}
 use Rattle.room_desk.proofs.Placed.PlacedTree.{above_elsewhere, above_here, change, elsewhere}
 use Rattle.room_desk.proofs.Placed.PlacedTree.{faultless, here, is_target, kind, new, number}
 use Rattle.room_desk.proofs.Placed.PlacedTree.{passes_new, passes_old}
-use Rattle.room_desk.proofs.Sound.SoundParts.{none_unreadable, sound_parts}
+use Rattle.room_sound.proofs.SoundParts.{none_unreadable, sound_parts}
 use Rattle.room_desk.proofs.Placed.SoundPlaced.{sound_placed}
 use Rattle.std.proofs.Common.{arith}
 use Rattle.std.proofs.lemmas.Bool.Decides.{nat_tests}

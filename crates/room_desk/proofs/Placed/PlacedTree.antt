@@ -29,7 +29,7 @@ use Rattle.room_desk.proofs.Placed.PlacedParts.{all_after, apart}
 use Rattle.room_desk.proofs.Placed.PlacedParts.{parent_after, parent_found, passes}
 use Rattle.room_desk.proofs.Placed.PlacedParts.{placed, placed_kind}
 use Rattle.room_desk.proofs.Placed.PlacedParts.{placed_number}
-use Rattle.room_desk.proofs.Sound.SoundParts.{none_numbered}
+use Rattle.room_sound.proofs.SoundParts.{none_numbered}
 use Rattle.std.proofs.lemmas.Bool.Decides.{nat_tests}
 
 -- ---- rows whose numbers are all readable

@@ -31,7 +31,7 @@ use Rattle.room_desk.proofs.Placed.PlacedTree.{after, bodies_after, change, faul
 use Rattle.room_desk.proofs.Placed.PlacedTree.{kind, lists_there, names_after, new, no_bad_list}
 use Rattle.room_desk.proofs.Placed.PlacedTree.{number, parents_after, reach_after, roots_same}
 use Rattle.room_desk.proofs.Placed.PlacedTree.{same_root}
-use Rattle.room_desk.proofs.Sound.SoundParts.{none_unreadable, sound_parts}
+use Rattle.room_sound.proofs.SoundParts.{none_unreadable, sound_parts}
 use Rattle.room_desk.proofs.Lists.ValidDown.{are_inherited, are_own, held_parts, valid_down}
 use Rattle.room_desk.proofs.Lists.Relisted.{one_list}
 

@@ -14,7 +14,7 @@ use Rattle.room_rows.proofs.Frames.{root_of-parent}
 use Rattle.room_machine.specs.Site.{Site, site_at}
 use Rattle.room_machine.specs.Stored.{stored_along, stored_from, stored_site}
 use Rattle.room_desk.specs.Carrying.{IsRooted}
-use Rattle.room_desk.proofs.Lists.ResetWay.{same_front, same_last}
+use Rattle.room_sound.proofs.Ends.{same_front, same_last}
 use Rattle.std.proofs.lemmas.Bool.Decides.{nat_tests}
 
 -- the last of the objects, or else the one before them

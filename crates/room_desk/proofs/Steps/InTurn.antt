@@ -15,7 +15,7 @@ use Rattle.room_machine.specs.Closed.{FailsClosed}
 use Rattle.room_judge.specs.Closed.{IsClosed, IsServed, Performs}
 use Rattle.room_judge.specs.Judged.{CarriesOut, IsStepOfRows}
 use Rattle.room_machine.proofs.Meeting.{meet}
-use Rattle.room_desk.proofs.Sound.Blamed.{sound_undamaged}
+use Rattle.room_sound.proofs.Blamed.{sound_undamaged}
 use Rattle.room_machine.specs.Run.{Event, Run, Asked as HasAsked}
 use Rattle.room_machine.specs.Step.{caller_in}
 use Rattle.std.proofs.lemmas.Bool.Decides.{nat_tests}

@@ -41,9 +41,9 @@ use Rattle.room_rows.specs.Keep.{AreNamedUnder, IsDamaged, IsUnreadable}
 use Rattle.room_desk.specs.Answered.{AreNamesOf, IsBytesOf}
 use Rattle.room_desk.specs.Asked.{rulings_at}
 use Rattle.room_desk.specs.Written.{HasNoBytes}
-use Rattle.room_desk.proofs.Sound.SoundParts.{none_unreadable, sound_parts}
-use Rattle.room_desk.proofs.Sound.Sites.{fill}
-use Rattle.room_desk.proofs.Sound.Filled.{fill_item, plan_judged, target_there}
+use Rattle.room_sound.proofs.SoundParts.{none_unreadable, sound_parts}
+use Rattle.room_sound.proofs.Sites.{fill}
+use Rattle.room_sound.proofs.Filled.{fill_item, plan_judged, target_there}
 use Rattle.room_desk.proofs.Steps.Stepping.{refused_step, served_step}
 use Rattle.std.proofs.Common.{arith}
 

@@ -14,7 +14,7 @@ use Rattle.room_machine.specs.Effect.{effect}
 use Rattle.room_machine.specs.Step.{Step, caller_in, failure_or, done_with_records}
 use Rattle.room_judge.specs.Judged.{IsJudged, IsKnown, IsStepOfRows, with_notes}
 use Rattle.room_machine.proofs.Free.{some_free}
-use Rattle.room_desk.proofs.Sound.SoundParts.{sound_noted}
+use Rattle.room_sound.proofs.SoundParts.{sound_noted}
 use Rattle.std.proofs.Common.{arith}
 use Rattle.std.proofs.lemmas.Bool.Decides.{nat_tests}
 

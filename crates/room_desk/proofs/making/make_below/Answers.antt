@@ -5,7 +5,7 @@ use Rattle.room_judge.proofs.Calls.{done}
 use Rattle.room_judge.proofs.Halts.{halts_first}
 use Rattle.room_desk.proofs.Made.FolderMade.{folder_barred, make_in}
 use Rattle.room_desk.proofs.Made.ServedItems.{spotted_blames}
-use Rattle.room_desk.proofs.Sound.Blamed.{rootless_damaged}
+use Rattle.room_sound.proofs.Blamed.{rootless_damaged}
 use Rattle.room_desk.proofs.Made.FolderFound.{found_folder}
 use Rattle.room_judge.proofs.UpTo.{tail_provided}
 use Rattle.room_desk.proofs.Writes.Sufficing.{can_make, none_if, one_of_both}

@@ -5,7 +5,7 @@ use Rattle.room_judge.proofs.Folders.{spotted_child}
 use Rattle.room_judge.proofs.Halts.{halts_first}
 use Rattle.room_desk.proofs.Made.PutMade.{put_barred, put_in, put_on}
 use Rattle.room_desk.proofs.Made.ServedItems.{spotted_blames}
-use Rattle.room_desk.proofs.Sound.Blamed.{rootless_damaged}
+use Rattle.room_sound.proofs.Blamed.{rootless_damaged}
 use Rattle.room_machine.specs.Stored.{stored_site}
 use Rattle.room_desk.proofs.Made.FolderFound.{found_folder}
 use Rattle.room_desk.proofs.Steps.Serving.{along_there}

@@ -3,7 +3,7 @@ use Rattle.room_judge.specs.Halted.{replied}
 use Rattle.room_judge.proofs.Calls.{done}
 use Rattle.room_judge.proofs.Halts.{halts_first}
 use Rattle.room_desk.proofs.Made.PutMade.{put_root, root_barred}
-use Rattle.room_desk.proofs.Sound.Blamed.{noted_unread, rootless_damaged}
+use Rattle.room_sound.proofs.Blamed.{noted_unread, rootless_damaged}
 use Rattle.room_machine.specs.Stored.{stored_site}
 use Rattle.room_desk.proofs.Steps.Serving.{along_there}
 use Rattle.room_judge.proofs.UpTo.{tail_provided}

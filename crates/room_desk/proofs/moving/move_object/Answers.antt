@@ -10,7 +10,7 @@ use Rattle.room_judge.proofs.Calls.{done, none_done, of_read, then}
 use Rattle.room_judge.proofs.Halts.{faults, halts, refused_as}
 use Rattle.room_desk.proofs.Moves.MovingSteps.{empty_path, root_after, root_stays, rooted_pair}
 use Rattle.room_desk.proofs.Moves.MovingSteps.{way_halted}
-use Rattle.room_desk.proofs.Sound.Blamed.{rootless_damaged, unread_damaged}
+use Rattle.room_sound.proofs.Blamed.{rootless_damaged, unread_damaged}
 use Rattle.room_judge.proofs.UpTo.{tail_provided}
 use Rattle.room_desk.proofs.Writes.Placing.{stands_unrecorded}
 use Rattle.room_desk.proofs.Writes.Reading.{reads_on}

@@ -4,7 +4,7 @@ use Rattle.room_machine.specs.declared.request.Request.TheVariants.{SetOwners}
 use Rattle.room_judge.proofs.Calls.{done}
 use Rattle.room_judge.proofs.Halts.{faults, halts_first}
 use Rattle.room_desk.proofs.Owned.OwnersSet.{owners_set}
-use Rattle.room_desk.proofs.Sound.Blamed.{rootless_damaged}
+use Rattle.room_sound.proofs.Blamed.{rootless_damaged}
 use Rattle.room_desk.proofs.Steps.Serving.{along_there, not_served}
 use Rattle.room_desk.proofs.Steps.Serving.{reached_damaged}
 use Rattle.room_machine.specs.Stored.{stored_site}

@@ -2,7 +2,7 @@ use Rattle.std.proofs.Common.{[], ◌∷◌, refl}
 use Rattle.room_entry.specs.Rights.{read_data}
 use Rattle.room_machine.specs.declared.request.Request.TheVariants.{Read}
 use Rattle.room_judge.proofs.Calls.{done, finish, of_read, then_known}
-use Rattle.room_desk.proofs.Sound.Blamed.{rootless_damaged}
+use Rattle.room_sound.proofs.Blamed.{rootless_damaged}
 use Rattle.room_desk.proofs.Steps.Serving.{bytes_answered, no_bytes, not_served}
 use Rattle.room_judge.proofs.Halts.{faults, halts_first}
 use Rattle.room_desk.proofs.reading.read.Goals as goal

@@ -6,7 +6,7 @@ use Rattle.room_entry.specs.Rights.{read_acl}
 use Rattle.room_machine.specs.declared.reply.Reply.TheVariants.{Lists}
 use Rattle.room_machine.specs.declared.request.Request.TheVariants.{ReadList}
 use Rattle.room_judge.proofs.Calls.{done, finish}
-use Rattle.room_desk.proofs.Sound.Blamed.{rootless_damaged}
+use Rattle.room_sound.proofs.Blamed.{rootless_damaged}
 use Rattle.room_desk.proofs.Steps.Serving.{CheckAt, not_served, reached_as, served_list}
 use Rattle.room_judge.proofs.Halts.{halts_first, memory_out}
 use Rattle.room_desk.proofs.reading.read_full_list.Goals as goal

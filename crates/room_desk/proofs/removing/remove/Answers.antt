@@ -5,7 +5,7 @@ use Rattle.room_machine.specs.declared.reply.Reply.TheVariants.{Refused}
 use Rattle.room_machine.specs.declared.reply.Reason.TheVariants.{Root}
 use Rattle.room_machine.specs.declared.request.Request.TheVariants.{Remove}
 use Rattle.room_judge.proofs.Calls.{done, none_done, of_read}
-use Rattle.room_desk.proofs.Sound.Blamed.{noted_unread, rootless_damaged}
+use Rattle.room_sound.proofs.Blamed.{noted_unread, rootless_damaged}
 use Rattle.room_desk.proofs.Gone.GoneSteps.{remove_done, remove_halted, root_kept}
 use Rattle.room_desk.proofs.Moves.MovingSteps.{empty_path}
 use Rattle.room_judge.specs.Closed.{IsServed}

@@ -4,7 +4,7 @@ use Rattle.room_judge.proofs.Calls.{none_done, fails, done, of_read}
 use Rattle.room_rows.specs.declared.node.Node.{Node}
 use Rattle.room_desk.proofs.Lists.ResetClosed.{reset_told}
 use Rattle.room_desk.proofs.Lists.SetReset.{reset_blames}
-use Rattle.room_desk.proofs.Sound.Blamed.{rootless_damaged}
+use Rattle.room_sound.proofs.Blamed.{rootless_damaged}
 use Rattle.room_desk.proofs.Sound.RootedWays.{rooted_last, stands_last}
 use Rattle.room_judge.proofs.UpTo.{tail_provided}
 use Rattle.room_desk.proofs.Writes.Sufficing.{rooted_unrecorded}

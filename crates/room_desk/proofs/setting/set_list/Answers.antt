@@ -3,7 +3,7 @@ use Rattle.room_judge.specs.Halted.{settled}
 use Rattle.room_judge.proofs.Calls.{done}
 use Rattle.room_judge.proofs.Halts.{halts_first}
 use Rattle.room_desk.proofs.Lists.SetRequest.{found_pair, set_halted}
-use Rattle.room_desk.proofs.Sound.Blamed.{rootless_damaged}
+use Rattle.room_sound.proofs.Blamed.{rootless_damaged}
 use Rattle.room_judge.proofs.UpTo.{tail_provided}
 use Rattle.room_desk.proofs.Writes.Sufficing.{each_of_both, stands_along}
 use Rattle.room_desk.proofs.Writes.Reading.{reads_on}

@@ -5,7 +5,7 @@ use Rattle.room_judge.specs.Halted.{replied}
 use Rattle.room_judge.proofs.Calls.{done}
 use Rattle.room_judge.proofs.Halts.{halts_first}
 use Rattle.room_desk.proofs.Bytes.Appending.{append_blames, append_done, append_ended}
-use Rattle.room_desk.proofs.Sound.Blamed.{rootless_damaged}
+use Rattle.room_sound.proofs.Blamed.{rootless_damaged}
 use Rattle.room_desk.proofs.Steps.Serving.{DocumentAt, document_there, reached_as}
 use Rattle.room_judge.proofs.UpTo.{tail_provided}
 use Rattle.room_desk.proofs.Writes.Sufficing.{one_of_both}

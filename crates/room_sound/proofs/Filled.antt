@@ -15,9 +15,9 @@ use Rattle.room_machine.specs.Judge.{failure, passes, first_failure, checks_of}
 use Rattle.room_machine.specs.Judge.{records_of_checks, records_of_plan}
 use Rattle.room_machine.specs.Stored.{stored_along, to_stored}
 use Rattle.room_judge.specs.Judged.{IsJudged, with_notes}
-use Rattle.room_desk.proofs.Sound.SoundParts.{SoundParts}
-use Rattle.room_desk.proofs.Sound.Sites.{fill, sites_filled}
-use Rattle.room_desk.proofs.Sound.Targets.{target_kept}
+use Rattle.room_sound.proofs.SoundParts.{SoundParts}
+use Rattle.room_sound.proofs.Sites.{fill, sites_filled}
+use Rattle.room_sound.proofs.Targets.{target_kept}
 use Rattle.std.proofs.Common.{arith}
 
 abbrev pub fill_item : Item → Item

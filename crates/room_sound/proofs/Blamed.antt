@@ -12,7 +12,7 @@ use Rattle.room_rows.specs.Keep.{HasNoRoot, IsDamaged, IsUnreadable}
 use Rattle.room_rows.specs.Rows.{Rows}
 use Rattle.room_rows.specs.Sound.{AreSound, has_sound_body}
 use Rattle.room_judge.specs.Judged.{with_notes}
-use Rattle.room_desk.proofs.Sound.SoundParts.{passes_test, rootless_unsound, sound_parts}
+use Rattle.room_sound.proofs.SoundParts.{passes_test, rootless_unsound, sound_parts}
 
 pub rootless_damaged : (old mid : Rows) (row : ℕ) → mid ≡ old → HasNoRoot mid row
     → IsDamaged old row

@@ -26,7 +26,7 @@ use Rattle.room_rows.specs.Sound.{keeps_law}
 use Rattle.room_machine.specs.Site.{Site, full_at, root_site, site_below, sites_below, sites_of}
 use Rattle.room_machine.specs.Site.{sites_along}
 use Rattle.room_machine.specs.Stored.{stored_site, stored_from, stored_along}
-use Rattle.room_desk.proofs.Sound.SoundParts.{SoundParts, passes_test}
+use Rattle.room_sound.proofs.SoundParts.{SoundParts, passes_test}
 use Rattle.room_inherit.proofs.Stored.{linked_kept}
 use Rattle.room_entry.proofs.Facts.Booleans.{implied}
 use Rattle.std.proofs.Common.{arith}
