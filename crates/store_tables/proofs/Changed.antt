@@ -1,6 +1,5 @@
 -- What came of a statement that had to change some rows.
 use Rattle.std.proofs.Common.{◌≡◌, ℕ, Result, Ok, Err, IfOk, arith}
-use Rattle.std.specs.Prelude.{if◌then◌else◌}
 use Rattle.sqlite.specs.declared.error.Error.{Error}
 use Rattle.room_rows.specs.declared.keep.KeepFault.{KeepFault}
 use Rattle.store_tables.specs.Seeing.{all_changed}

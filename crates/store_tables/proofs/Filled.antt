@@ -48,7 +48,7 @@ abbrev fill_edit : Trees → List Row → Edit
 fill_edit db rows = edit_of db bodies_table (ids_of rows) Given 1 rows
 
 -- nothing refers to bytes
-none_off : (olds : List Row) → works room_schema Enforced 0 2 olds [] ≡ []
+pub none_off : (olds : List Row) → works room_schema Enforced 0 2 olds [] ≡ []
 unfolding everything
 none_off olds = refl
 

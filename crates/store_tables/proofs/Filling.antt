@@ -1,18 +1,18 @@
 -- What the rows mean once bytes are written anew.
-use Rattle.std.proofs.Common.{◌≡◌, ◌<◌, ℕ, pos, List, [], ◌∷◌, Some, refl, sym, ap, ◌∙◌, not, arith}
+use Rattle.std.proofs.Common.{◌≡◌, ◌<◌, ℕ, ℤ, pos, List, [], ◌∷◌, Some, refl, sym, ap, ◌∙◌, not, arith}
 use Rattle.std.specs.List.{filter_map}
 use Rattle.sqlite.specs.declared.types.Value.TheVariants.{Blob}
 use Rattle.sqlite.specs.Effect.{Database}
-use Rattle.sqlite.specs.Tree.{has_rowid, without_rowid, IsTable}
+use Rattle.sqlite.specs.Tree.{Trees, has_rowid, put_row, without_rowid, IsTable}
 use Rattle.sqlite_trees.specs.declared.store.Shape.TheVariants as Shape
 use Rattle.sqlite_trees.proofs.TreeLemmas.{IsShaped-filter}
-use Rattle.room_rows.specs.Content.{put_body, with_body}
-use Rattle.room_rows.specs.Keep.{with_content}
+use Rattle.room_rows.specs.Content.{put_body}
 use Rattle.store_tables.specs.Filed.{bodies_rise, body_rowid}
 use Rattle.store_tables.specs.Meaning.{audit_in, bodies_of, body_in, body_row, nodes_of, pairs_of}
-use Rattle.store_tables.specs.Meaning.{rows_of, unread_of}
+use Rattle.store_tables.specs.Meaning.{unread_of}
 use Rattle.store_tables.specs.RoomRows.{number_in-low}
-use Rattle.store_tables.specs.Shown.{Fills, IsRoom, stored_body}
+use Rattle.store_tables.specs.Shown.{Bodies, Fills, IsRoom, RemovesBytes, stored_body}
+use Rattle.store_tables.specs.Trust.{HasBody}
 use Rattle.store_tables.proofs.Put.{others, put_again, put_by, put_seen}
 use Rattle.store_tables.proofs.Removed.{read_without, same_rows}
 use Rattle.std.proofs.lemmas.Bool.Decides.{nat_tests}
@@ -32,9 +32,20 @@ pub stored_bytes : (id : ℕ) (bytes : List ℕ) → 0 < id
     → body_in (stored_body (pos id) bytes) ≡ Some (id, bytes)
 stored_bytes id bytes low = ap (λ n. body_row n (Blob bytes)) (number_in-low id low)
 
+-- bytes that are taken out and put in anew are replaced
+pub replaced : {id : ℤ} {bytes : List ℕ} {db mid next : Trees} → RemovesBytes id db mid
+    → Bodies id bytes mid next → Fills id bytes db next
+replaced {id = id} {bytes = bytes} gone put = record {
+  nodes = put.nodes ∙ gone.nodes;
+  bodies = put.bodies ∙ ap (put_row (stored_body id bytes)) gone.bodies;
+  members = put.members ∙ gone.members;
+  meta = put.meta ∙ gone.meta;
+  audits = put.audits ∙ gone.audits;
+}
+
 pub filled_rows : (db next : Database) (id : ℕ) (bytes : List ℕ) → IsRoom db → 0 < id
     → Fills (pos id) bytes db.trees next.trees
-    → rows_of next ≡ with_content (rows_of db) (with_body (rows_of db).read id bytes)
+    → HasBody id bytes db next
 filled_rows db next id bytes room low put =
     let new = stored_body (pos id) bytes in
     let left = without_rowid (pos id) (db.trees 2) in

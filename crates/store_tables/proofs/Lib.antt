@@ -32,6 +32,7 @@ pub mod Removed
 pub mod Put
 pub mod Replaced
 pub mod Filled
+pub mod Cleared
 pub mod Recast
 pub mod Altered
 pub mod Filling

@@ -393,6 +393,22 @@ pub plain_fill : IsPlain (understood room_schema fill_text)
 unfolding understood everything
 plain_fill = (refl, refl)
 
+-- the DELETE of the bytes of a document, which is left without
+abbrev pub clear_text : List ℕ
+clear_text = codes "DELETE FROM bodies WHERE node = ?1"
+
+-- the DELETE of bytes compiles to the search of `bodies` by number
+pub clear_is : command_of (understood room_schema clear_text)
+    ≡ Delete 1
+    (record { lets = []; body = query_of 2 (matches_parameter 0 0 ∷ []) (col 1 0 ∷ []) [] })
+unfolding understood everything
+clear_is = refl
+
+-- the DELETE of bytes is one statement with no RETURNING, and reads no time
+pub plain_clear : IsPlain (understood room_schema clear_text)
+unfolding understood everything
+plain_clear = (refl, refl)
+
 -- the INSERT of the first bytes of a document, under the document's number
 abbrev pub put_text : List ℕ
 put_text = codes "INSERT INTO bodies (node, bytes) VALUES (?1, ?2)"

@@ -190,6 +190,14 @@ pub record RecastsAll (change : Row → Row) (first last : ℤ) (db next : Trees
 abbrev pub stored_body : ℤ → List ℕ → Row
 stored_body id bytes = Int id ∷ Null ∷ Blob bytes ∷ []
 
+-- the bytes of this number are taken out, and its object is left
+pub record RemovesBytes (id : ℤ) (db next : Trees) : Type 0 where
+  pub nodes : next tree.nodes ≡ db tree.nodes
+  pub bodies : next tree.bodies ≡ without_rowid id (db tree.bodies)
+  pub members : next tree.members ≡ db tree.members
+  pub meta : next tree.meta ≡ db tree.meta
+  pub audits : next tree.audits ≡ db tree.audits
+
 -- the bytes of this number are replaced
 pub record Fills (id : ℤ) (bytes : List ℕ) (db next : Trees) : Type 0 where
   pub nodes : next tree.nodes ≡ db tree.nodes

@@ -7,7 +7,7 @@ use Rattle.sqlite.specs.State.{State, HasCleanDisk}
 use Rattle.sqlite.specs.Effect.{Database}
 use Rattle.room_rows.specs.declared.node.AuditRow.{AuditRow}
 use Rattle.room_rows.specs.declared.node.Node.{Node}
-use Rattle.room_rows.specs.Content.{with_records}
+use Rattle.room_rows.specs.Content.{with_body, with_records}
 use Rattle.room_rows.specs.Keep.{Changes, ChangesAll, HasCause, capped, with_content}
 use Rattle.room_rows.specs.declared.keep.KeepFault.{KeepFault}
 use Rattle.store_tables.specs.Meaning.{rows_of}
@@ -35,6 +35,11 @@ AltersAll ids change old new = ChangesAll ids change (rows_of old) (rows_of new)
 abbrev pub HasNoted : AuditRow → Database → Database → Type 0
 HasNoted row old new =
     rows_of new ≡ with_content (rows_of old) (with_records (rows_of old).read (row ∷ []))
+
+-- the bytes of this number are replaced by these, and nothing else is changed
+abbrev pub HasBody : ℕ → List ℕ → Database → Database → Type 0
+HasBody id bytes old new =
+    rows_of new ≡ with_content (rows_of old) (with_body (rows_of old).read id bytes)
 
 -- A part of a call that writes: what it leaves of the connection and of the count of failures, and,
 -- where it answers, of the tables.

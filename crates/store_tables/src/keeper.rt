@@ -18,6 +18,7 @@ ghost use Rattle.store_tables.specs.Trust.{stays_on, trusted_first, trusted_last
 ghost use Rattle.store_tables.specs.RoomRows.{room_rows};
 ghost use Rattle.store_tables.specs.Whole.{Sees, SeesEach, SeesNamed, SeesSome, SeesTop};
 
+use crate::bodies::fill_bytes;
 use crate::columns::{columns_of, held_columns, name_is_kept, record_of, text_is_kept};
 use crate::fault::{or_blamed, wrote_one};
 use crate::inherited::{put_inh, put_inh_all};
@@ -29,7 +30,7 @@ use crate::seen::{
 use crate::statements::{
     delete_node, insert_bytes, insert_node, insert_record, select_bytes, select_child,
     select_groups, select_names, select_node, select_numbers, select_some, select_top,
-    select_under, update_bytes, update_held, update_owners, update_place,
+    select_under, update_held, update_owners, update_place,
 };
 use room_ace::{Entry, Name, Names, Owners, Which, names_are_text};
 use room_rows::{
@@ -353,7 +354,7 @@ impl<'a, 'conn, S: Alter> Keep for Keeper<'a, 'conn, S> {
     }
 
     fn set_body(&mut self, id: u64, bytes: &[u8]) -> Result<(), KeepFault> {
-        wrote_one(update_bytes(self.tx, id, bytes), &mut self.failures)?;
+        fill_bytes(self, id, bytes)?;
         count_one(&mut self.writes);
         Ok(())
     }

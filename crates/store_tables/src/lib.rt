@@ -1,6 +1,7 @@
 //! The rows of a room in the tables of a SQLite database.
 #![tactic(auto)]
 
+mod bodies;
 mod columns;
 mod fault;
 mod inherited;

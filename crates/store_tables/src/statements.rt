@@ -5,7 +5,7 @@ ghost use Rattle.store_tables.specs.Columns.{StoresHeld, StoresNode, StoresRecor
 ghost use Rattle.store_tables.specs.Columns.{values_of};
 ghost use Rattle.store_tables.specs.Printed.{IsCanonical};
 ghost use Rattle.store_tables.specs.Shown.{Bodies, Fills, AddsRecordRow};
-ghost use Rattle.store_tables.specs.Shown.{Recasts, RecastsAll, RemovesRow};
+ghost use Rattle.store_tables.specs.Shown.{Recasts, RecastsAll, RemovesBytes, RemovesRow};
 ghost use Rattle.store_tables.specs.Shown.{sets_held, sets_inh, sets_place, sets_owners};
 ghost use Rattle.store_tables.specs.Statements.{QueriesSql, HasBytes, HasChild};
 ghost use Rattle.store_tables.specs.Statements.{HasGroups, HasNames};
@@ -158,6 +158,16 @@ pub(crate) fn delete_node<S: Alter>(tx: &mut Transaction<'_, S>, id: u64) -> Res
 {
     let row = rowid_of(id)?;
     tx.execute("DELETE FROM nodes WHERE id = ?1", params![row])
+}
+
+/// Takes the bytes of this number out, and leaves its object.
+pub(crate) fn delete_bytes<S: Alter>(tx: &mut Transaction<'_, S>, id: u64) -> Result<usize, Error>
+    ensures same_reference { tx.new.conn.ghost_name ≡ tx.old.conn.ghost_name }
+    ensures writes { ExecutesSql (OfRow id RemovesBytes)
+        (state S.Store tx.old.conn.now) (state S.Store tx.new.conn.now) result }
+{
+    let row = rowid_of(id)?;
+    tx.execute("DELETE FROM bodies WHERE node = ?1", params![row])
 }
 
 /// Writes a list in the row of this number, and none of its other columns.

@@ -1,0 +1,18 @@
+use Rattle.std.proofs.Common.{◌∷◌, [], pos}
+use Rattle.sqlite.specs.declared.types.Value.TheVariants.{Int}
+use Rattle.sqlite.specs.Held.{state}
+use Rattle.store_tables.proofs.Asked.{ended, writes}
+use Rattle.store_tables.proofs.Cleared.{clear_one, clear_room}
+use Rattle.store_tables.proofs.Rowids.{passed_on}
+use Rattle.store_tables.proofs.Texts.{clear_text}
+use Rattle.store_tables.proofs.statements.delete_bytes.Goals as goal
+
+pub returns-clause-writes : goal.returns-clause-writes
+returns-clause-writes g c =
+    let old = state g.S.Store c.args.tx.now.conn.now in
+    let new = state g.S.Store c.execute.new.self.conn.now in
+    let given = rw (passed_on _ _ c.in_ok-row.ensures) at c.params-to_sql.ensures in
+    writes clear_text (Int (pos c.args.id) ∷ []) old new c.execute.result _ _
+    c.execute.ensures.survives (λ inside. clear_room (pos c.args.id) old new inside)
+    (λ count room h one. (c.in_ok-row.ensures.2, clear_one (pos c.args.id) old new count room h one))
+    (ended (state g.S.Store) _ _ _ _ _ c.execute.ensures.ended) (rw given at c.execute.ensures.runs)
