@@ -4,7 +4,6 @@ use Rattle.std.specs.Prelude.{
   ℕ,
   zero,
   suc,
-  ◌-◌,
   ◌⊎◌,
   ◌&&◌,
   Bool,
@@ -13,7 +12,6 @@ use Rattle.std.specs.Prelude.{
   [],
   filter,
   length,
-  take,
   Option,
   Some,
   None,
@@ -27,7 +25,6 @@ use Rattle.room_entry.specs.Valid.{first_bad_entry}
 use Rattle.room_entry.specs.declared.fault.EntryFault.{EntryFault}
 use Rattle.room_entry.specs.declared.flags.ListFlags.{ListFlags}
 use Rattle.room_entry.specs.declared.object.ObjKind.{ObjKind}
-use Rattle.room_entry.specs.declared.object.ObjKind.TheVariants.{Document, Folder}
 use Rattle.room_entry.specs.declared.object.Which.{Which}
 use Rattle.room_rows.specs.HeldList.{Held}
 use Rattle.room_rows.specs.declared.node.Node.{Node}
@@ -42,9 +39,9 @@ use Rattle.room_desk.specs.Carrying.{GoesDown}
 use Rattle.room_judge.specs.declared.arrival.Found.{Found}
 use Rattle.room_judge.specs.declared.asker.Asker.{Asker}
 use Rattle.room_judge.specs.Closed.{IsServed}
-use Rattle.room_judge.specs.Judged.{IsReached}
+use Rattle.room_judge.specs.Judged.{IsReached, ended_at}
 use Rattle.room_machine.specs.declared.reply.Reason.{Reason}
-use Rattle.room_machine.specs.declared.reply.Reason.TheVariants.{BadList, NoSuch, NotFolder}
+use Rattle.room_machine.specs.declared.reply.Reason.TheVariants.{BadList}
 use Rattle.room_machine.specs.declared.reply.Reply.{Reply}
 use Rattle.room_machine.specs.declared.reply.Reply.TheVariants.{Done, Refused}
 use Rattle.room_machine.specs.declared.request.Request.TheVariants.{SetList}
@@ -179,11 +176,6 @@ FailsToSet asker path target above mid row =
     (old : Rows) → IsFoundUnder asker path target above old mid → IsDamaged old row
 
 -- ---- the operator's reset
-
--- why a walk ended before its last name: at a document, or at a name that isn't there
-abbrev pub ended_at : List (List ℕ) → ObjKind → ℕ → Reply
-ended_at path Document rest = Refused (take (length path - rest) path) NotFolder
-ended_at path Folder rest = Refused (take (length path - (rest - 1)) path) NoSuch
 
 -- The walk came to an object with n names left over.
 abbrev pub IsResetAtEnd : List (List ℕ) → Which → Sent → Node → ℕ → Rows → Reply → Rows → Type 0

@@ -1,7 +1,7 @@
 -- What the calls that carry out a request answer, and what they leave.
-use Rattle.std.specs.Prelude.{◌≡◌, ℕ, ℤ, ◌+◌, Bool, true, false, not, List, [], ◌∷◌, ◌++◌}
-use Rattle.std.specs.Prelude.{Option, Some, None, is_none, slice_index_or, Result, Ok, Err, IfOk}
-use Rattle.std.specs.Prelude.{IfErr, take, if◌then◌else◌}
+use Rattle.std.specs.Prelude.{◌≡◌, ℕ, ℤ, suc, ◌+◌, ◌-◌, Bool, true, false, not, List, [], ◌∷◌}
+use Rattle.std.specs.Prelude.{◌++◌, length, Option, Some, None, is_none, slice_index_or, Result, Ok}
+use Rattle.std.specs.Prelude.{Err, IfOk, IfErr, take, if◌then◌else◌}
 use Rattle.room_entry.specs.Rights.{delete_child, execute, write_data}
 use Rattle.room_entry.specs.declared.object.ObjKind.{ObjKind}
 use Rattle.room_entry.specs.declared.object.ObjKind.TheVariants.{Document, Folder}
@@ -22,6 +22,7 @@ use Rattle.room_rows.specs.Keep.{HasCause, IsUnreadable, with_content}
 use Rattle.room_rows.specs.Meaning.{meaning}
 use Rattle.room_rows.specs.Rows.{Rows}
 use Rattle.room_rows.specs.Sound.{AreSound}
+use Rattle.room_rows.specs.Walk.{walk_of}
 use Rattle.room_judge.specs.declared.arrival.Found.{Found}
 use Rattle.room_judge.specs.declared.asker.Asker.{Asker}
 use Rattle.room_machine.specs.declared.reply.Reply.{Reply}
@@ -199,9 +200,21 @@ abbrev pub ResetsSound : List (List ℕ) → Which → Sent → Rows → Reply �
 ResetsSound path which sent old reply new =
     AreSound old → IsResetOfRows path which sent old reply new
 
+-- why a walk ended before its last name: at a document, or at a name that isn't there
+abbrev pub ended_at : List (List ℕ) → ObjKind → ℕ → Reply
+ended_at path Document rest = Refused (take (length path - rest) path) NotFolder
+ended_at path Folder rest = Refused (take (length path - (rest - 1)) path) NoSuch
+
+-- A walk along the path that ends before its last name is refused for what it ended at.
+abbrev pub RefusesEnd : List (List ℕ) → Rows → Reply → Type 0
+RefusesEnd path rows reply = (front : List Node) (last : Node) (rest : ℕ)
+    → walk_of rows.read path ≡ record { chain = front ++ last ∷ []; rest = suc rest }
+    → reply ≡ ended_at path last.kind (suc rest)
+
 -- What `reset` promises: from sound rows a step of the operator, and on any rows that the list is
--- set, or refused.
+-- set, or refused, and why, where the path leads nowhere.
 pub record Resets (path : List (List ℕ)) (which : Which) (sent : Sent) (old : Rows)
     (reply : Reply) (new : Rows) : Type 0 where
   pub step : ResetsSound path which sent old reply new
   pub closed : IsResetClosed path which sent old reply new
+  pub ended : RefusesEnd path old reply

@@ -19,9 +19,8 @@ use Rattle.room_machine.specs.declared.reply.Reply.{Reply}
 use Rattle.room_machine.specs.declared.reply.Reply.TheVariants.{Done, Refused}
 use Rattle.room_machine.specs.Site.{Site, site_at}
 use Rattle.room_machine.specs.Stored.{stored_along, stored_from, stored_site}
-use Rattle.room_judge.specs.Judged.{Resets}
-use Rattle.room_desk.specs.Setting.{Beneath, IsResetAtEnd, IsSetOrRefused, ended_at}
-use Rattle.room_desk.specs.Setting.{reason_of}
+use Rattle.room_judge.specs.Judged.{RefusesEnd, Resets, ended_at}
+use Rattle.room_desk.specs.Setting.{Beneath, IsResetAtEnd, IsSetOrRefused, reason_of}
 use Rattle.room_desk.proofs.Lists.ResetWay.{same_last}
 use Rattle.room_desk.proofs.Lists.SetReset.{reset_done}
 use Rattle.room_desk.proofs.Sound.RootedWays.{above_end, stands_last}
@@ -146,6 +145,18 @@ module _ (path : List (List ℕ)) (which : Which) (sent : Sent) (last : Node) (o
 
 -- ---- in terms of the calls
 
+-- a walk that ends before its last name ends at the last of the chain, with as many names left over
+told_end : (path : List (List ℕ)) (which : Which) (sent : Sent) (old new : Rows) (walk : Walk)
+    (front : List Node) (last : Node) (reply : Reply) → walk ≡ walk_of old.read path
+    → walk.chain ≡ front ++ last ∷ []
+    → IsResetAtEnd path which sent last walk.rest old reply new → RefusesEnd path old reply
+told_end path which sent old new walk front last reply is chain said front' last' rest ends =
+    let same : last ≡ last' = same_last front front' last last'
+    (sym chain ∙ ap (λ (w : Walk). w.chain) (is ∙ ends)) in
+    let left : walk.rest ≡ suc rest = ap (λ (w : Walk). w.rest) (is ∙ ends) in
+    let told = subst (λ n. IsResetAtEnd path which sent last n old reply new) left said in
+    told.0 ∙ ap (λ (n : Node). ended_at path n.kind (suc rest)) same
+
 pub reset_told : (path : List (List ℕ)) (which : Which) (sent : Sent) (old mid : Rows)
     (walk : Walk) (front : List Node) (last : Node) → walk ≡ walk_of old.read path → mid ≡ old
     → walk.chain ≡ front ++ last ∷ [] → (above : Option Node)
@@ -155,12 +166,14 @@ pub reset_told : (path : List (List ℕ)) (which : Which) (sent : Sent) (old mid
 reset_told path which sent old mid walk front last is same chain above read new reply are beneath =
     let said = beneath (ap (λ (r : Rows). parent_of r.read last) same
     ∙ above_end old are.numbers path walk front last above is chain read) in
+    let at = IsResetAtEnd path which sent last walk.rest in
+    let here = subst (λ (r : Rows). at r reply new) same said in
     record {
       step = reset_done path which sent old mid walk front last is same chain above read new reply
           are beneath;
       closed =
           at_end path which sent last old new reply walk.rest
           (stands_last old are.numbers path walk front last is chain)
-          (ends_along old.read path walk front last is chain)
-          (subst (λ (r : Rows). IsResetAtEnd path which sent last walk.rest r reply new) same said);
+          (ends_along old.read path walk front last is chain) here;
+      ended = told_end path which sent old new walk front last reply is chain here;
     }

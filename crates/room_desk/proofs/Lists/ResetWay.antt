@@ -22,7 +22,7 @@ use Rattle.room_entry.specs.declared.object.ObjKind.{ObjKind}
 use Rattle.room_entry.specs.declared.object.ObjKind.TheVariants.{Document, Folder}
 use Rattle.room_rows.specs.Content.{node_at}
 use Rattle.room_rows.proofs.Frames.{Rises, child_of-is_there}
-use Rattle.room_desk.specs.Setting.{ended_at}
+use Rattle.room_judge.specs.Judged.{ended_at}
 use Rattle.room_judge.proofs.Ways.{not_empty}
 
 -- ---- the last of the chain
