@@ -2,4 +2,5 @@
 pub mod Stepping
 pub mod Serving
 pub mod InTurn
+pub mod Bounds
 pub mod AskedBits

@@ -1,5 +1,6 @@
 -- How much a request writes beside records.
-use Rattle.std.specs.Prelude.{ℕ, ◌+◌, ◌≤◌, Bool, true, false, not, count_by}
+use Rattle.std.specs.Prelude.{ℕ, ◌+◌, ◌≤◌, ◌||◌, Bool, true, false, not, count_by, is_some}
+use Rattle.std.specs.Prelude.{if◌then◌else◌}
 use Rattle.std.specs.Option.{option_map_or}
 use Rattle.room_entry.specs.Same.{same_entries}
 use Rattle.room_entry.specs.declared.object.Which.{Which}
@@ -9,7 +10,7 @@ use Rattle.room_rows.specs.Content.{Content, node_at}
 use Rattle.room_rows.specs.Held.{held_of}
 use Rattle.room_rows.specs.Rows.{Rows}
 use Rattle.room_machine.specs.declared.request.Request.{Request}
-use Rattle.room_machine.specs.Closed.{only_reads}
+use Rattle.room_machine.specs.Closed.{failure_told, only_reads}
 use Rattle.room_machine.specs.declared.reply.Reply.{Reply}
 use Rattle.room_judge.specs.Extent.{Extent, OnlyRecords}
 use Rattle.room_judge.specs.Halted.{served_up_to}
@@ -55,3 +56,9 @@ extent_if false reply = served_up_to OneAndBoth reply
 -- at most one object more, and each list whose inherited entries change.
 abbrev pub extent_of : Request → Reply → Extent
 extent_of request reply = extent_if (only_reads request) reply
+
+-- how many writes beside records suffice for a request with this reply, from rows to rows
+abbrev pub most_writes : Request → Reply → Rows → Rows → ℕ
+most_writes request reply old new =
+    if only_reads request || is_some (failure_told reply) then 0
+    else changed_lists Dacl old new + changed_lists Sacl old new + 1

@@ -1,22 +1,20 @@
 -- Requests that are carried out in turn.
-use Rattle.std.proofs.Common.{◌≡◌, ℕ, ◌<◌, ◌+◌, ℤ, List, [], ◌∷◌, ◌++◌, length, take, get_or}
-use Rattle.std.proofs.Common.{Option, refl, sym, ap, subst, ◌∙◌, arith, length-append}
+use Rattle.std.proofs.Common.{◌≡◌, ℕ, suc, ◌<◌, ◌+◌, ℤ, List, [], ◌∷◌, ◌++◌, length, take, get_or}
+use Rattle.std.proofs.Common.{Option, refl, sym, ap, subst, ◌∙◌, arith}
 use Rattle.std.proofs.lemmas.List.{take_more}
 use Rattle.room_rows.specs.Sound.{AreSound}
-use Rattle.room_rows.specs.Keep.{IsDamaged}
 use Rattle.room_rows.specs.Meaning.{meaning}
 use Rattle.room_rows.specs.Rows.{Rows}
 use Rattle.room_judge.specs.declared.asker.Asker.{Asker}
 use Rattle.room_machine.specs.declared.reply.Reply.{Reply}
 use Rattle.room_machine.specs.declared.request.Request.{Request}
+use Rattle.room_desk.specs.Counted.{most_writes}
 use Rattle.room_desk.specs.declared.running.Asked.{Asked}
-use Rattle.room_desk.specs.InTurn.{AreFirst, IsDamagedAfter, IsRunOfRows, RunsAll, asked_events}
+use Rattle.room_desk.specs.InTurn.{GoInTurn, IsDamagedAfter, IsRunOfRows, RunsAll}
 use Rattle.room_machine.specs.Closed.{FailsClosed}
 use Rattle.room_judge.specs.Closed.{IsClosed, IsServed, Performs}
 use Rattle.room_judge.specs.Judged.{CarriesOut, IsStepOfRows}
-use Rattle.room_machine.proofs.Meeting.{meet}
 use Rattle.room_desk.proofs.Sound.Blamed.{sound_undamaged}
-use Rattle.room_machine.specs.Run.{Event, Run, Asked as HasAsked}
 use Rattle.room_machine.specs.Step.{caller_in}
 use Rattle.std.proofs.lemmas.Bool.Decides.{nat_tests}
 
@@ -46,77 +44,72 @@ performed user moment asker request old mid new reply at both served =
 
 -- ---- several requests
 
-events_more : (asked : List Asked) (replies : List Reply) (one : Asked) (reply : Reply)
-    → length replies ≡ length asked
-    → asked_events (asked ++ one ∷ []) (replies ++ reply ∷ []) ≡ asked_events asked replies
-    ++ HasAsked one.user one.moment one.request reply ∷ []
-events_more [] [] one reply each = refl
-events_more [] (r ∷ replies) one reply each = absurd (omega (arith, each))
-events_more (a ∷ asked) [] one reply each = absurd (omega (arith, each))
-events_more (a ∷ asked) (r ∷ replies) one reply each =
-    ap (λ (events : List Event). HasAsked a.user a.moment a.request r ∷ events)
-    (events_more asked replies one reply (omega (arith, each)))
-
-run_more : (asked : List Asked) (one : Asked) (replies : List Reply) (reply : Reply)
-    (old mid new : Rows) → RunsAll asked old replies mid
-    → Performs one.user one.moment one.request mid reply new
-    → RunsAll (asked ++ one ∷ []) old (replies ++ reply ∷ []) new
-run_more asked one replies reply old mid new sofar more sound =
-    let before : IsRunOfRows asked old replies mid = sofar sound in
-    let step : IsStepOfRows one.user one.moment one.request mid reply new =
-    more.step before.sound in
+-- from sound rows they are a run, and the rows are sound again
+pub go_run : (asked : List Asked) (replies : List Reply) (old new : Rows) (most : ℕ)
+    → GoInTurn asked replies old new most → RunsAll asked old replies new
+go_run [] [] old new most go sound = record {
+  each = refl;
+  run = ap (λ (r : Rows). meaning r.read) go.0;
+  sound = subst AreSound (sym go.0) sound;
+}
+go_run [] (r ∷ replies) old new most go sound = absurd go
+go_run (a ∷ asked) [] old new most go sound = absurd go
+go_run (a ∷ asked) (r ∷ replies) old new most (mid, rest, does, go, is) sound =
+    let step : IsStepOfRows a.user a.moment a.request old r mid = does.step sound in
+    let then = go_run asked replies mid new rest go step.sound in
     record {
-      each =
-          omega (
-            arith,
-            before.each,
-            length-append asked (one ∷ []),
-            length-append replies (reply ∷ []),
-          );
-      run =
-          subst (λ (events : List Event). Run (meaning old.read) events (meaning new.read))
-          (sym (events_more asked replies one reply before.each))
-          (meet (meaning old.read) (meaning mid.read) (meaning new.read)
-          (asked_events asked replies)
-          (HasAsked one.user one.moment one.request reply ∷ []) before.run
-          (meaning new.read, step.step, refl));
-      sound = step.sound;
+      each = ap suc then.each;
+      run = (meaning mid.read, step.step, then.run);
+      sound = then.sound;
     }
 
+sum_one : (most more same : ℕ) → most ≡ 0 → more ≡ same → most + more ≡ same + 0
+sum_one most more same none is = omega (arith, none, is)
+
+sum_more : (most first rest more : ℕ) → most ≡ first + rest → most + more ≡ first + (rest + more)
+sum_more most first rest more is = omega (arith, is)
+
 -- one request more
-pub runs_more : (asked : List Asked) (n : ℕ) (one : Asked) (replies all : List Reply)
-    (reply : Reply) (old mid new : Rows) → n < length asked → one ≡ get_or asked n one
-    → all ≡ replies ++ reply ∷ []
-    → RunsAll (take n asked) old replies mid
+go_more : (asked : List Asked) (one : Asked) (replies : List Reply) (reply : Reply)
+    (old mid new : Rows) (most : ℕ) → GoInTurn asked replies old mid most
     → Performs one.user one.moment one.request mid reply new
-    → RunsAll (take (n + 1) asked) old all new
-runs_more asked n one replies all reply old mid new below is made sofar more =
+    → GoInTurn (asked ++ one ∷ []) (replies ++ reply ∷ []) old new
+    (most + most_writes one.request reply mid new)
+go_more [] one [] reply old mid new most go does =
+    let more = most_writes one.request reply in (
+      new,
+      0,
+      subst (λ (r : Rows). Performs one.user one.moment one.request r reply new) go.0 does,
+      (refl, refl),
+      sum_one most (more mid new) (more old new) go.1 (ap (λ (r : Rows). more r new) go.0),
+    )
+go_more [] one (r ∷ replies) reply old mid new most go does = absurd go
+go_more (a ∷ asked) one [] reply old mid new most go does = absurd go
+go_more (a ∷ asked) one (r ∷ replies) reply old mid new most (next, rest, first, go, is) does = (
+  next,
+  rest + most_writes one.request reply mid new,
+  first,
+  go_more asked one replies reply next mid new rest go does,
+  sum_more most (most_writes a.request r old next) rest (most_writes one.request reply mid new) is,
+)
+
+pub goes_more : (asked : List Asked) (n : ℕ) (one : Asked) (replies all : List Reply)
+    (reply : Reply) (old mid new : Rows) (most : ℕ) → n < length asked → one ≡ get_or asked n one
+    → all ≡ replies ++ reply ∷ [] → GoInTurn (take n asked) replies old mid most
+    → Performs one.user one.moment one.request mid reply new
+    → GoInTurn (take (n + 1) asked) all old new (most + most_writes one.request reply mid new)
+goes_more asked n one replies all reply old mid new most below is made go does =
     let longer : take n asked ++ one ∷ [] ≡ take (n + 1) asked = ap
     (λ (x : Asked). take n asked ++ x ∷ []) is ∙ sym (take_more asked n one below) in
-    subst (λ (l : List Asked). RunsAll l old all new) longer
-    (subst (λ (l : List Reply). RunsAll (take n asked ++ one ∷ []) old l new) (sym made)
-    (run_more (take n asked) one replies reply old mid new sofar more))
-
-pub first_more : (asked : List Asked) (n : ℕ) (one : Asked) (replies all : List Reply)
-    (reply : Reply) (old mid new : Rows) → n < length asked → one ≡ get_or asked n one
-    → all ≡ replies ++ reply ∷ []
-    → AreFirst asked n old replies mid → Performs one.user one.moment one.request mid reply new
-    → AreFirst asked (n + 1) old all new
-first_more asked n one replies all reply old mid new below is made first more = record {
-  ran = runs_more asked n one replies all reply old mid new below is made first.ran more;
-  none = λ zero_is. absurd (let wrong : ⊥ = omega (arith, zero_is) in wrong);
-}
-
--- a row that is damaged after the first requests
-pub blamed_after : (asked : List Asked) (n : ℕ) (replies : List Reply) (old mid : Rows) (row : ℕ)
-    → n < length asked → AreFirst asked n old replies mid → IsDamaged mid row
-    → IsDamagedAfter asked old row
-blamed_after asked n replies old mid row below first damaged = grind (arith, nat_tests)
+    let most' = most + most_writes one.request reply mid new in
+    subst (λ (l : List Asked). GoInTurn l all old new most') longer
+    (subst (λ (l : List Reply). GoInTurn (take n asked ++ one ∷ []) l old new most') (sym made)
+    (go_more (take n asked) one replies reply old mid new most go does))
 
 -- from sound rows they stay sound, and nothing is damaged
 pub never_after : (asked : List Asked) (rows : Rows) (row : ℕ) → AreSound rows
     → IsDamagedAfter asked rows row → ⊥
 never_after asked rows row sound after =
     let run : IsRunOfRows (take after.count asked) rows after.replies after.rows =
-    after.first.ran sound in
+    go_run (take after.count asked) after.replies rows after.rows after.most after.first sound in
     sound_undamaged after.rows row run.sound after.damaged

@@ -1,0 +1,229 @@
+-- How much requests write and read that are carried out in turn.
+use Rattle.std.proofs.Common.{◌≡◌, ◌||◌, ℕ, ◌+◌, ◌<◌, ◌≤◌, Bool, true, false, List, []}
+use Rattle.std.proofs.Common.{◌∷◌, ◌++◌, length, take, drop, get_or, Option, Some, None, Result, Ok}
+use Rattle.std.proofs.Common.{Err, IfOk, Vec, Global, refl, sym, ap, subst, ◌∙◌, arith, le_refl}
+use Rattle.std.specs.Prelude.{is_some, if◌then◌else◌}
+use Rattle.std.specs.Result.{IsErrAnd}
+use Rattle.std.proofs.lemmas.List.{take-append-drop, take_more}
+use Rattle.std.proofs.lemmas.List.Folds.{list_any-append}
+use Rattle.room_rows.specs.Keep.{KeepLaws}
+use Rattle.room_rows.specs.declared.keep.Keep.{Ghosts}
+use Rattle.room_rows.specs.declared.keep.KeepFault.{KeepFault}
+use Rattle.room_entry.specs.declared.object.Which.TheVariants.{Dacl, Sacl}
+use Rattle.room_machine.specs.Closed.{failure_told, only_reads}
+use Rattle.room_machine.specs.declared.reply.Reply.{Reply}
+use Rattle.room_machine.specs.declared.request.Request.{Request}
+use Rattle.room_judge.specs.Closed.{Performs}
+use Rattle.room_judge.specs.Extent.{StaysWithin, Unless, Unsaid, UpTo, WritesUpTo}
+use Rattle.room_judge.proofs.Calls.{HasDone}
+use Rattle.room_desk.specs.Called.{ReadsFew, calls_for, hands_down}
+use Rattle.room_desk.specs.Counted.{OneAndBoth, changed_lists, extent_if, extent_of, most_writes}
+use Rattle.room_desk.specs.InTurn.{GoInTurn, WritesInTurn, calls_for_all, some_hands_down}
+use Rattle.room_desk.specs.declared.running.Asked.{Asked}
+use Rattle.room_desk.proofs.Steps.InTurn.{goes_more}
+use Rattle.room_desk.proofs.Writes.Reading.{reads_on}
+
+-- ---- sums
+
+one_front : (asked : List Asked) (n : ℕ) (one : Asked) → n < length asked
+    → one ≡ get_or asked n one → take n asked ++ one ∷ [] ≡ take (n + 1) asked
+one_front asked n one below is =
+    ap (λ (x : Asked). take n asked ++ x ∷ []) is ∙ sym (take_more asked n one below)
+
+calls_more : (asked : List Asked) (one : Asked)
+    → calls_for_all (asked ++ one ∷ []) ≡ calls_for_all asked + (calls_for one.request + 1)
+calls_more [] one = omega arith
+calls_more (a ∷ asked) one = omega (arith, calls_more asked one)
+
+calls_front : (front back : List Asked) → calls_for_all front ≤ calls_for_all (front ++ back)
+calls_front [] back = omega arith
+calls_front (a ∷ front) back = omega (arith, calls_front front back)
+
+or_false : (a : Bool) → a || false ≡ a
+or_false true = refl
+or_false false = refl
+
+down_more : (asked : List Asked) (one : Asked)
+    → some_hands_down (asked ++ one ∷ []) ≡ some_hands_down asked || hands_down one.request
+down_more asked one =
+    list_any-append (λ (x : Asked). hands_down x.request) asked (one ∷ [])
+    ∙ ap (λ b. some_hands_down asked || b) (or_false (hands_down one.request))
+
+neither : (a b : Bool) → a || b ≡ false → (a ≡ false) × (b ≡ false)
+neither true b is = absurd (let e : true ≡ false = is in cc)
+neither false b is = (refl, is)
+
+down_front : (front back : List Asked) → some_hands_down (front ++ back) ≡ false
+    → some_hands_down front ≡ false
+down_front front back none =
+    (neither (some_hands_down front) (some_hands_down back)
+    (sym (list_any-append (λ (x : Asked). hands_down x.request) front back) ∙ none)).0
+
+both_write : (wa wb wc la lb lc m n : ℕ) → wb + la ≤ wa + lb + m → wc + lb ≤ wb + lc + n
+    → wc + la ≤ wa + lc + (m + n)
+both_write wa wb wc la lb lc m n first last = omega (arith, first, last)
+
+module _ {S : Type 0} (k : Ghosts S) where
+  -- ---- writing
+
+  told_within : (told : Option Reply) (a b : S)
+      → StaysWithin k.rows k.writes (Unless told OneAndBoth) a b
+      → WritesUpTo k.rows k.writes (if is_some told then 0
+      else changed_lists Dacl (k.rows a) (k.rows b) + changed_lists Sacl (k.rows a) (k.rows b) + 1)
+      a b
+  told_within None a b few =
+      let most = changed_lists Dacl (k.rows a) (k.rows b) + changed_lists Sacl (k.rows a) (k.rows b)
+      + 1 in
+      few most (le_refl most)
+  told_within (Some failure) a b few = few.1
+
+  reads_within : (reads : Bool) (reply : Reply) (a b : S)
+      → StaysWithin k.rows k.writes (extent_if reads reply) a b
+      → WritesUpTo k.rows k.writes (if reads || is_some (failure_told reply) then 0
+      else changed_lists Dacl (k.rows a) (k.rows b) + changed_lists Sacl (k.rows a) (k.rows b) + 1)
+      a b
+  reads_within true reply a b few = few.1
+  reads_within false reply a b few = told_within (failure_told reply) a b few
+
+  -- a request writes no more than suffices for it
+  one_writes : (request : Request) (reply : Reply) (a b : S)
+      → StaysWithin k.rows k.writes (extent_of request reply) a b
+      → WritesUpTo k.rows k.writes (most_writes request reply (k.rows a) (k.rows b)) a b
+  one_writes request reply a b few = reads_within (only_reads request) reply a b few
+
+  -- ---- reading
+
+  -- so many calls read, and so many others
+  reads_sum : {X : Type 0} (first last : Bool) (a b c : S) (count more : ℕ)
+      (r : Result X KeepFault) → k.writes a ≤ k.writes b → k.writes b ≤ k.writes c
+      → ReadsFew k first count a b {X = Unit {0}} (Ok tt) → ReadsFew k last more b c r
+      → ReadsFew k (first || last) (count + more) a c r
+  reads_sum false false a b c count more r up grows before after = omega (arith, before, after)
+  reads_sum false true a b c count more r up grows before after =
+      reads_on k r a b c count more (count + more) before up (omega arith) after
+  reads_sum true false a b c count more (Ok x) up grows before after = λ below.
+      let was = before (omega (arith, below, grows)) in omega (arith, was, after, grows)
+  reads_sum true false a b c count more (Err e) up grows before after = tt
+  reads_sum true true a b c count more (Ok x) up grows before after = λ below.
+      let was = before (omega (arith, below, grows)) in
+      let more_read = after below in omega (arith, was, more_read, grows)
+  reads_sum true true a b c count more (Err e) up grows before after = tt
+
+  -- what is said of an answer is said of any
+  pub answered : {X Y : Type 0} (down : Bool) (a b : S) (count : ℕ) (x : X) (y : Y)
+      → ReadsFew k down count a b {X = X} (Ok x) → ReadsFew k down count a b {X = Y} (Ok y)
+  answered true a b count x y few = few
+  answered false a b count x y few = few
+
+  -- where there is no answer in the end, it is said only where none of them hands a list down
+  halted : {X Y : Type 0} (down first last : Bool) (a b c : S) (count more total : ℕ)
+      (r : Result X KeepFault) (e : KeepFault) (end : Result Y KeepFault)
+      → (down ≡ false → (first ≡ false) × (last ≡ false)) → count + more ≤ total
+      → IsErrAnd end (λ x. x ≡ e) → ReadsFew k first count a b {X = Unit {0}} (Ok tt)
+      → ReadsFew k last more b c r → ReadsFew k down total a c end
+  halted true first last a b c count more total r e (Ok y) none fits is before after = absurd is
+  halted true first last a b c count more total r e (Err f) none fits is before after = tt
+  halted false first last a b c count more total r e end none fits is before after =
+      let each = none refl in
+      let one : k.reads b ≤ k.reads a + count =
+      subst (λ d. ReadsFew k d count a b {X = Unit {0}} (Ok tt)) each.0 before in
+      let two : k.reads c ≤ k.reads b + more =
+      subst (λ d. ReadsFew k d more b c r) each.1 after in
+      omega (arith, one, two, fits)
+
+  -- ---- the requests so far
+
+  -- these requests are carried out in turn, with these replies
+  pub record HasGone (asked : List Asked) (replies : List Reply) (a b : S) : Type 0 where
+    pub follows : k.Follows a b
+    pub writes : WritesInTurn k asked replies a b
+    pub reads : ReadsFew k (some_hands_down asked) (calls_for_all asked) a b {X = Unit {0}} (Ok tt)
+
+  pub done_so : (asked : List Asked) (replies : List Reply) (a b : S) → HasGone asked replies a b
+      → HasDone k.rows k.writes k.Follows k.IsTrusted (UpTo Unsaid) a b
+      (λ old new. (most : ℕ) × GoInTurn asked replies old new most)
+  done_so asked replies a b gone = record {
+    follows = gone.follows;
+    becomes = λ t. let wrote = gone.writes t in (wrote.0, wrote.1);
+    few = λ t more never. absurd never;
+  }
+
+  -- there are no replies where there is no answer
+  pub no_replies : (asked : List Asked) (a b : S) (r : Result (Vec Reply Global) KeepFault)
+      (e : KeepFault) → IsErrAnd r (λ x. x ≡ e)
+      → IfOk r (λ replies. WritesInTurn k asked replies.items a b)
+  no_replies asked a b (Ok replies) e is = absurd is
+  no_replies asked a b (Err f) e is = tt
+
+  pub reads_halted : {X Y : Type 0} (asked : List Asked) (n : ℕ) (one : Asked) (a b c : S)
+      (r : Result X KeepFault) (e : KeepFault) (end : Result Y KeepFault) → n < length asked
+      → one ≡ get_or asked n one → IsErrAnd end (λ x. x ≡ e)
+      → ReadsFew k (some_hands_down (take n asked)) (calls_for_all (take n asked)) a b
+      {X = Unit {0}} (Ok tt)
+      → ReadsFew k (hands_down one.request) (calls_for one.request + 1) b c r
+      → ReadsFew k (some_hands_down asked) (calls_for_all asked) a c end
+  reads_halted asked n one a b c r e end below at is before after =
+      let longer = one_front asked n one below at in
+      let whole = take-append-drop (n + 1) asked in
+      let fits = calls_front (take (n + 1) asked) (drop (n + 1) asked) in
+      let sum = sym (calls_more (take n asked) one) ∙ ap calls_for_all longer in
+      halted (some_hands_down asked) (some_hands_down (take n asked)) (hands_down one.request)
+      a b c (calls_for_all (take n asked)) (calls_for one.request + 1) (calls_for_all asked) r e end
+      (λ none.
+      neither (some_hands_down (take n asked)) (hands_down one.request)
+      (sym (down_more (take n asked) one) ∙ ap some_hands_down longer
+      ∙ down_front (take (n + 1) asked) (drop (n + 1) asked) (ap some_hands_down whole ∙ none)))
+      (omega (arith, sum, fits, ap calls_for_all whole)) is before after
+
+  module _ (laws : KeepLaws k.rows k.failures k.writes k.Follows k.IsTrusted) where
+    pub none_gone : (replies : List Reply) (a : S) → replies ≡ [] → HasGone [] replies a a
+    none_gone replies a none = record {
+      follows = laws.itself a;
+      writes =
+          λ t. (
+            0,
+            subst (λ l. GoInTurn [] l (k.rows a) (k.rows a) 0) (sym none) (refl, refl),
+            omega arith,
+          );
+      reads = omega arith;
+    }
+
+    -- one request more
+    pub gone_more : (asked : List Asked) (n : ℕ) (one : Asked) (replies all : List Reply)
+        (reply : Reply) (a b c : S) → n < length asked → one ≡ get_or asked n one
+        → all ≡ replies ++ reply ∷ [] → HasGone (take n asked) replies a b
+        → HasDone k.rows k.writes k.Follows k.IsTrusted (extent_of one.request reply) b c
+        (λ old new. Performs one.user one.moment one.request old reply new)
+        → ReadsFew k (hands_down one.request) (calls_for one.request + 1) b c {X = Reply} (Ok reply)
+        → HasGone (take (n + 1) asked) all a c
+    gone_more asked n one replies all reply a b c below at made gone done reads =
+        let longer = one_front asked n one below at in
+        let so_far = take n asked in
+        record {
+          follows = laws.on a b c gone.follows done.follows;
+          writes =
+              λ t.
+              let first = laws.first a b c gone.follows done.follows t in
+              let last = laws.last a b c gone.follows done.follows t in
+              let wrote = gone.writes first in (
+                wrote.0 + most_writes one.request reply (k.rows b) (k.rows c),
+                goes_more asked n one replies all reply (k.rows a) (k.rows b) (k.rows c) wrote.0
+                    below at made wrote.1 (done.becomes last),
+                both_write (k.writes a) (k.writes b) (k.writes c) (length (k.rows a).read.audits)
+                    (length (k.rows b).read.audits) (length (k.rows c).read.audits) wrote.0
+                    (most_writes one.request reply (k.rows b) (k.rows c)) wrote.2
+                    (one_writes one.request reply b c (done.few last)),
+              );
+          reads =
+              subst (λ (l : List Asked). ReadsFew k (some_hands_down l) (calls_for_all l) a c
+              {X = Unit {0}} (Ok tt)) longer
+              (subst (λ d. ReadsFew k d (calls_for_all (so_far ++ one ∷ [])) a c {X = Unit {0}}
+              (Ok tt)) (sym (down_more so_far one))
+              (subst (λ n. ReadsFew k (some_hands_down so_far || hands_down one.request) n a c
+              {X = Unit {0}} (Ok tt)) (sym (calls_more so_far one))
+              (answered (some_hands_down so_far || hands_down one.request) a c
+              (calls_for_all so_far + (calls_for one.request + 1)) reply tt
+              (reads_sum (some_hands_down so_far) (hands_down one.request) a b c
+              (calls_for_all so_far) (calls_for one.request + 1) (Ok reply)
+              (laws.grow a b gone.follows) (laws.grow b c done.follows) gone.reads reads))));
+        }
