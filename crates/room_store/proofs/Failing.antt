@@ -1,13 +1,12 @@
 -- Why calls that are rolled back are answered by `Db`.
-use Rattle.std.proofs.Common.{◌≡◌, ◌≤◌, Result, Ok, Err, IsSome, None, inl, inr, refl, sym}
-use Rattle.std.proofs.Common.{true≢false}
-use Rattle.std.proofs.Common.{ap, subst, ◌∙◌, false, arith}
+use Rattle.std.proofs.Common.{◌≡◌, ◌≤◌, Result, Ok, Err, refl, sym, ap, ◌∙◌, false}
 use Rattle.sqlite_trees.specs.View.{doubt}
 use Rattle.sqlite.specs.State.{State, HasCleanDisk}
 use Rattle.room_rows.specs.declared.keep.KeepFault.{KeepFault}
 use Rattle.room_rows.specs.declared.keep.KeepFault.TheVariants as keep
 use Rattle.store_tables.specs.Shown.{Stays}
-use Rattle.store_admin.specs.Failing.{FailsInside, HasFailed, HasRisen}
+use Rattle.store_tables.specs.Failing.{FailsInside}
+use Rattle.store_tables.proofs.Failing.{Counts, around}
 use Rattle.room_store.specs.declared.fault.StoreFault.{StoreFault}
 use Rattle.room_store.specs.declared.fault.StoreFault.TheVariants.{Db}
 use Rattle.room_store.specs.Failing.{FailsByDb}
@@ -18,21 +17,6 @@ store_of : (why : KeepFault) → fault_as why ≡ Db → why ≡ keep.Store
 store_of keep.Memory is = absurd (let e = is in cc)
 store_of keep.Store is = refl
 store_of (keep.Damaged id) is = absurd (let e = is in cc)
-
--- the counts of a transaction around calls: it begins with that of the connection, and without a
--- limit of steps
-pub record Counts (old begun mid end : State) : Type 0 where
-  pub faults : begun.faults ≡ old.faults
-  pub limit : begun.step_limit ≡ None
-  pub rise : mid.faults ≤ end.faults
-
-around : (old begun mid end : State) → Counts old begun mid end → HasFailed begun mid
-    → HasRisen old.faults end.faults
-around old begun mid end counts (inl (inl rose)) =
-    inl (omega (arith, counts.faults, counts.rise, rose))
-around old begun mid end counts (inl (inr full)) = inr (omega (arith, counts.faults, full))
-around old begun mid end counts (inr limited) =
-    absurd (true≢false (sym (subst IsSome counts.limit limited)))
 
 pub fails_by : {X : Type 0} (old begun mid end : State) (done : Result X KeepFault)
     (result : Result X StoreFault)

@@ -1,7 +1,7 @@
 -- When a store gives no answer because of its database.
 use Rattle.std.specs.Prelude.{◌≡◌, Result, Err, IsTrue}
 use Rattle.sqlite.specs.State.{State}
-use Rattle.store_admin.specs.Failing.{HasRisen}
+use Rattle.store_tables.specs.Failing.{HasRisen}
 use Rattle.room_store.specs.declared.fault.StoreFault.{StoreFault}
 use Rattle.room_store.specs.declared.fault.StoreFault.TheVariants.{Db}
 use Rattle.room_store.specs.Premise.{StorePremise}

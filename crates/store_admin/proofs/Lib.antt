@@ -1,5 +1,4 @@
 pub mod Answered
-pub mod Failing
 pub mod Sets
 pub mod InOrder
 pub mod Members

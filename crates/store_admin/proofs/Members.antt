@@ -25,14 +25,14 @@ use Rattle.sqlite_keyed.proofs.SortLemmas.{IsPermutation-sort_by}
 use Rattle.sqlite_tied.specs.Compute.{everything}
 use Rattle.room_rows.specs.Content.{set_of}
 use Rattle.store_tables.specs.Meaning.{pair_in}
-use Rattle.store_admin.specs.Failing.{FailsSql}
+use Rattle.store_tables.specs.Failing.{FailsSql}
 use Rattle.store_admin.specs.Operating.{ShowsMembers, by_pair, pair_seen, pairs_seen, shown_pair}
 use Rattle.store_tables.specs.Paired.{Pair, pair_cmp}
 use Rattle.store_tables.specs.RoomRows.{set_sorted}
 use Rattle.store_tables.specs.Shown.{IsRoom}
 use Rattle.store_tables.specs.Tables.{room_schema}
 use Rattle.store_tables.proofs.Ordered.{HasNoTies}
-use Rattle.store_admin.proofs.Failing.{IsAsked, fails_sql}
+use Rattle.store_tables.proofs.Failing.{IsAsked, fails_sql}
 use Rattle.store_admin.proofs.InOrder.{in_pairs, pair_total, pairs_apart, pairs_in_order}
 use Rattle.store_admin.proofs.Sets.{has, has_set, is_at, same_sets}
 use Rattle.store_tables.proofs.Texts.{ascending_by, query_of, selects}

@@ -26,10 +26,10 @@ use Rattle.store_tables.specs.Tables.{room_schema}
 use Rattle.store_tables.proofs.Answers.{passes}
 use Rattle.store_tables.proofs.Ordered.{as_stored}
 use Rattle.store_tables.proofs.Texts.{ascending_by, query_of, selects}
-use Rattle.store_admin.specs.Failing.{FailsSql}
+use Rattle.store_tables.specs.Failing.{FailsSql}
 use Rattle.store_admin.specs.Operating.{AreRecords, HasRecords, HasUnreadRecord, record_seen}
 use Rattle.store_admin.specs.Operating.{shown_record}
-use Rattle.store_admin.proofs.Failing.{IsAsked, fails_sql}
+use Rattle.store_tables.proofs.Failing.{IsAsked, fails_sql}
 use Rattle.room_entry.proofs.Facts.Lists.{filter_all}
 use Rattle.std.proofs.lemmas.Bool.Decides.{nat_tests}
 

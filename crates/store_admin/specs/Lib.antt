@@ -1,4 +1,3 @@
 pub mod Carries
 pub mod Operating
 pub mod Dump
-pub mod Failing

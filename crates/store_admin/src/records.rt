@@ -8,7 +8,7 @@ ghost use Rattle.store_tables.specs.Meaning.{granted_in, mask_in, moment_in, pat
 ghost use Rattle.store_tables.specs.Meaning.{user_in};
 ghost use Rattle.store_tables.specs.Statements.{QueriesSql};
 ghost use Rattle.store_admin.specs.Carries.{AnswersOpen, CallsInside, Reading};
-ghost use Rattle.store_admin.specs.Failing.{FailsInside, FailsSql};
+ghost use Rattle.store_tables.specs.Failing.{FailsInside, FailsSql};
 ghost use Rattle.store_admin.specs.Operating.{
   AreRecords,
   HasRecords,

@@ -1,5 +1,6 @@
 -- A transaction begins, and its commit fails.
 use Rattle.std.proofs.Common.{◌≡◌, ◌≤◌, ◌∙◌, IsTrue, sym, ap, true, false, arith, inl, inr}
+use Rattle.std.proofs.Common.{Result}
 use Rattle.sqlite_trees.specs.View.{doubt}
 use Rattle.sqlite_trees.specs.declared.store.Store.{Ghosts}
 use Rattle.sqlite.specs.Held.{Held, state}
@@ -7,7 +8,10 @@ use Rattle.sqlite.specs.State.{State, HasCleanDisk, IsRolledBack, IsUnchanged}
 use Rattle.sqlite.specs.Steps.{FailsToCommit}
 use Rattle.sqlite.specs.Tree.{Trees}
 use Rattle.sqlite.specs.declared.error.Error.{Error}
+use Rattle.store_schema.specs.Opening.{FailsByDisk, FailsToRead}
+use Rattle.store_schema.specs.declared.fault.OpenFault.{OpenFault}
 use Rattle.store_tables.specs.Within.{IsWithin}
+use Rattle.store_tables.proofs.Failing.{Counts, around}
 use Rattle.std.proofs.lemmas.Bool.Decides.{nat_tests}
 
 -- a transaction begins
@@ -72,3 +76,12 @@ pub open_mid : (mid end : State) (why : Error) → IsTrue end.is_open → FailsT
     → IsTrue mid.is_open
 open_mid mid end why open' (inl failed) = failed.3.was_open open'
 open_mid mid end why open' (inr late) = late.2.0.was_open
+
+-- a transaction that only read is rolled back, and what failed in it was counted
+pub fails_back : (old begun mid end : State) (result : Result (Unit {0}) OpenFault)
+    → begun.now.schema ≡ old.now.schema → Counts old begun mid end
+    → doubt mid.is_clean ≤ doubt end.is_clean → (HasCleanDisk end → IsRolledBack mid end)
+    → FailsToRead begun mid result → FailsByDisk old end result
+fails_back old begun mid end result same counts clean back fails now is_open has told =
+    around old begun mid end counts
+    (fails (omega (arith, now)) ((back now).was_open is_open) (same ∙ has) told)

@@ -15,6 +15,7 @@ use Rattle.sqlite.specs.declared.error.Error.{Error}
 use Rattle.sqlite.specs.declared.error.Error.TheVariants.{SqlInputError}
 use Rattle.room_rows.specs.declared.keep.KeepFault.{KeepFault}
 use Rattle.room_rows.specs.declared.keep.KeepFault.TheVariants as keep
+use Rattle.store_tables.specs.Failing.{HasFailed, HasRisen}
 use Rattle.store_tables.specs.Seeing.{wants_memory}
 use Rattle.store_tables.specs.Tables.{no_schema, room_schema}
 use Rattle.store_tables.specs.Within.{IsWithin, LeavesAsBefore}
@@ -134,6 +135,12 @@ pub record AsksVersion (old new : State) (result : Result (Option ℤ) OpenFault
       (λ version. ShowsVersion version old.now × IsTrue old.is_open × IsTrue new.is_open)
       (IsUnread old.now)
 
+-- Over a room's tables `Db` comes inside a transaction only where the database failed.
+abbrev pub FailsToRead : {X : Type 0} → State → State → Result X OpenFault → Type 0
+FailsToRead old new result =
+    HasCleanDisk new → IsTrue new.is_open → old.now.schema ≡ room_schema → result ≡ Err Db
+    → HasFailed old new
+
 -- The schema is expected to have this number.
 pub record Expects (wanted : ℤ) (old new : State)
     (result : Result (Unit {0}) OpenFault) : Type 0 where
@@ -144,6 +151,13 @@ pub record Expects (wanted : ℤ) (old new : State)
   pub empty : HasCleanDisk new → old.now.schema ≡ no_schema → IsErrAnd result IsRefusal
   pub shown : HasCleanDisk new
       → AnswersVersion wanted old.now result × OnOk result (IsTrue old.is_open × IsTrue new.is_open)
+
+-- Over a room's tables `Db` comes only where the disk failed or refused, which the connection
+-- counts. No limit of steps brings it.
+abbrev pub FailsByDisk : {X : Type 0} → State → State → Result X OpenFault → Type 0
+FailsByDisk old new result =
+    HasCleanDisk new → IsTrue new.is_open → old.now.schema ≡ room_schema → result ≡ Err Db
+    → HasRisen old.faults new.faults
 
 -- What opening a room is.
 pub record Adopts (old new : State) (result : Result (Unit {0}) OpenFault) : Type 0 where

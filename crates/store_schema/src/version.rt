@@ -1,8 +1,8 @@
 //! The number of the schema.
-ghost use Rattle.std.specs.Prelude.{◌≡◌};
+ghost use Rattle.std.specs.Prelude.{◌≡◌, ◌≢◌, Err};
 ghost use Rattle.sqlite.specs.Held.{state};
 ghost use Rattle.store_schema.specs.NewRoom.{number_shown, whole_in};
-ghost use Rattle.store_schema.specs.Opening.{AsksVersion, Expects, Says};
+ghost use Rattle.store_schema.specs.Opening.{AsksVersion, Expects, FailsToRead, Says};
 ghost use Rattle.store_schema.specs.Migrating.{Stamps};
 ghost use Rattle.sqlite_value.specs.Value.{owned};
 ghost use Rattle.sqlite_value.specs.Order.{column};
@@ -45,6 +45,8 @@ fn ask_version<S: Alter>(tx: &mut Transaction<'_, S>) -> Result<Option<i64>, Ope
     ensures same_reference { tx.new.conn.ghost_name ≡ tx.old.conn.ghost_name }
     ensures asks { AsksVersion (state S.Store tx.old.conn.now) (state S.Store tx.new.conn.now)
         result }
+    ensures fails { FailsToRead (state S.Store tx.old.conn.now) (state S.Store tx.new.conn.now)
+        result }
 {
     match tx.query_all("SELECT value FROM meta WHERE key = 'rooms'", params![]) {
         Ok(rows) => Ok(number_in(rows.as_slice())),
@@ -54,7 +56,8 @@ fn ask_version<S: Alter>(tx: &mut Transaction<'_, S>) -> Result<Option<i64>, Ope
 
 // The answer for this number of a schema, where another is expected.
 fn judge(version: Option<i64>, wanted: i64) -> Result<(), OpenFault>
-    ensures { Says wanted version result }
+    ensures says { Says wanted version result }
+    ensures reads { result ≢ Err OpenFault.Db }
 {
     match version {
         None => Err(OpenFault::NotRooms),
@@ -72,6 +75,8 @@ pub(crate) fn expect_version<S: Alter>(
     ensures same_reference { tx.new.conn.ghost_name ≡ tx.old.conn.ghost_name }
     ensures expects { Expects wanted (state S.Store tx.old.conn.now)
         (state S.Store tx.new.conn.now) result }
+    ensures fails { FailsToRead (state S.Store tx.old.conn.now) (state S.Store tx.new.conn.now)
+        result }
 {
     match ask_version(tx) {
         Ok(version) => judge(version, wanted),

@@ -2,6 +2,7 @@ pub mod Texts
 pub mod Answers
 pub mod Within
 pub mod Bare
+pub mod Failing
 pub mod Calls
 pub mod Changed
 pub mod Tests

@@ -16,5 +16,6 @@ pub mod RoomRows
 pub mod Within
 pub mod Trust
 pub mod Seeing
+pub mod Failing
 pub mod Columns
 pub mod Whole

@@ -1,5 +1,5 @@
 use Rattle.sqlite.specs.Held.{state}
-use Rattle.store_admin.proofs.Failing.{fails_inside}
+use Rattle.store_tables.proofs.Failing.{fails_inside}
 use Rattle.store_admin.proofs.Recorded.{tells_records, tells_unread}
 use Rattle.store_admin.proofs.records.all_records.Goals as goal
 

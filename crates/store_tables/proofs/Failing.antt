@@ -1,7 +1,7 @@
 -- Why a query of a room's tables has no answer.
 use Rattle.std.proofs.Common.{◌≡◌, ◌≤◌, ◌+◌, ◌-◌, ◌^◌, ◌⊎◌, ℕ, List, [], length, min, Result, Ok}
 use Rattle.std.proofs.Common.{Err, None, Some, Option, IsTrue, IsSome, IfErr, inl, inr, true, false}
-use Rattle.std.proofs.Common.{sym, ap, subst, ◌∙◌, arith, append-nil}
+use Rattle.std.proofs.Common.{sym, ap, subst, ◌∙◌, arith, append-nil, true≢false}
 use Rattle.sqlite.specs.Clock.{timed}
 use Rattle.sqlite.specs.Effect.{Database, RefusesToRead}
 use Rattle.sqlite.specs.Listing.{understood, reads_listing, IsSourceOf}
@@ -20,10 +20,9 @@ use Rattle.sqlite_trees.specs.declared.error.StoreError.TheVariants.{Broken, Uns
 use Rattle.room_rows.specs.declared.keep.KeepFault.{KeepFault}
 use Rattle.room_rows.specs.declared.keep.KeepFault.TheVariants.{Store}
 use Rattle.store_tables.specs.Seeing.{fault_for, wants_memory}
-use Rattle.store_tables.specs.Shown.{IsRoom}
 use Rattle.store_tables.specs.Tables.{room_schema}
 use Rattle.store_tables.specs.Trust.{IsTrusted}
-use Rattle.store_admin.specs.Failing.{FailsSql, HasFailed, HasRisen}
+use Rattle.store_tables.specs.Failing.{FailsSql, HasFailed, HasRisen}
 use Rattle.std.proofs.lemmas.Bool.Decides.{nat_tests}
 
 -- the text is one statement with so many parameters, which shows no rows that it writes
@@ -111,12 +110,28 @@ module _ (sql : List ℕ) (params : Row) (command : Command)
   pub fails_sql : {X : Type 0} (old new : State) (r : Result X Error)
       → (HasCleanDisk new → IfErr r (λ e. FailsToQuery sql params old new e
       ⊎ IsTooLate sql params old new e)) → FailsSql old new r
-  fails_sql old new (Ok x) err now is_open room = tt
-  fails_sql old new (Err e) err now is_open room =
-      why_failed old new room.schema is_open e (err now)
+  fails_sql old new (Ok x) err now is_open has = tt
+  fails_sql old new (Err e) err now is_open has = why_failed old new has is_open e (err now)
 
 -- a keeper's fault for that error
 pub fails_inside : (begun mid : State) (e : Error) (why : KeepFault) → why ≡ fault_for e
-    → (HasCleanDisk mid → IsTrue mid.is_open → IsRoom begun.now → Why begun mid e)
+    → (HasCleanDisk mid → IsTrue mid.is_open → begun.now.schema ≡ room_schema → Why begun mid e)
     → IsTrusted begun mid → why ≡ Store → HasFailed begun mid
 fails_inside begun mid e why is fails trust store = grind (arith, nat_tests)
+
+-- ---- in a transaction
+
+-- the counts of a transaction around calls: it begins with that of the connection, and without a
+-- limit of steps
+pub record Counts (old begun mid end : State) : Type 0 where
+  pub faults : begun.faults ≡ old.faults
+  pub limit : begun.step_limit ≡ None
+  pub rise : mid.faults ≤ end.faults
+
+pub around : (old begun mid end : State) → Counts old begun mid end → HasFailed begun mid
+    → HasRisen old.faults end.faults
+around old begun mid end counts (inl (inl rose)) =
+    inl (omega (arith, counts.faults, counts.rise, rose))
+around old begun mid end counts (inl (inr full)) = inr (omega (arith, counts.faults, full))
+around old begun mid end counts (inr limited) =
+    absurd (true≢false (sym (subst IsSome counts.limit limited)))

@@ -6,7 +6,7 @@ use Rattle.sqlite.specs.State.{State, HasCleanDisk}
 use Rattle.room_rows.specs.declared.keep.KeepFault.{KeepFault}
 use Rattle.room_rows.specs.declared.keep.KeepFault.TheVariants.{Store}
 use Rattle.store_tables.specs.Seeing.{wants_memory}
-use Rattle.store_tables.specs.Shown.{IsRoom}
+use Rattle.store_tables.specs.Tables.{room_schema}
 use Rattle.store_tables.specs.Trust.{IsTrusted}
 
 -- a count rose, or was at its end before
@@ -21,7 +21,7 @@ HasFailed old new = HasRisen old.faults new.faults ⊎ IsSome old.step_limit
 -- Over a room's tables the query lacks an answer only for memory, or where the database failed.
 abbrev pub FailsSql : {X : Type 0} → State → State → Result X Error → Type 0
 FailsSql old new result =
-    HasCleanDisk new → IsTrue new.is_open → IsRoom old.now
+    HasCleanDisk new → IsTrue new.is_open → old.now.schema ≡ room_schema
     → IfErr result (λ why. (wants_memory why ≡ true) ⊎ HasFailed old new)
 
 -- Over a room's tables `Store` comes only where the database failed.
