@@ -1,6 +1,6 @@
 -- What a task does to a database, and what comes of it.
 use Rattle.std.specs.Prelude.{◌≡◌, ◌⊎◌, ℕ, Bool, List, [], Option, String, length, string_bytes}
-use Rattle.std.specs.Prelude.{Result, Ok, Err}
+use Rattle.std.specs.Prelude.{Result, Ok, Err, OnOk}
 use Rattle.std.specs.Global.{Global}
 use Rattle.std.specs.Prelude.{Vec}
 use Rattle.sqlite.specs.Held.{Held}
@@ -26,7 +26,8 @@ use Rattle.room_review.specs.declared.question.Reviewed.{Reviewed}
 use Rattle.room_review.specs.declared.question.Reviewed.TheVariants as reviewed
 use Rattle.store_admin.specs.Carries.{NoTables}
 use Rattle.store_admin.specs.Dump.{HasDamagedRow, IsDump}
-use Rattle.store_admin.specs.Operating.{AreMembers, AreRecords, HasUnreadRecord, ReplacesMembers}
+use Rattle.store_admin.specs.Operating.{AreMembers, AreRecords, ChangesPairsAlone}
+use Rattle.store_admin.specs.Operating.{HasUnreadRecord, ReplacesMembers}
 use Rattle.room_rows.specs.declared.node.AuditRow.{AuditRow}
 use Rattle.store_schema.specs.Migrating.{Migrates}
 use Rattle.store_schema.specs.declared.fault.CreateFault.{CreateFault}
@@ -37,6 +38,7 @@ use Rattle.store_schema.specs.declared.fault.OpenFault.{OpenFault}
 use Rattle.room_store.specs.Failing.{FailsByDb}
 use Rattle.room_store.specs.Leads.{Leads}
 use Rattle.room_store.specs.Opens.{Creates, Opens}
+use Rattle.room_store.specs.Premise.{StorePremise}
 use Rattle.room_store.specs.Ran.{HasDamage, Looked, Ran}
 use Rattle.room_store.specs.Reviews.{IsReviewOf}
 use Rattle.room_store.specs.declared.fault.StoreFault.{StoreFault}
@@ -153,6 +155,7 @@ pub record PutsMembers (pairs : List (List ℕ × List ℕ)) (old : State) (outc
     (new : State) : Type 0 where
   pub result : Result (Unit {0}) StoreFault
   pub ran : Ran old new result (λ _. ⊥) (ReplacesMembers pairs)
+  pub alone : StorePremise old new → OnOk result (ChangesPairsAlone old.now new.now)
   pub leads : Leads old (event_of result (λ _. Replaced pairs)) new
   pub told : outcome ≡ after_replacing pairs result
 

@@ -23,7 +23,7 @@ ghost use Rattle.store_tables.specs.Meaning.{rows_of};
 ghost use Rattle.store_admin.specs.Operating.{
   AreMembers,
   AreRecords,
-  HasPairsAlone,
+  ChangesPairsAlone,
   HasUnreadRecord,
   ReplacesMembers,
 };
@@ -201,7 +201,8 @@ impl<S: Alter> Store<S> {
     }
 
     /// Replaces the pairs of group and user by these, each once. It is the operator's step of the
-    /// room machine. Rows that were no pairs are removed. The error is never `Damaged`.
+    /// room machine. Rows that were no pairs are removed, and no other table is changed. The error
+    /// is never `Damaged`.
     pub fn replace_members(
         &mut self,
         alloc: Global,
@@ -210,7 +211,8 @@ impl<S: Alter> Store<S> {
         ensures ran { Ran (state S.Store self.old.conn) (state S.Store self.new.conn) result
             (λ _. ⊥) (ReplacesMembers pairs.now) }
         ensures alone { StorePremise (state S.Store self.old.conn) (state S.Store self.new.conn)
-            → OnOk result (HasPairsAlone (state S.Store self.new.conn).now) }
+            → OnOk result (ChangesPairsAlone (state S.Store self.old.conn).now
+            (state S.Store self.new.conn).now) }
         ensures leads { Leads (state S.Store self.old.conn) (event_of result
             (λ _. Event.Replaced pairs.now)) (state S.Store self.new.conn) }
         ensures outlasts { Outlasts (state S.Store self.old.conn)

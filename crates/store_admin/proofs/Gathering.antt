@@ -215,5 +215,11 @@ replaced pairs order old mid new moved gone held = (
   same_rows (ap nodes_of (held.nodes ∙ gone.nodes)) (ap unread_of (held.nodes ∙ gone.nodes))
       (ap bodies_of (held.bodies ∙ gone.bodies)) (held.members ∙ sym (set_moved pairs order moved))
       (ap (filter_map audit_in) (held.audits ∙ gone.audits)),
-  held.only (subst (λ rows. are_pairs rows ≡ true) (sym gone.members) refl),
+  record {
+    pairs = held.only (subst (λ rows. are_pairs rows ≡ true) (sym gone.members) refl);
+    nodes = held.nodes ∙ gone.nodes;
+    bodies = held.bodies ∙ gone.bodies;
+    meta = held.meta ∙ gone.meta;
+    audits = held.audits ∙ gone.audits;
+  },
 )

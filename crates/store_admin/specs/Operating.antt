@@ -42,10 +42,18 @@ are_pairs rows = list_all (λ r. is_some (pair_in r)) rows
 abbrev pub HasPairsAlone : Database → Type 0
 HasPairsAlone db = are_pairs (db.trees tree.members) ≡ true
 
--- The pairs are replaced by these, and no other row is left.
+-- No table is changed but that of pairs, and each of its rows is one.
+pub record ChangesPairsAlone (old new : Database) : Type 0 where
+  pub pairs : HasPairsAlone new
+  pub nodes : new.trees tree.nodes ≡ old.trees tree.nodes
+  pub bodies : new.trees tree.bodies ≡ old.trees tree.bodies
+  pub meta : new.trees tree.meta ≡ old.trees tree.meta
+  pub audits : new.trees tree.audits ≡ old.trees tree.audits
+
+-- The pairs are replaced by these, and nothing else is changed or left.
 abbrev pub ExchangesMembers : List (List ℕ × List ℕ) → Database → Unit {0} → Database → Type 0
 ExchangesMembers pairs old answer new =
-    ReplacesMembers pairs (rows_of old) answer (rows_of new) × HasPairsAlone new
+    ReplacesMembers pairs (rows_of old) answer (rows_of new) × ChangesPairsAlone old new
 
 -- ---- how they are read
 

@@ -114,6 +114,7 @@ fn insert_each<S: Alter>(
 }
 
 /// Replaces the pairs of group and user by these, each once. Rows that were no pairs are removed.
+/// No other table is changed.
 pub fn put_members<S: Alter>(
     alloc: Global,
     tx: &mut Transaction<'_, S>,

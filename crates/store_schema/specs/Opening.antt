@@ -152,8 +152,8 @@ pub record Expects (wanted : ℤ) (old new : State)
   pub shown : HasCleanDisk new
       → AnswersVersion wanted old.now result × OnOk result (IsTrue old.is_open × IsTrue new.is_open)
 
--- Over a room's tables `Db` comes only where the disk failed or refused, which the connection counts.
--- No limit of steps brings it.
+-- Over a room's tables `Db` comes only where the disk failed or refused, which the connection
+-- counts. No limit of steps brings it.
 abbrev pub FailsByDisk : {X : Type 0} → State → State → Result X OpenFault → Type 0
 FailsByDisk old new result =
     HasCleanDisk new → IsTrue new.is_open → old.now.schema ≡ room_schema → result ≡ Err Db

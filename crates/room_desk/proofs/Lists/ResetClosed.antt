@@ -166,8 +166,8 @@ pub reset_told : (path : List (List ℕ)) (which : Which) (sent : Sent) (old mid
 reset_told path which sent old mid walk front last is same chain above read new reply are beneath =
     let said = beneath (ap (λ (r : Rows). parent_of r.read last) same
     ∙ above_end old are.numbers path walk front last above is chain read) in
-    let here = subst (λ (r : Rows). IsResetAtEnd path which sent last walk.rest r reply new) same said
-    in
+    let at = IsResetAtEnd path which sent last walk.rest in
+    let here = subst (λ (r : Rows). at r reply new) same said in
     record {
       step = reset_done path which sent old mid walk front last is same chain above read new reply
           are beneath;

@@ -6,4 +6,10 @@ use Rattle.cli_act.proofs.opened.replace.Goals as goal
 
 pub returns-in_err-groups : goal.returns-in_err-groups
 returns-in_err-groups g c =
-    record { result = Err Memory; ran = unrun _ _ _; leads = itself _; told = search rules }
+    record {
+      result = Err Memory;
+      ran = unrun _ _ _;
+      alone = λ _. tt;
+      leads = itself _;
+      told = search rules;
+    }
