@@ -9,7 +9,7 @@ from . import manual, said
 # Verb, module, one line, options: `--name=VALUE: text` or `--name: text`.
 _CALLER = [
     "--user=NAME: ask for the password of this user",
-    "--as=NAME: send this name in the field Room-User, for the server's own port on its machine",
+    "--as=NAME: ask in the name of this user, as root on the room's own machine",
     "--config=FILE: settings in curl's form: user, cacert, cert, key, header",
     "--without-tls: take an address with http of another machine; all of it then goes in clear",
     "--log=FILE: add what was left out to this file too, with the time",

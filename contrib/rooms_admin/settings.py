@@ -79,12 +79,23 @@ class Room:
         self.folder, self.base = os.path.split(self.file)
 
     @property
+    def name(self) -> str:
+        return self.unit.partition("@")[2] or self.unit
+
+    @property
     def listens(self) -> str:
         """The path of its server's socket, where it has one in the place of a port: by SOCKET=yes,
         or by a unit of somebody's own. Its folder is made anew at each start, so none of before is
         there."""
-        place = os.path.join(locks.RUN, "rooms", self.unit.partition("@")[2] or self.unit, "socket")
+        place = os.path.join(locks.RUN, "rooms", self.name, "socket")
         return place if self.socket or os.path.exists(place) else ""
+
+    @property
+    def address(self) -> str:
+        """For requests to its own server, at its socket or its port; nothing if it has neither."""
+        if self.listens:
+            return "http://localhost"
+        return f"http://127.0.0.1:{self.port}" if self.port else ""
 
 
 _ROOM = {"FILE": "", "PORT": "", "TITLE": "", "BACKUPS": "", "KEEP": "30", "MEMORY": "",
@@ -132,7 +143,7 @@ def room(word: str = "") -> Room:
                                       and not got["REVIEW"].endswith("/")),
              path, "REVIEW", "a folder of the room", got["REVIEW"])
         need(is_user(got["REVIEWER"]), path, "REVIEWER", "a user's name", got["REVIEWER"])
-        need(got["PORT"], path, "PORT", "set, which REVIEW needs", "")
+        need(got["PORT"] or got["SOCKET"] == "yes", path, "PORT", "set, which REVIEW needs", "")
     found = Room(path, got["FILE"], got["PORT"], got["TITLE"], got["BACKUPS"], int(got["KEEP"]),
                  int(got["MEMORY"] or 0), got["LIMIT"], got["STANDBY"], got["MAIL"], got["REVIEW"],
                  got["REVIEWER"], got["UNIT"], got["PROGRAM"], got["PASSWORDS"] or "file",
