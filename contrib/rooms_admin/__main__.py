@@ -50,7 +50,8 @@ VERBS: dict[str, tuple[str, str, list[str]]] = {
                "names; 'none' goes back to files of passwords", _BELOW]),
     "add": ("add", "a further room, or the place of one on another machine",
             [_DRY, "--host=HOST: at '/' of this host, and not behind its name",
-             "--port=PORT: the port of 127.0.0.1, or with --on that of the other machine",
+             "--port=PORT: listen at this port of 127.0.0.1, and not at a socket; or with --on the "
+             "port of the other machine",
              "--title=TITLE: what the start page calls it",
              "--behind: for the front end on another machine alone",
              "--on=HOST: the room is on that machine", _BELOW]),

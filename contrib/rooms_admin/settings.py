@@ -97,14 +97,22 @@ class Room:
             return "http://localhost"
         return f"http://127.0.0.1:{self.port}" if self.port else ""
 
+    @property
+    def flag(self) -> str:
+        return flag(self.name, self.socket, self.port)
+
 
 _ROOM = {"FILE": "", "PORT": "", "TITLE": "", "BACKUPS": "", "KEEP": "30", "MEMORY": "",
          "LIMIT": "", "STANDBY": "", "MAIL": "", "REVIEW": "", "REVIEWER": "", "UNIT": "",
          "PROGRAM": PROGRAM, "PASSWORDS": "", "HOST": "", "BEHIND": "", "SOCKET": "",
          "PEOPLE": "names"}
 _YES = "yes, or empty"
-# How a new room is reached: by 127.0.0.1 if it is empty, by its socket if it is 'yes'.
-NEW_SOCKET = ""
+
+
+def flag(name: str, socket: bool, port: str) -> str:
+    """The file that is there while a room is full. A room with a port may have a watch of an
+    earlier version, which knows it by that."""
+    return f"{name}.full" if socket else f"127.0.0.1:{port}"
 
 
 def file_of(word: str) -> str:
@@ -186,6 +194,10 @@ class Place:
     socket: bool = False
     on: str = ""
 
+    @property
+    def flag(self) -> str:
+        return flag(self.name, self.socket, self.port)
+
 
 def place(path: str) -> Place:
     name, kind = os.path.splitext(os.path.basename(path))
@@ -196,7 +208,8 @@ def place(path: str) -> Place:
     else:
         got = values(path, _ROOM)
     check_place(path, got)
-    need(is_port(got["PORT"]), path, "PORT", "a port", got["PORT"])
+    need(is_port(got["PORT"]) or (got["SOCKET"] == "yes" and not got["PORT"]), path, "PORT",
+         "a port", got["PORT"])
     return Place(name, got["PORT"], got["TITLE"], got["PASSWORDS"] or "file", got["HOST"],
                  got["BEHIND"] == "yes", got["SOCKET"] == "yes", got.get("ON", ""))
 
