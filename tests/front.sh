@@ -9,13 +9,14 @@ has_six() {
 }
 
 # The site with the ports and the files of a case: passwords are ./rooms.htpasswd and so on, what is
-# remembered is in ./remembered, the socket in ./checks, all else below ./machine.
+# remembered is in ./remembered, that socket in ./checks, those of rooms in ./run, all else below ./machine.
 for_here() { # FILE
   local six='/listen \[::\]/d'
   if has_six; then six="s/listen \[::\]:80;/listen [::1]:$front;/; s/listen \[::\]:443 /listen [::1]:$secure /"; fi
   sed -e "s/listen 80;/listen 127.0.0.1:$front;/" -e "s/listen 443 /listen 127.0.0.1:$secure /" \
     -e "$six" -e "s/127.0.0.1:8778/127.0.0.1:$apache/" -e "s/127.0.0.1:8777/127.0.0.1:$apache/" \
     -e "s|/run/rooms-front/remembered|$PWD/remembered|; s|/run/rooms-front|$PWD/checks|; s|/run/rooms-full|$PWD/run/rooms-full|" \
+    -e "s|unix:/run/rooms/|unix:$PWD/run/rooms/|" \
     -e "s|/var/lib/rooms-web|$PWD/root/var/lib/rooms-web|g" \
     -e "s|/etc/nginx/|$PWD/|; s|/etc/rooms/|$PWD/machine/etc/rooms/|; s|/var/lib/rooms-front|$PWD/machine/var/lib/rooms-front|" "$1"
 }
@@ -45,10 +46,18 @@ sets() { # ROOM NAME VALUE
 # nginx has what rooms-admin has written.
 take_front() { for_here machine/etc/nginx/sites-available/rooms >sites-enabled/rooms; }
 
-# Starts nginx with the site of the room office, whose server is at $port; with TLS for 'tls', whose
-# certificate and key are ./rooms.pem and ./rooms.key. The ports $front and $secure are free if $port
-# is. It asks for the passwords of ./rooms.htpasswd, serves the page of contrib, and writes the status,
-# method, target, user and origin of each request into ./access.log.
+# Starts a server at the socket of office, as that of a new room.
+start_room() { # FILE COUNT
+  mkdir -p run/rooms/office
+  rm -f run/rooms/office/socket
+  port=$((port + 10))
+  start_at_socket "$1" "$PWD/run/rooms/office/socket" "$2"
+}
+
+# Starts nginx with the site of the room office, whose server is at $place, a socket or a port; with TLS
+# for 'tls', whose certificate and key are ./rooms.pem and ./rooms.key. The ports $front and $secure are
+# free if $port is. It asks for the passwords of ./rooms.htpasswd, serves the page of contrib, and writes
+# the status, method, target, user and origin of each request into ./access.log.
 start_front() { # NAME [tls]
   local began=$SECONDS
   front=$((port + 1))
@@ -63,6 +72,7 @@ start_front() { # NAME [tls]
   rm -f nginx.pid
   [ -e machine/etc/rooms/site ] || admin setup
   sets office PORT "$port"
+  sets office SOCKET "$(case $place in /*) echo yes ;; esac)"
   if [ -n "${2-}" ]; then
     sets - CERTIFICATE "$PWD/rooms.pem"
     sets - KEY "$PWD/rooms.key"

@@ -101,16 +101,20 @@ start() { # NAME
   settings=$(sed -n 's/^EnvironmentFile=//p' "$(unit "$1")")
   settings=${settings//%i/${1#*@}}
   mapfile -t settings < <(grep -E '^(FILE|PORT|SOCKET)=' "$settings")
+  rm -rf "/run/rooms/${1#*@}"
+  install -d -o rooms -g rooms -m 710 "/run/rooms/${1#*@}"
   eval "set -- \"$1\" $(command_of "$1")"
   env "${settings[@]}" setpriv --reuid=rooms --regid=rooms --clear-groups "${@:2}" \
     >"/run/$1.line" 2>"/run/$1.fault" </dev/null &
   echo $! >"/run/$1.pid"
-  for turn in {1..500}; do [ ! -s "/run/$1.line" ] || return 0; alive "$1" || return 1; sleep 0.02; done
-  return 1
+  for turn in {1..500}; do [ ! -s "/run/$1.line" ] || break; alive "$1" || return 1; sleep 0.02; done
+  line=$(sed -n 's/^ExecStartPost=+//p' "$(unit "$1")")
+  env "${settings[@]}" MAINPID="$(cat "/run/$1.pid")" ${line//%i/${1#*@}}
 }
 stop() { # NAME
   ! alive "$1" || kill -9 "$(cat "/run/$1.pid")"
   while alive "$1"; do sleep 0.02; done
+  rm -rf "/run/rooms/${1#*@}"
 }
 all() { # NAME: it, or those that run
   if [ "$1" = 'rooms@*' ]; then
@@ -143,8 +147,10 @@ done
 case $verb in
   daemon-reload | reset-failed) exit ;;
   is-failed) echo inactive && exit 1 ;;
+  is-enabled) echo static && exit ;;
   show) printf '%s\n' MemoryCurrent=0 MemoryMax=0; exit ;;
   reload | reload-or-restart | try-reload-or-restart)
+    [ "${units[*]}" != rooms-firewall ] || exit 0
     [ "${units[*]}" = nginx ] || { echo "no such unit: ${units[*]}" >&2; exit 1; }
     [ -s /run/nginx.pid ] || exec nginx
     before=$(cat "/proc/$(cat /run/nginx.pid)"/task/*/children)

@@ -19,7 +19,24 @@ ended_well() { holds "$1: $(head -c 300 "$work/err")" [ "$status" = 0 ]; } # NAM
 starts() {
   unit start
   read -r port <"$stand/port"
+  place=127.0.0.1:$port
   setting PORT "$port"
+}
+
+# The same where the server has a socket in the place of a port.
+starts_at_socket() {
+  sock=$PWD/run/rooms/rooms/socket
+  mkdir -p "${sock%/*}"
+  chown "$STAND_USER" "${sock%/*}"
+  echo "$sock" >"$stand/socket"
+  unit start
+  setting PORT ''
+  setting SOCKET yes
+}
+leaves_socket() {
+  unit stop
+  rm -r "$stand/socket" run/rooms
+  setting SOCKET ''
 }
 
 # Plays a verb that is killed at each call, and CHECK after each.

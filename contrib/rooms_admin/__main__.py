@@ -9,7 +9,7 @@ from . import manual, said
 # Verb, module, one line, options: `--name=VALUE: text` or `--name: text`.
 _CALLER = [
     "--user=NAME: ask for the password of this user",
-    "--as=NAME: send this name in the field Room-User, for the server's own port on its machine",
+    "--as=NAME: ask in the name of this user, as root on the room's own machine",
     "--config=FILE: settings in curl's form: user, cacert, cert, key, header",
     "--without-tls: take an address with http of another machine; all of it then goes in clear",
     "--log=FILE: add what was left out to this file too, with the time",
@@ -50,7 +50,8 @@ VERBS: dict[str, tuple[str, str, list[str]]] = {
                "names; 'none' goes back to files of passwords", _BELOW]),
     "add": ("add", "a further room, or the place of one on another machine",
             [_DRY, "--host=HOST: at '/' of this host, and not behind its name",
-             "--port=PORT: the port of 127.0.0.1, or with --on that of the other machine",
+             "--port=PORT: listen at this port of 127.0.0.1, and not at a socket; or with --on the "
+             "port of the other machine",
              "--title=TITLE: what the start page calls it",
              "--behind: for the front end on another machine alone",
              "--on=HOST: the room is on that machine", _BELOW]),

@@ -82,6 +82,8 @@ class _Room:
         _look_at_name_here(made, name)
         self._look_at_file()
         self.backups = self._look_at_backups()
+        # Whoever names a port wants that, and otherwise nobody but nginx and root gets there.
+        self.socket = not given.port
         self.port = self._look_at_port(given.port)
         _look_at_title(self.title)
         if given.host:
@@ -119,10 +121,9 @@ class _Room:
     def _look_at_port(self, wanted: str) -> str:
         owners = _ports(self.made.root)
         if not wanted:
-            for port in map(str, range(8781, 8999)):
-                if port not in owners and not _listens(port):
-                    return port
-            raise Refused("no port: none from 8781 to 8998 is free")
+            # In reserve, for the day on which its settings want one.
+            return next((port for port in map(str, range(8781, 8999))
+                         if port not in owners and not _listens(port)), "")
         if not settings.is_port(wanted):
             raise Refused(f"bad port: '{wanted}'")
         if wanted in owners:
@@ -156,7 +157,7 @@ class _Room:
     def add(self) -> int:
         made = self.made
         text = setup.room_text(made.root, self.name, self.port, self.title, self.backups,
-                               self.host, self.behind)
+                               self.socket, self.host, self.behind)
         kept = made.root + show.passwords_of(self.name)
         is_new = not os.path.lexists(kept)
         try:

@@ -281,8 +281,8 @@ class Night:
         ends = time.monotonic() + 60
         while True:
             try:
-                client = Client(f"http://127.0.0.1:{room.port}", Caller(as_user=room.reviewer),
-                                "", False, room.listens)
+                client = Client(room.address, Caller(as_user=room.reviewer), "", False,
+                                room.listens)
                 got = client.ask("PUT", "doc", os.fsencode(document), body)
                 text = f"{got.body.decode(errors='replace')} {got.status}"
                 if got.status in (201, 204):

@@ -3,14 +3,15 @@ the file NAME.acl has its kind, owner and group, and its two lists. What can't b
 printed, with the room's reply. Nothing is renamed, and nothing that is there is written over. A
 name that no room can have never gets to the disk.
 
-ROOM is an address such as https://rooms.example. With --backup it is a folder with a room's files,
-the name of one in BACKUPS, or latest; the lists are those of that night."""
+ROOM is an address such as https://rooms.example, or for root on its machine the room's name, such
+as office. With --backup it is a folder with a room's files, the name of one in BACKUPS, or latest;
+the lists are those of that night."""
 import argparse
 import json
 import os
 
 from . import backups, history, names, program, safe, said, settings
-from .room_http import Caller, Client, argument, raise_limits
+from .room_http import Caller, Client, argument, client, raise_limits
 from .said import Refused, Stop
 
 USAGE = ("export [--no-lists] [--user NAME] [--as NAME] [--config FILE] [--without-tls] "
@@ -121,7 +122,7 @@ def run(given: argparse.Namespace, caller: Caller) -> int:
         raise Refused("bad arguments: a path in the room begins with a slash and doesn't end with "
                       f"one, unlike '{given.words[1]}'")
     if not given.backup:
-        return export(Client(address, caller, NEXT, False), path, into, not given.no_lists, None)
+        return export(client(address, caller, NEXT, False), path, into, not given.no_lists, None)
     room = settings.room(given.conf)
     with backups.private_copy(room, history.find(room, address)) as copied:
         acls = open_all(room, copied, path)
@@ -164,27 +165,27 @@ def open_all(room: settings.Room, copied: str, path: bytes) -> dict[bytes, bytes
     return acls
 
 
-def export(client: Client, path: bytes, into: bytes, lists: bool,
+def export(asked: Client, path: bytes, into: bytes, lists: bool,
            acls: dict[bytes, bytes] | None) -> int:
     raise_limits()
-    got = client.ask("GET", "folder", path)
+    got = asked.ask("GET", "folder", path)
     if got.status != 200 and b'"why":"wrong-kind"' not in got.body:
         raise Stop(f"{names.shown(path)}: {got.text()}")
     kind = "folder" if got.status == 200 else "document"
-    task = Export(client, lists, acls)
+    task = Export(asked, lists, acls)
     # Links on the way to DIR are those of whoever runs this; below DIR none is followed.
     within, name = os.path.split(into)
     try:
         at = safe.folder(within or b".")
     except OSError as fault:
-        client.report(path, f"not written, nor what is in it: {safe.reason(fault)}")
+        asked.report(path, f"not written, nor what is in it: {safe.reason(fault)}")
         if task.lists:
-            client.report(path, f"its lists aren't written: {safe.reason(fault)}")
+            asked.report(path, f"its lists aren't written: {safe.reason(fault)}")
     else:
         with safe.opened(at):
             task.object(kind, path, at, name)
             if task.lists:
                 task.acl(kind, path, at, name + b".acl")
     said.end_progress()
-    print(f"folders {task.folders}, documents {task.documents}, left out {client.left_out}")
-    return 0 if client.left_out == 0 else 1
+    print(f"folders {task.folders}, documents {task.documents}, left out {asked.left_out}")
+    return 0 if asked.left_out == 0 else 1

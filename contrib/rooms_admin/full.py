@@ -78,7 +78,7 @@ class Watch:
         self.limit = unit.limit_of(room)
         self.used = Reader(room)
         self.lost = False
-        self.flag = os.path.join(FOLDER, f"127.0.0.1:{room.port}")
+        self.flag = os.path.join(FOLDER, room.flag)
         self.next = 0.0
 
     def look(self) -> None:
@@ -119,7 +119,7 @@ def _remove(place: str) -> bool:
 def run(given: argparse.Namespace) -> int:
     rooms = [settings.room(one) for one in given.words or [""]]
     for room in rooms:
-        if not room.port:
+        if not room.port and not room.socket:
             raise Refused(f"bad settings: PORT in {room.conf} is empty, and nginx knows a room by "
                           "its port")
     if given.look:
@@ -138,7 +138,7 @@ def run(given: argparse.Namespace) -> int:
     within = locks.FOLDER if os.geteuid() == 0 else f"{FOLDER}/locks"
     with ExitStack() as owned:
         for room in rooms:
-            owned.enter_context(locks.lock(f"full.{room.port}", 2, within))
+            owned.enter_context(locks.lock(f"full.{room.flag}", 2, within))
         status = _watch([Watch(room) for room in rooms])
     return status
 

@@ -1,14 +1,16 @@
 """Gives all documents and folders of the user FROM to TO, for instance when somebody has left.
-LISTS is a file with what `rooms dump` prints, such as lists.txt of a backup: it says where they
-are. Each keeps its group and its lists. Whoever asks needs the rights t and o on each object. What
-belongs to somebody else by now stays as it is, and the same command can be repeated."""
+ROOM is an address such as https://rooms.example, or for root on its machine the room's name, such
+as office. LISTS is a file with what `rooms dump` prints, such as lists.txt of a backup: it says
+where they are. Each keeps its group and its lists. Whoever asks needs the rights t and o on each
+object. What belongs to somebody else by now stays as it is, and the same command can be
+repeated."""
 import argparse
 import json
 import os
 from collections.abc import Iterator
 
 from . import names, said
-from .room_http import Caller, Client
+from .room_http import Caller, client
 from .said import Refused, say
 
 USAGE = ("handover [--dry-run] [--user NAME] [--as NAME] [--config FILE] [--without-tls] "
@@ -49,20 +51,19 @@ def _look_at(words: list[str]) -> None:
         raise Refused(f"no lists: {lists} doesn't begin as what rooms dump prints")
 
 
-def run(given: argparse.Namespace, caller: Caller, at_socket: str = "") -> int:
+def run(given: argparse.Namespace, caller: Caller) -> int:
     _look_at(given.words)
     address, lists, giver, taker = given.words
-    client = Client(address, caller, "the same command goes on where this one stopped", True,
-                    at_socket)
+    asked = client(address, caller, "the same command goes on where this one stopped", True)
     if not knows(lists, taker):
         say(f"{taker} owns nothing and is in no group, as {lists} says: is the name right?")
     mine = [path for owner, path in objects(lists) if owner == giver]
     handed = others = 0
     for number, path in enumerate(mine, 1):
         said.progress(f"{number} of {len(mine)}: {os.fsdecode(path)}")
-        got = client.ask("GET", "attr", path)
+        got = asked.ask("GET", "attr", path)
         if got.status != 200:
-            client.report(path, f"its owner isn't read: {got.text()}")
+            asked.report(path, f"its owner isn't read: {got.text()}")
             continue
         row = json.loads(got.body)
         if row["owner"] != giver:
@@ -73,12 +74,12 @@ def run(given: argparse.Namespace, caller: Caller, at_socket: str = "") -> int:
             print(f"would: {names.shown(path)}")
         else:
             body = json.dumps({"group": row["group"], "owner": taker}, separators=(",", ":"))
-            got = client.ask("PUT", "attr", path, body.encode())
+            got = asked.ask("PUT", "attr", path, body.encode())
             if got.status == 204:
                 handed += 1
             else:
-                client.report(path, f"not given: {got.text()}")
+                asked.report(path, f"not given: {got.text()}")
     said.end_progress()
     would = "would be " if given.dry_run else ""
-    print(f"{would}given {handed}, of others by now {others}, left out {client.left_out}")
-    return 0 if client.left_out == 0 else 1
+    print(f"{would}given {handed}, of others by now {others}, left out {asked.left_out}")
+    return 0 if asked.left_out == 0 else 1

@@ -13,7 +13,7 @@ from .used import NoRoom, Used
 def answer(room: Room, patience: float = 0) -> str:
     """A server that can't read its file is started again and again, and is 'active' most of the
     time. So the room is asked."""
-    if not (room.port or room.listens) or unit.state(room) in ("inactive", "failed"):
+    if not room.address or unit.state(room) in ("inactive", "failed"):
         return ""
     patience = patience or unit.patience(room)
     ends = time.monotonic() + patience

@@ -63,14 +63,12 @@ def rooms_of(file: str) -> list[str]:
 
 def answers(name: str) -> bool:
     """Whether the server of a room does, wherever its settings say that it listens."""
-    try:
-        ports = [line for _, line in settings.lines(f"{settings.HOME}/{name}.conf")
-                 if line.startswith("PORT=")]
-    except Refused:
-        return False
-    port = ports[-1].removeprefix("PORT=") if ports else ""
-    return await_server.is_well(port if settings.matches(r"[1-9][0-9]{0,4}", port) else "",
-                                os.path.join(locks.RUN, "rooms", name, "socket"))
+    conf = f"{settings.HOME}/{name}.conf"
+    port = settings.value(conf, "PORT")
+    if not settings.is_port(port) or settings.value(conf, "SOCKET") == "yes":
+        # Whatever listens at the port isn't this server.
+        port = ""
+    return await_server.is_well(port, os.path.join(locks.RUN, "rooms", name, "socket"))
 
 
 def shown(unit: str, what: str) -> str:

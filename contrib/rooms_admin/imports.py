@@ -1,13 +1,14 @@
-"""Uploads what is in the folder DIR into the folder PATH of the room at the address ROOM, by the
-requests that any client may send. PATH is made if it is missing, with the folders above it. No link
-is followed. A document that is there is never replaced without --replace, so the same command goes
-on where one was cut off. What isn't sent is printed, with the room's reply: a link, a device, a
-file that can't be read or has more than 1048576 bytes, and what the room refuses."""
+"""Uploads what is in the folder DIR into the folder PATH of a room, by the requests that any client
+may send. ROOM is an address such as https://rooms.example, or for root on its machine the room's
+name, such as office. PATH is made if it is missing, with the folders above it. No link is followed.
+A document that is there is never replaced without --replace, so the same command goes on where one
+was cut off. What isn't sent is printed, with the room's reply: a link, a device, a file that can't
+be read or has more than 1048576 bytes, and what the room refuses."""
 import argparse
 import os
 
 from . import names, safe, said
-from .room_http import Caller, Client, argument, raise_limits
+from .room_http import Caller, Client, argument, client, raise_limits
 from .said import Refused, say
 
 USAGE = ("import [--replace] [--user NAME] [--as NAME] [--config FILE] [--without-tls] "
@@ -139,8 +140,8 @@ def run(given: argparse.Namespace, caller: Caller) -> int:
     if not names.is_path(to):
         raise Refused("bad arguments: a path in the room begins with a slash and doesn't end with "
                       f"one, unlike '{given.words[2]}'")
-    client = Client(address, caller, "the same command goes on where this one stopped", True)
-    task = Import(client, given.replace)
+    asked = client(address, caller, "the same command goes on where this one stopped", True)
+    task = Import(asked, given.replace)
     if os.isatty(2):
         task.total = count(at)
     if to == b"/" or task.make_way(to):
@@ -149,5 +150,5 @@ def run(given: argparse.Namespace, caller: Caller) -> int:
         say(f"nothing of {source} was sent: there is no folder {names.shown(to)}")
     said.end_progress()
     print(f"made {task.made}, replaced {task.replaced}, there already {task.same}, "
-          f"left out {client.left_out}")
-    return 0 if client.left_out == 0 else 1
+          f"left out {asked.left_out}")
+    return 0 if asked.left_out == 0 else 1

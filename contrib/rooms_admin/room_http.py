@@ -13,7 +13,7 @@ import urllib.parse
 import urllib.request
 from dataclasses import dataclass
 
-from . import names, said
+from . import names, said, settings
 from .said import Refused, Stop, say
 from .settings import Room, is_this_machine
 
@@ -87,7 +87,7 @@ class Client:
                  at_socket: str = "") -> None:
         if not names.matches_address(address):
             raise Refused("bad arguments: the room is an address such as https://rooms.example, "
-                          f"not '{address}'")
+                          f"or the name of one on this machine, not '{address}'")
         parts = urllib.parse.urlsplit(address)
         before, at, host = parts.netloc.rpartition("@")
         self.room = urllib.parse.urlunsplit((parts.scheme, host, parts.path.rstrip("/"), "", ""))
@@ -208,6 +208,19 @@ class Client:
             raise Refused(f"no log: {self.log} can't be written: {fault.strerror}") from fault
 
 
+def client(word: str, caller: Caller, next_step: str, ends_by_500: bool) -> Client:
+    """Of a room by its address; or, on its own machine, by its name or its settings."""
+    if not word or "://" in word or not os.path.isfile(settings.file_of(word)):
+        return Client(word, caller, next_step, ends_by_500)
+    if caller.user or caller.config:
+        raise Refused(f"bad arguments: nobody asks for a password at the room {word} itself: --as "
+                      "says who asks, or take its address")
+    room = settings.room(word)
+    if not room.address:
+        raise Refused(f"bad settings: PORT in {room.conf} is empty, and the room can't be asked")
+    return Client(room.address, caller, next_step, ends_by_500, room.listens)
+
+
 def _without_port(host: str) -> str:
     return host.partition("]")[0] + "]" if host.startswith("[") else host.partition(":")[0]
 
@@ -233,4 +246,4 @@ def argument(text: str) -> bytes:
     return os.fsencode(text)
 
 
-__all__ = ["Caller", "Client", "Reply", "argument", "raise_limits", "said"]
+__all__ = ["Caller", "Client", "Reply", "argument", "client", "raise_limits", "said"]

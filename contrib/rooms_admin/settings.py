@@ -79,12 +79,27 @@ class Room:
         self.folder, self.base = os.path.split(self.file)
 
     @property
+    def name(self) -> str:
+        return self.unit.partition("@")[2] or self.unit
+
+    @property
     def listens(self) -> str:
         """The path of its server's socket, where it has one in the place of a port: by SOCKET=yes,
         or by a unit of somebody's own. Its folder is made anew at each start, so none of before is
         there."""
-        place = os.path.join(locks.RUN, "rooms", self.unit.partition("@")[2] or self.unit, "socket")
+        place = os.path.join(locks.RUN, "rooms", self.name, "socket")
         return place if self.socket or os.path.exists(place) else ""
+
+    @property
+    def address(self) -> str:
+        """For requests to its own server, at its socket or its port; nothing if it has neither."""
+        if self.listens:
+            return "http://localhost"
+        return f"http://127.0.0.1:{self.port}" if self.port else ""
+
+    @property
+    def flag(self) -> str:
+        return flag(self.name, self.socket, self.port)
 
 
 _ROOM = {"FILE": "", "PORT": "", "TITLE": "", "BACKUPS": "", "KEEP": "30", "MEMORY": "",
@@ -92,8 +107,12 @@ _ROOM = {"FILE": "", "PORT": "", "TITLE": "", "BACKUPS": "", "KEEP": "30", "MEMO
          "PROGRAM": PROGRAM, "PASSWORDS": "", "HOST": "", "BEHIND": "", "SOCKET": "",
          "PEOPLE": "names"}
 _YES = "yes, or empty"
-# How a new room is reached: by 127.0.0.1 if it is empty, by its socket if it is 'yes'.
-NEW_SOCKET = ""
+
+
+def flag(name: str, socket: bool, port: str) -> str:
+    """The file that is there while a room is full. A room with a port may have a watch of an
+    earlier version, which knows it by that."""
+    return f"{name}.full" if socket else f"127.0.0.1:{port}"
 
 
 def file_of(word: str) -> str:
@@ -132,7 +151,7 @@ def room(word: str = "") -> Room:
                                       and not got["REVIEW"].endswith("/")),
              path, "REVIEW", "a folder of the room", got["REVIEW"])
         need(is_user(got["REVIEWER"]), path, "REVIEWER", "a user's name", got["REVIEWER"])
-        need(got["PORT"], path, "PORT", "set, which REVIEW needs", "")
+        need(got["PORT"] or got["SOCKET"] == "yes", path, "PORT", "set, which REVIEW needs", "")
     found = Room(path, got["FILE"], got["PORT"], got["TITLE"], got["BACKUPS"], int(got["KEEP"]),
                  int(got["MEMORY"] or 0), got["LIMIT"], got["STANDBY"], got["MAIL"], got["REVIEW"],
                  got["REVIEWER"], got["UNIT"], got["PROGRAM"], got["PASSWORDS"] or "file",
@@ -175,6 +194,10 @@ class Place:
     socket: bool = False
     on: str = ""
 
+    @property
+    def flag(self) -> str:
+        return flag(self.name, self.socket, self.port)
+
 
 def place(path: str) -> Place:
     name, kind = os.path.splitext(os.path.basename(path))
@@ -185,7 +208,8 @@ def place(path: str) -> Place:
     else:
         got = values(path, _ROOM)
     check_place(path, got)
-    need(is_port(got["PORT"]), path, "PORT", "a port", got["PORT"])
+    need(is_port(got["PORT"]) or (got["SOCKET"] == "yes" and not got["PORT"]), path, "PORT",
+         "a port", got["PORT"])
     return Place(name, got["PORT"], got["TITLE"], got["PASSWORDS"] or "file", got["HOST"],
                  got["BEHIND"] == "yes", got["SOCKET"] == "yes", got.get("ON", ""))
 

@@ -44,7 +44,7 @@ def _set_up(made: Changes, pair: tuple[str, str] | None, chosen: str,
     made.folder("/var/backups/rooms", 0o710, "root", "rooms")
     made.folder("/etc/rooms", 0o755)
     if not os.path.exists(made.root + _OFFICE):
-        text = room_text(made.root, "office", "8780", "office", "/var/backups/rooms")
+        text = room_text(made.root, "office", "8780", "office", "/var/backups/rooms", True)
         made.file(_OFFICE, text.encode())
     if not made.root and not os.path.isdir("/etc/nginx"):
         print("no nginx here: apt-get install nginx apache2-utils, and then run this again")
@@ -98,13 +98,13 @@ def _user(made: Changes) -> None:
                 changes.run("systemd-sysusers", "rooms.conf")
 
 
-def room_text(root: str, name: str, port: str, title: str, backups: str, host: str = "",
-              behind: bool = False) -> str:
-    """The settings of a new room."""
+def room_text(root: str, name: str, port: str, title: str, backups: str, socket: bool,
+              host: str = "", behind: bool = False) -> str:
+    """The settings of a new room. One with a socket has a port in reserve."""
     text = site.template("room.conf.in")
     for word, value in (("NAME", name), ("PORT", port), ("TITLE", title), ("BACKUPS", backups),
                         ("HOST", host), ("BEHIND", "yes" if behind else ""), ("PASSWORDS", ""),
-                        ("SOCKET", settings.NEW_SOCKET), ("PROGRAM", program(root))):
+                        ("SOCKET", "yes" if socket else ""), ("PROGRAM", program(root))):
         text = text.replace(f"@{word}@", value)
     return text
 

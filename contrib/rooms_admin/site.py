@@ -150,10 +150,10 @@ def _maps(site: Site) -> dict[str, list[str]]:
         + [f'"~^[^ ]+ /{one.name}(/|$)" {2 if one.on else 1}' for one in paths],
         "SCHEMES": [f"{one.name} https" for one in site.shown if one.on],
         "THERE": [f"{one.name} {one.on}" for one in site.shown if one.on],
-        "FLAGS": [f"{one.name} 127.0.0.1:{one.port}" for one in site.shown if not one.on],
+        "FLAGS": [f"{one.name} {one.flag}" for one in site.shown if not one.on],
         "SESSIONS": [f"{one.name} 1" for one in site.shown if one.passwords == "session"],
         "BEHIND": [f'"~^/{one.name}(/|$)" {one.name}' for one in site.behind],
-        "BEHIND_FLAGS": [f"{one.name} 127.0.0.1:{one.port}" for one in site.behind],
+        "BEHIND_FLAGS": [f"{one.name} {one.flag}" for one in site.behind],
     }
 
 

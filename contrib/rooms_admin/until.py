@@ -58,8 +58,8 @@ class Run:
 
     def client(self, asker: str) -> Client:
         if asker not in self.clients:
-            self.clients[asker] = Client(f"http://127.0.0.1:{self.room.port}",
-                                         Caller(as_user=asker), NEXT, True, self.room.listens)
+            self.clients[asker] = Client(self.room.address, Caller(as_user=asker), NEXT, True,
+                                         self.room.listens)
         return self.clients[asker]
 
     def bring(self, due: Due, asker: str) -> None:
@@ -106,7 +106,7 @@ class Run:
         found = self.find(lists)
         if not found:
             return
-        if not self.room.port:
+        if not self.room.address:
             raise Stop(f"PORT in {self.room.conf} is empty, so the room can't be asked, and "
                        f"{len(found)} lists have accesses that are over")
         if unit.state(self.room) != "active":

@@ -89,9 +89,8 @@ def _hand_over(room: Room, lists: bytes, name: str, heir: str) -> int:
     with tempfile.NamedTemporaryFile(dir="/var/tmp") as file:
         file.write(lists)
         file.flush()
-        given = argparse.Namespace(words=[f"http://127.0.0.1:{room.port}", file.name, name, heir],
-                                   dry_run=False)
-        return handover.run(given, Caller(as_user=heir), room.listens)
+        given = argparse.Namespace(words=[room.conf, file.name, name, heir], dry_run=False)
+        return handover.run(given, Caller(as_user=heir))
 
 
 def run(given: argparse.Namespace) -> int:
@@ -102,7 +101,7 @@ def run(given: argparse.Namespace) -> int:
     room = settings.room(conf)
     if heir == name:
         raise Refused(f"bad arguments: {name} would give to {heir}")
-    if heir and not room.port:
+    if heir and not room.address:
         raise Refused(f"bad settings: PORT in {room.conf} is empty, and --to asks the room")
     with locks.lock(room.unit, 60):
         if verb == "remove":

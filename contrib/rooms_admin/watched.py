@@ -60,7 +60,7 @@ def within(seconds: float, look: Callable[[], list[Finding]], what: str) -> list
 
 def see_answer(room: Room) -> list[Finding]:
     """By itself: at its socket, or at its port."""
-    if not room.port and not room.listens:
+    if not room.address:
         return []
     if await_server.is_well("" if room.listens else room.port, room.listens):
         return [(OK, "answers")]
@@ -68,13 +68,9 @@ def see_answer(room: Room) -> list[Finding]:
              f"systemctl status {room.unit}")]
 
 
-def unit_name(room: Room) -> str:
-    return room.unit.partition("@")[2] or room.unit
-
-
 def _place(room: Room) -> tuple[str, str] | None:
     """The host and the path at which nginx shows a room, if it does."""
-    name = unit_name(room)
+    name = room.name
     if room.behind or room.unit != f"rooms@{name}":
         return None
     return (room.host, "/") if room.host else ("", "/" if name == "office" else f"/{name}/")
@@ -108,7 +104,7 @@ def see_front(room: Room) -> list[Finding]:
 
 
 def _passes_on(room: Room) -> bool:
-    where = (re.escape(f"unix:/run/rooms/{unit_name(room)}/socket") if room.socket
+    where = (re.escape(f"unix:/run/rooms/{room.name}/socket") if room.socket
              else rf"127\.0\.0\.1:{room.port}")
     try:
         with open(f"{machine.ROOT}/etc/nginx/sites-enabled/rooms", encoding="utf-8",
@@ -197,7 +193,7 @@ def _none_yet(room: Room, now: float) -> Finding:
 
 def see_groups(room: Room) -> list[Finding]:
     """The last run that the timer began. A run that fails is a unit that has failed."""
-    timer = f"rooms-directory@{unit_name(room)}.timer"
+    timer = f"rooms-directory@{room.name}.timer"
     if not os.path.lexists(f"{machine.ROOT}/etc/systemd/system/timers.target.wants/{timer}"):
         return []
     try:
@@ -209,7 +205,7 @@ def see_groups(room: Room) -> list[Finding]:
 
 
 def see_timer(room: Room) -> list[Finding]:
-    timer = f"rooms-nightly@{unit_name(room)}.timer"
+    timer = f"rooms-nightly@{room.name}.timer"
     if machine.printed(["systemctl", "is-active", timer]).strip() == "active":
         return []
     return [(WARNING, f"no nightly run is due: systemctl enable --now {timer}")]

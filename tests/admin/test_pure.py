@@ -152,6 +152,19 @@ class UsedBytes(unittest.TestCase):
 
 
 class Sites(unittest.TestCase):
+    def test_a_room_is_where_its_settings_say(self) -> None:
+        rooms = [settings.Place("office", "8780", "Office", "file", socket=True),
+                 settings.Place("hr", "8781", "", "file"),
+                 settings.Place("ledger", "", "", "file", behind=True, socket=True)]
+        text = site.render(site.template("site.conf.in"),
+                           site.Site(settings.Front(["x"], "", ""), rooms, "/page"))
+        for line in ("upstream room_office { server unix:/run/rooms/office/socket; }",
+                     "upstream room_hr { server 127.0.0.1:8781; }",
+                     "upstream room_ledger { server unix:/run/rooms/ledger/socket; }",
+                     "    office office.full;", "    hr 127.0.0.1:8781;",
+                     "    ledger ledger.full;"):
+            self.assertIn(line + "\n", text)
+
     def test_an_edited_file_stays(self) -> None:
         template = site.template("site.conf.in")
         rooms = [settings.Place("office", "8780", "Office", "file"),

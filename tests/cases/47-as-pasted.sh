@@ -15,7 +15,8 @@ blocks() { # PAGE TEXT
 }
 
 # Stand-ins for what needs root or another machine. The server is stopped and started for real.
-mkdir bin room backups
+mkdir -p bin room backups run/rooms/rooms
+sock=$PWD/run/rooms/rooms/socket
 stand_in() { { printf '#!/usr/bin/env bash\n'; cat; } >"bin/$1" && chmod 755 "bin/$1"; } # NAME
 ln -s "$rooms" bin/rooms
 stand_in runuser <<'END'
@@ -59,7 +60,8 @@ case \$1 in
     ;;
   start)
     : >"$PWD/line"
-    "$rooms" serve "$PWD/room/office.rooms" --port $((port + 1)) --count 1000000 </dev/null >"$PWD/line" 2>"$PWD/err" &
+    rm -f "$sock"
+    "$rooms" serve "$PWD/room/office.rooms" --socket "$sock" --count 1000000 </dev/null >"$PWD/line" 2>"$PWD/err" &
     echo \$! >"$PWD/pid"
     for turn in {1..3000}; do [ ! -s "$PWD/line" ] || exit 0; sleep 0.02; done
     exit 1
@@ -71,7 +73,7 @@ END
 # A script of blocks: what it prints is in $work/out, and its status in $status.
 paste_in() { # TEXT-OF-BLOCKS
   sed -e "s|/var/lib/rooms|$PWD/room|g; s|/etc/nginx/rooms.htpasswd|$PWD/passwords|g; s|/var/backups/rooms|$PWD/backups|g" \
-    -e "s|127.0.0.1:8780|127.0.0.1:$((port + 1))|g" <<<"$1" >pasted
+    -e "s|/run/rooms/office/socket|$sock|g" <<<"$1" >pasted
   [ -s pasted ] || fail 'what is pasted' 'no such block'
   PATH=$PWD/bin:$PATH TMPDIR=$PWD timeout "$patience" bash pasted </dev/null >"$work/out" 2>"$work/err"
   status=$?
@@ -84,7 +86,7 @@ prints() { # NAME LINE ..: these lines, and status 0
   same "$name" "$work/out" wanted
 }
 asked() { # USER METHOD TARGET [BODY]: the body of the reply and its status
-  curl -s -m "$patience" -X "$2" -H "Room-User: $1" ${4+--data-binary "$4"} -w ' %{http_code}\n' "http://127.0.0.1:$((port + 1))$3"
+  curl -s -m "$patience" -X "$2" -H "Room-User: $1" ${4+--data-binary "$4"} -w ' %{http_code}\n' --unix-socket "$sock" "http://localhost$3"
 }
 answers() { # NAME WANTED USER METHOD TARGET [BODY]
   local name=$1 wanted=$2
@@ -100,7 +102,7 @@ gives 'the members' 0 'groups 2, members 4\n' '' groups room/office.rooms member
 set_list room/office.rooms / dacl list:a "A:fd:alice:$ALL" A:fdg:staff:rwaxtc A::AUTHENTICATED@:xt
 : >root/etc/nginx/rooms.htpasswd
 ln -s root/etc/nginx/rooms.htpasswd passwords
-printf '%s\n' "FILE=$PWD/room/office.rooms" "PORT=$((port + 1))" "BACKUPS=$PWD/backups" UNIT=rooms "PROGRAM=$rooms" >root/etc/rooms/office.conf
+printf '%s\n' "FILE=$PWD/room/office.rooms" SOCKET=yes "BACKUPS=$PWD/backups" UNIT=rooms "PROGRAM=$rooms" >root/etc/rooms/office.conf
 if ! has htpasswd || [ ! -x /usr/bin/python3 ]; then
   skip 'what is pasted' 'htpasswd or python3 is missing'
   return
@@ -232,9 +234,9 @@ else
 fi
 paste_in "$(blocks operating.md 'contrib/install')"
 holds 'the new files' cmp -s machine/usr/local/bin/rooms "$rooms"
-paste_in "$(blocks upgrading.md '127.0.0.1:8780/can')
+paste_in "$(blocks upgrading.md 'rooms-admin check')
 $(blocks upgrading.md 'nginx -t')"
-prints 'the new program serves' '{} 200'
+holds "the new program serves: $(head -c 300 "$work/out")" grep -q '^rooms OK - office: answers, ' "$work/out"
 answers 'what was there before' 'Dear Sir 200' alice GET /doc/letters/reply
 echo '# older' >>machine/usr/local/sbin/rooms-admin
 paste_in "$(blocks operating.md 'contrib/install')"
@@ -254,7 +256,7 @@ if [ -n "$backup" ]; then
   take moved.1.db room/office.rooms
   paste_in "$(blocks upgrading.md 'rooms migrate')"
   prints 'a file of schema 1' migrated
-  holds 'is served then' [ "$(curl -s -o /dev/null -w '%{http_code}' "http://127.0.0.1:$((port + 1))/can/?")" = 200 ]
+  holds 'is served then' [ "$(curl -s -o /dev/null -w '%{http_code}' --unix-socket "$sock" 'http://localhost/can/?')" = 200 ]
   bin/systemctl stop rooms
   rm -f room/office.rooms*
   mv kept/* room/

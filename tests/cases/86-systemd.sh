@@ -85,24 +85,52 @@ does 'units with faults' 'systemctl list-units --state=failed --no-legend --plai
 holds 'there are none' [ ! -s "$work/out" ]
 does 'when the nightly run begins' 'systemctl show rooms-nightly@office.timer -p NextElapseUSecRealtime --value'
 holds 'at four' grep -q ' 04:00:00 ' "$work/out"
-# Who reaches what: the folder for a socket is passed through by nginx alone, and the ports are closed to others.
+# Who reaches what: the folder of a socket is passed through by nginx alone, and a port is closed to others.
 does 'the folder for its socket' 'stat -c "%U %G %a" /run/rooms /run/rooms/office'
 printf '%s\n' 'root root 755' 'rooms www-data 710' >wanted
 same 'is for it and nginx' "$work/out" wanted
-does 'the firewall' 'systemctl is-active rooms-firewall && systemctl is-enabled rooms-firewall && nft list table inet rooms | grep -c "tcp dport"'
-printf '%s\n' active enabled 1 >wanted
-same 'has one rule' "$work/out" wanted
-does 'loaded again' 'systemctl restart rooms-firewall && systemctl reload rooms-firewall && nft list table inet rooms | grep -c "tcp dport"'
-holds 'it has one rule' grep -qx 1 "$work/out"
 does 'who gets there' 'for user in root www-data rooms nobody; do
+  ! setpriv --reuid=$user --regid=$(id -g $user) --clear-groups curl -s -o /dev/null --unix-socket /run/rooms/office/socket "http://localhost/can/?" || echo $user
+  done; ! (exec 3<>/dev/tcp/127.0.0.1/8780) 2>/dev/null'
+printf '%s\n' root www-data rooms >wanted
+same 'are root, nginx and its own user, and there is no port' "$work/out" wanted
+does 'nothing is to be closed' 'systemctl show rooms-firewall -p ActiveState,Result --value; ! nft list table inet rooms 2>/dev/null'
+printf '%s\n' exec-condition inactive | sort >wanted
+sort "$work/out" >got
+same 'so the table is not loaded' got wanted
+# The unit has started when the server answers.
+restarts_well() { # NAME HOW-CURL-GETS-THERE
+  local turn
+  for turn in 1 2 3; do
+    does "$1, restart $turn" "systemctl restart rooms@office && curl -s -w ' %{http_code}\n' $2/can/?"
+    holds "$1, restart $turn: is followed by an answer" grep -qx '{} 200' "$work/out"
+  done
+}
+restarts_well 'at its socket' '--unix-socket /run/rooms/office/socket http://localhost'
+# A port, and a socket again, by the blocks of the page. Before the server listens there the port is closed.
+does 'a port' "$(block docs/operating.md 'echo SOCKET= ')"
+does 'the firewall' 'systemctl is-active rooms-firewall && nft list table inet rooms | grep -c "tcp dport"; ls /run/rooms/office'
+printf '%s\n' active 1 >wanted
+same 'has one rule, and the room no socket' "$work/out" wanted
+does 'who gets to the port' 'for user in root www-data rooms nobody; do
   ! setpriv --reuid=$user --regid=nogroup --clear-groups bash -c "exec 3<>/dev/tcp/127.0.0.1/8780" 2>/dev/null || echo $user; done'
 printf '%s\n' root www-data >wanted
 same 'are root and nginx' "$work/out" wanted
-# The unit has started when the server answers.
-for turn in 1 2 3; do
-  does "a restart, $turn" 'systemctl restart rooms@office && curl -s -w " %{http_code}\n" "http://127.0.0.1:8780/can/?"'
-  holds "is followed by an answer, $turn" grep -qx '{} 200' "$work/out"
-done
+restarts_well 'at its port' http://127.0.0.1:8780
+until_inside 'nginx gets there' '[ "$(curl -s -u alice:a http://127.0.0.1/can/?)" = "{}" ]'
+does 'loaded again' 'systemctl restart rooms-firewall && systemctl reload rooms-firewall && nft list table inet rooms | grep -c "tcp dport"'
+holds 'it has one rule' grep -qx 1 "$work/out"
+does 'another upgrade' 'dpkg -i rooms.deb && grep -c ^SOCKET= /etc/rooms/office.conf && tail -n 1 /etc/rooms/office.conf'
+holds 'leaves the port' [ "$(tail -n 2 "$work/out" | tr '\n' ' ')" = '2 SOCKET= ' ]
+does 'settings of an earlier version, in which there is no socket' 'systemctl stop rooms-firewall; sed -i /^SOCKET=/d /etc/rooms/office.conf
+  systemctl restart rooms@office; systemctl is-active rooms-firewall'
+does 'a socket again' "$(block docs/operating.md 'echo SOCKET=yes')"
+until_inside 'nginx gets there too' '[ "$(curl -s -u alice:a http://127.0.0.1/can/?)" = "{}" ]'
+does 'the firewall is asked again' 'systemctl stop rooms-firewall; systemctl restart rooms@office; systemctl is-active rooms-firewall || :; ls /run/rooms/office'
+printf '%s\n' inactive socket >wanted
+same 'and has nothing to do' "$work/out" wanted
+does 'an Apache that checks passwords' ': >/etc/rooms/other.apache; systemctl restart rooms@office; systemctl is-active rooms-firewall
+  rm /etc/rooms/other.apache; systemctl stop rooms-firewall'
 does 'how long runs may take' 'for unit in nightly standby directory; do systemctl show rooms-$unit@office -p TimeoutStartUSec --value; done'
 printf '%s\n' 4h 1h 1h >wanted
 same 'ends' "$work/out" wanted
@@ -128,7 +156,7 @@ holds 'once' grep -qx 1 "$work/out"
 does 'what failed is forgotten' 'systemctl reset-failed; rm /srv/mailed/*'
 
 answers() { # NAME
-  until_inside "$1: the room answers" '[ "$(curl -s -m 20 "http://127.0.0.1:8780/can/?")" = "{}" ]'
+  until_inside "$1: the room answers" '[ "$(curl -s -m 20 --unix-socket /run/rooms/office/socket "http://localhost/can/?")" = "{}" ]'
 }
 answers 'a start'
 web='curl -s -o said -w %{http_code} -u alice:a'
@@ -164,7 +192,7 @@ does 'a server that was left held' 'pid=$(systemctl show rooms@office -p MainPID
   began=$(sed "s/.*) //" /proc/$pid/stat | cut -d " " -f 20)
   mkdir /var/backups/rooms/2020-01-01.030000.part
   printf "%s\n" /var/backups/rooms/2020-01-01.030000.part "held $pid $began" >/run/rooms-nightly.rooms@office
-  ! curl -s -m 2 "http://127.0.0.1:8780/can/?"'
+  ! curl -s -m 2 --unix-socket /run/rooms/office/socket "http://localhost/can/?"'
 does 'goes on' 'rooms-nightly --after; ! ls -d /var/backups/rooms/*.part 2>/dev/null'
 answers 'a server that was left held'
 
@@ -221,7 +249,7 @@ does 'the watch takes that over' "$(block docs/capacity.md 'restart rooms-full@o
 holds 'two megabytes' grep -qx '0 MB of 2 are in use' "$work/out"
 does 'uploads' 'head -c 1000000 /dev/zero >big; for n in 1 2 3; do
   curl -s -o said -u alice:a -X PUT -H Expect: --data-binary @big http://127.0.0.1/doc/big$n; done'
-until_inside 'a flag' '[ -e /run/rooms-full/127.0.0.1:8780 ]'
+until_inside 'a flag' '[ -e /run/rooms-full/office.full ]'
 answer_is 'what adds' 507 "$web -X PUT -d hello http://127.0.0.1/doc/more"
 answer_is 'what reads' 200 "$web http://127.0.0.1/doc/f"
 does 'the watch is killed' 'systemctl kill -s KILL rooms-full@office'
@@ -229,7 +257,7 @@ until_inside 'and started again' '[ "$(systemctl show rooms-full@office -p NRest
 answer_is 'the room is as full' 507 "$web -X PUT -d hello http://127.0.0.1/doc/more"
 answer_is 'what removes' 204 "$web -X DELETE http://127.0.0.1/object/big1"
 answer_is 'and once more' 204 "$web -X DELETE http://127.0.0.1/object/big2"
-until_inside 'no flag then' '[ ! -e /run/rooms-full/127.0.0.1:8780 ]'
+until_inside 'no flag then' '[ ! -e /run/rooms-full/office.full ]'
 answer_is 'what adds goes on' 201 "$web -X PUT -d hello http://127.0.0.1/doc/more"
 does 'the server stops' 'systemctl stop rooms@office'
 shows 'and its watch with it' rooms-full@office ActiveState inactive
@@ -257,7 +285,7 @@ checks 'the check has nothing to say' 0 'rooms OK - office: answers, nginx answe
 
 # A server that can't start: by MemoryMax where this machine has that, otherwise by a limit of the process.
 does 'more documents' 'for n in $(seq 30); do
-  curl -s -o said -X PUT -H "Room-User: alice" -H Expect: --data-binary @big http://127.0.0.1:8780/doc/m$n; done'
+  curl -s -o said --unix-socket /run/rooms/office/socket -X PUT -H "Room-User: alice" -H Expect: --data-binary @big http://localhost/doc/m$n; done'
 inside 'systemctl show rooms@office -p MemoryCurrent --value'
 if [[ $(cat "$work/out") =~ ^[0-9]+$ ]]; then
   limit_memory MemoryMax=20M MemorySwapMax=0
@@ -268,7 +296,7 @@ fi
 inside 'systemctl restart rooms@office'
 inside 'timeout 110 rooms-nightly'
 holds 'a server that can not start: the nightly run fails' [ "$status" = 1 ]
-holds 'a server that can not start: it says so' grep -q "rooms@office doesn't \(answer at port 8780\|stay\|start\)" "$work/err"
+holds 'a server that can not start: it says so' grep -q "rooms@office doesn't \(answer at /run/rooms/office/socket\|stay\|start\)" "$work/err"
 does 'the limit is taken away' 'rm /etc/systemd/system/rooms@office.service.d/memory.conf; systemctl daemon-reload; systemctl restart rooms@office'
 answers 'with more memory'
 does 'a nightly run after all' 'systemctl start rooms-nightly@office'

@@ -211,6 +211,17 @@ if serve_one 100; then
   told 'one whose unit does not answer' 1 "busy: rooms@one has it open, and doesn't answer"
   kill -CONT "$served"
   stop_server
+  # At its socket, and never at the port that it doesn't have.
+  mkdir -p run/rooms/one
+  [ "$other" = no ] || chown 65534:65534 run/rooms/one
+  if start_at_socket var/F "$PWD/run/rooms/one/socket" 100; then
+    printf 'FILE=%s\nPORT=%s\nSOCKET=yes\n' "$file" "$port" >settings/one.conf
+    sed -i "s/echo $served/echo $server/" bin/systemctl
+    doctor "$file"
+    told 'a room that its unit serves at a socket' 0 "nothing is wrong: rooms@one serves $file, and answers"
+    stop_server
+  fi
+  rm -r run/rooms
 fi
 rm -f bin/systemctl settings/one.conf
 rooms=$program

@@ -120,14 +120,13 @@ holds 'the start page has it' grep -qF '<a href="/invoices/">Invoices of the yea
 # nginx of both, with their files; the ports are this case's own.
 front=$((port + 1))
 secure=$((port + 2))
-room=$((port + 3))
-room_b=$(sed -n 's/^PORT=//p' B/etc/rooms/invoices.conf)
+room=$PWD/B/run/rooms/invoices
 write_nginx() { # MACHINE ADDRESS
   local file
   find "$1/etc/nginx" -type f | while IFS= read -r file; do
     sed -i -e '/listen \[::\]/d' -e "s/listen 80;/listen $2:$front;/" -e "s/listen 8443 /listen $secure /" \
       -e "s#/etc/#$PWD/$1/etc/#g" -e "s#/run/rooms-front#$PWD/$1/t#; s#/var/lib/rooms-front#$PWD/$1&#" \
-      -e "s#b.example:8443#b.example:$secure#" -e "s#127.0.0.1:$room_b#127.0.0.1:$room#" \
+      -e "s#b.example:8443#b.example:$secure#" -e "s#unix:/run/rooms/#unix:$PWD/$1/run/rooms/#" \
       -e "s#/run/rooms-full#$PWD/$1/full#" "$file"
   done
   {
@@ -162,7 +161,8 @@ stop_machines() {
 open_room F
 set_list F / dacl list:a "A:fd:carol:$ALL" A:fd:bob:rx
 : >listens
-starts at_b sh -c "exec '$rooms' serve F --port $room --count 100000 >listens"
+mkdir -p "$room"
+starts at_b sh -c "exec '$rooms' serve F --socket '$room/socket' --count 100000 >listens"
 within 'a server at B' [ -s listens ]
 printf 'carol:{PLAIN}c\nbob:{PLAIN}b\n' >A/etc/nginx/rooms-invoices.htpasswd
 chmod 644 A/etc/nginx/rooms-invoices.htpasswd
@@ -210,7 +210,7 @@ ${at_a[@]+"${at_a[@]}"} curl -s -D head -o "$work/body" -u bob:b "$base/doc/a/%C
 holds 'a document is a file' grep -qx $'Content-Disposition: attachment\r' head
 holds 'with the policy' grep -q '^Content-Security-Policy: ' head
 mkdir B/full
-: >"B/full/127.0.0.1:$room"
+: >B/full/invoices.full
 gets 'a full room there' 507 - carol:c /doc/a/x -X PUT --data-binary x
 gets 'is read' 200 x carol:c '/doc/a/%C3%B6%20%C3%9F'
 rm -r B/full
@@ -239,8 +239,6 @@ stranger "the other machine's own" 400 --cert "$machines/b.example.pem" --key "$
 stranger 'one that signed itself' 400 --cert other.pem --key other.key
 got=$(${at_x[@]+"${at_x[@]}"} curl -s -m 5 -o "$work/body" -w '%{http_code}' -H 'Room-User: carol' "http://$address_bx:$secure/invoices/folder/")
 holds 'without TLS' [ "$got" = 400 ]
-got=$(${at_x[@]+"${at_x[@]}"} curl -s -m 5 -o "$work/body" -w '%{http_code}' -H 'Room-User: carol' "http://$address_bx:$room/folder/")
-holds "the room's own port" [ "$got" = 000 ]
 got=$(${at_x[@]+"${at_x[@]}"} curl -s -k -m "$patience" -o "$work/body" -w '%{http_code}' --cert "$machines/front.pem" --key "$machines/front.key" \
   -H 'Room-User: carol' "https://$address_bx:$secure/invoices/folder/")
 holds "whoever has the front end's key is every user, as the page says" [ "$got" = 200 ]

@@ -186,7 +186,7 @@ shows() { # NAME TEXT ..: what the terminal has shown
 }
 asks_as() { # STATUS USER METHOD TARGET [BODY]
   printf %s "${5-}" >"$machine/root/body"
-  inside "curl -s -o /dev/null -w '%{http_code}' -X $3 -H 'Room-User: $2' --data-binary @body http://127.0.0.1:8780$4"
+  inside "curl -s -o /dev/null -w '%{http_code}' --unix-socket /run/rooms/office/socket -X $3 -H 'Room-User: $2' --data-binary @body http://localhost$4"
   holds "$3 $4 as $2 is answered by $(<"$work/out")" [ "$(<"$work/out")" = "$1" ]
 }
 : >"$machine/srv/typed"
@@ -213,10 +213,13 @@ shows 'is made' 201
 types 'groups and lists' docs/operating 'runuser -u rooms bash' docs/operating 'cat >groups.csv' \
   docs/operating 'office.rooms / dacl' docs/operating 'office.rooms / sacl'
 shows 'are taken' 'groups 2, members 3' 'done'
+does 'the server starts' 'systemctl start rooms@office'
+types 'a port' docs/operating 'echo SOCKET= '
+does 'the room is there' 'curl -sf "http://127.0.0.1:8780/can/?" && curl -sf -u alice:typed http://127.0.0.1/me >/dev/null'
 does 'the rule is there' 'nft -f /usr/share/rooms/rooms.nft'
 types 'the ports' docs/operating 'nft list table'
-holds 'are closed at each start' [ -L "$machine/etc/systemd/system/multi-user.target.wants/rooms-firewall.service" ]
-does 'the server starts' 'systemctl start rooms@office'
+types 'a socket' docs/operating 'echo SOCKET=yes'
+does 'it is there' 'curl -sf --unix-socket /run/rooms/office/socket "http://localhost/can/?" && curl -sf -u alice:typed http://127.0.0.1/me >/dev/null'
 
 # TLS, and back.
 types 'an authority' docs/operating '=rooms-admin certificate rooms.example' docs/operating 'rooms-admin setup --tls /etc/ssl' docs/operating '=nginx -t && systemctl reload nginx' \
@@ -359,9 +362,10 @@ where=/var/backups/rooms/$backup
 types 'the longest list' docs/operating 'where = at'
 
 # Upgrades, and the way back.
+statuses='[12]'
 types 'a newer version' docs/upgrading '=apt-get install -y ./rooms_VERSION_amd64.deb -o Dpkg::Options::=--force-confold </dev/null' \
-  docs/upgrading '127.0.0.1:8780/can'
-shows 'serves' '{} 200'
+  docs/upgrading 'rooms-admin check'
+shows 'serves' 'rooms WARNING - '
 types 'an older one' docs/upgrading allow-downgrades docs/upgrading "=systemctl restart 'rooms@*'"
 edit=s/2026-11-20.030000/$backup/
 types 'with its file' docs/upgrading 'rooms-restore 2026'

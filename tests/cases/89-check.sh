@@ -103,6 +103,22 @@ checks 'nginx asks at another port' 2 "nginx passes nothing on to port $(<"$stan
 settings
 ROOMS_FRONT=127.0.0.1:1 checks 'no nginx' 2 "nginx doesn't answer: "
 
+# A room with a socket is asked there, and not at the port at which another server listens.
+settings SOCKET=yes
+checks 'no socket' 2 "rooms@office doesn't answer (active)" 'nginx passes nothing on to its socket'
+mkdir -p run/rooms/office
+chown "$STAND_USER" run/rooms/office
+echo "$PWD/run/rooms/office/socket" >"$stand/socket"
+unit stop
+unit start
+settings SOCKET=yes
+echo 'upstream room_office { server unix:/run/rooms/office/socket; }' >root/etc/nginx/sites-available/rooms
+checks 'a socket' 0 'rooms OK - office: answers, nginx answers, '
+unit stop
+rm -r "$stand/socket" run/rooms
+unit start
+settings
+
 # Backups.
 rm -r backups/*
 future=$(backup '3 hours')

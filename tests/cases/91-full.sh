@@ -10,7 +10,7 @@ mkdir bin room run backups
 printf '%s\n' '#!/bin/sh' "cat '$PWD/memory'" >bin/systemctl
 chmod 755 bin/systemctl
 write_conf() { # LIMIT
-  printf '%s\n' "FILE=$PWD/room/F" "PORT=$port" "BACKUPS=$PWD/backups" "LIMIT=$1" UNIT=rooms \
+  printf '%s\n' "FILE=$PWD/room/F" "PORT=$port" "SOCKET=${at_socket-}" "BACKUPS=$PWD/backups" "LIMIT=$1" UNIT=rooms \
     "PROGRAM=$rooms" >conf
 }
 fulls() { # WORD ..
@@ -158,6 +158,14 @@ watch none
 within 'LIMIT=none takes a flag away that was left' is_missing "$flag"
 holds 'and says so' grep -qF 'the room has no limit' watched
 unwatch TERM
+# Of a room with a socket it has the room's name.
+at_socket=yes
+watch 2
+within 'the flag of a room with a socket' is_there run/rooms-full/rooms.full
+holds 'and no other' is_missing "$flag"
+unwatch TERM
+within 'goes too' is_missing run/rooms-full/rooms.full
+at_socket=
 
 # Behind nginx: what adds is refused, all else goes on, and removing makes room.
 if [ -z "$nginx" ] || ! has curl; then

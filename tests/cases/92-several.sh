@@ -88,9 +88,11 @@ holds 'its backups' [ "$(value invoices BACKUPS)" = /var/backups/rooms/invoices 
 holds 'which have a folder' [ -n "$(find machine/var/backups/rooms/invoices -perm 700)" ]
 holds 'nobody else reads its passwords' [ -n "$(find machine/etc/nginx/rooms-invoices.htpasswd -perm 600)" ]
 first=$(value invoices PORT)
-holds 'a free port' [ "$first" -gt 8780 ]
+holds 'a port in reserve' [ "$first" -gt 8780 ]
 site=machine/etc/nginx/sites-available/rooms
-holds 'nginx goes there' grep -qx "upstream room_invoices { server 127.0.0.1:$first; }" "$site"
+holds 'which it does not have' [ "$(value invoices SOCKET)" = yes ]
+holds 'nginx goes to its socket' grep -qx 'upstream room_invoices { server unix:/run/rooms/invoices/socket; }' "$site"
+holds 'and to that of office' grep -qx 'upstream room_office { server unix:/run/rooms/office/socket; }' "$site"
 holds 'nothing is left to fill in' [ -z "$(grep -l '@[A-Z]*@' machine/etc/rooms/*.* "$site")" ]
 refuses 'the same room again' 'room exists: /etc/rooms/invoices.conf' invoices
 refuses "a port of another room" "port in use: $PWD/machine/etc/rooms/invoices.conf has $first" --port "$first" staff
@@ -99,6 +101,16 @@ says 'a room with a host' 0 'new file /etc/nginx/sites-available/rooms'
 holds 'another port' [ "$(value hr PORT)" -gt "$first" ]
 holds 'the host' grep -qx ' *server_name rooms.example hr.example;' "$site"
 refuses 'the same host again' 'host in use' --host hr.example staff
+# Who asks for a port gets that.
+adds --port 8790 desk
+says 'a room with a port' 0 'file /etc/rooms/desk.conf'
+holds 'has no socket' [ "$(value desk PORT)$(value desk SOCKET)" = 8790 ]
+holds 'nginx goes to its port' grep -qx 'upstream room_desk { server 127.0.0.1:8790; }' "$site"
+cp machine/etc/rooms/desk.conf desk.conf
+installs
+same 'settings stay as they are' machine/etc/rooms/desk.conf desk.conf
+removes desk
+rm machine/etc/nginx/rooms-desk.htpasswd
 start=machine/var/lib/rooms-front/start.html
 links() { sed -n 's/^ *<li>\(.*\)<\/li>$/\1/p' "$start"; }
 links >got
@@ -131,7 +143,7 @@ sed -i 's#^BACKUPS=.*#BACKUPS=/var/backups/rooms#' machine/etc/rooms/office.conf
 # The settings are those of the scripts and of systemd: names, '=' and values alone.
 for room in office invoices hr; do
   grep -vE '^(#|$)' "machine/etc/rooms/$room.conf" | sed 's/=.*//' | tr '\n' ' ' >got
-  printf 'FILE PORT SOCKET TITLE HOST BEHIND PASSWORDS BACKUPS KEEP MEMORY LIMIT STANDBY MAIL REVIEW REVIEWER PEOPLE UNIT PROGRAM ' >wanted
+  printf 'FILE SOCKET PORT TITLE HOST BEHIND PASSWORDS BACKUPS KEEP MEMORY LIMIT STANDBY MAIL REVIEW REVIEWER PEOPLE UNIT PROGRAM ' >wanted
   same "the settings of $room" got wanted
 done
 
@@ -185,7 +197,7 @@ cp "$site" saved
 echo '# mine' >>"$site"
 refuses 'an edited site' 'edited: /etc/nginx/sites-available/rooms' staff
 refuses 'an edited site, and a room that goes' 'edited: /etc/nginx/sites-available/rooms' --remove hr
-sed -i 's/^TITLE=.*/TITLE=Staff/; s/^PORT=.*/PORT=8790/' machine/etc/rooms/hr.conf
+sed -i 's/^TITLE=.*/TITLE=Staff/; s/^PORT=.*/PORT=8790/; s/^SOCKET=.*/SOCKET=/' machine/etc/rooms/hr.conf
 cp "$site" edited
 verb setup
 says 'an edited site stays' 1 'kept /etc/nginx/sites-available/rooms, which was edited'

@@ -133,6 +133,35 @@ told 'what does not go in' 1 'larger: more than 1048576 bytes' 'link: a link' 'p
 holds 'is in the log too' [ "$(wc -l <log)" = 5 ]
 transfers import --as root "$room" tree /in
 told 'the same once more' 0 'made 0, replaced 0, there already 13, left out 0'
+# By the room's name, or its settings, where it listens: at its port, or at its socket.
+mkdir -p rooms.d run/rooms/office
+export ROOMS_SETTINGS=$PWD/rooms.d ROOMS_RUN=$PWD/run
+printf '%s\n' "FILE=$PWD/F" "PORT=$port" "BACKUPS=$PWD" "PROGRAM=$rooms" >rooms.d/office.conf
+transfers import --as root office tree /in
+told 'by its name' 0 'made 0, replaced 0, there already 13, left out 0'
+transfers export --as root --no-lists rooms.d/office.conf /in named
+told 'by its settings' 0 'left out 0'
+holds 'all comes out' diff -r tree named
+transfers import --user root office tree /in
+told 'with a password' 2 'bad arguments: nobody asks for a password at the room office itself'
+transfers import --as root invoices tree /in
+told 'a room that is not there' 2 "bad arguments: the room is an address such as https://rooms.example, or the name of one on this machine, not 'invoices'"
+transfers import --as root '' tree /in
+told 'no room' 2 'bad arguments: the room is an address'
+stop_server
+if start_at_socket F "$PWD/run/rooms/office/socket" 1000; then
+  transfers import --as root office tree /in
+  told 'by its name, at a socket that is there' 0 'there already 13, left out 0'
+  echo SOCKET=yes >>rooms.d/office.conf
+  transfers export --as root --no-lists office /in at-socket
+  told 'at its socket' 0 'left out 0'
+  holds 'the same comes out' diff -r tree at-socket
+  stop_server
+fi
+unset ROOMS_SETTINGS ROOMS_RUN
+rm -r rooms.d run named at-socket
+start_server F 1000 || return
+room=http://127.0.0.1:$port
 transfers export --as root "$room" /in out
 told 'export' 1 '/in/-x/x' 'documents 7, left out 1'
 diff -r -x '*.acl' tree out >found 2>&1

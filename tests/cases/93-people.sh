@@ -106,11 +106,7 @@ if has htpasswd; then
   people_are 'who can be chosen no more' "$few"
 
   # What belongs to who leaves goes to somebody else, also where the room has a socket and no port.
-  sock=$PWD/run/rooms/rooms/socket
-  mkdir -p "${sock%/*}"
-  chown "$STAND_USER" "${sock%/*}"
-  echo "$sock" >"$stand/socket"
-  unit start
+  starts_at_socket
   at_socket() { curl -s --unix-socket "$sock" -o /dev/null -w '%{http_code}' -H "Room-User: $1" -X "$2" "http://localhost/$3" --data-binary "$4"; }
   holds 'a document' [ "$(at_socket alice PUT doc/hers x)" = 201 ]
   holds 'of somebody' [ "$(at_socket alice PUT attr/hers '{"group":"staff","owner":"zoe"}')" = 204 ]
@@ -118,8 +114,7 @@ if has htpasswd; then
   ended_well 'somebody joins a room at a socket'
   room_verb user remove zoe --to alice
   says 'somebody leaves it' 0 'given 1, of others by now 0, left out 0'
-  unit stop
-  rm -r "$stand/socket" run/rooms
+  leaves_socket
   holds 'what was theirs goes' [ "$(as_user "$rooms" dump office/F | grep ' /hers$')" = 'document alice staff 1 /hers' ]
 else
   skip 'somebody joins' 'missing: htpasswd'

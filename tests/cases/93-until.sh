@@ -149,6 +149,10 @@ dumps
 unit stop
 room_verb until
 says 'a server that rests' 0 'no server runs: 1 lists have accesses that are over'
+starts_at_socket
+room_verb until --dry-run
+says 'a room at a socket' 0 "would take back: /given: read of eve, until $over, asked by alice"
+leaves_socket
 starts
 setting PORT ''
 room_verb until

@@ -137,6 +137,11 @@ reply=http://127.0.0.1/doc/letters/reply
 does 'a document' "curl -s -u alice:typed -X PUT -d hello -w '%{http_code}\n' $reply"
 prints 'is made' 201
 room() { (cd "$machine/var/lib/rooms" && stat -c '%n %i %s %y %U' ./* && cksum ./*); }
+restarts() { # NAME: all that is amiss is that there is no mail program
+  inside "$(block docs/upgrading.md 'rooms-admin check' | sed 's/admin check/& office/')"
+  holds "$1: status $status, $(head -c 300 "$work/out" "$work/err")" [ "$status" = 1 ]
+  holds "$1: $(head -c 300 "$work/out")" grep -qx 'rooms WARNING - office: no mail program, so root is told of nothing: apt-get install bsd-mailx\(, no backup yet\)\?' "$work/out"
+}
 replies() { # NAME
   does "$1" "curl -s -u alice:typed $reply"
   printf hello >wanted
@@ -177,10 +182,21 @@ does 'its names' "grep -E '^HOSTS=' /etc/rooms/site; curl -s -o /dev/null -w '%{
 prints 'with tries that are limited' 'HOSTS=rooms.example files.example' 401 401 429
 does 'a second run' 'rooms-admin setup'
 holds 'has nothing to change' grep -qx 'nothing to change' "$work/out"
-does 'the restart' "$(block docs/upgrading.md '127.0.0.1:8780/can')"
-prints 'and the check' '{} 200'
+restarts 'the restart'
 sleep 10
 replies 'the room after an upgrade'
+# It has kept its port, until it is given a socket, and gets it back.
+listens() { # NAME LINE ..
+  does "$1" 'grep -o ":224C 00000000:0000 0A" /proc/net/tcp; ls /run/rooms/office'
+  prints "$@"
+}
+listens 'at its port' ':224C 00000000:0000 0A'
+does 'a socket for it' "$(block docs/operating.md 'echo SOCKET=yes')"
+listens 'at its socket' socket
+replies 'the room at a socket'
+does 'a port again' "$(block docs/operating.md 'echo SOCKET= ')"
+listens 'at its port again' ':224C 00000000:0000 0A'
+replies 'the room at its port'
 does 'its next backup' "$(block docs/upgrading.md 'start rooms-nightly')"
 holds 'is beside the others' [ "$(cat "$work/out")" != "$backup" ]
 does 'the start page' 'curl -s http://127.0.0.1/rooms/'
@@ -310,8 +326,7 @@ holds 'it says what is left' grep -q "systemctl restart 'rooms@\*'" "$work/out"
 room >after
 same 'no room is touched' after before
 holds 'settings stay' grep -q '^# mine' "$machine/etc/rooms/office.conf"
-does 'the restart' "$(block docs/upgrading.md '127.0.0.1:8780/can')"
-prints 'and the check' '{} 200'
+restarts 'the restart'
 replies 'the room after an upgrade'
 second 'the other room too'
 does 'which version it is' 'dpkg-query -W -f "\${Version}\n" rooms'
@@ -442,5 +457,5 @@ printf 'AliasMatch ^/password/ /usr/share/rooms/signed-in\n%.0s' 1 2 >wanted
 same 'Apache is told where the file is now' found wanted
 holds 'the file is there' [ -s "$machine/usr/share/rooms/signed-in" ]
 does 'what was enabled' "[ ! -e rooms.units ] && readlink -e /etc/systemd/system/*.wants/rooms* | sed 's#.*/systemd/system/##'"
-prints 'is so again, by the units of the package' rooms-firewall.service rooms-passwords.service rooms@.service rooms-directory@.timer rooms-nightly@.timer \
+prints 'is so again, by the units of the package' rooms-passwords.service rooms@.service rooms-directory@.timer rooms-nightly@.timer \
   rooms-standby@.timer

@@ -90,7 +90,7 @@ fi
 # nginx and Apache with what was installed, but for ports and paths.
 open_room F
 set_list F / dacl list:a "A:fd:root:$ALL" A:fd:alice:rwxa D:fd:carol:r A:fd:AUTHENTICATED@:rx
-start_server F 100000 || return
+start_room F 100000 || return
 printf 'alice:{PLAIN}file\n' >rooms.htpasswd
 start_front 'behind a directory' || return
 good >settings

@@ -22,7 +22,7 @@ awaits_nobody() { [ "$(curl -s -o "$work/body" -w '%{http_code}' -u alice:a "$ba
 printf 'alice:{PLAIN}a\n' >rooms.htpasswd
 open_room F
 set_list F / dacl list:a "A:fd:alice:$ALL"
-start_server F 1000 || return
+start_room F 1000 || return
 start_front 'pages of errors' || return
 ask 'the room answers' 200 '[]' alice:a /folder/
 for target in / /folder/ /index.html /nothing; do

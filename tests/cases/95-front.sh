@@ -408,7 +408,7 @@ openssl x509 -req -in other.csr -days 9 -set_serial 7 -CA "$authority.pem" -CAke
 holds 'a certificate for another domain' [ -s other.pem ]
 holds 'counts for nothing' eval '! certified bank.test other.pem && grep -q "permitted subtree" verified'
 
-start_server F 1000 || return
+start_room F 1000 || return
 start_front 'behind nginx with TLS' tls || return
 
 # Port 80 redirects whatever is asked, and never asks for a password.
@@ -498,7 +498,7 @@ if [ "$(id -u)" != 0 ] || ! has nft || ! has ip || ! has setpriv || ! getent pas
   skip 'ports that are closed to other users' 'no root, or no nft, ip, setpriv, www-data, or network of its own'
   return
 fi
-page_block operating 'What runs' 1 >close
+page_block operating 'A port or a socket' 3 >close
 # It is loaded again, as after an upgrade, and where nothing of it is loaded.
 printf '%s\n' "nft -f '$top/contrib/rooms.nft'" "nft -f '$top/contrib/rooms.nft'" "$(<close) >listed" >close
 for n in 8777 8780 8998 8999; do open_room "P$n"; done

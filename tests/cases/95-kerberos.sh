@@ -89,7 +89,7 @@ fi
 
 open_room F
 set_list F / dacl list:a "A:fd:root:$ALL" A:fd:alice:rwxa D:fd:carol:r A:fd:AUTHENTICATED@:rx
-start_server F 100000 || return
+start_room F 100000 || return
 : >rooms.htpasswd
 start_front 'tickets of Kerberos' || return
 echo reader-word >secret

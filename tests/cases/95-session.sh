@@ -22,7 +22,7 @@ pasted() { # TEXT-IN-THE-BLOCK: a block of the page, in this folder
 
 open_room F
 set_list F / dacl list:a "A:fd:root:$ALL" A:fd:alice:rwxa D:fd:carol:r A:fd:AUTHENTICATED@:rx
-start_server F 100000 || return
+start_room F 100000 || return
 printf 'alice:{PLAIN}file\n' >rooms.htpasswd
 if ! openssl req -x509 -newkey ec -pkeyopt ec_paramgen_curve:P-256 -noenc -days 9 -subj /CN=rooms.example -addext subjectAltName=DNS:rooms.example -keyout rooms.key -out rooms.pem 2>/dev/null; then
   skip 'sessions by OpenID Connect' 'no certificate'
@@ -59,7 +59,7 @@ holds 'the unit starts that' grep -qx "ExecStart=/usr/sbin/apache2 -f $PWD/sessi
 sed -i -e "s#/run/rooms-session#$PWD/run#; s#^ErrorLog .*#ErrorLog $PWD/apache.log#" -e "s#https://id.example.net#http://127.0.0.1:$provider#" \
   -e "s#https://rooms.example#$base#; s#/usr/share/rooms/signed-in#$contrib/signed-in#" session.apache
 by_checker -i session.apache
-mkdir run
+mkdir -p run
 start_sessions() {
   local began=$SECONDS
   rm -f run/pid
@@ -108,7 +108,7 @@ done
 
 # A further room at a path keeps its own passwords: nobody is led to the provider from there.
 admin add invoices
-sets invoices PORT "$port"
+ln -s office run/rooms/invoices
 admin setup
 take_front
 printf 'Carol:{PLAIN}c\n' >rooms-invoices.htpasswd

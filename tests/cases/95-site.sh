@@ -10,11 +10,11 @@ for room in F G H; do
   open_room $room
   set_list $room / dacl list:a "A:fd:alice:$ALL"
 done
-start_server F 100000 || return
-serves() { # FILE PORT
+start_room F 100000 || return
+serves() { # FILE WORD ..
   local began=$SECONDS
   : >"$1.out"
-  "$rooms" serve "$1" --port "$2" --count 100000 </dev/null >"$1.out" 2>&1 &
+  "$rooms" serve "$@" --count 100000 </dev/null >"$1.out" 2>&1 &
   others+=($!)
   until [ -s "$1.out" ] || [ $((SECONDS - began)) -ge "$patience" ]; do sleep 0.05; done
 }
@@ -25,12 +25,13 @@ done
 mkdir -p machine/etc/nginx
 admin setup
 # A port at which something listens is refused, so the servers come after that.
-admin add --port $((port + 5)) invoices
+admin add invoices
 holds 'a room at a path' [ "$status" = 0 ]
 admin add --port $((port + 6)) --host hr.example hr
 holds 'a room at a host' [ "$status" = 0 ]
-serves G $((port + 5))
-serves H $((port + 6))
+mkdir run/rooms/invoices
+serves G --socket "$PWD/run/rooms/invoices/socket"
+serves H --port $((port + 6))
 start_front "nginx's site" || return
 
 # The page, and the start page.
@@ -91,7 +92,7 @@ holds 'it names nobody' [ "$(grep -ci ^Room-User "$work/head")" = 0 ]
 
 # Full rooms.
 mkdir -p run/rooms-full
-: >"run/rooms-full/127.0.0.1:$port"
+: >run/rooms-full/office.full
 ask 'a full room' 507 - alice:pw /doc/letters/z -X PUT --data-binary x
 ask 'a folder in it' 507 - alice:pw /folder/z -X POST
 ask 'what reads' 200 - alice:pw /folder/letters
@@ -102,6 +103,27 @@ ask 'another room' 201 '' alice:pw-invoices /invoices/doc/letters/z -X PUT --dat
 ask 'what nginx has inside' 404 - alice:pw /rooms/full
 ask 'and for passwords' 404 - alice:pw /rooms/password
 rm run/rooms-full/*
+: >"run/rooms-full/127.0.0.1:$((port + 6))"
+ask 'a full room with a port' 507 - alice:pw-hr /doc/z -X PUT --data-binary x -H 'Host: hr.example'
+rm run/rooms-full/*
+
+# Whoever listens at a port in the place of its server learns what is asked, and by whom, but no password.
+kill "${others[1]}"
+wait "${others[1]}" 2>/dev/null
+python3 -c 'import socket, sys
+with socket.create_server(("127.0.0.1", int(sys.argv[1]))) as at:
+    open("waits", "w").close()
+    one, _ = at.accept()
+    with open("got", "wb") as got, one:
+        got.write(one.recv(65536))
+        one.sendall(b"HTTP/1.1 200 OK\r\nContent-Length: 2\r\n\r\n{}")' $((port + 6)) &
+others+=($!)
+began=$SECONDS
+until [ -e waits ] || [ $((SECONDS - began)) -ge "$patience" ]; do sleep 0.05; done
+ask 'another server' 200 '{}' alice:pw-hr '/can/secret?r' -H 'Host: hr.example' -H 'Cookie: session=secret'
+tr -d '\r' <got | grep -E '^(GET|Room-User|Authorization|Cookie)' >asked
+printf '%s\n' 'GET /can/secret?r HTTP/1.1' 'Room-User: alice' >wanted
+same 'gets a name and no password' asked wanted
 
 # 300 guesses, each in the name of another address: most aren't checked.
 for n in {1..300}; do

@@ -12,7 +12,7 @@ printf 'alice:{PLAIN}a\nbob:{PLAIN}b\n' >rooms.htpasswd
 # Another site. The room is the same before and after.
 open_room F
 set_list F / dacl list:a "A:fd:alice:$ALL"
-start_server F 1000 || return
+start_room F 1000 || return
 start_front 'the page' || return
 api() { curl -s -o "$work/body" -w '%{http_code}' -u alice:a "$@"; }
 holds 'a folder' [ "$(api -X POST "http://127.0.0.1:$front/folder/letters")" = 201 ]
@@ -21,7 +21,7 @@ stop_server
 stop_proxy
 run dump F
 cp "$work/out" before
-start_server F 1000 || return
+start_room F 1000 || return
 start_front 'the page' || return
 play 'another site' foreign.py "$PWD" "$front" "$PWD/access.log"
 stop_server
@@ -35,7 +35,7 @@ open_room G
 printf 'group,user\nstaff,bob\n' >groups.csv
 gives 'groups' 0 'groups 1, members 1\n' '' groups G groups.csv
 set_list G / dacl list:a "A:fd:alice:$ALL" A::AUTHENTICATED@:xt
-start_server G 10000 || return
+start_room G 10000 || return
 start_front 'the page' || return
 # The play kills the server at its end, which is expected.
 disown "$server"
@@ -59,9 +59,9 @@ admin add --title 'Invoices & <orders>' invoices
 holds 'a room at a path' [ "$status" = 0 ]
 open_room H
 set_list H / dacl list:a "A:fd:carol:$ALL"
-start_server H 10000 || return
+start_room H 10000 || return
+ln -s office run/rooms/invoices
 printf 'carol:{PLAIN}c\n' >rooms-invoices.htpasswd
-sets invoices PORT "$port"
 start_front 'a room at a path' || return
 play 'a room at a path' several.py "$PWD" "$front"
 stop_server

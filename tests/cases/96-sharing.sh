@@ -17,7 +17,7 @@ start_sharing() { # ROOM
   open_room "$1"
   gives "groups of $1" 0 'groups 2, members 6\n' '' groups "$1" groups.csv
   set_list "$1" / dacl list:a "A:fd:alice:$ALL" A::AUTHENTICATED@:xt
-  start_server "$1" 100000 || return
+  start_room "$1" 100000 || return
   # What rooms-admin writes there at night, the play does.
   rm -rf names root
   mkdir -p root/var/lib/rooms-web/office/mine

@@ -95,6 +95,25 @@ if has curl; then
   says 'who may not add there' 1 "-review.csv isn't put into the room: {\"at\":\"/for auditors\""
   unit_runs 'who may not add there: the server runs'
   holds 'the backup is there' [ -s "backups/$(backups | tail -n 1)/review.csv" ]
+  # The same where the server has a socket and no port.
+  unit stop
+  sock=$PWD/run/rooms/rooms/socket
+  mkdir -p "${sock%/*}"
+  chown "$STAND_USER" "${sock%/*}"
+  echo "$sock" >"$stand/socket"
+  unit start
+  reviewing '/for auditors' carl
+  sed 's/^PORT=.*/SOCKET=yes/' conf >kept.conf
+  mv kept.conf conf
+  night
+  holds "a night with a socket: $(head -c 300 "$work/err")" [ "$status" = 0 -a ! -s "$stand/messages" ]
+  curl -s -m "$patience" --unix-socket "$sock" -H 'Room-User: root' "http://localhost/doc/for%20auditors/$(date +%F)-review.csv" >got
+  same 'its review is in the room' got "backups/$(backups | tail -n 1)/review.csv"
+  unit stop
+  rm -r "$stand/socket" run/rooms
+  sed 's/^SOCKET=.*/PORT=/' conf >kept.conf
+  mv kept.conf conf
+  unit start
   reviewing /nowhere root
   night
   says 'a folder that is not there' 1 '"why":"no-such"} 404'

@@ -253,7 +253,7 @@ if [ -n "$nginx" ] && [ "$(id -u)" = 0 ] && has openssl; then
   for name in invoices:directory office:session; do
     sed -i "s/^PASSWORDS=.*/PASSWORDS=${name#*:}/" "machine/etc/rooms/${name%:*}.conf"
   done
-  sed -i 's/^SOCKET=.*/SOCKET=yes/' machine/etc/rooms/invoices.conf
+  sed -i 's/^SOCKET=.*/SOCKET=/' machine/etc/rooms/office.conf
   sets_up
   says 'rooms of each kind' 0 'new file /etc/nginx/sites-available/rooms'
   holds 'a room with a socket' grep -qx 'upstream room_invoices { server unix:/run/rooms/invoices/socket; }' machine/etc/nginx/sites-available/rooms
@@ -281,6 +281,36 @@ if [ "$(id -u)" != 0 ] || has setpriv; then
     skip 'an install without root' 'no other user can read the files here'
   fi
 fi
+
+# The firewall's table is loaded unless it is certain that nothing listens at a port.
+condition=$(sed -n '/^ExecCondition=/{:a; /\\$/{N; s/\\\n *//; ba}; s/^ExecCondition=//p}' "$contrib/rooms-firewall.service")
+condition=${condition//\$\$/\$}
+mkdir closed
+closes() { # NAME STATUS, for what is in ./closed, which goes
+  (eval "${condition//\/etc\/rooms/$PWD/closed}") >"$work/out" 2>&1
+  holds "the ports: $1" [ $? = "$2" ]
+  rm -f closed/*
+}
+holds 'the unit has a condition' grep -q '^/bin/sh -c ' <<<"$condition"
+closes 'no settings' 1
+printf '%s\n' FILE=F SOCKET=yes PORT=8780 | tee closed/office.conf >closed/hr.conf
+closes 'rooms with sockets' 1
+printf '%s\n' FILE=F SOCKET= PORT=8780 SOCKET=yes >closed/office.conf
+closes 'a room that has changed to a socket' 1
+echo ON=b.example >closed/archive.on
+closes 'a room on another machine' 1
+printf '%s\n' FILE=F SOCKET=yes PORT=8780 >closed/hr.conf
+echo FILE=F >closed/office.conf
+closes 'one of two rooms, by settings of an earlier version' 0
+printf '%s\n' FILE=F SOCKET=yes PORT=8780 SOCKET= >closed/office.conf
+closes 'a room that has changed to a port' 0
+for line in '#SOCKET=yes' ' SOCKET=yes' SOCKET=no 'SOCKET=yes # of course' 'SOCKET="yes"' XSOCKET=yes; do
+  echo "$line" >closed/office.conf
+  closes "the line $line" 0
+done
+printf '%s\n' FILE=F SOCKET=yes PORT=8780 >closed/hr.conf
+: >closed/directory.apache
+closes 'an Apache that checks passwords' 0
 
 # The units, as systemd reads them; with the programs that they name in their places.
 if has systemd-analyze; then
