@@ -1,23 +1,17 @@
 -- Along a path the full lists are those that are stored.
-use Rattle.std.proofs.Common.{◌≡◌, ◌==◌, ℕ, Bool, true, false, cond, List, [], ◌∷◌, ◌++◌, map}
-use Rattle.std.proofs.Common.{length, Option, Some, None, refl, sym, ap, ◌∙◌, arith}
+use Rattle.std.proofs.Common.{◌≡◌, ℕ, Bool, true, false, cond, List, [], ◌∷◌, ◌++◌, map, length}
+use Rattle.std.proofs.{Common.{Option, Some, None, refl, ap, arith}, lemmas.Bool.Decides.nat_tests}
 use Rattle.std.specs.Option.{option_map_or}
-use Rattle.room_entry.specs.Ace.{Ace}
-use Rattle.room_entry.specs.declared.object.Which.{Which}
-use Rattle.room_entry.proofs.Same.{entries_equal}
-use Rattle.room_rows.specs.declared.node.Node.{Node}
-use Rattle.room_rows.specs.Held.{held_of, full_of, is_linked}
-use Rattle.room_rows.specs.Content.{Content, node_at, parent_of, child_of, root_of}
-use Rattle.room_rows.specs.Walk.{behind, walk_from}
+use Rattle.room_entry.specs.{Ace.Ace, declared.object.Which.Which}
+use Rattle.room_entry.proofs.{Same.entries_equal, Facts.Booleans.implied}
+use Rattle.room_rows.specs.{declared.node.Node.Node, Held.{held_of, full_of, is_linked}}
+use Rattle.room_rows.specs.{Content.{Content, node_at, parent_of, child_of, root_of}, Walk.behind}
+use Rattle.room_rows.specs.{Walk.walk_from, Full.{fulls, fulls_below, full_below}, Law.AllAgree}
+use Rattle.room_rows.specs.{Law.agrees_with, Pass.pass}
 use Rattle.room_rows.proofs.Frames.{Rises, rows-rise, root_of-is_there, child_of-is_there}
 use Rattle.room_rows.proofs.Frames.{child_of-parent}
-use Rattle.room_rows.specs.Full.{fulls, fulls_below, full_below}
-use Rattle.room_rows.specs.Law.{AllAgree, agrees, agrees_with}
 use Rattle.room_inherit.specs.Laws.{StoredAlongPath}
-use Rattle.room_rows.specs.Pass.{pass}
 use Rattle.room_inherit.proofs.Stored.{all_found}
-use Rattle.room_entry.proofs.Facts.Booleans.{implied}
-use Rattle.std.proofs.lemmas.Bool.Decides.{nat_tests}
 
 module _ (content : Content) (rises : Rises content) (which : Which)
     (all : AllAgree content which) where
@@ -28,21 +22,15 @@ module _ (content : Content) (rises : Rises content) (which : Which)
   below : (parent child : Node) → node_at content child.id ≡ Some child
       → parent_of content child ≡ Some parent
       → full_below which parent (stored parent) child ≡ stored child
-  below parent child there above =
-      let agree : agrees_with which child parent ≡ true =
-      sym (ap (λ o. option_map_or (agrees_with which child) o true) above)
-      ∙ all_found (agrees content which)
-      (λ n. n.id == child.id) content.nodes child all there in
-      on (is_linked (held_of which child) (Some (held_of which parent))) refl agree
+  below parent child there above = grind (arith, nat_tests, all_found, on)
     where
       on : (t : Bool) → is_linked (held_of which child) (Some (held_of which parent)) ≡ t
           → agrees_with which child parent ≡ true
           → (held_of which child).own
           ++ cond t (pass child.kind (stored parent)) (held_of which child).inh ≡ stored child
       on true linked agree =
-          ap (λ es. (held_of which child).own ++ es)
-          (sym (entries_equal (held_of which child).inh (pass child.kind (stored parent))
-          (implied (is_linked (held_of which child) (Some (held_of which parent))) _ agree linked)))
+          cc (entries_equal (held_of which child).inh (pass child.kind (stored parent))
+          (implied (is_linked (held_of which child) (Some (held_of which parent))) _ agree linked))
       on false linked agree = refl
 
   child_above : (parent child : Node) (name : List ℕ) → node_at content parent.id ≡ Some parent
@@ -72,8 +60,7 @@ module _ (content : Content) (rises : Rises content) (which : Which)
           (child_above node child name there found) in (
             child ∷ on.0,
             ap (λ (l : List Node). node ∷ l) on.1,
-            (λ i. here i ∷ fulls_below which child (here i) on.0)
-                ∙ ap (λ (l : List (List Ace)). stored child ∷ l) on.2,
+            grind (arith, nat_tests),
           )
 
   from_root : (names : List (List ℕ)) (o : Option Node) → root_of content ≡ o
@@ -84,8 +71,7 @@ module _ (content : Content) (rises : Rises content) (which : Which)
   from_root names None found = refl
   from_root names (Some root) found =
       let on = along names root (root_of-is_there content rises root found) in
-      ap (fulls which) on.1 ∙ ap (λ (l : List (List Ace)). stored root ∷ l) on.2
-      ∙ sym (ap (map stored) on.1)
+      cc (on.1, on.2, on.1)
 
 pub stored_along_path : StoredAlongPath
 stored_along_path rows which names are all =

@@ -1,9 +1,6 @@
 -- Faults of a keeper that can't come.
-use Rattle.std.proofs.Common.{ℕ, Err, arith}
-use Rattle.room_rows.specs.declared.keep.KeepFault.{KeepFault}
-use Rattle.room_rows.specs.Rows.{Rows}
-use Rattle.room_rows.specs.Keep.{IsRead}
-use Rattle.std.proofs.lemmas.Bool.Decides.{nat_tests}
+use Rattle.std.proofs.{Common.{ℕ, Err, arith}, lemmas.Bool.Decides.nat_tests}
+use Rattle.room_rows.specs.{declared.keep.KeepFault.KeepFault, Rows.Rows, Keep.IsRead}
 
 module _ {S : Type 0} (rows : S → Rows) (failures writes : S → ℕ)
     (Follows IsTrusted : S → S → Type 0) where

@@ -1,46 +1,28 @@
 -- One list carried down after the other.
-use Rattle.std.proofs.Common.{◌≡◌, ℕ, ◌+◌, Bool, true, false, cond, ◌||◌, List, [], ◌∷◌, map}
-use Rattle.std.proofs.Common.{Option, Some, None, Ok, Err, refl, sym, ap, subst, ◌∙◌, inl, inr}
-use Rattle.std.proofs.Common.{arith}
-use Rattle.std.specs.Prelude.{is_none, option_and_then}
-use Rattle.std.specs.List.{list_all, find}
-use Rattle.std.specs.Option.{option_map, option_map_or}
-use Rattle.room_entry.specs.Ace.{Ace}
-use Rattle.room_entry.specs.Same.{same_entries}
-use Rattle.room_entry.specs.declared.object.Which.{Which}
-use Rattle.room_entry.specs.declared.object.Which.TheVariants.{Dacl, Sacl}
-use Rattle.room_rows.specs.declared.keep.Keep.{Ghosts}
-use Rattle.room_rows.specs.declared.node.Node.{Node}
-use Rattle.room_rows.specs.Content.{Content, node_at, parent_of, is_root, is_linked_in}
-use Rattle.room_rows.specs.Counts.{capped_below}
-use Rattle.room_rows.specs.Held.{held_of, is_linked}
-use Rattle.room_rows.specs.Keep.{HasNoRoot, capped, with_content, KeepLaws}
-use Rattle.room_rows.specs.Rows.{Rows}
-use Rattle.room_rows.proofs.SamePlace.{IsSamePlace}
-use Rattle.room_rows.proofs.Steps.{later_cause}
-use Rattle.room_rows.specs.Law.{AllAgree, agrees, agrees_with}
-use Rattle.room_rows.specs.Sound.{reaches}
-use Rattle.room_inherit.specs.Spread.{ChangedAgree, is_changed, stores_as_before, with_lists}
-use Rattle.room_inherit.specs.SpreadAll.{IsSpreadAll, IsSwept, IsTree, SpreadsAll, Sweeps}
-use Rattle.room_inherit.specs.declared.outcome.Spread.{Spread}
-use Rattle.room_inherit.specs.declared.outcome.SpreadFault.{SpreadFault}
-use Rattle.room_inherit.proofs.Kinship.{same_parent}
-use Rattle.room_entry.proofs.Facts.Members.{count-is, count_length, count_map}
-use Rattle.room_inherit.proofs.Renewing.{map_map}
-use Rattle.room_inherit.proofs.Frontier.{set, find_set}
-use Rattle.room_inherit.proofs.Folders.{folders_stay}
-use Rattle.room_inherit.proofs.Calls.{capped_add}
-use Rattle.room_inherit.proofs.NoFault.{checked_is_tree}
-use Rattle.room_inherit.proofs.Unmoved.{all_map, reach_all}
+use Rattle.std.proofs.Common.{◌≡◌, ℕ, ◌+◌, Bool, true, cond, ◌||◌, List, [], ◌∷◌, map, Option, Some}
+use Rattle.std.proofs.Common.{None, Ok, Err, refl, sym, ap, ◌∙◌, arith}
 use Rattle.std.proofs.lemmas.Bool.Decides.{nat_tests}
+use Rattle.std.specs.{Prelude.{is_none, option_and_then}, List.{list_all, find}, Option.option_map}
+use Rattle.std.specs.Option.{option_map_or}
+use Rattle.room_entry.specs.{Ace.Ace, declared.object.Which.{Which, TheVariants.{Dacl, Sacl}}}
+use Rattle.room_rows.specs.{declared.{keep.Keep.Ghosts, node.Node.Node}, Content.{Content, node_at}}
+use Rattle.room_rows.specs.{Content.{parent_of, is_linked_in}, Held.{held_of, is_linked}}
+use Rattle.room_rows.specs.{Keep.{HasNoRoot, capped, with_content, KeepLaws}, Rows.Rows}
+use Rattle.room_rows.specs.{Law.{AllAgree, agrees, agrees_with}, Sound.reaches}
+use Rattle.room_rows.proofs.{SamePlace.IsSamePlace, Steps.later_cause}
+use Rattle.room_inherit.specs.Spread.{ChangedAgree, stores_as_before, with_lists}
+use Rattle.room_inherit.specs.SpreadAll.{IsSpreadAll, IsSwept, IsTree, SpreadsAll, Sweeps}
+use Rattle.room_inherit.specs.declared.outcome.{Spread.Spread, SpreadFault.SpreadFault}
+use Rattle.room_inherit.proofs.{Kinship.same_parent, Renewing.map_map, Frontier.{set, find_set}}
+use Rattle.room_inherit.proofs.{Folders.folders_stay, Calls.capped_add, NoFault.checked_is_tree}
+use Rattle.room_inherit.proofs.Unmoved.{all_map, reach_all}
+use Rattle.room_entry.proofs.Facts.Members.{count-is, count_length, count_map}
 
 -- the parent of an object is found with its other list
 parent_set : (which : Which) (f : Node → List Ace) (old : Content) (n : Node)
     → parent_of (with_lists which f old) (set which f n)
     ≡ option_map (set which f) (parent_of old n)
-parent_set which f old n =
-    ap (option_and_then (node_at (with_lists which f old))) (same_parent which (f n) n)
-    ∙ on n.parent
+parent_set which f old n = search (on, same_parent)
   where
     on : (o : Option ℕ) → option_and_then (node_at (with_lists which f old)) o
         ≡ option_map (set which f) (option_and_then (node_at old) o)
@@ -54,15 +36,12 @@ module _ (f : Node → List Ace) (old : Content) where
   mid = with_lists Dacl f old
 
   linked_mid : (n : Node) → is_linked_in mid Sacl (set Dacl f n) ≡ is_linked_in old Sacl n
-  linked_mid n =
-      ap (λ o. is_linked (held_of Sacl n) (option_map (held_of Sacl) o)) (parent_set Dacl f old n)
-      ∙ on (parent_of old n)
+  linked_mid n = search (on, parent_set)
     where
       on : (o : Option Node)
           → is_linked (held_of Sacl n) (option_map (held_of Sacl) (option_map (set Dacl f) o))
           ≡ is_linked (held_of Sacl n) (option_map (held_of Sacl) o)
-      on None = refl
-      on (Some q) = refl
+      on o = grind (arith, nat_tests)
 
   there_mid : (n : Node) → node_at old n.id ≡ Some n
       → node_at mid (set Dacl f n).id ≡ Some (set Dacl f n)
@@ -73,9 +52,7 @@ module _ (f : Node → List Ace) (old : Content) where
 
   tree_mid : IsTree old → IsTree mid
   tree_mid tree = record {
-    one_root =
-        count_length is_root (map (set Dacl f) old.nodes) ∙ count_map is_root (set Dacl f) old.nodes
-        ∙ sym (count_length is_root old.nodes) ∙ tree.one_root;
+    one_root = grind (arith, nat_tests, count_length, count_map, set);
     folders = folders_stay Dacl f old tree.folders;
     connected =
         all_map (reaches mid) (reaches old) (set Dacl f)
@@ -93,20 +70,16 @@ module _ (f : Node → List Ace) (old : Content) where
           → (find (λ node. is_none node.parent) (map (set Dacl f) xs) ≡ None
           → find (λ node. is_none node.parent) xs ≡ None)
           → cond t (Some x) (find (λ node. is_none node.parent) xs) ≡ None
-      on true is rest = absurd (let wrong : ⊥ = cc in wrong)
-      on false is rest = rest is
+      on t is rest = grind (arith, nat_tests)
 
   agrees_still : (g : Node → List Ace) (content : Content) (n : Node)
       → agrees (with_lists Sacl g content) Dacl (set Sacl g n) ≡ agrees content Dacl n
-  agrees_still g content n =
-      ap (λ o. option_map_or (agrees_with Dacl (set Sacl g n)) o true) (parent_set Sacl g content n)
-      ∙ on (parent_of content n)
+  agrees_still g content n = search (on, parent_set, set)
     where
       on : (o : Option Node)
           → option_map_or (agrees_with Dacl (set Sacl g n)) (option_map (set Sacl g) o) true
           ≡ option_map_or (agrees_with Dacl n) o true
-      on None = refl
-      on (Some q) = refl
+      on o = grind (arith, nat_tests)
 
   -- the law of dacls doesn't depend on sacls
   law_stays : (g : Node → List Ace) (content : Content) → AllAgree content Dacl
@@ -127,18 +100,7 @@ module _ (f : Node → List Ace) (old : Content) where
   sacls_agree new agree = (λ i. list_all (λ n. stored n i || agrees new Sacl n) new.nodes) ∙ agree
     where
       stored : (n : Node) → stores_as_before old Sacl n ≡ stores_as_before mid Sacl n
-      stored n =
-          sym (ap
-          (λ o. option_map_or (λ (m : Node). same_entries (held_of Sacl n).inh (held_of Sacl m).inh)
-          o false) (find_set Dacl f n.id old.nodes) ∙ on (node_at old n.id))
-        where
-          on : (o : Option Node)
-              → option_map_or (λ (m : Node). same_entries (held_of Sacl n).inh (held_of Sacl m).inh)
-              (option_map (set Dacl f) o) false
-              ≡ option_map_or (λ (m : Node). same_entries (held_of Sacl n).inh (held_of Sacl m).inh)
-              o false
-          on None = refl
-          on (Some q) = refl
+      stored n = grind (arith, nat_tests, find_set, set)
 
 -- ---- rows
 
@@ -147,35 +109,23 @@ pub both_swept : (old mid new : Rows) (d s : ℕ) → IsSwept Dacl old mid d →
 both_swept old middle new d s first last =
     let f = first.lists in
     let m = mid f old.read in
-    let next : IsSwept Sacl (with_content old (mid f old.read)) new s = subst
-    (λ (r : Rows). IsSwept Sacl r new s) first.becomes last in
+    let next : IsSwept Sacl (with_content old (mid f old.read)) new s = grind (arith, nat_tests) in
     let g = next.lists in
     let sacls : Node → List Ace = λ n. g (set Dacl f n) in
-    let both : IsTree old.read → (which : Which) → AllAgree new.read which = λ tree which.
-    on which tree (λ t. subst (λ (r : Rows). AllAgree r.read Dacl) (sym next.becomes)
-    (law_stays f old.read g (mid f old.read)
-    (subst (λ (r : Rows). AllAgree r.read Dacl) first.becomes (first.law t))))
-    (λ t. next.law (tree_mid f old.read t)) in
+    let both : IsTree old.read → (which : Which) → AllAgree new.read which =
+    grind (arith, nat_tests, law_stays, on, tree_mid) in
     record {
       dacls = f;
       sacls = sacls;
-      becomes =
-          next.becomes ∙ ap (λ (ns : List Node). with_content old (record old.read { nodes = ns }))
-          (map_map (set Sacl g) (set Dacl f) old.read.nodes);
+      becomes = grind (arith, nat_tests, map_map, set);
       linked_dacls = first.linked;
       linked_sacls =
           λ n there changed. sym (linked_mid f old.read n)
           ∙ next.linked (set Dacl f n) (there_mid f old.read n there) changed;
-      counted = capped_below (d + s) (let a = first.few in let b = last.few in omega (arith, a, b))
-          ∙ (λ i. first.counted i +
-          (next.counted ∙ count-is (is_changed Sacl g) (map (set Dacl f) old.read.nodes)
-          ∙ count_map (is_changed Sacl g) (set Dacl f) old.read.nodes
-          ∙ sym (count-is (is_changed Sacl sacls) old.read.nodes)) i);
+      counted = grind (arith, nat_tests, count-is, count_map, set);
       agree =
           λ which. agreeing which
-          (subst (λ (r : Rows). ChangedAgree Dacl old.read r.read) (sym next.becomes)
-          (dacls_agree f old.read g (mid f old.read)
-          (subst (λ (r : Rows). ChangedAgree Dacl old.read r.read) first.becomes first.agree)))
+          (grind (arith, nat_tests, dacls_agree))
           (sacls_agree f old.read new.read next.agree);
       law = λ none. both (checked_is_tree old none);
       in_tree = both;
@@ -183,18 +133,15 @@ both_swept old middle new d s first last =
   where
     agreeing : (which : Which) → ChangedAgree Dacl old.read new.read
         → ChangedAgree Sacl old.read new.read → ChangedAgree which old.read new.read
-    agreeing Dacl dacl sacl = dacl
-    agreeing Sacl dacl sacl = sacl
+    agreeing which dacl sacl = grind (arith, nat_tests)
 
     on : (which : Which) → IsTree old.read → (IsTree old.read → AllAgree new.read Dacl)
         → (IsTree old.read → AllAgree new.read Sacl) → AllAgree new.read which
-    on Dacl tree dacl sacl = dacl tree
-    on Sacl tree dacl sacl = sacl tree
+    on which tree dacl sacl = grind (arith, nat_tests)
 
 no_root_before : (old mid : Rows) (d row : ℕ) → IsSwept Dacl old mid d → HasNoRoot mid row
     → HasNoRoot old row
-no_root_before old middle d row first (inl damaged) = grind (arith, nat_tests)
-no_root_before old middle d row first (inr none) = grind (arith, nat_tests, root_mid)
+no_root_before old middle d row first given = grind (arith, nat_tests, root_mid)
 
 -- ---- calls
 

@@ -1,22 +1,17 @@
 -- Turns up to a bound, and then up to one that is enough.
 use Rattle.std.proofs.Common.{◌≡◌, ℕ, zero, suc, ◌+◌, ◌<◌, ◌^◌, List, [], ◌∷◌, ◌++◌, length, Result}
 use Rattle.std.proofs.Common.{Ok, Err, ap, subst, ◌∙◌, inl, inr, arith}
-use Rattle.room_rows.specs.declared.keep.Keep.{Ghosts}
-use Rattle.room_rows.specs.declared.keep.KeepFault.{KeepFault}
-use Rattle.room_rows.specs.declared.keep.KeepFault.TheVariants.{Damaged}
-use Rattle.room_rows.specs.declared.node.Node.{Node}
-use Rattle.room_rows.specs.Keep.{IsNever, IsRead, AreNumbers, capped, KeepLaws}
-use Rattle.room_rows.specs.Rows.{numbers_of}
-use Rattle.room_rows.proofs.Steps.{later_cause}
-use Rattle.room_inherit.specs.Turn.{Visits}
-use Rattle.room_inherit.specs.Turns.{AreTurns, Took, Broke}
-use Rattle.room_inherit.specs.declared.descent.Descent.{Descent}
-use Rattle.room_inherit.specs.declared.outcome.SpreadFault.{SpreadFault}
-use Rattle.room_inherit.specs.declared.outcome.SpreadFault.TheVariants.{Keeper}
-use Rattle.room_inherit.proofs.Calls.{capped_add}
-use Rattle.room_entry.proofs.Facts.Members.{no_length}
-use Rattle.room_inherit.proofs.Turns.{Progress, Carried, Turned, turned_on, turn_fails, first_turn}
 use Rattle.std.proofs.lemmas.Bool.Decides.{nat_tests}
+use Rattle.room_rows.specs.declared.keep.{Keep.Ghosts, KeepFault.{KeepFault, TheVariants.Damaged}}
+use Rattle.room_rows.specs.{declared.node.Node.Node, Keep.{IsNever, IsRead, AreNumbers, capped}}
+use Rattle.room_rows.specs.{Keep.KeepLaws, Rows.numbers_of}
+use Rattle.room_rows.proofs.Steps.{later_cause}
+use Rattle.room_inherit.specs.{Turn.Visits, Turns.{AreTurns, Took, Broke}}
+use Rattle.room_inherit.specs.declared.{descent.Descent.Descent, outcome.SpreadFault.SpreadFault}
+use Rattle.room_inherit.specs.declared.outcome.SpreadFault.TheVariants.{Keeper}
+use Rattle.room_inherit.proofs.{Calls.capped_add, Turns.{Progress, Carried, Turned, turned_on}}
+use Rattle.room_inherit.proofs.Turns.{turn_fails, first_turn}
+use Rattle.room_entry.proofs.Facts.Members.{no_length}
 
 -- a count added to one that stays at its end
 capped_last : (m n : ℕ) → capped (m + capped n) ≡ capped (m + n)
@@ -40,11 +35,7 @@ module _ {S : Type 0} (k : Ghosts S)
   turns_on : (n count : ℕ) (waiting next : List Node) (changed more : ℕ) (a b c : S)
       → Done count waiting changed a b → AreTurns k d n waiting next more b c
       → Done (count + n) next (changed + more) a c
-  turns_on zero count waiting next changed more a b c sofar are =
-      subst (λ (s : S). Done (count + 0) next (changed + more) a s) are.2
-      (subst (λ (l : List Node). Done (count + 0) l (changed + more) a b) are.0
-      (as_many count (count + 0) changed (changed + more) waiting a b (omega arith)
-      (let none = are.1 in omega (arith, none)) sofar))
+  turns_on zero count waiting next changed more a b c sofar are = grind (arith, nat_tests, as_many)
   turns_on (suc n) count waiting next changed more a b c sofar
       (rest, above, first, number, mid, before, visit, total) =
       as_many (count + n + 1) (count + suc n) (changed + first + number) (changed + more) next a c
@@ -72,8 +63,7 @@ module _ {S : Type 0} (k : Ghosts S)
   fails count waiting changed next e a b c sofar broke =
       turn_fails k laws d start progress (count + broke.turns) broke.rest broke.above
       (changed + broke.total) next e a broke.mid c
-      (turns_on broke.turns count waiting
-      (broke.rest ++ broke.above ∷ []) changed broke.total a b broke.mid sofar broke.are)
+      (search (turns_on))
       broke.fails
 
   -- ---- the turns of a call
@@ -131,9 +121,7 @@ module _ {S : Type 0} (k : Ghosts S)
         module _ (later : ℕ) (last : List Node) (f : S)
             (took_on : Took k d most next last later e f) where
           taken : Done (count + took_on.turns) last (changed + took_on.total) a f
-          taken =
-              turns_on took_on.turns count next last changed took_on.total a e f numbered
-              took_on.are
+          taken = search (numbered, turns_on)
 
           known : k.IsTrusted a f → progress.Given (k.rows a)
               → most ≡ length (numbers_of (k.rows a))
@@ -142,15 +130,10 @@ module _ {S : Type 0} (k : Ghosts S)
           pub later_done : most < 2 ^ 63 → (told : ℕ)
               → told ≡ capped (capped (begun + soon) + later) → last ≡ []
               → Ends a f (Ok (record { changed = told }))
-          later_done fits told sum end =
-              over (count + took_on.turns) told (changed + took_on.total) a f (sum ∙ total) small
-              (subst (λ (l : List Node). Done (count + took_on.turns) l
-              (changed + took_on.total) a f) end taken)
+          later_done fits told sum end = grind (arith, nat_tests, over, small, taken, total)
             where
               total : capped (capped (begun + soon) + later) ≡ capped (changed + took_on.total)
-              total =
-                  (λ i. capped (told_soon i + took_on.counted i))
-                  ∙ capped_add changed (capped took_on.total) ∙ capped_last changed took_on.total
+              total = grind (arith, nat_tests, capped_add, capped_last, told_soon)
 
               small : k.IsTrusted a f → progress.Given (k.rows a) → changed + took_on.total < 2 ^ 63
               small t given =

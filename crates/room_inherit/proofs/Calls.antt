@@ -1,35 +1,24 @@
 -- Calls of a keeper that write lists, one after the other.
 use Rattle.std.proofs.Common.{◌≡◌, ℕ, ◌+◌, ◌^◌, ◌-◌, false, List, [], ◌∷◌, length, get_or, Result}
 use Rattle.std.proofs.Common.{Ok, Err, IfOk, sym, ap, subst, ◌∙◌, arith, ◌<◌}
+use Rattle.std.proofs.lemmas.Bool.Decides.{nat_tests}
 use Rattle.std.specs.Prelude.{IsTrue}
-use Rattle.room_entry.specs.Ace.{Ace}
-use Rattle.room_entry.specs.declared.object.ObjKind.{ObjKind}
-use Rattle.room_entry.specs.declared.object.ObjKind.TheVariants.{Document, Folder}
-use Rattle.room_entry.specs.declared.object.Which.{Which}
-use Rattle.room_rows.specs.declared.keep.Keep.{Ghosts}
-use Rattle.room_rows.specs.declared.node.Node.{Node}
-use Rattle.room_rows.specs.Calls.{Writes, WritesOf}
-use Rattle.room_rows.specs.Content.{children_of}
-use Rattle.room_rows.specs.Held.{held_of}
-use Rattle.room_rows.specs.declared.keep.KeepFault.{KeepFault}
+use Rattle.room_entry.specs.{Ace.Ace, declared.object.ObjKind.{ObjKind, TheVariants.Document}}
+use Rattle.room_entry.specs.declared.object.{ObjKind.TheVariants.Folder, Which.Which}
+use Rattle.room_rows.specs.declared.{keep.{Keep.Ghosts, KeepFault.KeepFault}, node.Node.Node}
+use Rattle.room_rows.specs.{Calls.{Writes, WritesOf}, Content.children_of, Held.held_of}
 use Rattle.room_rows.specs.Keep.{Changes, ChangesAll, IsUnreadable, IsRead, AreChildrenOf, Leaves}
-use Rattle.room_rows.specs.Keep.{are_there, capped, with_content, with_inh, KeepLaws}
-use Rattle.room_rows.specs.Rows.{Rows, is_unreadable}
+use Rattle.room_rows.specs.{Keep.{are_there, capped, with_content, with_inh, KeepLaws}, Rows.Rows}
 use Rattle.room_entry.proofs.Facts.Members.{no_length}
-use Rattle.room_rows.proofs.Frames.{Rises}
-use Rattle.room_rows.proofs.InPlace.{place-with_inh}
-use Rattle.room_rows.proofs.Steps.{later_cause}
-use Rattle.room_inherit.specs.declared.by_kind.ByKind.{ByKind}
-use Rattle.room_inherit.specs.declared.descent.Descent.{Descent}
-use Rattle.room_inherit.specs.declared.outcome.SpreadFault.{SpreadFault}
-use Rattle.room_inherit.specs.declared.outcome.SpreadFault.TheVariants.{Keeper}
-use Rattle.room_inherit.specs.declared.passed.Passed.{Passed}
-use Rattle.room_inherit.specs.Turn.{Gathers, IsPassed, RenewsAll, Visits, WritesAll, count_of}
-use Rattle.room_inherit.specs.Turn.{meets_again, of_kind, outdated_of, to_kind, with_passed}
+use Rattle.room_rows.proofs.{Frames.Rises, InPlace.place-with_inh, Steps.later_cause}
 use Rattle.room_rows.proofs.Many.{one_changed}
+use Rattle.room_inherit.specs.declared.{by_kind.ByKind.ByKind, descent.Descent.Descent}
+use Rattle.room_inherit.specs.declared.outcome.SpreadFault.{SpreadFault, TheVariants.Keeper}
+use Rattle.room_inherit.specs.{declared.passed.Passed.Passed, Turn.{Gathers, IsPassed, RenewsAll}}
+use Rattle.room_inherit.specs.Turn.{Visits, WritesAll, count_of, meets_again, of_kind, outdated_of}
+use Rattle.room_inherit.specs.Turn.{to_kind, with_passed}
 use Rattle.room_inherit.proofs.Renewing.{changes_none, count_gathered, gathered_there, still_there}
 use Rattle.room_inherit.proofs.Renewing.{turn_becomes}
-use Rattle.std.proofs.lemmas.Bool.Decides.{nat_tests}
 
 -- ---- counts with an end
 
@@ -43,8 +32,7 @@ capped_add m n = grind (arith, nat_tests)
 -- an error that `?` hands on
 pub handed_on : {X : Type 0} (r : Result X SpreadFault) (e : SpreadFault)
     → Rattle.std.specs.Result.IsErrAnd r (λ x. x ≡ e) → r ≡ Err e
-handed_on (Ok x) e h = absurd h
-handed_on (Err x) e h = ap Err h
+handed_on r e h = grind (arith, nat_tests)
 
 -- ---- lists that are written
 
@@ -77,15 +65,7 @@ module _ {S : Type 0} (k : Ghosts S)
       (entries : List Ace) (ids : List ℕ) (id : ℕ) → ids ≡ id ∷ []
       → Writes k a b result IsUnreadable (Leaves (Changes id (with_inh which entries)))
       → WritesInto a b result which entries ids
-  one_written a b result which entries ids id is write =
-      subst (WritesInto a b result which entries) (sym is)
-      (record {
-        follows = write.follows;
-        written = write.written;
-        becomes = λ t. becomes result t (write.becomes t);
-        unfailed = write.unfailed;
-        fault = write.fault;
-      })
+  one_written a b result which entries ids id is write = grind (arith, nat_tests, becomes)
     where
       becomes : (r : Result (Unit {0}) KeepFault) → k.IsTrusted a b
           → IfOk r (λ _. Changes id (with_inh which entries) (k.rows a) (k.rows b))
@@ -111,21 +91,18 @@ module _ {S : Type 0} (k : Ghosts S)
         fault =
             later_cause (k.failures a) (k.failures b) (k.failures c) e _ _
             (laws.rise a b first.follows) (laws.rise b c write.follows)
-            (λ at damaged t. ap (λ (w : Rows). is_unreadable w at)
-            (sym (first.becomes (laws.first a b c first.follows write.follows t.0) (t.1 Document)))
-            ∙ damaged (laws.last a b c first.follows write.follows t.0)) write.fault;
+            (λ at damaged t.
+            cc (
+              first.becomes (laws.first a b c first.follows write.follows t.0) (t.1 Document),
+              damaged (laws.last a b c first.follows write.follows t.0),
+            )) write.fault;
       }
 
       pub both_written : WritesKind Folder b c (Ok tt)
           → WritesAll k a c which passed numbers (Ok tt)
       both_written write = record {
         follows = laws.on a b c first.follows write.follows;
-        written =
-            write.written
-            ∙ ap (λ n. capped (n + length (of_kind numbers Folder))) first.written
-            ∙ capped_add (k.writes a + length (of_kind numbers Document))
-            (length (of_kind numbers Folder))
-            ∙ ap capped (omega arith);
+        written = grind (arith, nat_tests, capped_add);
         becomes = λ t.
             let one = first.becomes (laws.first a b c first.follows write.follows t.0)
             (t.1 Document) in

@@ -1,36 +1,25 @@
 -- A change carried down, turn after turn.
 use Rattle.std.proofs.Common.{◌≡◌, ℕ, suc, ◌+◌, ◌≤◌, List, [], ◌∷◌, ◌++◌, length, Some, None}
-use Rattle.std.proofs.Common.{Result, Ok, sym, ap, subst, ◌∙◌, arith}
-use Rattle.std.proofs.lemmas.Bool.{false≢true}
-use Rattle.std.proofs.lemmas.List.{length-append}
-use Rattle.room_entry.specs.Ace.{Ace}
-use Rattle.room_entry.specs.declared.object.Which.{Which}
-use Rattle.room_rows.specs.declared.keep.Keep.{Ghosts}
-use Rattle.room_rows.specs.declared.node.Node.{Node}
-use Rattle.room_rows.specs.Content.{Content, node_at, children_of}
-use Rattle.room_rows.specs.Keep.{IsUnreadableAt, IsNodeAt, IsRead, with_content, KeepLaws}
-use Rattle.room_rows.specs.Law.{AllAgree}
-use Rattle.room_rows.specs.Rows.{Rows, AreRows, numbers_of, is_unreadable}
-use Rattle.room_rows.proofs.InPlace.{numbers_of-reading}
-use Rattle.room_rows.proofs.Steps.{later_cause}
+use Rattle.std.proofs.{Common.{Result, Ok, sym, ap, subst, ◌∙◌, arith}, lemmas.Bool.false≢true}
+use Rattle.std.proofs.lemmas.{Bool.Decides.nat_tests, List.length-append}
+use Rattle.room_entry.specs.{Ace.Ace, declared.object.Which.Which}
+use Rattle.room_rows.specs.{declared.{keep.Keep.Ghosts, node.Node.Node}, Content.{Content, node_at}}
+use Rattle.room_rows.specs.{Content.children_of, Keep.{IsUnreadableAt, IsNodeAt, IsRead}}
+use Rattle.room_rows.specs.{Keep.{with_content, KeepLaws}, Law.AllAgree, Rows.{Rows, AreRows}}
+use Rattle.room_rows.specs.Rows.{numbers_of, is_unreadable}
+use Rattle.room_rows.proofs.{InPlace.numbers_of-reading, Steps.later_cause, Lookups.found_number}
 use Rattle.room_inherit.specs.Spread.{ChangedAgree, IsSpread, IsOwnAncestor, Holds, Spreads}
-use Rattle.room_inherit.specs.Spread.{SpreadsIf, with_lists, is_changed}
-use Rattle.room_inherit.specs.Turn.{IsVisit, LeavesOut, MeetsAgain, next_of}
-use Rattle.room_inherit.specs.declared.descent.Descent.{Descent}
-use Rattle.room_inherit.specs.declared.descent.Reach.TheVariants.{Renewed}
-use Rattle.room_inherit.specs.declared.outcome.Spread.{Spread}
-use Rattle.room_inherit.specs.declared.outcome.SpreadFault.{SpreadFault}
+use Rattle.room_inherit.specs.{Spread.{SpreadsIf, with_lists, is_changed}, Turn.IsVisit}
+use Rattle.room_inherit.specs.Turn.{LeavesOut, MeetsAgain, next_of}
+use Rattle.room_inherit.specs.declared.descent.{Descent.Descent, Reach.TheVariants.Renewed}
+use Rattle.room_inherit.specs.declared.outcome.{Spread.Spread, SpreadFault.SpreadFault}
 use Rattle.room_entry.proofs.Facts.Members.{count, count-is}
-use Rattle.room_inherit.proofs.Frontier.{Frontier, ids_set}
-use Rattle.room_inherit.proofs.Chosen.{all_chosen, below_lists, chosen_append, chosen_length}
-use Rattle.room_inherit.proofs.Chosen.{chosen_there, frontier_chosen}
+use Rattle.room_inherit.proofs.{Frontier.{Frontier, ids_set}, Chosen.{all_chosen, below_lists}}
+use Rattle.room_inherit.proofs.Chosen.{chosen_append, chosen_length, chosen_there, frontier_chosen}
 use Rattle.room_inherit.proofs.OneTurn.{after, rows_after, frontier_after, as_many, count_after}
 use Rattle.room_inherit.proofs.Ends.{own_lists, with_own_lists, own_unchanged, count_own}
 use Rattle.room_inherit.proofs.Ends.{frontier_first, law_without, law_at_end, changed_agree}
-use Rattle.room_inherit.proofs.Ends.{loop_found, count_less, as_many_numbers}
-use Rattle.room_inherit.proofs.Turns.{Progress}
-use Rattle.room_rows.proofs.Lookups.{found_number}
-use Rattle.std.proofs.lemmas.Bool.Decides.{nat_tests}
+use Rattle.room_inherit.proofs.{Ends.{loop_found, count_less, as_many_numbers}, Turns.Progress}
 
 -- ---- rows
 
@@ -90,25 +79,14 @@ module _ (d : Descent) (reach : d.reach ≡ Renewed) (turns : ℕ) (rest : List 
   pub carrying_turn : IsCarrying d.which d.start (turns + 1) next (changed + number) old new
   carrying_turn = record {
     lists = lists;
-    becomes =
-        step.becomes
-        ∙ ap (with_content old)
-        (rows_after d.which d.start old.read are.numbers f rest w sofar.front step.not_met);
+    becomes = grind (arith, nat_tests, rows_after, step);
     front =
         subst (λ (l : List Node). Frontier d.which d.start old.read lists l) (sym step.waits)
         (frontier_chosen d.which d.start old.read lists (rest ++ going) (rest ++ step.next)
         (chosen_append old.read rest going rest step.next (all_chosen old.read rest) chosen)
         (frontier_after d.which d.start old.read are.numbers f rest w sofar.front step.not_met));
     counted = total;
-    turned =
-        let l = ap length step.waits ∙ length-append rest step.next in
-        let less = chosen_length old.read going step.next chosen in
-        let few = as_many d.which d.start old.read are.numbers f rest w sofar.front step.not_met in
-        let k = length-append rest (w ∷ []) in
-        let t = sofar.turned in
-        let s = sofar.counted in
-        let n = step.counted in
-        omega (arith, l, less, few, k, t, s, n, total);
+    turned = grind (arith, nat_tests, as_many, chosen, chosen_length, length-append, step, total);
     first = sofar.first;
     first_is = sofar.first_is;
   }
@@ -122,8 +100,7 @@ carrying_done which start turns changed old now are sofar = record {
   counted = sofar.counted ∙ sym (count-is (is_changed which sofar.lists) old.read.nodes);
   agree = subst (λ (r : Rows). ChangedAgree which old.read r.read) (sym sofar.becomes)
       (changed_agree which start old.read are.numbers sofar.lists
-      (λ n there changed. let c = sofar.front.came n there changed in
-      (c.parent, c.there, c.has, c.agrees)));
+      (grind (arith, nat_tests)));
   law =
       λ but. subst (λ (r : Rows). AllAgree r.read which) (sym sofar.becomes)
       (law_at_end which start old.read are.numbers sofar.lists (sofar.front.law but));
@@ -136,9 +113,7 @@ nothing_carried which start old are none = record {
   lists = own_lists which;
   becomes = ap (with_content old) (sym (with_own_lists which old.read));
   below = λ n there changed. absurd (false≢true (sym (own_unchanged which n) ∙ changed));
-  counted =
-      sym (count-is (is_changed which (own_lists which)) old.read.nodes
-      ∙ count_own which old.read.nodes);
+  counted = search (count-is, count_own, own_lists);
   agree =
       subst (λ (c : Content). ChangedAgree which old.read c) (with_own_lists which old.read)
       (changed_agree which start old.read are.numbers (own_lists which)

@@ -1,22 +1,17 @@
 -- Objects of rows by their numbers, and the children of one.
 use Rattle.std.proofs.Common.{◌≡◌, ℕ, suc, ◌<◌, ◌==◌, Bool, true, false, cond, ◌&&◌, ◌||◌, List, []}
 use Rattle.std.proofs.Common.{◌∷◌, map, filter, length, Some, refl, sym, ap, subst, ◌∙◌, inl, inr}
-use Rattle.std.proofs.Common.{arith}
-use Rattle.std.specs.Prelude.{nat_lt}
-use Rattle.std.specs.List.{list_any, AllByRecursion as Each}
-use Rattle.std.proofs.lemmas.Bool.{cases_Bool, and_parts, or_parts, or_from, or_left, or_right}
-use Rattle.std.proofs.lemmas.Bool.{false≢true, eq-eqb, eqb-true, ne_eqb, ltb-true}
-use Rattle.std.proofs.lemmas.Bool.{false_from_ne_true}
-use Rattle.std.proofs.lemmas.Option.{same_Some}
-use Rattle.room_rows.specs.declared.node.Node.{Node}
-use Rattle.room_rows.specs.Content.{Content, node_at, has_parent, children_of, put_by_name}
-use Rattle.room_rows.specs.Content.{sorted_by_name, is_before, is_rising, with_each}
-use Rattle.room_rows.specs.Finding.{find_id}
+use Rattle.std.proofs.{Common.arith, lemmas.Bool.{cases_Bool, and_parts, or_parts, or_left}}
+use Rattle.std.proofs.lemmas.Bool.{or_right, false≢true, eq-eqb, eqb-true, ltb-true}
+use Rattle.std.proofs.lemmas.{Bool.Decides.nat_tests, Option.same_Some}
+use Rattle.std.specs.{Prelude.nat_lt, List.{list_any, AllByRecursion as Each}}
+use Rattle.room_rows.specs.{declared.node.Node.Node, Content.{Content, node_at, has_parent}}
+use Rattle.room_rows.specs.Content.{children_of, put_by_name, sorted_by_name, is_before, is_rising}
+use Rattle.room_rows.specs.{Content.with_each, Finding.find_id}
 use Rattle.room_entry.proofs.Facts.Members.{each_weaker, each_filter, each_unfiltered, any_filter}
 use Rattle.room_entry.proofs.Facts.Members.{any_agree, any_none, each_fails, none_of_both}
 use Rattle.room_entry.proofs.Facts.Members.{none_filter, count, count_filter, count_length}
 use Rattle.room_rows.proofs.Lookups.{each-sorted, count_sorted}
-use Rattle.std.proofs.lemmas.Bool.Decides.{nat_tests}
 
 -- ---- by number
 
@@ -67,8 +62,7 @@ each_there P [] apart all = tt
 each_there P (x ∷ xs) apart all = (
   all x (found_first x.id x xs (eq-eqb x.id x.id refl)),
   each_there P xs apart.1
-      (λ n found. all n (found_later n.id x xs
-      (false_from_ne_true (x.id == n.id) (λ is. later n found (eqb-true x.id n.id is))) ∙ found)),
+      (grind (arith, nat_tests, found_later, later)),
 )
   where
     later : (n : Node) → find_id n.id xs ≡ Some n → x.id ≡ n.id → ⊥
@@ -85,21 +79,20 @@ any_here T x (y ∷ ys) apart found = elim (cases_Bool (y.id == x.id)) [
       let none : list_any (λ m. T m && (m.id == x.id)) ys ≡ false = none_of_both
       (λ (m : Node). m.id == x.id) T ys
       (ap (λ i. has_id i ys) (sym (eqb-true y.id x.id is)) ∙ apart.0) in
-      ap (λ t. (T y && t) || list_any (λ m. T m && (m.id == x.id)) ys) is
-      ∙ ap (λ r. (T y && true) || r) none ∙ alone (T y) ∙ ap T same
+      grind (arith, nat_tests, alone)
   | inr isnt ↦
-      ap (λ t. (T y && t) || list_any (λ m. T m && (m.id == x.id)) ys) isnt
-      ∙ skip (T y) (list_any (λ m. T m && (m.id == x.id)) ys)
-      ∙ any_here T x ys apart.1 (sym (found_later x.id y ys isnt) ∙ found)
+      cc (
+        isnt,
+        skip (T y) (list_any (λ m. T m && (m.id == x.id)) ys),
+        any_here T x ys apart.1 (sym (found_later x.id y ys isnt) ∙ found),
+      )
 ]
   where
     alone : (t : Bool) → ((t && true) || false) ≡ t
-    alone true = refl
-    alone false = refl
+    alone t = grind (arith, nat_tests)
 
     skip : (t r : Bool) → ((t && false) || r) ≡ r
-    skip true r = refl
-    skip false r = refl
+    skip t r = grind (arith, nat_tests)
 
 -- ---- rising numbers
 
@@ -122,8 +115,7 @@ apart_rising k (x ∷ xs) rises =
     let parts = and_parts (nat_lt k x.id) (is_rising (x.id ∷ ids_of xs)) rises in (
       any_none (λ (n : Node). n.id == x.id) xs
           (each_weaker (λ n. x.id < n.id) (λ n. (n.id == x.id) ≡ false)
-          (λ n above. ne_eqb n.id x.id
-          (λ e. absurd (let wrong : ⊥ = omega (arith, above, e) in wrong))) xs
+          (grind (arith, nat_tests)) xs
           (each_above x.id xs parts.1)),
       apart_rising x.id xs parts.1,
     )
@@ -155,22 +147,13 @@ apart_put x (y ∷ ys) new apart = on (is_before y.name x.name) (apart_put x ys 
     parts : ((y.id == x.id) ≡ false) × (has_id x.id ys ≡ false)
     parts = or_parts (y.id == x.id) (has_id x.id ys) new
 
-    other : (x.id == y.id) ≡ false
-    other = ne_eqb x.id y.id (λ e. false≢true (sym parts.0 ∙ eq-eqb y.id x.id (sym e)))
-
     on : (t : Bool) → Apart (put_by_name x ys) → Apart (cond t (y ∷ put_by_name x ys) (x ∷ y ∷ ys))
-    on true rest = (
-      any_put (λ (n : Node). n.id == y.id) x ys
-          ∙ or_from (x.id == y.id) (has_id y.id ys) other apart.0,
-      rest,
-    )
-    on false rest = (new, apart)
+    on t rest = grind (arith, nat_tests, any_put)
 
 apart_sorted : (xs : List Node) → Apart xs → Apart (sorted_by_name xs)
 apart_sorted [] apart = tt
 apart_sorted (x ∷ xs) apart =
-    apart_put x (sorted_by_name xs) (any_sorted (λ (n : Node). n.id == x.id) xs ∙ apart.0)
-    (apart_sorted xs apart.1)
+    grind (arith, nat_tests, any_sorted, apart_put, apart_sorted xs apart.1)
 
 -- where no number comes twice, none does among the objects that pass a test
 pub apart_filter : (q : Node → Bool) (xs : List Node) → Apart xs → Apart (filter q xs)
@@ -181,17 +164,12 @@ apart_filter q (x ∷ xs) apart = grind (arith, nat_tests, none_filter, apart_fi
 pub apart_map : (f : Node → Node) → ((n : Node) → (f n).id ≡ n.id) → (xs : List Node) → Apart xs
     → Apart (map f xs)
 apart_map f same [] apart = tt
-apart_map f same (x ∷ xs) apart = (
-  has_map f same (f x).id xs ∙ ap (λ i. has_id i xs) (same x) ∙ apart.0,
-  apart_map f same xs apart.1,
-)
+apart_map f same (x ∷ xs) apart = grind (arith, nat_tests, has_map, apart_map f same xs apart.1)
   where
     has_map : (g : Node → Node) → ((n : Node) → (g n).id ≡ n.id) → (i : ℕ) (ys : List Node)
         → has_id i (map g ys) ≡ has_id i ys
     has_map g same i [] = refl
-    has_map g same i (y ∷ ys) =
-        ap (λ (j : ℕ). (j == i) || has_id i (map g ys)) (same y)
-        ∙ ap (λ r. (y.id == i) || r) (has_map g same i ys)
+    has_map g same i (y ∷ ys) = cc (same y, has_map g same i ys)
 
 -- a change of each object that leaves its number leaves which numbers are in use
 pub has_id_map : (f : Node → Node) → ((n : Node) → (f n).id ≡ n.id) → (id : ℕ) (xs : List Node)
@@ -228,10 +206,7 @@ module _ (rows : Content) (apart : Apart rows.nodes) where
   pub each_child : (P : Node → Type 0) (id : ℕ)
       → ((n : Node) → node_at rows n.id ≡ Some n → has_parent id n ≡ true → P n)
       → Each P (children_of rows id)
-  each_child P id all =
-      each-sorted P (filter (has_parent id) rows.nodes)
-      (each_filter P (has_parent id) rows.nodes
-      (each_there (λ n. has_parent id n ≡ true → P n) rows.nodes apart all))
+  each_child P id all = search (each-sorted, each_filter, each_there)
 
   -- no two children of an object have the same number
   pub apart_children : (id : ℕ) → Apart (children_of rows id)
@@ -246,14 +221,11 @@ module _ (rows : Content) (apart : Apart rows.nodes) where
       ∙ any_filter (λ m. q m && (m.id == n.id)) (has_parent id) rows.nodes
       ∙ any_agree (λ m. has_parent id m && (q m && (m.id == n.id)))
       (λ m. (has_parent id m && q m) && (m.id == n.id)) rows.nodes
-      (each_there (λ m. (has_parent id m && (q m && (m.id == n.id)))
-      ≡ ((has_parent id m && q m) && (m.id == n.id))) rows.nodes apart
-      (λ m _. assoc (has_parent id m) (q m) (m.id == n.id)))
+      (search (assoc, each_there))
       ∙ any_here (λ m. has_parent id m && q m) n rows.nodes apart there
     where
       assoc : (a b c : Bool) → (a && (b && c)) ≡ ((a && b) && c)
-      assoc true b c = refl
-      assoc false b c = refl
+      assoc a b c = grind (arith, nat_tests)
 
   -- an object has as many children as there are objects with it as their parent
   pub length_children : (id : ℕ) → length (children_of rows id) ≡ count (has_parent id) rows.nodes
@@ -272,17 +244,13 @@ module _ (rows : Content) (apart : Apart rows.nodes) where
   no_child q id none n there is =
       each_found (λ m. has_parent id m ≡ true → q m ≡ false) n.id rows.nodes n
       (each_unfiltered (λ m. q m ≡ false) (has_parent id) rows.nodes
-      (each_fails q (filter (has_parent id) rows.nodes)
-      (sym (any_sorted q (filter (has_parent id) rows.nodes)) ∙ none))) there is
+      (grind (arith, nat_tests, any_sorted, each_fails))) there is
 
   -- one that some child passes, if it isn't impossible
   pub some_child : (q : Node → Bool) (id : ℕ) (X : Type 0)
       → ((n : Node) → node_at rows n.id ≡ Some n → has_parent id n ≡ true → q n ≡ true → X)
       → list_any q (children_of rows id) ≡ true → X
-  some_child q id X makes some =
-      pick (children_of rows id)
-      (each_child (λ n. (node_at rows n.id ≡ Some n) × (has_parent id n ≡ true)) id
-      (λ n there is. (there, is))) some
+  some_child q id X makes some = search (each_child, pick)
     where
       pick : (xs : List Node)
           → Each (λ n. (node_at rows n.id ≡ Some n) × (has_parent id n ≡ true)) xs

@@ -1,24 +1,17 @@
 -- Documents below which nothing stands, left out of the objects that wait.
-use Rattle.std.proofs.Common.{◌≡◌, ℕ, ◌≤◌, ◌==◌, Bool, true, false, cond, not, ◌&&◌, List, [], ◌∷◌}
-use Rattle.std.proofs.Common.{◌++◌, filter, length, Some, refl, sym, ap, subst, ◌∙◌, inl, inr}
-use Rattle.std.proofs.Common.{arith}
+use Rattle.std.proofs.Common.{◌≡◌, ℕ, ◌≤◌, ◌==◌, Bool, true, false, cond, ◌&&◌, List, [], ◌∷◌, ◌++◌}
+use Rattle.std.proofs.Common.{filter, length, Some, refl, sym, ap, subst, ◌∙◌, inl, inr, arith}
+use Rattle.std.proofs.lemmas.Bool.{cases_Bool, or_cases, or_parts, false≢true, Decides.nat_tests}
 use Rattle.std.specs.List.{AllByRecursion, list_any}
-use Rattle.std.proofs.lemmas.Bool.{cases_Bool, or_cases, or_from, or_left, or_parts, or_right}
-use Rattle.std.proofs.lemmas.Bool.{false≢true, eqb-true}
-use Rattle.room_entry.specs.Ace.{Ace}
-use Rattle.room_entry.specs.declared.object.Which.{Which}
-use Rattle.room_rows.specs.declared.node.Node.{Node}
-use Rattle.room_rows.specs.Content.{Content, has_parent, is_folder, sorted_by_name}
-use Rattle.room_rows.specs.Finding.{find_id}
-use Rattle.room_inherit.specs.declared.descent.Descent.{Descent}
-use Rattle.room_inherit.specs.Spread.{with_lists}
-use Rattle.room_inherit.specs.Turn.{LeavesOut, TellsWaiting, brought_up, next_of}
-use Rattle.room_inherit.proofs.Kinship.{same_kind}
+use Rattle.room_entry.specs.{Ace.Ace, declared.object.Which.Which}
+use Rattle.room_rows.specs.{declared.node.Node.Node, Content.{Content, has_parent, is_folder}}
+use Rattle.room_rows.specs.{Content.sorted_by_name, Finding.find_id}
+use Rattle.room_inherit.specs.{declared.descent.Descent.Descent, Spread.with_lists, Turn.LeavesOut}
+use Rattle.room_inherit.specs.Turn.{TellsWaiting, brought_up, next_of}
+use Rattle.room_inherit.proofs.{Kinship.same_kind, Children.{Apart, any_sorted, each_found, has_id}}
+use Rattle.room_inherit.proofs.Frontier.{Frontier, set, set_parent}
 use Rattle.room_rows.proofs.InPlace.{with_inh-id}
 use Rattle.room_entry.proofs.Facts.Members.{any_agree, any_filter, any_map, each_fails, each_filter}
-use Rattle.room_inherit.proofs.Children.{Apart, any_sorted, each_found, has_id}
-use Rattle.room_inherit.proofs.Frontier.{Frontier, set, set_parent}
-use Rattle.std.proofs.lemmas.Bool.Decides.{nat_tests}
 
 -- ---- what stands below an object
 
@@ -41,8 +34,7 @@ none_below id nodes none =
     ∙ sym (any_sorted (λ _. true) (filter (has_parent id) nodes)) ∙ ap (list_any (λ _. true)) none
   where
     and_true : (t : Bool) → (t && true) ≡ t
-    and_true true = refl
-    and_true false = refl
+    and_true t = grind (arith, nat_tests)
 
     every : (xs : List Node) → AllByRecursion (λ n. (has_parent id n && true) ≡ has_parent id n) xs
     every [] = tt
@@ -83,17 +75,12 @@ pub chosen_length : (rows : Content) (nodes next : List Node) → LeavesOut rows
 chosen_length rows [] next none = let e = ap length none in omega (arith, e)
 chosen_length rows (x ∷ xs) next (rest, chosen, how) =
     let less = chosen_length rows xs rest chosen in
-    elim how [
-      | inl kept ↦ let e = ap length kept in omega (arith, e, less)
-      | inr left ↦ let e = ap length left.0 in omega (arith, e, less)
-    ]
+    grind (arith, nat_tests)
 
 -- of folders none is left out
 pub folders_chosen : (rows : Content) (nodes next : List Node)
     → LeavesOut rows (filter is_folder nodes) next → next ≡ filter is_folder nodes
-folders_chosen rows nodes next chosen =
-    none_left (filter is_folder nodes) next
-    (each_filter (λ n. is_folder n ≡ true) is_folder nodes (every nodes)) chosen
+folders_chosen rows nodes next chosen = search (each_filter, every, none_left)
   where
     every : (xs : List Node) → AllByRecursion (λ n. is_folder n ≡ true → is_folder n ≡ true) xs
     every [] = tt
@@ -104,10 +91,7 @@ folders_chosen rows nodes next chosen =
     none_left [] next all none = none
     none_left (x ∷ xs) next all (rest, chosen, how) =
         let same = none_left xs rest all.1 chosen in
-        elim how [
-          | inl kept ↦ kept ∙ ap (λ (l : List Node). x ∷ l) same
-          | inr left ↦ absurd (false≢true (ap not (sym left.1.0) ∙ all.0))
-        ]
+        grind (arith, nat_tests)
 
 -- ---- the objects that wait
 
@@ -116,10 +100,7 @@ each_chosen : (P : Node → Type 0) (rows : Content) (nodes next : List Node)
 each_chosen P rows [] next none all = subst (AllByRecursion P) (sym none) tt
 each_chosen P rows (x ∷ xs) next (rest, chosen, how) all =
     let few = each_chosen P rows xs rest chosen all.1 in
-    elim how [
-      | inl kept ↦ subst (AllByRecursion P) (sym kept) (all.0, few)
-      | inr left ↦ subst (AllByRecursion P) (sym left.0) few
-    ]
+    grind (arith, nat_tests)
 
 unmet : (id : ℕ) (rows : Content) (nodes next : List Node) → LeavesOut rows nodes next
     → has_id id nodes ≡ false → has_id id next ≡ false
@@ -127,20 +108,14 @@ unmet id rows [] next none is = ap (has_id id) none
 unmet id rows (x ∷ xs) next (rest, chosen, how) is =
     let parts = or_parts (x.id == id) (has_id id xs) is in
     let few = unmet id rows xs rest chosen parts.1 in
-    elim how [
-      | inl kept ↦ ap (has_id id) kept ∙ or_from (x.id == id) (has_id id rest) parts.0 few
-      | inr left ↦ ap (has_id id) left.0 ∙ few
-    ]
+    grind (arith, nat_tests, has_id)
 
 apart_chosen : (rows : Content) (nodes next : List Node) → LeavesOut rows nodes next → Apart nodes
     → Apart next
 apart_chosen rows [] next none apart = subst Apart (sym none) tt
 apart_chosen rows (x ∷ xs) next (rest, chosen, how) apart =
     let few = apart_chosen rows xs rest chosen apart.1 in
-    elim how [
-      | inl kept ↦ subst Apart (sym kept) (unmet x.id rows xs rest chosen apart.0, few)
-      | inr left ↦ subst Apart (sym left.0) few
-    ]
+    grind (arith, nat_tests, unmet)
 
 -- an object below which something stands still waits
 still_waits : (id : ℕ) (rows : Content) (nodes next : List Node) → LeavesOut rows nodes next
@@ -148,18 +123,10 @@ still_waits : (id : ℕ) (rows : Content) (nodes next : List Node) → LeavesOut
 still_waits id rows [] next none some is = absurd (false≢true is)
 still_waits id rows (x ∷ xs) next (rest, chosen, how) some is =
     elim (or_cases (x.id == id) (has_id id xs) is) [
-      | inl here ↦ elim how [
-        | inl kept ↦ ap (has_id id) kept ∙ or_left (x.id == id) (has_id id rest) here
-        | inr left ↦
-            absurd (false≢true (sym left.1.1
-            ∙ ap (λ i. list_any (has_parent i) rows.nodes) (eqb-true x.id id here) ∙ some))
-      ]
+      | inl here ↦ grind (arith, nat_tests, has_id)
       | inr later ↦
           let few = still_waits id rows xs rest chosen some later in
-          elim how [
-            | inl kept ↦ ap (has_id id) kept ∙ or_right (x.id == id) (has_id id rest) few
-            | inr left ↦ ap (has_id id) left.0 ∙ few
-          ]
+          grind (arith, nat_tests, has_id)
     ]
 
 module _ (which : Which) (start : ℕ) (old : Content) (f : Node → List Ace) where
@@ -176,6 +143,5 @@ pub one_chosen : (rows : Content) (d : Descent) (above child : Node) (waits : Bo
     → TellsWaiting rows d.reach d.which above child waits
     → LeavesOut rows (next_of d.reach d.which above (child ∷ []))
     (cond waits (brought_up d.which above child ∷ []) [])
-one_chosen rows d above child waits (inl told) = grind (arith, nat_tests, all_chosen)
-one_chosen rows d above child waits (inr (stays, childless)) =
-    grind (arith, nat_tests, same_kind, with_inh-id)
+one_chosen rows d above child waits given =
+    grind (arith, nat_tests, all_chosen, same_kind, with_inh-id)

@@ -1,9 +1,7 @@
 -- Lists of entries compared.
 use Rattle.std.proofs.Common.{◌≡◌, Bool, true, false, List, refl, sym, ap, ◌∙◌}
-use Rattle.room_entry.specs.Ace.{Ace}
-use Rattle.room_entry.specs.Same.{same_entries}
-use Rattle.room_entry.proofs.Alike.{entries_themselves}
-use Rattle.room_entry.proofs.Same.{entries_equal}
+use Rattle.room_entry.specs.{Ace.Ace, Same.same_entries}
+use Rattle.room_entry.proofs.{Alike.entries_themselves, Same.entries_equal}
 
 -- either of two lists may stand first
 pub swapped : (a b : List Ace) → same_entries a b ≡ same_entries b a

@@ -1,17 +1,10 @@
 -- Turns of carrying lists down, whichever children they go on to.
 use Rattle.std.proofs.Common.{◌≡◌, Result, Err, refl, sym, subst}
-use Rattle.room_rows.specs.declared.keep.Keep.{Ghosts}
-use Rattle.room_rows.specs.declared.node.Node.{Node}
-use Rattle.room_rows.specs.Keep.{KeepLaws}
-use Rattle.room_inherit.specs.Turns.{Descends}
-use Rattle.room_inherit.specs.declared.descent.Descent.{Descent}
-use Rattle.room_inherit.specs.declared.descent.Reach.{Reach}
+use Rattle.room_rows.specs.{declared.{keep.Keep.Ghosts, node.Node.Node}, Keep.KeepLaws}
+use Rattle.room_inherit.specs.{Turns.Descends, declared.descent.{Descent.Descent, Reach.Reach}}
 use Rattle.room_inherit.specs.declared.descent.Reach.TheVariants.{Renewed, All}
-use Rattle.room_inherit.specs.declared.outcome.Spread.{Spread}
-use Rattle.room_inherit.specs.declared.outcome.SpreadFault.{SpreadFault}
-use Rattle.room_inherit.proofs.Calls.{handed_on}
-use Rattle.room_inherit.proofs.Turns.{Progress, Carried}
-use Rattle.room_inherit.proofs.Carrying.{carrying}
+use Rattle.room_inherit.specs.declared.outcome.{Spread.Spread, SpreadFault.SpreadFault}
+use Rattle.room_inherit.proofs.{Calls.handed_on, Turns.{Progress, Carried}, Carrying.carrying}
 use Rattle.room_inherit.proofs.SweepCalls.{sweeping}
 
 module _ {S : Type 0} (k : Ghosts S)

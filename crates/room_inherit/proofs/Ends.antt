@@ -1,42 +1,29 @@
 -- Where carrying a change down begins, and where it ends.
 use Rattle.std.proofs.Common.{◌≡◌, ℕ, zero, suc, ◌+◌, ◌≤◌, ◌==◌, Bool, true, false, not, ◌||◌, List}
 use Rattle.std.proofs.Common.{[], ◌∷◌, ◌++◌, map, length, Option, Some, None, refl, sym, ap, ◌∙◌}
-use Rattle.std.proofs.Common.{inl, inr, arith}
-use Rattle.std.specs.Prelude.{option_and_then}
-use Rattle.std.specs.List.{list_all, AllByRecursion as Each}
+use Rattle.std.proofs.{Common.{inl, inr, arith}, lemmas.Bool.{and_parts, or_cases, or_left}}
+use Rattle.std.proofs.lemmas.{Bool.{or_right, false≢true, Decides.nat_tests}, List.length-map}
+use Rattle.std.proofs.lemmas.List.{map-id}
+use Rattle.std.specs.{Prelude.option_and_then, List.{list_all, AllByRecursion as Each}}
 use Rattle.std.specs.Option.{option_map, option_map_or}
-use Rattle.std.proofs.lemmas.Bool.{cases_Bool, and_parts, or_cases, or_left, or_right, not-false}
-use Rattle.std.proofs.lemmas.Bool.{false≢true, eq-eqb, eqb-true}
-use Rattle.std.proofs.lemmas.List.{length-map, map-id}
-use Rattle.room_entry.specs.Ace.{Ace}
-use Rattle.room_entry.specs.Same.{same_entries}
-use Rattle.room_entry.specs.declared.object.Which.{Which}
-use Rattle.room_entry.proofs.Same.{entries_equal}
-use Rattle.room_entry.proofs.Alike.{equal_entries, entries_themselves}
-use Rattle.room_rows.specs.declared.node.Node.{Node}
-use Rattle.room_rows.specs.Content.{Content, node_at, parent_of, has_parent, children_of}
-use Rattle.room_rows.specs.Content.{is_linked_in, is_rising}
-use Rattle.room_rows.specs.Finding.{find_id}
-use Rattle.room_rows.specs.Held.{held_of, full_of, is_linked}
-use Rattle.room_rows.specs.HeldList.{Held}
-use Rattle.room_rows.specs.Rows.{Rows, numbers_of, unread_numbers}
-use Rattle.room_rows.specs.Pass.{pass}
-use Rattle.room_rows.specs.Law.{AllAgree, AllAgreeBut, agrees, agrees_with}
-use Rattle.room_inherit.specs.Spread.{ChangedAgree, stores_as_before, with_lists, is_changed}
-use Rattle.room_inherit.specs.Spread.{is_linked_within, is_within, IsOwnAncestor}
-use Rattle.room_inherit.specs.Turn.{is_linked_to, is_met_again, meets_again}
-use Rattle.room_inherit.proofs.Kinship.{same_parent, same_kind, with_own}
+use Rattle.room_entry.specs.{Ace.Ace, declared.object.Which.Which}
+use Rattle.room_entry.proofs.{Same.entries_equal, Alike.{equal_entries, entries_themselves}}
 use Rattle.room_entry.proofs.Facts.Members.{each_back, each_map, each_weaker, all_each, one_if}
 use Rattle.room_entry.proofs.Facts.Members.{count, count_ends}
-use Rattle.room_inherit.proofs.Children.{ids_of, each_found, each_there, apart_rising, apart_map}
-use Rattle.room_inherit.proofs.Children.{some_child}
-use Rattle.room_inherit.proofs.Renewing.{map_agree, one_object}
-use Rattle.room_inherit.proofs.Frontier.{set, set_id, set_parent, set_held, find_set, links, passes}
-use Rattle.room_inherit.proofs.Frontier.{There, Waits, Came, AgreesOrWaits, Frontier}
+use Rattle.room_rows.specs.{declared.node.Node.Node, Content.{Content, node_at, parent_of}}
+use Rattle.room_rows.specs.Content.{has_parent, children_of, is_linked_in, is_rising}
+use Rattle.room_rows.specs.{Finding.find_id, Held.held_of, Rows.{Rows, numbers_of}, Law.AllAgree}
+use Rattle.room_rows.specs.Law.{AllAgreeBut, agrees, agrees_with}
+use Rattle.room_inherit.specs.Spread.{ChangedAgree, stores_as_before, with_lists, is_changed}
+use Rattle.room_inherit.specs.Spread.{is_linked_within, is_within, IsOwnAncestor}
+use Rattle.room_inherit.specs.Turn.{is_met_again, meets_again}
+use Rattle.room_inherit.proofs.{Kinship.{same_parent, same_kind, with_own}, Children.ids_of}
+use Rattle.room_inherit.proofs.Children.{each_found, each_there, apart_rising, apart_map}
+use Rattle.room_inherit.proofs.{Children.some_child, Renewing.{map_agree, one_object}, Frontier.set}
+use Rattle.room_inherit.proofs.Frontier.{set_id, set_parent, set_held, find_set, links, passes}
+use Rattle.room_inherit.proofs.Frontier.{There, Waits, AgreesOrWaits, Frontier}
 use Rattle.room_inherit.proofs.Outdated.{same_above, parent_found, base_of}
-use Rattle.room_rows.proofs.Lookups.{found_number, length_numbers}
-use Rattle.room_rows.proofs.Frames.{parent_is}
-use Rattle.std.proofs.lemmas.Bool.Decides.{nat_tests}
+use Rattle.room_rows.proofs.{Lookups.{found_number, length_numbers}, Frames.parent_is}
 
 -- where a test of all objects is passed, each object passes it
 pub each_all : (p : Node → Bool) (xs : List Node) → list_all p xs ≡ true → Each (λ x. p x ≡ true) xs
@@ -52,14 +39,7 @@ own_lists which node = (held_of which node).inh
 
 -- objects that are given the lists they store leave the content as it is
 pub with_own_lists : (which : Which) (old : Content) → with_lists which (own_lists which) old ≡ old
-with_own_lists which old =
-    ap (λ (ns : List Node). record old { nodes = ns })
-    (map_agree (set which (own_lists which)) (λ n. n) old.nodes (every old.nodes)
-    ∙ map-id old.nodes)
-  where
-    every : (xs : List Node) → Each (λ n. set which (own_lists which) n ≡ n) xs
-    every [] = tt
-    every (x ∷ xs) = (with_own which x, every xs)
+with_own_lists which old = search (map-id, map_agree, set, with_own)
 
 -- an object that is given the list it stores doesn't count as changed
 pub own_unchanged : (which : Which) (n : Node) → is_changed which (own_lists which) n ≡ false
@@ -94,32 +74,14 @@ module _ (which : Which) (start : ℕ) (old : Content)
   frontier_first s found =
       let same : s.id ≡ start = found_number start old.nodes s found in
       record {
-        known = (
-          record {
-            base = s;
-            there = ap (node_at old) same ∙ found;
-            is = sym (with_own which s);
-            reached = or_left (s.id == start) (is_changed which (own_lists which) s)
-                (eq-eqb s.id start same);
-          },
-          tt,
-        );
+        known = grind (arith, nat_tests, with_own);
         apart = (refl, tt);
-        came =
-            λ n there changed. changed_own which n
-            (Came which start old (own_lists which) (s ∷ []) n) changed;
+        came = search (changed_own);
         law = λ but n p there there' has link.
             let either = each_found
             (λ m. (has_parent start m || agrees old which m) ≡ true) n.id old.nodes n
             (each_all (λ m. has_parent start m || agrees old which m) old.nodes but) there in
-            elim (or_cases (has_parent start n) (agrees old which n) either) [
-              | inl child ↦
-                  let e : Some start ≡ Some p.id = sym (parent_is start n child)
-                  ∙ parent_is p.id n has in
-                  let e' : start ≡ p.id = cc in
-                  inl (or_left (s.id == p.id) false (eq-eqb s.id p.id (same ∙ e')))
-              | inr agree ↦ inr (law_of_two which old n p there' has link agree)
-            ];
+            grind (arith, nat_tests, law_of_two, parent_is);
       }
 
   -- where the object isn't there, nothing is linked to it
@@ -132,28 +94,25 @@ module _ (which : Which) (start : ℕ) (old : Content)
     agrees_now : (n : Node)
         → ((p : Node) → There which start old p → has_parent p.id n ≡ true → links which p n ≡ true
         → f n ≡ passes which f p n) → agrees (with_lists which f old) which (set which f n) ≡ true
-    agrees_now n law =
-        ap (λ p. option_map_or (agrees_with which (set which f n))
-        (option_and_then (node_at (with_lists which f old)) p) true) (same_parent which (f n) n)
-        ∙ on n.parent refl
+    agrees_now n law = search (on, same_parent, set)
       where
         linked_or : (t u : Bool) → (t ≡ true → u ≡ true) → (not t || u) ≡ true
-        linked_or true u same = same refl
-        linked_or false u same = refl
+        linked_or t u same = grind (arith, nat_tests)
 
         with_parent : (q : Node) (p : ℕ) → n.parent ≡ Some p → node_at old p ≡ Some q
             → agrees_with which (set which f n) (set which f q) ≡ true
         with_parent q p up found =
-            let same : q.id ≡ p = found_number p old.nodes q found in
-            let there' : There which start old q = ap (node_at old) same ∙ found in
-            let has : has_parent q.id n ≡ true = ap
-            (λ o. option_map_or (λ parent. parent == q.id) o false) up
-            ∙ eq-eqb p q.id (sym same) in
-            (λ i. not (is_linked (set_held which f n i) (Some (set_held which f q i)))
-            || same_entries (set_held which f n i).inh
-            (pass (same_kind which (f n) n i) (full_of (set_held which f q i))))
-            ∙ linked_or (links which q n) (same_entries (f n) (passes which f q n))
-            (λ link. equal_entries (f n) (passes which f q n) (law q there' has link))
+            grind (
+              arith,
+              nat_tests,
+              equal_entries,
+              found_number,
+              linked_or,
+              links,
+              passes,
+              same_kind,
+              set_held,
+            )
 
         found_or : (p : ℕ) (o : Option Node) → node_at old p ≡ o → n.parent ≡ Some p
             → option_map_or (agrees_with which (set which f n)) (option_map (set which f) o) true
@@ -165,21 +124,13 @@ module _ (which : Which) (start : ℕ) (old : Content)
             → option_map_or (agrees_with which (set which f n))
             (option_and_then (node_at (with_lists which f old)) o) true ≡ true
         on None up = refl
-        on (Some p) up =
-            ap (λ o. option_map_or (agrees_with which (set which f n)) o true)
-            (find_set which f p old.nodes) ∙ found_or p (node_at old p) refl up
+        on (Some p) up = grind (arith, nat_tests, find_set, found_or, set)
 
     -- once no object waits any more, each object agrees with its parent by the new lists
     pub law_at_end : AgreesOrWaits which start old f [] → AllAgree (with_lists which f old) which
     law_at_end law =
         all_each (agrees (with_lists which f old) which) (map (set which f) old.nodes)
-        (each_map (λ m. agrees (with_lists which f old) which m ≡ true) (set which f) old.nodes
-        (each_there (λ n. agrees (with_lists which f old) which (set which f n) ≡ true)
-        old.nodes (apart_rising 0 old.nodes rises)
-        (λ n there. agrees_now n (λ p there' has link. elim (law n p there there' has link) [
-          | inl waiting ↦ absurd (false≢true waiting)
-          | inr same ↦ same
-        ]))))
+        (grind (arith, nat_tests, agrees_now, apart_rising, each_map, each_there, set))
 
     -- Where each object with another list than before agrees with a parent, each agrees or stores
     -- what it did.
@@ -188,24 +139,22 @@ module _ (which : Which) (start : ℕ) (old : Content)
         × (f n ≡ passes which f p n)) → ChangedAgree which old (with_lists which f old)
     changed_agree came =
         all_each either (map (set which f) old.nodes)
-        (each_map (λ m. either m ≡ true) (set which f) old.nodes
-        (each_there (λ n. either (set which f n) ≡ true) old.nodes (apart_rising 0 old.nodes rises)
-        (λ n there. elim (cases_Bool (is_changed which f n)) [
-          | inl changed ↦ let c = came n there changed in
-              or_right (stores_as_before old which (set which f n))
-              (agrees (with_lists which f old) which (set which f n))
-              (agrees_now n (λ p there' has link.
-              let one = one_object old.nodes c.0 p c.1 there' (same_above c.0.id p.id n c.2 has) in
-              c.3 ∙ ap (λ x. passes which f x n) one))
-          | inr unchanged ↦
-              or_left (stores_as_before old which (set which f n))
-              (agrees (with_lists which f old) which (set which f n))
-              (ap
-              (λ o. option_map_or (λ (m : Node). same_entries (held_of which (set which f n)).inh
-              (held_of which m).inh) o false) (ap (node_at old) (set_id which f n) ∙ there)
-              ∙ ap (λ (h : Held). same_entries h.inh (held_of which n).inh) (set_held which f n)
-              ∙ not-false (same_entries (f n) (held_of which n).inh) unchanged)
-        ])))
+        (
+        grind (
+          arith,
+          nat_tests,
+          agrees_now,
+          apart_rising,
+          each_map,
+          each_there,
+          either,
+          one_object,
+          passes,
+          same_above,
+          set,
+          set_held,
+          set_id,
+        ))
       where
         either : Node → Bool
         either m = stores_as_before old which m || agrees (with_lists which f old) which m
@@ -232,8 +181,7 @@ module _ (which : Which) (start : ℕ) (old : Content)
             → is_within m old start q ≡ true)
             → option_map_or (is_linked_within m old which start) o false ≡ true
             → option_map_or (is_within m old start) o false ≡ true
-        on None goes is = absurd (false≢true is)
-        on (Some q) goes is = goes q is
+        on o goes is = grind (arith, nat_tests)
 
     -- the first object, met again as a linked child of the last that waits, is its own ancestor
     pub loop_found : (rest : List Node) (w : Node) → Frontier which start old f (rest ++ w ∷ [])
@@ -254,27 +202,22 @@ module _ (which : Which) (start : ℕ) (old : Content)
             let b = base_of which f m (find_id m.id old.nodes)
             (sym (find_set which f m.id old.nodes) ∙ there) in
             let n = b.0 in
-            let is_start : m.id ≡ start = eqb-true m.id start
-            (and_parts (m.id == start) (is_linked_to which w m) met_m).0 in
-            let w_id : w.id ≡ waits.base.id = ap (λ (x : Node). x.id) waits.is
-            ∙ set_id which f waits.base in
-            let has_n : has_parent waits.base.id n ≡ true = ap (λ i. has_parent i n) (sym w_id)
-            ∙ sym (set_parent which f w.id n) ∙ ap (has_parent w.id) (sym b.2) ∙ has in (
+            let is_start : m.id ≡ start = grind (arith, nat_tests) in
+            let w_id : w.id ≡ waits.base.id = grind (arith, nat_tests, set_id, waits) in
+            let has_n : has_parent waits.base.id n ≡ true =
+            grind (arith, nat_tests, set_parent) in (
               n,
               ap (node_at old) (sym is_start) ∙ b.1,
               elim (or_cases (waits.base.id == start) (is_changed which f waits.base) waits.reached) [
                 | inl first ↦ (
                   suc zero,
-                  or_left (has_parent start n) _
-                      (ap (λ i. has_parent i n) (sym (eqb-true waits.base.id start first)) ∙ has_n),
+                  grind (arith, nat_tests, waits),
                 )
                 | inr changed ↦
                     let c = (front.came waits.base waits.there changed).below in (
                       suc c.0,
                       or_right (has_parent start n) _
-                          (ap (λ o. option_map_or (is_within c.0 old start) o false)
-                          (parent_found old waits.base n waits.there has_n)
-                          ∙ below_of c.0 waits.base c.1),
+                          (grind (arith, nat_tests, below_of, parent_found, waits)),
                     )
               ],
             )
@@ -290,5 +233,4 @@ count_less p id (x ∷ xs) s found isnt =
 
 -- there are at least as many numbers in use as objects that can be read
 pub as_many_numbers : (rows : Rows) → length rows.read.nodes ≤ length (numbers_of rows)
-as_many_numbers rows = let e = length-map rows.read.nodes (λ (n : Node). n.id) in let r =
-    length_numbers (unread_numbers rows) (ids_of rows.read.nodes) in omega (arith, e, r)
+as_many_numbers rows = grind (arith, nat_tests, ids_of, length-map, length_numbers)

@@ -2,15 +2,13 @@
 -- between two meetings of one number.
 use Rattle.std.proofs.Common.{◌≡◌, ℕ, zero, suc, ◌≤◌, ◌+◌, ◌==◌, Bool, true, false, not, List, []}
 use Rattle.std.proofs.Common.{◌∷◌, filter, length, Option, Some, None, ◌⊎◌, refl, sym, ap, ◌∙◌, inl}
-use Rattle.std.proofs.Common.{inr, arith}
+use Rattle.std.proofs.{Common.{inr, arith}, lemmas.Bool.{cases_Bool, false≢true, eqb-true}}
+use Rattle.std.proofs.lemmas.Bool.{eqb-false, Decides.nat_tests}
 use Rattle.std.specs.Option.{option_map_or}
-use Rattle.std.proofs.lemmas.Bool.{cases_Bool, false≢true, eqb-true, eqb-false}
-use Rattle.room_rows.specs.declared.node.Node.{Node}
-use Rattle.room_rows.specs.Content.{Content, node_at, reaches_root, without_node}
-use Rattle.room_rows.specs.Finding.{find_id}
+use Rattle.room_rows.specs.{declared.node.Node.Node, Content.{Content, node_at, reaches_root}}
+use Rattle.room_rows.specs.{Content.without_node, Finding.find_id}
 use Rattle.room_rows.proofs.Frames.{node_at-without_node, node_at-without_node-other}
 use Rattle.room_inherit.specs.Ancestry.{EnoughSteps}
-use Rattle.std.proofs.lemmas.Bool.Decides.{nat_tests}
 
 -- ---- fewer objects without one of them
 
@@ -32,18 +30,10 @@ module _ (content : Content) (id : ℕ) where
   back n None up = refl
   back zero (Some p) up = up
   back (suc n) (Some p) up = elim (cases_Bool (p == id)) [
-    | inl same ↦
-        absurd
-        (false≢true
-        (sym (ap
-        (λ o. option_map_or (λ (q : Node). reaches_root n (without_node content id) q.parent) o
-        false) (ap (node_at (without_node content id)) (eqb-true p id same)
-        ∙ node_at-without_node content id)) ∙ up))
+    | inl same ↦ grind (arith, nat_tests, node_at-without_node)
     | inr other ↦
         on (node_at content p)
-        (sym (ap
-        (λ o. option_map_or (λ (q : Node). reaches_root n (without_node content id) q.parent) o
-        false) (node_at-without_node-other content id p (eqb-false p id other))) ∙ up)
+        (grind (arith, nat_tests, node_at-without_node-other))
         (λ parent higher. back n parent higher)
   ]
     where
@@ -53,8 +43,7 @@ module _ (content : Content) (id : ℕ) where
           → ((parent : Option ℕ) → reaches_root n (without_node content id) parent ≡ true
           → reaches_root n content parent ≡ true)
           → option_map_or (λ (q : Node). reaches_root n content q.parent) o false ≡ true
-      on None up before = up
-      on (Some q) up before = before q.parent up
+      on o up before = grind (arith, nat_tests)
 
   -- a way doesn't meet the object, or goes on from it
   cut : (n : ℕ) (parent : Option ℕ) → reaches_root n content parent ≡ true
@@ -80,14 +69,7 @@ module _ (content : Content) (id : ℕ) where
           ⊎ ((m : ℕ) × (m ≤ n) × (reaches_root m content (Some id) ≡ true)))
           → (reaches_root (suc n) (without_node content id) (Some p) ≡ true)
           ⊎ ((m : ℕ) × (m ≤ suc n) × (reaches_root m content (Some id) ≡ true))
-      on other None is up before = absurd (false≢true up)
-      on other (Some q) is up before = elim (before q.parent up) [
-        | inl apart ↦
-            inl (ap
-            (λ o. option_map_or (λ (r : Node). reaches_root n (without_node content id) r.parent) o
-            false) (node_at-without_node-other content id p other ∙ is) ∙ apart)
-        | inr met ↦ inr (met.0, (let less = met.1 in omega (arith, less)), met.2)
-      ]
+      on other o is up before = grind (arith, nat_tests, node_at-without_node-other)
 
 -- ---- enough steps
 
@@ -115,16 +97,13 @@ shorter most before (suc fuel) content fits (suc n) p short up =
     on (Some q) is up again = elim (cut content p n q.parent up) [
       | inl apart ↦
           (let less = fewer p content.nodes q is in
-          ap (λ o. option_map_or (λ (r : Node). reaches_root most content r.parent) o false) is
-          ∙ back content p most q.parent
-          (before (without_node content p) (omega (arith, less, fits)) n q.parent apart))
+          grind (arith, nat_tests, back))
       | inr met ↦ again met.0 (let less = met.1 in omega (arith, less, short)) met.2
     ]
 
 none_left : (content : Content) → length content.nodes ≤ 0 → (n p : ℕ)
     → reaches_root n content (Some p) ≡ true → ⊥
-none_left content fits zero p up = false≢true up
-none_left content fits (suc n) p up = grind (arith, nat_tests, fewer)
+none_left content fits n p up = grind (arith, nat_tests, fewer)
 
 enough : (most : ℕ) → Enough most
 enough most content fits n None up = refl

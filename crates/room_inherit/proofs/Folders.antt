@@ -1,18 +1,13 @@
 -- Objects that stand in folders, before and after lists are carried down.
-use Rattle.std.proofs.Common.{◌≡◌, true, List, Some, arith}
+use Rattle.std.proofs.{Common.{◌≡◌, true, List, Some, arith}, lemmas.Bool.Decides.nat_tests}
 use Rattle.std.specs.List.{list_all}
-use Rattle.room_entry.specs.Ace.{Ace}
-use Rattle.room_entry.specs.declared.object.Which.{Which}
-use Rattle.room_rows.specs.declared.node.Node.{Node}
-use Rattle.room_rows.specs.Content.{Content, has_folder_above, has_parent, is_folder, node_at}
-use Rattle.room_rows.proofs.SamePlace.{IsSamePlace}
+use Rattle.room_entry.specs.{Ace.Ace, declared.object.Which.Which}
+use Rattle.room_rows.specs.{declared.node.Node.Node, Content.{Content, has_folder_above}}
+use Rattle.room_rows.specs.Content.{has_parent, is_folder, node_at}
+use Rattle.room_rows.proofs.{SamePlace.IsSamePlace, Frames.parent_is}
 use Rattle.room_inherit.specs.Spread.{with_lists}
-use Rattle.room_inherit.proofs.Kinship.{same_kind, same_name, same_parent}
-use Rattle.room_inherit.proofs.Frontier.{set, set_id}
-use Rattle.room_inherit.proofs.Outdated.{parent_found}
-use Rattle.room_inherit.proofs.Unmoved.{all_map, folder_above}
-use Rattle.room_rows.proofs.Frames.{parent_is}
-use Rattle.std.proofs.lemmas.Bool.Decides.{nat_tests}
+use Rattle.room_inherit.proofs.{Kinship.{same_kind, same_name, same_parent}, Frontier.{set, set_id}}
+use Rattle.room_inherit.proofs.{Outdated.parent_found, Unmoved.{all_map, folder_above}}
 
 -- an object stands in a folder if its parent is one
 pub in_folder_is : (content : Content) (node parent : Node)

@@ -1,24 +1,15 @@
 -- The objects that wait, while a change of a list is carried down.
 use Rattle.std.proofs.Common.{◌≡◌, ℕ, ◌==◌, Bool, true, false, not, ◌||◌, List, [], ◌∷◌, ◌++◌, map}
-use Rattle.std.proofs.Common.{Some, refl, ap, ◌⊎◌, arith}
-use Rattle.std.specs.Option.{option_map}
-use Rattle.std.specs.List.{AllByRecursion as Each}
-use Rattle.room_entry.specs.Ace.{Ace}
-use Rattle.room_entry.specs.Valid.{is_document}
-use Rattle.room_entry.specs.declared.object.Which.{Which}
-use Rattle.room_rows.specs.declared.node.Node.{Node}
-use Rattle.room_rows.specs.Content.{Content, node_at, has_parent, is_folder}
-use Rattle.room_rows.specs.Finding.{find_id}
-use Rattle.room_rows.specs.Held.{held_of, is_linked}
-use Rattle.room_rows.specs.Keep.{with_inh}
-use Rattle.room_rows.specs.Law.{AllAgreeBut}
-use Rattle.room_rows.specs.Pass.{pass}
+use Rattle.std.proofs.{Common.{Some, refl, ap, ◌⊎◌, arith}, lemmas.Bool.Decides.nat_tests}
+use Rattle.std.specs.{Option.option_map, List.AllByRecursion as Each}
+use Rattle.room_entry.specs.{Ace.Ace, Valid.is_document, declared.object.Which.Which}
+use Rattle.room_rows.specs.{declared.node.Node.Node, Content.{Content, node_at, has_parent}}
+use Rattle.room_rows.specs.{Content.is_folder, Finding.find_id, Held.{held_of, is_linked}}
+use Rattle.room_rows.specs.{Keep.with_inh, Law.AllAgreeBut, Pass.pass}
 use Rattle.room_inherit.specs.Spread.{is_changed, IsLinkedBelow}
-use Rattle.room_inherit.proofs.Kinship.{same_kind, same_parent}
-use Rattle.room_inherit.proofs.Children.{has_id, Apart, ids_of}
+use Rattle.room_inherit.proofs.{Kinship.{same_kind, same_parent}, Children.{has_id, Apart, ids_of}}
 use Rattle.room_inherit.proofs.Renewing.{map_agree, map_map}
 use Rattle.room_rows.proofs.InPlace.{held_of-with_inh, with_inh-id}
-use Rattle.std.proofs.lemmas.Bool.Decides.{nat_tests}
 
 -- ---- objects with other lists
 

@@ -1,24 +1,17 @@
 -- The children of an object gone through, without a write.
-use Rattle.std.proofs.Common.{◌≡◌, ℕ, suc, ◌+◌, ◌<◌, Bool, true, false, cond, List, [], ◌∷◌, ◌++◌}
-use Rattle.std.proofs.Common.{length, drop, get_or, Result, Ok, Err, refl, sym, ap, subst, ◌∙◌}
-use Rattle.std.proofs.Common.{add-one, drop-cons, arith}
-use Rattle.std.proofs.lemmas.List.{append_assoc, append-nil}
-use Rattle.room_entry.specs.Valid.{is_document}
-use Rattle.room_entry.specs.declared.object.ObjKind.{ObjKind}
-use Rattle.room_entry.specs.declared.object.Which.{Which}
-use Rattle.room_rows.specs.declared.keep.Keep.{Ghosts}
-use Rattle.room_rows.specs.declared.node.Node.{Node}
-use Rattle.room_rows.specs.declared.keep.KeepFault.{KeepFault}
-use Rattle.room_rows.specs.Keep.{IsUnreadable, IsRead, HasChildren, KeepLaws}
-use Rattle.room_rows.specs.Rows.{Rows}
-use Rattle.room_rows.proofs.Steps.{HasRead, answered, gives_up, none_yet, read_on, seen}
-use Rattle.room_inherit.specs.declared.by_kind.ByKind.{ByKind}
-use Rattle.room_inherit.specs.declared.descent.Descent.{Descent}
-use Rattle.room_inherit.specs.declared.descent.Reach.{Reach}
-use Rattle.room_inherit.specs.Turn.{Gathers, IsChildless, IsGathered, LeavesOut, TellsWaiting}
-use Rattle.room_inherit.specs.Turn.{brought_up, next_of, of_kind, outdated_of, waits_next}
-use Rattle.room_inherit.proofs.Chosen.{chosen_append, none_below, one_chosen}
+use Rattle.std.proofs.Common.{◌≡◌, ℕ, ◌+◌, ◌<◌, Bool, true, false, cond, List, [], ◌∷◌, ◌++◌}
+use Rattle.std.proofs.Common.{length, drop, get_or, Result, Ok, Err, refl, add-one, drop-cons}
+use Rattle.std.proofs.{Common.arith, lemmas.List.{append_assoc, append-nil}}
 use Rattle.std.proofs.lemmas.Bool.Decides.{nat_tests}
+use Rattle.room_entry.specs.{Valid.is_document, declared.object.{ObjKind.ObjKind, Which.Which}}
+use Rattle.room_rows.specs.declared.{keep.{Keep.Ghosts, KeepFault.KeepFault}, node.Node.Node}
+use Rattle.room_rows.specs.{Keep.{IsUnreadable, IsRead, HasChildren, KeepLaws}, Rows.Rows}
+use Rattle.room_rows.proofs.Steps.{HasRead, answered, gives_up, none_yet, read_on, seen}
+use Rattle.room_inherit.specs.declared.{by_kind.ByKind.ByKind, descent.Descent.Descent}
+use Rattle.room_inherit.specs.{declared.descent.Reach.Reach, Turn.{Gathers, IsChildless}}
+use Rattle.room_inherit.specs.Turn.{IsGathered, LeavesOut, TellsWaiting, brought_up, next_of}
+use Rattle.room_inherit.specs.Turn.{of_kind, outdated_of, waits_next}
+use Rattle.room_inherit.proofs.Chosen.{chosen_append, none_below, one_chosen}
 
 -- ---- whether a child waits
 
@@ -73,9 +66,7 @@ one_gathered k d above child before after sofar numbers a b waits read outdated 
 
 pub rest_of : (nodes : List Node) (i : ℕ) (node : Node) → i < length nodes
     → node ≡ get_or nodes i node → drop i nodes ≡ node ∷ drop (i + 1) nodes
-rest_of nodes i node below is =
-    drop-cons nodes i node below ∙ ap (λ (n : Node). n ∷ drop (suc i) nodes) (sym is)
-    ∙ ap (λ (j : ℕ). node ∷ drop j nodes) (sym (add-one i))
+rest_of nodes i node below is = cc (drop-cons nodes i node below, is, add-one i)
 
 next_cons : (reach : Reach) (which : Which) (above child : Node) (left : List Node)
     → next_of reach which above (child ∷ left) ≡ next_of reach which above (child ∷ [])
@@ -114,23 +105,13 @@ module _ {S : Type 0} (k : Ghosts S)
         → IsGathered d above (child ∷ []) mid after sofar numbers rows
         → HasGathered left after numbers rows
     gathered_more rows has one = record {
-      outdated = λ kind.
-          ap (λ ids. ids ++ outdated_of d.which above kind left) (one.outdated kind)
-          ∙ append_assoc (of_kind sofar kind) (outdated_of d.which above kind (child ∷ []))
-          (outdated_of d.which above kind left)
-          ∙ ap (λ ids. of_kind sofar kind ++ ids)
-          (sym (outdated_cons d.which above kind child left))
-          ∙ has.outdated kind;
+      outdated = grind (arith, nat_tests, append_assoc, outdated_cons);
       waits = λ more chosen.
           let both = chosen_append rows.read (next_of d.reach d.which above (child ∷ []))
           (next_of d.reach d.which above left) one.next more one.chosen chosen in
           let (ends, joined, whole) = has.waits (one.next ++ more)
-          (subst (λ (l : List Node). LeavesOut rows.read l (one.next ++ more))
-          (sym (next_cons d.reach d.which above child left)) both) in (
-            ends,
-            ap (λ (l : List Node). l ++ more) one.waits ∙ append_assoc mid one.next more ∙ joined,
-            whole,
-          );
+          (grind (arith, nat_tests, next_cons)) in
+          grind (arith, nat_tests, append_assoc);
     }
 
     module _ (a b c : S) (has : Gathering (child ∷ left) mid sofar a b) where
@@ -151,9 +132,4 @@ module _ {S : Type 0} (k : Ghosts S)
       answered k.rows k.failures k.writes k.Follows k.IsTrusted a b tt has.read (λ t.
       let found = has.gathered t in
       let (next, joined, chosen) = found.waits [] refl in
-      record {
-        outdated = λ kind. sym (append-nil (of_kind numbers kind)) ∙ found.outdated kind;
-        next = next;
-        waits = sym (append-nil mid) ∙ joined;
-        chosen = chosen;
-      })
+      grind (arith, nat_tests, append-nil))

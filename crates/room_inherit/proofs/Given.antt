@@ -1,25 +1,16 @@
 -- Parents and names that have been given.
 use Rattle.std.proofs.Common.{◌≡◌, ℕ, ◌==◌, ◌<◌, ◌+◌, ◌&&◌, ◌||◌, Bool, true, false, cond, not}
-use Rattle.std.proofs.Common.{List, [], ◌∷◌, ◌++◌, Option, Some, length, get_or, take, nat_lt, refl}
-use Rattle.std.proofs.Common.{sym, ap, ◌∙◌, arith}
-use Rattle.std.specs.Borrow.{Bor}
-use Rattle.std.specs.List.{list_any}
-use Rattle.std.specs.Option.{option_map_or}
-use Rattle.std.specs.Ordering.{nat_cmp, ordering_then, is_eq}
-use Rattle.std.specs.Cmp.Lexicographic.{slice_cmp}
+use Rattle.std.proofs.Common.{List, Option, Some, length, get_or, take, nat_lt, refl, ap, ◌∙◌}
+use Rattle.std.proofs.{Common.arith, lemmas.List.{take_more, Recursion.or_push}}
+use Rattle.std.proofs.lemmas.{Map.Text.is_eq-slice_cmp, Bool.Decides.nat_tests}
+use Rattle.std.specs.{Borrow.Bor, List.list_any, Option.option_map_or, Ordering.nat_cmp}
+use Rattle.std.specs.{Ordering.{ordering_then, is_eq}, Cmp.Lexicographic.slice_cmp}
 use Rattle.std.specs.declared.cmp.Ordering.{Ordering}
-use Rattle.std.specs.declared.cmp.Ordering.TheVariants.{Less, Equal, Greater}
-use Rattle.std.proofs.lemmas.List.{take_more}
-use Rattle.std.proofs.lemmas.List.Recursion.{or_push}
-use Rattle.std.proofs.lemmas.Map.Text.{is_eq-slice_cmp}
 use Rattle.room_entry.specs.Pieces.{same_text}
-use Rattle.room_rows.specs.declared.node.Node.{Node}
-use Rattle.room_rows.specs.Content.{has_parent, same_parent}
-use Rattle.room_rows.specs.Paths.{is_object_name}
+use Rattle.room_rows.specs.{declared.node.Node.Node, Content.{has_parent, same_parent}}
+use Rattle.room_rows.specs.{Paths.is_object_name, Sound.{has_sound_name, same_place}}
 use Rattle.room_inherit.specs.Objects.{are_rising, only}
-use Rattle.room_rows.specs.Sound.{has_sound_name, same_place}
 use Rattle.room_inherit.proofs.Numbers.{any_before}
-use Rattle.std.proofs.lemmas.Bool.Decides.{nat_tests}
 
 -- a parent and a name
 abbrev pub Key : Type 0
@@ -34,9 +25,7 @@ abbrev pub holds : Key → Node → Bool
 holds key node = has_parent key.0 node && same_text node.name key.1.now
 
 both_equal : (a b : Ordering) → is_eq (ordering_then a b) ≡ (is_eq a && is_eq b)
-both_equal Less b = refl
-both_equal Equal b = refl
-both_equal Greater b = refl
+both_equal a b = grind (arith, nat_tests)
 
 pub numbers_equal : (x y : ℕ) → is_eq (nat_cmp x y) ≡ (x == y)
 numbers_equal x y = grind (arith, nat_tests)
@@ -45,30 +34,28 @@ key_equal : (x y : Key) → is_eq (key_order x y) ≡ ((x.0 == y.0) && same_text
 key_equal x y = grind (arith, nat_tests, both_equal, is_eq-slice_cmp, numbers_equal)
 
 or_swapped : (t u : Bool) → cond t true u ≡ (u || t)
-or_swapped true true = refl
-or_swapped true false = refl
-or_swapped false true = refl
-or_swapped false false = refl
+or_swapped t u = grind (arith, nat_tests)
 
 module _ (nodes : List Node) (i : ℕ) (node : Node) (parent : ℕ) (name : Bor (List ℕ))
     (below : i < length nodes) (is : node ≡ get_or nodes i node) (under : node.parent ≡ Some parent)
     (named : name.now ≡ node.name) where
   here : (q : Key) → is_eq (key_order (parent, name) q) ≡ holds q node
-  here q =
-      key_equal (parent, name) q ∙ ap (λ t. (parent == q.0) && same_text t q.1.now) named
-      ∙ ap (λ (o : Option ℕ). option_map_or (λ p. p == q.0) o false && same_text node.name q.1.now)
-      (sym under)
+  here q = cc (key_equal (parent, name) q, named, under)
 
   -- the set with one more
   pub one_more : (old new : Key → Bool) → ((q : Key) → old q ≡ list_any (holds q) (take i nodes))
       → ((q : Key) → new q ≡ cond (is_eq (key_order (parent, name) q)) true (old q)) → (q : Key)
       → new q ≡ list_any (holds q) (take (i + 1) nodes)
   one_more old new was adds q =
-      adds q ∙ ap (λ t. cond t true (old q)) (here q) ∙ ap (λ t. cond (holds q node) true t) (was q)
-      ∙ or_swapped (holds q node) (list_any (holds q) (take i nodes))
-      ∙ sym (or_push (list_any (holds q)) (holds q) refl (λ _ _. refl) (take i nodes) node)
-      ∙ ap (λ x. list_any (holds q) (take i nodes ++ x ∷ [])) is
-      ∙ ap (list_any (holds q)) (sym (take_more nodes i node below))
+      cc (
+        adds q,
+        here q,
+        was q,
+        or_swapped (holds q node) (list_any (holds q) (take i nodes)),
+        or_push (list_any (holds q)) (holds q) refl (λ _ _. refl) (take i nodes) node,
+        is,
+        take_more nodes i node below,
+      )
 
   same_parents : (above : Option ℕ)
       → same_parent above node.parent ≡ option_map_or (λ p. p == parent) above false

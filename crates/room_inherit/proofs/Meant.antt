@@ -1,45 +1,33 @@
 -- What sound rows mean is a content.
 use Rattle.std.proofs.Common.{◌≡◌, ℕ, ◌+◌, ◌<◌, ◌≤◌, ◌==◌, Bool, true, false, cond, not, ◌&&◌, ◌||◌}
 use Rattle.std.proofs.Common.{List, [], ◌∷◌, map, filter, length, Option, Some, None, refl, sym, ap}
-use Rattle.std.proofs.Common.{◌∙◌, inl, inr, arith}
-use Rattle.std.specs.Prelude.{is_none, is_some, nat_lt, nat_le}
-use Rattle.std.specs.List.{find, list_all, list_any, AllByRecursion as Each}
-use Rattle.std.specs.Option.{option_map, option_map_or}
-use Rattle.std.proofs.lemmas.Bool.{cases_Bool, and_parts, and_from, or_from, false≢true, eqb-true}
-use Rattle.std.proofs.lemmas.Bool.{eq-eqb, ne_eqb, ltb-true, lt-ltb, false_from_ne_true}
-use Rattle.std.proofs.lemmas.List.{length-map}
-use Rattle.room_entry.specs.Pieces.{is_among, same_text}
-use Rattle.room_entry.specs.Valid.{is_document}
-use Rattle.room_entry.specs.declared.object.Which.{Which}
-use Rattle.room_entry.specs.declared.object.Which.TheVariants.{Dacl, Sacl}
-use Rattle.room_rows.specs.declared.node.Node.{Node}
-use Rattle.room_rows.specs.Content.{Content, are_names_apart, body_at, body_of, has_folder_above}
-use Rattle.room_rows.specs.Content.{is_folder, is_linked_in, is_rising, is_root, keeps_none_linked}
-use Rattle.room_rows.specs.Content.{parent_of, root_of, same_parent}
-use Rattle.room_rows.specs.Finding.{find_id}
-use Rattle.room_rows.specs.Held.{held_of}
-use Rattle.room_rows.specs.Meaning.{kept_held, kept_node, meaning}
-use Rattle.room_rows.specs.Paths.{is_object_name}
-use Rattle.room_rows.specs.Rows.{AreRows, Rows, Unread, numbers_of, put_numbers}
+use Rattle.std.proofs.{Common.{◌∙◌, inl, inr, arith}, lemmas.Bool.{cases_Bool, and_parts, and_from}}
+use Rattle.std.proofs.lemmas.Bool.{or_from, false≢true, eqb-true, eq-eqb, ne_eqb, ltb-true, lt-ltb}
+use Rattle.std.proofs.lemmas.{Bool.Decides.nat_tests, List.length-map}
+use Rattle.std.specs.{Prelude.{is_none, is_some, nat_lt, nat_le}, List.{find, list_all, list_any}}
+use Rattle.std.specs.{List.AllByRecursion as Each, Option.{option_map, option_map_or}}
+use Rattle.room_entry.specs.{Pieces.{is_among, same_text}, Valid.is_document}
+use Rattle.room_entry.specs.declared.object.Which.{Which, TheVariants.{Dacl, Sacl}}
+use Rattle.room_rows.specs.{declared.node.Node.Node, Content.{Content, are_names_apart, body_at}}
+use Rattle.room_rows.specs.Content.{body_of, has_folder_above, is_folder, is_linked_in, is_rising}
+use Rattle.room_rows.specs.Content.{is_root, keeps_none_linked, parent_of, root_of, same_parent}
+use Rattle.room_rows.specs.{Finding.find_id, Held.held_of, Meaning.{kept_held, kept_node, meaning}}
+use Rattle.room_rows.specs.{Paths.is_object_name, Rows.{AreRows, Rows, numbers_of}, Sound.bad_root}
+use Rattle.room_rows.specs.Sound.{has_sound_name, reaches, same_place}
 use Rattle.room_rows.proofs.InPlace.{KeepsPlaces, numbers-with_each, root_of-with_each}
-use Rattle.room_rows.proofs.SamePlace.{IsSamePlace, filter-changed}
+use Rattle.room_rows.proofs.{SamePlace.{IsSamePlace, filter-changed}, Lookups.found_number}
 use Rattle.room_inherit.specs.Laws.{HasNoFault, SoundIsContent}
-use Rattle.room_rows.specs.Sound.{bad_root, has_sound_body, has_sound_name, reaches, same_place}
 use Rattle.room_inherit.proofs.Children.{apart_rising, each_above, each_found, each_there, ids_of}
+use Rattle.room_inherit.proofs.{NoFault.{no_fault, none_bad, root_alone}, Stored.all_found}
+use Rattle.room_inherit.proofs.{Stored.linked_kept, Whole.{among_found, none_unreadable}}
 use Rattle.room_entry.proofs.Facts.Members.{any_map, any_none, count, count_length, each_fails}
 use Rattle.room_entry.proofs.Facts.Members.{one_if}
-use Rattle.room_inherit.proofs.NoFault.{no_fault, none_bad, root_alone}
-use Rattle.room_inherit.proofs.Stored.{all_found, linked_kept}
 use Rattle.room_inherit.proofs.Unmoved as unmoved
-use Rattle.room_inherit.proofs.Whole.{among_found, none_unreadable}
-use Rattle.room_rows.proofs.Lookups.{found_number}
-use Rattle.std.proofs.lemmas.Bool.Decides.{nat_tests}
 
 -- ---- lists
 
 tail_rises : (k : ℕ) (ids : List ℕ) → is_rising (k ∷ ids) ≡ true → is_rising ids ≡ true
-tail_rises k [] rises = refl
-tail_rises k (x ∷ xs) rises = (and_parts (nat_lt k x) (is_rising (x ∷ xs)) rises).1
+tail_rises k ids rises = grind (arith, nat_tests)
 
 all_of : (p : Node → Bool) → ((n : Node) → p n ≡ true) → (nodes : List Node)
     → list_all p nodes ≡ true
@@ -80,9 +68,7 @@ same_rising k (x ∷ xs) [] up up' same =
 same_rising k (x ∷ xs) (y ∷ ys) up up' same =
     let ups = (and_parts (nat_lt k x) (is_rising (x ∷ xs)) up).1 in
     let ups' = (and_parts (nat_lt k y) (is_rising (y ∷ ys)) up').1 in
-    let head : x ≡ y = least x y xs ys ups ups'
-    (sym (same x) ∙ ap (λ t. t || is_among xs x) (eq-eqb x x refl))
-    (same y ∙ ap (λ t. t || is_among ys y) (eq-eqb y y refl)) in
+    let head : x ≡ y = grind (arith, nat_tests, least) in
     let ups'' : is_rising (x ∷ ys) ≡ true = ap (λ i. is_rising (i ∷ ys)) head ∙ ups' in
     λ i. head i ∷ same_rising x xs ys ups ups''
     (λ id. later x xs ys ups ups'' id (same id ∙ ap (λ j. (j == id) || is_among ys id) (sym head)))
@@ -121,13 +107,7 @@ same_rising k (x ∷ xs) (y ∷ ys) up up' same =
     later : (x : ℕ) (xs ys : List ℕ) → is_rising (x ∷ xs) ≡ true → is_rising (x ∷ ys) ≡ true
         → (id : ℕ) → ((x == id) || is_among xs id) ≡ ((x == id) || is_among ys id)
         → is_among xs id ≡ is_among ys id
-    later x xs ys up up' id both = elim (cases_Bool (x == id)) [
-      | inl is ↦
-          (let e = eqb-true x id is in
-          not_among x xs id up (omega (arith, e)) ∙ sym (not_among x ys id up' (omega (arith, e))))
-      | inr isnt ↦ sym (ap (λ t. t || is_among xs id) isnt) ∙ both
-          ∙ ap (λ t. t || is_among ys id) isnt
-    ]
+    later x xs ys up up' id both = grind (arith, nat_tests, not_among)
 
 -- ---- objects with kept entries
 
@@ -150,8 +130,7 @@ module _ (rows : Content) where
   -- a linked object keeps no entries
   kept_list : (which : Which) (node : Node)
       → held_of which (kept node) ≡ kept_held (is_linked_in rows which node) (held_of which node)
-  kept_list Dacl node = refl
-  kept_list Sacl node = refl
+  kept_list which node = grind (arith, nat_tests)
 
   linked_same : (which : Which) (node : Node)
       → is_linked_in means which (kept node) ≡ is_linked_in rows which node
@@ -164,9 +143,7 @@ module _ (rows : Content) where
 
   lone : (roots : List Node) → bad_root roots ≡ None → (root : Node) × (roots ≡ root ∷ [])
       × (is_folder root ≡ true)
-  lone [] none = absurd (let wrong : ⊥ = cc in wrong)
-  lone (root ∷ []) none = grind (arith, nat_tests)
-  lone (root ∷ other ∷ others) none = absurd (let wrong : ⊥ = cc in wrong)
+  lone roots none = grind (arith, nat_tests)
 
   one_root : bad_root (filter is_root rows.nodes) ≡ None
       → (option_map_or is_folder (root_of means) false
@@ -196,11 +173,7 @@ module _ (rows : Content) where
       by_name : is_root other ≡ false → same_place x other ≡ false
       by_name below =
           let test = and_parts (is_object_name other.name) _
-          (sym (ap
-          (λ t. t
-          || (is_object_name other.name
-          && not (list_any (λ (o : Node). nat_lt o.id other.id && same_place o other)
-          rows.nodes))) below) ∙ sound) in
+          (grind (arith, nat_tests, below, sound)) in
           let none : list_any (λ (o : Node). nat_lt o.id other.id && same_place o other) rows.nodes
           ≡ false =
           not_true
@@ -208,24 +181,19 @@ module _ (rows : Content) where
           test.1 in
           let here : (nat_lt x.id other.id && same_place x other) ≡ false = each_found
           (λ o. (nat_lt o.id other.id && same_place o other) ≡ false) x.id rows.nodes x
-          (each_fails (λ (o : Node). nat_lt o.id other.id && same_place o other) rows.nodes
-          none) there in
+          (search (each_fails)) there in
           sym (ap (λ t. t && same_place x other) (lt-ltb x.id other.id low)) ∙ here
         where
           not_true : (t : Bool) → not t ≡ true → t ≡ false
-          not_true true is = absurd (false≢true is)
-          not_true false is = refl
+          not_true t is = grind (arith, nat_tests)
 
       on : (p : Option ℕ) → x.parent ≡ p → (q : Option ℕ) → other.parent ≡ q
           → same_place x other ≡ false
       on None is None is' =
           absurd
-          (false≢true (sym roots ∙ and_from (is_root x) (is_root other) (ap is_none is)
-          (ap is_none is')))
+          (grind (arith, nat_tests))
       on None is (Some q) is' = by_name (ap is_none is')
-      on (Some p) is None is' =
-          ap (λ o. same_parent o other.parent && same_text x.name other.name) is
-          ∙ ap (λ o. same_parent (Some p) o && same_text x.name other.name) is'
+      on (Some p) is None is' = cc (is, is')
       on (Some p) is (Some q) is' = by_name (ap is_none is')
 
   roots_none : (nodes : List Node) → count is_root nodes ≡ 0 → Each (λ n. is_root n ≡ false) nodes
@@ -245,8 +213,7 @@ module _ (rows : Content) where
       (names_apart xs x.id up there.1 sound.1 (fewer (is_root x) few))
     where
       fewer : (t : Bool) → one_if t + count is_root xs ≤ 1 → count is_root xs ≤ 1
-      fewer true c = omega (arith, c)
-      fewer false c = omega (arith, c)
+      fewer t c = grind (arith, nat_tests)
 
       plain : (nodes : List Node) → is_root x ≡ false
           → Each (λ n. (is_root x && is_root n) ≡ false) nodes
@@ -259,8 +226,7 @@ module _ (rows : Content) where
       beside (n ∷ ns) all = (ap (λ t. is_root x && t) all.0 ∙ never (is_root x), beside ns all.1)
         where
           never : (t : Bool) → (t && false) ≡ false
-          never true = refl
-          never false = refl
+          never t = grind (arith, nat_tests)
 
       roots : (t : Bool) → is_root x ≡ t → one_if t + count is_root xs ≤ 1
           → Each (λ n. (is_root x && is_root n) ≡ false) xs
@@ -293,8 +259,7 @@ filter_rises q k (x ∷ xs) rises j low =
   where
     on : (t : Bool) → j < x.id → ((i : ℕ) → i ≤ x.id → is_rising (i ∷ ids_of (filter q xs)) ≡ true)
         → is_rising (j ∷ ids_of (cond t (x ∷ filter q xs) (filter q xs))) ≡ true
-    on true above more = and_from (nat_lt j x.id) _ (lt-ltb j x.id above) (more x.id (omega arith))
-    on false above more = more j (omega (arith, above))
+    on t above more = grind (arith, nat_tests)
 
 -- a number among those of the objects that pass
 among_passing : (q : Node → Bool) (k : ℕ) (nodes : List Node) → is_rising (k ∷ ids_of nodes) ≡ true
@@ -310,12 +275,7 @@ among_passing q k (x ∷ xs) rises id =
         → is_among (ids_of (filter q xs)) id ≡ option_map_or q (find_id id xs) false
         → is_among (ids_of (cond s (x ∷ filter q xs) (filter q xs))) id
         ≡ option_map_or q (cond t (Some x) (find_id id xs)) false
-    on true is true here rest = ap (λ t. t || is_among (ids_of (filter q xs)) id) here ∙ sym is
-    on true is false here rest = ap (λ t. t || is_among (ids_of (filter q xs)) id) here ∙ rest
-    on false is true here rest =
-        not_among x.id (ids_of (filter q xs)) id (filter_rises q x.id xs up x.id (omega arith))
-        (let e = eqb-true x.id id here in omega (arith, e)) ∙ sym is
-    on false is false here rest = rest
+    on s is t here rest = grind (arith, nat_tests, filter_rises, ids_of, not_among)
 
 among_bodies : (bodies : List (ℕ × List ℕ)) (id : ℕ)
     → is_among (map (λ row. row.0) bodies) id ≡ is_some (body_at bodies id)
@@ -345,30 +305,22 @@ module _ (rows : Rows) (are : AreRows rows) (none : HasNoFault rows)
       fitting : (d : Bool) (body : Option (List ℕ))
           → cond d (option_map_or (λ bytes. nat_le (length bytes) 1048576) body false)
           (is_none body) ≡ true → is_some body ≡ d
-      fitting true None fits = absurd (false≢true fits)
-      fitting true (Some bytes) fits = refl
-      fitting false None fits = refl
-      fitting false (Some bytes) fits = absurd (false≢true fits)
+      fitting d body fits = grind (arith, nat_tests)
 
       listed : is_some (body_of rows.read id) ≡ true → is_some (find_id id rows.read.nodes) ≡ true
       listed has =
-          sym (among_found rows.read.nodes id)
-          ∙ ap (λ (l : List Unread). is_among (put_numbers (map (λ (row : Unread). row.id) l)
-          (ids_of rows.read.nodes)) id) (sym readable)
-          ∙ in_use (numbers_of rows) rows.read.bodies id are.bodies
-          (among_bodies rows.read.bodies id ∙ has)
+          cc (
+            among_found rows.read.nodes id,
+            readable,
+            in_use (numbers_of rows) rows.read.bodies id are.bodies
+                (among_bodies rows.read.bodies id ∙ has),
+          )
 
       on : (o : Option Node) → find_id id rows.read.nodes ≡ o
           → is_some (body_of rows.read id)
           ≡ option_map_or (λ (n : Node). is_document n.kind) o false
-      on None found =
-          false_from_ne_true (is_some (body_of rows.read id))
-          (λ has. false≢true (sym (ap is_some found) ∙ listed has))
-      on (Some n) found =
-          let fits : has_sound_body rows.read n ≡ true = all_found (has_sound_body rows.read)
-          (λ m. m.id == id) rows.read.nodes n none.bodies found in
-          ap (λ i. is_some (body_of rows.read i)) (sym (found_number id rows.read.nodes n found))
-          ∙ fitting (is_document n.kind) (body_of rows.read n.id) fits
+      on None found = grind (arith, nat_tests, listed)
+      on (Some n) found = grind (arith, nat_tests, all_found, fitting, found_number)
 
   bodies : map (λ row. row.0) rows.read.bodies
       ≡ map (λ (n : Node). n.id)
@@ -376,8 +328,7 @@ module _ (rows : Rows) (are : AreRows rows) (none : HasNoFault rows)
   bodies =
       same_rising 0 (map (λ row. row.0) rows.read.bodies)
       (ids_of (filter (λ (n : Node). is_document n.kind) rows.read.nodes)) are.body_numbers
-      (filter_rises (λ (n : Node). is_document n.kind) 0 rows.read.nodes are.numbers 0
-      (omega arith))
+      (grind (arith, nat_tests, filter_rises))
       (λ id. among_bodies rows.read.bodies id ∙ body_there id
       ∙ sym (among_passing (λ (n : Node). is_document n.kind) 0 rows.read.nodes are.numbers id))
       ∙ sym (documents rows.read rows.read.nodes)
@@ -386,12 +337,10 @@ pub sound_is_content : SoundIsContent
 sound_is_content rows are sound =
     let none = no_fault rows sound in
     let content = rows.read in
-    let lone_root : count is_root content.nodes ≡ 1 = sym (count_length is_root content.nodes)
-    ∙ root_alone (filter is_root content.nodes) none.root in
+    let lone_root : count is_root content.nodes ≡ 1 =
+    grind (arith, nat_tests, count_length, root_alone) in
     record {
-      numbers =
-          ap is_rising (numbers-with_each content (kept content) (places content))
-          ∙ tail_rises 0 (ids_of content.nodes) are.numbers;
+      numbers = search (ids_of, numbers-with_each, places, tail_rises);
       one_root = one_root content none.root;
       parents =
           unmoved.all_kept (kept content) (has_folder_above (meaning content))
@@ -403,16 +352,16 @@ sound_is_content rows are sound =
           (unmoved.reach_all content (kept content) (place content)) content.nodes none.reach;
       names =
           names_apart content content.nodes 0 are.numbers
-          (each_there (There content) content.nodes (apart_rising 0 content.nodes are.numbers)
-          (λ n there. there)) (each_passes (has_sound_name content) content.nodes none.names)
+          (
+          search (apart_rising, each_there))
+          (each_passes (has_sound_name content) content.nodes none.names)
           (omega (arith, lone_root));
       bodies = bodies rows are none (none_unreadable rows (none_bad rows none));
       kept =
           unmoved.all_kept (kept content)
           (λ (node : Node). keeps_none_linked (meaning content) Dacl node
           && keeps_none_linked (meaning content) Sacl node) (λ n. true)
-          (λ n. and_from (keeps_none_linked (meaning content) Dacl (kept content n)) _
-          (keeps_none content Dacl n) (keeps_none content Sacl n)) content.nodes
+          (search (and_from, keeps_none)) content.nodes
           (all_of (λ n. true) (λ n. refl) content.nodes);
       members = are.members;
     }

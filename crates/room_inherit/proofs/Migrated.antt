@@ -1,46 +1,29 @@
 -- Rows of which all lists were carried down are sound, and mean what they meant.
-use Rattle.std.proofs.Common.{◌≡◌, ℕ, zero, suc, ◌==◌, Bool, true, false, not, ◌&&◌, ◌||◌, List, []}
-use Rattle.std.proofs.Common.{◌∷◌, map, length, Option, Some, None, refl, sym, ap, subst, ◌∙◌}
-use Rattle.std.proofs.Common.{arith}
-use Rattle.std.specs.Prelude.{is_none, nat_le, option_and_then}
-use Rattle.std.specs.List.{list_all}
-use Rattle.std.specs.Option.{option_map, option_map_or}
-use Rattle.std.proofs.lemmas.Bool.{and_parts, and_from, false≢true, not-false}
+use Rattle.std.proofs.Common.{◌≡◌, ℕ, zero, suc, ◌==◌, Bool, true, false, not, ◌&&◌, List, [], ◌∷◌}
+use Rattle.std.proofs.Common.{map, length, Option, Some, None, refl, sym, ap, subst, ◌∙◌, arith}
+use Rattle.std.proofs.lemmas.Bool.{and_parts, and_from, false≢true, not-false, Decides.nat_tests}
 use Rattle.std.proofs.lemmas.List.Folds.{list_all-append}
-use Rattle.room_entry.specs.Ace.{Ace}
-use Rattle.room_entry.specs.Valid.{is_document}
-use Rattle.room_entry.specs.declared.flags.EntryFlags.{EntryFlags}
-use Rattle.room_entry.specs.declared.object.ObjKind.{ObjKind}
-use Rattle.room_entry.specs.declared.object.ObjKind.TheVariants.{Document, Folder}
-use Rattle.room_entry.specs.declared.object.Which.{Which}
+use Rattle.std.specs.{Prelude.{nat_le, option_and_then}, List.list_all, Option.option_map}
+use Rattle.std.specs.Option.{option_map_or}
+use Rattle.room_entry.specs.{Ace.Ace, Valid.is_document, declared.flags.EntryFlags.EntryFlags}
+use Rattle.room_entry.specs.declared.object.{ObjKind.{ObjKind, TheVariants.Folder}, Which.Which}
 use Rattle.room_entry.specs.declared.object.Which.TheVariants.{Dacl, Sacl}
-use Rattle.room_entry.proofs.Same.{entries_equal}
-use Rattle.room_rows.specs.HeldList.{Held}
-use Rattle.room_rows.specs.declared.node.Node.{Node}
-use Rattle.room_rows.specs.Content.{Content, has_folder_above, is_folder, is_linked_in, node_at}
-use Rattle.room_rows.specs.Content.{parent_of, reaches_root}
-use Rattle.room_rows.specs.Held.{held_of, full_of, is_linked}
-use Rattle.room_rows.specs.Keep.{with_content, with_inh}
-use Rattle.room_rows.specs.Meaning.{kept_held, kept_node, meaning}
-use Rattle.room_rows.specs.Rows.{AreRows, Rows}
-use Rattle.room_rows.proofs.InPlace.{KeepsPlaces, node_at-with_each}
-use Rattle.room_rows.proofs.SamePlace.{IsSamePlace}
-use Rattle.room_rows.specs.Law.{AllAgree, agrees, agrees_with}
-use Rattle.room_inherit.specs.Laws.{are_valid, MigratedIsSound, MigratedMeansTheSame}
-use Rattle.room_rows.specs.Pass.{pass, passed_flags}
-use Rattle.room_rows.specs.Sound.{AreSound, first_fault, has_sound_lists, is_sound_held, reaches}
-use Rattle.room_inherit.specs.Spread.{is_changed}
-use Rattle.room_inherit.specs.SpreadAll.{IsSpreadAll, with_both}
-use Rattle.room_inherit.proofs.Children.{apart_rising, each_there}
-use Rattle.room_inherit.proofs.NoFault.{IsChecked, checked, list_checked}
-use Rattle.room_inherit.proofs.Renewing.{map_agree, map_map}
-use Rattle.room_inherit.proofs.Stored.{all_found}
-use Rattle.room_inherit.proofs.Unmoved as unmoved
-use Rattle.room_inherit.proofs.Valid.{pass_is_valid}
-use Rattle.room_inherit.proofs.Whole.{not_bad}
+use Rattle.room_entry.proofs.{Same.entries_equal, Facts.Booleans.implied}
+use Rattle.room_rows.specs.{HeldList.Held, declared.node.Node.Node, Content.Content}
+use Rattle.room_rows.specs.Content.{has_folder_above, is_linked_in, node_at, parent_of}
+use Rattle.room_rows.specs.{Content.reaches_root, Held.{held_of, full_of, is_linked}}
+use Rattle.room_rows.specs.{Keep.{with_content, with_inh}, Meaning.{kept_held, kept_node, meaning}}
+use Rattle.room_rows.specs.{Rows.{AreRows, Rows}, Law.{AllAgree, agrees, agrees_with}, Pass.pass}
+use Rattle.room_rows.specs.{Pass.passed_flags, Sound.{AreSound, first_fault, has_sound_lists}}
+use Rattle.room_rows.specs.Sound.{is_sound_held, reaches}
+use Rattle.room_rows.proofs.{InPlace.{KeepsPlaces, node_at-with_each}, SamePlace.IsSamePlace}
 use Rattle.room_rows.proofs.Lookups.{found_number}
-use Rattle.room_entry.proofs.Facts.Booleans.{implied}
-use Rattle.std.proofs.lemmas.Bool.Decides.{nat_tests}
+use Rattle.room_inherit.specs.Laws.{are_valid, MigratedIsSound, MigratedMeansTheSame}
+use Rattle.room_inherit.specs.{Spread.is_changed, SpreadAll.{IsSpreadAll, with_both}}
+use Rattle.room_inherit.proofs.{Children.{apart_rising, each_there}, NoFault.{IsChecked, checked}}
+use Rattle.room_inherit.proofs.{NoFault.list_checked, Renewing.{map_agree, map_map}}
+use Rattle.room_inherit.proofs.{Stored.all_found, Valid.pass_is_valid, Whole.not_bad}
+use Rattle.room_inherit.proofs.Unmoved as unmoved
 
 all_both : {X : Type 0} (p q : X → Bool) (xs : List X) → list_all p xs ≡ true → list_all q xs ≡ true
     → list_all (λ x. p x && q x) xs ≡ true
@@ -58,8 +41,7 @@ are_marked entries = list_all (λ entry. entry.flags.inherited) entries
 
 pub marked_flags : (kind : ObjKind) (flags : EntryFlags)
     → option_map_or (λ f. f.inherited) (passed_flags kind flags) true ≡ true
-marked_flags Document flags = grind (arith, nat_tests)
-marked_flags Folder flags = grind (arith, nat_tests)
+marked_flags kind flags = grind (arith, nat_tests)
 
 passed_marked : (kind : ObjKind) (entries : List Ace) → are_marked (pass kind entries) ≡ true
 passed_marked kind [] = refl
@@ -84,8 +66,7 @@ module _ (which : Which) (kind : ObjKind) (held : Held)
   renewed entries marked valid = grind (arith, nat_tests, list_all-append, own_valid, parts)
 
 pub folder_is : (kind : ObjKind) → not (is_document kind) ≡ true → kind ≡ Folder
-folder_is Document is = absurd (false≢true is)
-folder_is Folder is = refl
+folder_is kind is = grind (arith, nat_tests)
 
 -- ---- objects with these inherited entries
 
@@ -111,14 +92,12 @@ module _ (f g : Node → List Ace) (old : Content) where
 
   held_new : (which : Which) (node : Node)
       → held_of which (both node) ≡ record (held_of which node) { inh = lists which node }
-  held_new Dacl node = refl
-  held_new Sacl node = refl
+  held_new which node = grind (arith, nat_tests)
 
   linked_to : (which : Which) (node parent : Node)
       → is_linked (held_of which (both node)) (Some (held_of which (both parent)))
       ≡ is_linked (held_of which node) (Some (held_of which parent))
-  linked_to Dacl node parent = refl
-  linked_to Sacl node parent = refl
+  linked_to which node parent = grind (arith, nat_tests)
 
   linked_new : (which : Which) (node : Node)
       → is_linked_in new which (both node) ≡ is_linked_in old which node
@@ -140,8 +119,7 @@ module _ (f g : Node → List Ace) (old : Content) where
 
     kept_new : (t : Bool) (held : Held) (entries : List Ace) → (t ≡ false → entries ≡ held.inh)
         → kept_held t (record held { inh = entries }) ≡ kept_held t held
-    kept_new true held entries same = refl
-    kept_new false held entries same = ap (λ es. record held { inh = es }) (same refl)
+    kept_new t held entries same = grind (arith, nat_tests)
 
     kept_same : (which : Which) (node : Node) → There node
         → kept_held (is_linked_in new which (both node)) (held_of which (both node))
@@ -167,18 +145,10 @@ module _ (f g : Node → List Ace) (old : Content) where
           (λ m. m.id == node.id) (map both old.nodes) (both node) (law which)
           (node_at-with_each old both places node.id ∙ ap (option_map both) there) in
           let agree : agrees_with which (both node) (both parent) ≡ true =
-          sym (ap (λ o. option_map_or (agrees_with which (both node)) o true)
-          (above node ∙ ap (option_map both) up)) ∙ here in
+          cc (up, above node, here) in
           let links : is_linked (held_of which (both node)) (Some (held_of which (both parent)))
-          ≡ true =
-          linked_to which node parent
-          ∙ sym (ap (λ o. is_linked (held_of which node) (option_map (held_of which) o)) up)
-          ∙ linked in
-          sym (ap (λ (h : Held). h.inh) (held_new which node))
-          ∙ entries_equal (held_of which (both node)).inh
-          (pass node.kind (full_of (held_of which (both parent))))
-          (implied (is_linked (held_of which (both node)) (Some (held_of which (both parent)))) _
-          agree links)
+          ≡ true = grind (arith, nat_tests, linked_to) in
+          grind (arith, nat_tests, entries_equal, held_new, implied)
 
       abbrev SoundNow : Which → Node → Type 0
       SoundNow which node = is_sound_held which node.kind (held_of which (both node)) ≡ true
@@ -191,12 +161,7 @@ module _ (f g : Node → List Ace) (old : Content) where
       -- down from the root
       descend : (which : Which) (k : ℕ) (node : Node) → There node → (up : Option ℕ)
           → node.parent ≡ up → reaches_root k old up ≡ true → SoundNow which node
-      descend which k node there None is reaches =
-          settle which node there
-          (λ linked. absurd
-          (false≢true
-          (sym (ap (λ o. is_linked (held_of which node)
-          (option_map (held_of which) (option_and_then (node_at old) o))) is) ∙ linked)))
+      descend which k node there None is reaches = grind (arith, nat_tests, settle)
       descend which zero node there (Some id) is reaches = absurd (false≢true reaches)
       descend which (suc k) node there (Some id) is reaches =
           on (node_at old id) refl
@@ -205,33 +170,20 @@ module _ (f g : Node → List Ace) (old : Content) where
           on : (o : Option Node) → node_at old id ≡ o
               → ((parent : Node) → There parent → reaches_root k old parent.parent ≡ true
               → SoundNow which parent) → SoundNow which node
-          on None found before =
-              absurd
-              (false≢true
-              (sym (ap (λ o. option_map_or (λ (p : Node). reaches_root k old p.parent) o false)
-              found) ∙ reaches))
+          on None found before = search (false≢true)
           on (Some parent) found before =
-              let there' : There parent = ap (node_at old) (found_number id old.nodes parent found)
-              ∙ found in
+              let there' : There parent = grind (arith, nat_tests, found_number) in
               let sound = before parent there'
-              (sym (ap (λ o. option_map_or (λ (p : Node). reaches_root k old p.parent) o false)
-              found) ∙ reaches) in
-              let has : has_folder_above old node ≡ true = all_found (has_folder_above old)
-              (λ m. m.id == node.id) old.nodes node folders there in
+              (cc (found, reaches)) in
+              let has : has_folder_above old node ≡ true = grind (arith, nat_tests, all_found) in
               let folder = folder_is parent.kind
-              (sym (ap (λ o. option_map_or is_folder o false) found)
-              ∙ sym (ap (λ o. is_none o || option_map_or is_folder
-              (option_and_then (node_at old) o) false) is) ∙ has) in
+              (cc (found, is, has)) in
               let full = full_of (held_of which (both parent)) in
-              let valid : are_valid which Folder full ≡ true = ap
-              (λ kind. are_valid which kind full) (sym folder)
-              ∙ (parts which parent.kind (held_of which (both parent)) sound).1 in
+              let valid : are_valid which Folder full ≡ true = grind (arith, nat_tests, parts) in
               settle which node there (λ linked.
               let takes = taken which node parent there
-              (ap (option_and_then (node_at old)) is ∙ found) linked in (
-                ap are_marked takes ∙ passed_marked node.kind full,
-                ap (are_valid which node.kind) takes ∙ pass_is_valid which node.kind full valid,
-              ))
+              (ap (option_and_then (node_at old)) is ∙ found) linked in
+              grind (arith, nat_tests, pass_is_valid, passed_marked))
 
 -- ---- rows
 
@@ -251,8 +203,7 @@ module _ (old new : Rows) (changed : ℕ) (spread : IsSpreadAll old new changed)
   linked_of : (which : Which) (node : Node) → node_at old.read node.id ≡ Some node
       → is_changed which (lists f g old.read which) node ≡ true
       → is_linked_in old.read which node ≡ true
-  linked_of Dacl node there is = spread.linked_dacls node there is
-  linked_of Sacl node there is = spread.linked_sacls node there is
+  linked_of which node there is = grind (arith, nat_tests)
 
   meant : AreRows old → meaning after.read ≡ meaning old.read
   meant are =
@@ -260,9 +211,7 @@ module _ (old new : Rows) (changed : ℕ) (spread : IsSpreadAll old new changed)
       (λ n. kept_node after.read (set n) ≡ kept_node old.read n) old.read.nodes
       (apart_rising 0 old.read.nodes are.numbers)
       (λ n there. node_same f g old.read linked_of n there) in
-      ap (λ (ns : List Node). record old.read { nodes = ns })
-      (map_map (kept_node after.read) set old.read.nodes
-      ∙ map_agree (λ n. kept_node after.read (set n)) (kept_node old.read) old.read.nodes each)
+      grind (arith, nat_tests, map_agree, map_map)
 
   module _ (none : first_fault old ≡ None) where
     tests : IsChecked old
@@ -293,8 +242,7 @@ module _ (old new : Rows) (changed : ℕ) (spread : IsSpreadAll old new changed)
         unmoved.still_sound old set (place f g old.read) (λ n. refl) tests
         (λ node there before. and_from (is_sound_held Dacl node.kind (set node).dacl) _
         (good Dacl node there) (good Sacl node there))
-        (all_both (agrees after.read Dacl) (agrees after.read Sacl) after.read.nodes (law Dacl)
-        (law Sacl))
+        (search (all_both, law))
 
 pub migrated_is_sound : MigratedIsSound
 migrated_is_sound old new changed none spread =

@@ -1,21 +1,17 @@
 -- Sound rows have no fault.
 use Rattle.std.proofs.Common.{◌≡◌, ℕ, Bool, true, not, ap, List, [], ◌∷◌, filter, length, Option}
-use Rattle.std.proofs.Common.{Some, None, refl, sym, ◌∙◌, arith}
-use Rattle.std.specs.List.{find, list_all}
-use Rattle.std.specs.Option.{option_map}
-use Rattle.std.proofs.Math.Bool.{not-not}
-use Rattle.room_rows.specs.declared.node.Node.{Node}
-use Rattle.room_rows.specs.Content.{has_folder_above, is_root}
-use Rattle.room_rows.specs.Rows.{Rows, numbers_of}
-use Rattle.room_rows.specs.declared.report.Report.{Report}
-use Rattle.room_rows.specs.declared.report.Report.TheVariants.{Sound, Fault}
-use Rattle.room_rows.specs.declared.report.Unsound.TheVariants.{Loop, BadList, BrokenLaw, BadRoot}
+use Rattle.std.proofs.{Common.{None, refl, sym, ◌∙◌, arith}, Math.Bool.not-not}
+use Rattle.std.proofs.lemmas.Bool.Decides.{nat_tests}
+use Rattle.std.specs.{List.{find, list_all}, Option.option_map}
+use Rattle.room_rows.specs.declared.{node.Node.Node, report.Report.{Report, TheVariants.Sound}}
+use Rattle.room_rows.specs.declared.report.{Report.TheVariants.Fault, Unsound.TheVariants.Loop}
+use Rattle.room_rows.specs.declared.report.Unsound.TheVariants.{BadList, BrokenLaw, BadRoot}
 use Rattle.room_rows.specs.declared.report.Unsound.TheVariants.{BadParent, BadName, BadBody}
-use Rattle.room_inherit.specs.Laws.{CheckedIsTree, HasNoFault, KeptIsNoFault, SoundIsNoFault}
+use Rattle.room_rows.specs.{Content.{has_folder_above, is_root}, Rows.{Rows, numbers_of}}
 use Rattle.room_rows.specs.Sound.{AreSound, bad_root, fault_of, first_bad_list, first_failing}
 use Rattle.room_rows.specs.Sound.{first_fault, has_bad_list, has_sound_body, has_sound_name}
 use Rattle.room_rows.specs.Sound.{keeps_law, or_else, or_sound, path_by_number, reaches, true_path}
-use Rattle.std.proofs.lemmas.Bool.Decides.{nat_tests}
+use Rattle.room_inherit.specs.Laws.{CheckedIsTree, HasNoFault, KeptIsNoFault, SoundIsNoFault}
 
 -- ---- a test that finds nothing, passed by all
 
@@ -57,14 +53,7 @@ module _ (path : Node → List ℕ) where
       → by_tests list root parent reach name body law ≡ Sound
       → (list ≡ None) × (root ≡ None) × (parent ≡ None) × (reach ≡ None) × (name ≡ None)
       × (body ≡ None) × (law ≡ None)
-  each_none (Some x) root parent reach name body law sound = absurd (let wrong : ⊥ = cc in wrong)
-  each_none None (Some x) parent reach name body law sound = absurd (let wrong : ⊥ = cc in wrong)
-  each_none None None (Some x) reach name body law sound = absurd (let wrong : ⊥ = cc in wrong)
-  each_none None None None (Some x) name body law sound = absurd (let wrong : ⊥ = cc in wrong)
-  each_none None None None None (Some x) body law sound = absurd (let wrong : ⊥ = cc in wrong)
-  each_none None None None None None (Some x) law sound = absurd (let wrong : ⊥ = cc in wrong)
-  each_none None None None None None None (Some x) sound = absurd (let wrong : ⊥ = cc in wrong)
-  each_none None None None None None None None sound = (refl, refl, refl, refl, refl, refl, refl)
+  each_none list root parent reach name body law sound = grind (arith, nat_tests)
 
 -- the first six tests find nothing
 pub record IsChecked (rows : Rows) : Type 0 where
@@ -127,19 +116,13 @@ sound_is_no_fault rows = (no_fault rows, sound rows)
 
 -- where the root isn't bad, one object and no other has no parent
 pub root_alone : (roots : List Node) → bad_root roots ≡ None → length roots ≡ 1
-root_alone [] none = absurd (let wrong : ⊥ = cc in wrong)
-root_alone (root ∷ []) none = refl
-root_alone (root ∷ other ∷ others) none = absurd (let wrong : ⊥ = cc in wrong)
+root_alone roots none = grind (arith, nat_tests)
 
 -- rows that pass the six tests are a tree: one root, folders above all, and no loop
 pub checked_is_tree : CheckedIsTree
 checked_is_tree rows unfaulted =
     let none = checked rows unfaulted in
-    record {
-      one_root = root_alone (filter is_root rows.read.nodes) none.root;
-      folders = none.parents;
-      connected = none.reach;
-    }
+    search (root_alone)
 
 -- ---- rows that hold the kept entries alone
 

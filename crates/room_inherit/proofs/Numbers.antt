@@ -1,18 +1,12 @@
 -- Objects whose numbers rise.
 use Rattle.std.proofs.Common.{◌≡◌, ℕ, zero, suc, ◌<◌, ◌≤◌, ◌+◌, ◌&&◌, ◌||◌, Bool, true, false, List}
 use Rattle.std.proofs.Common.{[], ◌∷◌, map, length, get_or, take, Some, None, nat_lt, refl, sym, ap}
-use Rattle.std.proofs.Common.{◌∙◌, arith}
-use Rattle.std.specs.List.{list_any, filter_map, cons_option}
-use Rattle.std.specs.List.Sorted.{IsSortedBy}
-use Rattle.std.specs.declared.cmp.Ordering.TheVariants.{Less, Equal, Greater}
-use Rattle.std.specs.Ordering.{nat_cmp, is_lt}
-use Rattle.std.proofs.lemmas.Bool.{and_parts, eq-eqb, ne_eqb, ltb-true, lt-ltb, le-ltb, cond-true}
-use Rattle.std.proofs.lemmas.Bool.{cond-false}
-use Rattle.std.specs.Cmp.{nat_cmp_is}
-use Rattle.room_rows.specs.declared.node.Node.{Node}
-use Rattle.room_rows.specs.Content.{is_rising}
-use Rattle.room_rows.specs.Finding.{find_id}
-use Rattle.std.proofs.lemmas.Bool.Decides.{nat_tests}
+use Rattle.std.proofs.{Common.{◌∙◌, arith}, lemmas.Bool.{and_parts, eq-eqb, ne_eqb, ltb-true}}
+use Rattle.std.proofs.lemmas.Bool.{lt-ltb, le-ltb, cond-true, cond-false, Decides.nat_tests}
+use Rattle.std.specs.List.{list_any, filter_map, cons_option, Sorted.IsSortedBy}
+use Rattle.std.specs.{declared.cmp.Ordering.TheVariants.{Less, Equal, Greater}, Ordering.nat_cmp}
+use Rattle.std.specs.{Ordering.is_lt, Cmp.nat_cmp_is}
+use Rattle.room_rows.specs.{declared.node.Node.Node, Content.is_rising, Finding.find_id}
 
 abbrev pub ids_of : List Node → List ℕ
 ids_of nodes = map (λ (n : Node). n.id) nodes

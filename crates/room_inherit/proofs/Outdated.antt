@@ -1,42 +1,29 @@
 -- The children of an object that store something else than they inherit, and all lists once these
 -- are renewed.
 use Rattle.std.proofs.Common.{◌≡◌, ℕ, ◌+◌, ◌==◌, Bool, true, false, cond, not, ◌&&◌, ◌||◌, List, []}
-use Rattle.std.proofs.Common.{◌∷◌, ◌++◌, filter, length, Option, Some, None, refl, sym, ap, ◌∙◌}
-use Rattle.std.proofs.Common.{arith}
-use Rattle.std.specs.Prelude.{option_and_then}
-use Rattle.std.specs.Option.{option_map}
-use Rattle.std.proofs.lemmas.Bool.{cond-true, cond-false}
-use Rattle.std.proofs.lemmas.List.Folds.{list_any-append}
-use Rattle.std.proofs.lemmas.List.{length-map}
-use Rattle.std.specs.List.{AllByRecursion as Each}
-use Rattle.std.proofs.Math.Bool.{or-false}
-use Rattle.room_entry.specs.Ace.{Ace}
-use Rattle.room_entry.specs.Same.{same_entries}
-use Rattle.room_entry.specs.declared.object.Which.{Which}
-use Rattle.room_entry.proofs.Same.{entries_equal}
-use Rattle.room_entry.proofs.Alike.{equal_entries}
-use Rattle.room_rows.specs.declared.node.Node.{Node}
-use Rattle.room_rows.specs.Content.{Content, node_at, parent_of, has_parent, children_of, with_each}
-use Rattle.room_rows.specs.Held.{held_of, is_linked}
+use Rattle.std.proofs.Common.{◌∷◌, ◌++◌, filter, length, Option, Some, refl, sym, ap, ◌∙◌, arith}
+use Rattle.std.proofs.lemmas.{Bool.{cond-true, cond-false, Decides.nat_tests}, List.length-map}
+use Rattle.std.proofs.{lemmas.List.Folds.list_any-append, Math.Bool.or-false}
+use Rattle.std.specs.{Prelude.option_and_then, Option.option_map, List.AllByRecursion as Each}
+use Rattle.room_entry.specs.{Ace.Ace, Same.same_entries, declared.object.Which.Which}
+use Rattle.room_entry.proofs.{Same.entries_equal, Alike.equal_entries, Facts.Members.count}
+use Rattle.room_entry.proofs.Facts.Members.{count_length, count_map, count_agree, count_either}
+use Rattle.room_rows.specs.{declared.node.Node.Node, Content.{Content, node_at, parent_of}}
+use Rattle.room_rows.specs.{Content.{has_parent, children_of, with_each}, Held.{held_of, is_linked}}
 use Rattle.room_rows.specs.Keep.{with_inh}
-use Rattle.room_inherit.specs.Spread.{with_lists, is_changed}
-use Rattle.room_inherit.specs.Turn.{is_linked_to, is_outdated, renewed_node, renewals}
-use Rattle.room_inherit.specs.Turn.{renewed_below}
-use Rattle.room_inherit.proofs.Kinship.{same_kind, with_last}
-use Rattle.room_entry.proofs.Facts.Members.{count, count_length, count_map, count_agree}
-use Rattle.room_entry.proofs.Facts.Members.{count_either}
-use Rattle.room_inherit.proofs.Children.{has_id, Apart, each_there, apart_map, count_children}
-use Rattle.room_inherit.proofs.Renewing.{map_agree, map_map, one_object}
-use Rattle.room_inherit.proofs.Frontier.{set, set_id, set_parent, set_held, links, passes}
+use Rattle.room_inherit.specs.{Spread.{with_lists, is_changed}, Turn.{is_linked_to, is_outdated}}
+use Rattle.room_inherit.specs.Turn.{renewed_node, renewals, renewed_below}
+use Rattle.room_inherit.proofs.{Kinship.{same_kind, with_last}, Children.{has_id, Apart}}
+use Rattle.room_inherit.proofs.Children.{each_there, apart_map, count_children}
+use Rattle.room_inherit.proofs.{Renewing.{map_agree, map_map, one_object}, Frontier.{set, set_id}}
+use Rattle.room_inherit.proofs.Frontier.{set_parent, set_held, links, passes}
 use Rattle.room_rows.proofs.Frames.{parent_is}
-use Rattle.std.proofs.lemmas.Bool.Decides.{nat_tests}
 
 -- ---- parents
 
 pub same_above : (a b : ℕ) (node : Node) → has_parent a node ≡ true → has_parent b node ≡ true
     → a ≡ b
-same_above a b node has has' = let e : Some a ≡ Some b =
-    sym (parent_is a node has) ∙ parent_is b node has' in cc
+same_above a b node has has' = grind (arith, nat_tests, parent_is)
 
 pub parent_found : (content : Content) (parent node : Node)
     → node_at content parent.id ≡ Some parent → has_parent parent.id node ≡ true
@@ -70,8 +57,7 @@ has_last xs y = grind (arith, nat_tests, has_either, has_id)
 
 pub base_of : (which : Which) (f : Node → List Ace) (m : Node) (o : Option Node)
     → option_map (set which f) o ≡ Some m → (n : Node) × (o ≡ Some n) × (m ≡ set which f n)
-base_of which f m None e = absurd (let wrong : ⊥ = cc in wrong)
-base_of which f m (Some n) e = (n, refl, let back : set which f n ≡ m = cc in sym back)
+base_of which f m o e = grind (arith, nat_tests, set)
 
 -- ---- the children of an object that waits, and what it is without its list
 
@@ -146,9 +132,7 @@ module _ (which : Which) (f : Node → List Ace) (w w0 : Node) where
         (renewals which w (children_of (with_lists which f old) w.id))
     count_renewed is apart =
         count_either (is_changed which f) stale (is_changed which after) old.nodes
-        (each_there (λ n. (is_changed which after n ≡ (is_changed which f n || stale n))
-        × (stale n ≡ true → is_changed which f n ≡ false)) old.nodes apart
-        (λ n there. (changed_is n there, λ st. unchanged n there (stale_parts n st).0)))
+        (grind (arith, nat_tests, changed_is, each_there, stale_parts))
         ∙ ap (λ k. count (is_changed which f) old.nodes + k) (sym number)
       where
         every : (xs : List Node)

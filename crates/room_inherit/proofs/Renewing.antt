@@ -1,35 +1,24 @@
 -- Objects of rows that are changed by their numbers, and the children of an object renewed so.
 use Rattle.std.proofs.Common.{◌≡◌, ℕ, ◌+◌, ◌==◌, Bool, true, false, cond, not, ◌&&◌, ◌||◌, List, []}
 use Rattle.std.proofs.Common.{◌∷◌, map, filter, length, Option, Some, None, refl, sym, ap, ◌∙◌}
-use Rattle.std.proofs.Common.{arith}
-use Rattle.std.specs.Prelude.{IsTrue, is_some}
-use Rattle.std.specs.List.{AllByRecursion as Each, list_any}
+use Rattle.std.proofs.{Common.arith, lemmas.Bool.{and_parts, and_from, Decides.nat_tests}}
+use Rattle.std.proofs.lemmas.{List.{map-id, length-map}, Option.same_Some}
+use Rattle.std.specs.{Prelude.{IsTrue, is_some}, List.{AllByRecursion as Each, list_any}}
 use Rattle.std.specs.Option.{option_map}
-use Rattle.std.proofs.lemmas.Bool.{and_parts, and_from}
-use Rattle.std.proofs.lemmas.List.{map-id, length-map}
-use Rattle.std.proofs.lemmas.Option.{same_Some}
-use Rattle.room_entry.specs.Valid.{is_document}
-use Rattle.room_entry.specs.declared.object.ObjKind.{ObjKind}
-use Rattle.room_entry.specs.declared.object.ObjKind.TheVariants.{Document, Folder}
-use Rattle.room_entry.specs.declared.object.Which.{Which}
-use Rattle.room_rows.specs.declared.node.Node.{Node}
-use Rattle.room_rows.specs.Content.{Content, node_at, children_of, has_parent, with_each}
-use Rattle.room_rows.specs.Finding.{find_id}
-use Rattle.room_rows.specs.Held.{held_of}
-use Rattle.room_rows.specs.Keep.{are_there, with_changed, with_content, with_inh}
-use Rattle.room_rows.specs.Rows.{Rows}
-use Rattle.room_inherit.specs.declared.by_kind.ByKind.{ByKind}
-use Rattle.room_inherit.specs.declared.passed.Passed.{Passed}
+use Rattle.room_entry.specs.{Valid.is_document, declared.object.ObjKind.ObjKind}
+use Rattle.room_entry.specs.declared.object.{ObjKind.TheVariants.{Document, Folder}, Which.Which}
+use Rattle.room_rows.specs.{declared.node.Node.Node, Content.{Content, node_at, children_of}}
+use Rattle.room_rows.specs.{Content.{has_parent, with_each}, Finding.find_id, Held.held_of}
+use Rattle.room_rows.specs.{Keep.{are_there, with_changed, with_content, with_inh}, Rows.Rows}
+use Rattle.room_inherit.specs.declared.{by_kind.ByKind.ByKind, passed.Passed.Passed}
 use Rattle.room_inherit.specs.Turn.{IsPassed, count_of, is_kind, is_outdated, of_kind, outdated_of}
 use Rattle.room_inherit.specs.Turn.{renewals, renewed_below, renewed_node, to_kind, with_passed}
 use Rattle.room_entry.proofs.Facts.Members.{all_each, any_map, count, count_either, count_length}
 use Rattle.room_entry.proofs.Facts.Members.{each_filter, each_map}
-use Rattle.room_rows.proofs.Frames.{Rises}
-use Rattle.room_rows.proofs.InPlace.{keeps_places, node_at-with_each, place-with_inh}
-use Rattle.room_rows.proofs.InPlace.{with_each-with_each}
-use Rattle.room_rows.proofs.SamePlace.{IsSamePlace, same_place}
+use Rattle.room_rows.proofs.{Frames.Rises, InPlace.{keeps_places, node_at-with_each}}
+use Rattle.room_rows.proofs.{InPlace.{place-with_inh, with_each-with_each}, SamePlace.IsSamePlace}
+use Rattle.room_rows.proofs.SamePlace.{same_place}
 use Rattle.room_inherit.proofs.Children.{apart_rising, each_child, each_there, is_such_child}
-use Rattle.std.proofs.lemmas.Bool.Decides.{nat_tests}
 
 -- two facts of each member, taken together, are one fact of each
 pub each_both : {A : Type 0} (P Q : A → Type 0) (xs : List A) → Each P xs → Each Q xs
@@ -72,9 +61,7 @@ module _ (change : Node → Node) (same : (n : Node) → IsSamePlace (change n) 
   stays ids n = grind (arith, nat_tests, same_place)
 
   pub changes_none : (rows : Rows) → rows ≡ with_content rows (with_changed [] change rows.read)
-  changes_none rows =
-      ap (λ (nodes : List Node). with_content rows (record rows.read { nodes = nodes }))
-      (sym (map-id rows.read.nodes))
+  changes_none rows = search (map-id)
 
   -- objects that are there are there still
   pub still_there : (ids more : List ℕ) (content : Content) → IsTrue (are_there more content)
@@ -101,8 +88,7 @@ count_kinds : (which : Which) (above : Node) (nodes : List Node)
     ≡ length (renewals which above nodes)
 count_kinds which above nodes =
     (λ i. counted Document i + counted Folder i)
-    ∙ sym (count_either (passes Document) (passes Folder) (is_outdated which above) nodes
-    (every nodes))
+    ∙ sym (search (count_either, every, passes))
     ∙ sym (count_length (is_outdated which above) nodes)
     ∙ sym (length-map (filter (is_outdated which above) nodes) (renewed_node which above))
   where
@@ -111,29 +97,20 @@ count_kinds which above nodes =
 
     counted : (kind : ObjKind)
         → length (outdated_of which above kind nodes) ≡ count (passes kind) nodes
-    counted kind =
-        length-map (filter (passes kind) nodes) (λ (n : Node). n.id)
-        ∙ count_length (passes kind) nodes
+    counted kind = search (count_length, length-map, passes)
 
     split : (t d : Bool) → t ≡ ((t && d) || (t && not d))
-    split true true = refl
-    split true false = refl
-    split false d = refl
+    split t d = grind (arith, nat_tests)
 
     apart : (t d : Bool) → (t && not d) ≡ true → (t && d) ≡ false
-    apart true true is = sym is
-    apart true false is = refl
-    apart false d is = refl
+    apart t d is = grind (arith, nat_tests)
 
     every : (xs : List Node)
         → Each (λ n. (is_outdated which above n ≡ (passes Document n || passes Folder n))
         × (passes Folder n ≡ true → passes Document n ≡ false)) xs
     every [] = tt
     every (x ∷ xs) = (
-      (
-        split (is_outdated which above x) (is_document x.kind),
-        apart (is_outdated which above x) (is_document x.kind),
-      ),
+      search (apart, split),
       every xs,
     )
 
@@ -184,26 +161,20 @@ module _ (which : Which) (above : Node) (content : Content) (rises : Rises conte
     once : (n : Node) → node_at content n.id ≡ Some n
         → given Folder (given Document n) ≡ renewed_below which above n
     once n there =
-        ap (given Folder) (ap (λ t. cond t (with_inh which (to_kind passed Document) n) n)
-        (gathers Document n there))
-        ∙ ap (λ t. cond t (with_inh which (to_kind passed Folder) (first (is_document n.kind)))
-        (first (is_document n.kind)))
-        (ap (λ i. list_any (λ id. id == i) (of_kind numbers Folder)) (number (is_document n.kind))
-        ∙ gathers Folder n there)
-        ∙ second (has_parent above.id n) (is_outdated which above n) n.kind
-        ∙ ap (λ e. cond (has_parent above.id n && is_outdated which above n) (with_inh which e n) n)
-        (is.entries n.kind)
+        rw (
+          gathers Document n there,
+          number (is_document n.kind),
+          gathers Folder n there,
+          second (has_parent above.id n) (is_outdated which above n) n.kind,
+          is.entries n.kind,
+        )
       where
         first : Bool → Node
         first d = cond (has_parent above.id n && (is_outdated which above n && d))
             (with_inh which (to_kind passed Document) n) n
 
         number : (d : Bool) → (first d).id ≡ n.id
-        number d = on (has_parent above.id n && (is_outdated which above n && d))
-          where
-            on : (t : Bool) → (cond t (with_inh which (to_kind passed Document) n) n).id ≡ n.id
-            on true = (place-with_inh which (to_kind passed Document) n).number
-            on false = refl
+        number d = grind (arith, nat_tests, place-with_inh)
 
         second : (h o : Bool) (kind : ObjKind)
             → (let m = cond (h && (o && is_document kind))
@@ -211,16 +182,10 @@ module _ (which : Which) (above : Node) (content : Content) (rises : Rises conte
             cond (h && (o && not (is_document kind)))
             (with_inh which (to_kind passed Folder) m) m)
             ≡ cond (h && o) (with_inh which (to_kind passed kind) n) n
-        second true true Document = refl
-        second true true Folder = refl
-        second true false kind = refl
-        second false o kind = refl
+        second h o kind = grind (arith, nat_tests)
 
     -- so what is written is what a turn makes of the rows
     pub turn_becomes : with_passed which passed numbers Folder
         (with_passed which passed numbers Document content)
         ≡ with_each content (renewed_below which above)
-    turn_becomes =
-        with_each-with_each content (given Document) (given Folder)
-        ∙ same_change content (λ n. given Folder (given Document n)) (renewed_below which above)
-        rises once
+    turn_becomes = search (once, same_change, with_each-with_each)

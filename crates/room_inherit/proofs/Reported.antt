@@ -1,25 +1,17 @@
 -- What is reported, by the tests that found something.
-use Rattle.std.proofs.Common.{◌≡◌, ℕ, zero, suc, false, not, List, [], ◌∷◌, ◌++◌, filter, length}
-use Rattle.std.proofs.Common.{Option, Some, None, refl, sym, ap, ◌∙◌, arith}
-use Rattle.std.specs.List.{find}
-use Rattle.std.specs.Option.{option_map, option_map_or}
-use Rattle.room_rows.specs.declared.node.Node.{Node}
-use Rattle.room_rows.specs.Content.{Content, has_folder_above, is_root, node_at, parent_of}
-use Rattle.room_rows.specs.Content.{reaches_root}
-use Rattle.room_rows.specs.Paths.{path_text}
-use Rattle.room_rows.specs.Rows.{Rows}
-use Rattle.room_rows.specs.declared.report.Report.{Report}
-use Rattle.room_rows.specs.declared.report.Report.TheVariants.{Sound, Fault}
-use Rattle.room_rows.specs.declared.report.Unsound.TheVariants.{Loop, BadList, BrokenLaw, BadRoot}
-use Rattle.room_rows.specs.declared.report.Unsound.TheVariants.{BadParent, BadName, BadBody}
-use Rattle.room_inherit.specs.declared.verifying.Holding.{Holding}
-use Rattle.room_inherit.specs.declared.verifying.Holding.TheVariants.{Finished, Kept}
-use Rattle.room_inherit.specs.Kept.{is_lawful, report_by}
-use Rattle.room_inherit.specs.Objects.{only}
-use Rattle.room_rows.specs.Sound.{bad_root, fault_of, first_bad_list, first_failing, has_sound_body}
-use Rattle.room_rows.specs.Sound.{has_sound_name, names_up, or_else, or_sound, path_by_number}
-use Rattle.room_rows.specs.Sound.{tree_fault, true_path}
+use Rattle.std.proofs.Common.{◌≡◌, ℕ, zero, suc, false, not, List, [], ◌∷◌, ◌++◌, length, Option}
+use Rattle.std.proofs.Common.{Some, None, refl, sym, ap, ◌∙◌, arith}
 use Rattle.std.proofs.lemmas.Bool.Decides.{nat_tests}
+use Rattle.std.specs.{List.find, Option.{option_map, option_map_or}}
+use Rattle.room_rows.specs.declared.{node.Node.Node, report.Report.{Report, TheVariants.Sound}}
+use Rattle.room_rows.specs.declared.report.{Report.TheVariants.Fault, Unsound.TheVariants.BadList}
+use Rattle.room_rows.specs.declared.report.Unsound.TheVariants.{BrokenLaw, BadBody}
+use Rattle.room_rows.specs.{Content.{Content, node_at, parent_of, reaches_root}, Paths.path_text}
+use Rattle.room_rows.specs.{Rows.Rows, Sound.{fault_of, first_bad_list, first_failing}}
+use Rattle.room_rows.specs.Sound.{has_sound_body, names_up, or_else, or_sound, path_by_number}
+use Rattle.room_rows.specs.Sound.{tree_fault, true_path}
+use Rattle.room_inherit.specs.{declared.verifying.Holding.Holding, Kept.{is_lawful, report_by}}
+use Rattle.room_inherit.specs.Objects.{only}
 
 -- ---- the objects alone decide
 
@@ -43,21 +35,12 @@ reaches_same (suc n) rows (Some id) =
     (node_at rows id) false
 
 tree_same : (rows : Content) → tree_fault (only rows.nodes) ≡ tree_fault rows
-tree_same rows = λ i.
-    or_else
-    (option_map (λ id. Fault (path_by_number id) BadRoot) (bad_root (filter is_root rows.nodes)))
-    (
-    or_else (fault_of (λ node. path_by_number node.id) BadParent
-    (first_failing (has_folder_above rows) rows)) (
-    or_else (fault_of (λ node. path_by_number node.id) Loop
-    (find (λ node. not (reaches_same (length rows.nodes) rows node.parent i)) rows.nodes))
-    (fault_of (λ node. path_same rows node i) BadName (first_failing (has_sound_name rows) rows))))
+tree_same rows = search (path_same, reaches_same)
 
 law_same : (holding : Holding) (rows : Content)
     → first_failing (is_lawful holding (only rows.nodes)) (only rows.nodes)
     ≡ first_failing (is_lawful holding rows) rows
-law_same Finished rows = refl
-law_same Kept rows = refl
+law_same holding rows = grind (arith, nat_tests)
 
 -- ---- the report, by what each part found
 
@@ -102,18 +85,22 @@ module _ (holding : Holding) (rows : Rows) (nodes : List Node) (are : nodes ≡ 
     pub by_body : (node : Node) → Some node ≡ find (λ n. not (has_sound_body rows.read n)) nodes
         → Fault (true_path (only nodes) node) BadBody ≡ report_by holding rows
     by_body node body =
-        ap (λ path. Fault path BadBody) (path_is node)
-        ∙ parts holding rows None None (Some node) _ (sym lists) (tree_is _ tree)
-        (body_is _ body) refl
+        cc (
+          path_is node,
+          parts holding rows None None (Some node) _ (sym lists) (tree_is _ tree) (body_is _ body)
+              refl,
+        )
 
     module _ (body : None ≡ find (λ n. not (has_sound_body rows.read n)) nodes) where
       pub by_law : (node : Node)
           → Some node ≡ first_failing (is_lawful holding (only nodes)) (only nodes)
           → Fault (true_path (only nodes) node) BrokenLaw ≡ report_by holding rows
       by_law node law =
-          ap (λ path. Fault path BrokenLaw) (path_is node)
-          ∙ parts holding rows None None None (Some node) (sym lists) (tree_is _ tree)
-          (body_is _ body) (law_is _ law)
+          cc (
+            path_is node,
+            parts holding rows None None None (Some node) (sym lists) (tree_is _ tree)
+                (body_is _ body) (law_is _ law),
+          )
 
       pub by_none : None ≡ first_failing (is_lawful holding (only nodes)) (only nodes)
           → Sound ≡ report_by holding rows

@@ -1,14 +1,10 @@
 -- A way up to the root has no loop.
 use Rattle.std.proofs.Common.{◌≡◌, ℕ, zero, suc, ◌==◌, Bool, true, false, ◌||◌, Option, Some, None}
-use Rattle.std.proofs.Common.{sym, ap, ◌∙◌, inl, inr}
-use Rattle.std.specs.Prelude.{option_and_then}
-use Rattle.std.specs.Option.{option_map_or}
-use Rattle.std.proofs.lemmas.Bool.{false≢true, or_cases, eqb-true}
-use Rattle.std.proofs.lemmas.Option.{same_Some}
-use Rattle.room_rows.specs.declared.node.Node.{Node}
-use Rattle.room_rows.specs.Content.{Content, node_at, reaches_root}
-use Rattle.room_inherit.specs.Spread.{is_within}
-use Rattle.room_inherit.specs.Ancestry.{RootedIsNoLoop}
+use Rattle.std.proofs.{Common.{sym, ap, ◌∙◌, inl, inr}, lemmas.Bool.{false≢true, or_cases}}
+use Rattle.std.proofs.lemmas.{Bool.eqb-true, Option.same_Some}
+use Rattle.std.specs.{Prelude.option_and_then, Option.option_map_or}
+use Rattle.room_rows.specs.{declared.node.Node.Node, Content.{Content, node_at, reaches_root}}
+use Rattle.room_inherit.specs.{Spread.is_within, Ancestry.RootedIsNoLoop}
 
 module _ (rows : Content) (id m : ℕ) (node : Node) (found : node_at rows id ≡ Some node)
     (round : is_within m rows id node ≡ true) where

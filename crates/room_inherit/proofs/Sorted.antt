@@ -1,14 +1,12 @@
 -- Objects sorted by name are in order, and none is lost or doubled.
-use Rattle.std.proofs.Common.{◌≡◌, ℕ, true, false, not, List, [], ◌∷◌, refl, ap, ◌∙◌, inl, inr}
-use Rattle.std.proofs.Common.{arith}
-use Rattle.std.proofs.lemmas.Bool.{cases_Bool, and_parts, and_from, cond-true, cond-false}
+use Rattle.std.proofs.Common.{◌≡◌, ℕ, true, false, not, List, [], ◌∷◌, refl, ap, inl, inr, arith}
+use Rattle.std.proofs.lemmas.Bool.{cases_Bool, and_parts, and_from, cond-true, Decides.nat_tests}
 use Rattle.std.proofs.lemmas.Cmp.{nat_list_cmp_total}
-use Rattle.room_rows.specs.declared.node.Node.{Node}
-use Rattle.room_rows.specs.Content.{is_before, put_by_name, sorted_by_name}
+use Rattle.room_rows.specs.{declared.node.Node.Node, Content.{is_before, put_by_name}}
+use Rattle.room_rows.specs.Content.{sorted_by_name}
 use Rattle.room_inherit.specs.Laws.{SortedByName, are_in_order}
 use Rattle.room_entry.proofs.Facts.Members.{count-is}
 use Rattle.room_rows.proofs.Lookups.{count_sorted}
-use Rattle.std.proofs.lemmas.Bool.Decides.{nat_tests}
 
 -- a name that comes before another doesn't come after it
 before_once : (a b : List ℕ) → is_before a b ≡ true → is_before b a ≡ false
@@ -23,16 +21,12 @@ in_order_behind x y (z ∷ zs) before order =
     let parts = and_parts (not (is_before z.name y.name)) (are_in_order (z ∷ zs)) order in
     elim (cases_Bool (is_before z.name x.name)) [
       | inl first ↦
-          ap (λ (l : List Node). are_in_order (y ∷ l))
-          (cond-true (is_before z.name x.name) (z ∷ put_by_name x zs) (x ∷ z ∷ zs) first)
-          ∙ and_from (not (is_before z.name y.name)) (are_in_order (z ∷ put_by_name x zs)) parts.0
-          (in_order_behind x z zs first parts.1)
-      | inr isnt ↦
-          ap (λ (l : List Node). are_in_order (y ∷ l))
-          (cond-false (is_before z.name x.name) (z ∷ put_by_name x zs) (x ∷ z ∷ zs) isnt)
-          ∙ and_from (not (is_before x.name y.name)) (are_in_order (x ∷ z ∷ zs))
-          (ap not (before_once y.name x.name before))
-          (and_from (not (is_before z.name x.name)) (are_in_order (z ∷ zs)) (ap not isnt) parts.1)
+          cc (
+            cond-true (is_before z.name x.name) (z ∷ put_by_name x zs) (x ∷ z ∷ zs) first,
+            and_from (not (is_before z.name y.name)) (are_in_order (z ∷ put_by_name x zs)) parts.0
+                (in_order_behind x z zs first parts.1),
+          )
+      | inr isnt ↦ grind (arith, nat_tests, before_once)
     ]
 
 in_order_put : (x : Node) (ys : List Node) → are_in_order ys ≡ true

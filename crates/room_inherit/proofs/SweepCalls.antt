@@ -1,37 +1,25 @@
 -- The tree gone through, turn after turn.
 use Rattle.std.proofs.Common.{◌≡◌, ℕ, ◌+◌, ◌≤◌, Bool, List, [], ◌∷◌, ◌++◌, length, Some, None}
 use Rattle.std.proofs.Common.{Result, Ok, Err, refl, sym, ap, subst, ◌∙◌, arith}
-use Rattle.std.proofs.lemmas.Bool.{false≢true, eq-eqb}
-use Rattle.std.proofs.lemmas.List.{length-append}
-use Rattle.room_entry.specs.Ace.{Ace}
-use Rattle.room_entry.specs.declared.object.Which.{Which}
-use Rattle.room_rows.specs.declared.keep.Keep.{Ghosts}
-use Rattle.room_rows.specs.declared.keep.KeepFault.{KeepFault}
-use Rattle.room_rows.specs.declared.node.Node.{Node}
-use Rattle.room_rows.specs.Content.{root_of}
-use Rattle.room_rows.specs.Keep.{HasNoRoot, IsRead, IsRootOf, with_content, KeepLaws}
-use Rattle.room_rows.specs.Rows.{Rows, AreRows, numbers_of, is_unreadable}
-use Rattle.room_rows.proofs.InPlace.{numbers_of-reading}
-use Rattle.room_rows.proofs.Steps.{later_cause}
+use Rattle.std.proofs.lemmas.{Bool.{false≢true, eq-eqb, Decides.nat_tests}, List.length-append}
+use Rattle.room_entry.specs.{Ace.Ace, declared.object.Which.Which}
+use Rattle.room_rows.specs.declared.{keep.{Keep.Ghosts, KeepFault.KeepFault}, node.Node.Node}
+use Rattle.room_rows.specs.{Content.root_of, Keep.{HasNoRoot, IsRead, IsRootOf, with_content}}
+use Rattle.room_rows.specs.{Keep.KeepLaws, Rows.{Rows, AreRows, numbers_of, is_unreadable}}
 use Rattle.room_rows.specs.Law.{AllAgree}
-use Rattle.room_inherit.specs.Spread.{ChangedAgree, with_lists, is_changed}
-use Rattle.room_inherit.specs.SpreadAll.{IsRoot, IsSwept, Sweeps, SweepsIf}
-use Rattle.room_inherit.specs.Turn.{IsVisit, MeetsAgain}
-use Rattle.room_inherit.proofs.Chosen.{folders_chosen}
-use Rattle.room_inherit.specs.declared.descent.Descent.{Descent}
-use Rattle.room_inherit.specs.declared.descent.Reach.TheVariants.{All}
-use Rattle.room_inherit.specs.declared.outcome.Spread.{Spread}
-use Rattle.room_inherit.specs.declared.outcome.SpreadFault.{SpreadFault}
+use Rattle.room_rows.proofs.{InPlace.numbers_of-reading, Steps.later_cause}
+use Rattle.room_inherit.specs.{Spread.{ChangedAgree, with_lists, is_changed}, SpreadAll.IsRoot}
+use Rattle.room_inherit.specs.{SpreadAll.{IsSwept, Sweeps, SweepsIf}, Turn.{IsVisit, MeetsAgain}}
+use Rattle.room_inherit.specs.declared.descent.{Descent.Descent, Reach.TheVariants.All}
+use Rattle.room_inherit.specs.declared.outcome.{Spread.Spread, SpreadFault.SpreadFault}
 use Rattle.room_inherit.specs.declared.outcome.SpreadFault.TheVariants.{Keeper}
+use Rattle.room_inherit.proofs.{Chosen.folders_chosen, Frontier.ids_set, Sweeping.{Sweep, after}}
+use Rattle.room_inherit.proofs.Sweeping.{kids, kids_are, rows_after, sweep_after, count_seen}
+use Rattle.room_inherit.proofs.{Sweeping.{count_after, not_met_again}, SweepEnds.root_there}
+use Rattle.room_inherit.proofs.SweepEnds.{root_top, seen_first, sweep_first, count_has}
+use Rattle.room_inherit.proofs.{SweepEnds.{changed_swept, law_swept}, Ends.own_lists}
+use Rattle.room_inherit.proofs.{Ends.{with_own_lists, count_own, as_many_numbers}, Turns.Progress}
 use Rattle.room_entry.proofs.Facts.Members.{count, count-is, count_ends}
-use Rattle.room_inherit.proofs.Frontier.{ids_set}
-use Rattle.room_inherit.proofs.Sweeping.{Sweep, after, kids, kids_are, rows_after}
-use Rattle.room_inherit.proofs.Sweeping.{sweep_after, count_seen, count_after, not_met_again}
-use Rattle.room_inherit.proofs.SweepEnds.{root_there, root_top, seen_first, sweep_first, count_has}
-use Rattle.room_inherit.proofs.SweepEnds.{changed_swept, law_swept}
-use Rattle.room_inherit.proofs.Ends.{own_lists, with_own_lists, count_own, as_many_numbers}
-use Rattle.room_inherit.proofs.Turns.{Progress}
-use Rattle.std.proofs.lemmas.Bool.Decides.{nat_tests}
 
 -- ---- rows
 
@@ -77,12 +65,9 @@ module _ (d : Descent) (reach : d.reach ≡ All) (turns : ℕ) (rest : List Node
   pub sweeping_no_loop : MeetsAgain d.which d.start w now → ⊥
   sweeping_no_loop met =
       let met' : MeetsAgain d.which sofar.root.id w
-      (with_content old (with_lists d.which f old.read)) =
-      subst (λ (r : Rows). MeetsAgain d.which sofar.root.id w r) sofar.becomes
-      (subst (λ (i : ℕ). MeetsAgain d.which i w now) sofar.start_is met) in
+      (with_content old (with_lists d.which f old.read)) = grind (arith, nat_tests) in
       false≢true
-      (sym (not_met_again d.which old.read are.numbers sofar.root top f sofar.seen rest w
-      sofar.front (root_there d.which old.read are.numbers sofar.root sofar.root_is)) ∙ met')
+      (sym (search (not_met_again, root_there, top)) ∙ met')
 
   module _ (new : Rows) (number : ℕ) (next : List Node)
       (visit : IsVisit d w rest next now number new) where

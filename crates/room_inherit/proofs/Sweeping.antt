@@ -1,42 +1,30 @@
 -- The tree gone through from the root down.
-use Rattle.std.proofs.Common.{◌≡◌, ℕ, ◌+◌, ◌≤◌, ◌==◌, Bool, true, false, cond, not, ◌&&◌, ◌||◌}
-use Rattle.std.proofs.Common.{List, [], ◌∷◌, ◌++◌, map, filter, length, Option, Some, None, refl}
-use Rattle.std.proofs.Common.{sym, ap, ◌∙◌, inl, inr, ◌⊎◌, arith}
-use Rattle.std.specs.Option.{option_map_or}
-use Rattle.std.proofs.lemmas.Bool.{cases_Bool, and_from, and_parts, and_left, or_cases, or_parts}
-use Rattle.std.proofs.lemmas.Bool.{or_left, or_right, false≢true, eq-eqb, eqb-true}
-use Rattle.std.proofs.lemmas.Bool.{false_from_ne_true}
-use Rattle.std.specs.List.{AllByRecursion as Each}
+use Rattle.std.proofs.Common.{◌≡◌, ◌+◌, ◌≤◌, ◌==◌, Bool, true, false, not, ◌&&◌, ◌||◌, List, []}
+use Rattle.std.proofs.Common.{◌∷◌, ◌++◌, map, filter, length, Some, None, sym, ap, ◌∙◌, inl, inr}
+use Rattle.std.proofs.{Common.{◌⊎◌, arith}, lemmas.Bool.{cases_Bool, and_left, or_cases, or_left}}
+use Rattle.std.proofs.lemmas.Bool.{false≢true, false_from_ne_true, Decides.nat_tests}
 use Rattle.std.proofs.Math.Bool.{or-false}
-use Rattle.room_entry.specs.Ace.{Ace}
-use Rattle.room_entry.specs.Same.{same_entries}
-use Rattle.room_entry.specs.declared.object.Which.{Which}
-use Rattle.room_rows.specs.declared.node.Node.{Node}
-use Rattle.room_rows.specs.Content.{Content, node_at, has_parent, children_of, is_folder}
-use Rattle.room_rows.specs.Content.{is_linked_in, is_rising, with_each}
-use Rattle.room_rows.specs.Finding.{find_id}
-use Rattle.room_rows.specs.Held.{held_of}
-use Rattle.room_rows.specs.Keep.{with_inh}
-use Rattle.room_rows.specs.Pass.{pass}
-use Rattle.room_inherit.specs.Spread.{with_lists, is_changed}
-use Rattle.room_inherit.specs.Turn.{is_linked_to, is_outdated, next_of, passed_to, renewed_node}
-use Rattle.room_inherit.specs.Turn.{renewals, brought_up, renewed_below, is_met_again, meets_again}
+use Rattle.std.specs.List.{AllByRecursion as Each}
+use Rattle.room_entry.specs.{Ace.Ace, Same.same_entries, declared.object.Which.Which}
+use Rattle.room_rows.specs.{declared.node.Node.Node, Content.{Content, node_at, has_parent}}
+use Rattle.room_rows.specs.Content.{children_of, is_folder, is_linked_in, is_rising, with_each}
+use Rattle.room_rows.specs.{Held.held_of, Keep.with_inh, Pass.pass}
+use Rattle.room_inherit.specs.{Spread.{with_lists, is_changed}, Turn.{next_of, renewals}}
+use Rattle.room_inherit.specs.Turn.{brought_up, renewed_below, is_met_again, meets_again}
 use Rattle.room_inherit.specs.declared.descent.Reach.TheVariants.{All}
-use Rattle.room_inherit.proofs.Kinship.{same_kind, same_name, same_parent}
+use Rattle.room_inherit.proofs.{Kinship.{same_kind, same_name, same_parent}, Children.has_id}
+use Rattle.room_inherit.proofs.Children.{Apart, ids_of, each_there, apart_rising, apart_filter}
+use Rattle.room_inherit.proofs.Children.{apart_map, each_child, apart_children, some_child}
+use Rattle.room_inherit.proofs.Children.{is_such_child, length_children, children_map}
+use Rattle.room_inherit.proofs.{Renewing.{map_agree, one_object}, Frontier.{set, set_folder}}
+use Rattle.room_inherit.proofs.Frontier.{set_id, set_parent, find_set, links, passes}
+use Rattle.room_inherit.proofs.Outdated.{parent_found, same_above, has_either, apart_join}
+use Rattle.room_inherit.proofs.Outdated.{apart_front, apart_last, has_last, base_of}
 use Rattle.room_entry.proofs.Facts.Members.{each_append, each_front, each_back, each_filter}
 use Rattle.room_entry.proofs.Facts.Members.{each_weaker, filter_map, count, count_ends}
 use Rattle.room_entry.proofs.Facts.Members.{count_length, count_map, count_agree, count_either}
-use Rattle.room_inherit.proofs.Children.{has_id, Apart, ids_of, each_there, apart_rising}
-use Rattle.room_inherit.proofs.Children.{apart_filter, apart_map, each_child, apart_children}
-use Rattle.room_inherit.proofs.Children.{some_child, is_such_child, length_children, children_map}
-use Rattle.room_inherit.proofs.Renewing.{map_agree, one_object}
-use Rattle.room_inherit.proofs.Frontier.{set, set_folder, set_id, set_parent, find_set, links}
-use Rattle.room_inherit.proofs.Frontier.{passes}
-use Rattle.room_inherit.proofs.Outdated as step
-use Rattle.room_inherit.proofs.Outdated.{parent_found, same_above, has_either, apart_join}
-use Rattle.room_inherit.proofs.Outdated.{apart_front, apart_last, has_last, base_of}
 use Rattle.room_rows.proofs.Frames.{parent_is}
-use Rattle.std.proofs.lemmas.Bool.Decides.{nat_tests}
+use Rattle.room_inherit.proofs.Outdated as step
 
 module _ (which : Which) (old : Content) (root : Node) where
   abbrev pub There : Node → Type 0
@@ -162,23 +150,16 @@ module _ (which : Which) (old : Content) (rises : is_rising (0 ∷ ids_of old.no
   all_are =
       map_agree (brought_up which w) (renewed_below which w) (children_of now w.id)
       (each_child now apart_now (λ n. brought_up which w n ≡ renewed_below which w n) w.id
-      (λ n there has. sym (ap (λ t. cond (t && is_outdated which w n)
-      (renewed_node which w n) n) has)))
+      (grind (arith, nat_tests)))
       ∙ sym (children_map (renewed_below which w)
       (λ n. one (λ (m : Node). m.name) (λ e m. same_name which e m) n)
-      (λ id n. one (has_parent id)
-      (λ e m. ap (λ (p : Option ℕ). option_map_or (λ parent. parent == id) p false)
-      (same_parent which e m)) n) now w.id)
+      (grind (arith, nat_tests, one, same_parent)) now w.id)
       ∙ ap (λ (c : Content). children_of c w.id) rows_after
     where
       one : {A : Type 0} (part : Node → A)
           → ((e : List Ace) (m : Node) → part (with_inh which e m) ≡ part m) → (n : Node)
           → part (renewed_below which w n) ≡ part n
-      one part same n = on (has_parent w.id n && is_outdated which w n)
-        where
-          on : (t : Bool) → part (cond t (renewed_node which w n) n) ≡ part n
-          on true = same (passed_to which w n) n
-          on false = refl
+      one part same n = grind (arith, nat_tests)
 
   same_folder : (n : Node) → is_folder (brought_up which w n) ≡ is_folder n
   same_folder n = grind (arith, nat_tests, same_kind)
@@ -197,28 +178,11 @@ module _ (which : Which) (old : Content) (rises : is_rising (0 ∷ ids_of old.no
   no_kid n there isnt = kids_has n there ∙ and_left (child n) (is_folder n) isnt
 
   kids_visit : Each (Visits which old root after seen_after) kids
-  kids_visit =
-      each_filter (Visits which old root after seen_after) is_folder (children_of later w.id)
-      (each_weaker (Visits which old root after seen_after)
-      (λ m. is_folder m ≡ true → Visits which old root after seen_after m)
-      (λ m visits folder. visits) (children_of later w.id)
-      (each_child later apart_later (Visits which old root after seen_after) w.id kid))
+  kids_visit = search (apart_later, each_child, each_filter, each_weaker, kid)
     where
       kid : (m : Node) → node_at later m.id ≡ Some m → has_parent w.id m ≡ true
           → Visits which old root after seen_after m
-      kid m there has =
-          let b = base_of which after m (find_id m.id old.nodes)
-          (sym (find_set which after m.id old.nodes) ∙ there) in
-          record {
-            base = b.0;
-            there =
-                ap (λ i. node_at old i)
-                (sym (set_id which after b.0) ∙ ap (λ (x : Node). x.id) (sym b.2)) ∙ b.1;
-            is = b.2;
-            seen_is =
-                or_right (seen b.0) (child b.0)
-                (sym (set_parent which after w.id b.0) ∙ ap (has_parent w.id) (sym b.2) ∙ has);
-          }
+      kid m there has = grind (arith, nat_tests, base_of, find_set, set_id, set_parent)
 
   keeps_seen : (n : Node) → There which old root n → seen n ≡ true → after n ≡ f n
   keeps_seen n there is = keeps n (not_stale n (seen_apart n there is))
@@ -245,15 +209,12 @@ module _ (which : Which) (old : Content) (rises : is_rising (0 ∷ ids_of old.no
 
   came_before : (n : Node) → There which old root n → seen n ≡ true → (n ≡ root)
       ⊎ WasMet which old root f seen (rest ++ w ∷ []) n → Came n
-  came_before n there is (inl same) = inl same
-  came_before n there is (inr c) =
+  came_before n there is given =
       grind (arith, nat_tests, has_either, has_id, keeps_seen, passed_on, taken_on)
 
   child_agrees : (n p : Node) → There which old root p → has_parent p.id n ≡ true
       → links which p n ≡ true → p.id ≡ w.id → after n ≡ passes which after p n
-  child_agrees =
-      step.child_agrees which f w w0 old waits.there w_id
-      (not_stale w0 (seen_apart w0 waits.there waits.seen_is))
+  child_agrees = grind (arith, nat_tests, not_stale, seen_apart, step.child_agrees, w_id, waits)
 
   came_now : (n : Node) → child n ≡ true → Came n
   came_now n has = grind (arith, nat_tests, apart_last, child_agrees, has_id, taken_on, w_id, waits)
@@ -266,40 +227,28 @@ module _ (which : Which) (old : Content) (rises : is_rising (0 ∷ ids_of old.no
       → has_parent p.id n ≡ true → seen p ≡ true → (p.id == w.id) ≡ false
       → (has_id p.id (rest ++ w ∷ []) ≡ true)
       ⊎ ((seen n ≡ true) × (links which p n ≡ true → f n ≡ passes which f p n)) → Goal n p
-  other_agrees n p there there' has is other (inl waiting) =
-      elim (or_cases (has_id p.id rest) (has_id p.id (w ∷ []))
-      (sym (has_either p.id rest (w ∷ [])) ∙ waiting)) [
-        | inl still ↦
-            inl (has_either p.id rest kids ∙ or_left (has_id p.id rest) (has_id p.id kids) still)
-        | inr last ↦
-            absurd
-            (false≢true (sym other ∙ eq-eqb p.id w.id
-            (sym (eqb-true w.id p.id (sym (or-false (w.id == p.id)) ∙ last)))))
-      ]
-  other_agrees n p there there' has is other (inr agrees) =
-      let isnt : child n ≡ false = false_from_ne_true (child n)
-      (λ has'. false≢true (sym other ∙ eq-eqb p.id w.id (same_above p.id w.id n has has'))) in
-      inr (
-        or_left (seen n) (child n) agrees.0,
-        λ link. keeps n (not_stale n isnt) ∙ agrees.1 link ∙ passed_on n p there' is,
+  other_agrees n p there there' has is other given =
+      grind (
+        arith,
+        nat_tests,
+        has_either,
+        has_id,
+        keeps,
+        not_stale,
+        or-false,
+        passed_on,
+        same_above,
       )
 
   closed_after : Closed which old root after seen_after (rest ++ kids)
   closed_after n p there there' folder has is = elim (cases_Bool (p.id == w.id)) [
-    | inl same ↦
-        let e = eqb-true p.id w.id same in
-        inr (
-          or_right (seen n) (child n) (ap (λ i. has_parent i n) (sym e) ∙ has),
-          λ link. child_agrees n p there' has link e,
-        )
+    | inl same ↦ grind (arith, nat_tests, child_agrees)
     | inr other ↦ elim (or_cases (seen p) (child p) is) [
       | inl before ↦
           other_agrees n p there there' has before other
           (front.closed n p there there' folder has before)
       | inr now_met ↦
-          inl (has_either p.id rest kids
-          ∙ or_right (has_id p.id rest) (has_id p.id kids)
-          (kids_has p there' ∙ and_from (child p) (is_folder p) now_met folder))
+          inl (grind (arith, nat_tests, has_either, has_id, kids_has))
     ]
   ]
 
@@ -308,59 +257,40 @@ module _ (which : Which) (old : Content) (rises : is_rising (0 ∷ ids_of old.no
 
   pub sweep_after : Sweep which old root after seen_after (rest ++ kids)
   sweep_after = record {
-    known =
-        each_append (Visits which old root after seen_after) rest kids
-        (each_weaker (Visits which old root f seen)
-        (Visits which old root after seen_after) rest_visits rest
-        (each_front (Visits which old root f seen) rest (w ∷ []) front.known)) kids_visit;
+    known = search (each_append, each_front, each_weaker, kids_visit, rest_visits);
     apart =
-        apart_join rest kids (apart_front rest (w ∷ []) front.apart)
-        (apart_filter is_folder (children_of later w.id) (apart_children later apart_later w.id))
-        (each_weaker (Visits which old root f seen) (λ r. has_id r.id kids ≡ false) rest_apart rest
-        (each_front (Visits which old root f seen) rest (w ∷ []) front.known));
-    came = λ n there is. elim (or_cases (seen n) (child n) is) [
-      | inl before ↦ came_before n there before (front.came n there before)
-      | inr has ↦ came_now n has
-    ];
+        search (
+          apart_children,
+          apart_filter,
+          apart_front,
+          apart_join,
+          apart_later,
+          each_front,
+          each_weaker,
+          has_id,
+          rest_apart,
+        );
+    came = grind (arith, nat_tests, came_before, came_now);
     closed = closed_after;
-    fresh = λ n there isnt.
-        let parts = or_parts (seen n) (child n) isnt in
-        ap (λ e. not (same_entries e (held_of which n).inh)) (keeps n (not_stale n parts.1))
-        ∙ front.fresh n there parts.0;
-    linked =
-        λ n there changed. elim
-        (or_cases (is_changed which f n) (stale n) (sym (changed_is n there) ∙ changed)) [
-          | inl before ↦ front.linked n there before
-          | inr st ↦ linked_now n st
-        ];
+    fresh = grind (arith, nat_tests, keeps, not_stale);
+    linked = grind (arith, nat_tests, changed_is, linked_now);
     from_root = or_left (seen root) (child root) front.from_root;
   }
 
   -- ---- counts
 
   pub count_seen : count seen old.nodes + length kids ≤ count seen_after old.nodes
-  count_seen =
-      let c = count_length is_folder (children_of later w.id) in
-      let e = count_ends is_folder (children_of later w.id) in
-      omega (arith, c, e, all_seen)
+  count_seen = grind (arith, nat_tests, all_seen, count_ends, count_length)
     where
       every : (xs : List Node) → Each (λ n. has_parent w.id (set which after n) ≡ child n) xs
       every [] = tt
       every (x ∷ xs) = (set_parent which after w.id x, every xs)
 
       number : length (children_of later w.id) ≡ count child old.nodes
-      number =
-          length_children later apart_later w.id
-          ∙ count_map (has_parent w.id) (set which after) old.nodes
-          ∙ count_agree (λ n. has_parent w.id (set which after n)) child old.nodes (every old.nodes)
+      number = search (apart_later, count_agree, count_map, every, length_children, set)
 
       all_seen : count seen_after old.nodes ≡ count seen old.nodes + length (children_of later w.id)
-      all_seen =
-          count_either seen child seen_after old.nodes
-          (each_there (λ n. (seen_after n ≡ (seen n || child n))
-          × (child n ≡ true → seen n ≡ false)) old.nodes apart_old
-          (λ n there. (refl, unseen_child n there)))
-          ∙ ap (λ k. count seen old.nodes + k) (sym number)
+      all_seen = search (apart_old, count, count_either, each_there, number, unseen_child)
 
   abbrev pub written : List Node
   written = renewals which w (children_of now w.id)
@@ -383,14 +313,14 @@ module _ (which : Which) (old : Content) (rises : is_rising (0 ∷ ids_of old.no
       found : (m : Node) → node_at now m.id ≡ Some m → has_parent w.id m ≡ true
           → is_met_again which root.id w m ≡ true → ⊥
       found m there_m has met_m =
-          let b = base_of which f m (find_id m.id old.nodes)
-          (sym (find_set which f m.id old.nodes) ∙ there_m) in
-          let n = b.0 in
-          let is_start : m.id ≡ root.id = eqb-true m.id root.id
-          (and_parts (m.id == root.id) (is_linked_to which w m) met_m).0 in
-          let n_id : n.id ≡ m.id = sym (set_id which f n) ∙ ap (λ (x : Node). x.id) (sym b.2) in
-          let same : n ≡ root = one_object old.nodes n root
-          (ap (λ i. node_at old i) n_id ∙ b.1) there (n_id ∙ is_start) in
-          let has_n : has_parent w.id n ≡ true = sym (set_parent which f w.id n)
-          ∙ ap (has_parent w.id) (sym b.2) ∙ has in
-          no_parent (sym top ∙ ap (λ (x : Node). x.parent) (sym same) ∙ parent_is w.id n has_n)
+          grind (
+            arith,
+            nat_tests,
+            base_of,
+            find_set,
+            no_parent,
+            one_object,
+            parent_is,
+            set_id,
+            set_parent,
+          )

@@ -1,19 +1,14 @@
 -- Turns of carrying lists down, as calls of a keeper.
 use Rattle.std.proofs.Common.{◌≡◌, ℕ, ◌+◌, ◌<◌, ◌≤◌, ◌^◌, List, [], ◌∷◌, ◌++◌, length, Result, Ok}
-use Rattle.std.proofs.Common.{Err, subst, arith}
-use Rattle.room_rows.specs.declared.keep.Keep.{Ghosts}
-use Rattle.room_rows.specs.declared.node.Node.{Node}
-use Rattle.room_rows.specs.Keep.{IsUnreadable, capped, KeepLaws}
-use Rattle.room_rows.specs.Rows.{Rows, AreRows, numbers_of}
+use Rattle.std.proofs.{Common.{Err, subst, arith}, lemmas.Bool.Decides.nat_tests}
+use Rattle.room_rows.specs.{declared.{keep.Keep.Ghosts, node.Node.Node}, Keep.IsUnreadable}
+use Rattle.room_rows.specs.{Keep.{capped, KeepLaws}, Rows.{Rows, AreRows, numbers_of}}
 use Rattle.room_rows.proofs.Steps.{later_cause}
-use Rattle.room_inherit.specs.Spread.{CarriesIf, HasSpreadCause}
-use Rattle.room_inherit.specs.Turn.{IsVisit, MeetsAgain, Visits}
-use Rattle.room_inherit.specs.declared.descent.Descent.{Descent}
-use Rattle.room_inherit.specs.declared.outcome.Spread.{Spread}
-use Rattle.room_inherit.specs.declared.outcome.SpreadFault.{SpreadFault}
+use Rattle.room_inherit.specs.{Spread.{CarriesIf, HasSpreadCause}, Turn.{IsVisit, MeetsAgain}}
+use Rattle.room_inherit.specs.{Turn.Visits, declared.descent.Descent.Descent}
+use Rattle.room_inherit.specs.declared.outcome.{Spread.Spread, SpreadFault.SpreadFault}
 use Rattle.room_inherit.specs.declared.outcome.SpreadFault.TheVariants.{Keeper, Loop}
 use Rattle.room_inherit.proofs.Calls.{capped_add}
-use Rattle.std.proofs.lemmas.Bool.Decides.{nat_tests}
 
 -- What is known of the rows after n turns, where these objects wait and this many lists are
 -- changed, and what follows from it.
@@ -95,10 +90,7 @@ module _ {S : Type 0} (k : Ghosts S)
           (sofar.along (laws.first a b c sofar.follows visit.follows t.0) t.1)
           (damaged (laws.last a b c sofar.follows visit.follows t.0)))
           h
-      cause Loop h = λ t.
-          let first = laws.first a b c sofar.follows visit.follows t.0 in
-          progress.loops turns rest w changed (k.rows a) (k.rows b) (laws.are a b first)
-          (sofar.along first t.1) (h (laws.last a b c sofar.follows visit.follows t.0))
+      cause Loop h = grind (arith, nat_tests)
 
   pub first_turn_fails : (before next : List Node) (e : SpreadFault) (a b : S) → before ≡ []
       → Visits k a b d start before next (Err e) → Carried a b (Err e)

@@ -1,25 +1,19 @@
 -- Objects that are changed, but stay in their places and of their kinds.
 use Rattle.std.proofs.Common.{◌≡◌, ℕ, zero, suc, Bool, true, false, not, ◌&&◌, List, [], ◌∷◌, map}
 use Rattle.std.proofs.Common.{filter, Option, Some, None, refl, ap, ◌∙◌, arith}
-use Rattle.std.specs.List.{list_all}
-use Rattle.std.specs.Option.{option_map, option_map_or}
-use Rattle.std.proofs.lemmas.Bool.{not-false, not-true, or_from, or_parts}
+use Rattle.std.proofs.lemmas.Bool.{not-false, not-true, or_from, or_parts, Decides.nat_tests}
 use Rattle.std.proofs.lemmas.List.{length-map}
-use Rattle.room_entry.proofs.Facts.Lists.{all_implied}
-use Rattle.room_entry.proofs.Facts.Members.{any_map}
-use Rattle.room_rows.specs.declared.node.Node.{Node}
-use Rattle.room_rows.specs.Content.{Content, body_of, has_folder_above, is_root, node_at, parent_of}
-use Rattle.room_rows.specs.Content.{reaches_root, with_each}
-use Rattle.room_rows.specs.Keep.{with_content}
-use Rattle.room_rows.specs.Rows.{Rows, is_unreadable, numbers_of}
+use Rattle.std.specs.{List.list_all, Option.{option_map, option_map_or}}
+use Rattle.room_entry.proofs.Facts.{Lists.all_implied, Members.any_map}
+use Rattle.room_rows.specs.{declared.node.Node.Node, Content.{Content, body_of, has_folder_above}}
+use Rattle.room_rows.specs.Content.{is_root, node_at, parent_of, reaches_root, with_each}
+use Rattle.room_rows.specs.{Keep.with_content, Rows.{Rows, is_unreadable}, Sound.AreSound}
+use Rattle.room_rows.specs.Sound.{bad_root, fits_kind, has_bad_list, has_sound_body}
+use Rattle.room_rows.specs.Sound.{has_sound_lists, has_sound_name, keeps_law, reaches}
 use Rattle.room_rows.proofs.InPlace.{KeepsPlaces, keeps_places, node_at-with_each}
 use Rattle.room_rows.proofs.InPlace.{numbers-with_each, numbers_of-reading, parent_of-with_each}
-use Rattle.room_rows.proofs.Lookups.{found_number}
-use Rattle.room_rows.proofs.SamePlace.{IsSamePlace, filter-changed}
-use Rattle.room_rows.specs.Sound.{AreSound, bad_root, fits_kind, has_bad_list, has_sound_body}
-use Rattle.room_rows.specs.Sound.{has_sound_lists, has_sound_name, keeps_law, reaches}
+use Rattle.room_rows.proofs.{Lookups.found_number, SamePlace.{IsSamePlace, filter-changed}}
 use Rattle.room_inherit.proofs.NoFault.{IsChecked, sound}
-use Rattle.std.proofs.lemmas.Bool.Decides.{nat_tests}
 
 -- a test of all changed objects says what a test of all objects said before the change
 pub all_map : (p q : Node → Bool) (g : Node → Node) → ((n : Node) → p (g n) ≡ q n)
@@ -52,16 +46,13 @@ module _ (rows : Content) (change : Node → Node)
   reach zero (Some id) = refl
   reach (suc n) None = refl
   reach (suc n) (Some id) =
-      ap (λ o. option_map_or (λ (p : Node). reaches_root n changed p.parent) o false)
-      (node_at-with_each rows change places id) ∙ on (node_at rows id) (λ p. reach n p)
+      cc (node_at-with_each rows change places id, on (node_at rows id) (λ p. reach n p))
     where
       on : (o : Option Node) → ((p : Option ℕ) → reaches_root n changed p ≡ reaches_root n rows p)
           → option_map_or (λ (p : Node). reaches_root n changed p.parent)
           (option_map change o) false
           ≡ option_map_or (λ (p : Node). reaches_root n rows p.parent) o false
-      on None more = refl
-      on (Some parent) more =
-          more (change parent).parent ∙ ap (reaches_root n rows) (place parent).parent
+      on o more = grind (arith, nat_tests)
 
   -- a changed object's parents reach the root, in as many steps as objects, exactly if they did
   pub reach_all : (node : Node) → reaches changed (change node) ≡ reaches rows node
@@ -101,27 +92,20 @@ module _ (old : Rows) (change : Node → Node) (place : (n : Node) → IsSamePla
   still_good : (id : ℕ) → has_bad_list old id ≡ false → has_bad_list new id ≡ false
   still_good id good =
       let parts = or_parts (is_unreadable old id) _ good in
-      or_from (is_unreadable old id) _ parts.0
-      (ap (λ o. option_map_or (λ n. not (has_sound_lists n)) o false)
-      (node_at-with_each old.read change (places old.read change place) id)
-      ∙ on (node_at old.read id) refl parts.1)
+      search (node_at-with_each, on, or_from, places)
     where
       on : (o : Option Node) → node_at old.read id ≡ o
           → option_map_or (λ n. not (has_sound_lists n)) o false ≡ false
           → option_map_or (λ n. not (has_sound_lists n)) (option_map change o) false ≡ false
       on None found good = refl
       on (Some node) found good =
-          ap not (lists node (ap (node_at old.read) (found_number id old.read.nodes node found)
-          ∙ found) (not-false _ good))
+          ap not (lists node (
+          cc (found_number id old.read.nodes node found, found)) (not-false _ good))
 
   pub still_sound : list_all (keeps_law new.read) new.read.nodes ≡ true → AreSound new
   still_sound law = let kept = all_kept change in sound new (record {
     lists =
-        ap (list_all (λ id. not (has_bad_list new id)))
-        (numbers_of-reading old new.read
-        (numbers-with_each old.read change (places old.read change place)))
-        ∙ all_implied (λ id. not (has_bad_list old id)) (λ id. not (has_bad_list new id))
-        (λ id is. ap not (still_good id (not-true _ is))) (numbers_of old) none.lists;
+        search (all_implied, not-true, numbers-with_each, numbers_of-reading, places, still_good);
     root = rooted old.read change place kinds ∙ none.root;
     parents =
         kept (has_folder_above new.read) (has_folder_above old.read)

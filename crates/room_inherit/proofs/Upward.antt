@@ -1,17 +1,12 @@
 -- One step upward.
 use Rattle.std.proofs.Common.{◌≡◌, ℕ, suc, ◌<◌, ◌+◌, ◌-◌, Bool, true, cond, List, [], ◌∷◌, ◌++◌}
-use Rattle.std.proofs.Common.{length, reverse, Option, Some, sym, ap, subst, ◌∙◌, arith}
-use Rattle.std.proofs.Common.{append_assoc}
+use Rattle.std.proofs.Common.{length, reverse, Option, Some, subst, ◌∙◌, arith, append_assoc}
+use Rattle.std.proofs.lemmas.{List.reverse-append, Bool.Decides.nat_tests}
 use Rattle.std.specs.Ordering.{nat_cmp, is_eq}
-use Rattle.std.specs.Option.{option_map_or}
-use Rattle.std.proofs.lemmas.List.{reverse-append}
-use Rattle.room_rows.specs.declared.node.Node.{Node}
-use Rattle.room_rows.specs.Content.{Content, node_at, parent_of, reaches_root}
+use Rattle.room_rows.specs.{declared.node.Node.Node, Content.{Content, node_at, parent_of}}
+use Rattle.room_rows.specs.{Content.reaches_root, Sound.names_up}
 use Rattle.room_inherit.specs.Objects.{AllLead, leads}
-use Rattle.room_rows.specs.Sound.{names_up}
-use Rattle.room_inherit.proofs.Enough.{enough_steps}
-use Rattle.room_inherit.proofs.Given.{numbers_equal}
-use Rattle.std.proofs.lemmas.Bool.Decides.{nat_tests}
+use Rattle.room_inherit.proofs.{Enough.enough_steps, Given.numbers_equal}
 
 -- the name of the object, after those of its parent
 pub one_up : (count step : ℕ) (rows : Content) (node parent : Node) (names more : List (List ℕ))
@@ -20,13 +15,13 @@ pub one_up : (count step : ℕ) (rows : Content) (node parent : Node) (names mor
     ++ reverse names
 one_up count step rows node parent names more below above pushed =
     let left : suc (count - (step + 1)) ≡ count - step = omega arith in
-    ap (λ l. names_up (count - (step + 1)) rows parent ++ l)
-    (ap reverse pushed ∙ reverse-append names (node.name ∷ []))
-    ∙ sym (append_assoc (names_up (count - (step + 1)) rows parent) (node.name ∷ [])
-    (reverse names))
-    ∙ ap (λ o. option_map_or (λ p. names_up (count - (step + 1)) rows p ++ node.name ∷ []) o []
-    ++ reverse names) above
-    ∙ ap (λ n. names_up n rows node ++ reverse names) left
+    cc (
+      pushed,
+      reverse-append names (node.name ∷ []),
+      append_assoc (names_up (count - (step + 1)) rows parent) (node.name ∷ []) (reverse names),
+      above,
+      left,
+    )
 
 -- ---- ways to the root
 

@@ -1,29 +1,23 @@
 -- All rows, read number by number.
 use Rattle.std.proofs.Common.{◌≡◌, ℕ, ◌<◌, ◌+◌, ◌==◌, ◌||◌, Bool, true, false, List, [], ◌∷◌, ◌++◌}
 use Rattle.std.proofs.Common.{length, get_or, drop, Some, None, refl, sym, ap, ◌∙◌, inl, inr}
-use Rattle.std.proofs.Common.{append_assoc, map, arith}
-use Rattle.std.specs.Prelude.{is_some}
-use Rattle.std.specs.List.{find, list_any, filter_map, cons_option}
-use Rattle.std.proofs.lemmas.Bool.{cases_Bool, false≢true, eqb-true, eq-eqb, or_left, or_right}
-use Rattle.std.proofs.lemmas.Bool.{or_from, cond-true, cond-false, false_from_ne_true}
-use Rattle.std.proofs.lemmas.List.{drop_more}
+use Rattle.std.proofs.{Common.{append_assoc, arith}, lemmas.Bool.{cases_Bool, false≢true, eqb-true}}
+use Rattle.std.proofs.lemmas.Bool.{eq-eqb, or_left, or_right, or_from, cond-true, cond-false}
+use Rattle.std.proofs.lemmas.{Bool.{false_from_ne_true, Decides.nat_tests}, List.drop_more}
 use Rattle.std.proofs.lemmas.List.Recursion.{or_at}
+use Rattle.std.specs.{Prelude.is_some, List.{find, list_any, filter_map}}
 use Rattle.room_entry.specs.Pieces.{is_among}
-use Rattle.room_rows.specs.declared.node.Node.{Node}
-use Rattle.room_rows.specs.Content.{node_at}
-use Rattle.room_rows.specs.Rows.{Rows, AreRows, Unread, is_unreadable, numbers_of, put_number}
-use Rattle.room_rows.specs.Rows.{put_numbers, unread_numbers}
-use Rattle.room_inherit.specs.Reading.{IsBadAt, IsUnused}
+use Rattle.room_rows.specs.{declared.node.Node.Node, Content.node_at, Rows.{Rows, AreRows, Unread}}
+use Rattle.room_rows.specs.Rows.{is_unreadable, numbers_of, put_number, put_numbers, unread_numbers}
 use Rattle.room_rows.specs.Sound.{first_bad_list, has_bad_list}
+use Rattle.room_inherit.specs.Reading.{IsBadAt, IsUnused}
 use Rattle.room_inherit.proofs.Numbers.{ids_of, each_found}
 use Rattle.room_rows.proofs.Sets.{or_swap}
-use Rattle.std.proofs.lemmas.Bool.Decides.{nat_tests}
 
 -- ---- numbers in use
 
 or_group : (a b c : Bool) → (a || (b || c)) ≡ ((a || b) || c)
-or_group true b c = refl
-or_group false b c = refl
+or_group a b c = grind (arith, nat_tests)
 
 among_one_more : (new : ℕ) (ids : List ℕ) (id : ℕ)
     → is_among (put_number new ids) id ≡ ((new == id) || is_among ids id)
@@ -33,9 +27,7 @@ among_one_more new (x ∷ xs) id = grind (arith, nat_tests, or_swap, among_one_m
 among_numbers : (more ids : List ℕ) (id : ℕ)
     → is_among (put_numbers more ids) id ≡ (is_among more id || is_among ids id)
 among_numbers [] ids id = refl
-among_numbers (x ∷ xs) ids id =
-    among_one_more x (put_numbers xs ids) id ∙ ap (λ t. (x == id) || t) (among_numbers xs ids id)
-    ∙ or_group (x == id) (is_among xs id) (is_among ids id)
+among_numbers (x ∷ xs) ids id = search (among_one_more, or_group, among_numbers xs ids id)
 
 -- a number is one of the objects' numbers exactly if an object is found by it
 pub among_found : (nodes : List Node) (id : ℕ)
@@ -76,11 +68,8 @@ pub all_read : (rows : Rows) (unreadable : List Unread) → rows.unreadable ≡ 
     → first_bad_list rows ≡ None → unreadable ≡ []
 all_read rows [] are none = refl
 all_read rows (x ∷ xs) are none =
-    let itself : is_unreadable rows x.id ≡ true =
-    ap (λ (l : List Unread). is_among (map (λ (row : Unread). row.id) l) x.id) are
-    ∙ or_left _ _ (eq-eqb x.id x.id refl) in
-    let listed : is_among (numbers_of rows) x.id ≡ true = among_numbers (unread_numbers rows)
-    (ids_of rows.read.nodes) x.id ∙ or_left _ _ itself in
+    let itself : is_unreadable rows x.id ≡ true = grind (arith, nat_tests) in
+    let listed : is_among (numbers_of rows) x.id ≡ true = search (among_numbers, ids_of, or_left) in
     let bad : has_bad_list rows x.id ≡ true = or_left (is_unreadable rows x.id) _ itself in
     absurd
     (false≢true (sym (none_found (has_bad_list rows) (numbers_of rows) none)
@@ -94,10 +83,11 @@ none_unreadable rows none = all_read rows rows.unreadable refl none
 pub not_bad : (rows : Rows) → first_bad_list rows ≡ None → (id : ℕ) (node : Node)
     → node_at rows.read id ≡ Some node → has_bad_list rows id ≡ false
 not_bad rows none id node found =
-    let listed : is_among (numbers_of rows) id ≡ true = among_numbers (unread_numbers rows)
-    (ids_of rows.read.nodes) id
-    ∙ or_right (is_unreadable rows id) _
-    (among_found rows.read.nodes id ∙ ap is_some found) in
+    let listed : is_among (numbers_of rows) id ≡ true =
+    cc (
+      among_numbers (unread_numbers rows) (ids_of rows.read.nodes) id,
+      or_right (is_unreadable rows id) _ (among_found rows.read.nodes id ∙ ap is_some found),
+    ) in
     false_from_ne_true (has_bad_list rows id)
     (λ bad. false≢true (sym (none_found (has_bad_list rows) (numbers_of rows) none)
     ∙ any_at (has_bad_list rows) (numbers_of rows) id listed bad))
@@ -107,11 +97,7 @@ pub whole : (rows : Rows) → AreRows rows → first_bad_list rows ≡ None
     → (nodes : List Node) (ids : List ℕ) → ids ≡ numbers_of rows
     → nodes ≡ filter_map (node_at rows.read) ids → nodes ≡ rows.read.nodes
 whole rows are none nodes ids listed found =
-    found ∙ ap (filter_map (node_at rows.read))
-    (listed
-    ∙ ap (λ (l : List Unread). put_numbers (map (λ (row : Unread). row.id) l)
-    (ids_of rows.read.nodes)) (none_unreadable rows none))
-    ∙ each_found 0 rows.read.nodes are.numbers
+    cc (found, listed, none_unreadable rows none, each_found 0 rows.read.nodes are.numbers)
 
 -- ---- one number after the other
 
@@ -143,8 +129,9 @@ module _ (rows : Rows) (ids : List ℕ) (i : ℕ) (below : i < length ids) where
       → more ++ filter_map (node_at rows.read) (drop (i + 1) ids) ≡ nodes
       ++ filter_map (node_at rows.read) (drop i ids)
   one_more_node nodes more node there pushed =
-      ap (λ l. l ++ filter_map (node_at rows.read) (drop (i + 1) ids)) pushed
-      ∙ append_assoc nodes (node ∷ []) (filter_map (node_at rows.read) (drop (i + 1) ids))
-      ∙ ap (λ o. nodes ++ cons_option o (filter_map (node_at rows.read) (drop (i + 1) ids)))
-      (sym there)
-      ∙ ap (λ l. nodes ++ filter_map (node_at rows.read) l) (sym next_id)
+      cc (
+        pushed,
+        append_assoc nodes (node ∷ []) (filter_map (node_at rows.read) (drop (i + 1) ids)),
+        there,
+        next_id,
+      )

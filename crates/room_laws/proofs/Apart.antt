@@ -1,34 +1,20 @@
 -- What changes elsewhere leaves the objects along a path.
 use Rattle.std.proofs.Common.{ℕ, ◌≡◌, Bool, true, false, List, [], ◌∷◌, ◌++◌, Option, Some, None}
 use Rattle.std.proofs.Common.{refl, sym, ap, ◌∙◌, append_assoc, append-nil, take, drop}
-use Rattle.std.proofs.Common.{take-append-drop, arith}
-use Rattle.std.specs.Option.{option_map}
-use Rattle.std.specs.Prelude.{if◌then◌else◌}
-use Rattle.room_entry.specs.declared.object.Which.{Which}
-use Rattle.room_entry.specs.declared.object.Which.TheVariants.{Sacl}
-use Rattle.room_entry.specs.declared.parties.Owners.{Owners}
+use Rattle.std.proofs.{Common.{take-append-drop, arith}, lemmas.Bool.Decides.nat_tests}
+use Rattle.std.specs.{Option.option_map, Prelude.if◌then◌else◌}
+use Rattle.room_entry.specs.declared.{object.Which.{Which, TheVariants.Sacl}, parties.Owners.Owners}
 use Rattle.room_ace.specs.Sent.{Sent}
 use Rattle.room_rows.specs.Content.{Content, with_node, with_body, without_node, child_of}
-use Rattle.room_rows.specs.Content.{with_records, are_names_apart}
-use Rattle.room_rows.specs.Held.{with_held}
-use Rattle.room_rows.specs.HeldList.{Held}
-use Rattle.room_rows.specs.Keep.{with_owners}
-use Rattle.room_rows.specs.declared.node.AuditRow.{AuditRow}
-use Rattle.room_rows.specs.declared.node.Node.{Node}
-use Rattle.room_machine.specs.Effect.{set_list}
-use Rattle.room_machine.specs.Site.{Site, front, last_name}
-use Rattle.room_machine.specs.Step.{IsFree}
-use Rattle.room_laws.specs.Outside.{found, view, Seen}
-use Rattle.room_laws.specs.Tidy.{IsNumbered}
+use Rattle.room_rows.specs.{Content.{with_records, are_names_apart}, Held.with_held, HeldList.Held}
+use Rattle.room_rows.specs.{Keep.with_owners, declared.node.{AuditRow.AuditRow, Node.Node}}
+use Rattle.room_machine.specs.{Effect.set_list, Site.{Site, front, last_name}, Step.IsFree}
+use Rattle.room_laws.specs.{Outside.{found, view, Seen}, Tidy.IsNumbered, WhoChanged.basis}
+use Rattle.room_laws.specs.WhoChanged.{deciding}
 use Rattle.room_laws.proofs.Changed.{nodes_found, owners_view, relisted, list_view, is_child}
-use Rattle.room_laws.proofs.Grown.{GoesOn, found_append, grown_view, gone_view}
-use Rattle.room_laws.proofs.Moved.{view_apart}
-use Rattle.room_laws.proofs.OnePlace.{split_last}
-use Rattle.room_laws.proofs.Placed.{same_names, names_decide}
-use Rattle.room_laws.proofs.Settings.{setting, keeper, keeper_blank}
-use Rattle.room_laws.specs.WhoChanged.{basis, deciding}
-use Rattle.room_laws.proofs.Deciding.{deciding_along}
-use Rattle.std.proofs.lemmas.Bool.Decides.{nat_tests}
+use Rattle.room_laws.proofs.{Grown.{GoesOn, found_append, grown_view, gone_view}, Moved.view_apart}
+use Rattle.room_laws.proofs.{OnePlace.split_last, Placed.{same_names, names_decide}}
+use Rattle.room_laws.proofs.{Settings.{setting, keeper, keeper_blank}, Deciding.deciding_along}
 
 -- the same objects at each part of the path
 pub record SameDown (q : List (List ℕ)) (a c : Content) : Type 0 where
@@ -53,8 +39,7 @@ part_apart p q r s apart is (rest, on) =
     apart (rest ++ s, is ∙ ap (λ (l : List (List ℕ)). l ++ s) on ∙ append_assoc p rest s)
 
 pub not_at : (p q r s : List (List ℕ)) → (GoesOn p q → ⊥) → q ≡ r ++ s → r ≡ p → ⊥
-not_at p q r s apart is same =
-    part_apart p q r s apart is ([], same ∙ sym (append-nil p))
+not_at p q r s apart is same = grind (arith, nat_tests, part_apart)
 
 unlike : (r p : List (List ℕ)) → (r ≡ p → ⊥) → same_names r p ≡ false
 unlike r p other = grind (arith, nat_tests, names_decide, same_names)
@@ -76,8 +61,7 @@ decided_by a c r G same is = grind (arith, nat_tests)
 
 decided : (a c : Content) (r : List (List ℕ)) → view c r ≡ view a r
     → option_map deciding (found a r) ≡ option_map deciding (found c r)
-decided a c r is =
-    decided_by a c r (λ v. v) (λ v. refl) (is ∙ sym (as_it_was (view a r)))
+decided a c r is = grind (arith, nat_tests, as_it_was, decided_by)
 
 -- ---- an object is changed in its place
 
@@ -106,14 +90,15 @@ module _ (a : Content) (numbered : IsNumbered a) (p : List (List ℕ)) (s : Site
   pub list_apart : (which : Which) (sent : Sent) (o : Option Site)
       → SameDown q a (set_list a which sent o s)
   list_apart which sent o = record {
-    down = λ r t is. decided a (set_list a which sent o s) r
+    down = λ r t is.
+        cc (decided a (set_list a which sent o s) r
         (list_view a numbered p s.node at which (setting which sent o s).0
         (keeper which (setting which sent o s).1 (setting which sent o s).0.flags.auto
         (setting which sent o s).2)
         (keeper_blank which (setting which sent o s).1 (setting which sent o s).0.flags.auto
-        (setting which sent o s).2) r
-        ∙ left (keeper which (setting which sent o s).1 (setting which sent o s).0.flags.auto
-        (setting which sent o s).2) r t is);
+        (setting which sent o s).2) r ∙ left
+        (keeper which (setting which sent o s).1 (setting which sent o s).0.flags.auto
+        (setting which sent o s).2) r t is));
   }
     where
       left : (keep : Node → Held) (r t : List (List ℕ)) → q ≡ r ++ t
@@ -122,16 +107,7 @@ module _ (a : Content) (numbered : IsNumbered a) (p : List (List ℕ)) (s : Site
             v.1,
           )) (view a r) ≡ view a r
       left keep r t is =
-          ap (λ (b : Bool). option_map (λ (v : Seen). (
-            if b then with_held which (setting which sent o s).0 v.0 else
-                if is_child a numbered p s.node at r then with_held which (keep v.0) v.0 else v.0,
-            v.1,
-          )) (view a r)) (unlike r p (not_at p q r t apart is))
-          ∙ ap (λ (b : Bool). option_map (λ (v : Seen). (
-            if b then with_held which (keep v.0) v.0 else v.0,
-            v.1,
-          )) (view a r)) (no_child_at r t is)
-          ∙ as_it_was (view a r)
+          grind (arith, nat_tests, as_it_was, is_child, no_child_at, not_at, setting, unlike)
 
 -- a list of audits and alarms decides nothing
 module _ (a : Content) (numbered : IsNumbered a) (p : List (List ℕ)) (s : Site)
@@ -158,9 +134,7 @@ module _ (a : Content) (numbered : IsNumbered a) (p : List (List ℕ)) (s : Site
           on : (t u : Bool) → deciding
               (if t then with_held Sacl (setting Sacl sent o s).0 v else
               if u then with_held Sacl (keep v) v else v) ≡ deciding v
-          on true u = refl
-          on false true = refl
-          on false false = refl
+          on t u = grind (arith, nat_tests)
 
 -- ---- bytes and records aren't seen
 
@@ -204,12 +178,7 @@ module _ (a : Content) (numbered : IsNumbered a) (q : List (List ℕ)) (n : Node
       → new.name ≡ last_name (first ∷ more) → (GoesOn (name ∷ names) q → ⊥)
       → SameDown q a (with_node a new)
   moved_apart differ name names target at from above first more folder place absent no_loop new
-      number parent named apart = record {
-        down = λ r t is. decided a (with_node a new) r
-            (view_apart a numbered differ name names target at from above first more folder place
-            absent no_loop new number parent named r (part_apart (name ∷ names) q r t apart is)
-            (not_new r t is));
-      }
+      number parent named apart = search (decided, not_new, part_apart, view_apart)
     where
       not_new : (r t : List (List ℕ)) → q ≡ r ++ t → GoesOn (first ∷ more) r → ⊥
       not_new r t is (rest, on) =

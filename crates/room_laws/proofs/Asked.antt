@@ -1,17 +1,16 @@
 -- What was granted to who asked.
-use Rattle.std.proofs.Common.{ℕ, ◌≡◌, true, not, List, [], ◌∷◌, Some, None, sym, ap, ◌∙◌, arith}
+use Rattle.std.proofs.Common.{ℕ, ◌≡◌, true, not, List, [], ◌∷◌, Some, None, ap, arith}
+use Rattle.std.proofs.lemmas.Bool.Decides.{nat_tests}
 use Rattle.std.specs.Prelude.{is_none}
 use Rattle.room_entry.specs.Rights.{execute, write_data, append_data}
 use Rattle.room_entry.specs.declared.parties.Caller.{Caller}
 use Rattle.room_rows.specs.Content.{Content, children_of, is_empty}
-use Rattle.room_machine.specs.Judge.{failure, first_failure, passes}
-use Rattle.room_machine.specs.Plan.{Item, Check, Deletion, Refusal, plan_of, move_items}
-use Rattle.room_machine.specs.Plan.{where_found, right_to_add, to_target}
-use Rattle.room_machine.specs.Site.{Site, front, site_at, parent_at, sites_along}
+use Rattle.room_machine.specs.{Judge.{failure, first_failure, passes}, Plan.{Item, Check, Deletion}}
+use Rattle.room_machine.specs.Plan.{Refusal, plan_of, move_items, where_found, right_to_add}
+use Rattle.room_machine.specs.{Plan.to_target, Site.{Site, front, site_at, parent_at, sites_along}}
 use Rattle.room_machine.specs.declared.reply.Reason.TheVariants.{NotEmpty, Root}
 use Rattle.room_machine.specs.declared.request.Request.TheVariants.{Remove, Put, MakeFolder}
 use Rattle.room_laws.proofs.Passing.{passed, passed_on}
-use Rattle.std.proofs.lemmas.Bool.Decides.{nat_tests}
 
 module _ (caller : Caller) (content : Content) where
   pub passes_by : (item : Item) → failure caller item ≡ None → passes caller item ≡ true
@@ -47,11 +46,7 @@ module _ (caller : Caller) (content : Content) where
       (where_found (parent_at (sites_along content path) path) (λ folder.
       Deletion s folder
       ∷ Refusal path NotEmpty (not (is_empty (children_of content s.node.id))) ∷ [])) here).1 in
-      passes_by (Deletion s d) (passed caller (Deletion s d)
-      (Refusal path NotEmpty (not (is_empty (children_of content s.node.id))) ∷ [])
-      (ap (λ o. first_failure caller (where_found o (λ folder. Deletion s folder
-      ∷ Refusal path NotEmpty (not (is_empty (children_of content s.node.id))) ∷ []))) (sym above)
-      ∙ rest)).0
+      grind (arith, nat_tests, passed, passes_by)
 
   -- a move to a place in a folder
   pub move_granted : (first : List ℕ) (more : List (List ℕ)) (s d e : Site)

@@ -1,31 +1,23 @@
 -- The way to what is behind ends at the front or before it, for who is barred.
 use Rattle.std.proofs.Common.{ℕ, ◌==◌, ◌≡◌, Bool, true, false, cond, not, ◌&&◌, List, [], ◌∷◌, ◌++◌}
 use Rattle.std.proofs.Common.{Option, Some, None, refl, sym, ap, subst, ◌∙◌, arith}
-use Rattle.std.specs.List.{list_any}
-use Rattle.std.specs.Option.{option_map_or}
-use Rattle.std.specs.Prelude.{is_some}
-use Rattle.std.proofs.lemmas.Option.{none-some}
-use Rattle.room_entry.specs.Rights.{execute}
-use Rattle.room_entry.specs.declared.parties.Caller.{Caller}
+use Rattle.std.proofs.lemmas.Bool.Decides.{nat_tests}
+use Rattle.std.specs.{List.list_any, Option.option_map_or, Prelude.is_some}
+use Rattle.room_entry.specs.{Rights.execute, declared.parties.Caller.Caller}
 use Rattle.room_rows.specs.Content.{Content, child_of, is_empty, is_folder}
 use Rattle.room_rows.specs.declared.node.Node.{Node}
-use Rattle.room_machine.specs.Judge.{first_failure, or_else}
-use Rattle.room_machine.specs.Laws.{first_path}
-use Rattle.room_machine.specs.Plan.{Item, Check, Deletion, Refusal, way, where_found, plan_of}
-use Rattle.room_machine.specs.Plan.{move_items, right_to_add}
-use Rattle.room_machine.specs.Site.{Site, site_below, sites_along, site_at, front, last_name}
-use Rattle.room_machine.specs.declared.reply.Reason.TheVariants.{NotFolder, Loop, Exists}
-use Rattle.room_machine.specs.declared.reply.Reply.{Reply}
-use Rattle.room_machine.specs.declared.request.Request.{Request}
-use Rattle.room_machine.specs.declared.request.Request.TheVariants.{Read, List as ListFolder, Put}
-use Rattle.room_machine.specs.declared.request.Request.TheVariants.{Append, MakeFolder, Remove}
-use Rattle.room_machine.specs.declared.request.Request.TheVariants.{Move, ReadList, SetList}
-use Rattle.room_machine.specs.declared.request.Request.TheVariants.{ReadAttr, SetOwners, Can}
+use Rattle.room_machine.specs.{Judge.{first_failure, or_else}, Laws.first_path, Plan.{Item, Check}}
+use Rattle.room_machine.specs.Plan.{Deletion, Refusal, way, where_found, plan_of, move_items}
+use Rattle.room_machine.specs.{Plan.right_to_add, Site.{Site, site_below, sites_along, site_at}}
+use Rattle.room_machine.specs.{Site.{front, last_name}, declared.reply.Reason.TheVariants.NotFolder}
+use Rattle.room_machine.specs.declared.reply.{Reason.TheVariants.{Loop, Exists}, Reply.Reply}
+use Rattle.room_machine.specs.declared.request.Request.{Request, TheVariants.Read}
+use Rattle.room_machine.specs.declared.request.Request.TheVariants.{List as ListFolder, Put, Append}
+use Rattle.room_machine.specs.declared.request.Request.TheVariants.{MakeFolder, Remove, Move}
+use Rattle.room_machine.specs.declared.request.Request.TheVariants.{ReadList, SetList, ReadAttr}
+use Rattle.room_machine.specs.declared.request.Request.TheVariants.{SetOwners, Can}
 use Rattle.room_laws.specs.Outside.{IsBehind, way_behind}
-use Rattle.room_laws.proofs.LikeItems.{next}
-use Rattle.room_laws.proofs.OnePlace.{not_empty}
-use Rattle.room_laws.proofs.Seen.{along_from, sites_from}
-use Rattle.std.proofs.lemmas.Bool.Decides.{nat_tests}
+use Rattle.room_laws.proofs.{LikeItems.next, OnePlace.not_empty, Seen.{along_from, sites_from}}
 
 -- the objects after one, along names, where this child has the first name or none has
 abbrev child_sites : Content → Site → Option Node → List (List ℕ) → List Site
@@ -40,18 +32,13 @@ enter more folder = Refusal folder.path NotFolder (not (is_folder folder.node))
 module _ (caller : Caller) (content : Content) (reply : Reply) where
   early : (p q x : Option Reply) → or_else p (or_else q None) ≡ Some reply
       → or_else p (or_else q x) ≡ Some reply
-  early None None x is = absurd (none-some reply is)
-  early None (Some r) x is = is
-  early (Some r) q x is = is
+  early p q x is = grind (arith, nat_tests)
 
   late : (p q : Option Reply) (t u : Bool) (r : Reply) (x y : Option Reply) → t ≡ u
       → (x ≡ Some reply → y ≡ Some reply)
       → or_else p (or_else q (or_else (cond t (Some r) None) x)) ≡ Some reply
       → or_else p (or_else q (or_else (cond u (Some r) None) y)) ≡ Some reply
-  late (Some s) q t u r x y same on is = is
-  late None (Some s) t u r x y same on is = is
-  late None None true u r x y same on is = grind (arith, nat_tests)
-  late None None false u r x y same on is = grind (arith, nat_tests)
+  late p q t u r x y same on is = grind (arith, nat_tests)
 
   more_names : (f : List (List ℕ)) (name : List ℕ) (names : List (List ℕ))
       → is_empty (f ++ name ∷ names) ≡ false
@@ -93,16 +80,7 @@ module _ (caller : Caller) (content : Content) (reply : Reply) where
           (way lack (site ∷ child_sites content site o (f ++ name ∷ names))
           (x ∷ f ++ name ∷ names) ++ more)
           ≡ Some reply
-      on None next is =
-          late _ _ _ _ _ _ _ (lacks true lack f [] [] name names)
-          (λ none. absurd (none-some reply none)) is
-      on (Some child) next is =
-          late _ _ _ _ _ _ _
-          (ap (λ t. t && not (true && is_empty (f ++ [] ∷ [])))
-          (sites_there (site_below site child) f)
-          ∙ sym (ap (λ t. t && not (lack && is_empty (f ++ name ∷ names)))
-          (sites_there (site_below site child) (f ++ name ∷ names))))
-          (next child) is
+      on o next is = grind (arith, nat_tests, lacks, late, sites_there)
 
   -- the way to a folder that is in front ends so too, at the check of EXECUTE on it
   bar_at : (site : Site) (f : List (List ℕ)) (more : Site → List Item)
@@ -123,16 +101,7 @@ module _ (caller : Caller) (content : Content) (reply : Reply) where
           (way true (site ∷ child_sites content site o f) (x ∷ f ++ [] ∷ [])) ≡ Some reply
           → first_failure caller (way false (site ∷ child_sites content site o f) (x ∷ f)
           ++ where_found (site_at (child_sites content site o f) f) (enter more)) ≡ Some reply
-      on None next is =
-          late _ _ _ _ _ _ None (ap (λ t. not (true && t)) (more_names f [] []))
-          (λ none. absurd (none-some reply none)) is
-      on (Some child) next is =
-          late _ _ _ _ _ _ _
-          (ap (λ t. t && not (true && is_empty (f ++ [] ∷ [])))
-          (sites_there (site_below site child) f)
-          ∙ sym (ap (λ t. t && not (false && is_empty f))
-          (sites_there (site_below site child) f)))
-          (next child) is
+      on o next is = grind (arith, nat_tests, late, more_names, sites_there)
 
   module _ (f : List (List ℕ))
       (barred : first_failure caller (way_behind content f) ≡ Some reply) where
@@ -164,14 +133,12 @@ module _ (caller : Caller) (content : Content) (reply : Reply) where
 
         front_itself : (l : List (List ℕ)) (y : List ℕ) → front (l ++ y ∷ []) ≡ l
         front_itself [] y = refl
-        front_itself (x ∷ l) y =
-            front_more x l y [] ∙ ap (λ (k : List (List ℕ)). x ∷ k) (front_itself l y)
+        front_itself (x ∷ l) y = cc (front_more x l y [], front_itself l y)
 
         front_behind : (l : List (List ℕ)) (y z : List ℕ) (m : List (List ℕ))
             → front (l ++ y ∷ z ∷ m) ≡ l ++ y ∷ front (z ∷ m)
         front_behind [] y z m = refl
-        front_behind (x ∷ l) y z m =
-            front_more x l y (z ∷ m) ∙ ap (λ (k : List (List ℕ)). x ∷ k) (front_behind l y z m)
+        front_behind (x ∷ l) y z m = cc (front_more x l y (z ∷ m), front_behind l y z m)
 
         on : (p : List (List ℕ)) → IsBehind f p
             → first_failure caller (move_items (sites_along content) content p target from)
@@ -196,40 +163,27 @@ module _ (caller : Caller) (content : Content) (reply : Reply) where
             (list_any (λ site. site.node.id == target.node.id) (sites_along content l))
             ∷ [])) ≡ Some reply) (sym at) (bar_folder _)
         on (first ∷ names) (name, next ∷ more, same) =
-            bar_way (front (first ∷ names))
-            (name, front (next ∷ more), ap front same ∙ front_behind f name next more) false _
+            grind (arith, nat_tests, bar_way, front_behind)
 
 -- a request of what is behind ends in the reply of the way there
 pub plan_barred : (caller : Caller) (content : Content) (reply : Reply) (f : List (List ℕ))
     → first_failure caller (way_behind content f) ≡ Some reply → (request : Request)
     → IsBehind f (first_path request)
     → first_failure caller (plan_of content request) ≡ Some reply
-plan_barred caller content reply f barred (Read path) is =
-    bar_way caller content reply f barred path is false _
-plan_barred caller content reply f barred (ListFolder path) is =
-    bar_way caller content reply f barred path is false _
-plan_barred caller content reply f barred (Put path bytes) is =
-    bar_way caller content reply f barred path is true _
-plan_barred caller content reply f barred (Append path bytes) is =
-    bar_way caller content reply f barred path is false _
+plan_barred caller content reply f barred (Read path) is = search (bar_way)
+plan_barred caller content reply f barred (ListFolder path) is = search (bar_way)
+plan_barred caller content reply f barred (Put path bytes) is = search (bar_way)
+plan_barred caller content reply f barred (Append path bytes) is = search (bar_way)
 plan_barred caller content reply f barred (MakeFolder []) is = absurd (none f is)
   where
     none : (l : List (List ℕ)) → IsBehind l [] → ⊥
     none [] is = not_empty is.0 is.1 is.2
     none (x ∷ l) is = not_empty x (l ++ is.0 ∷ is.1) is.2
-plan_barred caller content reply f barred (MakeFolder (name ∷ names)) is =
-    bar_way caller content reply f barred (name ∷ names) is true _
-plan_barred caller content reply f barred (Remove path) is =
-    bar_way caller content reply f barred path is false _
-plan_barred caller content reply f barred (Move path to) is =
-    bar_way caller content reply f barred path is false _
-plan_barred caller content reply f barred (ReadList path which) is =
-    bar_way caller content reply f barred path is false _
-plan_barred caller content reply f barred (SetList path which sent) is =
-    bar_way caller content reply f barred path is false _
-plan_barred caller content reply f barred (ReadAttr path) is =
-    bar_way caller content reply f barred path is false _
-plan_barred caller content reply f barred (SetOwners path owners) is =
-    bar_way caller content reply f barred path is false _
-plan_barred caller content reply f barred (Can path mask) is =
-    bar_way caller content reply f barred path is false _
+plan_barred caller content reply f barred (MakeFolder (name ∷ names)) is = search (bar_way)
+plan_barred caller content reply f barred (Remove path) is = search (bar_way)
+plan_barred caller content reply f barred (Move path to) is = search (bar_way)
+plan_barred caller content reply f barred (ReadList path which) is = search (bar_way)
+plan_barred caller content reply f barred (SetList path which sent) is = search (bar_way)
+plan_barred caller content reply f barred (ReadAttr path) is = search (bar_way)
+plan_barred caller content reply f barred (SetOwners path owners) is = search (bar_way)
+plan_barred caller content reply f barred (Can path mask) is = search (bar_way)

@@ -1,32 +1,22 @@
 -- What happens behind a folder changes what is behind it alone.
-use Rattle.std.proofs.Common.{ℕ, ℤ, ◌≡◌, ◌<◌, ◌==◌, false, not, List, [], ◌∷◌, ◌++◌, Option, Some}
-use Rattle.std.proofs.Common.{None, refl, sym, ap, subst, ◌∙◌, arith}
-use Rattle.std.specs.Option.{option_map, option_map_or}
-use Rattle.std.specs.Prelude.{option_and_then, is_none, if◌then◌else◌}
-use Rattle.std.proofs.lemmas.Bool.{false≢true, cond-false}
-use Rattle.std.proofs.lemmas.Option.{none-some, same_Some}
-use Rattle.room_entry.specs.declared.object.Which.{Which}
-use Rattle.room_entry.specs.declared.parties.Caller.{Caller}
+use Rattle.std.proofs.Common.{ℕ, ℤ, ◌≡◌, ◌<◌, false, List, [], ◌∷◌, ◌++◌, Option, Some, None, refl}
+use Rattle.std.proofs.{Common.{sym, ap, subst, ◌∙◌, arith}, lemmas.Bool.{false≢true, cond-false}}
+use Rattle.std.proofs.lemmas.{Bool.Decides.nat_tests, Option.{none-some, same_Some}}
+use Rattle.std.specs.{Option.{option_map, option_map_or}, Prelude.{option_and_then, is_none}}
+use Rattle.std.specs.Prelude.{if◌then◌else◌}
+use Rattle.room_entry.specs.declared.{object.Which.Which, parties.Caller.Caller}
 use Rattle.room_ace.specs.Sent.{Sent}
 use Rattle.room_rows.specs.Content.{Content, child_of, node_at, has_parent, with_node, with_body}
-use Rattle.room_rows.specs.Content.{without_node, with_each, with_records}
-use Rattle.room_rows.specs.Held.{with_held}
-use Rattle.room_rows.specs.HeldList.{Held}
-use Rattle.room_rows.specs.declared.node.AuditRow.{AuditRow}
-use Rattle.room_rows.specs.declared.node.Node.{Node}
+use Rattle.room_rows.specs.{Content.{without_node, with_each, with_records}, Held.with_held}
+use Rattle.room_rows.specs.{HeldList.Held, declared.node.{AuditRow.AuditRow, Node.Node}}
 use Rattle.room_rows.proofs.InPlace.{keeps_places, place-with_held, rises-with_each}
-use Rattle.room_rows.proofs.InPlace.{node_at-with_each, KeepsPlaces}
-use Rattle.room_rows.proofs.Lookups as lookups
-use Rattle.room_rows.proofs.SamePlace.{IsSamePlace, same_place}
-use Rattle.room_machine.specs.Effect.{effect, put_bytes}
-use Rattle.room_machine.specs.Laws.{first_path}
-use Rattle.room_machine.specs.Run.{Event, Asked, WasReset, Replaced, Happens, Run}
-use Rattle.room_machine.specs.Site.{Site, sites_along, site_at, parent_at, site_below, front}
-use Rattle.room_machine.specs.Site.{last_name}
-use Rattle.room_machine.specs.Step.{Step, IsFree, caller_in, failure_or}
-use Rattle.room_machine.specs.declared.reply.Reply.{Reply}
-use Rattle.room_machine.specs.declared.reply.Reply.TheVariants.{Done}
-use Rattle.room_machine.specs.declared.request.Request.{Request}
+use Rattle.room_rows.proofs.{InPlace.{node_at-with_each, KeepsPlaces}, SamePlace.IsSamePlace}
+use Rattle.room_rows.proofs.SamePlace.{same_place}
+use Rattle.room_machine.specs.{Effect.{effect, put_bytes}, Laws.first_path, Run.{Event, Asked}}
+use Rattle.room_machine.specs.{Run.{WasReset, Replaced, Happens, Run}, Site.{Site, sites_along}}
+use Rattle.room_machine.specs.{Site.{site_at, parent_at, site_below, front, last_name}, Step.Step}
+use Rattle.room_machine.specs.{Step.{IsFree, caller_in, failure_or}, declared.reply.Reply.Reply}
+use Rattle.room_machine.specs.declared.{reply.Reply.TheVariants.Done, request.Request.Request}
 use Rattle.room_machine.specs.declared.request.Request.TheVariants.{Read, List as ListFolder, Put}
 use Rattle.room_machine.specs.declared.request.Request.TheVariants.{Append, MakeFolder, Remove}
 use Rattle.room_machine.specs.declared.request.Request.TheVariants.{Move, ReadList, SetList}
@@ -34,15 +24,14 @@ use Rattle.room_machine.specs.declared.request.Request.TheVariants.{ReadAttr, Se
 use Rattle.room_laws.specs.Laws.{HappensBehind, StaysBehind, AllBehind, UnseenBehind}
 use Rattle.room_laws.specs.Outside.{found, found_from, IsBehind, SameOutside, last_path}
 use Rattle.room_laws.specs.Tidy.{IsNumbered}
-use Rattle.room_laws.proofs.Kept as kept
 use Rattle.room_laws.proofs.Local.{IsBelowInside, IsInside, IsLocal, IsUnder, body_local}
 use Rattle.room_laws.proofs.Local.{each_local, itself_local, local_outside, node_local}
 use Rattle.room_laws.proofs.Local.{records_local, removed_local, shown_of, split_behind}
-use Rattle.room_laws.proofs.Local.{under_below, under_inside}
-use Rattle.room_laws.proofs.OnePlace.{found_there, split_last}
-use Rattle.room_laws.proofs.SameReplies.{bar_same, same_replies}
+use Rattle.room_laws.proofs.{Local.{under_below, under_inside}, OnePlace.found_there}
+use Rattle.room_laws.proofs.{OnePlace.split_last, SameReplies.{bar_same, same_replies}}
 use Rattle.room_laws.proofs.Seen.{along_from, found_at, sites_from}
-use Rattle.std.proofs.lemmas.Bool.Decides.{nat_tests}
+use Rattle.room_rows.proofs.Lookups as lookups
+use Rattle.room_laws.proofs.Kept as kept
 
 -- ---- what is found before the end of a path
 
@@ -63,8 +52,7 @@ prefix_from content site (name ∷ names) more =
         (site_at (option_map_or
         (λ child. sites_from content (site_below site child) (names ++ more)) o []) names)
         ≡ option_and_then (λ child. found_from content child names) o
-    on None next = refl
-    on (Some child) next = next child
+    on o next = grind (arith, nat_tests)
 
 pub found_before : (content : Content) (names more : List (List ℕ))
     → option_map (λ (s : Site). s.node) (site_at (sites_along content (names ++ more)) names)
@@ -79,8 +67,7 @@ front_snoc (x ∷ y ∷ names) name = ap (λ (l : List (List ℕ)). x ∷ l) (fr
 pub target_found : (content : Content) (path : List (List ℕ)) (target : Site)
     → site_at (sites_along content path) path ≡ Some target
     → found content path ≡ Some target.node
-target_found content path target is =
-    sym (found_at content path) ∙ ap (option_map (λ (s : Site). s.node)) is
+target_found content path target is = cc (found_at content path, is)
 
 pub free_none : (content : Content) (id : ℕ) → IsFree content id → (node : Node)
     → node_at content id ≡ Some node → ⊥
@@ -91,8 +78,7 @@ pub act_on : (P : Content → Type 0) (content : Content) (o : Option Site)
     (act : Site → Reply × Content)
     → P content → ((s : Site) → o ≡ Some s → P (act s).1)
     → P (option_map_or act o (Done, content)).1
-act_on P content None act same each = same
-act_on P content (Some s) act same each = each s refl
+act_on P content o act same each = grind (arith, nat_tests)
 
 -- ---- a list that is set, with those of the children
 
@@ -131,8 +117,7 @@ module _ (a : Content) (numbered : IsNumbered a) where
   body_numbered c id bytes rises = record { rises = rises }
 
   removed_numbered : (id : ℕ) → Numbered (without_node a id)
-  removed_numbered id =
-      record { rises = kept.rises-removed 0 (λ (n : Node). not (n.id == id)) a.nodes numbered }
+  removed_numbered id = search (kept.rises-removed)
 
   as_before : Numbered a
   as_before = record { rises = numbered }
@@ -143,10 +128,8 @@ module _ (a : Content) (numbered : IsNumbered a) where
       (with_held which held s.node))
   set_numbered path which held keep s is =
       put_numbered (with_each a (change which keep s.node.id)) (with_held which held s.node)
-      (rises-with_each a (change which keep s.node.id)
-      (keeps_places a _ (change_place which keep s.node.id)) numbered)
-      (subst (λ (n : ℕ). 0 < n) (sym (place-with_held which held s.node).number)
-      (from_one path s.node (target_found a path s is)))
+      (search (change_place, keeps_places, rises-with_each))
+      (grind (arith, nat_tests, from_one, place-with_held, target_found))
 
   list_numbered : (caller : Caller) (id : ℕ) (path : List (List ℕ)) (which : Which) (sent : Sent)
       → Numbered (effect a caller id (SetList path which sent)).1
@@ -155,40 +138,30 @@ module _ (a : Content) (numbered : IsNumbered a) where
 
   numbered_effect : (caller : Caller) (id : ℕ) → IsFree a id → (request : Request)
       → Numbered (effect a caller id request).1
-  numbered_effect caller id free (Read path) =
-      act_on Numbered a _ _ as_before (λ s is. as_before)
-  numbered_effect caller id free (ListFolder path) =
-      act_on Numbered a _ _ as_before (λ s is. as_before)
+  numbered_effect caller id free (Read path) = grind (arith, nat_tests, act_on, as_before)
+  numbered_effect caller id free (ListFolder path) = grind (arith, nat_tests, act_on, as_before)
   numbered_effect caller id free (Put path bytes) =
       on (site_at (sites_along a path) path) (parent_at (sites_along a path) path)
     where
       on : (o p : Option Site) → Numbered (put_bytes a caller id path bytes o p).1
-      on (Some target) p = body_numbered a target.node.id bytes numbered
-      on None p =
-          act_on Numbered a p _ as_before
-          (λ folder is. body_numbered _ id bytes (put_numbered a _ numbered free.0).rises)
+      on o p = grind (arith, nat_tests, act_on, as_before, body_numbered, put_numbered)
   numbered_effect caller id free (Append path bytes) =
       act_on Numbered a _ _ as_before (λ s is. body_numbered a s.node.id _ numbered)
   numbered_effect caller id free (MakeFolder path) =
       act_on Numbered a _ _ as_before (λ folder is. put_numbered a _ numbered free.0)
   numbered_effect caller id free (Remove path) =
-      act_on Numbered a _ _ as_before
-      (λ s is. removed_numbered s.node.id)
+      grind (arith, nat_tests, act_on, as_before, removed_numbered)
   numbered_effect caller id free (Move path to) =
       act_on Numbered a _ _ as_before (λ s is.
       act_on Numbered a _ _ as_before (λ folder at.
       put_numbered a _ numbered (from_one path s.node (target_found a path s is))))
-  numbered_effect caller id free (ReadList path which) =
-      act_on Numbered a _ _ as_before (λ s is. as_before)
-  numbered_effect caller id free (SetList path which sent) =
-      list_numbered caller id path which sent
-  numbered_effect caller id free (ReadAttr path) =
-      act_on Numbered a _ _ as_before (λ s is. as_before)
+  numbered_effect caller id free (ReadList path which) = grind (arith, nat_tests, act_on, as_before)
+  numbered_effect caller id free (SetList path which sent) = search (list_numbered)
+  numbered_effect caller id free (ReadAttr path) = grind (arith, nat_tests, act_on, as_before)
   numbered_effect caller id free (SetOwners path owners) =
       act_on Numbered a _ _ as_before (λ s is.
       put_numbered a _ numbered (from_one path s.node (target_found a path s is)))
-  numbered_effect caller id free (Can path mask) =
-      act_on Numbered a _ _ as_before (λ s is. as_before)
+  numbered_effect caller id free (Can path mask) = grind (arith, nat_tests, act_on, as_before)
 
   module _ (f : List (List ℕ)) where
     -- an object at a path that is behind
@@ -208,8 +181,7 @@ module _ (a : Content) (numbered : IsNumbered a) where
 
       -- what is found by its number
       known : (old : Node) → node_at a target.node.id ≡ Some old → IsBelowInside f a old
-      known old found =
-          subst (IsBelowInside f a) (one_there target.node.id target.node old there found) below
+      known old found = grind (arith, nat_tests, below, one_there, there)
 
       apart : (node : Node) → node_at a node.id ≡ Some node → (IsUnder f a node.id → ⊥)
           → node.id ≡ target.node.id → ⊥
@@ -235,16 +207,16 @@ module _ (a : Content) (numbered : IsNumbered a) where
           (change_shown which keep target.node.id) (change_none which keep target.node.id)
           (under_inside f a target.node.id under))
           (below.0, (place-with_held which held target.node).parent ∙ below.1, below.2)
-          (λ old found.
-          let now : change which keep target.node.id target.node ≡ old = same_Some _ _
-          (ap (option_map (change which keep target.node.id)) (sym there)
-          ∙ sym (node_at-with_each a (change which keep target.node.id) places target.node.id)
-          ∙ ap (node_at (with_each a (change which keep target.node.id)))
-          (sym (place-with_held which held target.node).number) ∙ found) in
-          subst (IsBelowInside f a) now (
-            below.0,
-            (change_place which keep target.node.id target.node).parent ∙ below.1,
-            below.2,
+          (
+          grind (
+            arith,
+            nat_tests,
+            below,
+            change_place,
+            node_at-with_each,
+            place-with_held,
+            places,
+            there,
           ))
         where
           places : KeepsPlaces a (change which keep target.node.id)
@@ -261,10 +233,7 @@ module _ (a : Content) (numbered : IsNumbered a) where
     folder_inside [] is folder at = absurd (none-some folder at)
     folder_inside (x ∷ path) is folder at =
         front_inside (x ∷ path) is folder.node
-        (sym (found_before a (front (x ∷ path)) (last_name (x ∷ path) ∷ []))
-        ∙ ap (λ (l : List (List ℕ)). option_map (λ (s : Site). s.node)
-        (site_at (sites_along a l) (front (x ∷ path)))) (sym (split_last x path))
-        ∙ ap (option_map (λ (s : Site). s.node)) at)
+        (cc (found_before a (front (x ∷ path)) (last_name (x ∷ path) ∷ []), split_last x path, at))
 
     -- a new object below an object inside
     added_local : (new : Node) (folder : Node) → IsFree a new.id → new.parent ≡ Some folder.id
@@ -292,14 +261,12 @@ module _ (a : Content) (numbered : IsNumbered a) where
         on : (o p : Option Site) → site_at (sites_along a path) path ≡ o
             → parent_at (sites_along a path) path ≡ p
             → IsLocal f a (put_bytes a caller id path bytes o p).1
-        on (Some target) p at above =
-            body_local f a a target.node.id bytes (itself_local f a) (apart path target is at)
+        on (Some target) p at above = search (apart, body_local, itself_local)
         on None p at above =
             act_on (IsLocal f a) a p _ (itself_local f a) (λ folder found_it.
             body_local f a _ id bytes
             (added_local _ folder.node free refl (folder_inside path is folder (above ∙ found_it)))
-            (λ node found other same. free_none a id free node
-            (ap (node_at a) (sym same) ∙ found)))
+            (grind (arith, nat_tests, free_none)))
     behind_effect caller id free (Append path bytes) is last =
         act_on (IsLocal f a) a _ _ (itself_local f a) (λ s at.
         body_local f a a s.node.id _ (itself_local f a) (apart path s is at))
@@ -320,8 +287,7 @@ module _ (a : Content) (numbered : IsNumbered a) where
         )))
     behind_effect caller id free (ReadList path which) is last =
         act_on (IsLocal f a) a _ _ (itself_local f a) (λ s at. itself_local f a)
-    behind_effect caller id free (SetList path which sent) is last =
-        list_local caller id path which sent is
+    behind_effect caller id free (SetList path which sent) is last = search (list_local)
     behind_effect caller id free (ReadAttr path) is last =
         act_on (IsLocal f a) a _ _ (itself_local f a) (λ s at. itself_local f a)
     behind_effect caller id free (SetOwners path owners) is last =
@@ -335,8 +301,7 @@ module _ (a : Content) (numbered : IsNumbered a) where
 -- what holds of the content that a failure leaves, and of the one that is done, holds of either
 either_holds : (P : Content → Type 0) (failed : Option Reply) (content : Content)
     (done : Reply × Content) → P content → P done.1 → P (failure_or failed content done).1
-either_holds P None content done same other = other
-either_holds P (Some reply) content done same other = same
+either_holds P failed content done same other = grind (arith, nat_tests)
 
 -- the content after a step
 pub after_step : (P : Content → Type 0) → ((c : Content) (rows : List AuditRow) → P c
@@ -361,8 +326,7 @@ numbers_stay before (WasReset path which sent reply) after numbered s =
     (subst Numbered (ap (λ (d : Reply × Content). d.1) s)
     (either_holds Numbered _ before _ (record { rises = numbered })
     (list_numbered before numbered (record { user = None; groups = [] }) 0 path which sent))).rises
-numbers_stay before (Replaced pairs) after numbered same =
-    (subst Numbered (sym same) (record { rises = numbered })).rises
+numbers_stay before (Replaced pairs) after numbered same = grind (arith, nat_tests)
 
 local_event : (f : List (List ℕ)) (before : Content) (event : Event) (after : Content)
     → IsNumbered before → HappensBehind f event → Happens before event after
@@ -397,9 +361,7 @@ same_on f a b c first second = grind (arith, nat_tests)
 
 pub run_behind : (f : List (List ℕ)) (events : List Event) (a b : Content) → IsNumbered a
     → AllBehind f events → Run a events b → SameOutside f a b × IsNumbered b
-run_behind f [] a b numbered all run =
-    subst (λ (c : Content). SameOutside f a c × IsNumbered c) (sym run)
-    (same_itself f a, numbered)
+run_behind f [] a b numbered all run = grind (arith, nat_tests, same_itself)
 run_behind f (event ∷ events) a b numbered all (mid, happens, run) =
     let one = stays_behind f a event mid numbered all.0 happens in
     let rest = run_behind f events mid b one.1 all.1 run in

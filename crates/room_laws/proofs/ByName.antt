@@ -1,29 +1,21 @@
 -- Children in order of name are determined by what is found by each name.
 use Rattle.std.proofs.Common.{◌≡◌, ℕ, ◌⊎◌, inl, inr, Bool, true, false, cond, not, ◌&&◌, List, []}
 use Rattle.std.proofs.Common.{◌∷◌, map, filter, Option, Some, None, refl, sym, ap, ◌∙◌, arith}
-use Rattle.std.specs.Cmp.Lexicographic.{slice_cmp}
-use Rattle.std.specs.List.{find, AllByRecursion, list_any}
-use Rattle.std.specs.Option.{option_map}
-use Rattle.std.specs.Ordering.{nat_cmp, ordering_reverse, is_lt, is_eq}
-use Rattle.std.specs.declared.cmp.Ordering.{Ordering}
-use Rattle.std.specs.declared.cmp.Ordering.TheVariants.{Less, Equal, Greater}
-use Rattle.std.proofs.lemmas.Bool.{not-true, cases_Bool, and_parts, false≢true, true≢false, eq-eqb}
-use Rattle.std.proofs.lemmas.Cmp.{nat_list_cmp_total}
-use Rattle.std.proofs.lemmas.Map.Text.{is_eq-slice_cmp}
-use Rattle.std.proofs.lemmas.Option.{none-some, same_Some}
-use Rattle.room_entry.specs.Pieces.{same_text}
-use Rattle.room_entry.specs.declared.object.ObjKind.{ObjKind}
-use Rattle.room_entry.proofs.Alike.{text_itself}
-use Rattle.room_entry.proofs.Facts.Members.{each_fails, each_filter, each_weaker}
-use Rattle.room_entry.proofs.Texts.{same_text-true, same_text-sym}
+use Rattle.std.proofs.lemmas.Bool.{not-true, cases_Bool, and_parts, false≢true, Decides.nat_tests}
+use Rattle.std.proofs.lemmas.{Cmp.nat_list_cmp_total, Map.Text.is_eq-slice_cmp, Option.none-some}
+use Rattle.std.specs.{Cmp.Lexicographic.slice_cmp, List.{find, AllByRecursion, list_any}}
+use Rattle.std.specs.{Option.option_map, Ordering.{nat_cmp, ordering_reverse, is_lt, is_eq}}
+use Rattle.std.specs.declared.cmp.Ordering.{Ordering, TheVariants.Less}
+use Rattle.room_entry.specs.{Pieces.same_text, declared.object.ObjKind.ObjKind}
+use Rattle.room_entry.proofs.{Alike.text_itself, Facts.Members.{each_fails, each_filter}}
+use Rattle.room_entry.proofs.{Facts.Members.each_weaker, Texts.{same_text-true, same_text-sym}}
 use Rattle.room_rows.specs.Content.{Content, is_before, put_by_name, sorted_by_name, has_parent}
 use Rattle.room_rows.specs.Content.{child_of, children_of, are_names_apart, same_parent}
 use Rattle.room_rows.specs.declared.node.Node.{Node}
 use Rattle.room_rows.proofs.Frames.{parent_is}
-use Rattle.room_rows.proofs.Lookups as lookups
 use Rattle.room_machine.specs.Effect.{names_at}
 use Rattle.room_laws.proofs.Local.{shown_of}
-use Rattle.std.proofs.lemmas.Bool.Decides.{nat_tests}
+use Rattle.room_rows.proofs.Lookups as lookups
 
 -- ---- the order of names
 
@@ -31,8 +23,7 @@ less_of : (a b : List ℕ) → is_before a b ≡ true → slice_cmp nat_cmp a b 
 less_of a b is = grind (arith, nat_tests)
 
 before_on : (a b c : List ℕ) → is_before a b ≡ true → is_before b c ≡ true → is_before a c ≡ true
-before_on a b c first second =
-    ap is_lt (nat_list_cmp_total.trans a b c (less_of a b first) (less_of b c second))
+before_on a b c first second = grind (arith, nat_tests, less_of, nat_list_cmp_total)
 
 never_itself : (a : List ℕ) → is_before a a ≡ false
 never_itself a = grind (arith, nat_tests, nat_list_cmp_total)
@@ -41,22 +32,17 @@ never_itself a = grind (arith, nat_tests, nat_list_cmp_total)
 before_differs : (a b : List ℕ) → is_before a b ≡ true → same_text a b ≡ false
 before_differs a b before = elim (cases_Bool (same_text a b)) [
   | inl same ↦
-      absurd (false≢true (sym (never_itself b) ∙ ap (λ n. is_before n b)
-      (sym (same_text-true a b same)) ∙ before))
+      absurd (false≢true (cc (never_itself b, same_text-true a b same, before)))
   | inr differ ↦ differ
 ]
 
 -- of two names that differ one comes first
 one_first : (a b : List ℕ) → is_before a b ≡ false → same_text a b ≡ false → is_before b a ≡ true
-one_first a b isnt differ =
-    ap is_lt (nat_list_cmp_total.antisymm b a)
-    ∙ on (slice_cmp nat_cmp a b) isnt (is_eq-slice_cmp a b)
+one_first a b isnt differ = grind (arith, nat_tests, is_eq-slice_cmp, nat_list_cmp_total, on)
   where
     on : (o : Ordering) → is_lt o ≡ false → is_eq o ≡ same_text a b
         → is_lt (ordering_reverse o) ≡ true
-    on Less is same = absurd (true≢false is)
-    on Equal is same = absurd (false≢true (sym differ ∙ sym same))
-    on Greater is same = refl
+    on o is same = grind (arith, nat_tests)
 
 -- ---- what is found by a name
 
@@ -96,21 +82,11 @@ rising_put node (x ∷ xs) others rising =
     on : (t : Bool) → is_before x.name node.name ≡ t → Rising (put_by_name node xs)
         → Rising (cond t (x ∷ put_by_name node xs) (node ∷ x ∷ xs))
     on true is rest = (after_put x node xs is rising.0, rest)
-    on false is rest =
-        let first = one_first x.name node.name is others.0 in (
-          (
-            first,
-            each_weaker _ _ (λ n later. before_on node.name x.name n.name first later) xs rising.0,
-          ),
-          rising,
-        )
+    on false is rest = grind (arith, nat_tests, before_on, each_weaker, one_first)
 
 rising_sorted : (nodes : List Node) → Apart nodes → Rising (sorted_by_name nodes)
 rising_sorted [] apart = tt
-rising_sorted (x ∷ xs) apart =
-    rising_put x (sorted_by_name xs)
-    (lookups.each-sorted (λ (n : Node). same_text n.name x.name ≡ false) xs apart.0)
-    (rising_sorted xs apart.1)
+rising_sorted (x ∷ xs) apart = search (lookups.each-sorted, rising_put, rising_sorted xs apart.1)
 
 -- what is found by a name where an object was put among others of other names
 name_put : (name : List ℕ) (node : Node) (nodes : List Node) → Others node nodes
@@ -123,27 +99,20 @@ name_put name node (x ∷ xs) others =
         → cond t (Some x) (cond u (Some node) (by_name name xs))
         ≡ cond u (Some node) (cond t (Some x) (by_name name xs))
     swapped true true one two =
-        absurd (false≢true (sym others.0 ∙ ap (same_text x.name) (same_text-true node.name name two)
-        ∙ one))
-    swapped true false one two = refl
-    swapped false u one two = refl
+        absurd (false≢true (cc (others.0, same_text-true node.name name two, one)))
+    swapped _ _ one two = refl
 
     on : (t : Bool) → by_name name (put_by_name node xs) ≡ by_name name (node ∷ xs)
         → by_name name (cond t (x ∷ put_by_name node xs) (node ∷ x ∷ xs))
         ≡ by_name name (node ∷ x ∷ xs)
-    on true rest =
-        ap (λ (o : Option Node). cond (same_text x.name name) (Some x) o) rest
-        ∙ swapped (same_text x.name name) (same_text node.name name) refl refl
+    on true rest = grind (arith, nat_tests, swapped)
     on false rest = refl
 
 name_sorted : (name : List ℕ) (nodes : List Node) → Apart nodes
     → by_name name (sorted_by_name nodes) ≡ by_name name nodes
 name_sorted name [] apart = refl
 name_sorted name (x ∷ xs) apart =
-    name_put name x (sorted_by_name xs)
-    (lookups.each-sorted (λ (n : Node). same_text n.name x.name ≡ false) xs apart.0)
-    ∙ ap (λ (o : Option Node). cond (same_text x.name name) (Some x) o)
-    (name_sorted name xs apart.1)
+    search (lookups.each-sorted, name_put, name_sorted name xs apart.1)
 
 -- ---- two lists in which the same is shown by each name
 
@@ -151,8 +120,7 @@ none_of : (name : List ℕ) (nodes : List Node)
     → AllByRecursion (λ (n : Node). same_text n.name name ≡ false) nodes
     → by_name name nodes ≡ None
 none_of name [] all = refl
-none_of name (x ∷ xs) all =
-    lookups.find_no (λ (n : Node). same_text n.name name) x xs all.0 ∙ none_of name xs all.1
+none_of name (x ∷ xs) all = search (lookups.find_no, none_of name xs all.1)
 
 -- none of those that come after a name has it, or one before it
 after_none : (name : List ℕ) (x : Node) (nodes : List Node) → Rising (x ∷ nodes)
@@ -172,10 +140,16 @@ not_before : (x y : Node) (xs ys : List Node) → Rising (y ∷ ys) → SameByNa
     → is_before x.name y.name ≡ true → ⊥
 not_before x y xs ys rising same before =
     none-some (shown_of x)
-    (sym (ap (option_map shown_of)
-    (lookups.find_no (λ (n : Node). same_text n.name x.name) y ys
-    (same_text-sym y.name x.name ∙ before_differs x.name y.name before)
-    ∙ after_none x.name y ys rising (inl before)))
+    (sym (
+    grind (
+      arith,
+      nat_tests,
+      after_none,
+      before_differs,
+      lookups.find_no,
+      same_text-sym,
+      shown_of,
+    ))
     ∙ sym (same x.name) ∙ ap (option_map shown_of) (here x xs))
 
 same_back : (l m : List Node) → SameByName l m → SameByName m l
@@ -196,10 +170,7 @@ shown_same (x ∷ xs) (y ∷ ys) one two same =
             (one_first x.name y.name not_first differ))
         | inl equal ↦
             let name : x.name ≡ y.name = same_text-true x.name y.name equal in
-            let first : shown_of x ≡ shown_of y = same_Some _ _
-            (sym (ap (option_map shown_of) (here x xs)) ∙ same x.name
-            ∙ ap (λ n. option_map shown_of (by_name n (y ∷ ys))) name
-            ∙ ap (option_map shown_of) (here y ys)) in
+            let first : shown_of x ≡ shown_of y = grind (arith, nat_tests, here, shown_of) in
             ap (λ (p : List ℕ × ObjKind). p ∷ map shown_of xs) first
             ∙ ap (λ (l : List (List ℕ × ObjKind)). shown_of y ∷ l)
             (shown_same xs ys one.1 two.1 (λ n. rest n name (cases_Bool (same_text x.name n))))
@@ -210,15 +181,11 @@ shown_same (x ∷ xs) (y ∷ ys) one two same =
         ⊎ (same_text x.name n ≡ false)
         → option_map shown_of (by_name n xs) ≡ option_map shown_of (by_name n ys)
     rest n name (inl it) =
-        ap (option_map shown_of)
-        (after_none n x xs one (inr (sym (same_text-true x.name n it)))
-        ∙ sym (after_none n y ys two (inr (sym (same_text-true x.name n it) ∙ name))))
-    rest n name (inr other) =
-        sym (ap (option_map shown_of)
-        (lookups.find_no (λ (k : Node). same_text k.name n) x xs other))
-        ∙ same n
-        ∙ ap (option_map shown_of) (lookups.find_no (λ (k : Node). same_text k.name n) y ys
-        (ap (λ k. same_text k n) (sym name) ∙ other))
+        cc (
+          after_none n x xs one (inr (sym (same_text-true x.name n it))),
+          after_none n y ys two (inr (sym (same_text-true x.name n it) ∙ name)),
+        )
+    rest n name (inr other) = grind (arith, nat_tests, lookups.find_no, shown_of)
 
 -- ---- children
 
@@ -240,24 +207,16 @@ apart_children id (x ∷ xs) apart =
 
     siblings : (n : Node) → has_parent id x ≡ true → has_parent id n ≡ true
         → same_parent x.parent n.parent ≡ true
-    siblings n first second =
-        ap (λ p. same_parent p n.parent) (parent_is id x first)
-        ∙ ap (same_parent (Some id)) (parent_is id n second) ∙ eq-eqb id id refl
+    siblings n first second = grind (arith, nat_tests, parent_is)
 
     no_same : (n : Node) → has_parent id x ≡ true → test n ≡ false → has_parent id n ≡ true
         → same_text n.name x.name ≡ false
-    no_same n below isnt is =
-        same_text-sym n.name x.name
-        ∙ (sym (ap (λ t. t && same_text x.name n.name) (siblings n below is)) ∙ isnt)
+    no_same n below isnt is = grind (arith, nat_tests, same_text-sym, siblings)
 
     on : (t : Bool) → has_parent id x ≡ t → not (list_any test xs) ≡ true
         → Apart (filter (has_parent id) xs)
         → Apart (cond t (x ∷ filter (has_parent id) xs) (filter (has_parent id) xs))
-    on true is none rest = (
-      each_filter (λ (n : Node). same_text n.name x.name ≡ false) (has_parent id) xs
-          (each_weaker _ _ (λ n isnt. no_same n is isnt) xs (each_fails test xs (not-true _ none))),
-      rest,
-    )
+    on true is none rest = search (each_fails, each_filter, each_weaker, no_same, not-true, test)
     on false is none rest = rest
 
 -- a child is found by its name among the children in order

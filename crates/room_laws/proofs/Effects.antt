@@ -1,53 +1,35 @@
 -- A request leaves two rooms the same outside.
 use Rattle.std.proofs.Common.{append_assoc, ℕ, ◌≡◌, ◌⊎◌, inl, inr, true, false, List, [], ◌∷◌, ◌++◌}
 use Rattle.std.proofs.Common.{Option, Some, None, refl, sym, ap, subst, ◌∙◌, append-nil, arith}
-use Rattle.std.specs.Option.{option_map, option_map_or}
-use Rattle.std.specs.Prelude.{unwrap_or}
-use Rattle.std.proofs.lemmas.Bool.{true≢false}
-use Rattle.std.proofs.lemmas.List.{append_cancel_left}
-use Rattle.room_entry.specs.declared.object.ObjKind.{ObjKind}
-use Rattle.room_entry.specs.declared.object.ObjKind.TheVariants.{Document, Folder}
-use Rattle.room_entry.specs.declared.object.Which.{Which}
-use Rattle.room_entry.specs.declared.parties.Caller.{Caller}
-use Rattle.room_entry.specs.declared.parties.Owners.{Owners}
+use Rattle.std.proofs.lemmas.{Bool.{true≢false, Decides.nat_tests}, List.append_cancel_left}
+use Rattle.std.specs.Option.{option_map_or}
+use Rattle.room_entry.specs.declared.object.ObjKind.{ObjKind, TheVariants.{Document, Folder}}
+use Rattle.room_entry.specs.declared.{object.Which.Which, parties.{Caller.Caller, Owners.Owners}}
 use Rattle.room_ace.specs.Sent.{Sent}
-use Rattle.room_rows.specs.Content.{Content, body_of, children_of, is_empty, with_node, with_body}
-use Rattle.room_rows.specs.Content.{without_node}
-use Rattle.room_rows.specs.declared.node.Node.{Node}
+use Rattle.room_rows.specs.Content.{Content, children_of, is_empty, with_node, with_body}
+use Rattle.room_rows.specs.{Content.without_node, declared.node.Node.Node}
 use Rattle.room_machine.specs.Effect.{effect, set_list, new_node, moved_node, put_bytes, with_site}
-use Rattle.room_machine.specs.Judge.{failure, first_failure}
-use Rattle.room_machine.specs.Laws.{first_path}
-use Rattle.room_machine.specs.Plan.{plan_of, move_items, Deletion, Refusal}
+use Rattle.room_machine.specs.{Judge.first_failure, Laws.first_path, Plan.{plan_of, move_items}}
 use Rattle.room_machine.specs.Site.{Site, front, last_name, site_at, parent_at, sites_along}
-use Rattle.room_machine.specs.Step.{IsFree}
-use Rattle.room_machine.specs.declared.reply.Reason.TheVariants.{Exists}
-use Rattle.room_machine.specs.declared.reply.Reply.{Reply}
-use Rattle.room_machine.specs.declared.reply.Reply.TheVariants.{Done}
-use Rattle.room_machine.specs.declared.request.Request.{Request}
-use Rattle.room_machine.specs.declared.request.Request.TheVariants.{Read, List as ListFolder, Put}
-use Rattle.room_machine.specs.declared.request.Request.TheVariants.{Append, MakeFolder, Remove}
-use Rattle.room_machine.specs.declared.request.Request.TheVariants.{Move, ReadList, SetList}
-use Rattle.room_machine.specs.declared.request.Request.TheVariants.{ReadAttr, SetOwners, Can}
-use Rattle.room_laws.specs.Laws.{front_done, rest_after}
-use Rattle.room_laws.specs.Outside.{Seen, found, unnumbered, view, IsBehind, SameOutside}
-use Rattle.room_laws.specs.Outside.{last_path}
-use Rattle.room_laws.specs.Tidy.{IsTidy, IsNumbered}
-use Rattle.room_laws.proofs.Changed.{bytes_view, filled, list_view, owned, owners_view, relisted}
-use Rattle.room_laws.proofs.Grown.{GoesOn, filled_here, filled_view, goes_on, gone_here}
-use Rattle.room_laws.proofs.Grown.{gone_view, grown_here, grown_view}
-use Rattle.room_laws.proofs.Moved.{view_apart, view_below, view_new, view_old}
-use Rattle.room_laws.proofs.OnePlace.{split_last, start_outside}
-use Rattle.room_laws.proofs.Orphans.{bare, orphans}
-use Rattle.room_laws.proofs.OtherFronts.{SeenAlike, unmoved_alike}
+use Rattle.room_machine.specs.{Step.IsFree, declared.reply.Reply.{Reply, TheVariants.Done}}
+use Rattle.room_machine.specs.declared.request.Request.{Request, TheVariants.Read}
+use Rattle.room_machine.specs.declared.request.Request.TheVariants.{List as ListFolder, Put, Append}
+use Rattle.room_machine.specs.declared.request.Request.TheVariants.{MakeFolder, Remove, Move}
+use Rattle.room_machine.specs.declared.request.Request.TheVariants.{ReadList, SetList, ReadAttr}
+use Rattle.room_machine.specs.declared.request.Request.TheVariants.{SetOwners, Can}
+use Rattle.room_laws.specs.{Laws.{front_done, rest_after}, Outside.{found, unnumbered, view}}
+use Rattle.room_laws.specs.{Outside.{IsBehind, SameOutside, last_path}, Tidy.{IsTidy, IsNumbered}}
+use Rattle.room_laws.proofs.{Changed.{bytes_view, list_view, owners_view}, Grown.GoesOn}
+use Rattle.room_laws.proofs.Grown.{filled_here, filled_view, goes_on, gone_here, gone_view}
+use Rattle.room_laws.proofs.{Grown.{grown_here, grown_view}, Moved.{view_apart, view_below}}
+use Rattle.room_laws.proofs.{Moved.{view_new, view_old}, OnePlace.{split_last, start_outside}}
+use Rattle.room_laws.proofs.{Orphans.{bare, orphans}, OtherFronts.{SeenAlike, unmoved_alike}}
 use Rattle.room_laws.proofs.Passing.{rest_some, rest_none, way_leads, place_free, above_found}
-use Rattle.room_laws.proofs.Passing.{at_or_not, both_none, folder_passed, move_passed}
-use Rattle.room_laws.proofs.Passing.{never_meets, none_at, not_refused, outside_on, parent_is}
-use Rattle.room_laws.proofs.Passing.{place_passed, remove_passed}
-use Rattle.room_laws.proofs.PlansAlike.{IsSeen, parent_same, sites_same, target_seen}
-use Rattle.room_laws.proofs.Seen.{Both, IsLike}
-use Rattle.room_laws.proofs.Settings.{keeper, keeper_blank, Setting, setting, setting_like}
-use Rattle.room_laws.proofs.Settings.{no_children}
-use Rattle.std.proofs.lemmas.Bool.Decides.{nat_tests}
+use Rattle.room_laws.proofs.Passing.{at_or_not, both_none, folder_passed, move_passed, never_meets}
+use Rattle.room_laws.proofs.Passing.{none_at, not_refused, outside_on, parent_is, place_passed}
+use Rattle.room_laws.proofs.{Passing.remove_passed, PlansAlike.{IsSeen, parent_same, sites_same}}
+use Rattle.room_laws.proofs.{PlansAlike.target_seen, Seen.{Both, IsLike}, Settings.keeper}
+use Rattle.room_laws.proofs.Settings.{keeper_blank, setting, setting_like, no_children}
 
 module _ (f : List (List ℕ)) (a b : Content) (same : SameOutside f a b)
     (content_a : IsTidy a) (content_b : IsTidy b)
@@ -62,10 +44,7 @@ module _ (f : List (List ℕ)) (a b : Content) (same : SameOutside f a b)
       → Both R o p
       → ((s t : Site) → o ≡ Some s → p ≡ Some t → R s t → SameViews (g s).1 (h t).1)
       → SameViews (option_map_or g o (Done, a)).1 (option_map_or h p (Done, b)).1
-  both_act R None None g h both each = as_before
-  both_act R None (Some t) g h both each = absurd both
-  both_act R (Some s) None g h both each = absurd both
-  both_act R (Some s) (Some t) g h both each = each s t refl refl both
+  both_act R o p g h both each = grind (arith, nat_tests, as_before)
 
   -- the same outside of another front
   pub both_found : (g : List (List ℕ)) (R : Site → Site → Type 0) (o p : Option Site)
@@ -73,10 +52,7 @@ module _ (f : List (List ℕ)) (a b : Content) (same : SameOutside f a b)
       → (o ≡ None → p ≡ None → SeenAlike g a b)
       → ((s t : Site) → o ≡ Some s → p ≡ Some t → R s t → SeenAlike g (h s).1 (k t).1)
       → SeenAlike g (option_map_or h o (Done, a)).1 (option_map_or k p (Done, b)).1
-  both_found g R None None h k both none each = none refl refl
-  both_found g R None (Some t) h k both none each = absurd both
-  both_found g R (Some s) None h k both none each = absurd both
-  both_found g R (Some s) (Some t) h k both none each = each s t refl refl both
+  both_found g R o p h k both none each = grind (arith, nat_tests)
 
   -- ---- an object is changed in its place
 
@@ -86,50 +62,45 @@ module _ (f : List (List ℕ)) (a b : Content) (same : SameOutside f a b)
         (with_node b (record t.node { owners = owners }))
     owners_alike owners = record {
       views = λ q outside.
-          owners_view a one path s.node seen.first owners q
-          ∙ ap (option_map (λ (v : Seen). (owned a one path s.node seen.first owners q v.0, v.1)))
-          (same.views q outside)
-          ∙ sym (owners_view b two path t.node seen.second owners q);
+          cc (
+            owners_view a one path s.node seen.first owners q,
+            same.views q outside,
+            owners_view b two path t.node seen.second owners q,
+          );
     }
 
     bytes_alike : (first second : List ℕ) → first ≡ second
         → SameViews (with_body a s.node.id first) (with_body b t.node.id second)
     bytes_alike first second equal = record {
       views = λ q outside.
-          bytes_view a one path s.node seen.first first q
-          ∙ ap (option_map (λ (v : Seen). (v.0, filled a one path s.node seen.first first q v.1)))
-          (same.views q outside)
-          ∙ ap (λ (bytes : List ℕ). option_map
-          (λ (v : Seen). (v.0, filled b two path t.node seen.second bytes q v.1)) (view b q)) equal
-          ∙ sym (bytes_view b two path t.node seen.second second q);
+          rw (
+            bytes_view a one path s.node seen.first first q,
+            same.views q outside,
+            equal,
+            ← bytes_view b two path t.node seen.second second q,
+          );
     }
 
     pub list_alike : (which : Which) (sent : Sent) (o p : Option Site) → Both IsLike o p
         → SameViews (set_list a which sent o s) (set_list b which sent p t)
     list_alike which sent o p above = record {
       views = λ q outside.
-          list_view a one path s.node seen.first which (setting which sent o s).0
-          (keeper which (setting which sent o s).1 (setting which sent o s).0.flags.auto
-          (setting which sent o s).2)
-          (keeper_blank which (setting which sent o s).1 (setting which sent o s).0.flags.auto
-          (setting which sent o s).2) q
-          ∙ ap (λ (d : Setting). option_map (λ (v : Seen). (
-            relisted a one path s.node seen.first which d.0
-                (keeper which d.1 d.0.flags.auto d.2) q v.0,
-            v.1,
-          )) (view a q))
-          (setting_like which sent o p s t above seen.like)
-          ∙ ap (option_map (λ (v : Seen). (
-            relisted b two path t.node seen.second which (setting which sent p t).0
+          grind (
+            arith,
+            nat_tests,
+            list_view a one path s.node seen.first which (setting which sent o s).0
+                (keeper which (setting which sent o s).1 (setting which sent o s).0.flags.auto
+                (setting which sent o s).2)
+                (keeper_blank which (setting which sent o s).1 (setting which sent o s).0.flags.auto
+                (setting which sent o s).2) q,
+            setting_like which sent o p s t above seen.like,
+            same.views q outside,
+            list_view b two path t.node seen.second which (setting which sent p t).0
                 (keeper which (setting which sent p t).1 (setting which sent p t).0.flags.auto
-                (setting which sent p t).2) q v.0,
-            v.1,
-          ))) (same.views q outside)
-          ∙ sym (list_view b two path t.node seen.second which (setting which sent p t).0
-          (keeper which (setting which sent p t).1 (setting which sent p t).0.flags.auto
-          (setting which sent p t).2)
-          (keeper_blank which (setting which sent p t).1 (setting which sent p t).0.flags.auto
-          (setting which sent p t).2) q);
+                (setting which sent p t).2)
+                (keeper_blank which (setting which sent p t).1 (setting which sent p t).0.flags.auto
+                (setting which sent p t).2) q,
+          );
     }
 
   -- ---- an object is made
@@ -146,8 +117,7 @@ module _ (f : List (List ℕ)) (a b : Content) (same : SameOutside f a b)
     new_b kind = new_node j caller kind t (last_name (name ∷ names))
 
     new_like : (kind : ObjKind) → unnumbered (new_a kind) ≡ unnumbered (new_b kind)
-    new_like kind =
-        ap (λ (x : Site). unnumbered (new_node 0 caller kind x (last_name (name ∷ names)))) like
+    new_like kind = grind (arith, nat_tests)
 
     folder_alike : SameViews (with_node a (new_a Folder)) (with_node b (new_b Folder))
     folder_alike = record { views = λ q outside. on q outside (at_or_not (name ∷ names) q) }
@@ -156,21 +126,25 @@ module _ (f : List (List ℕ)) (a b : Content) (same : SameOutside f a b)
             → (q ≡ name ∷ names) ⊎ (q ≡ name ∷ names → ⊥)
             → view (with_node a (new_a Folder)) q ≡ view (with_node b (new_b Folder)) q
         on q outside (inl is) =
-            ap (view (with_node a (new_a Folder))) is
-            ∙ grown_here a one name names s.node at_a none_a (new_a Folder) free_i refl refl
-            (orphans a one content_a i free_i)
-            ∙ ap (λ (n : Node). Some (n, body_of a i)) (new_like Folder)
-            ∙ ap (λ (body : Option (List ℕ)). Some (unnumbered (new_b Folder), body))
-            (bare a content_a i free_i ∙ sym (bare b content_b j free_j))
-            ∙ sym (ap (view (with_node b (new_b Folder))) is
-            ∙ grown_here b two name names t.node at_b none_b (new_b Folder) free_j refl refl
-            (orphans b two content_b j free_j))
+            cc (
+              is,
+              grown_here a one name names s.node at_a none_a (new_a Folder) free_i refl refl
+                  (orphans a one content_a i free_i),
+              new_like Folder,
+              bare a content_a i free_i,
+              bare b content_b j free_j,
+              grown_here b two name names t.node at_b none_b (new_b Folder) free_j refl refl
+                  (orphans b two content_b j free_j),
+              is,
+            )
         on q outside (inr other) =
-            grown_view a one name names s.node at_a none_a (new_a Folder) free_i refl refl
-            (orphans a one content_a i free_i) q other
-            ∙ same.views q outside
-            ∙ sym (grown_view b two name names t.node at_b none_b (new_b Folder) free_j refl refl
-            (orphans b two content_b j free_j) q other)
+            cc (
+              grown_view a one name names s.node at_a none_a (new_a Folder) free_i refl refl
+                  (orphans a one content_a i free_i) q other,
+              same.views q outside,
+              grown_view b two name names t.node at_b none_b (new_b Folder) free_j refl refl
+                  (orphans b two content_b j free_j) q other,
+            )
 
     document_alike : (bytes : List ℕ)
         → SameViews (with_body (with_node a (new_a Document)) i bytes)
@@ -182,19 +156,23 @@ module _ (f : List (List ℕ)) (a b : Content) (same : SameOutside f a b)
             → view (with_body (with_node a (new_a Document)) i bytes) q
             ≡ view (with_body (with_node b (new_b Document)) j bytes) q
         on q outside (inl is) =
-            ap (view (with_body (with_node a (new_a Document)) i bytes)) is
-            ∙ filled_here a one name names s.node at_a none_a (new_a Document) free_i refl refl
-            (orphans a one content_a i free_i) bytes
-            ∙ ap (λ (n : Node). Some (n, Some bytes)) (new_like Document)
-            ∙ sym (ap (view (with_body (with_node b (new_b Document)) j bytes)) is
-            ∙ filled_here b two name names t.node at_b none_b (new_b Document) free_j refl refl
-            (orphans b two content_b j free_j) bytes)
+            cc (
+              is,
+              filled_here a one name names s.node at_a none_a (new_a Document) free_i refl refl
+                  (orphans a one content_a i free_i) bytes,
+              new_like Document,
+              filled_here b two name names t.node at_b none_b (new_b Document) free_j refl refl
+                  (orphans b two content_b j free_j) bytes,
+              is,
+            )
         on q outside (inr other) =
-            filled_view a one name names s.node at_a none_a (new_a Document) free_i refl refl
-            (orphans a one content_a i free_i) bytes q other
-            ∙ same.views q outside
-            ∙ sym (filled_view b two name names t.node at_b none_b (new_b Document) free_j refl refl
-            (orphans b two content_b j free_j) bytes q other)
+            cc (
+              filled_view a one name names s.node at_a none_a (new_a Document) free_i refl refl
+                  (orphans a one content_a i free_i) bytes q other,
+              same.views q outside,
+              filled_view b two name names t.node at_b none_b (new_b Document) free_j refl refl
+                  (orphans b two content_b j free_j) bytes q other,
+            )
 
   -- ---- an object is removed
 
@@ -210,18 +188,22 @@ module _ (f : List (List ℕ)) (a b : Content) (same : SameOutside f a b)
       on : (q : List (List ℕ)) → (IsBehind f q → ⊥) → (q ≡ name ∷ names) ⊎ (q ≡ name ∷ names → ⊥)
           → view (without_node a s.node.id) q ≡ view (without_node b t.node.id) q
       on q outside (inl is) =
-          ap (view (without_node a s.node.id)) is
-          ∙ gone_here a one content_a.names name names s.node seen.first
-          (no_children a s.node.id content_a.names empty_a) d at_d
-          ∙ sym (ap (view (without_node b t.node.id)) is
-          ∙ gone_here b two content_b.names name names t.node seen.second
-          (no_children b t.node.id content_b.names empty_b) e at_e)
+          cc (
+            is,
+            gone_here a one content_a.names name names s.node seen.first
+                (no_children a s.node.id content_a.names empty_a) d at_d,
+            gone_here b two content_b.names name names t.node seen.second
+                (no_children b t.node.id content_b.names empty_b) e at_e,
+            is,
+          )
       on q outside (inr other) =
-          gone_view a one content_a.names name names s.node seen.first
-          (no_children a s.node.id content_a.names empty_a) d at_d q other
-          ∙ same.views q outside
-          ∙ sym (gone_view b two content_b.names name names t.node seen.second
-          (no_children b t.node.id content_b.names empty_b) e at_e q other)
+          cc (
+            gone_view a one content_a.names name names s.node seen.first
+                (no_children a s.node.id content_a.names empty_a) d at_d q other,
+            same.views q outside,
+            gone_view b two content_b.names name names t.node seen.second
+                (no_children b t.node.id content_b.names empty_b) e at_e q other,
+          )
 
   -- ---- an object is moved
 
@@ -249,9 +231,7 @@ module _ (f : List (List ℕ)) (a b : Content) (same : SameOutside f a b)
     moved_like = grind (arith, nat_tests)
 
     moved_alike : SeenAlike g (with_node a moved_a) (with_node b moved_b)
-    moved_alike = record {
-      views = λ q apart. on q apart (goes_on (first ∷ more) q) (goes_on (name ∷ names) q);
-    }
+    moved_alike = search (goes_on, on)
       where
         on : (q : List (List ℕ)) → (IsBehind g q → ⊥)
             → GoesOn (first ∷ more) q ⊎ (GoesOn (first ∷ more) q → ⊥)
@@ -259,58 +239,55 @@ module _ (f : List (List ℕ)) (a b : Content) (same : SameOutside f a b)
             → view (with_node a moved_a) q ≡ view (with_node b moved_b) q
         on q apart (inl ([], is)) old =
             let at = is ∙ append-nil (first ∷ more) in
-            ap (view (with_node a moved_a)) at
-            ∙ view_new a one content_a.names name names s.node seen.first from_a above_a first more
-            c.node place.first absent_a no_loop moved_a refl refl refl
-            ∙ ap (λ (n : Node). Some (n, body_of a s.node.id)) moved_like
-            ∙ ap (λ (body : Option (List ℕ)). Some (unnumbered moved_b, body)) seen.body
-            ∙ sym (ap (view (with_node b moved_b)) at
-            ∙ view_new b two content_b.names name names t.node seen.second from_b above_b first more
-            d.node place.second absent_b no_loop moved_b refl refl refl)
+            cc (
+              at,
+              view_new a one content_a.names name names s.node seen.first from_a above_a first more
+                  c.node place.first absent_a no_loop moved_a refl refl refl,
+              moved_like,
+              seen.body,
+              view_new b two content_b.names name names t.node seen.second from_b above_b first more
+                  d.node place.second absent_b no_loop moved_b refl refl refl,
+              at,
+            )
         on q apart (inl (x ∷ rest, is)) old =
             ap (view (with_node a moved_a)) is
             ∙ view_below a one content_a.names name names s.node seen.first from_a above_a first
             more c.node place.first absent_a no_loop moved_a refl refl refl x rest
             ∙ same.views ((name ∷ names) ++ x ∷ rest)
             (below_out x rest (subst (λ (l : List (List ℕ)). IsBehind g l → ⊥) is apart))
-            ∙ sym (ap (view (with_node b moved_b)) is
-            ∙ view_below b two content_b.names name names t.node seen.second from_b above_b first
-            more d.node place.second absent_b no_loop moved_b refl refl refl x rest)
+            ∙ sym (
+            cc (
+              is,
+              view_below b two content_b.names name names t.node seen.second from_b above_b first
+                  more d.node place.second absent_b no_loop moved_b refl refl refl x rest,
+            ))
         on q apart (inr not_new) (inl (rest, is)) =
-            ap (view (with_node a moved_a)) is
-            ∙ view_old a one content_a.names name names s.node seen.first from_a above_a first more
-            c.node place.first absent_a no_loop moved_a refl refl refl rest
-            ∙ sym (ap (view (with_node b moved_b)) is
-            ∙ view_old b two content_b.names name names t.node seen.second from_b above_b first more
-            d.node place.second absent_b no_loop moved_b refl refl refl rest)
+            cc (
+              is,
+              view_old a one content_a.names name names s.node seen.first from_a above_a first more
+                  c.node place.first absent_a no_loop moved_a refl refl refl rest,
+              view_old b two content_b.names name names t.node seen.second from_b above_b first more
+                  d.node place.second absent_b no_loop moved_b refl refl refl rest,
+              is,
+            )
         on q apart (inr not_new) (inr not_old) =
             view_apart a one content_a.names name names s.node seen.first from_a above_a first more
             c.node place.first absent_a no_loop moved_a refl refl refl q not_old not_new
             ∙ same.views q (apart_out q apart not_old)
-            ∙ sym (view_apart b two content_b.names name names t.node seen.second from_b above_b
-            first more d.node place.second absent_b no_loop moved_b refl refl refl q not_old
-            not_new)
+            ∙ sym (search (view_apart))
 
   -- ---- all requests
 
   module _ (caller : Caller) (i j : ℕ) (free_i : IsFree a i) (free_j : IsFree b j) where
     document_put : (path : List (List ℕ)) (bytes : List ℕ) → (IsBehind f path → ⊥)
         → SameViews (effect a caller i (Put path bytes)).1 (effect b caller j (Put path bytes)).1
-    document_put [] bytes outside =
-        on (site_at (sites_along a []) []) (site_at (sites_along b []) [])
-        (target_seen f a b same [] outside)
+    document_put [] bytes outside = search (on, target_seen)
       where
         on : (o p : Option Site) → Both (IsSeen f a b same []) o p
             → SameViews (put_bytes a caller i [] bytes o None).1
             (put_bytes b caller j [] bytes p None).1
-        on None None both = as_before
-        on None (Some t) both = absurd both
-        on (Some s) None both = absurd both
-        on (Some s) (Some t) both = bytes_alike [] s t both bytes bytes refl
-    document_put (name ∷ names) bytes outside =
-        on (site_at (sites_along a (name ∷ names)) (name ∷ names))
-        (site_at (sites_along b (name ∷ names)) (name ∷ names)) refl refl
-        (target_seen f a b same (name ∷ names) outside)
+        on o p both = grind (arith, nat_tests, as_before, bytes_alike)
+    document_put (name ∷ names) bytes outside = search (on, target_seen)
       where
         on : (o p : Option Site) → site_at (sites_along a (name ∷ names)) (name ∷ names) ≡ o
             → site_at (sites_along b (name ∷ names)) (name ∷ names) ≡ p
@@ -322,16 +299,11 @@ module _ (f : List (List ℕ)) (a b : Content) (same : SameOutside f a b)
         on None None at_o at_p both =
             both_act IsLike (parent_at (sites_along a (name ∷ names)) (name ∷ names))
             (parent_at (sites_along b (name ∷ names)) (name ∷ names)) _ _
-            (parent_same f a b same (name ∷ names) (name ∷ names)
-            (sites_same f a b same (name ∷ names) outside))
-            (λ s t at_s at_t like.
-            document_alike caller i j free_i free_j name names s t like
-            (parent_is a name names s at_s) (parent_is b name names t at_t)
-            (none_at a (name ∷ names) at_o) (none_at b (name ∷ names) at_p) bytes)
+            (search (parent_same, sites_same))
+            (search (document_alike, none_at, parent_is))
         on None (Some t) at_o at_p both = absurd both
         on (Some s) None at_o at_p both = absurd both
-        on (Some s) (Some t) at_o at_p both =
-            bytes_alike (name ∷ names) s t both bytes bytes refl
+        on (Some s) (Some t) at_o at_p both = search (bytes_alike)
 
     folder_made : (path : List (List ℕ)) → (IsBehind f path → ⊥)
         → first_failure caller (plan_of a (MakeFolder path)) ≡ None
@@ -341,13 +313,8 @@ module _ (f : List (List ℕ)) (a b : Content) (same : SameOutside f a b)
     folder_made (name ∷ names) outside passes_a passes_b =
         both_act IsLike (parent_at (sites_along a (name ∷ names)) (name ∷ names))
         (parent_at (sites_along b (name ∷ names)) (name ∷ names)) _ _
-        (parent_same f a b same (name ∷ names) (name ∷ names)
-        (sites_same f a b same (name ∷ names) outside))
-        (λ s t at_s at_t like.
-        folder_alike caller i j free_i free_j name names s t like
-        (parent_is a name names s at_s) (parent_is b name names t at_t)
-        (folder_passed caller a name names s at_s passes_a)
-        (folder_passed caller b name names t at_t passes_b))
+        (search (parent_same, sites_same))
+        (search (folder_alike, folder_passed, parent_is))
 
     removed_at : (path : List (List ℕ)) (s t : Site) → IsSeen f a b same path s t
         → (is_empty path ≡ false) × (is_empty (children_of a s.node.id) ≡ true)
@@ -357,8 +324,7 @@ module _ (f : List (List ℕ)) (a b : Content) (same : SameOutside f a b)
     removed_at (name ∷ names) s t seen first second =
         let d = above_found a name names s.node seen.first in
         let e = above_found b name names t.node seen.second in
-        removed_alike name names s t seen first.1 second.1 d.0.node e.0.node
-        (parent_is a name names d.0 d.1) (parent_is b name names e.0 e.1)
+        search (parent_is, removed_alike)
 
     moved_at : (path to : List (List ℕ)) → (IsBehind f to → ⊥) → (g : List (List ℕ))
         → ((q : List (List ℕ)) → (IsBehind g q → ⊥) → (GoesOn path q → ⊥) → IsBehind f q → ⊥)
@@ -377,17 +343,14 @@ module _ (f : List (List ℕ)) (a b : Content) (same : SameOutside f a b)
         (λ d. (Done, with_node b (moved_node t d (last_name to))))).1
     moved_at [] to last g apart_out below_out s t seen first second = absurd (true≢false first.0)
     moved_at (name ∷ names) [] last g apart_out below_out s t seen (full, (d, at, passes)) second =
-        absurd (true≢false (not_refused caller [] Exists true
-        (both_none {o = failure caller (Refusal [] Exists true)} {p = None}
-        (both_none {o = failure caller (Deletion s d)} passes).1).0))
+        grind (arith, nat_tests, both_none, not_refused)
     moved_at (name ∷ names) (first ∷ more) last g apart_out below_out s t seen
         (full, (d, at_d, passes)) (full', (e, at_e, passes')) =
         both_found g (IsSeen f a b same (front (first ∷ more)))
         (site_at (sites_along a (front (first ∷ more))) (front (first ∷ more)))
         (site_at (sites_along b (front (first ∷ more))) (front (first ∷ more))) _ _
         (target_seen f a b same (front (first ∷ more)) fore)
-        (λ none none'. absurd (way_leads caller a (name ∷ names) s.node seen.first
-        (front (first ∷ more)) _ passes none))
+        (λ none none'. search (way_leads))
         (λ x y at_x at_y place.
         moved_alike name names s t seen g d.node e.node
         (parent_is a name names d at_d) (parent_is b name names e at_e) first more x y place
@@ -410,8 +373,7 @@ module _ (f : List (List ℕ)) (a b : Content) (same : SameOutside f a b)
     move_alike path to outside last passes_a passes_b =
         both_found (front_done f (Move path to)) (IsSeen f a b same path) _ _ _ _
         (target_seen f a b same path outside)
-        (λ none none'. unmoved_alike f a b same path to (none_at a path none)
-        (none_at b path none'))
+        (search (none_at, unmoved_alike))
         (λ s t at_s at_t seen. on (rest_after path f) refl s t seen
         (move_passed caller a path to s at_s passes_a)
         (move_passed caller b path to t at_t passes_b))
@@ -445,8 +407,7 @@ module _ (f : List (List ℕ)) (a b : Content) (same : SameOutside f a b)
               ns,
               ap (λ (l : List (List ℕ)). to ++ l)
                   (append_cancel_left path (x ∷ rest) (names ++ n ∷ ns)
-                  (e ∙ ap (λ (l : List (List ℕ)). l ++ n ∷ ns) at
-                  ∙ append_assoc path names (n ∷ ns)))
+                  (cc (e, at, append_assoc path names (n ∷ ns))))
                   ∙ sym (append_assoc to names (n ∷ ns)),
             )) s t seen first second
 
@@ -462,28 +423,21 @@ module _ (f : List (List ℕ)) (a b : Content) (same : SameOutside f a b)
     effects_alike (ListFolder path) outside last passes_a passes_b =
         both_act (IsSeen f a b same path) _ _ _ _ (target_seen f a b same path outside)
         (λ s t at_s at_t seen. as_before)
-    effects_alike (Put path bytes) outside last passes_a passes_b =
-        document_put path bytes outside
+    effects_alike (Put path bytes) outside last passes_a passes_b = search (document_put)
     effects_alike (Append path bytes) outside last passes_a passes_b =
         both_act (IsSeen f a b same path) _ _ _ _ (target_seen f a b same path outside)
-        (λ s t at_s at_t seen. bytes_alike path s t seen _ _
-        (ap (λ (body : Option (List ℕ)). unwrap_or body [] ++ bytes) seen.body))
-    effects_alike (MakeFolder path) outside last passes_a passes_b =
-        folder_made path outside passes_a passes_b
+        (grind (arith, nat_tests, bytes_alike))
+    effects_alike (MakeFolder path) outside last passes_a passes_b = search (folder_made)
     effects_alike (Remove path) outside last passes_a passes_b =
         both_act (IsSeen f a b same path) _ _ _ _ (target_seen f a b same path outside)
-        (λ s t at_s at_t seen. removed_at path s t seen
-        (remove_passed caller a path s at_s passes_a)
-        (remove_passed caller b path t at_t passes_b))
-    effects_alike (Move path to) outside last passes_a passes_b =
-        move_alike path to outside last passes_a passes_b
+        (grind (arith, nat_tests, remove_passed, removed_at))
+    effects_alike (Move path to) outside last passes_a passes_b = search (move_alike)
     effects_alike (ReadList path which) outside last passes_a passes_b =
         both_act (IsSeen f a b same path) _ _ _ _ (target_seen f a b same path outside)
         (λ s t at_s at_t seen. as_before)
     effects_alike (SetList path which sent) outside last passes_a passes_b =
         both_act (IsSeen f a b same path) _ _ _ _ (target_seen f a b same path outside)
-        (λ s t at_s at_t seen. list_alike path s t seen which sent _ _
-        (parent_same f a b same path path (sites_same f a b same path outside)))
+        (search (list_alike, parent_same, sites_same))
     effects_alike (ReadAttr path) outside last passes_a passes_b =
         both_act (IsSeen f a b same path) _ _ _ _ (target_seen f a b same path outside)
         (λ s t at_s at_t seen. as_before)

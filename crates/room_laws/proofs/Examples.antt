@@ -1,27 +1,23 @@
 -- Worked examples of what is behind a folder: who is barred, and which requests tell.
-use Rattle.std.proofs.Common.{ℕ, ◌≡◌, inl, inr, List, [], ◌∷◌, Some, None, refl, true}
-use Rattle.std.proofs.Common.{false, codes, arith}
+use Rattle.std.proofs.Common.{ℕ, ◌≡◌, inl, inr, List, [], ◌∷◌, Some, None, refl, true, false, codes}
+use Rattle.std.proofs.Common.{arith}
 use Rattle.std.specs.Prelude.{pos}
-use Rattle.room_entry.specs.declared.entry.EntryKind.TheVariants.{Allow}
-use Rattle.room_entry.specs.declared.entry.Who.TheVariants.{User}
+use Rattle.room_entry.specs.declared.entry.{EntryKind.TheVariants.Allow, Who.TheVariants.User}
 use Rattle.room_entry.specs.declared.object.ObjKind.TheVariants.{Document, Folder}
 use Rattle.room_entry.specs.declared.object.Which.TheVariants.{Dacl}
 use Rattle.room_ace.specs.Sent.{Sent}
-use Rattle.room_rows.specs.Content.{Content, with_members}
-use Rattle.room_rows.specs.declared.node.Node.{Node}
-use Rattle.room_machine.specs.Run.{Asked, Run}
-use Rattle.room_machine.specs.Step.{reset, step}
-use Rattle.room_machine.specs.declared.reply.Reason.TheVariants.{NotEmpty, Exists}
-use Rattle.room_machine.specs.declared.reply.Reply.{Reply}
+use Rattle.room_rows.specs.{Content.{Content, with_members}, declared.node.Node.Node}
+use Rattle.room_machine.specs.{Run.{Asked, Run}, Step.{reset, step}}
+use Rattle.room_machine.specs.declared.reply.{Reason.TheVariants.{NotEmpty, Exists}, Reply.Reply}
 use Rattle.room_machine.specs.declared.reply.Reply.TheVariants.{Bytes, Names, Done, Denied, Refused}
 use Rattle.room_machine.specs.declared.reply.Reply.TheVariants.{Made}
 use Rattle.room_machine.specs.declared.request.Request.TheVariants.{Read, List as ListFolder}
 use Rattle.room_machine.specs.declared.request.Request.TheVariants.{MakeFolder, Remove, Move, Put}
 use Rattle.room_machine.proofs.Worked.Worlds.{none, fd, entry, root, alice, everything, held, plain}
 use Rattle.room_machine.proofs.Worked.Worlds.{object, world, root_may_all}
-use Rattle.room_laws.specs.Outside.{Barred, IsBehind, SameOutside}
-use Rattle.room_laws.specs.Twins.{AnswersAlike, AreAlike, Turn, InFirst, InBoth, InBothReset}
-use Rattle.room_laws.specs.Twins.{InBothReplaced, first_events, second_events}
+use Rattle.room_laws.specs.{Outside.{Barred, IsBehind, SameOutside}, Twins.AnswersAlike}
+use Rattle.room_laws.specs.Twins.{AreAlike, Turn, InFirst, InBoth, InBothReset, InBothReplaced}
+use Rattle.room_laws.specs.Twins.{first_events, second_events}
 
 abbrev q : List (List ℕ)
 q = codes "q" ∷ []

@@ -1,27 +1,20 @@
 -- Who may change nothing at a path can't come to.
 use Rattle.std.proofs.Common.{ℕ, suc, ◌≡◌, ◌⊎◌, inl, inr, List, [], ◌∷◌, ◌++◌, Option, Some, None}
-use Rattle.std.proofs.Common.{refl, sym, ap, subst, ◌∙◌, map, take, length, append-nil, arith}
-use Rattle.std.specs.List.{AllByRecursion}
-use Rattle.std.specs.Option.{option_map_or}
-use Rattle.std.proofs.lemmas.List.{take-map}
-use Rattle.room_entry.specs.Bits.{has}
+use Rattle.std.proofs.Common.{refl, sym, ap, subst, ◌∙◌, take, length, append-nil, arith}
+use Rattle.std.proofs.lemmas.{List.take-map, Bool.Decides.nat_tests}
+use Rattle.std.specs.{List.AllByRecursion, Option.option_map_or}
 use Rattle.room_entry.specs.Rights.{write_acl, write_owner}
 use Rattle.room_entry.specs.declared.object.Which.TheVariants.{Dacl, Sacl}
-use Rattle.room_rows.specs.Content.{Content, child_of}
-use Rattle.room_rows.specs.declared.node.Node.{Node}
-use Rattle.room_machine.specs.Run.{Event, Asked, WasReset, Replaced}
-use Rattle.room_machine.specs.Site.{Site, sites_along, site_below}
+use Rattle.room_rows.specs.{Content.{Content, child_of}, declared.node.Node.Node}
+use Rattle.room_machine.specs.{Run.{Event, Asked}, Site.{Site, sites_along, site_below}}
 use Rattle.room_machine.specs.declared.request.Request.TheVariants.{Read, List as ListFolder, Put}
 use Rattle.room_machine.specs.declared.request.Request.TheVariants.{Append, MakeFolder, Remove}
 use Rattle.room_machine.specs.declared.request.Request.TheVariants.{Move, ReadList, SetList}
 use Rattle.room_machine.specs.declared.request.Request.TheVariants.{ReadAttr, SetOwners, Can}
 use Rattle.room_laws.proofs.Seen.{sites_from, along_from}
-use Rattle.room_laws.specs.WhoChanged.{SameBasis, SameRights, deciding_site, basis, Changes}
-use Rattle.room_laws.specs.WhoChanged.{IsHarmless, NothingGained, IsFrom, FirstChange, HasRight}
-use Rattle.room_laws.specs.WhoChanged.{MayRemove}
-use Rattle.room_laws.proofs.RightsFollow.{rights_follow}
-use Rattle.room_laws.proofs.WhoChanged.{changed_in_run}
-use Rattle.std.proofs.lemmas.Bool.Decides.{nat_tests}
+use Rattle.room_laws.specs.WhoChanged.{SameBasis, SameRights, basis, Changes, IsHarmless}
+use Rattle.room_laws.specs.WhoChanged.{NothingGained, IsFrom, FirstChange, HasRight, MayRemove}
+use Rattle.room_laws.proofs.{RightsFollow.rights_follow, WhoChanged.changed_in_run}
 
 -- ---- what is above a path
 
@@ -52,9 +45,7 @@ first_along content names more = grind (arith, nat_tests, along_from, first_from
 
 standing_first : (content : Content) (names more : List (List ℕ))
     → take (suc (length names)) (basis content (names ++ more)) ≡ basis content names
-standing_first content names more =
-    take-map deciding_site (suc (length names)) (sites_along content (names ++ more))
-    ∙ ap (map deciding_site) (first_along content names more)
+standing_first content names more = search (first_along, take-map)
 
 -- what is the same at a path is the same above it
 pub standing_above : (at path : List (List ℕ)) (a b : Content) → IsFrom at path
@@ -66,9 +57,7 @@ standing_above at path a b (rest, is) same = grind (arith, nat_tests, standing_f
 had : (at path : List (List ℕ)) (a b : Content) (user : Option (List ℕ)) (right : ℕ)
     → IsFrom at path → SameBasis path a b → HasRight b user at right → HasRight a user at right
 had at path a b user right from same it =
-    ap (λ l. has l right)
-    ((rights_follow at a b (standing_above at path a b from same)).rights user)
-    ∙ it
+    cc ((rights_follow at a b (standing_above at path a b from same)).rights user, it)
 
 might : (at path : List (List ℕ)) (a b : Content) (user : Option (List ℕ))
     → IsFrom at path → SameBasis path a b → MayRemove b user at → MayRemove a user at
@@ -95,8 +84,7 @@ no_change path a b (Asked user moment (MakeFolder at) reply) same harmless is = 
 no_change path a b (Asked user moment (ReadList at which) reply) same harmless is = is
 no_change path a b (Asked user moment (ReadAttr at) reply) same harmless is = is
 no_change path a b (Asked user moment (Can at mask) reply) same harmless is = is
-no_change path a b (WasReset at which sent reply) same harmless is = harmless
-no_change path a b (Replaced pairs) same harmless is = harmless
+no_change path a b _ same harmless is = harmless
 
 one_of : (P : Event → Type 0) (earlier later : List Event) (event : Event)
     → AllByRecursion P (earlier ++ event ∷ later) → P event

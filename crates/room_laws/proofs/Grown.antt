@@ -1,30 +1,22 @@
 -- Views after an object was made or removed.
-use Rattle.std.proofs.Common.{ℕ, ◌≡◌, ◌==◌, ◌⊎◌, ◌+◌, inl, inr, Bool, true, false, not, ◌&&◌, List}
-use Rattle.std.proofs.Common.{[], ◌∷◌, ◌++◌, length, length-append, Option, Some, None, refl, sym}
-use Rattle.std.proofs.Common.{ap, subst, ◌∙◌, append_assoc, append-nil, arith}
-use Rattle.std.specs.Option.{option_map}
-use Rattle.std.specs.Prelude.{option_and_then, is_none}
-use Rattle.std.proofs.lemmas.Bool.{eq-eqb, false≢true, and_parts, cases_Bool}
-use Rattle.std.proofs.lemmas.Option.{same_Some}
+use Rattle.std.proofs.Common.{ℕ, ◌≡◌, ◌==◌, ◌⊎◌, inl, inr, Bool, true, false, not, List, [], ◌∷◌}
+use Rattle.std.proofs.Common.{◌++◌, length, length-append, Option, Some, None, refl, sym, ap, subst}
+use Rattle.std.proofs.{Common.{◌∙◌, append_assoc, append-nil, arith}, lemmas.Bool.eq-eqb}
+use Rattle.std.proofs.lemmas.Bool.{and_parts, cases_Bool, Decides.nat_tests}
+use Rattle.std.specs.{Option.option_map, Prelude.{option_and_then, is_none}}
 use Rattle.room_entry.specs.Pieces.{same_text}
-use Rattle.room_entry.proofs.Alike.{text_itself}
-use Rattle.room_entry.proofs.Texts.{same_text-true}
+use Rattle.room_entry.proofs.{Alike.text_itself, Texts.same_text-true}
 use Rattle.room_rows.specs.Content.{Content, child_of, root_of, node_at, has_parent, body_of}
 use Rattle.room_rows.specs.Content.{with_node, with_body, without_node, are_names_apart}
 use Rattle.room_rows.specs.declared.node.Node.{Node}
 use Rattle.room_rows.proofs.Frames.{child_of-parent, child_of-name, parent_is, has_its_parent}
 use Rattle.room_rows.proofs.InPlace.{body_of-with_body, body_of-with_body-other}
-use Rattle.room_machine.specs.Site.{front, last_name}
-use Rattle.room_machine.specs.Step.{IsFree}
-use Rattle.room_laws.specs.Outside.{sight, found, found_from, unnumbered, view}
-use Rattle.room_laws.specs.Tidy.{IsNumbered}
-use Rattle.room_laws.proofs.Behind.{free_none}
-use Rattle.room_laws.proofs.Changed.{nodes_found}
-use Rattle.room_laws.proofs.Kept.{is_named}
-use Rattle.room_laws.proofs.Kept as kept
+use Rattle.room_machine.specs.{Site.{front, last_name}, Step.IsFree}
+use Rattle.room_laws.specs.{Outside.{sight, found, found_from, unnumbered, view}, Tidy.IsNumbered}
+use Rattle.room_laws.proofs.{Behind.free_none, Changed.nodes_found, Kept.is_named}
 use Rattle.room_laws.proofs.OnePlace.{found_snoc, found_there, head_same, not_empty, one_place}
 use Rattle.room_laws.proofs.OnePlace.{split_last, tail_same}
-use Rattle.std.proofs.lemmas.Bool.Decides.{nat_tests}
+use Rattle.room_laws.proofs.Kept as kept
 
 -- ---- paths that go on from others
 
@@ -42,23 +34,18 @@ goes_on (x ∷ path) (y ∷ q) = on (cases_Bool (same_text y x)) (goes_on path q
     on (inl same) (inl is) =
         inl (
           is.0,
-          ap (λ (n : List ℕ). n ∷ q) (same_text-true y x same)
-              ∙ ap (λ (l : List (List ℕ)). x ∷ l) is.1,
+          search (same_text-true),
         )
     on (inl same) (inr isnt) = inr (λ is. isnt (is.0, tail_same y x q (path ++ is.0) is.1))
-    on (inr differ) other = inr (λ is. false≢true (sym differ
-        ∙ ap (λ (n : List ℕ). same_text n x) (head_same y x q (path ++ is.0) is.1)
-        ∙ text_itself x))
+    on (inr differ) other = grind (arith, nat_tests, head_same, text_itself)
 
 -- a path doesn't go on from one that is longer
 pub front_shorter : (name : List ℕ) (names : List (List ℕ))
     → GoesOn (name ∷ names) (front (name ∷ names)) → ⊥
 front_shorter name names (rest, is) =
-    let all : length (name ∷ names) ≡ length (front (name ∷ names)) + 1 =
-    ap (λ (l : List (List ℕ)). length l) (split_last name names)
+    let all = ap (λ (l : List (List ℕ)). length l) (split_last name names)
     ∙ length-append (front (name ∷ names)) (last_name (name ∷ names) ∷ []) in
-    let part : length (front (name ∷ names)) ≡ length (name ∷ names) + length rest =
-    ap (λ (l : List (List ℕ)). length l) is ∙ length-append (name ∷ names) rest in
+    let part = ap (λ (l : List (List ℕ)). length l) is ∙ length-append (name ∷ names) rest in
     omega (arith, all, part)
 
 append_from : (content : Content) (node : Node) (names more : List (List ℕ))
@@ -74,8 +61,7 @@ append_from content node (name ∷ names) more =
         → option_and_then (λ child. found_from content child (names ++ more)) o
         ≡ option_and_then (λ n. found_from content n more)
         (option_and_then (λ child. found_from content child names) o)
-    on None next = refl
-    on (Some child) next = next child
+    on o next = grind (arith, nat_tests)
 
 -- what a path leads to that goes on from another
 pub found_append : (content : Content) (names more : List (List ℕ))
@@ -107,8 +93,7 @@ module _ (a c : Content) (root : root_of c ≡ root_of a) (Ok : List (List ℕ) 
           → found_from c child names ≡ found_from a child names)
           → option_and_then (λ child. found_from c child names) o
           ≡ option_and_then (λ child. found_from a child names) o
-      on None is more = refl
-      on (Some child) is more = more child is
+      on o is more = grind (arith, nat_tests)
 
   pub walk_same : (path : List (List ℕ)) → ((r s : List (List ℕ)) → path ≡ r ++ s → Ok r)
       → found c path ≡ found a path
@@ -141,8 +126,7 @@ module _ (a : Content) (numbered : IsNumbered a) (name : List ℕ) (names : List
   path = name ∷ names
 
   fails_new : (p : Node → Bool) → kept.Fails p new.id a.nodes
-  fails_new p =
-      kept.fails_at p new.id a.nodes numbered (λ old is. absurd (free_none a new.id free old is))
+  fails_new p = grind (arith, nat_tests, free_none, kept.fails_at)
 
   root_grown : root_of grown ≡ root_of a
   root_grown =
@@ -154,18 +138,19 @@ module _ (a : Content) (numbered : IsNumbered a) (name : List ℕ) (names : List
       → is_named node.id x new ≡ true → pre ++ x ∷ [] ≡ path
   step_new pre node x is passes =
       let parts = and_parts (has_parent node.id new) (same_text new.name x) passes in
-      let number : node.id ≡ folder.id = same_Some _ _
-      (sym (parent_is node.id new parts.0) ∙ parent) in
-      ap (λ (l : List (List ℕ)). l ++ x ∷ []) (one_place a numbered pre _ node folder is at number)
-      ∙ ap (λ (n : List ℕ). front path ++ n ∷ []) (sym (same_text-true new.name x parts.1) ∙ named)
-      ∙ sym (split_last name names)
+      let number : node.id ≡ folder.id = grind (arith, nat_tests, parent_is) in
+      cc (
+        one_place a numbered pre _ node folder is at number,
+        same_text-true new.name x parts.1,
+        named,
+        split_last name names,
+      )
 
   step_same : (pre : List (List ℕ)) (node : Node) (x : List ℕ) → found a pre ≡ Some node
       → (pre ++ x ∷ [] ≡ path → ⊥) → child_of grown node.id x ≡ child_of a node.id x
   step_same pre node x is other = elim (cases_Bool (is_named node.id x new)) [
     | inl passes ↦ absurd (other (step_new pre node x is passes))
-    | inr fails ↦
-        kept.find-put (is_named node.id x) new a.nodes fails (fails_new (is_named node.id x))
+    | inr fails ↦ search (fails_new, is_named, kept.find-put)
   ]
 
   grown_apart : (q : List (List ℕ)) → (GoesOn path q → ⊥) → found grown q ≡ found a q
@@ -176,17 +161,18 @@ module _ (a : Content) (numbered : IsNumbered a) (name : List ℕ) (names : List
   child_new : child_of grown folder.id last ≡ Some new
   child_new =
       kept.find-put_new (is_named folder.id last) new a.nodes
-      (ap (λ t. t && same_text new.name last) (has_its_parent folder.id new parent)
-      ∙ ap (λ n. same_text n last) named ∙ text_itself last)
-      (sym (ap (option_and_then (λ n. child_of a n.id last)) at)
-      ∙ sym (ap (found a) (split_last name names) ∙ found_snoc a (front path) last) ∙ absent)
+      (grind (arith, nat_tests, has_its_parent, text_itself))
+      (cc (at, found_snoc a (front path) last, split_last name names, absent))
 
   found_new : found grown path ≡ Some new
   found_new =
-      ap (found grown) (split_last name names) ∙ found_snoc grown (front path) last
-      ∙ ap (option_and_then (λ n. child_of grown n.id last))
-      (grown_apart (front path) (front_shorter name names) ∙ at)
-      ∙ child_new
+      cc (
+        split_last name names,
+        found_snoc grown (front path) last,
+        grown_apart (front path) (front_shorter name names),
+        at,
+        child_new,
+      )
 
   none_below : (x : List ℕ) → child_of grown new.id x ≡ None
   none_below x =
@@ -194,14 +180,7 @@ module _ (a : Content) (numbered : IsNumbered a) (name : List ℕ) (names : List
       ∙ orphans x
     where
       fails : is_named new.id x new ≡ false
-      fails = elim (cases_Bool (is_named new.id x new)) [
-        | inl passes ↦
-            absurd (free_none a new.id free folder
-            (ap (node_at a) (same_Some _ _
-            (sym (parent_is new.id new (and_parts _ _ passes).0) ∙ parent))
-            ∙ found_there a numbered (front path) folder at))
-        | inr isnt ↦ isnt
-      ]
+      fails = grind (arith, nat_tests, found_there, free_none, is_named, parent_is)
 
   -- at each other path the same is found
   grown_other : (q : List (List ℕ)) → (q ≡ path → ⊥) → found grown q ≡ found a q
@@ -210,11 +189,15 @@ module _ (a : Content) (numbered : IsNumbered a) (name : List ℕ) (names : List
       beyond : (rest : List (List ℕ)) → q ≡ path ++ rest → found grown q ≡ found a q
       beyond [] is = absurd (other (is ∙ append-nil path))
       beyond (y ∷ ys) is =
-          ap (found grown) is ∙ found_append grown path (y ∷ ys)
-          ∙ ap (option_and_then (λ n. found_from grown n (y ∷ ys))) found_new
-          ∙ ap (option_and_then (λ child. found_from grown child ys)) (none_below y)
-          ∙ sym (ap (found a) is ∙ found_append a path (y ∷ ys)
-          ∙ ap (option_and_then (λ n. found_from a n (y ∷ ys))) absent)
+          cc (
+            is,
+            found_append grown path (y ∷ ys),
+            found_new,
+            none_below y,
+            absent,
+            found_append a path (y ∷ ys),
+            is,
+          )
 
       on : GoesOn path q ⊎ (GoesOn path q → ⊥) → found grown q ≡ found a q
       on (inl is) = beyond is.0 is.1
@@ -230,18 +213,15 @@ module _ (a : Content) (numbered : IsNumbered a) (name : List ℕ) (names : List
   pub filled_view : (bytes : List ℕ) (q : List (List ℕ)) → (q ≡ path → ⊥)
       → view (with_body grown new.id bytes) q ≡ view a q
   filled_view bytes q other =
-      ap (option_map (sight (with_body grown new.id bytes)))
-      (nodes_found grown (with_body grown new.id bytes) refl q ∙ grown_other q other)
-      ∙ on (found a q) refl
+      cc (
+        nodes_found grown (with_body grown new.id bytes) refl q,
+        grown_other q other,
+        on (found a q) refl,
+      )
     where
       on : (o : Option Node) → found a q ≡ o
           → option_map (sight (with_body grown new.id bytes)) o ≡ option_map (sight a) o
-      on None is = refl
-      on (Some n) is =
-          ap (λ (body : Option (List ℕ)). Some (unnumbered n, body))
-          (body_of-with_body-other grown new.id bytes n.id (λ same.
-          free_none a new.id free n
-          (ap (node_at a) (sym same) ∙ found_there a numbered q n is)))
+      on o is = grind (arith, nat_tests, body_of-with_body-other, found_there, free_none)
 
   pub filled_here : (bytes : List ℕ)
       → view (with_body grown new.id bytes) path ≡ Some (unnumbered new, Some bytes)
@@ -254,9 +234,12 @@ module _ (a : Content) (numbered : IsNumbered a) (name : List ℕ) (names : List
     (folder : Node) (above : found a (front (name ∷ names)) ≡ Some folder) where
   pub is_child : child_of a folder.id (last_name (name ∷ names)) ≡ Some target
   is_child =
-      sym (ap (option_and_then (λ n. child_of a n.id (last_name (name ∷ names)))) above)
-      ∙ sym (ap (found a) (split_last name names)
-      ∙ found_snoc a (front (name ∷ names)) (last_name (name ∷ names))) ∙ at
+      cc (
+        above,
+        found_snoc a (front (name ∷ names)) (last_name (name ∷ names)),
+        split_last name names,
+        at,
+      )
 
   pub its_parent : target.parent ≡ Some folder.id
   its_parent = child_of-parent a folder.id (last_name (name ∷ names)) target is_child
@@ -265,20 +248,19 @@ module _ (a : Content) (numbered : IsNumbered a) (name : List ℕ) (names : List
   its_name = child_of-name a folder.id (last_name (name ∷ names)) target is_child
 
   pub is_target : (old : Node) → node_at a target.id ≡ Some old → target ≡ old
-  is_target old is = same_Some target old
-      (sym (found_there a numbered (name ∷ names) target at) ∙ is)
+  is_target old is = grind (arith, nat_tests, found_there)
 
   pub step_target : (pre : List (List ℕ)) (node : Node) (x : List ℕ) → found a pre ≡ Some node
       → is_named node.id x target ≡ true → pre ++ x ∷ [] ≡ name ∷ names
   step_target pre node x is passes =
       let parts = and_parts (has_parent node.id target) (same_text target.name x) passes in
-      let number : node.id ≡ folder.id = same_Some _ _
-      (sym (parent_is node.id target parts.0) ∙ its_parent) in
-      ap (λ (l : List (List ℕ)). l ++ x ∷ [])
-      (one_place a numbered pre (front (name ∷ names)) node folder is above number)
-      ∙ ap (λ (n : List ℕ). front (name ∷ names) ++ n ∷ [])
-      (sym (same_text-true target.name x parts.1) ∙ its_name)
-      ∙ sym (split_last name names)
+      let number : node.id ≡ folder.id = grind (arith, nat_tests, its_parent, parent_is) in
+      cc (
+        one_place a numbered pre (front (name ∷ names)) node folder is above number,
+        same_text-true target.name x parts.1,
+        its_name,
+        split_last name names,
+      )
 
 -- ---- an object is removed
 
@@ -289,20 +271,14 @@ module _ (a : Content) (numbered : IsNumbered a) (apart : are_names_apart a.node
   -- the folder that it stands in
   module _ (folder : Node) (above : found a (front (name ∷ names)) ≡ Some folder) where
     fails_at : (p : Node → Bool) → p target ≡ false → kept.Fails p target.id a.nodes
-    fails_at p fails =
-        kept.fails_at p target.id a.nodes numbered
-        (λ old is. ap p (sym (is_target a numbered name names target at folder above old is))
-        ∙ fails)
+    fails_at p fails = grind (arith, nat_tests, is_target, kept.fails_at)
 
     step_kept : (pre : List (List ℕ)) (node : Node) (x : List ℕ) → found a pre ≡ Some node
         → (pre ++ x ∷ [] ≡ name ∷ names → ⊥)
         → child_of (without_node a target.id) node.id x ≡ child_of a node.id x
     step_kept pre node x is other = elim (cases_Bool (is_named node.id x target)) [
-      | inl passes ↦ absurd
-          (other (step_target a numbered name names target at folder above pre node x is passes))
-      | inr fails ↦
-          kept.find-removed (is_named node.id x) target.id a.nodes
-          (fails_at (is_named node.id x) fails)
+      | inl passes ↦ search (step_target)
+      | inr fails ↦ search (fails_at, is_named, kept.find-removed)
     ]
 
     gone_apart : (q : List (List ℕ)) → (GoesOn (name ∷ names) q → ⊥)
@@ -335,13 +311,15 @@ module _ (a : Content) (numbered : IsNumbered a) (apart : are_names_apart a.node
             → found (without_node a target.id) q ≡ found a q
         beyond [] is = absurd (other (is ∙ append-nil (name ∷ names)))
         beyond (y ∷ ys) is =
-            ap (found (without_node a target.id)) is
-            ∙ found_append (without_node a target.id) (name ∷ names) (y ∷ ys)
-            ∙ ap (option_and_then (λ n. found_from (without_node a target.id) n (y ∷ ys)))
-            found_gone
-            ∙ sym (ap (found a) is ∙ found_append a (name ∷ names) (y ∷ ys)
-            ∙ ap (option_and_then (λ n. found_from a n (y ∷ ys))) at
-            ∙ ap (option_and_then (λ child. found_from a child ys)) (childless y))
+            cc (
+              is,
+              found_append (without_node a target.id) (name ∷ names) (y ∷ ys),
+              found_gone,
+              childless y,
+              at,
+              found_append a (name ∷ names) (y ∷ ys),
+              is,
+            )
 
         on : GoesOn (name ∷ names) q ⊎ (GoesOn (name ∷ names) q → ⊥)
             → found (without_node a target.id) q ≡ found a q
@@ -350,17 +328,12 @@ module _ (a : Content) (numbered : IsNumbered a) (apart : are_names_apart a.node
 
     pub gone_view : (q : List (List ℕ)) → (q ≡ name ∷ names → ⊥)
         → view (without_node a target.id) q ≡ view a q
-    gone_view q other =
-        ap (option_map (sight (without_node a target.id))) (gone_other q other)
-        ∙ on (found a q) refl
+    gone_view q other = search (gone_other, on)
       where
         on : (o : Option Node) → found a q ≡ o
             → option_map (sight (without_node a target.id)) o ≡ option_map (sight a) o
         on None is = refl
-        on (Some n) is =
-            ap (λ (body : Option (List ℕ)). Some (unnumbered n, body))
-            (kept.body-removed target.id n.id
-            (λ same. other (one_place a numbered q (name ∷ names) n target is at same)) a.bodies)
+        on (Some n) is = grind (arith, nat_tests, kept.body-removed, one_place)
 
     pub gone_here : view (without_node a target.id) (name ∷ names) ≡ None
     gone_here = ap (option_map (sight (without_node a target.id))) found_gone

@@ -1,29 +1,22 @@
 -- What passed was held: the rights that a plan asked for stand in the table of rights.
 use Rattle.std.proofs.Common.{ℕ, zero, suc, ◌≡◌, Bool, true, false, not, ◌&&◌, List, [], ◌∷◌, ◌++◌}
 use Rattle.std.proofs.Common.{length, take, Option, Some, None, refl, sym, ap, ◌∙◌, append-nil}
-use Rattle.std.proofs.Common.{arith}
-use Rattle.std.specs.Option.{option_map_or}
-use Rattle.std.specs.Prelude.{if◌then◌else◌}
-use Rattle.std.proofs.lemmas.Bool.{true≢false, and_from}
-use Rattle.room_entry.specs.Bits.{all_bits, has}
-use Rattle.room_entry.specs.Rights.{execute, write_acl, write_owner, write_data, append_data}
-use Rattle.room_entry.specs.Valid.{is_document}
+use Rattle.std.proofs.{Common.arith, lemmas.Bool.{true≢false, and_from, Decides.nat_tests}}
+use Rattle.std.specs.{Option.option_map_or, Prelude.if◌then◌else◌}
+use Rattle.room_entry.specs.{Bits.{all_bits, has}, Rights.{execute, write_acl, write_owner}}
+use Rattle.room_entry.specs.{Rights.{write_data, append_data}, Valid.is_document}
 use Rattle.room_entry.specs.declared.parties.Caller.{Caller}
 use Rattle.room_rows.specs.Content.{Content, child_of, is_folder, is_empty}
 use Rattle.room_rows.specs.declared.node.Node.{Node}
-use Rattle.room_machine.specs.Judge.{failure, first_failure, passes}
-use Rattle.room_machine.specs.Plan.{Check, Deletion, Item, Refusal, way, right_to_add}
-use Rattle.room_machine.specs.Rights.{grants, last_of, lets_through, may_remove, may_remove_at}
-use Rattle.room_machine.specs.Rights.{reaches, rights_at, sites_above}
-use Rattle.room_machine.specs.Site.{Site, front, parent_at, site_at, sites_along}
-use Rattle.room_machine.specs.Site.{site_below, last_name}
-use Rattle.room_machine.specs.Step.{caller_in}
+use Rattle.room_machine.specs.{Judge.{failure, first_failure, passes}, Plan.{Check, Deletion, Item}}
+use Rattle.room_machine.specs.{Plan.{Refusal, way, right_to_add}, Rights.{grants, last_of}}
+use Rattle.room_machine.specs.Rights.{lets_through, may_remove, may_remove_at, reaches, rights_at}
+use Rattle.room_machine.specs.{Rights.sites_above, Site.{Site, front, parent_at, site_at}}
+use Rattle.room_machine.specs.{Site.{sites_along, site_below, last_name}, Step.caller_in}
 use Rattle.room_machine.specs.declared.reply.Reason.TheVariants.{NotFolder, NoSuch}
 use Rattle.room_machine.proofs.Rights.{folder_is_last, has_kept}
-use Rattle.room_laws.proofs.OnePlace.{split_last}
-use Rattle.room_laws.proofs.Passing.{passed, not_refused}
-use Rattle.room_laws.proofs.Seen.{sites_from, along_from}
-use Rattle.std.proofs.lemmas.Bool.Decides.{nat_tests}
+use Rattle.room_laws.proofs.{OnePlace.split_last, Passing.{passed, not_refused}, Seen.sites_from}
+use Rattle.room_laws.proofs.Seen.{along_from}
 
 -- ---- the way to a part of a path
 
@@ -98,8 +91,7 @@ module _ (caller : Caller) where
   pub open_way : (lack : Bool) (sites : List Site) (names more : List (List ℕ)) (rest : List Item)
       → first_failure caller (way lack sites (names ++ more) ++ rest) ≡ None
       → reaches caller (take (length names) sites) ≡ true
-  open_way lack [] names more rest none =
-      ap (reaches caller) (take_none (length names))
+  open_way lack [] names more rest none = search (take_none)
   open_way lack (site ∷ sites) [] more rest none = refl
   open_way lack (site ∷ sites) (name ∷ names) more rest none =
       let tail : List Item = way lack sites (names ++ more) ++ rest in
@@ -110,10 +102,7 @@ module _ (caller : Caller) where
       let two = passed caller (Check site (execute ∷ [])) (lacks ∷ tail) one.1 in
       let three = passed caller lacks tail two.1 in
       and_from (lets_through caller site) (reaches caller (take (length names) sites))
-      (and_from (is_folder site.node) (grants caller execute site)
-      (is_true (is_folder site.node)
-      (not_refused caller site.path NotFolder (not (is_folder site.node)) one.0))
-      (granted_by site execute two.0))
+      (search (and_from, granted_by, is_true, not_refused))
       (open_way lack sites names more rest three.1)
 
 -- ---- in the table
@@ -135,8 +124,7 @@ module _ (content : Content) (user : Option (List ℕ)) where
       → reaches caller (sites_above content path) ≡ true
   open_to lack path rest none =
       open_way caller lack (sites_along content path) path [] rest
-      (ap (λ (p : List (List ℕ)). first_failure caller
-      (way lack (sites_along content path) p ++ rest)) (append-nil path) ∙ none)
+      (cc (append-nil path, none))
 
   -- the way to the folder that the last name is looked for in
   pub open_before : (lack : Bool) (name : List ℕ) (names : List (List ℕ)) (rest : List Item)
@@ -149,16 +137,17 @@ module _ (content : Content) (user : Option (List ℕ)) where
       ∙ open_way caller lack
       (sites_along content (front (name ∷ names) ++ last_name (name ∷ names) ∷ []))
       (front (name ∷ names)) (last_name (name ∷ names) ∷ []) rest
-      (ap (λ (p : List (List ℕ)). first_failure caller
-      (way lack (sites_along content p) p ++ rest)) (sym (split_last name names)) ∙ none)
+      (cc (split_last name names, none))
 
   pub folder_at : (name : List ℕ) (names : List (List ℕ)) (d : Site)
       → parent_at (sites_along content (name ∷ names)) (name ∷ names) ≡ Some d
       → site_at (sites_along content (front (name ∷ names))) (front (name ∷ names)) ≡ Some d
   folder_at name names d at =
-      sym (at_part content (front (name ∷ names)) (last_name (name ∷ names) ∷ []))
-      ∙ ap (λ (p : List (List ℕ)). site_at (sites_along content p) (front (name ∷ names)))
-      (sym (split_last name names)) ∙ at
+      cc (
+        at_part content (front (name ∷ names)) (last_name (name ∷ names) ∷ []),
+        split_last name names,
+        at,
+      )
 
   pub may_take : (name : List ℕ) (names : List (List ℕ)) (s d : Site)
       → site_at (sites_along content (name ∷ names)) (name ∷ names) ≡ Some s

@@ -1,20 +1,14 @@
 -- Objects that are put, removed or changed, and what a test finds of the others.
 use Rattle.std.proofs.Common.{ℕ, ◌≡◌, ◌<◌, ◌≤◌, ◌==◌, Bool, true, false, cond, not, ◌&&◌, List, []}
-use Rattle.std.proofs.Common.{◌∷◌, map, filter, Some, None, nat_lt, refl, sym, ap, ◌∙◌, arith}
-use Rattle.std.proofs.Common.{subst, inl, inr}
-use Rattle.std.specs.List.{find, AllByRecursion, list_any}
-use Rattle.std.proofs.lemmas.Bool.{not-true, and_parts, and_from, eqb-true, false≢true, ltb-true}
-use Rattle.std.proofs.lemmas.Bool.{lt-ltb, cases_order, eq-eqb, or_parts}
-use Rattle.std.proofs.lemmas.Option.{same_Some}
-use Rattle.room_entry.specs.Pieces.{same_text}
-use Rattle.room_entry.proofs.Alike.{text_itself}
-use Rattle.room_entry.proofs.Texts.{same_text-true}
-use Rattle.room_rows.specs.Content.{body_at, put_node, is_rising, has_parent, same_parent}
-use Rattle.room_rows.specs.Content.{are_names_apart}
-use Rattle.room_rows.specs.Finding.{find_id}
-use Rattle.room_rows.specs.declared.node.Node.{Node}
-use Rattle.room_rows.proofs.Lookups as lookups
+use Rattle.std.proofs.Common.{◌∷◌, map, filter, Some, None, nat_lt, refl, sym, ◌∙◌, arith}
+use Rattle.std.proofs.lemmas.Bool.{and_parts, and_from, ltb-true, lt-ltb, or_parts}
 use Rattle.std.proofs.lemmas.Bool.Decides.{nat_tests}
+use Rattle.std.specs.List.{find, AllByRecursion, list_any}
+use Rattle.room_entry.specs.Pieces.{same_text}
+use Rattle.room_entry.proofs.{Alike.text_itself, Texts.same_text-true}
+use Rattle.room_rows.specs.Content.{body_at, put_node, is_rising, has_parent, same_parent}
+use Rattle.room_rows.specs.{Content.are_names_apart, Finding.find_id, declared.node.Node.Node}
+use Rattle.room_rows.proofs.Lookups as lookups
 
 -- the numbers rise, from above this one
 abbrev pub RisesFrom : ℕ → List Node → Type 0
@@ -70,8 +64,7 @@ body-removed id other isnt (row ∷ rows) = grind (arith, nat_tests, body-remove
 -- ---- numbers still rise
 
 pub rises_lower : (k j : ℕ) (nodes : List Node) → k ≤ j → RisesFrom j nodes → RisesFrom k nodes
-rises_lower k j [] below rises = refl
-rises_lower k j (x ∷ xs) below rises = grind (arith, nat_tests)
+rises_lower k j nodes below rises = grind (arith, nat_tests)
 
 pub rises-removed : (k : ℕ) (keep : Node → Bool) (nodes : List Node) → RisesFrom k nodes
     → RisesFrom k (filter keep nodes)
@@ -83,8 +76,7 @@ rises-removed k keep (x ∷ xs) rises =
   where
     on : (t : Bool) → nat_lt k x.id ≡ true → k ≤ x.id → RisesFrom x.id (filter keep xs)
         → RisesFrom k (cond t (x ∷ filter keep xs) (filter keep xs))
-    on true up below rest = and_from _ _ up rest
-    on false up below rest = rises_lower k x.id (filter keep xs) below rest
+    on t up below rest = grind (arith, nat_tests, rises_lower)
 
 pub rises-put : (k : ℕ) (new : Node) (nodes : List Node) → k < new.id → RisesFrom k nodes
     → RisesFrom k (put_node new nodes)
@@ -94,26 +86,10 @@ rises-put k new (x ∷ xs) above rises =
     on (nat_lt x.id new.id) (x.id == new.id) refl refl parts.0 parts.1
     (λ up. rises-put x.id new xs up parts.1)
   where
-    apart : (t : Bool) → nat_lt x.id new.id ≡ false → (x.id == new.id) ≡ false → new.id < x.id
-    apart t less same =
-        elim (cases_order x.id new.id) [
-          | inl e ↦ absurd (false≢true (sym same ∙ eq-eqb x.id new.id e))
-          | inr other ↦ elim other [
-            | inl below ↦ absurd (false≢true (sym less ∙ lt-ltb x.id new.id below))
-            | inr over ↦ over
-          ]
-        ]
-
     on : (t u : Bool) → nat_lt x.id new.id ≡ t → (x.id == new.id) ≡ u → nat_lt k x.id ≡ true
         → RisesFrom x.id xs → (x.id < new.id → RisesFrom x.id (put_node new xs))
         → RisesFrom k (cond t (x ∷ put_node new xs) (cond u (new ∷ xs) (new ∷ x ∷ xs)))
-    on true u less same up rest more = and_from _ _ up (more (ltb-true x.id new.id less))
-    on false true less same up rest more =
-        and_from _ _ (lt-ltb k new.id above)
-        (rises_lower new.id x.id xs (let e = eqb-true x.id new.id same in omega (arith, e)) rest)
-    on false false less same up rest more =
-        and_from _ _ (lt-ltb k new.id above)
-        (and_from _ _ (lt-ltb new.id x.id (apart true less same)) rest)
+    on t u less same up rest more = grind (arith, nat_tests, rises_lower)
 
 -- ---- a test that one object passes alone
 
@@ -127,9 +103,7 @@ find-put_new p new (x ∷ xs) passes none =
   where
     on : (t u : Bool) → p x ≡ false → find p (put_node new xs) ≡ Some new
         → find p (cond t (x ∷ put_node new xs) (cond u (new ∷ xs) (new ∷ x ∷ xs))) ≡ Some new
-    on true u fails rest = lookups.find_no p x (put_node new xs) fails ∙ rest
-    on false true fails rest = lookups.find_yes p new xs passes
-    on false false fails rest = lookups.find_yes p new (x ∷ xs) passes
+    on t u fails rest = grind (arith, nat_tests, lookups.find_no, lookups.find_yes)
 
 -- it is below that parent by that name
 abbrev pub is_named : ℕ → List ℕ → Node → Bool
@@ -150,9 +124,7 @@ none_named id name x is (y ∷ ys) none =
   where
     on : (t : Bool) → is_named id name y ≡ t
         → (same_parent x.parent y.parent && same_text x.name y.name) ≡ false → t ≡ false
-    on true passes isnt =
-        absurd (false≢true (sym isnt ∙ same_named id name x y is passes))
-    on false fails isnt = refl
+    on t passes isnt = grind (arith, nat_tests, same_named)
 
 -- where names are apart, and the one of that name is dropped, there is none of it
 pub find-dropped : (id : ℕ) (name : List ℕ) (keep : Node → Bool) (target : Node)
@@ -164,28 +136,22 @@ find-dropped id name keep target drops (x ∷ xs) apart found =
     let parts = and_parts _ (are_names_apart xs) apart in
     on (is_named id name x) refl parts.0 (find-dropped id name keep target drops xs parts.1)
   where
-    kept_or_not : (t : Bool) → keep x ≡ t → is_named id name x ≡ false
-        → find (is_named id name) (filter keep xs) ≡ None
-        → find (is_named id name) (cond t (x ∷ filter keep xs) (filter keep xs)) ≡ None
-    kept_or_not true stays isnt rest =
-        lookups.find_no (is_named id name) x (filter keep xs) isnt ∙ rest
-    kept_or_not false goes isnt rest = rest
-
     on : (t : Bool) → is_named id name x ≡ t
         → not (list_any
         (λ (n : Node). same_parent x.parent n.parent && same_text x.name n.name) xs) ≡ true
         → (find (is_named id name) xs ≡ Some target
         → find (is_named id name) (filter keep xs) ≡ None)
         → find (is_named id name) (filter keep (x ∷ xs)) ≡ None
-    on true is none rest =
-        ap (find (is_named id name)) (lookups.keep_no keep x xs
-        (ap keep (same_Some x target
-        (sym (lookups.find_yes (is_named id name) x xs is) ∙ found)) ∙ drops))
-        ∙ lookups.find-kept_none (is_named id name) keep xs
-        (none_named id name x is xs (not-true _ none))
-    on false isnt none rest =
-        kept_or_not (keep x) refl isnt
-        (rest (sym (lookups.find_no (is_named id name) x xs isnt) ∙ found))
+    on t is none rest =
+        grind (
+          arith,
+          nat_tests,
+          lookups.find-kept_none,
+          lookups.find_no,
+          lookups.find_yes,
+          lookups.keep_no,
+          none_named,
+        )
 
 -- ---- an object that is put in place of another
 
@@ -199,8 +165,7 @@ stands_above k node (x ∷ xs) rises stands =
   where
     on : lookups.Stands node (x ∷ xs) → k < x.id → (lookups.Stands node xs → x.id < node.id)
         → k < node.id
-    on (inl it) up more = subst (λ (n : Node). k < n.id) it up
-    on (inr later) up more = let above = more later in omega (arith, up, above)
+    on given up more = grind (arith, nat_tests)
 
 -- where names are apart, and the one of that name gives way to an object that fails the test, there
 -- is none of it
@@ -208,8 +173,7 @@ pub find-replaced : (k id : ℕ) (name : List ℕ) (new target : Node) → new.i
     → is_named id name new ≡ false → (nodes : List Node) → RisesFrom k nodes
     → are_names_apart nodes ≡ true → find (is_named id name) nodes ≡ Some target
     → find (is_named id name) (put_node new nodes) ≡ None
-find-replaced k id name new target number fails [] rises apart found =
-    lookups.find_no (is_named id name) new [] fails
+find-replaced k id name new target number fails [] rises apart found = search (lookups.find_no)
 find-replaced k id name new target number fails (x ∷ xs) rises apart found =
     let parts = and_parts _ (are_names_apart xs) apart in
     let up = and_parts (nat_lt k x.id) (is_rising (x.id ∷ map (λ (n : Node). n.id) xs)) rises in
@@ -224,16 +188,9 @@ find-replaced k id name new target number fails (x ∷ xs) rises apart found =
         → find (is_named id name) (put_node new xs) ≡ None)
         → find (is_named id name) (put_node new (x ∷ xs)) ≡ None
     on true is none rises rest =
-        let it : x ≡ target = same_Some x target
-        (sym (lookups.find_yes (is_named id name) x xs is) ∙ found) in
-        ap (find (is_named id name))
-        (lookups.put_same new x xs (ap (λ (n : Node). n.id) it ∙ sym number))
-        ∙ lookups.find_no (is_named id name) new xs fails
-        ∙ none_named id name x is xs (not-true _ none)
+        grind (arith, nat_tests, lookups.find_no, lookups.find_yes, lookups.put_same, none_named)
     on false isnt none rises rest =
         let later = sym (lookups.find_no (is_named id name) x xs isnt) ∙ found in
         let above = stands_above x.id target xs rises
         (lookups.stands-found (is_named id name) xs target later) in
-        ap (find (is_named id name))
-        (lookups.put_behind new x xs (omega (arith, above, number)))
-        ∙ lookups.find_no (is_named id name) x (put_node new xs) isnt ∙ rest later
+        grind (arith, nat_tests, lookups.find_no, lookups.put_behind)

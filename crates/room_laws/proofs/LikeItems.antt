@@ -1,45 +1,27 @@
 -- Items and replies at objects that are alike.
-use Rattle.std.proofs.Common.{ℕ, ◌≡◌, Bool, not, ◌&&◌, List, [], ◌∷◌, ◌++◌, Option, Some, None}
-use Rattle.std.proofs.Common.{refl, sym, ap, ◌∙◌, map, arith}
-use Rattle.room_entry.specs.Rights.{execute}
-use Rattle.room_entry.specs.declared.parties.Caller.{Caller}
-use Rattle.room_eval.specs.declared.deletion.DeleteVerdict.{DeleteVerdict}
-use Rattle.room_eval.specs.declared.deletion.DeleteVerdict.TheVariants.{Granted as MayDelete}
-use Rattle.room_eval.specs.declared.deletion.DeleteVerdict.TheVariants.{AtTarget, AtParent}
-use Rattle.room_eval.specs.declared.outcome.Verdict.{Verdict}
-use Rattle.room_eval.specs.declared.outcome.Verdict.TheVariants.{Granted, Denied as DeniedWith}
+use Rattle.std.proofs.Common.{ℕ, ◌≡◌, Bool, not, List, [], ◌∷◌, ◌++◌, Option, sym, ap, ◌∙◌, map}
+use Rattle.std.proofs.{Common.arith, lemmas.Bool.Decides.nat_tests}
+use Rattle.room_entry.specs.{Rights.execute, declared.parties.Caller.Caller}
+use Rattle.room_eval.specs.declared.{deletion.DeleteVerdict.DeleteVerdict, outcome.Verdict.Verdict}
 use Rattle.room_rows.specs.Content.{Content, is_empty, is_folder}
-use Rattle.room_machine.specs.Effect.{with_site}
-use Rattle.room_machine.specs.Judge.{entry_at, failure, first_failure, of_verdict, of_deletion}
-use Rattle.room_machine.specs.Judge.{or_else}
-use Rattle.room_machine.specs.Plan.{Item, Check, Deletion, Refusal, way, where_found}
-use Rattle.room_machine.specs.Site.{Site}
-use Rattle.room_machine.specs.declared.reply.Reason.{Reason}
-use Rattle.room_machine.specs.declared.reply.Reason.TheVariants.{NotFolder, NoSuch}
-use Rattle.room_machine.specs.declared.reply.Reply.{Reply}
-use Rattle.room_machine.specs.declared.reply.Reply.TheVariants.{Denied}
-use Rattle.room_laws.proofs.OnePlace.{head_same, not_empty, tail_same}
-use Rattle.room_laws.proofs.Seen.{Both, IsLike, blank}
-use Rattle.std.proofs.lemmas.Bool.Decides.{nat_tests}
+use Rattle.room_machine.specs.{Effect.with_site, Judge.{entry_at, failure, first_failure}}
+use Rattle.room_machine.specs.{Judge.{of_verdict, of_deletion, or_else}, Plan.{Item, Check}}
+use Rattle.room_machine.specs.{Plan.{Deletion, Refusal, way, where_found}, Site.Site}
+use Rattle.room_machine.specs.declared.reply.{Reason.{Reason, TheVariants.NotFolder}, Reply.Reply}
+use Rattle.room_laws.proofs.{OnePlace.{head_same, not_empty, tail_same}, Seen.{Both, IsLike, blank}}
 
 pub path_like : (s t : Site) → IsLike s t → s.path ≡ t.path
 path_like s t same = ap (λ (x : Site). x.path) same
 
 entry_blank : (s : Site) (place : Option ℕ) → entry_at s place ≡ entry_at (blank s) place
-entry_blank s None = refl
-entry_blank s (Some n) = refl
+entry_blank s place = grind (arith, nat_tests)
 
 verdict_blank : (s : Site) (v : Verdict) → of_verdict s v ≡ of_verdict (blank s) v
-verdict_blank s Granted = refl
-verdict_blank s (DeniedWith bits place) =
-    ap (λ e. Some (Denied s.path bits place e)) (entry_blank s place)
+verdict_blank s v = grind (arith, nat_tests, entry_blank)
 
 deletion_blank : (s p : Site) (v : DeleteVerdict)
     → of_deletion s p v ≡ of_deletion (blank s) (blank p) v
-deletion_blank s p (MayDelete by_add) = refl
-deletion_blank s p (AtTarget place) = refl
-deletion_blank s p (AtParent bits place) =
-    ap (λ e. Some (Denied p.path bits place e)) (entry_blank p place)
+deletion_blank s p v = grind (arith, nat_tests, entry_blank)
 
 module _ (caller : Caller) where
   abbrev pub fails : List Item → Option Reply
@@ -66,10 +48,7 @@ module _ (caller : Caller) where
   folder_like s t same = grind (arith, nat_tests, path_like, refused)
 
   pub empty_like : (s t : List Site) → map blank s ≡ map blank t → is_empty s ≡ is_empty t
-  empty_like [] [] same = refl
-  empty_like [] (t ∷ ts) same = absurd (not_empty _ _ same)
-  empty_like (s ∷ ss) [] same = absurd (not_empty _ _ (sym same))
-  empty_like (s ∷ ss) (t ∷ ts) same = refl
+  empty_like s t same = grind (arith, nat_tests, not_empty)
 
   pub ways_like : (lack : Bool) (s t : List Site) (names : List (List ℕ)) (x y : List Item)
       → map blank s ≡ map blank t → fails x ≡ fails y
@@ -84,24 +63,17 @@ module _ (caller : Caller) where
       next (folder_like s t here)
       (next (check_like s t (execute ∷ []) here)
       (next
-      (refused _ _ NoSuch _ _ (ap (λ p. p ++ name ∷ []) (path_like s t here))
-      (ap (λ e. e && not (lack && is_empty names)) (empty_like ss ts later)))
+      (grind (arith, nat_tests, empty_like, path_like, refused))
       (ways_like lack ss ts names x y later rest)))
 
   pub found_like : (R : Site → Site → Type 0) (o p : Option Site) (f g : Site → List Item)
       → Both R o p → ((s t : Site) → R s t → fails (f s) ≡ fails (g t))
       → fails (where_found o f) ≡ fails (where_found p g)
-  found_like R None None f g both each = refl
-  found_like R None (Some t) f g both each = absurd both
-  found_like R (Some s) None f g both each = absurd both
-  found_like R (Some s) (Some t) f g both each = each s t both
+  found_like R o p f g both each = grind (arith, nat_tests)
 
 -- the same reply at objects that are alike
 pub reply_like : (a b : Content) (R : Site → Site → Type 0) (o p : Option Site)
     (f g : Site → Reply × Content) → Both R o p
     → ((s t : Site) → R s t → (f s).0 ≡ (g t).0)
     → (with_site a o f).0 ≡ (with_site b p g).0
-reply_like a b R None None f g both each = refl
-reply_like a b R None (Some t) f g both each = absurd both
-reply_like a b R (Some s) None f g both each = absurd both
-reply_like a b R (Some s) (Some t) f g both each = each s t both
+reply_like a b R o p f g both each = grind (arith, nat_tests)

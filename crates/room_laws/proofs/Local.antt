@@ -1,26 +1,20 @@
 -- Changes of what is behind a folder alone.
-use Rattle.std.proofs.Common.{ℕ, ◌≡◌, ◌==◌, false, ◌&&◌, List, [], ◌∷◌, ◌++◌, map, Option, Some}
-use Rattle.std.proofs.Common.{None, refl, sym, ap, subst, ◌∙◌, append-nil, append_assoc, arith}
-use Rattle.std.specs.Option.{option_map, option_map_or}
-use Rattle.std.specs.Prelude.{option_and_then, is_none}
-use Rattle.std.proofs.lemmas.Bool.{and_left, ne_eqb}
-use Rattle.room_entry.specs.Pieces.{same_text}
-use Rattle.room_entry.specs.declared.object.ObjKind.{ObjKind}
-use Rattle.room_rows.specs.Content.{Content, child_of, root_of, node_at, body_of, children_of}
-use Rattle.room_rows.specs.Content.{has_parent, sorted_by_name, with_node, with_body, without_node}
-use Rattle.room_rows.specs.Content.{with_each, with_records}
-use Rattle.room_rows.specs.declared.node.AuditRow.{AuditRow}
-use Rattle.room_rows.specs.declared.node.Node.{Node}
+use Rattle.std.proofs.Common.{ℕ, ◌≡◌, false, ◌&&◌, List, [], ◌∷◌, ◌++◌, map, Option, Some, None}
+use Rattle.std.proofs.Common.{refl, sym, ap, subst, ◌∙◌, append-nil, append_assoc, arith}
+use Rattle.std.proofs.lemmas.Bool.{and_left, Decides.nat_tests}
+use Rattle.std.specs.{Option.option_map, Prelude.{option_and_then, is_none}}
+use Rattle.room_entry.specs.{Pieces.same_text, declared.object.ObjKind.ObjKind}
+use Rattle.room_rows.specs.Content.{Content, child_of, root_of, node_at, body_of, has_parent}
+use Rattle.room_rows.specs.Content.{with_node, with_body, without_node, with_each, with_records}
+use Rattle.room_rows.specs.declared.node.{AuditRow.AuditRow, Node.Node}
 use Rattle.room_rows.proofs.Frames.{child_of-parent, root_of-parent}
 use Rattle.room_rows.proofs.InPlace.{body_of-with_body-other, KeepsPlaces, child_of-with_each}
 use Rattle.room_rows.proofs.InPlace.{root_of-with_each, children_of-with_each}
-use Rattle.room_machine.specs.Effect.{names_at}
-use Rattle.room_machine.specs.Site.{front, last_name}
+use Rattle.room_machine.specs.{Effect.names_at, Site.{front, last_name}}
 use Rattle.room_laws.specs.Outside.{found, found_from, view, listing, IsBehind, SameOutside}
 use Rattle.room_laws.specs.Tidy.{IsNumbered}
-use Rattle.room_laws.proofs.Kept as kept
 use Rattle.room_laws.proofs.OnePlace.{found_snoc, found_there, one_place, split_last}
-use Rattle.std.proofs.lemmas.Bool.Decides.{nat_tests}
+use Rattle.room_laws.proofs.Kept as kept
 
 -- what a listing shows of an object
 abbrev pub shown_of : Node → List ℕ × ObjKind
@@ -63,12 +57,15 @@ module _ (f : List (List ℕ)) (a : Content) where
           names,
           ap (λ (l : List (List ℕ)). l ++ name ∷ names) (sym at ∙ append-nil f),
         )
-        on (r ∷ rs) at = (
-          r,
-          rs ++ name ∷ names,
-          ap (λ (l : List (List ℕ)). l ++ name ∷ names) (sym at)
-              ∙ append_assoc f (r ∷ rs) (name ∷ names),
-        )
+        on (r ∷ rs) at =
+            grind (
+              arith,
+              nat_tests,
+              r,
+              rs ++ name ∷ names,
+              ap (λ (l : List (List ℕ)). l ++ name ∷ names) (sym at),
+              append_assoc f (r ∷ rs) (name ∷ names),
+            )
 
     from : (names pre : List (List ℕ)) (node : Node) → found a pre ≡ Some node
         → (IsBehind f (pre ++ names) → ⊥) → found_from c node names ≡ found_from a node names
@@ -86,8 +83,7 @@ module _ (f : List (List ℕ)) (a : Content) where
             → found_from c child names ≡ found_from a child names)
             → option_and_then (λ child. found_from c child names) o
             ≡ option_and_then (λ child. found_from a child names) o
-        on None is more = refl
-        on (Some child) is more = more child is
+        on o is more = grind (arith, nat_tests)
 
     pub found_same : (path : List (List ℕ)) → (IsBehind f path → ⊥) → found c path ≡ found a path
     found_same path outside =
@@ -105,9 +101,7 @@ module _ (f : List (List ℕ)) (a : Content) where
 
     names_same : (path : List (List ℕ)) → (IsBehind f path → ⊥) → (path ≡ f → ⊥)
         → listing a path ≡ listing c path
-    names_same path outside other =
-        sym (ap (option_map (λ (n : Node). names_at c n.id)) (found_same path outside)
-        ∙ on (found a path) refl)
+    names_same path outside other = search (found_same, on)
       where
         apart : (rest : List (List ℕ)) → f ++ rest ≡ path → ⊥
         apart [] at = other (sym at ∙ append-nil f)
@@ -119,8 +113,7 @@ module _ (f : List (List ℕ)) (a : Content) where
         on None is = refl
         on (Some n) is =
             ap (λ (l : List (List ℕ × ObjKind)). Some l)
-            (local.names n.id (λ (rest, node, there, same).
-            apart rest (one_place a numbered (f ++ rest) path node n there is same)))
+            (local.names n.id (grind (arith, nat_tests, apart, one_place)))
 
     -- a change of what is behind alone leaves all outside
     pub local_outside : SameOutside f a c
@@ -153,97 +146,68 @@ module _ (f : List (List ℕ)) (a : Content) where
 
   no_child : (node : Node) → IsBelowInside node → (id : ℕ) → (IsInside id → ⊥) → (name : List ℕ)
       → (has_parent id node && same_text node.name name) ≡ false
-  no_child node below id other name =
-      and_left (has_parent id node) (same_text node.name name) (no_parent node below id other)
+  no_child node below id other name = search (and_left, no_parent)
 
   pub node_local : (c : Content) (new : Node) → IsNumbered c → IsLocal c → IsBelowInside new
       → ((old : Node) → node_at c new.id ≡ Some old → IsBelowInside old)
       → IsLocal (with_node c new)
-  node_local c new numbered local below known = record {
-    members = local.members;
-    root = kept.find-put (λ (n : Node). is_none n.parent) new c.nodes (no_root new below)
-        (kept.fails_at _ new.id c.nodes numbered (λ old is. no_root old (known old is)))
-        ∙ local.root;
-    child = λ id other name.
-        kept.find-put (λ (n : Node). has_parent id n && same_text n.name name) new c.nodes
-        (no_child new below id other name)
-        (kept.fails_at _ new.id c.nodes numbered
-        (λ old is. no_child old (known old is) id other name))
-        ∙ local.child id other name;
-    names = λ id other.
-        ap (λ (l : List Node). map shown_of (sorted_by_name l))
-        (kept.filter-put (has_parent id) new c.nodes (no_parent new below id other)
-        (kept.fails_at _ new.id c.nodes numbered
-        (λ old is. no_parent old (known old is) id other)))
-        ∙ local.names id other;
-    body = local.body;
-  }
+  node_local c new numbered local below known =
+      grind (
+        arith,
+        nat_tests,
+        kept.fails_at,
+        kept.filter-put,
+        kept.find-put,
+        no_child,
+        no_parent,
+        no_root,
+      )
 
   pub removed_local : (c : Content) (id : ℕ) → IsNumbered c → IsLocal c → IsUnder id
       → ((old : Node) → node_at c id ≡ Some old → IsBelowInside old)
       → IsLocal (without_node c id)
-  removed_local c id numbered local under known = record {
-    members = local.members;
-    root = kept.find-removed (λ (n : Node). is_none n.parent) id c.nodes
-        (kept.fails_at _ id c.nodes numbered (λ old is. no_root old (known old is)))
-        ∙ local.root;
-    child = λ above other name.
-        kept.find-removed (λ (n : Node). has_parent above n && same_text n.name name) id c.nodes
-        (kept.fails_at _ id c.nodes numbered
-        (λ old is. no_child old (known old is) above other name))
-        ∙ local.child above other name;
-    names = λ above other.
-        ap (λ (l : List Node). map shown_of (sorted_by_name l))
-        (kept.filter-removed (has_parent above) id c.nodes
-        (kept.fails_at _ id c.nodes numbered
-        (λ old is. no_parent old (known old is) above other)))
-        ∙ local.names above other;
-    body = λ node there other.
-        kept.body-removed id node.id (λ same. other (subst IsUnder (sym same) under)) c.bodies
-        ∙ local.body node there other;
-  }
+  removed_local c id numbered local under known =
+      grind (
+        arith,
+        nat_tests,
+        kept.body-removed,
+        kept.fails_at,
+        kept.filter-removed,
+        kept.find-removed,
+        no_child,
+        no_parent,
+        no_root,
+      )
 
   -- each child of an object inside is changed, and keeps its place, its name and its kind
   pub each_local : (c : Content) (change : Node → Node) (at : ℕ) → IsLocal c → KeepsPlaces c change
       → ((n : Node) → shown_of (change n) ≡ shown_of n)
       → ((n : Node) → has_parent at n ≡ false → change n ≡ n) → IsInside at
       → IsLocal (with_each c change)
-  each_local c change at local places shows same inside = record {
-    members = local.members;
-    root = root_of-with_each c change places ∙ roots (root_of c) refl ∙ local.root;
-    child = λ id other name.
-        child_of-with_each c change places id name
-        ∙ children id other name (child_of c id name) refl ∙ local.child id other name;
-    names = λ id other.
-        ap (map shown_of) (children_of-with_each c change places id)
-        ∙ shown (children_of c id) ∙ local.names id other;
-    body = local.body;
-  }
+  each_local c change at local places shows same inside =
+      grind (
+        arith,
+        nat_tests,
+        child_of-with_each,
+        children,
+        children_of-with_each,
+        root_of-with_each,
+        roots,
+        shown,
+      )
     where
       roots : (o : Option Node) → root_of c ≡ o → option_map change o ≡ o
-      roots None is = refl
-      roots (Some root) is =
-          ap (λ (n : Node). Some n) (same root
-          (ap (λ (o : Option ℕ). option_map_or (λ (parent : ℕ). parent == at) o false)
-          (root_of-parent c root is)))
+      roots o is = grind (arith, nat_tests, root_of-parent)
 
       children : (id : ℕ) → (IsInside id → ⊥) → (name : List ℕ) → (o : Option Node)
           → child_of c id name ≡ o → option_map change o ≡ o
-      children id other name None is = refl
-      children id other name (Some child) is =
-          ap (λ (n : Node). Some n) (same child
-          (ap (λ (o : Option ℕ). option_map_or (λ (parent : ℕ). parent == at) o false)
-          (child_of-parent c id name child is)
-          ∙ ne_eqb id at (λ e. other (subst IsInside (sym e) inside))))
+      children id other name o is = grind (arith, nat_tests, child_of-parent)
 
       shown : (nodes : List Node)
           → map shown_of (map change nodes)
           ≡ map shown_of nodes
       shown [] = refl
-      shown (x ∷ xs) =
-          ap (λ (p : List ℕ × ObjKind). p ∷ map shown_of (map change xs))
-          (shows x)
-          ∙ ap (λ (l : List (List ℕ × ObjKind)). (x.name, x.kind) ∷ l) (shown xs)
+      shown (x ∷ xs) = cc (shows x, shown xs)
 
   -- ---- where things stand that are behind
 

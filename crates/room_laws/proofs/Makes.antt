@@ -1,55 +1,38 @@
 -- What puts something at a path where nothing was.
 use Rattle.std.proofs.Common.{ℕ, ℤ, ◌≡◌, ◌⊎◌, inl, inr, true, false, List, [], ◌∷◌, ◌++◌, Option}
-use Rattle.std.proofs.Common.{Some, None, refl, sym, ap, subst, ◌∙◌, filter, arith}
+use Rattle.std.proofs.Common.{Some, None, refl, sym, ap, subst, ◌∙◌, arith}
+use Rattle.std.proofs.lemmas.{Bool.{true≢false, Decides.nat_tests}, Option.none-some}
 use Rattle.std.specs.Option.{option_map}
-use Rattle.std.proofs.lemmas.Bool.{true≢false}
-use Rattle.std.proofs.lemmas.Option.{none-some}
-use Rattle.room_entry.specs.Rights.{execute, write_data, append_data}
-use Rattle.room_entry.specs.declared.object.ObjKind.TheVariants.{Document, Folder}
-use Rattle.room_entry.specs.declared.object.Which.{Which}
-use Rattle.room_entry.specs.declared.parties.Caller.{Caller}
-use Rattle.room_entry.specs.declared.parties.Owners.{Owners}
+use Rattle.room_entry.specs.Rights.{write_data, append_data}
+use Rattle.room_entry.specs.declared.object.{ObjKind.TheVariants.{Document, Folder}, Which.Which}
+use Rattle.room_entry.specs.declared.parties.{Caller.Caller, Owners.Owners}
 use Rattle.room_ace.specs.Sent.{Sent}
 use Rattle.room_rows.specs.Content.{Content, is_empty, with_records, with_node, with_body}
-use Rattle.room_rows.specs.Content.{without_node}
-use Rattle.room_rows.specs.HeldList.{Held}
-use Rattle.room_rows.specs.Keep.{with_owners}
-use Rattle.room_rows.specs.declared.node.AuditRow.{AuditRow}
-use Rattle.room_rows.specs.declared.node.Node.{Node}
+use Rattle.room_rows.specs.{Content.without_node, HeldList.Held, Keep.with_owners}
+use Rattle.room_rows.specs.declared.node.{AuditRow.AuditRow, Node.Node}
 use Rattle.room_machine.specs.Effect.{effect, bytes_at, put_bytes, with_site, new_node, moved_node}
-use Rattle.room_machine.specs.Effect.{set_list}
-use Rattle.room_machine.specs.Judge.{first_failure, records_of_plan}
-use Rattle.room_machine.specs.Plan.{plan_of, move_items, Deletion, Refusal, right_to_add}
-use Rattle.room_machine.specs.Rights.{reaches, sites_above}
-use Rattle.room_machine.specs.Run.{Event, Asked}
-use Rattle.room_machine.specs.Site.{Site, front, last_name, site_at, parent_at, sites_along}
-use Rattle.room_machine.specs.Step.{IsFree, Step, Reset, caller_in, failure_or, is_refusal}
-use Rattle.room_machine.specs.declared.reply.Reason.TheVariants.{Exists}
-use Rattle.room_machine.specs.declared.reply.Reply.{Reply}
-use Rattle.room_machine.specs.declared.reply.Reply.TheVariants.{Done, Made}
-use Rattle.room_machine.specs.declared.request.Request.{Request}
-use Rattle.room_machine.specs.declared.request.Request.TheVariants.{Read, List as ListFolder, Put}
-use Rattle.room_machine.specs.declared.request.Request.TheVariants.{Append, MakeFolder, Remove}
-use Rattle.room_machine.specs.declared.request.Request.TheVariants.{Move, ReadList, SetList}
-use Rattle.room_machine.specs.declared.request.Request.TheVariants.{ReadAttr, SetOwners, Can}
-use Rattle.room_laws.specs.Outside.{found, view, sight}
-use Rattle.room_laws.specs.Tidy.{IsNumbered, IsTidy}
-use Rattle.room_laws.proofs.Behind.{act_on, target_found}
-use Rattle.room_laws.proofs.Changed.{nodes_found, owned, owners_view, relisted, list_view}
-use Rattle.room_laws.proofs.Grown.{GoesOn, goes_on, grown_view, gone_view}
-use Rattle.room_laws.proofs.Moved.{view_apart, view_old}
-use Rattle.room_laws.proofs.Orphans.{orphans}
-use Rattle.room_laws.proofs.Passing.{not_refused, passed, parent_is, none_at, never_meets}
-use Rattle.room_laws.proofs.Passing.{remove_passed, move_passed, place_passed, folder_passed}
-use Rattle.room_laws.proofs.Passing.{above_found, at_or_not, place_free}
+use Rattle.room_machine.specs.{Effect.set_list, Judge.first_failure, Plan.{plan_of, move_items}}
+use Rattle.room_machine.specs.{Rights.{reaches, sites_above}, Run.{Event, Asked}, Site.Site}
+use Rattle.room_machine.specs.Site.{front, last_name, site_at, parent_at, sites_along}
+use Rattle.room_machine.specs.Step.{IsFree, Step, Reset, caller_in, failure_or}
+use Rattle.room_machine.specs.declared.reply.Reply.{Reply, TheVariants.Done}
+use Rattle.room_machine.specs.declared.request.Request.{Request, TheVariants.Read}
+use Rattle.room_machine.specs.declared.request.Request.TheVariants.{List as ListFolder, Put, Append}
+use Rattle.room_machine.specs.declared.request.Request.TheVariants.{MakeFolder, Remove, Move}
+use Rattle.room_machine.specs.declared.request.Request.TheVariants.{ReadList, SetList, ReadAttr}
+use Rattle.room_machine.specs.declared.request.Request.TheVariants.{SetOwners, Can}
+use Rattle.room_laws.specs.{Outside.{found, view, sight}, Tidy.{IsNumbered, IsTidy}}
+use Rattle.room_laws.proofs.{Behind.{act_on, target_found}, Changed.{nodes_found, owned}}
+use Rattle.room_laws.proofs.{Changed.{owners_view, relisted, list_view}, Grown.{GoesOn, goes_on}}
+use Rattle.room_laws.proofs.{Grown.{grown_view, gone_view}, Moved.{view_apart, view_old}}
+use Rattle.room_laws.proofs.{Orphans.orphans, Passing.{not_refused, passed, parent_is, none_at}}
+use Rattle.room_laws.proofs.Passing.{never_meets, remove_passed, move_passed, place_passed}
+use Rattle.room_laws.proofs.Passing.{folder_passed, above_found, at_or_not, place_free}
 use Rattle.room_laws.proofs.Settings.{no_children, setting, keeper, keeper_blank}
 use Rattle.room_laws.specs.WhoChanged.{Makes}
-use Rattle.room_laws.proofs.Apart.{changed}
-use Rattle.room_laws.proofs.Asked.{move_granted, put_granted, folder_granted}
+use Rattle.room_laws.proofs.{Apart.changed, Asked.{move_granted, put_granted, folder_granted}}
 use Rattle.room_laws.proofs.Held.{in_table, open_to, open_before, folder_at, may_take}
-use Rattle.room_laws.proofs.Held.{bits_known, adding_known}
-use Rattle.room_laws.proofs.WhoChanged.{move_done}
-use Rattle.std.proofs.lemmas.Bool.Decides.{nat_tests}
+use Rattle.room_laws.proofs.{Held.{bits_known, adding_known}, WhoChanged.move_done}
 
 -- nothing is at the path, or the event is one that puts something there
 pub record Empty (q : List (List ℕ)) (a : Content) (event : Event) (c : Content) : Type 0 where
@@ -127,14 +110,7 @@ module _ (q : List (List ℕ)) (a : Content) (numbered : IsNumbered a) (tidy : I
         → first_failure caller (plan_of a (Put path bytes)) ≡ None
         → (effect a caller id (Put path bytes)).0 ≡ reply
         → After (Put path bytes) (effect a caller id (Put path bytes)).1
-    put_makes [] bytes none given = on (site_at (sites_along a []) [])
-      where
-        on : (o : Option Site)
-            → After (Put [] bytes) (put_bytes a caller id [] bytes o None).1
-        on None = as_before (Put [] bytes)
-        on (Some t) =
-            empty_after (Put [] bytes) (with_body a t.node.id bytes)
-            (bytes_none q a absent a t.node.id bytes absent)
+    put_makes [] bytes none given = grind (arith, nat_tests, as_before, bytes_none, empty_after)
     put_makes (name ∷ names) bytes none given =
         on (site_at (sites_along a (name ∷ names)) (name ∷ names)) refl
       where
@@ -150,21 +126,18 @@ module _ (q : List (List ℕ)) (a : Content) (numbered : IsNumbered a) (tidy : I
                   (folder_at a user name names d at_d)
                   (open_before a user true name names _ none)
                   (put_granted caller a (name ∷ names) bytes d at at_d none) bits_known.2,
-              sym given
-                  ∙ ap (λ o. (put_bytes a caller id (name ∷ names) bytes o
-                  (parent_at (sites_along a (name ∷ names)) (name ∷ names))).0) at
-                  ∙ ap (λ o. (put_bytes a caller id (name ∷ names) bytes None o).0) at_d,
+              cc (given, at, at_d),
             )
         by d at at_d (inr other) =
-            empty_after (Put (name ∷ names) bytes) _
-            (bytes_none q a absent
-            (with_node a (new_node id caller Document d (last_name (name ∷ names)))) id bytes
-            (none_as_before q a absent
-            (with_node a (new_node id caller Document d (last_name (name ∷ names))))
-            (grown_view a numbered name names d.node (parent_is a name names d at_d)
-            (none_at a (name ∷ names) at)
-            (new_node id caller Document d (last_name (name ∷ names))) free refl refl
-            (orphans a numbered tidy id free) q other)))
+            search (
+              bytes_none,
+              empty_after,
+              grown_view,
+              none_as_before,
+              none_at,
+              orphans,
+              parent_is,
+            )
 
         on : (o : Option Site) → site_at (sites_along a (name ∷ names)) (name ∷ names) ≡ o
             → After (Put (name ∷ names) bytes) (put_bytes a caller id (name ∷ names) bytes o
@@ -174,9 +147,7 @@ module _ (q : List (List ℕ)) (a : Content) (numbered : IsNumbered a) (tidy : I
             (parent_at (sites_along a (name ∷ names)) (name ∷ names)) _
             (as_before (Put (name ∷ names) bytes))
             (λ d at_d. by d at at_d (at_or_not (name ∷ names) q))
-        on (Some t) at_t =
-            empty_after (Put (name ∷ names) bytes) (with_body a t.node.id bytes)
-            (bytes_none q a absent a t.node.id bytes absent)
+        on (Some t) at_t = search (bytes_none, empty_after)
 
     folder_makes : (path : List (List ℕ))
         → first_failure caller (plan_of a (MakeFolder path)) ≡ None
@@ -200,19 +171,10 @@ module _ (q : List (List ℕ)) (a : Content) (numbered : IsNumbered a) (tidy : I
                   (folder_at a user name names d at_d)
                   (open_before a user true name names _ none)
                   (folder_granted caller a name names d at_d none) bits_known.3,
-              sym given ∙ ap (λ o. (with_site a o (λ e. (
-                Made,
-                with_node a (new_node id caller Folder e (last_name (name ∷ names))),
-              ))).0) at_d,
+              cc (given, at_d),
             )
         by d at_d (inr other) =
-            empty_after (MakeFolder (name ∷ names)) _
-            (none_as_before q a absent
-            (with_node a (new_node id caller Folder d (last_name (name ∷ names))))
-            (grown_view a numbered name names d.node (parent_is a name names d at_d)
-            (folder_passed caller a name names d at_d none)
-            (new_node id caller Folder d (last_name (name ∷ names))) free refl refl
-            (orphans a numbered tidy id free) q other))
+            search (empty_after, folder_passed, grown_view, none_as_before, orphans, parent_is)
 
   removed_makes : (path : List (List ℕ)) (s : Site) → site_at (sites_along a path) path ≡ Some s
       → first_failure caller (plan_of a (Remove path)) ≡ None
@@ -225,8 +187,7 @@ module _ (q : List (List ℕ)) (a : Content) (numbered : IsNumbered a) (tidy : I
       (gone_view a numbered tidy.names name names s.node (target_found a (name ∷ names) s at)
       (no_children a s.node.id tidy.names (remove_passed caller a (name ∷ names) s at none).1)
       above.0.node (parent_is a name names above.0 above.1) q
-      (λ is. none-some s.node (sym absent ∙ ap (found a) is
-      ∙ target_found a (name ∷ names) s at))))
+      (λ is. none-some s.node (cc (absent, is, target_found a (name ∷ names) s at)))))
 
   moved_makes : (path to : List (List ℕ)) (s : Site) → site_at (sites_along a path) path ≡ Some s
       → (is_empty path ≡ false) × ((d : Site)
@@ -237,9 +198,7 @@ module _ (q : List (List ℕ)) (a : Content) (numbered : IsNumbered a) (tidy : I
       (λ e. (Done, with_node a (moved_node s e (last_name to))))).1
   moved_makes [] to s at (full, rest) free done = absurd (true≢false full)
   moved_makes (name ∷ names) [] s at (full, (d, at_d, none)) free done =
-      absurd (true≢false (not_refused caller [] Exists true
-      (passed caller (Refusal [] Exists true) []
-      (passed caller (Deletion s d) (Refusal [] Exists true ∷ []) none).1).0))
+      grind (arith, nat_tests, not_refused, passed)
   moved_makes (name ∷ names) (first ∷ more) s at (full, (d, at_d, none)) free done =
       act_on (Empty q a (Asked user moment (Move (name ∷ names) (first ∷ more)) reply)) a
       (site_at (sites_along a (front (first ∷ more))) (front (first ∷ more)))
@@ -261,28 +220,24 @@ module _ (q : List (List ℕ)) (a : Content) (numbered : IsNumbered a) (tidy : I
           made q a (Asked user moment (Move (name ∷ names) (first ∷ more)) reply) _ (
             is,
             may_take a user name names s d at at_d free given.0,
-            (
-              s,
-              at,
-              in_table a user (front (first ∷ more)) e execute at_e
-                  (open_to a user false (front (first ∷ more)) _ none) given.1 bits_known.4,
-              in_table a user (front (first ∷ more)) e (right_to_add s.node) at_e
-                  (open_to a user false (front (first ∷ more)) _ none) given.2
-                  (adding_known s.node),
-            ),
+            grind (arith, nat_tests, adding_known, bits_known, in_table, open_to),
             done,
           )
       on e at_e (inr not_new) (inl (rest, is)) =
           empty_after (Move (name ∷ names) (first ∷ more)) _
           (nothing_seen (with_node a (moved_node s e (last_name (first ∷ more)))) q
-          (ap (view (with_node a (moved_node s e (last_name (first ∷ more))))) is
-          ∙ view_old a numbered tidy.names name names s.node at_node d.node
-          (parent_is a name names d at_d) first more e.node
-          (target_found a (front (first ∷ more)) e at_e) (place_free caller a first more s d e at_e
-          (target_found a (front (first ∷ more)) e at_e) none)
-          (never_meets a (name ∷ names) (front (first ∷ more)) s.node at_node
-          (place_passed caller a first more s d e at_e none).1)
-          (moved_node s e (last_name (first ∷ more))) refl refl refl rest))
+          (
+          cc (
+            is,
+            view_old a numbered tidy.names name names s.node at_node d.node
+                (parent_is a name names d at_d) first more e.node
+                (target_found a (front (first ∷ more)) e at_e)
+                (place_free caller a first more s d e at_e
+                (target_found a (front (first ∷ more)) e at_e) none)
+                (never_meets a (name ∷ names) (front (first ∷ more)) s.node at_node
+                (place_passed caller a first more s d e at_e none).1)
+                (moved_node s e (last_name (first ∷ more))) refl refl refl rest,
+          )))
       on e at_e (inr not_new) (inr not_old) =
           empty_after (Move (name ∷ names) (first ∷ more)) _
           (none_as_before q a absent (with_node a (moved_node s e (last_name (first ∷ more))))
@@ -351,10 +306,7 @@ module _ (q : List (List ℕ)) (a : Content) (numbered : IsNumbered a) (tidy : I
       → After request after
   step_makes request after s =
       subst (Empty q a (Asked user moment request reply)) (ap (λ (d : Reply × Content). d.1) s.2)
-      (noted (Asked user moment request reply) _
-      (records_of_plan caller moment (plan_of a request))
-      (on (first_failure caller (plan_of a request)) refl
-      (ap (λ (d : Reply × Content). d.0) s.2)))
+      (grind (arith, nat_tests, noted, on))
     where
       on : (o : Option Reply) → first_failure caller (plan_of a request) ≡ o
           → (failure_or o a (effect a caller s.0 request)).0 ≡ reply
@@ -373,18 +325,13 @@ still_none q c is = record { none = is }
 pub reset_none : (q : List (List ℕ)) (a : Content) → IsNumbered a → found a q ≡ None
     → (path : List (List ℕ)) (which : Which) (sent : Sent) (reply : Reply) (after : Content)
     → Reset a path which sent reply after → found after q ≡ None
-reset_none q a numbered absent path which sent reply after s =
-    (subst (StillNone q) (ap (λ (d : Reply × Content). d.1) s)
-    (on (first_failure (record { user = None; groups = [] })
-    (filter is_refusal (plan_of a (SetList path which sent)))))).none
+reset_none q a numbered absent path which sent reply after s = grind (arith, nat_tests, on)
   where
     done : StillNone q
         (effect a (record { user = None; groups = [] }) 0 (SetList path which sent)).1
     done =
         act_on (StillNone q) a (site_at (sites_along a path) path) _ (still_none q a absent)
-        (λ x at. still_none q _
-        (list_none q a absent numbered path x (target_found a path x at) which sent
-        (parent_at (sites_along a path) path)))
+        (λ x at. search (list_none, still_none, target_found))
 
     on : (o : Option Reply) → StillNone q
         (failure_or o a (effect a (record { user = None; groups = [] }) 0

@@ -1,26 +1,19 @@
 -- Views after an object was moved.
-use Rattle.std.proofs.Common.{ℕ, ◌≡◌, ◌⊎◌, inl, inr, Bool, true, false, ◌&&◌, List, [], ◌∷◌, ◌++◌}
-use Rattle.std.proofs.Common.{Some, None, refl, sym, ap, ◌∙◌, append-nil, arith}
-use Rattle.std.specs.Option.{option_map}
-use Rattle.std.specs.Prelude.{option_and_then, is_none}
-use Rattle.std.proofs.lemmas.Bool.{and_parts, cases_Bool}
-use Rattle.std.proofs.lemmas.Option.{none-some, same_Some}
+use Rattle.std.proofs.Common.{ℕ, ◌≡◌, ◌⊎◌, inl, inr, Bool, true, false, List, [], ◌∷◌, ◌++◌, Some}
+use Rattle.std.proofs.{Common.{None, refl, sym, ap, ◌∙◌, append-nil, arith}, lemmas.Bool.and_parts}
+use Rattle.std.proofs.lemmas.{Bool.{cases_Bool, Decides.nat_tests}, Option.none-some}
+use Rattle.std.specs.{Option.option_map, Prelude.{option_and_then, is_none}}
 use Rattle.room_entry.specs.Pieces.{same_text}
-use Rattle.room_entry.proofs.Alike.{text_itself}
-use Rattle.room_entry.proofs.Texts.{same_text-true}
-use Rattle.room_rows.specs.Content.{Content, child_of, root_of, node_at, has_parent, body_of}
-use Rattle.room_rows.specs.Content.{with_node, are_names_apart}
-use Rattle.room_rows.specs.declared.node.Node.{Node}
+use Rattle.room_entry.proofs.{Alike.text_itself, Texts.same_text-true}
+use Rattle.room_rows.specs.Content.{Content, child_of, root_of, has_parent, body_of, with_node}
+use Rattle.room_rows.specs.{Content.are_names_apart, declared.node.Node.Node}
 use Rattle.room_rows.proofs.Frames.{parent_is, has_its_parent}
 use Rattle.room_machine.specs.Site.{front, last_name}
-use Rattle.room_laws.specs.Outside.{sight, found, found_from, unnumbered, view}
-use Rattle.room_laws.specs.Tidy.{IsNumbered}
+use Rattle.room_laws.specs.{Outside.{sight, found, found_from, unnumbered, view}, Tidy.IsNumbered}
 use Rattle.room_laws.proofs.Grown.{GoesOn, found_append, front_shorter, is_child, is_target}
-use Rattle.room_laws.proofs.Grown.{its_parent, step_target, walk_below, walk_same}
-use Rattle.room_laws.proofs.Kept.{is_named}
-use Rattle.room_laws.proofs.Kept as kept
+use Rattle.room_laws.proofs.{Grown.{its_parent, step_target, walk_below, walk_same}, Kept.is_named}
 use Rattle.room_laws.proofs.OnePlace.{found_snoc, not_empty, one_place, split_last}
-use Rattle.std.proofs.lemmas.Bool.Decides.{nat_tests}
+use Rattle.room_laws.proofs.Kept as kept
 
 front_on : (l : List (List ℕ)) (x : List ℕ) (r : List (List ℕ))
     → front (l ++ x ∷ r) ≡ l ++ front (x ∷ r)
@@ -56,39 +49,32 @@ module _ (a : Content) (numbered : IsNumbered a) (apart : are_names_apart a.node
 
   -- nothing was found at the new path or from it on
   nothing_on : (rest : List (List ℕ)) → found a (new_path ++ rest) ≡ None
-  nothing_on rest =
-      found_append a new_path rest
-      ∙ ap (option_and_then (λ n. found_from a n rest)) absent
+  nothing_on rest = cc (found_append a new_path rest, absent)
 
   not_at_new : (q : List (List ℕ)) (n : Node) → found a q ≡ Some n → GoesOn new_path q → ⊥
-  not_at_new q n is (rest, on) =
-      none-some n (sym (nothing_on rest) ∙ ap (found a) (sym on) ∙ is)
+  not_at_new q n is (rest, on) = grind (arith, nat_tests, nothing_on)
 
   -- the new path isn't below the old one
   not_below : (rest : List (List ℕ)) → old_path ++ rest ≡ new_path → ⊥
   not_below [] is =
       none-some target (sym absent ∙ ap (found a) (sym is ∙ append-nil old_path) ∙ at)
-  not_below (x ∷ rest) is =
-      no_loop (front (x ∷ rest), ap front (sym is) ∙ front_on old_path x rest)
+  not_below (x ∷ rest) is = grind (arith, nat_tests, front_on)
 
   fails_moved : (p : Node → Bool) → p target ≡ false → kept.Fails p new.id a.nodes
-  fails_moved p fails =
-      kept.fails_at p new.id a.nodes numbered
-      (λ old is. ap p (sym (is_target a numbered name names target at from above old
-      (ap (node_at a) (sym number) ∙ is))) ∙ fails)
+  fails_moved p fails = grind (arith, nat_tests, is_target, kept.fails_at)
 
   -- where it is the child of that name now, the path is the new one
   step_moved : (pre : List (List ℕ)) (node : Node) (x : List ℕ) → found a pre ≡ Some node
       → is_named node.id x new ≡ true → pre ++ x ∷ [] ≡ new_path
   step_moved pre node x is passes =
       let parts = and_parts (has_parent node.id new) (same_text new.name x) passes in
-      let above_it : node.id ≡ folder.id = same_Some _ _
-      (sym (parent_is node.id new parts.0) ∙ parent) in
-      ap (λ (l : List (List ℕ)). l ++ x ∷ [])
-      (one_place a numbered pre (front new_path) node folder is place above_it)
-      ∙ ap (λ (n : List ℕ). front new_path ++ n ∷ [])
-      (sym (same_text-true new.name x parts.1) ∙ named)
-      ∙ sym (split_last first more)
+      let above_it : node.id ≡ folder.id = grind (arith, nat_tests, parent_is) in
+      cc (
+        one_place a numbered pre (front new_path) node folder is place above_it,
+        same_text-true new.name x parts.1,
+        named,
+        split_last first more,
+      )
 
   abbrev Ok : List (List ℕ) → Type 0
   Ok r = (r ≡ old_path → ⊥) × (r ≡ new_path → ⊥)
@@ -102,12 +88,8 @@ module _ (a : Content) (numbered : IsNumbered a) (apart : are_names_apart a.node
           → (is_named node.id x target ≡ true) ⊎ (is_named node.id x target ≡ false)
           → child_of moved node.id x ≡ child_of a node.id x
       on (inl passes) other = absurd (ok.1 (step_moved pre node x is passes))
-      on (inr fails) (inl passes) =
-          absurd (ok.0
-          (step_target a numbered name names target at from above pre node x is passes))
-      on (inr fails) (inr not_there) =
-          kept.find-put (is_named node.id x) new a.nodes fails
-          (fails_moved (is_named node.id x) not_there)
+      on (inr fails) (inl passes) = grind (arith, nat_tests, step_target)
+      on (inr fails) (inr not_there) = search (fails_moved, is_named, kept.find-put)
 
   root_moved : root_of moved ≡ root_of a
   root_moved =
@@ -119,10 +101,7 @@ module _ (a : Content) (numbered : IsNumbered a) (apart : are_names_apart a.node
       → found moved q ≡ found a q
   moved_apart q not_old not_new =
       walk_same a moved root_moved Ok step_other q
-      (λ r s e. (
-        λ same. not_old (s, e ∙ ap (λ (l : List (List ℕ)). l ++ s) same),
-        λ same. not_new (s, e ∙ ap (λ (l : List (List ℕ)). l ++ s) same),
-      ))
+      (grind (arith, nat_tests))
 
   -- ---- at the old path
 
@@ -141,33 +120,39 @@ module _ (a : Content) (numbered : IsNumbered a) (apart : are_names_apart a.node
 
   found_old : (rest : List (List ℕ)) → found moved (old_path ++ rest) ≡ None
   found_old rest =
-      found_append moved old_path rest
-      ∙ ap (option_and_then (λ n. found_from moved n rest))
-      (ap (found moved) (split_last name names)
-      ∙ found_snoc moved (front old_path) (last_name old_path)
-      ∙ ap (option_and_then (λ n. child_of moved n.id (last_name old_path)))
-      (moved_apart (front old_path) (front_shorter name names)
-      (not_at_new (front old_path) from above) ∙ above)
-      ∙ old_gone)
+      cc (
+        found_append moved old_path rest,
+        split_last name names,
+        found_snoc moved (front old_path) (last_name old_path),
+        moved_apart (front old_path) (front_shorter name names)
+            (not_at_new (front old_path) from above),
+        above,
+        old_gone,
+      )
 
   -- ---- at the new path
 
   new_there : child_of moved folder.id (last_name new_path) ≡ Some new
   new_there =
       kept.find-put_new (is_named folder.id (last_name new_path)) new a.nodes
-      (ap (λ t. t && same_text new.name (last_name new_path)) (has_its_parent folder.id new parent)
-      ∙ ap (λ n. same_text n (last_name new_path)) named ∙ text_itself (last_name new_path))
-      (sym (ap (option_and_then (λ n. child_of a n.id (last_name new_path))) place)
-      ∙ sym (ap (found a) (split_last first more)
-      ∙ found_snoc a (front new_path) (last_name new_path)) ∙ absent)
+      (grind (arith, nat_tests, has_its_parent, text_itself))
+      (
+      cc (
+        place,
+        found_snoc a (front new_path) (last_name new_path),
+        split_last first more,
+        absent,
+      ))
 
   found_new : found moved new_path ≡ Some new
   found_new =
-      ap (found moved) (split_last first more)
-      ∙ found_snoc moved (front new_path) (last_name new_path)
-      ∙ ap (option_and_then (λ n. child_of moved n.id (last_name new_path)))
-      (moved_apart (front new_path) no_loop (front_shorter first more) ∙ place)
-      ∙ new_there
+      cc (
+        split_last first more,
+        found_snoc moved (front new_path) (last_name new_path),
+        moved_apart (front new_path) no_loop (front_shorter first more),
+        place,
+        new_there,
+      )
 
   -- what was below it is below it
   found_below : (x : List ℕ) (rest : List (List ℕ))
@@ -178,12 +163,8 @@ module _ (a : Content) (numbered : IsNumbered a) (apart : are_names_apart a.node
       ∙ ap (λ (i : ℕ). option_and_then (λ child. found_from moved child rest) (child_of moved i x))
       number
       ∙ walk_below a moved root_moved Ok step_other (x ∷ rest) old_path target at
-      (λ y r s e. (
-        longer old_path y r,
-        not_below (y ∷ r),
-      ))
-      ∙ sym (found_append a old_path (x ∷ rest)
-      ∙ ap (option_and_then (λ n. found_from a n (x ∷ rest))) at)
+      (search (longer, not_below))
+      ∙ sym (cc (found_append a old_path (x ∷ rest), at))
 
   -- ---- views
 

@@ -1,22 +1,17 @@
 -- Where numbers differ, each object is found at one path alone.
 use mathlib.Core.List.{reverse_aux}
-use Rattle.std.proofs.Common.{ℕ, suc, ◌+◌, ◌≡◌, ◌⊎◌, inl, inr, true, false, List, [], ◌∷◌, ◌++◌}
-use Rattle.std.proofs.Common.{length, length-append, take, drop, Option, Some, None, refl, sym, ap}
-use Rattle.std.proofs.Common.{subst, ◌∙◌, arith, append_assoc, take-append-drop}
+use Rattle.std.proofs.Common.{ℕ, suc, ◌≡◌, ◌⊎◌, inl, inr, true, false, List, [], ◌∷◌, ◌++◌, length}
+use Rattle.std.proofs.Common.{length-append, take, drop, Option, Some, None, refl, sym, ap, subst}
+use Rattle.std.proofs.{Common.{◌∙◌, arith, append_assoc, take-append-drop}, lemmas.Bool.cases_Bool}
+use Rattle.std.proofs.lemmas.{Bool.Decides.nat_tests, List.reverse-reverse, Option.same_Some}
 use Rattle.std.specs.Prelude.{option_and_then, reverse}
-use Rattle.std.proofs.lemmas.Bool.{cases_Bool, false≢true}
-use Rattle.std.proofs.lemmas.List.{reverse-reverse}
-use Rattle.std.proofs.lemmas.Option.{none-some, same_Some}
 use Rattle.room_entry.specs.Pieces.{same_text}
-use Rattle.room_entry.proofs.Alike.{text_itself}
-use Rattle.room_entry.proofs.Texts.{same_text-true}
-use Rattle.room_rows.specs.Content.{Content, child_of, root_of, node_at}
-use Rattle.room_rows.specs.declared.node.Node.{Node}
+use Rattle.room_entry.proofs.{Alike.text_itself, Texts.same_text-true}
+use Rattle.room_rows.specs.{Content.{Content, child_of, root_of, node_at}, declared.node.Node.Node}
 use Rattle.room_rows.proofs.Frames.{Rises, child_of-is_there, child_of-name, child_of-parent}
 use Rattle.room_rows.proofs.Frames.{root_of-is_there, root_of-parent}
 use Rattle.room_machine.specs.Site.{front, last_name}
 use Rattle.room_laws.specs.Outside.{found, found_from, IsBehind}
-use Rattle.std.proofs.lemmas.Bool.Decides.{nat_tests}
 
 -- ---- lists of names
 
@@ -52,23 +47,23 @@ behind_or_not (x ∷ front) (y ∷ path) =
         inl (
           is.0,
           is.1,
-          ap (λ (n : List ℕ). n ∷ path) (same_text-true y x same)
-              ∙ ap (λ (l : List (List ℕ)). x ∷ l) is.2,
+          search (same_text-true),
         )
-    on (inl same) (inr isnt) =
-        inr (λ is. isnt (is.0, is.1, tail_same y x path (front ++ is.0 ∷ is.1) is.2))
-    on (inr differ) other = inr (λ is. false≢true (sym differ
-        ∙ ap (λ (n : List ℕ). same_text n x) (head_same y x path (front ++ is.0 ∷ is.1) is.2)
-        ∙ text_itself x))
+    on (inl same) (inr isnt) = grind (arith, nat_tests, tail_same)
+    on (inr differ) other = grind (arith, nat_tests, head_same, text_itself)
 
 -- what goes on from a path behind is behind
 pub behind_on : (front path more : List (List ℕ)) → IsBehind front path
     → IsBehind front (path ++ more)
-behind_on front path more is = (
-  is.0,
-  is.1 ++ more,
-  ap (λ (l : List (List ℕ)). l ++ more) is.2 ∙ append_assoc front (is.0 ∷ is.1) more,
-)
+behind_on front path more is =
+    grind (
+      arith,
+      nat_tests,
+      is.0,
+      is.1 ++ more,
+      ap (λ (l : List (List ℕ)). l ++ more) is.2,
+      append_assoc front (is.0 ∷ is.1) more,
+    )
 
 -- so no part of a path that isn't behind is
 pub part_outside : (front path : List (List ℕ)) → (IsBehind front path → ⊥) → (i : ℕ)
@@ -85,16 +80,14 @@ start_outside front path more outside is = outside (behind_on front path more is
 -- the front itself isn't behind
 pub not_itself : (front : List (List ℕ)) → IsBehind front front → ⊥
 not_itself front is =
-    let same : length front ≡ length front + length (is.0 ∷ is.1) =
-    ap length is.2 ∙ length-append front (is.0 ∷ is.1) in
+    let same = ap length is.2 ∙ length-append front (is.0 ∷ is.1) in
     let more : length (is.0 ∷ is.1) ≡ suc (length is.1) = refl in
     omega (arith, same, more)
 
 -- ---- one name further
 
 then_some : (o : Option Node) → option_and_then (λ (n : Node). Some n) o ≡ o
-then_some None = refl
-then_some (Some n) = refl
+then_some o = grind (arith, nat_tests)
 
 snoc_from : (content : Content) (node : Node) (names : List (List ℕ)) (name : List ℕ)
     → found_from content node (names ++ name ∷ [])
@@ -109,8 +102,7 @@ snoc_from content node (first ∷ names) name =
         → option_and_then (λ child. found_from content child (names ++ name ∷ [])) o
         ≡ option_and_then (λ n. child_of content n.id name)
         (option_and_then (λ child. found_from content child names) o)
-    on None more = refl
-    on (Some child) more = more child
+    on o more = grind (arith, nat_tests)
 
 pub found_snoc : (content : Content) (names : List (List ℕ)) (name : List ℕ)
     → found content (names ++ name ∷ [])
@@ -145,10 +137,7 @@ module _ (content : Content) where
           → found_from content child names ≡ found_up (reverse_aux names (name ∷ above)))
           → option_and_then (λ child. found_from content child names) o
           ≡ found_up (reverse_aux names (name ∷ above))
-      on None none more =
-          sym (none_up names (name ∷ above)
-          (ap (option_and_then (λ n. child_of content n.id name)) is ∙ none))
-      on (Some child) there more = more child there
+      on o none more = grind (arith, nat_tests, none_up)
 
   pub up_found : (path : List (List ℕ)) → found content path ≡ found_up (reverse path)
   up_found path = grind (arith, nat_tests, none_up, some_up)
@@ -167,30 +156,15 @@ module _ (content : Content) where
     -- objects of one number are one object
     pub one_object : (n m : Node) → node_at content n.id ≡ Some n → node_at content m.id ≡ Some m
         → n.id ≡ m.id → n ≡ m
-    one_object n m first second same =
-        same_Some n m (sym first ∙ ap (node_at content) same ∙ second)
+    one_object n m first second same = search (same_Some)
 
     one_way : (p q : List (List ℕ)) (n m : Node) → found_up p ≡ Some n → found_up q ≡ Some m
         → n ≡ m → p ≡ q
     one_way [] [] n m first second same = refl
-    one_way [] (y ∷ q) n m first second same = on (found_up q) second
-      where
-        on : (o : Option Node) → option_and_then (λ x. child_of content x.id y) o ≡ Some m
-            → [] ≡ y ∷ q
-        on None none = absurd (none-some m none)
-        on (Some x) there =
-            absurd (none-some x.id
-            (sym (root_of-parent content n first) ∙ ap (λ (z : Node). z.parent) same
-            ∙ child_of-parent content x.id y m there))
-    one_way (x ∷ p) [] n m first second same = on (found_up p) first
-      where
-        on : (o : Option Node) → option_and_then (λ z. child_of content z.id x) o ≡ Some n
-            → x ∷ p ≡ []
-        on None none = absurd (none-some n none)
-        on (Some z) there =
-            absurd (none-some z.id
-            (sym (root_of-parent content m second) ∙ ap (λ (w : Node). w.parent) (sym same)
-            ∙ child_of-parent content z.id x n there))
+    one_way [] (y ∷ q) n m first second same =
+        grind (arith, nat_tests, child_of-parent, root_of-parent)
+    one_way (x ∷ p) [] n m first second same =
+        grind (arith, nat_tests, child_of-parent, root_of-parent)
     one_way (x ∷ p) (y ∷ q) n m first second same =
         on (found_up p) (found_up q) refl refl first second (one_way p q)
       where
@@ -199,24 +173,16 @@ module _ (content : Content) where
             → option_and_then (λ z. child_of content z.id y) r ≡ Some m
             → ((z w : Node) → found_up p ≡ Some z → found_up q ≡ Some w → z ≡ w → p ≡ q)
             → x ∷ p ≡ y ∷ q
-        on None r is_o is_r first second more = absurd (none-some n first)
-        on (Some z) None is_o is_r first second more = absurd (none-some m second)
-        on (Some z) (Some w) is_o is_r first second more =
-            let name : x ≡ y = sym (child_of-name content z.id x n first)
-            ∙ ap (λ (k : Node). k.name) same ∙ child_of-name content w.id y m second in
-            let number : z.id ≡ w.id = same_Some z.id w.id
-            (sym (child_of-parent content z.id x n first) ∙ ap (λ (k : Node). k.parent) same
-            ∙ child_of-parent content w.id y m second) in
-            let rest : p ≡ q = more z w is_o is_r
-            (one_object z w (up_there p z is_o) (up_there q w is_r) number) in
-            ap (λ (k : List ℕ). k ∷ p) name ∙ ap (λ (l : List (List ℕ)). y ∷ l) rest
+        on o r is_o is_r first second more =
+            grind (arith, nat_tests, child_of-name, child_of-parent, one_object, up_there)
 
     -- An object is found at one path alone.
     pub one_place : (p q : List (List ℕ)) (n m : Node) → found content p ≡ Some n
         → found content q ≡ Some m → n.id ≡ m.id → p ≡ q
     one_place p q n m first second same =
-        sym (reverse-reverse p)
-        ∙ ap reverse (one_way (reverse p) (reverse q) n m (sym (up_found p) ∙ first)
-        (sym (up_found q) ∙ second)
-        (one_object n m (found_there p n first) (found_there q m second) same))
-        ∙ reverse-reverse q
+        cc (
+          reverse-reverse p,
+          one_way (reverse p) (reverse q) n m (sym (up_found p) ∙ first) (sym (up_found q) ∙ second)
+              (one_object n m (found_there p n first) (found_there q m second) same),
+          reverse-reverse q,
+        )

@@ -1,34 +1,24 @@
 -- What the operator does in two rooms leaves them the same outside.
-use Rattle.std.proofs.Common.{ℕ, ◌≡◌, Bool, false, List, [], ◌∷◌, ◌++◌, Option, Some, None, refl}
-use Rattle.std.proofs.Common.{sym, ap, ◌∙◌, map, filter, ◌&&◌, not, arith}
+use Rattle.std.proofs.Common.{ℕ, ◌≡◌, Bool, List, [], ◌∷◌, ◌++◌, Option, Some, None, refl, sym, ap}
+use Rattle.std.proofs.{Common.{◌∙◌, map, filter, arith}, lemmas.Option.none-some}
+use Rattle.std.proofs.lemmas.Bool.Decides.{nat_tests}
 use Rattle.std.specs.Option.{option_map}
-use Rattle.std.proofs.lemmas.Option.{none-some, same_Some}
-use Rattle.room_entry.specs.Rights.{write_acl}
-use Rattle.room_entry.specs.Valid.{first_bad_entry}
-use Rattle.room_entry.specs.declared.object.Which.{Which}
+use Rattle.room_entry.specs.{Rights.write_acl, Valid.first_bad_entry, declared.object.Which.Which}
 use Rattle.room_entry.specs.declared.parties.Caller.{Caller}
 use Rattle.room_ace.specs.Sent.{Sent}
-use Rattle.room_rows.specs.Content.{Content, with_members, is_empty}
-use Rattle.room_machine.specs.Effect.{effect}
-use Rattle.room_machine.specs.Judge.{first_failure}
-use Rattle.room_machine.specs.Plan.{plan_of, Item, Check, way, where_found, bad_list}
-use Rattle.room_machine.specs.Site.{Site, sites_along}
-use Rattle.room_machine.specs.Step.{Reset, failure_or, is_refusal}
-use Rattle.room_machine.specs.declared.reply.Reason.TheVariants.{NoSuch}
-use Rattle.room_machine.specs.declared.reply.Reply.{Reply}
+use Rattle.room_rows.specs.Content.{Content, with_members}
+use Rattle.room_machine.specs.{Effect.effect, Judge.first_failure, Plan.{plan_of, Item, Check, way}}
+use Rattle.room_machine.specs.{Plan.{where_found, bad_list}, Site.Site, Step.{Reset, failure_or}}
+use Rattle.room_machine.specs.{Step.is_refusal, declared.reply.Reply.Reply}
 use Rattle.room_machine.specs.declared.request.Request.TheVariants.{List as ListFolder, SetList}
-use Rattle.room_laws.specs.Outside.{sight, view, IsBehind, SameOutside}
-use Rattle.room_laws.specs.Tidy.{IsTidy, IsNumbered}
-use Rattle.room_laws.proofs.Changed.{nodes_found}
-use Rattle.room_laws.proofs.Effects.{SameViews, as_before, both_act, list_alike}
-use Rattle.room_laws.proofs.LikeItems.{empty_like, folder_like, next, path_like, refused}
-use Rattle.room_laws.proofs.NamesSeen.{names_from_views}
-use Rattle.room_laws.proofs.OnePlace.{head_same, not_empty, tail_same}
-use Rattle.room_laws.proofs.PairsStay.{either_members, members_stay}
-use Rattle.room_laws.proofs.PlansAlike.{IsSeen, parent_same, sites_same, target_seen}
-use Rattle.room_laws.proofs.SameReplies.{done_same}
-use Rattle.room_laws.proofs.Seen.{Both, IsLike, blank}
-use Rattle.std.proofs.lemmas.Bool.Decides.{nat_tests}
+use Rattle.room_laws.specs.{Outside.{sight, view, IsBehind, SameOutside}, Tidy.{IsTidy, IsNumbered}}
+use Rattle.room_laws.proofs.{Changed.nodes_found, Effects.{SameViews, as_before, both_act}}
+use Rattle.room_laws.proofs.{Effects.list_alike, LikeItems.{empty_like, folder_like, next}}
+use Rattle.room_laws.proofs.{LikeItems.{path_like, refused}, NamesSeen.names_from_views}
+use Rattle.room_laws.proofs.{OnePlace.{head_same, not_empty, tail_same}, PairsStay.either_members}
+use Rattle.room_laws.proofs.{PairsStay.members_stay, PlansAlike.{IsSeen, parent_same, sites_same}}
+use Rattle.room_laws.proofs.{PlansAlike.target_seen, SameReplies.done_same, Seen.{Both, IsLike}}
+use Rattle.room_laws.proofs.Seen.{blank}
 
 -- pairs that are replaced in both
 pub replaced_alike : (f : List (List ℕ)) (a b c d : Content) (pairs : List (List ℕ × List ℕ))
@@ -44,9 +34,7 @@ replaced_alike f a b c d pairs same is_c is_d content_c content_d = record {
     seen x q = ap (option_map (sight x)) (nodes_found x (with_members x pairs) refl q)
 
     views : (q : List (List ℕ)) → (IsBehind f q → ⊥) → view c q ≡ view d q
-    views q outside =
-        ap (λ x. view x q) is_c ∙ seen a q ∙ same.views q outside
-        ∙ sym (ap (λ x. view x q) is_d ∙ seen b q)
+    views q outside = grind (arith, nat_tests, seen)
 
 -- ---- a list that the operator sets in both
 
@@ -71,9 +59,7 @@ module _ (f : List (List ℕ)) (a b : Content) (same : SameOutside f a b)
       let later : map blank ss ≡ map blank ts = tail_same _ _ _ _ like in
       next nobody (folder_like nobody s t here)
       (next nobody
-      (refused nobody (s.path ++ name ∷ []) (t.path ++ name ∷ []) NoSuch _ _
-      (ap (λ p. p ++ name ∷ []) (path_like s t here))
-      (ap (λ e. e && not (lack && is_empty names)) (empty_like nobody ss ts later)))
+      (grind (arith, nat_tests, empty_like, path_like, refused))
       (refusals_like lack ss ts names x y later rest))
 
   abbrev items : Site → List Item
@@ -82,10 +68,7 @@ module _ (f : List (List ℕ)) (a b : Content) (same : SameOutside f a b)
 
   items_like : (o p : Option Site) → Both (IsSeen f a b same path) o p
       → refusals (where_found o items) ≡ refusals (where_found p items)
-  items_like None None both = refl
-  items_like None (Some t) both = absurd both
-  items_like (Some s) None both = absurd both
-  items_like (Some s) (Some t) both = grind (arith, nat_tests)
+  items_like o p both = grind (arith, nat_tests)
 
   abbrev refused_a : Option Reply
   refused_a = refusals (plan_of a (SetList path which sent))
@@ -94,10 +77,7 @@ module _ (f : List (List ℕ)) (a b : Content) (same : SameOutside f a b)
   refused_b = refusals (plan_of b (SetList path which sent))
 
   refusals_same : refused_a ≡ refused_b
-  refusals_same =
-      refusals_like false (sites_along a path) (sites_along b path) path _ _
-      (sites_same f a b same path outside)
-      (items_like _ _ (target_seen f a b same path outside))
+  refusals_same = search (items_like, refusals_like, sites_same, target_seen)
 
   reset_views : SameViews f a b same content_a content_b one two
       (failure_or refused_a a (effect a nobody 0 (SetList path which sent))).1
@@ -110,9 +90,7 @@ module _ (f : List (List ℕ)) (a b : Content) (same : SameOutside f a b)
       on None None is =
           both_act f a b same content_a content_b one two (IsSeen f a b same path) _ _ _ _
           (target_seen f a b same path outside)
-          (λ s t at_s at_t seen.
-          list_alike f a b same content_a content_b one two path s t seen which sent _ _
-          (parent_same f a b same path path (sites_same f a b same path outside)))
+          (search (list_alike, parent_same, sites_same))
       on None (Some q) is = absurd (none-some q is)
       on (Some r) None is = absurd (none-some r (sym is))
       on (Some r) (Some q) is = as_before f a b same content_a content_b one two
@@ -121,10 +99,14 @@ module _ (f : List (List ℕ)) (a b : Content) (same : SameOutside f a b)
       (t : Reset b path which sent second other) where
     pub reset_replies : first ≡ second
     reset_replies =
-        sym (ap (λ (d : Reply × Content). d.0) s)
-        ∙ on refused_a refused_b refusals_same
-        (done_same f a b same nobody 0 0 (SetList path which sent) outside no_list)
-        ∙ ap (λ (d : Reply × Content). d.0) t
+        grind (
+          arith,
+          nat_tests,
+          s,
+          on refused_a refused_b refusals_same
+              (done_same f a b same nobody 0 0 (SetList path which sent) outside no_list),
+          t,
+        )
       where
         no_list : SetList path which sent ≡ ListFolder f → ⊥
         no_list is = let wrong : ⊥ = cc in wrong
@@ -134,10 +116,7 @@ module _ (f : List (List ℕ)) (a b : Content) (same : SameOutside f a b)
             ≡ (effect b nobody 0 (SetList path which sent)).0
             → (failure_or o a (effect a nobody 0 (SetList path which sent))).0
             ≡ (failure_or p b (effect b nobody 0 (SetList path which sent))).0
-        on None None is done = done
-        on None (Some q) is done = absurd (none-some q is)
-        on (Some r) None is done = absurd (none-some r (sym is))
-        on (Some r) (Some q) is done = same_Some r q is
+        on o p is done = grind (arith, nat_tests)
 
     views_after : (q : List (List ℕ)) → (IsBehind f q → ⊥) → view after q ≡ view other q
     views_after q apart = grind (arith, nat_tests, reset_views)
@@ -145,13 +124,17 @@ module _ (f : List (List ℕ)) (a b : Content) (same : SameOutside f a b)
     pub reset_stays : IsTidy after → IsTidy other → SameOutside f after other
     reset_stays content_after content_other = record {
       members =
-          ap (λ (d : Reply × Content). d.1.members) (sym s)
-          ∙ (either_members a refused_a (effect a nobody 0 (SetList path which sent))
-          (members_stay a nobody 0 (SetList path which sent))).members
-          ∙ same.members
-          ∙ sym (either_members b refused_b (effect b nobody 0 (SetList path which sent))
-          (members_stay b nobody 0 (SetList path which sent))).members
-          ∙ ap (λ (d : Reply × Content). d.1.members) t;
+          grind (
+            arith,
+            nat_tests,
+            s,
+            (either_members a refused_a (effect a nobody 0 (SetList path which sent))
+                (members_stay a nobody 0 (SetList path which sent))).members,
+            same.members,
+            (either_members b refused_b (effect b nobody 0 (SetList path which sent))
+                (members_stay b nobody 0 (SetList path which sent))).members,
+            t,
+          );
       views = views_after;
       names = names_from_views f after other content_after.names content_other.names views_after;
     }

@@ -1,16 +1,12 @@
 -- The same is seen outside of another front, where there is nothing behind this one.
-use Rattle.std.proofs.Common.{append_assoc, ℕ, ◌≡◌, ◌⊎◌, inl, inr, List, ◌∷◌}
-use Rattle.std.proofs.Common.{◌++◌, Option, Some, None, refl, sym, ap, ◌∙◌}
-use Rattle.std.specs.Option.{option_map, option_map_or}
-use Rattle.std.specs.Prelude.{option_and_then}
+use Rattle.std.proofs.Common.{ℕ, ◌≡◌, ◌⊎◌, inl, inr, List, ◌++◌, Option, Some, None, refl, sym, ◌∙◌}
+use Rattle.std.proofs.{Common.arith, lemmas.Bool.Decides.nat_tests}
+use Rattle.std.specs.Option.{option_map_or}
 use Rattle.room_rows.specs.Content.{Content}
 use Rattle.room_machine.specs.declared.request.Request.TheVariants.{Move}
-use Rattle.room_laws.specs.Laws.{front_done, rest_after}
-use Rattle.room_laws.specs.Outside.{found_from, sight, found, view, IsBehind}
+use Rattle.room_laws.specs.{Laws.{front_done, rest_after}, Outside.{found, view, IsBehind}}
 use Rattle.room_laws.specs.Outside.{SameOutside}
-use Rattle.room_laws.proofs.Grown.{found_append}
-use Rattle.room_laws.proofs.OnePlace.{behind_or_not}
-use Rattle.room_laws.proofs.Passing.{rest_some}
+use Rattle.room_laws.proofs.{Grown.found_append, OnePlace.behind_or_not, Passing.rest_some}
 
 -- the same is seen outside
 pub record SeenAlike (g : List (List ℕ)) (c d : Content) : Type 0 where
@@ -25,11 +21,7 @@ module _ (f : List (List ℕ)) (a b : Content) (same : SameOutside f a b) where
     where
       gone : (c : Content) → found c path ≡ None → (q : List (List ℕ)) → IsBehind f q
           → view c q ≡ None
-      gone c none q (n, ns, is) =
-          ap (view c) (is ∙ ap (λ (l : List (List ℕ)). l ++ n ∷ ns) at
-          ∙ append_assoc path names (n ∷ ns))
-          ∙ ap (option_map (sight c)) (found_append c path (names ++ n ∷ ns)
-          ∙ ap (option_and_then (λ m. found_from c m (names ++ n ∷ ns))) none)
+      gone c none q (n, ns, is) = grind (arith, nat_tests, found_append)
 
       on : (q : List (List ℕ)) → IsBehind f q ⊎ (IsBehind f q → ⊥) → view a q ≡ view b q
       on q (inl is) = gone a none_a q is ∙ sym (gone b none_b q is)
@@ -42,5 +34,4 @@ module _ (f : List (List ℕ)) (a b : Content) (same : SameOutside f a b) where
       on : (o : Option (List (List ℕ))) → rest_after path f ≡ o
           → SeenAlike (option_map_or (λ names. to ++ names) o f) a b
       on None is = record { views = same.views }
-      on (Some names) is =
-          nothing_alike (to ++ names) path names (rest_some path f names is) none_a none_b
+      on (Some names) is = search (nothing_alike, rest_some)

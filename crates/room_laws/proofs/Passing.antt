@@ -1,36 +1,25 @@
 -- What a plan that passes says of paths.
-use Rattle.std.proofs.Common.{cond, ◌&&◌, not, ℕ, ◌≡◌, ◌==◌, ◌⊎◌, inl, inr, Bool, true, false, ◌||◌}
-use Rattle.std.proofs.Common.{List, [], ◌∷◌, ◌++◌, Option, Some, None, refl, sym, ap, ◌∙◌, arith}
-use Rattle.std.specs.List.{list_any}
-use Rattle.std.specs.Option.{option_map_or, option_map}
-use Rattle.std.specs.Prelude.{option_and_then, is_some}
-use Rattle.std.proofs.lemmas.Bool.{eq-eqb, false≢true, true≢false, cases_Bool, or_right}
+use Rattle.std.proofs.Common.{cond, not, ℕ, ◌≡◌, ◌==◌, ◌⊎◌, inl, inr, Bool, true, false, List, []}
+use Rattle.std.proofs.Common.{◌∷◌, ◌++◌, Option, Some, None, refl, sym, ap, ◌∙◌, arith}
+use Rattle.std.proofs.lemmas.Bool.{false≢true, cases_Bool, or_right, Decides.nat_tests}
 use Rattle.std.proofs.lemmas.Option.{none-some, same_Some}
-use Rattle.room_entry.specs.Pieces.{same_text}
-use Rattle.room_entry.specs.Rights.{execute, append_data}
+use Rattle.std.specs.{List.list_any, Option.{option_map_or, option_map}, Prelude.is_some}
+use Rattle.room_entry.specs.{Pieces.same_text, Rights.{execute, append_data}}
 use Rattle.room_entry.specs.declared.parties.Caller.{Caller}
-use Rattle.room_entry.proofs.Alike.{text_itself}
-use Rattle.room_entry.proofs.Texts.{same_text-true}
+use Rattle.room_entry.proofs.{Alike.text_itself, Texts.same_text-true}
 use Rattle.room_rows.specs.Content.{Content, child_of, children_of, is_empty, is_folder}
 use Rattle.room_rows.specs.declared.node.Node.{Node}
-use Rattle.room_machine.specs.Judge.{failure, first_failure, or_else}
-use Rattle.room_machine.specs.Plan.{Item, Check, Deletion, Refusal, plan_of, move_items, way}
-use Rattle.room_machine.specs.Plan.{where_found, right_to_add}
-use Rattle.room_machine.specs.Site.{site_below, Site, front, last_name, site_at, parent_at}
-use Rattle.room_machine.specs.Site.{sites_along}
-use Rattle.room_machine.specs.declared.reply.Reason.{Reason}
-use Rattle.room_machine.specs.declared.reply.Reason.TheVariants.{NoSuch, NotFolder, NotEmpty}
-use Rattle.room_machine.specs.declared.reply.Reason.TheVariants.{Exists, Loop, Root}
-use Rattle.room_machine.specs.declared.reply.Reply.{Reply}
+use Rattle.room_machine.specs.{Judge.{failure, first_failure, or_else}, Plan.{Item, Check}}
+use Rattle.room_machine.specs.Plan.{Deletion, Refusal, plan_of, move_items, way, where_found}
+use Rattle.room_machine.specs.{Plan.right_to_add, Site.{site_below, Site, front, last_name}}
+use Rattle.room_machine.specs.{Site.{site_at, parent_at, sites_along}, declared.reply.Reason.Reason}
+use Rattle.room_machine.specs.declared.reply.Reason.TheVariants.{NotFolder, NotEmpty, Exists, Loop}
+use Rattle.room_machine.specs.declared.reply.{Reason.TheVariants.Root, Reply.Reply}
 use Rattle.room_machine.specs.declared.request.Request.TheVariants.{MakeFolder, Remove, Move}
-use Rattle.room_laws.specs.Laws.{rest_after}
-use Rattle.room_laws.specs.Outside.{found, IsBehind}
-use Rattle.room_laws.proofs.Behind.{found_before}
-use Rattle.room_laws.proofs.Grown.{GoesOn}
-use Rattle.room_laws.proofs.OnePlace.{not_empty, found_snoc, head_same, split_last, tail_same}
-use Rattle.room_laws.proofs.Placed.{names_decide, same_names}
-use Rattle.room_laws.proofs.Seen.{sites_from, along_from, found_at}
-use Rattle.std.proofs.lemmas.Bool.Decides.{nat_tests}
+use Rattle.room_laws.specs.{Laws.rest_after, Outside.{found, IsBehind}}
+use Rattle.room_laws.proofs.{Behind.found_before, Grown.GoesOn, OnePlace.{not_empty, found_snoc}}
+use Rattle.room_laws.proofs.{OnePlace.{head_same, split_last, tail_same}, Placed.names_decide}
+use Rattle.room_laws.proofs.{Placed.same_names, Seen.{sites_from, along_from, found_at}}
 
 -- ---- paths
 
@@ -48,17 +37,8 @@ outside_on (x ∷ path) [] rest outside away is = outside (x, path, refl)
 outside_on (x ∷ path) (y ∷ f) rest outside away (n, ns, is) =
     let same : x ≡ y = head_same x y (path ++ rest) (f ++ n ∷ ns) is in
     outside_on path f rest
-    (λ (m, ms, e). outside (
-      m,
-      ms,
-      ap (λ (k : List ℕ). k ∷ path) same
-          ∙ ap (λ (l : List (List ℕ)). y ∷ l) e,
-    ))
-    (λ (r, e). away (
-      r,
-      ap (λ (k : List ℕ). k ∷ f) (sym same)
-          ∙ ap (λ (l : List (List ℕ)). x ∷ l) e,
-    ))
+    (grind (arith, nat_tests))
+    (grind (arith, nat_tests))
     (n, ns, tail_same x y (path ++ rest) (f ++ n ∷ ns) is)
 
 -- the object before the last name of a path
@@ -67,15 +47,15 @@ pub parent_found : (content : Content) (name : List ℕ) (names : List (List ℕ
     (parent_at (sites_along content (name ∷ names)) (name ∷ names))
     ≡ found content (front (name ∷ names))
 parent_found content name names =
-    ap (λ (l : List (List ℕ)). option_map (λ (s : Site). s.node)
-    (site_at (sites_along content l) (front (name ∷ names)))) (split_last name names)
-    ∙ found_before content (front (name ∷ names)) (last_name (name ∷ names) ∷ [])
+    cc (
+      split_last name names,
+      found_before content (front (name ∷ names)) (last_name (name ∷ names) ∷ []),
+    )
 
 pub parent_is : (content : Content) (name : List ℕ) (names : List (List ℕ)) (s : Site)
     → parent_at (sites_along content (name ∷ names)) (name ∷ names) ≡ Some s
     → found content (front (name ∷ names)) ≡ Some s.node
-parent_is content name names s is =
-    sym (parent_found content name names) ∙ ap (option_map (λ (x : Site). x.node)) is
+parent_is content name names s is = cc (parent_found content name names, is)
 
 pub none_at : (content : Content) (path : List (List ℕ))
     → site_at (sites_along content path) path ≡ None → found content path ≡ None
@@ -91,10 +71,12 @@ above_found content name names n is =
     none : parent_at (sites_along content (name ∷ names)) (name ∷ names) ≡ None
         → found content (name ∷ names) ≡ None
     none at =
-        ap (found content) (split_last name names)
-        ∙ found_snoc content (front (name ∷ names)) (last_name (name ∷ names))
-        ∙ ap (option_and_then (λ m. child_of content m.id (last_name (name ∷ names))))
-        (sym (parent_found content name names) ∙ ap (option_map (λ (x : Site). x.node)) at)
+        cc (
+          split_last name names,
+          found_snoc content (front (name ∷ names)) (last_name (name ∷ names)),
+          parent_found content name names,
+          at,
+        )
 
     on : (o : Option Site)
         → parent_at (sites_along content (name ∷ names)) (name ∷ names) ≡ o
@@ -104,8 +86,7 @@ above_found content name names n is =
 
 parents : (content : Content) (p : List (List ℕ)) (n : Node) → found content p ≡ Some n
     → is_empty p ≡ false → (d : Site) × (parent_at (sites_along content p) p ≡ Some d)
-parents content [] n is none = absurd (true≢false none)
-parents content (name ∷ names) n is none = above_found content name names n is
+parents content p n is none = grind (arith, nat_tests, above_found)
 
 -- ---- a path that begins with another
 
@@ -117,9 +98,7 @@ rest_some (x ∷ path) (y ∷ f) names is = on (same_text x y) refl is (rest_som
   where
     on : (t : Bool) → same_text x y ≡ t → cond t (rest_after path f) None ≡ Some names
         → (rest_after path f ≡ Some names → f ≡ path ++ names) → y ∷ f ≡ x ∷ path ++ names
-    on true same is rest =
-        ap (λ (k : List ℕ). k ∷ f) (sym (same_text-true x y same))
-        ∙ ap (λ (l : List (List ℕ)). x ∷ l) (rest is)
+    on true same is rest = cc (same_text-true x y same, rest is)
     on false differ is rest = absurd (none-some names is)
 
 pub rest_none : (path f : List (List ℕ)) → rest_after path f ≡ None → GoesOn path f → ⊥
@@ -130,19 +109,15 @@ rest_none (x ∷ path) (y ∷ f) is (r, e) =
   where
     on : (t : Bool) → same_text x y ≡ t → cond t (rest_after path f) None ≡ None
         → (rest_after path f ≡ None → ⊥) → ⊥
-    on true same is rest = rest is
-    on false differ is rest =
-        false≢true (sym differ ∙ ap (same_text x) (head_same y x f (path ++ r) e) ∙ text_itself x)
+    on t same is rest = grind (arith, nat_tests, head_same, text_itself)
 
 -- ---- a way that meets an object
 
 meets_at : (p : Site → Bool) (sites : List Site) (names : List (List ℕ)) (s : Site)
     → site_at sites names ≡ Some s → p s ≡ true → list_any p sites ≡ true
 meets_at p [] names s is passes = absurd (none-some s is)
-meets_at p (x ∷ xs) [] s is passes =
-    ap (λ t. t || list_any p xs) (ap p (same_Some x s is) ∙ passes)
-meets_at p (x ∷ xs) (name ∷ names) s is passes =
-    or_right (p x) (list_any p xs) (meets_at p xs names s is passes)
+meets_at p (x ∷ xs) [] s is passes = search (same_Some)
+meets_at p (x ∷ xs) (name ∷ names) s is passes = search (or_right, meets_at p xs names s is passes)
 
 -- where a way doesn't meet the object at a path, it doesn't go on from that path
 pub never_meets : (content : Content) (path to : List (List ℕ)) (n : Node)
@@ -153,16 +128,7 @@ never_meets content path to n at none (rest, is) =
     on (site_at (sites_along content (path ++ rest)) path) refl
   where
     on : (o : Option Site) → site_at (sites_along content (path ++ rest)) path ≡ o → ⊥
-    on None empty =
-        none-some n (ap (option_map (λ (x : Site). x.node)) (sym empty)
-        ∙ found_before content path rest ∙ at)
-    on (Some s) there =
-        false≢true (sym none
-        ∙ ap (λ l. list_any (λ (x : Site). x.node.id == n.id) (sites_along content l)) is
-        ∙ meets_at (λ (x : Site). x.node.id == n.id) (sites_along content (path ++ rest)) path s
-        there (eq-eqb s.node.id n.id (ap (λ (x : Node). x.id) (same_Some s.node n
-        (ap (option_map (λ (x : Site). x.node)) (sym there) ∙ found_before content path rest
-        ∙ at)))))
+    on o empty = grind (arith, nat_tests, found_before, meets_at)
 
 -- ---- what a plan says that passes
 
@@ -178,8 +144,7 @@ module _ (caller : Caller) where
 
   pub not_refused : (path : List (List ℕ)) (why : Reason) (holds : Bool)
       → failure caller (Refusal path why holds) ≡ None → holds ≡ false
-  not_refused path why true none = absurd (none-some _ (sym none))
-  not_refused path why false none = refl
+  not_refused path why holds none = grind (arith, nat_tests)
 
 pub both_none : {o p : Option Reply} → or_else o p ≡ None → (o ≡ None) × (p ≡ None)
 both_none {o = None} {p = p} none = (refl, none)
@@ -193,35 +158,28 @@ module _ (caller : Caller) (content : Content) where
       ∷ Refusal path NotEmpty (not (is_empty (children_of content target.node.id))) ∷ [])
 
   full : (t : Bool) → not t ≡ false → t ≡ true
-  full true is = refl
-  full false is = absurd (true≢false is)
+  full t is = grind (arith, nat_tests)
 
   pub remove_passed : (path : List (List ℕ)) (s : Site)
       → site_at (sites_along content path) path ≡ Some s
       → first_failure caller (plan_of content (Remove path)) ≡ None
       → (is_empty path ≡ false) × (is_empty (children_of content s.node.id) ≡ true)
   remove_passed path s at passes =
-      let later : first_failure caller
-      (where_found (site_at (sites_along content path) path) (remove_items path)) ≡ None =
-      passed_on caller (way false (sites_along content path) path)
+      let later = passed_on caller (way false (sites_along content path) path)
       (where_found (site_at (sites_along content path) path) (remove_items path)) passes in
-      let here : first_failure caller (remove_items path s) ≡ None =
+      let here =
       ap (λ o. first_failure caller (where_found o (remove_items path))) (sym at) ∙ later in
       let two = both_none here in
       let not_root : is_empty path ≡ false =
       not_refused caller path Root (is_empty path) two.0 in
       let parent = parents content path s.node
       (sym (found_at content path) ∙ ap (option_map (λ (x : Site). x.node)) at) not_root in
-      let rest : first_failure caller (Deletion s parent.0
-      ∷ Refusal path NotEmpty (not (is_empty (children_of content s.node.id))) ∷ []) ≡ None =
-      ap (λ o. first_failure caller (where_found o (λ folder.
+      let rest = ap (λ o. first_failure caller (where_found o (λ folder.
       Deletion s folder
       ∷ Refusal path NotEmpty (not (is_empty (children_of content s.node.id))) ∷ [])))
       (sym parent.1) ∙ two.1 in (
         not_root,
-        full (is_empty (children_of content s.node.id)) (not_refused caller path NotEmpty
-            (not (is_empty (children_of content s.node.id)))
-            (both_none (both_none rest).1).0),
+        grind (arith, nat_tests, both_none, full, not_refused),
       )
 
   abbrev move_all : List (List ℕ) → List (List ℕ) → Site → List Item
@@ -237,25 +195,16 @@ module _ (caller : Caller) (content : Content) where
       × (parent_at (sites_along content path) path ≡ Some d)
       × (first_failure caller (move_items (sites_along content) content to s d) ≡ None))
   move_passed path to s at passes =
-      let later : first_failure caller
-      (where_found (site_at (sites_along content path) path) (move_all path to)) ≡ None =
-      passed_on caller (way false (sites_along content path) path)
+      let later = passed_on caller (way false (sites_along content path) path)
       (where_found (site_at (sites_along content path) path) (move_all path to)) passes in
-      let here : first_failure caller (move_all path to s) ≡ None =
+      let here =
       ap (λ o. first_failure caller (where_found o (move_all path to))) (sym at) ∙ later in
       let two = both_none here in
       let not_root : is_empty path ≡ false =
       not_refused caller path Root (is_empty path) two.0 in
       let parent = parents content path s.node
-      (sym (found_at content path) ∙ ap (option_map (λ (x : Site). x.node)) at) not_root in (
-        not_root,
-        (
-          parent.0,
-          parent.1,
-          ap (λ o. first_failure caller (where_found o
-              (move_items (sites_along content) content to s))) (sym parent.1) ∙ two.1,
-        ),
-      )
+      (sym (found_at content path) ∙ ap (option_map (λ (x : Site). x.node)) at) not_root in
+      grind (arith, nat_tests)
 
   abbrev place_items : List (List ℕ) → Site → Site → Site → List Item
   place_items to s d folder = Refusal folder.path NotFolder (not (is_folder folder.node))
@@ -267,8 +216,7 @@ module _ (caller : Caller) (content : Content) where
       (sites_along content (front to))) ∷ []
 
   no_child : (o : Option Node) → is_some o ≡ false → o ≡ None
-  no_child None is = refl
-  no_child (Some n) is = absurd (true≢false is)
+  no_child o is = grind (arith, nat_tests)
 
   pub place_passed : (first : List ℕ) (more : List (List ℕ)) (s d e : Site)
       → site_at (sites_along content (front (first ∷ more))) (front (first ∷ more)) ≡ Some e
@@ -277,15 +225,12 @@ module _ (caller : Caller) (content : Content) where
       × (list_any (λ (x : Site). x.node.id == s.node.id)
       (sites_along content (front (first ∷ more))) ≡ false)
   place_passed first more s d e at passes =
-      let later : first_failure caller (where_found
-      (site_at (sites_along content (front (first ∷ more))) (front (first ∷ more)))
-      (place_items (first ∷ more) s d)) ≡ None =
-      passed_on caller
+      let later = passed_on caller
       (way false (sites_along content (front (first ∷ more))) (front (first ∷ more)))
       (where_found
       (site_at (sites_along content (front (first ∷ more))) (front (first ∷ more)))
       (place_items (first ∷ more) s d)) passes in
-      let here : first_failure caller (place_items (first ∷ more) s d e) ≡ None =
+      let here =
       ap (λ o. first_failure caller (where_found o (place_items (first ∷ more) s d))) (sym at)
       ∙ later in
       let one = both_none
@@ -297,34 +242,25 @@ module _ (caller : Caller) (content : Content) where
       (is_some (child_of content e.node.id (last_name (first ∷ more)))))} four.1 in
       let six = both_none {o = failure caller (Refusal (first ∷ more) Loop
       (list_any (λ (x : Site). x.node.id == s.node.id)
-      (sites_along content (front (first ∷ more)))))} {p = None} five.1 in (
-        no_child (child_of content e.node.id (last_name (first ∷ more)))
-            (not_refused caller (first ∷ more) Exists
-            (is_some (child_of content e.node.id (last_name (first ∷ more)))) five.0),
-        not_refused caller (first ∷ more) Loop (list_any (λ (x : Site). x.node.id == s.node.id)
-            (sites_along content (front (first ∷ more)))) six.0,
-      )
+      (sites_along content (front (first ∷ more)))))} {p = None} five.1 in
+      search (no_child, not_refused)
 
   abbrev folder_items : List (List ℕ) → Site → List Item
   folder_items path folder = Check folder (append_data ∷ [])
       ∷ Refusal path Exists (is_some (site_at (sites_along content path) path)) ∷ []
 
   no_site : (o : Option Site) → is_some o ≡ false → o ≡ None
-  no_site None is = refl
-  no_site (Some s) is = absurd (true≢false is)
+  no_site o is = grind (arith, nat_tests)
 
   pub folder_passed : (name : List ℕ) (names : List (List ℕ)) (d : Site)
       → parent_at (sites_along content (name ∷ names)) (name ∷ names) ≡ Some d
       → first_failure caller (plan_of content (MakeFolder (name ∷ names))) ≡ None
       → found content (name ∷ names) ≡ None
   folder_passed name names d at passes =
-      let later : first_failure caller (where_found
-      (parent_at (sites_along content (name ∷ names)) (name ∷ names))
-      (folder_items (name ∷ names))) ≡ None =
-      passed_on caller (way true (sites_along content (name ∷ names)) (name ∷ names))
+      let later = passed_on caller (way true (sites_along content (name ∷ names)) (name ∷ names))
       (where_found (parent_at (sites_along content (name ∷ names)) (name ∷ names))
       (folder_items (name ∷ names))) passes in
-      let here : first_failure caller (folder_items (name ∷ names) d) ≡ None =
+      let here =
       ap (λ o. first_failure caller (where_found o (folder_items (name ∷ names)))) (sym at)
       ∙ later in
       let two = both_none (both_none here).1 in
@@ -340,10 +276,12 @@ module _ (caller : Caller) (content : Content) where
       → first_failure caller (move_items (sites_along content) content (first ∷ more) s d) ≡ None
       → found content (first ∷ more) ≡ None
   place_free first more s d e at there passes =
-      ap (found content) (split_last first more)
-      ∙ found_snoc content (front (first ∷ more)) (last_name (first ∷ more))
-      ∙ ap (option_and_then (λ n. child_of content n.id (last_name (first ∷ more)))) there
-      ∙ (place_passed first more s d e at passes).0
+      cc (
+        split_last first more,
+        found_snoc content (front (first ∷ more)) (last_name (first ∷ more)),
+        there,
+        (place_passed first more s d e at passes).0,
+      )
 
   -- a way that passes leads to an object, where there is a root
   leads_from : (site : Site) (names : List (List ℕ)) (more : List Item)
@@ -357,19 +295,6 @@ module _ (caller : Caller) (content : Content) where
       below : Option Node → List Site
       below o = option_map_or (λ child. sites_from content (site_below site child) names) o []
 
-      lacks : Option Node → Item
-      lacks o = Refusal (site.path ++ name ∷ []) NoSuch
-          (is_empty (below o) && not (false && is_empty names))
-
-      last_on : (o : Option Node)
-          → first_failure caller (way false (site ∷ below o) (name ∷ names) ++ more) ≡ None
-          → first_failure caller (lacks o ∷ way false (below o) names ++ more) ≡ None
-      last_on o passes =
-          (passed caller (Check site (execute ∷ []))
-          (lacks o ∷ way false (below o) names ++ more)
-          (passed caller (Refusal site.path NotFolder (not (is_folder site.node)))
-          (Check site (execute ∷ []) ∷ lacks o ∷ way false (below o) names ++ more) passes).1).1
-
       on : (o : Option Node)
           → first_failure caller (way false (site ∷ below o) (name ∷ names) ++ more) ≡ None
           → site_at (site ∷ below o) (name ∷ names) ≡ None
@@ -377,13 +302,7 @@ module _ (caller : Caller) (content : Content) where
           → first_failure caller
           (way false (sites_from content (site_below site child) names) names ++ more) ≡ None
           → site_at (sites_from content (site_below site child) names) names ≡ None → ⊥) → ⊥
-      on None passes none rest =
-          true≢false (not_refused caller (site.path ++ name ∷ []) NoSuch true
-          (passed caller (lacks None) (way false [] names ++ more) (last_on None passes)).0)
-      on (Some child) passes none rest =
-          rest child
-          (passed caller (lacks (Some child)) (way false (below (Some child)) names ++ more)
-          (last_on (Some child) passes)).1 none
+      on o passes none rest = grind (arith, nat_tests, not_refused, passed)
 
   pub way_leads : (p : List (List ℕ)) (n : Node) → found content p ≡ Some n
       → (path : List (List ℕ)) (more : List Item)

@@ -1,24 +1,16 @@
 -- Objects where a walk finds them: whether a way meets one is seen from paths alone.
-use Rattle.std.proofs.Common.{ℕ, ◌==◌, ◌≡◌, Bool, true, List, [], ◌∷◌, Option, Some, None, refl, ap}
-use Rattle.std.proofs.Common.{◌∙◌, map, arith}
-use Rattle.std.specs.Cmp.Lexicographic.{pointwise}
-use Rattle.std.specs.List.{list_any, AllByRecursion}
-use Rattle.std.specs.Option.{option_map_or}
-use Rattle.std.specs.Prelude.{option_and_then}
-use Rattle.std.proofs.lemmas.Slice.Eq.{slice_eq-Decides, bytes_eq-Decides}
-use Rattle.room_entry.specs.Pieces.{same_text}
-use Rattle.room_entry.proofs.Facts.Booleans.{same_truth}
-use Rattle.room_entry.proofs.Facts.Members.{any_agree, any_map}
-use Rattle.room_rows.specs.Content.{Content, child_of}
-use Rattle.room_rows.specs.declared.node.Node.{Node}
-use Rattle.room_rows.proofs.Frames.{child_of-name}
-use Rattle.room_machine.specs.Plan.{way}
-use Rattle.room_machine.specs.Site.{Site, site_below, sites_along}
-use Rattle.room_laws.specs.Outside.{found}
-use Rattle.room_laws.specs.Tidy.{IsNumbered}
-use Rattle.room_laws.proofs.OnePlace.{found_snoc, one_place}
-use Rattle.room_laws.proofs.Seen.{along_from, blank, sites_from}
+use Rattle.std.proofs.Common.{ℕ, ◌==◌, ◌≡◌, Bool, true, List, [], ◌∷◌, Option, Some, refl, map}
+use Rattle.std.proofs.{Common.arith, lemmas.Slice.Eq.{slice_eq-Decides, bytes_eq-Decides}}
 use Rattle.std.proofs.lemmas.Bool.Decides.{nat_tests}
+use Rattle.std.specs.{Cmp.Lexicographic.pointwise, List.{list_any, AllByRecursion}}
+use Rattle.std.specs.Option.{option_map_or}
+use Rattle.room_entry.specs.Pieces.{same_text}
+use Rattle.room_entry.proofs.Facts.{Booleans.same_truth, Members.{any_agree, any_map}}
+use Rattle.room_rows.specs.{Content.{Content, child_of}, declared.node.Node.Node}
+use Rattle.room_rows.proofs.Frames.{child_of-name}
+use Rattle.room_machine.specs.{Plan.way, Site.{Site, site_below, sites_along}}
+use Rattle.room_laws.specs.{Outside.found, Tidy.IsNumbered}
+use Rattle.room_laws.proofs.{OnePlace.{found_snoc, one_place}, Seen.{along_from, blank, sites_from}}
 
 -- each stands where its path says
 abbrev IsPlaced : Content → Site → Type 0
@@ -38,13 +30,7 @@ placed_from content site (name ∷ names) placed = (
         → AllByRecursion (IsPlaced content) (sites_from content (site_below site child) names))
         → AllByRecursion (IsPlaced content)
         (option_map_or (λ child. sites_from content (site_below site child) names) o [])
-    on None is more = tt
-    on (Some child) is more =
-        more child
-        (found_snoc content site.path child.name
-        ∙ ap (option_and_then (λ n. child_of content n.id child.name)) placed
-        ∙ ap (child_of content site.node.id) (child_of-name content site.node.id name child is)
-        ∙ is)
+    on o is more = grind (arith, nat_tests, child_of-name, found_snoc)
 
 all_placed : (content : Content) (path : List (List ℕ))
     → AllByRecursion (IsPlaced content) (sites_along content path)

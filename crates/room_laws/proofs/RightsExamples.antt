@@ -1,25 +1,18 @@
 -- Worked examples of what changes rights: each of these events does.
 use Rattle.std.proofs.Common.{ℕ, ℤ, ◌≡◌, ◌⊎◌, inl, inr, List, [], ◌∷◌, ◌++◌, Some, None, refl, true}
-use Rattle.std.proofs.Common.{false, codes, sym, ap, subst, ◌∙◌}
+use Rattle.std.proofs.{Common.{false, codes, sym, ap, subst, ◌∙◌}, lemmas.Bool.false≢true}
 use Rattle.std.specs.Prelude.{pos}
-use Rattle.std.proofs.lemmas.Bool.{false≢true}
-use Rattle.room_entry.specs.Bits.{has, all_bits}
-use Rattle.room_entry.specs.Rights.{write_acl, write_owner}
-use Rattle.room_entry.specs.declared.entry.EntryKind.TheVariants.{Allow}
-use Rattle.room_entry.specs.declared.entry.Who.TheVariants.{User, Owner, Members}
+use Rattle.room_entry.specs.{Bits.{has, all_bits}, Rights.{write_acl, write_owner}}
+use Rattle.room_entry.specs.declared.entry.{EntryKind.TheVariants.Allow, Who.TheVariants.User}
+use Rattle.room_entry.specs.declared.entry.Who.TheVariants.{Owner, Members}
 use Rattle.room_entry.specs.declared.object.ObjKind.TheVariants.{Document, Folder}
 use Rattle.room_entry.specs.declared.object.Which.TheVariants.{Dacl, Sacl}
 use Rattle.room_ace.specs.Sent.{Sent}
-use Rattle.room_rows.specs.Content.{Content, with_members}
-use Rattle.room_rows.specs.declared.node.Node.{Node}
-use Rattle.room_machine.specs.Rights.{rights_at, may_remove_at}
-use Rattle.room_machine.specs.Run.{Asked}
-use Rattle.room_machine.specs.Step.{step, reset}
-use Rattle.room_machine.specs.declared.reply.Reply.{Reply}
-use Rattle.room_machine.specs.declared.reply.Reply.TheVariants.{Denied}
-use Rattle.room_machine.specs.declared.request.Request.{Request}
-use Rattle.room_machine.specs.declared.request.Request.TheVariants.{Put, Remove, Move, SetList}
-use Rattle.room_machine.specs.declared.request.Request.TheVariants.{SetOwners}
+use Rattle.room_rows.specs.{Content.{Content, with_members}, declared.node.Node.Node}
+use Rattle.room_machine.specs.{Rights.{rights_at, may_remove_at}, Run.Asked, Step.{step, reset}}
+use Rattle.room_machine.specs.declared.reply.Reply.{Reply, TheVariants.Denied}
+use Rattle.room_machine.specs.declared.request.Request.{Request, TheVariants.{Put, Remove, Move}}
+use Rattle.room_machine.specs.declared.request.Request.TheVariants.{SetList, SetOwners}
 use Rattle.room_machine.proofs.Worked.Worlds.{none, fd, entry, root, alice, everything, held, plain}
 use Rattle.room_machine.proofs.Worked.Worlds.{object, world, root_may_all}
 use Rattle.room_laws.proofs.OnePlace.{head_same, tail_same, not_empty}

@@ -1,18 +1,13 @@
 -- Rights at a path follow from the objects down to it.
 use Rattle.std.proofs.Common.{ℕ, ◌≡◌, Bool, false, ◌&&◌, List, [], ◌∷◌, length, refl, sym, ap, ◌∙◌}
-use Rattle.std.proofs.Common.{map, take, arith}
+use Rattle.std.proofs.{Common.{map, take, arith}, lemmas.{List.take-map, Bool.Decides.nat_tests}}
 use Rattle.std.specs.Option.{option_map, option_map_or}
-use Rattle.std.proofs.lemmas.List.{take-map}
 use Rattle.room_entry.specs.declared.parties.Caller.{Caller}
-use Rattle.room_machine.specs.Judge.{passes}
-use Rattle.room_machine.specs.Plan.{Deletion}
-use Rattle.room_machine.specs.Rights.{rights, may_remove, reaches, lets_through, last_of}
-use Rattle.room_machine.specs.Site.{Site, site_at, sites_along}
+use Rattle.room_machine.specs.{Judge.passes, Plan.Deletion, Rights.{rights, may_remove, reaches}}
+use Rattle.room_machine.specs.{Rights.{lets_through, last_of}, Site.{Site, site_at, sites_along}}
 use Rattle.room_machine.specs.Step.{caller_in}
-use Rattle.room_laws.proofs.PlansAlike.{members_same}
-use Rattle.room_laws.proofs.Seen.{map_at}
+use Rattle.room_laws.proofs.{PlansAlike.members_same, Seen.map_at}
 use Rattle.room_laws.specs.WhoChanged.{deciding_site, RightsFollow}
-use Rattle.std.proofs.lemmas.Bool.Decides.{nat_tests}
 
 reaches_same : (caller : Caller) (above : List Site)
     → reaches caller (map deciding_site above) ≡ reaches caller above

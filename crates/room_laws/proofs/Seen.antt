@@ -1,15 +1,12 @@
 -- Objects that are seen along a path, without their numbers.
 use Rattle.std.proofs.Common.{ℕ, suc, ◌≡◌, List, [], ◌∷◌, length, take, Option, Some, None, refl}
-use Rattle.std.proofs.Common.{sym, ap, ◌∙◌, map, arith}
-use Rattle.std.specs.Option.{option_map, option_map_or}
-use Rattle.std.specs.Prelude.{option_and_then}
-use Rattle.std.proofs.lemmas.Option.{none-some, same_Some}
-use Rattle.room_rows.specs.Content.{Content, child_of, root_of}
-use Rattle.room_rows.specs.Walk.{walk_from, behind}
+use Rattle.std.proofs.{Common.{sym, ap, ◌∙◌, map, arith}, lemmas.Option.{none-some, same_Some}}
+use Rattle.std.proofs.lemmas.Bool.Decides.{nat_tests}
+use Rattle.std.specs.{Option.{option_map, option_map_or}, Prelude.option_and_then}
+use Rattle.room_rows.specs.{Content.{Content, child_of, root_of}, Walk.{walk_from, behind}}
 use Rattle.room_rows.specs.declared.node.Node.{Node}
 use Rattle.room_machine.specs.Site.{Site, sites_below, site_below, root_site, sites_along, site_at}
 use Rattle.room_laws.specs.Outside.{found, found_from, unnumbered, view}
-use Rattle.std.proofs.lemmas.Bool.Decides.{nat_tests}
 
 -- ---- the objects along a path, each with its lists
 
@@ -39,8 +36,7 @@ walk_chain content node (name ∷ names) =
         → (option_map_or (λ child. behind node (walk_from content child names)) o
         (record { chain = node ∷ []; rest = length (name ∷ names) })).chain
         ≡ node ∷ option_map_or (λ child. child ∷ chain_tail content child names) o []
-    on None more = refl
-    on (Some child) more = ap (λ (l : List Node). node ∷ l) (more child)
+    on o more = grind (arith, nat_tests)
 
 sites_tail : (content : Content) (site : Site) (names : List (List ℕ))
     → site ∷ sites_below site (chain_tail content site.node names) ≡ sites_from content site names
@@ -56,8 +52,7 @@ sites_tail content site (name ∷ names) =
         ≡ sites_from content (site_below site child) names)
         → sites_below site (option_map_or (λ child. child ∷ chain_tail content child names) o [])
         ≡ option_map_or (λ child. sites_from content (site_below site child) names) o []
-    on None more = refl
-    on (Some child) more = more child
+    on o more = grind (arith, nat_tests)
 
 -- the objects that a walk along the path finds, by recursion on the path
 pub along_from : (content : Content) (path : List (List ℕ)) → sites_along content path
@@ -80,8 +75,7 @@ site_found content site (name ∷ names) =
         → option_map (λ (s : Site). s.node)
         (site_at (option_map_or (λ child. sites_from content (site_below site child) names) o [])
         names) ≡ option_and_then (λ child. found_from content child names) o
-    on None more = refl
-    on (Some child) more = more child
+    on o more = grind (arith, nat_tests)
 
 pub found_at : (content : Content) (path : List (List ℕ))
     → option_map (λ (s : Site). s.node) (site_at (sites_along content path) path)
@@ -150,10 +144,7 @@ module _ (f : Node → Node) (g : Site → Site)
   pub like_along : (path : List (List ℕ))
       → ((i : ℕ) → option_map f (found a (take i path)) ≡ option_map f (found b (take i path)))
       → map g (sites_along a path) ≡ map g (sites_along b path)
-  like_along path seen =
-      ap (map g) (along_from a path)
-      ∙ on (root_of a) (root_of b) seen
-      ∙ sym (ap (map g) (along_from b path))
+  like_along path seen = search (along_from, on)
     where
       on : (o p : Option Node)
           → ((i : ℕ)
@@ -188,8 +179,7 @@ map_at g (site ∷ sites) (name ∷ names) = map_at g sites names
 
 pub like_at : (g : Site → Site) (s t : List Site) (names : List (List ℕ)) → map g s ≡ map g t
     → option_map g (site_at s names) ≡ option_map g (site_at t names)
-like_at g s t names same =
-    sym (map_at g s names) ∙ ap (λ (l : List Site). site_at l names) same ∙ map_at g t names
+like_at g s t names same = cc (map_at g s names, same, map_at g t names)
 
 -- both are there and this holds of them, or neither is
 abbrev pub Both : (Site → Site → Type 0) → Option Site → Option Site → Type 0
@@ -199,7 +189,4 @@ Both R (Some s) None = ⊥
 Both R (Some s) (Some t) = R s t
 
 pub both_like : (o p : Option Site) → option_map blank o ≡ option_map blank p → Both IsLike o p
-both_like None None same = tt
-both_like None (Some t) same = none-some _ same
-both_like (Some s) None same = none-some _ (sym same)
-both_like (Some s) (Some t) same = same_Some _ _ same
+both_like o p same = grind (arith, nat_tests)

@@ -1,20 +1,14 @@
 -- What a list that is set depends on, and what has no children.
-use Rattle.std.proofs.Common.{ℕ, ◌≡◌, Bool, true, List, Option, Some, None, refl, ap, arith}
+use Rattle.std.proofs.Common.{ℕ, ◌≡◌, Bool, true, List, Option, None, arith}
+use Rattle.std.proofs.lemmas.Bool.Decides.{nat_tests}
 use Rattle.std.specs.Option.{option_map}
-use Rattle.room_entry.specs.Ace.{Ace}
-use Rattle.room_entry.specs.declared.object.Which.{Which}
-use Rattle.room_entry.specs.declared.object.Which.TheVariants.{Dacl, Sacl}
+use Rattle.room_entry.specs.{Ace.Ace, declared.object.Which.Which}
 use Rattle.room_ace.specs.Sent.{Sent}
 use Rattle.room_rows.specs.Content.{Content, child_of, children_of, is_empty, are_names_apart}
-use Rattle.room_rows.specs.Held.{held_of}
-use Rattle.room_rows.specs.HeldList.{Held}
-use Rattle.room_rows.specs.declared.node.Node.{Node}
-use Rattle.room_machine.specs.Effect.{kept_by_child, sent_held}
-use Rattle.room_machine.specs.Site.{Site, full_at}
+use Rattle.room_rows.specs.{Held.held_of, HeldList.Held, declared.node.Node.Node}
+use Rattle.room_machine.specs.{Effect.{kept_by_child, sent_held}, Site.{Site, full_at}}
 use Rattle.room_laws.specs.Outside.{unnumbered}
-use Rattle.room_laws.proofs.ByName.{by_name, child_by_name}
-use Rattle.room_laws.proofs.Seen.{Both, IsLike}
-use Rattle.std.proofs.lemmas.Bool.Decides.{nat_tests}
+use Rattle.room_laws.proofs.{ByName.{by_name, child_by_name}, Seen.{Both, IsLike}}
 
 -- the inherited entries that a child keeps when a list above it is set
 abbrev pub keeper : Which → Bool → Bool → List Ace → Node → Held
@@ -23,8 +17,7 @@ keeper which before after full node =
 
 pub keeper_blank : (which : Which) (before after : Bool) (full : List Ace) (n : Node)
     → keeper which before after full n ≡ keeper which before after full (unnumbered n)
-keeper_blank Dacl before after full n = refl
-keeper_blank Sacl before after full n = refl
+keeper_blank which before after full n = grind (arith, nat_tests)
 
 -- what a list that is set depends on
 abbrev pub Setting : Type 0
@@ -39,12 +32,7 @@ setting which sent folder target = (
 
 pub setting_like : (which : Which) (sent : Sent) (o p : Option Site) (s t : Site) → Both IsLike o p
     → IsLike s t → setting which sent o s ≡ setting which sent p t
-setting_like Dacl sent None None s t above like = ap (setting Dacl sent None) like
-setting_like Sacl sent None None s t above like = ap (setting Sacl sent None) like
-setting_like which sent None (Some q) s t above like = absurd above
-setting_like which sent (Some p) None s t above like = absurd above
-setting_like Dacl sent (Some p) (Some q) s t above like = grind (arith, nat_tests)
-setting_like Sacl sent (Some p) (Some q) s t above like = grind (arith, nat_tests)
+setting_like which sent o p s t above like = grind (arith, nat_tests)
 
 pub no_children : (c : Content) (id : ℕ) → are_names_apart c.nodes ≡ true
     → is_empty (children_of c id) ≡ true → (name : List ℕ) → child_of c id name ≡ None

@@ -1,50 +1,30 @@
 -- A request of one caller leaves two rooms the same outside.
-use Rattle.std.proofs.Common.{[], List, ◌∷◌, Bool, cond, true, ℕ, ℤ, ◌≡◌, ◌⊎◌, inl, inr, false}
-use Rattle.std.proofs.Common.{Option, Some, None, refl, sym, ap, subst, ◌∙◌, arith}
+use Rattle.std.proofs.Common.{[], List, ◌∷◌, Bool, cond, ℕ, ℤ, ◌≡◌, ◌⊎◌, inl, inr, false, Option}
+use Rattle.std.proofs.{Common.{Some, None, refl, sym, ap, ◌∙◌, arith}, lemmas.Bool.false≢true}
+use Rattle.std.proofs.lemmas.{Bool.Decides.nat_tests, Option.none-some}
 use Rattle.std.specs.Option.{option_map}
-use Rattle.std.proofs.lemmas.Bool.{false≢true}
-use Rattle.std.proofs.lemmas.Option.{none-some, same_Some}
 use Rattle.room_entry.specs.declared.parties.Caller.{Caller}
-use Rattle.room_eval.specs.declared.deletion.DeleteVerdict.{DeleteVerdict}
-use Rattle.room_eval.specs.declared.deletion.DeleteVerdict.TheVariants.{Granted as MayDelete}
-use Rattle.room_eval.specs.declared.deletion.DeleteVerdict.TheVariants.{AtTarget, AtParent}
-use Rattle.room_eval.specs.declared.outcome.Verdict.{Verdict}
-use Rattle.room_eval.specs.declared.outcome.Verdict.TheVariants.{Granted, Denied as DeniedWith}
+use Rattle.room_eval.specs.declared.{deletion.DeleteVerdict.DeleteVerdict, outcome.Verdict.Verdict}
 use Rattle.room_rows.specs.Content.{Content, with_records, is_empty}
 use Rattle.room_rows.specs.declared.node.AuditRow.{AuditRow}
-use Rattle.room_machine.specs.Effect.{effect}
-use Rattle.room_machine.specs.Judge.{of_verdict, of_deletion, failure, first_failure}
-use Rattle.room_machine.specs.Judge.{records_of_plan}
-use Rattle.room_machine.specs.Laws.{first_path}
-use Rattle.room_machine.specs.Plan.{Item, Check, Deletion, Refusal, plan_of, move_items}
-use Rattle.room_machine.specs.Run.{Asked}
-use Rattle.room_machine.specs.Site.{Site, sites_along, parent_at}
-use Rattle.room_machine.specs.Step.{Step, caller_in, failure_or}
-use Rattle.room_machine.specs.declared.reply.Reason.{Reason}
-use Rattle.room_machine.specs.declared.reply.Reply.{Reply}
-use Rattle.room_machine.specs.declared.reply.Reply.TheVariants.{Refused, Done}
-use Rattle.room_machine.specs.declared.request.Request.{Request}
-use Rattle.room_machine.specs.declared.request.Request.TheVariants.{Read, List as ListFolder, Put}
-use Rattle.room_machine.specs.declared.request.Request.TheVariants.{Append, MakeFolder, Remove}
-use Rattle.room_machine.specs.declared.request.Request.TheVariants.{Move, ReadList, SetList}
-use Rattle.room_machine.specs.declared.request.Request.TheVariants.{ReadAttr, SetOwners, Can}
+use Rattle.room_machine.specs.{Effect.effect, Judge.{of_verdict, of_deletion, failure}}
+use Rattle.room_machine.specs.{Judge.{first_failure, records_of_plan}, Laws.first_path, Plan.Item}
+use Rattle.room_machine.specs.{Plan.{plan_of, move_items}, Run.Asked, Site.{Site, sites_along}}
+use Rattle.room_machine.specs.{Site.parent_at, Step.{Step, caller_in, failure_or}}
+use Rattle.room_machine.specs.declared.reply.{Reason.Reason, Reply.{Reply, TheVariants.Refused}}
+use Rattle.room_machine.specs.declared.{reply.Reply.TheVariants.Done, request.Request.Request}
+use Rattle.room_machine.specs.declared.request.Request.TheVariants.{Remove, Move}
 use Rattle.room_machine.proofs.Replies.{or_reply, reply_of}
-use Rattle.room_laws.specs.Laws.{front_done, front_after, is_done, StaysAlike}
-use Rattle.room_laws.specs.Outside.{sight, view, IsBehind, SameOutside, Barred, Reaches}
-use Rattle.room_laws.specs.Outside.{last_path, way_behind}
-use Rattle.room_laws.specs.Tidy.{IsTidy, IsNumbered}
-use Rattle.room_laws.proofs.Barring.{bar_move, plan_barred}
-use Rattle.room_laws.proofs.Changed.{nodes_found}
+use Rattle.room_laws.specs.{Laws.{front_done, front_after, is_done, StaysAlike}, Outside.sight}
+use Rattle.room_laws.specs.Outside.{view, IsBehind, SameOutside, Barred, Reaches, last_path}
+use Rattle.room_laws.specs.{Outside.way_behind, Tidy.{IsTidy, IsNumbered}}
+use Rattle.room_laws.proofs.{Barring.{bar_move, plan_barred}, Changed.nodes_found}
 use Rattle.room_laws.proofs.Effects.{as_before, both_found, effects_alike}
-use Rattle.room_laws.proofs.NamesSeen.{names_from_views}
-use Rattle.room_laws.proofs.OnePlace.{behind_or_not}
-use Rattle.room_laws.proofs.OtherFronts.{SeenAlike, unmoved_alike}
-use Rattle.room_laws.proofs.PairsStay.{either_members, members_stay}
-use Rattle.room_laws.proofs.Passing.{none_at, move_passed}
+use Rattle.room_laws.proofs.{NamesSeen.names_from_views, OnePlace.behind_or_not}
+use Rattle.room_laws.proofs.{OtherFronts.{SeenAlike, unmoved_alike}, PairsStay.either_members}
+use Rattle.room_laws.proofs.{PairsStay.members_stay, Passing.{none_at, move_passed}}
 use Rattle.room_laws.proofs.PlansAlike.{IsSeen, caller_same, plan_same, target_seen}
-use Rattle.room_laws.proofs.SameReplies.{bar_same, plan_in}
-use Rattle.room_laws.proofs.TidySteps.{tidy_stays}
-use Rattle.std.proofs.lemmas.Bool.Decides.{nat_tests}
+use Rattle.room_laws.proofs.{SameReplies.{bar_same, plan_in}, TidySteps.tidy_stays}
 
 -- records aren't seen
 records_unseen : (c : Content) (rows : List AuditRow) (q : List (List ℕ))
@@ -55,25 +35,20 @@ records_unseen c rows q = ap (option_map (sight c)) (nodes_found c (with_records
 
 verdict_undone : (s : Site) (v : Verdict) (r : Reply) → of_verdict s v ≡ Some r
     → is_done r ≡ false
-verdict_undone s Granted r is = absurd (none-some r is)
-verdict_undone s (DeniedWith bits place) r is = ap is_done (sym (same_Some _ r is))
+verdict_undone s v r is = grind (arith, nat_tests)
 
 deletion_undone : (s p : Site) (v : DeleteVerdict) (r : Reply) → of_deletion s p v ≡ Some r
     → is_done r ≡ false
-deletion_undone s p (MayDelete by_add) r is = absurd (none-some r is)
-deletion_undone s p (AtTarget place) r is = ap is_done (sym (same_Some _ r is))
-deletion_undone s p (AtParent bits place) r is = ap is_done (sym (same_Some _ r is))
+deletion_undone s p v r is = grind (arith, nat_tests)
 
 refusal_undone : (path : List (List ℕ)) (why : Reason) (holds : Bool) (r : Reply)
     → cond holds (Some (Refused path why)) None ≡ Some r → is_done r ≡ false
-refusal_undone path why true r is = ap is_done (sym (same_Some (Refused path why) r is))
-refusal_undone path why false r is = absurd (none-some r is)
+refusal_undone path why holds r is = grind (arith, nat_tests)
 
 item_undone : (caller : Caller) (i : Item) (r : Reply) → failure caller i ≡ Some r
     → is_done r ≡ false
-item_undone caller (Check s bits) r is = verdict_undone s _ r is
-item_undone caller (Deletion s p) r is = deletion_undone s p _ r is
-item_undone caller (Refusal path why holds) r is = refusal_undone path why holds r is
+item_undone caller i r is =
+    grind (arith, nat_tests, deletion_undone, refusal_undone, verdict_undone)
 
 failure_undone : (caller : Caller) (items : List Item) (r : Reply)
     → first_failure caller items ≡ Some r → is_done r ≡ false
@@ -82,25 +57,13 @@ failure_undone caller (i ∷ items) r is =
     grind (arith, nat_tests, item_undone, failure_undone caller items r)
 
 either_way : (t : Bool) (f : List (List ℕ)) → cond t f f ≡ f
-either_way true f = refl
-either_way false f = refl
+either_way t f = grind (arith, nat_tests)
 
 -- where a request is done, the front is where that leaves it
 done_front : (f : List (List ℕ)) (content : Content) (caller : Caller) (id : ℕ) (q : Request)
     (reply : Reply) → reply ≡ (effect content caller id q).0 → front_after f q reply
     ≡ front_done f q
-done_front f content caller id (Move path to) reply is = grind (arith, nat_tests)
-done_front f content caller id (Remove path) reply is = either_way (is_done reply) f
-done_front f content caller id (Read path) reply is = either_way (is_done reply) f
-done_front f content caller id (ListFolder path) reply is = either_way (is_done reply) f
-done_front f content caller id (Put path bytes) reply is = either_way (is_done reply) f
-done_front f content caller id (Append path bytes) reply is = either_way (is_done reply) f
-done_front f content caller id (MakeFolder path) reply is = either_way (is_done reply) f
-done_front f content caller id (ReadList path which) reply is = either_way (is_done reply) f
-done_front f content caller id (SetList path which sent) reply is = either_way (is_done reply) f
-done_front f content caller id (ReadAttr path) reply is = either_way (is_done reply) f
-done_front f content caller id (SetOwners path owners) reply is = either_way (is_done reply) f
-done_front f content caller id (Can path mask) reply is = either_way (is_done reply) f
+done_front f content caller id q reply is = grind (arith, nat_tests, either_way)
 
 removal_done : (f : List (List ℕ)) (content : Content) (caller : Caller) (id : ℕ) (q : Request)
     → q ≡ Remove f → (effect content caller id q).0 ≡ Done
@@ -141,8 +104,7 @@ module _ (f : List (List ℕ)) (a b : Content) (user : Option (List ℕ)) (momen
   in_alike r bar (Move path to) outside is passes =
       both_found f a b same content_a content_b one two (front_done f (Move path to))
       (IsSeen f a b same path) _ _ _ _ (target_seen f a b same path outside)
-      (λ none none'. unmoved_alike f a b same path to
-      (none_at a path none) (none_at b path none'))
+      (search (none_at, unmoved_alike))
       (λ x y at_x at_y seen. absurd (impossible x (move_passed caller a path to x at_x passes)))
     where
       impossible : (x : Site) → (is_empty path ≡ false) × ((d : Site)
@@ -150,33 +112,33 @@ module _ (f : List (List ℕ)) (a b : Content) (user : Option (List ℕ)) (momen
           × (first_failure caller (move_items (sites_along a) a to x d) ≡ None)) → ⊥
       impossible x (full, (d, at_d, none)) =
           none-some r (sym none ∙ bar_move caller a r f bar to is x d)
-  in_alike r bar (Read path) outside is passes = absurd (outside is)
-  in_alike r bar (ListFolder path) outside is passes = absurd (outside is)
-  in_alike r bar (Put path bytes) outside is passes = absurd (outside is)
-  in_alike r bar (Append path bytes) outside is passes = absurd (outside is)
-  in_alike r bar (MakeFolder path) outside is passes = absurd (outside is)
-  in_alike r bar (Remove path) outside is passes = absurd (outside is)
-  in_alike r bar (ReadList path which) outside is passes = absurd (outside is)
-  in_alike r bar (SetList path which sent) outside is passes = absurd (outside is)
-  in_alike r bar (ReadAttr path) outside is passes = absurd (outside is)
-  in_alike r bar (SetOwners path owners) outside is passes = absurd (outside is)
-  in_alike r bar (Can path mask) outside is passes = absurd (outside is)
+  in_alike r bar _ outside is passes = absurd (outside is)
 
   -- where one plan passes and the other fails, the front isn't removed
   not_removed : (r : Reply) → ((plan_a ≡ None) × (plan_b ≡ Some r))
       ⊎ ((plan_a ≡ Some r) × (plan_b ≡ None)) → request ≡ Remove f → ⊥
   not_removed r (inl (none, some)) is =
-      false≢true (sym (failure_undone caller (plan_of b request) r some)
-      ∙ ap is_done (sym (second_is ∙ ap (λ o. or_reply o (effect b caller t.0 request).0) some))
-      ∙ ap is_done (sym (removes is))
-      ∙ ap is_done (first_is ∙ ap (λ o. or_reply o (effect a caller s.0 request).0) none
-      ∙ removal_done f a caller s.0 request is))
+      false≢true (
+      cc (
+        failure_undone caller (plan_of b request) r some,
+        some,
+        second_is,
+        removes is,
+        first_is,
+        none,
+        removal_done f a caller s.0 request is,
+      ))
   not_removed r (inr (some, none)) is =
-      false≢true (sym (failure_undone caller (plan_of a request) r some)
-      ∙ ap is_done (sym (first_is ∙ ap (λ o. or_reply o (effect a caller s.0 request).0) some))
-      ∙ ap is_done (removes is)
-      ∙ ap is_done (second_is ∙ ap (λ o. or_reply o (effect b caller t.0 request).0) none
-      ∙ removal_done f b caller t.0 request is))
+      false≢true (
+      cc (
+        failure_undone caller (plan_of a request) r some,
+        some,
+        first_is,
+        removes is,
+        second_is,
+        none,
+        removal_done f b caller t.0 request is,
+      ))
 
   abbrev next_front : List (List ℕ)
   next_front = front_after f request first
@@ -187,22 +149,13 @@ module _ (f : List (List ℕ)) (a b : Content) (user : Option (List ℕ)) (momen
       → (o p : Option Reply) → plan_a ≡ o → plan_b ≡ p → SeenAlike next_front
       (failure_or o a (effect a caller s.0 request)).1
       (failure_or p b (effect b caller t.0 request)).1
-  by equal done None None at_a at_b =
-      subst (λ (g : List (List ℕ)). SeenAlike g (effect a caller s.0 request).1
-      (effect b caller t.0 request).1)
-      (sym (done_front f a caller s.0 request first
-      (first_is ∙ ap (λ o. or_reply o (effect a caller s.0 request).0) at_a)))
-      (done at_a at_b)
+  by equal done None None at_a at_b = grind (arith, nat_tests, done_front, first_is, or_reply)
   by equal done None (Some q) at_a at_b =
       absurd (none-some q (sym at_a ∙ equal (not_removed q (inl (at_a, at_b))) ∙ at_b))
   by equal done (Some r) None at_a at_b =
       absurd (none-some r (sym at_b ∙ sym (equal (not_removed r (inr (at_a, at_b)))) ∙ at_a))
   by equal done (Some r) (Some q) at_a at_b =
-      subst (λ (g : List (List ℕ)). SeenAlike g a b)
-      (sym (ap (λ (t : Bool). cond t (front_done f request) f)
-      (ap is_done (first_is ∙ ap (λ o. or_reply o (effect a caller s.0 request).0) at_a)
-      ∙ failure_undone caller (plan_of a request) r at_a)))
-      (as_before f a b same content_a content_b one two)
+      grind (arith, nat_tests, as_before, failure_undone, first_is, or_reply)
 
   alike : SeenAlike next_front (failure_or plan_a a (effect a caller s.0 request)).1
       (failure_or plan_b b (effect b caller t.0 request)).1
@@ -216,17 +169,11 @@ module _ (f : List (List ℕ)) (a b : Content) (user : Option (List ℕ)) (momen
           let bar = barred (inl is) in
           let at_a = plan_barred caller a bar.0 f bar.1 request is in
           let at_b = plan_barred caller b bar.0 f (bar_there bar.0 bar.1) request is in
-          by (λ stays. at_a ∙ sym at_b)
-          (λ none none_b. absurd (none-some bar.0 (sym none ∙ at_a))) plan_a plan_b refl refl
+          grind (arith, nat_tests, by)
       on (inr outside) (inl is) =
           let bar = barred (inr is) in
-          by (λ stays. plan_in f a b same caller bar.0 bar.1 (bar_there bar.0 bar.1) request outside
-          is)
-          (λ none none_b. in_alike bar.0 bar.1 request outside is none) plan_a plan_b refl refl
-      on (inr outside) (inr last) =
-          by (λ stays. plan_same f a b same caller one two request outside last stays)
-          (λ none none_b. effects_alike f a b same content_a content_b one two caller s.0 t.0 s.1
-          t.1 request outside last none none_b) plan_a plan_b refl refl
+          search (bar_there, by, in_alike, plan_in)
+      on (inr outside) (inr last) = search (by, effects_alike, plan_same)
 
   after_is : after ≡ with_records (failure_or plan_a a (effect a caller s.0 request)).1
       (records_of_plan caller moment (plan_of a request))
@@ -243,14 +190,7 @@ module _ (f : List (List ℕ)) (a b : Content) (user : Option (List ℕ)) (momen
   pub outside_stays : IsTidy after → IsTidy other
       → SameOutside (front_after f request first) after other
   outside_stays content_after content_other = record {
-    members =
-        ap (λ (c : Content). c.members) after_is
-        ∙ (either_members a plan_a (effect a caller s.0 request)
-        (members_stay a caller s.0 request)).members
-        ∙ same.members
-        ∙ sym (ap (λ (c : Content). c.members) other_is
-        ∙ (either_members b plan_b (effect b caller t.0 request)
-        (members_stay b caller t.0 request)).members);
+    members = grind (arith, nat_tests, after_is, either_members, members_stay, other_is);
     views = views_stay;
     names = names_from_views next_front after other content_after.names content_other.names
         views_stay;

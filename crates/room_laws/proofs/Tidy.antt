@@ -1,30 +1,24 @@
 -- Contents stay tidy, whatever happens.
 use Rattle.std.proofs.Common.{ℕ, ◌≡◌, ◌==◌, ◌⊎◌, inl, inr, Bool, true, false, cond, not, ◌&&◌, List}
 use Rattle.std.proofs.Common.{[], ◌∷◌, map, filter, Option, Some, None, nat_lt, refl, sym, ap, ◌∙◌}
-use Rattle.std.proofs.Common.{arith}
-use Rattle.std.specs.List.{find, list_any, AllByRecursion}
-use Rattle.std.specs.Option.{option_map, option_map_or}
+use Rattle.std.proofs.{Common.arith, lemmas.Bool.{not-true, cases_Bool, and_parts, and_from}}
+use Rattle.std.proofs.lemmas.Bool.{false≢true, Decides.nat_tests}
+use Rattle.std.specs.{List.{find, list_any, AllByRecursion}, Option.{option_map, option_map_or}}
 use Rattle.std.specs.Prelude.{is_some, IsTrue}
-use Rattle.std.proofs.lemmas.Bool.{not-true, cases_Bool, and_parts, and_from, eqb-true, eq-eqb}
-use Rattle.std.proofs.lemmas.Bool.{false≢true}
-use Rattle.std.proofs.lemmas.Option.{none-some, same_Some}
 use Rattle.room_entry.specs.Pieces.{same_text}
-use Rattle.room_entry.proofs.Alike.{text_itself}
-use Rattle.room_entry.proofs.Facts.Members.{any_map, any_agree, any_none, each_fails, each_weaker}
-use Rattle.room_entry.proofs.Facts.Members.{each_filter}
+use Rattle.room_entry.proofs.{Alike.text_itself, Facts.Members.{any_map, any_agree, any_none}}
+use Rattle.room_entry.proofs.Facts.Members.{each_fails, each_weaker, each_filter}
 use Rattle.room_entry.proofs.Texts.{same_text-true}
 use Rattle.room_rows.specs.Content.{Content, node_at, body_of, child_of, has_parent, put_node}
 use Rattle.room_rows.specs.Content.{are_names_apart, same_parent, with_node, with_body}
-use Rattle.room_rows.specs.Content.{without_node, with_each, body_at}
-use Rattle.room_rows.specs.declared.node.Node.{Node}
+use Rattle.room_rows.specs.{Content.{without_node, with_each, body_at}, declared.node.Node.Node}
 use Rattle.room_rows.proofs.Frames.{has_its_parent, node_at-without_node-other, node_at-number}
 use Rattle.room_rows.proofs.InPlace.{keeps_places, node_at-with_each, body_of-with_body-other}
-use Rattle.room_rows.proofs.Lookups as lookups
 use Rattle.room_rows.proofs.SamePlace.{IsSamePlace}
 use Rattle.room_laws.specs.Tidy.{IsTidy}
 use Rattle.room_laws.proofs.Kept.{is_named}
+use Rattle.room_rows.proofs.Lookups as lookups
 use Rattle.room_laws.proofs.Kept as kept
-use Rattle.std.proofs.lemmas.Bool.Decides.{nat_tests}
 
 -- one stands where the other does
 abbrev clash : Node → Node → Bool
@@ -49,15 +43,13 @@ module _ (id : ℕ) (new : Node) (parent : new.parent ≡ Some id) where
         let parts = and_parts (same_parent new.parent y.parent) (same_text new.name y.name) is in
         absurd (false≢true (sym isnt ∙ and_from (has_parent id y) (same_text y.name new.name)
         (on y.parent (ap (λ p. same_parent p y.parent) (sym parent) ∙ parts.0))
-        (ap (λ n. same_text n new.name) (sym (same_text-true new.name y.name parts.1))
-        ∙ text_itself new.name)))
+        (cc (same_text-true new.name y.name parts.1, text_itself new.name))))
     | inr differ ↦ differ
   ]
     where
       on : (p : Option ℕ) → same_parent (Some id) p ≡ true
           → option_map_or (λ (i : ℕ). i == id) p false ≡ true
-      on None is = absurd (false≢true is)
-      on (Some i) is = eq-eqb i id (sym (eqb-true id i is))
+      on p is = grind (arith, nat_tests)
 
   named_clash : (y : Node) → is_named id new.name y ≡ false → clash y new ≡ false
   named_clash y isnt = grind (arith, nat_tests)
@@ -74,16 +66,17 @@ module _ (id : ℕ) (new : Node) (parent : new.parent ≡ Some id) where
           → are_names_apart (put_node new xs) ≡ true
           → are_names_apart (cond t (x ∷ put_node new xs) (cond u (new ∷ xs) (new ∷ x ∷ xs)))
           ≡ true
-      on true u first later rest =
-          and_from _ _ (ap not (any_none (clash x) (put_node new xs)
-          (each_put (λ y. clash x y ≡ false) new xs (named_clash x others.0)
-          (each_fails (clash x) xs (not-true _ first))))) rest
-      on false true first later rest =
-          and_from _ _ (ap not (any_none (clash new) xs
-          (each_weaker _ _ clash_named xs others.1))) later
-      on false false first later rest =
-          and_from _ _ (ap not (any_none (clash new) (x ∷ xs)
-          (each_weaker _ _ clash_named (x ∷ xs) others))) apart
+      on t u first later rest =
+          grind (
+            arith,
+            nat_tests,
+            any_none,
+            clash_named,
+            each_fails,
+            each_put,
+            each_weaker,
+            named_clash,
+          )
 
 apart_filter : (keep : Node → Bool) (nodes : List Node) → are_names_apart nodes ≡ true
     → are_names_apart (filter keep nodes) ≡ true
@@ -100,10 +93,7 @@ apart_filter keep (x ∷ xs) apart =
     on : (t : Bool) → not (list_any (clash x) xs) ≡ true
         → are_names_apart (filter keep xs) ≡ true
         → are_names_apart (cond t (x ∷ filter keep xs) (filter keep xs)) ≡ true
-    on true first rest =
-        and_from _ _ (ap not (any_none (clash x) (filter keep xs)
-        (each_filter (λ y. clash x y ≡ false) keep xs
-        (always xs (each_fails (clash x) xs (not-true _ first)))))) rest
+    on true first rest = search (always, and_from, any_none, each_fails, each_filter, not-true)
     on false first rest = rest
 
 none_each : (p : Node → Bool) (nodes : List Node) → find p nodes ≡ None
@@ -125,29 +115,24 @@ module _ (a : Content) (tidy : IsTidy a) where
   }
     where
       gone : (o : Option Node) → option_map g o ≡ None → o ≡ None
-      gone None is = refl
-      gone (Some n) is = absurd (none-some (g n) (sym is))
+      gone o is = grind (arith, nat_tests)
 
       some_map : (o : Option Node) → is_some o ≡ true → is_some (option_map g o) ≡ true
-      some_map None is = is
-      some_map (Some n) is = refl
+      some_map o is = grind (arith, nat_tests)
 
       parents : (node : Node) (id : ℕ) → node_at (with_each a g) node.id ≡ Some node
           → node.parent ≡ Some id → IsTrue (is_some (node_at (with_each a g) id))
       parents node id at above =
-          ap is_some (node_at-with_each a g (keeps_places a g places) id)
-          ∙ some_map (node_at a id)
-          (on (node_at a node.id) refl
-          (sym (node_at-with_each a g (keeps_places a g places) node.id) ∙ at))
+          cc (
+            node_at-with_each a g (keeps_places a g places) id,
+            some_map (node_at a id)
+                (on (node_at a node.id) refl
+                (sym (node_at-with_each a g (keeps_places a g places) node.id) ∙ at)),
+          )
         where
           on : (o : Option Node) → node_at a node.id ≡ o → option_map g o ≡ Some node
               → is_some (node_at a id) ≡ true
-          on None is same = absurd (none-some node same)
-          on (Some n) is same =
-              tidy.parents n id
-              (ap (node_at a) (node_at-number a node.id n is) ∙ is)
-              (sym (places n).parent ∙ ap (λ (x : Node). x.parent) (same_Some (g n) node same)
-              ∙ above)
+          on o is same = grind (arith, nat_tests, node_at-number)
 
   -- an object that is there gets bytes
   pub body_tidy : (id : ℕ) (bytes : List ℕ) → is_some (node_at a id) ≡ true
@@ -158,8 +143,7 @@ module _ (a : Content) (tidy : IsTidy a) where
   pub put_tidy : (new : Node) (id : ℕ) → new.parent ≡ Some id → is_some (node_at a id) ≡ true
       → child_of a id new.name ≡ None → IsTidy (with_node a new)
   put_tidy new id parent there free = record {
-    names = apart_put id new parent a.nodes tidy.names
-        (none_each (is_named id new.name) a.nodes free);
+    names = search (apart_put, is_named, none_each);
     parents = parents;
     bodies = λ other none. tidy.bodies other (elsewhere other none (cases_Bool (other == new.id)));
   }
@@ -169,49 +153,34 @@ module _ (a : Content) (tidy : IsTidy a) where
 
       apart : (other : ℕ) → (other == new.id) ≡ false
           → node_at (with_node a new) other ≡ node_at a other
-      apart other isnt =
-          lookups.find-put_other new a.nodes other
-          (λ same. false≢true (sym isnt ∙ eq-eqb other new.id same))
+      apart other isnt = grind (arith, nat_tests, lookups.find-put_other)
 
       elsewhere : (other : ℕ) → node_at (with_node a new) other ≡ None
           → ((other == new.id) ≡ true) ⊎ ((other == new.id) ≡ false) → node_at a other ≡ None
-      elsewhere other none (inl is) =
-          absurd (none-some new (sym none
-          ∙ ap (node_at (with_node a new)) (eqb-true other new.id is) ∙ here))
+      elsewhere other none (inl is) = grind (arith, nat_tests, here)
       elsewhere other none (inr isnt) = sym (apart other isnt) ∙ none
 
       still : (other : ℕ) → is_some (node_at a other) ≡ true
           → ((other == new.id) ≡ true) ⊎ ((other == new.id) ≡ false)
           → is_some (node_at (with_node a new) other) ≡ true
-      still other was (inl is) =
-          ap is_some (ap (node_at (with_node a new)) (eqb-true other new.id is) ∙ here)
+      still other was (inl is) = grind (arith, nat_tests, here)
       still other was (inr isnt) = ap is_some (apart other isnt) ∙ was
 
       above : (node : Node) (other : ℕ) → node_at (with_node a new) node.id ≡ Some node
           → node.parent ≡ Some other
           → ((node.id == new.id) ≡ true) ⊎ ((node.id == new.id) ≡ false)
           → is_some (node_at a other) ≡ true
-      above node other at up (inl is) =
-          let it : new ≡ node = same_Some new node (sym here
-          ∙ ap (node_at (with_node a new)) (sym (eqb-true node.id new.id is)) ∙ at) in
-          ap (λ i. is_some (node_at a i)) (same_Some other id
-          (sym up ∙ ap (λ (x : Node). x.parent) (sym it) ∙ parent)) ∙ there
+      above node other at up (inl is) = grind (arith, nat_tests, here)
       above node other at up (inr isnt) = tidy.parents node other (sym (apart node.id isnt) ∙ at) up
 
       parents : (node : Node) (other : ℕ) → node_at (with_node a new) node.id ≡ Some node
           → node.parent ≡ Some other → IsTrue (is_some (node_at (with_node a new) other))
-      parents node other at up =
-          still other (above node other at up (cases_Bool (node.id == new.id)))
-          (cases_Bool (other == new.id))
+      parents node other at up = grind (arith, nat_tests, above, still)
 
   -- an object without children is removed
   pub gone_tidy : (id : ℕ) → ((name : List ℕ) → child_of a id name ≡ None)
       → IsTidy (without_node a id)
-  gone_tidy id childless = record {
-    names = apart_filter (λ (n : Node). not (n.id == id)) a.nodes tidy.names;
-    parents = parents;
-    bodies = λ other none. bytes other none (cases_Bool (other == id));
-  }
+  gone_tidy id childless = grind (arith, nat_tests, apart_filter, bytes, parents)
     where
       dropped : (rows : List (ℕ × List ℕ))
           → body_at (filter (λ (row : ℕ × List ℕ). not (row.0 == id)) rows) id ≡ None
@@ -222,20 +191,14 @@ module _ (a : Content) (tidy : IsTidy a) where
               → body_at (filter (λ (r : ℕ × List ℕ). not (r.0 == id)) rows) id ≡ None
               → body_at (cond (not t) (row ∷ filter (λ (r : ℕ × List ℕ). not (r.0 == id)) rows)
               (filter (λ (r : ℕ × List ℕ). not (r.0 == id)) rows)) id ≡ None
-          on true is rest = rest
-          on false is rest =
-              ap (λ t. cond t (Some row.1)
-              (body_at (filter (λ (r : ℕ × List ℕ). not (r.0 == id)) rows) id)) is ∙ rest
+          on t is rest = grind (arith, nat_tests)
 
       bytes : (other : ℕ) → node_at (without_node a id) other ≡ None
           → ((other == id) ≡ true) ⊎ ((other == id) ≡ false)
           → body_of (without_node a id) other ≡ None
-      bytes other none (inl is) =
-          ap (body_of (without_node a id)) (eqb-true other id is) ∙ dropped a.bodies
+      bytes other none (inl is) = grind (arith, nat_tests, dropped)
       bytes other none (inr isnt) =
-          let differ = λ (same : other ≡ id). false≢true (sym isnt ∙ eq-eqb other id same) in
-          kept.body-removed id other differ a.bodies
-          ∙ tidy.bodies other (sym (node_at-without_node-other a id other differ) ∙ none)
+          grind (arith, nat_tests, kept.body-removed, node_at-without_node-other)
 
       no_child : (node : Node) → node_at a node.id ≡ Some node → node.parent ≡ Some id → ⊥
       no_child node at up =
@@ -248,19 +211,10 @@ module _ (a : Content) (tidy : IsTidy a) where
 
       found_before : (node : Node) → node_at (without_node a id) node.id ≡ Some node
           → ((node.id == id) ≡ true) ⊎ ((node.id == id) ≡ false) → node_at a node.id ≡ Some node
-      found_before node at (inl is) =
-          absurd (none-some node (sym (lookups.find-kept_gone (λ (n : Node). n.id == node.id)
-          (λ (n : Node). not (n.id == id)) a.nodes
-          (λ n same. ap not (eq-eqb n.id id (eqb-true n.id node.id same ∙ eqb-true node.id id is))))
-          ∙ at))
-      found_before node at (inr isnt) =
-          sym (node_at-without_node-other a id node.id
-          (λ same. false≢true (sym isnt ∙ eq-eqb node.id id same))) ∙ at
+      found_before node at given =
+          grind (arith, nat_tests, lookups.find-kept_gone, node_at-without_node-other)
 
       parents : (node : Node) (other : ℕ) → node_at (without_node a id) node.id ≡ Some node
           → node.parent ≡ Some other → IsTrue (is_some (node_at (without_node a id) other))
       parents node other at up =
-          let was = found_before node at (cases_Bool (node.id == id)) in
-          ap is_some (node_at-without_node-other a id other
-          (λ same. no_child node was (up ∙ ap (λ (i : ℕ). Some i) same)))
-          ∙ tidy.parents node other was up
+          grind (arith, nat_tests, found_before, no_child, node_at-without_node-other)

@@ -1,49 +1,32 @@
 -- Whatever happens, contents stay tidy.
-use Rattle.std.proofs.Common.{ℕ, ◌≡◌, Bool, true, false, List, [], ◌∷◌, Option, Some, None, refl}
-use Rattle.std.proofs.Common.{sym, ap, subst, ◌∙◌, arith}
-use Rattle.std.specs.Option.{option_map}
-use Rattle.std.specs.Prelude.{option_and_then, is_some, if◌then◌else◌}
-use Rattle.std.proofs.lemmas.Bool.{true≢false}
-use Rattle.room_entry.specs.declared.object.ObjKind.TheVariants.{Document, Folder}
-use Rattle.room_entry.specs.declared.object.Which.{Which}
-use Rattle.room_entry.specs.declared.object.Which.TheVariants.{Dacl, Sacl}
-use Rattle.room_entry.specs.declared.parties.Caller.{Caller}
+use Rattle.std.proofs.Common.{ℕ, ◌≡◌, true, List, [], ◌∷◌, Option, Some, None, refl, sym, ap, subst}
+use Rattle.std.proofs.{Common.arith, lemmas.Bool.Decides.nat_tests}
+use Rattle.std.specs.Prelude.{is_some}
+use Rattle.room_entry.specs.declared.{object.Which.Which, parties.Caller.Caller}
 use Rattle.room_ace.specs.Sent.{Sent}
-use Rattle.room_rows.specs.Content.{Content, node_at, child_of, has_parent, with_node, with_each}
-use Rattle.room_rows.specs.Content.{with_records}
-use Rattle.room_rows.specs.Held.{with_held}
-use Rattle.room_rows.specs.HeldList.{Held}
-use Rattle.room_rows.specs.Keep.{with_owners}
-use Rattle.room_rows.specs.declared.node.AuditRow.{AuditRow}
-use Rattle.room_rows.specs.declared.node.Node.{Node}
+use Rattle.room_rows.specs.Content.{Content, node_at, child_of, with_node, with_each, with_records}
+use Rattle.room_rows.specs.{Held.with_held, HeldList.Held, Keep.with_owners}
+use Rattle.room_rows.specs.declared.node.{AuditRow.AuditRow, Node.Node}
 use Rattle.room_rows.proofs.InPlace.{keeps_places, rises-with_each, node_at-with_each}
-use Rattle.room_rows.proofs.InPlace.{place-with_held, place-with_owners}
-use Rattle.room_rows.proofs.Lookups as lookups
-use Rattle.room_rows.proofs.SamePlace.{IsSamePlace}
-use Rattle.room_machine.specs.Effect.{effect, put_bytes, new_node, moved_node, with_site}
-use Rattle.room_machine.specs.Judge.{failure, first_failure, records_of_plan}
-use Rattle.room_machine.specs.Plan.{plan_of, move_items, Deletion, Refusal}
-use Rattle.room_machine.specs.Run.{Event, Asked, WasReset, Replaced, Happens}
-use Rattle.room_machine.specs.Site.{Site, sites_along, site_at, parent_at, front, last_name}
-use Rattle.room_machine.specs.Step.{IsFree, caller_in, failure_or}
-use Rattle.room_machine.specs.declared.reply.Reason.TheVariants.{Exists}
-use Rattle.room_machine.specs.declared.reply.Reply.{Reply}
-use Rattle.room_machine.specs.declared.reply.Reply.TheVariants.{Done}
-use Rattle.room_machine.specs.declared.request.Request.{Request}
-use Rattle.room_machine.specs.declared.request.Request.TheVariants.{Read, List as ListFolder, Put}
-use Rattle.room_machine.specs.declared.request.Request.TheVariants.{Append, MakeFolder, Remove}
-use Rattle.room_machine.specs.declared.request.Request.TheVariants.{Move, ReadList, SetList}
-use Rattle.room_machine.specs.declared.request.Request.TheVariants.{ReadAttr, SetOwners, Can}
-use Rattle.room_laws.specs.Outside.{found}
-use Rattle.room_laws.specs.Tidy.{IsNumbered, IsTidy, StaysTidy}
+use Rattle.room_rows.proofs.{InPlace.{place-with_held, place-with_owners}, SamePlace.IsSamePlace}
+use Rattle.room_machine.specs.Effect.{effect, put_bytes, moved_node, with_site}
+use Rattle.room_machine.specs.{Judge.first_failure, Plan.{plan_of, move_items}, Run.{Event, Asked}}
+use Rattle.room_machine.specs.{Run.{WasReset, Replaced, Happens}, Site.{Site, sites_along, site_at}}
+use Rattle.room_machine.specs.{Site.{parent_at, front, last_name}, Step.{IsFree, failure_or}}
+use Rattle.room_machine.specs.declared.reply.Reply.{Reply, TheVariants.Done}
+use Rattle.room_machine.specs.declared.request.Request.{Request, TheVariants.Read}
+use Rattle.room_machine.specs.declared.request.Request.TheVariants.{List as ListFolder, Put, Append}
+use Rattle.room_machine.specs.declared.request.Request.TheVariants.{MakeFolder, Remove, Move}
+use Rattle.room_machine.specs.declared.request.Request.TheVariants.{ReadList, SetList, ReadAttr}
+use Rattle.room_machine.specs.declared.request.Request.TheVariants.{SetOwners, Can}
+use Rattle.room_laws.specs.{Outside.found, Tidy.{IsNumbered, IsTidy, StaysTidy}}
 use Rattle.room_laws.proofs.Behind.{act_on, change, change_place, numbers_stay, target_found}
-use Rattle.room_laws.proofs.Changed.{only, only_place, put_only}
-use Rattle.room_laws.proofs.OnePlace.{found_snoc, found_there, split_last}
-use Rattle.room_laws.proofs.Passing.{both_none, folder_passed, move_passed, none_at, not_refused}
-use Rattle.room_laws.proofs.Passing.{parent_is, place_passed, remove_passed}
-use Rattle.room_laws.proofs.Settings.{no_children}
+use Rattle.room_laws.proofs.{Changed.{only, only_place, put_only}, OnePlace.found_snoc}
+use Rattle.room_laws.proofs.{OnePlace.{found_there, split_last}, Passing.both_none}
+use Rattle.room_laws.proofs.Passing.{folder_passed, move_passed, none_at, not_refused, parent_is}
+use Rattle.room_laws.proofs.{Passing.{place_passed, remove_passed}, Settings.no_children}
 use Rattle.room_laws.proofs.Tidy.{body_tidy, each_tidy, gone_tidy, put_tidy}
-use Rattle.std.proofs.lemmas.Bool.Decides.{nat_tests}
+use Rattle.room_rows.proofs.Lookups as lookups
 
 module _ (a : Content) (numbered : IsNumbered a) (tidy : IsTidy a) where
   there : (path : List (List ℕ)) (node : Node) → found a path ≡ Some node
@@ -66,9 +49,7 @@ module _ (a : Content) (numbered : IsNumbered a) (tidy : IsTidy a) where
       (subst IsTidy (sym (put_only (with_each a ch)
       (rises-with_each a ch (keeps_places a ch places) numbered) (ch target) now
       (with_held which held) (place-with_held which held)))
-      (each_tidy (with_each a ch) (each_tidy a tidy ch places)
-      (only (ch target).id (with_held which held))
-      (only_place (ch target).id (with_held which held) (place-with_held which held))))
+      (search (ch, each_tidy, only, only_place, place-with_held, places)))
     where
       ch : Node → Node
       ch n = change which keep target.id n
@@ -78,29 +59,26 @@ module _ (a : Content) (numbered : IsNumbered a) (tidy : IsTidy a) where
 
       now : node_at (with_each a ch) (ch target).id ≡ Some (ch target)
       now =
-          ap (node_at (with_each a ch)) (places target).number
-          ∙ node_at-with_each a ch (keeps_places a ch places) target.id
-          ∙ ap (option_map ch) at
+          cc (
+            (places target).number,
+            node_at-with_each a ch (keeps_places a ch places) target.id,
+            at,
+          )
 
       overwritten : with_held which held (ch target) ≡ with_held which held target
-      overwritten = by which (has_parent target.id target)
-        where
-          by : (w : Which) (t : Bool)
-              → with_held w held (if t then with_held w (keep target) target else target)
-              ≡ with_held w held target
-          by Dacl true = refl
-          by Dacl false = refl
-          by Sacl true = refl
-          by Sacl false = refl
+      overwritten = grind (arith, nat_tests)
 
   -- the last name is free in the folder before it
   free_there : (name : List ℕ) (names : List (List ℕ)) (folder : Node)
       → found a (front (name ∷ names)) ≡ Some folder → found a (name ∷ names) ≡ None
       → child_of a folder.id (last_name (name ∷ names)) ≡ None
   free_there name names folder at none =
-      sym (ap (option_and_then (λ n. child_of a n.id (last_name (name ∷ names)))) at)
-      ∙ sym (ap (found a) (split_last name names)
-      ∙ found_snoc a (front (name ∷ names)) (last_name (name ∷ names))) ∙ none
+      cc (
+        at,
+        found_snoc a (front (name ∷ names)) (last_name (name ∷ names)),
+        split_last name names,
+        none,
+      )
 
   set_tidy : (caller : Caller) (id : ℕ) (path : List (List ℕ)) (which : Which) (sent : Sent)
       → IsTidy (effect a caller id (SetList path which sent)).1
@@ -122,20 +100,19 @@ module _ (a : Content) (numbered : IsNumbered a) (tidy : IsTidy a) where
         on : (o : Option Site) → site_at (sites_along a (name ∷ names)) (name ∷ names) ≡ o
             → IsTidy (put_bytes a caller id (name ∷ names) bytes o
             (parent_at (sites_along a (name ∷ names)) (name ∷ names))).1
-        on (Some s) is =
-            body_tidy a tidy s.node.id bytes
-            (there (name ∷ names) s.node (target_found a (name ∷ names) s is))
+        on (Some s) is = search (body_tidy, target_found, there)
         on None is =
             act_on IsTidy a (parent_at (sites_along a (name ∷ names)) (name ∷ names)) _ tidy
             (λ folder at.
-            body_tidy (with_node a (new_node id caller Document folder (last_name (name ∷ names))))
-            (put_tidy a tidy (new_node id caller Document folder (last_name (name ∷ names)))
-            folder.node.id refl (there (front (name ∷ names)) folder.node
-            (parent_is a name names folder at))
-            (free_there name names folder.node (parent_is a name names folder at)
-            (none_at a (name ∷ names) is))) id bytes
-            (ap is_some (lookups.find-put_same
-            (new_node id caller Document folder (last_name (name ∷ names))) a.nodes)))
+            search (
+              body_tidy,
+              free_there,
+              lookups.find-put_same,
+              none_at,
+              parent_is,
+              put_tidy,
+              there,
+            ))
 
     folder_stays : (path : List (List ℕ)) → first_failure caller (plan_of a (MakeFolder path))
         ≡ None
@@ -143,29 +120,20 @@ module _ (a : Content) (numbered : IsNumbered a) (tidy : IsTidy a) where
     folder_stays [] passes = tidy
     folder_stays (name ∷ names) passes =
         act_on IsTidy a (parent_at (sites_along a (name ∷ names)) (name ∷ names)) _ tidy
-        (λ folder at.
-        put_tidy a tidy (new_node id caller Folder folder (last_name (name ∷ names)))
-        folder.node.id refl (there (front (name ∷ names)) folder.node
-        (parent_is a name names folder at))
-        (free_there name names folder.node (parent_is a name names folder at)
-        (folder_passed caller a name names folder at passes)))
+        (λ folder at. search (folder_passed, free_there, parent_is, put_tidy, there))
 
     moved_stays : (path to : List (List ℕ)) (s d : Site)
         → first_failure caller (move_items (sites_along a) a to s d) ≡ None
         → IsTidy (with_site a (site_at (sites_along a (front to)) (front to))
         (λ folder. (Done, with_node a (moved_node s folder (last_name to))))).1
-    moved_stays path [] s d passes =
-        absurd (true≢false (not_refused caller [] Exists true
-        (both_none {o = failure caller (Refusal [] Exists true)} {p = None}
-        (both_none {o = failure caller (Deletion s d)} passes).1).0))
+    moved_stays path [] s d passes = grind (arith, nat_tests, both_none, not_refused)
     moved_stays path (first ∷ more) s d passes =
         act_on IsTidy a
         (site_at (sites_along a (front (first ∷ more))) (front (first ∷ more)))
         (λ folder. (Done, with_node a (moved_node s folder (last_name (first ∷ more))))) tidy
         (λ folder at.
         put_tidy a tidy (moved_node s folder (last_name (first ∷ more))) folder.node.id refl
-        (there (front (first ∷ more)) folder.node
-        (target_found a (front (first ∷ more)) folder at))
+        (search (target_found, there))
         (place_passed caller a first more s d folder at passes).0)
 
     tidy_effect : (request : Request) → first_failure caller (plan_of a request) ≡ None
@@ -199,29 +167,18 @@ noted_tidy c rows tidy = grind (arith, nat_tests)
 
 either_tidy : (o : Option Reply) (content : Content) (done : Reply × Content) → IsTidy content
     → (o ≡ None → IsTidy done.1) → IsTidy (failure_or o content done).1
-either_tidy None content done tidy next = next refl
-either_tidy (Some reply) content done tidy next = tidy
+either_tidy o content done tidy next = grind (arith, nat_tests)
 
 -- Whatever happens leaves a tidy content tidy.
 pub tidy_stays : (before : Content) (event : Event) (after : Content) → IsNumbered before
     → IsTidy before → Happens before event after → IsTidy after
 tidy_stays before (Asked user moment request reply) after numbered tidy s =
     subst IsTidy (ap (λ (d : Reply × Content). d.1) s.2)
-    (noted_tidy _ (records_of_plan (caller_in before user) moment (plan_of before request))
-    (either_tidy (first_failure (caller_in before user) (plan_of before request)) before
-    (effect before (caller_in before user) s.0 request) tidy
-    (tidy_effect before numbered tidy (caller_in before user) s.0 s.1 request)))
+    (search (either_tidy, noted_tidy, tidy_effect))
 tidy_stays before (WasReset path which sent reply) after numbered tidy s =
     subst IsTidy (ap (λ (d : Reply × Content). d.1) s)
-    (either_tidy _ before
-    (effect before (record { user = None; groups = [] }) 0 (SetList path which sent)) tidy
-    (λ none. set_tidy before numbered tidy (record { user = None; groups = [] }) 0 path which sent))
-tidy_stays before (Replaced pairs) after numbered tidy same =
-    subst IsTidy (sym same) (record {
-      names = tidy.names;
-      parents = tidy.parents;
-      bodies = tidy.bodies;
-    })
+    (search (either_tidy, set_tidy))
+tidy_stays before (Replaced pairs) after numbered tidy same = grind (arith, nat_tests)
 
 pub stays_tidy : StaysTidy
 stays_tidy before event after numbered tidy happens =

@@ -1,37 +1,29 @@
 -- Which replies tell what is behind a folder.
 use Rattle.std.proofs.Common.{ℕ, ℤ, ◌≡◌, ◌⊎◌, inl, inr, Bool, true, false, not, List, [], ◌∷◌, ◌++◌}
-use Rattle.std.proofs.Common.{Option, Some, None, refl, sym, ap, subst, ◌∙◌, append_assoc, arith}
+use Rattle.std.proofs.Common.{Option, Some, None, refl, sym, subst, ◌∙◌, append_assoc, arith}
+use Rattle.std.proofs.lemmas.{Option.none-some, Bool.Decides.nat_tests}
 use Rattle.std.specs.Option.{option_map}
-use Rattle.std.proofs.lemmas.Option.{none-some, same_Some}
-use Rattle.room_entry.specs.Ace.{Ace}
-use Rattle.room_entry.specs.declared.object.Which.TheVariants.{Dacl, Sacl}
+use Rattle.room_entry.specs.{Ace.Ace, declared.object.Which.TheVariants.{Dacl, Sacl}}
 use Rattle.room_entry.specs.declared.parties.Caller.{Caller}
 use Rattle.room_rows.specs.Content.{Content, children_of, is_empty}
-use Rattle.room_machine.specs.Effect.{effect, names_at, with_site}
-use Rattle.room_machine.specs.Judge.{first_failure}
-use Rattle.room_machine.specs.Plan.{Item, Deletion, Refusal, plan_of, way, where_found, target_by}
-use Rattle.room_machine.specs.Site.{Site, site_at, parent_at, sites_along, full_at}
-use Rattle.room_machine.specs.Step.{Step, caller_in}
-use Rattle.room_machine.specs.declared.reply.Reason.TheVariants.{NotEmpty, Root}
-use Rattle.room_machine.specs.declared.reply.Reply.{Reply}
-use Rattle.room_machine.specs.declared.reply.Reply.TheVariants.{Names, Done, Refused}
-use Rattle.room_machine.specs.declared.request.Request.{Request}
-use Rattle.room_machine.specs.declared.request.Request.TheVariants.{Read, List as ListFolder, Put}
-use Rattle.room_machine.specs.declared.request.Request.TheVariants.{Append, MakeFolder, Remove}
-use Rattle.room_machine.specs.declared.request.Request.TheVariants.{Move, ReadList, SetList}
-use Rattle.room_machine.specs.declared.request.Request.TheVariants.{ReadAttr, SetOwners, Can}
+use Rattle.room_machine.specs.{Effect.{effect, names_at, with_site}, Judge.first_failure, Plan.Item}
+use Rattle.room_machine.specs.Plan.{Deletion, Refusal, plan_of, way, where_found, target_by}
+use Rattle.room_machine.specs.{Site.{Site, site_at, parent_at, sites_along, full_at}, Step.Step}
+use Rattle.room_machine.specs.{Step.caller_in, declared.reply.Reason.TheVariants.{NotEmpty, Root}}
+use Rattle.room_machine.specs.declared.reply.Reply.{Reply, TheVariants.{Names, Done, Refused}}
+use Rattle.room_machine.specs.declared.request.Request.{Request, TheVariants.Read}
+use Rattle.room_machine.specs.declared.request.Request.TheVariants.{List as ListFolder, Put, Append}
+use Rattle.room_machine.specs.declared.request.Request.TheVariants.{MakeFolder, Remove, Move}
+use Rattle.room_machine.specs.declared.request.Request.TheVariants.{ReadList, SetList, ReadAttr}
+use Rattle.room_machine.specs.declared.request.Request.TheVariants.{SetOwners, Can}
 use Rattle.room_machine.proofs.Replies.{or_reply, reply_of}
-use Rattle.room_laws.specs.Laws.{IsTold, NothingElseTells, SameFullLists}
-use Rattle.room_laws.specs.Outside.{SameOutside, Reaches, Barred}
-use Rattle.room_laws.specs.Tidy.{IsNumbered}
+use Rattle.room_laws.specs.{Laws.{IsTold, NothingElseTells, SameFullLists}, Outside.SameOutside}
+use Rattle.room_laws.specs.{Outside.{Reaches, Barred}, Tidy.IsNumbered}
 use Rattle.room_laws.proofs.LikeItems.{deletion_like, found_like, next, ways_like}
-use Rattle.room_laws.proofs.OnePlace.{not_itself}
-use Rattle.room_laws.proofs.Passing.{at_or_not}
-use Rattle.room_laws.proofs.PlansAlike.{IsSeen, caller_same, parent_same, plan_same, sites_same}
-use Rattle.room_laws.proofs.PlansAlike.{target_seen}
-use Rattle.room_laws.proofs.SameReplies.{same_replies}
-use Rattle.room_laws.proofs.Seen.{Both, IsLike, blank, like_at}
-use Rattle.std.proofs.lemmas.Bool.Decides.{nat_tests}
+use Rattle.room_laws.proofs.{OnePlace.not_itself, Passing.at_or_not, PlansAlike.IsSeen}
+use Rattle.room_laws.proofs.PlansAlike.{caller_same, parent_same, plan_same, sites_same}
+use Rattle.room_laws.proofs.{PlansAlike.target_seen, SameReplies.same_replies, Seen.Both}
+use Rattle.room_laws.proofs.Seen.{IsLike, blank, like_at}
 
 module _ (f : List (List ℕ)) (a b : Content) (user : Option (List ℕ)) (moment later : ℤ)
     (first second : Reply) (after other : Content) (same : SameOutside f a b)
@@ -66,16 +58,7 @@ module _ (f : List (List ℕ)) (a b : Content) (user : Option (List ℕ)) (momen
           → first ≡ or_reply o (with_site a x (λ target. (Names (names_at a target.node.id), a))).0
           → second ≡ or_reply p (with_site b y (λ target. (Names (names_at b target.node.id), b))).0
           → (first ≡ second) ⊎ IsTold f (ListFolder f) first second
-      on (Some r) (Some q) equal x y both is_first is_second =
-          inl (is_first ∙ same_Some r q equal ∙ sym is_second)
-      on (Some r) None equal x y both is_first is_second =
-          absurd (none-some r (sym equal))
-      on None (Some q) equal x y both is_first is_second = absurd (none-some q equal)
-      on None None equal None None both is_first is_second = inl (is_first ∙ sym is_second)
-      on None None equal None (Some y) both is_first is_second = absurd both
-      on None None equal (Some x) None both is_first is_second = absurd both
-      on None None equal (Some x) (Some y) both is_first is_second =
-          inr (inl (refl, (names_at a x.node.id, names_at b y.node.id, is_first, is_second)))
+      on o p equal x y both is_first is_second = grind (arith, nat_tests)
 
   -- ---- a removal of the front
 
@@ -137,9 +120,7 @@ module _ (f : List (List ℕ)) (a b : Content) (user : Option (List ℕ)) (momen
           (append_assoc (way false (sites_along content f) f)
           (Refusal f Root (is_empty f) ∷ Deletion x y ∷ [])
           (Refusal f NotEmpty (not (is_empty (children_of content x.node.id))) ∷ []))
-          (one_more (way false (sites_along content f) f
-          ++ Refusal f Root (is_empty f) ∷ Deletion x y ∷ []) f
-          (not (is_empty (children_of content x.node.id))))
+          (search (one_more))
 
   always : (content : Content) (i : ℕ) → (effect content caller i (Remove f)).0 ≡ Done
   always content i = grind (arith, nat_tests)
@@ -157,24 +138,14 @@ module _ (f : List (List ℕ)) (a b : Content) (user : Option (List ℕ)) (momen
           × (fails (plan_of content (Remove f)) ≡ Some (Refused f NotEmpty)))
           → ((r : Reply) × (fails (before content) ≡ Some r) × (reply ≡ r))
           ⊎ ((fails (before content) ≡ None) × ((reply ≡ Done) ⊎ (reply ≡ Refused f NotEmpty)))
-      on (Some r) at (inl equal) =
-          inl (
-            r,
-            at,
-            is ∙ ap (λ o. or_reply o (effect content caller i (Remove f)).0) (equal ∙ at),
-          )
+      on (Some r) at (inl equal) = grind (arith, nat_tests, or_reply)
       on (Some r) at (inr (none, some)) = absurd (none-some r (sym none ∙ at))
       on None at (inl equal) =
           inr (
             at,
-            inl (is ∙ ap (λ o. or_reply o (effect content caller i (Remove f)).0) (equal ∙ at)
-                ∙ always content i),
+            inl (cc (is, equal, at, always content i)),
           )
-      on None at (inr (none, some)) =
-          inr (
-            at,
-            inr (is ∙ ap (λ o. or_reply o (effect content caller i (Remove f)).0) some),
-          )
+      on None at (inr (none, some)) = grind (arith, nat_tests, or_reply)
 
   removal_told : (s : Step a user moment (Remove f) first after)
       → (t : Step b user later (Remove f) second other)
@@ -188,13 +159,7 @@ module _ (f : List (List ℕ)) (a b : Content) (user : Option (List ℕ)) (momen
           → ((q : Reply) × (fails (before b) ≡ Some q) × (second ≡ q))
           ⊎ ((fails (before b) ≡ None) × ((second ≡ Done) ⊎ (second ≡ Refused f NotEmpty)))
           → (first ≡ second) ⊎ IsTold f (Remove f) first second
-      on (inl (r, at, is)) (inl (q, at', is')) =
-          inl (is ∙ same_Some r q (sym at ∙ before_same ∙ at') ∙ sym is')
-      on (inl (r, at, is)) (inr (none, either)) =
-          absurd (none-some r (sym none ∙ sym before_same ∙ at))
-      on (inr (none, either)) (inl (q, at', is')) =
-          absurd (none-some q (sym none ∙ before_same ∙ at'))
-      on (inr (none, either)) (inr (none', either')) = inr (inr (refl, either, either'))
+      on given other = grind (arith, nat_tests, before_same)
 
 pub nothing_else_tells : NothingElseTells
 nothing_else_tells f a b user moment later request first second after other same one two barred s
@@ -274,17 +239,11 @@ nothing_else_tells f a b user moment later request first second after other same
 -- ---- full lists
 
 pub same_full_lists : SameFullLists
-same_full_lists f a b same path outside =
-    on (site_at (sites_along a path) path) (site_at (sites_along b path) path)
-    (like_at blank (sites_along a path) (sites_along b path) path
-    (sites_same f a b same path outside))
+same_full_lists f a b same path outside = search (blank, like_at, on, sites_same)
   where
     lists : Site → List Ace × List Ace
     lists site = (full_at Dacl site, full_at Sacl site)
 
     on : (o p : Option Site) → option_map blank o ≡ option_map blank p
         → option_map lists o ≡ option_map lists p
-    on None None same = refl
-    on None (Some t) same = absurd (none-some _ same)
-    on (Some s) None same = absurd (none-some _ (sym same))
-    on (Some s) (Some t) same = ap (λ (x : Site). Some (lists x)) (same_Some _ _ same)
+    on o p same = grind (arith, nat_tests)

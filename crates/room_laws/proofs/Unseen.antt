@@ -1,16 +1,12 @@
 -- What happens behind a folder isn't seen outside, over runs.
-use Rattle.std.proofs.Common.{ℕ, ◌≡◌, ◌⊎◌, inl, inr, List, [], ◌∷◌, sym, subst}
-use Rattle.room_machine.specs.Run.{Asked, WasReset, Replaced}
-use Rattle.room_machine.specs.declared.reply.Reply.{Reply}
-use Rattle.room_machine.specs.declared.request.Request.{Request}
-use Rattle.room_machine.specs.declared.request.Request.TheVariants.{Remove}
-use Rattle.room_laws.specs.Laws.{IsTold, TellsNames, front_after}
-use Rattle.room_laws.specs.Outside.{SameOutside}
-use Rattle.room_laws.specs.Twins.{Unseen, InBoth, InFirst, InBothReplaced, InBothReset, InSecond}
+use Rattle.std.proofs.{Common.{ℕ, ◌≡◌, ◌⊎◌, List, [], ◌∷◌, arith}, lemmas.Bool.Decides.nat_tests}
+use Rattle.room_machine.specs.{Run.{Asked, WasReset, Replaced}, declared.reply.Reply.Reply}
+use Rattle.room_machine.specs.declared.request.Request.{Request, TheVariants.Remove}
+use Rattle.room_laws.specs.{Laws.{IsTold, TellsNames, front_after}, Twins.{Unseen, InBoth}}
+use Rattle.room_laws.specs.Twins.{InFirst, InBothReplaced, InBothReset, InSecond}
 use Rattle.room_laws.proofs.Behind.{numbers_stay, same_back, same_on, stays_behind}
 use Rattle.room_laws.proofs.OperatorAlike.{replaced_alike, reset_replies, reset_stays}
-use Rattle.room_laws.proofs.StaysAlike.{outside_stays}
-use Rattle.room_laws.proofs.TidySteps.{tidy_stays}
+use Rattle.room_laws.proofs.{StaysAlike.outside_stays, TidySteps.tidy_stays}
 use Rattle.room_laws.proofs.Told.{nothing_else_tells}
 
 -- whether the front could be removed isn't told where it is removed in both or in neither
@@ -18,46 +14,28 @@ replies_alike : (f : List (List ℕ)) (request : Request) (first second : Reply)
     → (request ≡ Remove f → first ≡ second)
     → (first ≡ second) ⊎ IsTold f request first second
     → (first ≡ second) ⊎ TellsNames f request first second
-replies_alike f request first second removes (inl same) = inl same
-replies_alike f request first second removes (inr (inl names)) = inr names
-replies_alike f request first second removes (inr (inr (is, one, two))) = inl (removes is)
+replies_alike f request first second removes given = grind (arith, nat_tests)
 
 pub unseen : Unseen
-unseen f [] a b c d same content_a content_b one two is_c is_d alike =
-    (tt, subst (λ x. SameOutside f x d) (sym is_c) (subst (SameOutside f a) (sym is_d) same))
+unseen f [] a b c d same content_a content_b one two is_c is_d alike = grind (arith, nat_tests)
 unseen f (InBoth user moment later request first second ∷ turns) a b c d same content_a content_b
     one two (mid, s, run) (other, t, others) ((removes, barred), alike) =
     let content_mid = tidy_stays a (Asked user moment request first) mid one content_a s in
     let content_other = tidy_stays b (Asked user later request second) other two content_b t in
     let on = unseen (front_after f request first) turns mid other c d
-    (outside_stays f a b user moment later request first second mid other same content_a content_b
-    one two removes barred s t content_mid content_other) content_mid content_other
+    (search (outside_stays)) content_mid content_other
     (numbers_stay a (Asked user moment request first) mid one s)
-    (numbers_stay b (Asked user later request second) other two t) run others alike in (
-      (
-        replies_alike f request first second removes
-            (nothing_else_tells f a b user moment later request first second mid other same one two
-            barred s t),
-        on.0,
-      ),
-      on.1,
-    )
+    (numbers_stay b (Asked user later request second) other two t) run others alike in
+    search (nothing_else_tells, replies_alike)
 unseen f (InBothReset path which sent first second ∷ turns) a b c d same content_a content_b one two
     (mid, s, run) (other, t, others) (outside, alike) =
     let content_mid = tidy_stays a (WasReset path which sent first) mid one content_a s in
     let content_other = tidy_stays b (WasReset path which sent second) other two content_b t in
     let on = unseen f turns mid other c d
-    (reset_stays f a b same content_a content_b one two path which sent outside first second mid
-    other s t content_mid content_other) content_mid content_other
+    (search (reset_stays)) content_mid content_other
     (numbers_stay a (WasReset path which sent first) mid one s)
-    (numbers_stay b (WasReset path which sent second) other two t) run others alike in (
-      (
-        reset_replies f a b same content_a content_b one two path which sent outside first second
-            mid other s t,
-        on.0,
-      ),
-      on.1,
-    )
+    (numbers_stay b (WasReset path which sent second) other two t) run others alike in
+    search (reset_replies)
 unseen f (InBothReplaced pairs ∷ turns) a b c d same content_a content_b one two
     (mid, is_mid, run) (other, is_other, others) alike =
     let content_mid = tidy_stays a (Replaced pairs) mid one content_a is_mid in

@@ -1,56 +1,39 @@
 -- What changes who may do what.
 use Rattle.std.proofs.Common.{ℕ, ℤ, ◌≡◌, ◌⊎◌, inl, inr, true, false, List, [], ◌∷◌, Option, Some}
 use Rattle.std.proofs.Common.{None, refl, sym, ap, subst, ◌∙◌, filter, arith}
-use Rattle.std.specs.Option.{option_map}
-use Rattle.std.specs.Prelude.{is_some}
-use Rattle.std.proofs.lemmas.Bool.{false≢true, true≢false}
-use Rattle.std.proofs.lemmas.Option.{none-some}
-use Rattle.room_entry.specs.Rights.{write_acl, write_owner, execute}
-use Rattle.room_entry.specs.Valid.{first_bad_entry}
-use Rattle.room_entry.specs.declared.object.ObjKind.TheVariants.{Document, Folder}
-use Rattle.room_entry.specs.declared.object.Which.{Which}
-use Rattle.room_entry.specs.declared.object.Which.TheVariants.{Dacl, Sacl}
+use Rattle.std.proofs.lemmas.Bool.{true≢false, Decides.nat_tests}
+use Rattle.std.specs.{Option.option_map, Prelude.is_some}
+use Rattle.room_entry.specs.{Rights.{write_acl, write_owner}, Valid.first_bad_entry}
+use Rattle.room_entry.specs.declared.object.Which.{Which, TheVariants.{Dacl, Sacl}}
 use Rattle.room_entry.specs.declared.parties.Caller.{Caller}
 use Rattle.room_ace.specs.Sent.{Sent}
-use Rattle.room_rows.specs.Content.{Content, child_of, is_empty, with_records, with_node, with_body}
-use Rattle.room_rows.specs.Content.{without_node}
-use Rattle.room_rows.specs.declared.node.AuditRow.{AuditRow}
-use Rattle.room_rows.specs.declared.node.Node.{Node}
-use Rattle.room_machine.specs.Effect.{effect, put_bytes, with_site, new_node, moved_node, set_list}
-use Rattle.room_machine.specs.Judge.{first_failure, records_of_plan}
-use Rattle.room_machine.specs.Plan.{plan_of, move_items, Deletion, Refusal, bad_list, right_to_add}
-use Rattle.room_machine.specs.Rights.{reaches, sites_above}
-use Rattle.room_machine.specs.Run.{Event, Asked, WasReset, Replaced, Happens}
-use Rattle.room_machine.specs.Site.{Site, front, last_name, site_at, parent_at, sites_along}
-use Rattle.room_machine.specs.Step.{IsFree, Step, caller_in, failure_or, is_refusal, Reset}
-use Rattle.room_machine.specs.declared.reply.Reason.TheVariants.{Exists}
-use Rattle.room_machine.specs.declared.reply.Reply.{Reply}
-use Rattle.room_machine.specs.declared.reply.Reply.TheVariants.{Done}
-use Rattle.room_machine.specs.declared.request.Request.{Request}
+use Rattle.room_rows.specs.Content.{Content, child_of, is_empty, with_records, with_node}
+use Rattle.room_rows.specs.{Content.without_node, declared.node.{AuditRow.AuditRow, Node.Node}}
+use Rattle.room_machine.specs.Effect.{effect, put_bytes, with_site, moved_node, set_list}
+use Rattle.room_machine.specs.{Judge.first_failure, Plan.{plan_of, move_items, bad_list}}
+use Rattle.room_machine.specs.{Rights.{reaches, sites_above}, Run.{Event, Asked, WasReset}}
+use Rattle.room_machine.specs.{Run.{Replaced, Happens}, Site.{Site, front, last_name, site_at}}
+use Rattle.room_machine.specs.{Site.{parent_at, sites_along}, Step.{IsFree, Step, caller_in}}
+use Rattle.room_machine.specs.{Step.{failure_or, is_refusal, Reset}, declared.reply.Reply.Reply}
+use Rattle.room_machine.specs.declared.{reply.Reply.TheVariants.Done, request.Request.Request}
 use Rattle.room_machine.specs.declared.request.Request.TheVariants.{Read, List as ListFolder, Put}
 use Rattle.room_machine.specs.declared.request.Request.TheVariants.{Append, MakeFolder, Remove}
 use Rattle.room_machine.specs.declared.request.Request.TheVariants.{Move, ReadList, SetList}
 use Rattle.room_machine.specs.declared.request.Request.TheVariants.{ReadAttr, SetOwners, Can}
-use Rattle.room_laws.specs.Outside.{found}
-use Rattle.room_laws.specs.Tidy.{IsNumbered, IsTidy}
+use Rattle.room_laws.specs.{Outside.found, Tidy.{IsNumbered, IsTidy}}
 use Rattle.room_laws.proofs.Behind.{act_on, target_found, numbers_stay, after_step}
-use Rattle.room_laws.proofs.Grown.{GoesOn, goes_on}
-use Rattle.room_laws.proofs.Orphans.{orphans}
-use Rattle.room_laws.proofs.PairsStay.{KeepsMembers, kept_by, members_stay}
-use Rattle.room_laws.proofs.Passing.{not_refused, passed, parent_is, none_at, never_meets}
-use Rattle.room_laws.proofs.Passing.{remove_passed, move_passed, place_passed, folder_passed}
-use Rattle.room_laws.proofs.Passing.{above_found, place_free}
-use Rattle.room_laws.proofs.Seen.{like_at}
-use Rattle.room_laws.proofs.Settings.{no_children}
-use Rattle.room_laws.proofs.TidySteps.{tidy_stays}
+use Rattle.room_laws.proofs.{Grown.{GoesOn, goes_on}, Orphans.orphans, PairsStay.KeepsMembers}
+use Rattle.room_laws.proofs.{PairsStay.{kept_by, members_stay}, Passing.{not_refused, passed}}
+use Rattle.room_laws.proofs.Passing.{parent_is, none_at, never_meets, remove_passed, move_passed}
+use Rattle.room_laws.proofs.Passing.{place_passed, folder_passed, above_found, place_free}
+use Rattle.room_laws.proofs.{Seen.like_at, Settings.no_children, TidySteps.tidy_stays}
 use Rattle.room_laws.specs.WhoChanged.{Changes, IsThere, SameBasis, ChangedBy, ChangedInRun}
 use Rattle.room_laws.specs.WhoChanged.{FirstChange, deciding_site}
 use Rattle.room_laws.proofs.Apart.{SameDown, down_itself, basis_down, owners_apart, list_apart}
 use Rattle.room_laws.proofs.Apart.{bytes_apart, records_apart, grown_apart, gone_apart}
 use Rattle.room_laws.proofs.Apart.{moved_apart, childless_end, audits_apart}
-use Rattle.room_laws.proofs.Asked.{check_passed, removal_passed, move_granted}
-use Rattle.room_laws.proofs.Held.{in_table, open_to, may_take, bits_known, adding_known}
-use Rattle.std.proofs.lemmas.Bool.Decides.{nat_tests}
+use Rattle.room_laws.proofs.{Asked.{check_passed, removal_passed, move_granted}, Held.in_table}
+use Rattle.room_laws.proofs.Held.{open_to, may_take, bits_known, adding_known}
 
 -- the objects down to the path are the same, or the event is one that changes them
 record Outcome (q : List (List ℕ)) (a : Content) (event : Event) (c : Content) : Type 0 where
@@ -72,9 +55,7 @@ all_done a (Some s) act = refl
 
 pub move_done : (a : Content) (o p : Option Site) (act : Site → Site → Content)
     → (with_site a o (λ s. with_site a p (λ d. (Done, act s d)))).0 ≡ Done
-move_done a None p act = refl
-move_done a (Some s) None act = refl
-move_done a (Some s) (Some d) act = refl
+move_done a o p act = grind (arith, nat_tests)
 
 module _ (q : List (List ℕ)) (a : Content) (numbered : IsNumbered a) (tidy : IsTidy a) (n : Node)
     (there : found a q ≡ Some n) (user : Option (List ℕ)) (moment : ℤ) (reply : Reply) where
@@ -85,22 +66,14 @@ module _ (q : List (List ℕ)) (a : Content) (numbered : IsNumbered a) (tidy : I
   After request c = Outcome q a (Asked user moment request reply) c
 
   as_before : (request : Request) → After request a
-  as_before request =
-      same_outcome q a (Asked user moment request reply) a (down_itself q a)
+  as_before request = search (down_itself, same_outcome)
 
   -- ---- objects that are made
 
   module _ (id : ℕ) (free : IsFree a id) where
     put_down : (path : List (List ℕ)) (bytes : List ℕ)
         → After (Put path bytes) (effect a caller id (Put path bytes)).1
-    put_down [] bytes = on (site_at (sites_along a []) [])
-      where
-        on : (o : Option Site)
-            → After (Put [] bytes) (put_bytes a caller id [] bytes o None).1
-        on None = as_before (Put [] bytes)
-        on (Some t) =
-            same_outcome q a (Asked user moment (Put [] bytes) reply) (with_body a t.node.id bytes)
-            (bytes_apart q a a t.node.id bytes (down_itself q a))
+    put_down [] bytes = grind (arith, nat_tests, as_before, bytes_apart, down_itself, same_outcome)
     put_down (name ∷ names) bytes =
         on (site_at (sites_along a (name ∷ names)) (name ∷ names)) refl
       where
@@ -111,16 +84,8 @@ module _ (q : List (List ℕ)) (a : Content) (numbered : IsNumbered a) (tidy : I
             act_on (Outcome q a (Asked user moment (Put (name ∷ names) bytes) reply)) a
             (parent_at (sites_along a (name ∷ names)) (name ∷ names)) _
             (as_before (Put (name ∷ names) bytes)) (λ d at_d.
-            same_outcome q a (Asked user moment (Put (name ∷ names) bytes) reply) _
-            (bytes_apart q a _ id bytes
-            (grown_apart a numbered q n there name names d.node (parent_is a name names d at_d)
-            (none_at a (name ∷ names) none)
-            (new_node id caller Document d (last_name (name ∷ names))) free refl refl
-            (orphans a numbered tidy id free))))
-        on (Some t) at_t =
-            same_outcome q a (Asked user moment (Put (name ∷ names) bytes) reply)
-            (with_body a t.node.id bytes)
-            (bytes_apart q a a t.node.id bytes (down_itself q a))
+            search (bytes_apart, grown_apart, none_at, orphans, parent_is, same_outcome))
+        on (Some t) at_t = search (bytes_apart, down_itself, same_outcome)
 
     folder_down : (path : List (List ℕ))
         → first_failure caller (plan_of a (MakeFolder path)) ≡ None
@@ -130,11 +95,7 @@ module _ (q : List (List ℕ)) (a : Content) (numbered : IsNumbered a) (tidy : I
         act_on (Outcome q a (Asked user moment (MakeFolder (name ∷ names)) reply)) a
         (parent_at (sites_along a (name ∷ names)) (name ∷ names)) _
         (as_before (MakeFolder (name ∷ names))) (λ d at_d.
-        same_outcome q a (Asked user moment (MakeFolder (name ∷ names)) reply) _
-        (grown_apart a numbered q n there name names d.node (parent_is a name names d at_d)
-        (folder_passed caller a name names d at_d none)
-        (new_node id caller Folder d (last_name (name ∷ names))) free refl refl
-        (orphans a numbered tidy id free)))
+        search (folder_passed, grown_apart, orphans, parent_is, same_outcome))
 
   -- ---- an object is removed or moved
 
@@ -157,19 +118,17 @@ module _ (q : List (List ℕ)) (a : Content) (numbered : IsNumbered a) (tidy : I
       on : GoesOn (name ∷ names) q ⊎ (GoesOn (name ∷ names) q → ⊥)
           → After (Remove (name ∷ names)) (without_node a s.node.id)
       on (inl (rest, is)) =
-          changed_outcome q a (Asked user moment (Remove (name ∷ names)) reply)
-          (without_node a s.node.id) (
-            childless_end a numbered q n there (name ∷ names) rest s.node at_node childless is,
-            may_take a user name names s above.0 at above.1
-                (open_to a user false (name ∷ names) _ none)
-                (removal_passed caller a (name ∷ names) s above.0 at above.1 none),
-            done,
+          search (
+            above,
+            at_node,
+            changed_outcome,
+            childless,
+            childless_end,
+            may_take,
+            open_to,
+            removal_passed,
           )
-      on (inr apart) =
-          same_outcome q a (Asked user moment (Remove (name ∷ names)) reply)
-          (without_node a s.node.id)
-          (gone_apart a numbered q n there tidy.names name names s.node at_node childless
-          above.0.node (parent_is a name names above.0 above.1) apart)
+      on (inr apart) = search (above, at_node, childless, gone_apart, parent_is, same_outcome)
 
   moved_down : (path to : List (List ℕ)) (s : Site) → site_at (sites_along a path) path ≡ Some s
       → (is_empty path ≡ false) × ((d : Site)
@@ -180,9 +139,7 @@ module _ (q : List (List ℕ)) (a : Content) (numbered : IsNumbered a) (tidy : I
       (λ e. (Done, with_node a (moved_node s e (last_name to))))).1
   moved_down [] to s at (full, rest) free done = absurd (true≢false full)
   moved_down (name ∷ names) [] s at (full, (d, at_d, none)) free done =
-      absurd (true≢false (not_refused caller [] Exists true
-      (passed caller (Refusal [] Exists true) []
-      (passed caller (Deletion s d) (Refusal [] Exists true ∷ []) none).1).0))
+      grind (arith, nat_tests, not_refused, passed)
   moved_down (name ∷ names) (first ∷ more) s at (full, (d, at_d, none)) free done =
       act_on (Outcome q a (Asked user moment (Move (name ∷ names) (first ∷ more)) reply)) a
       (site_at (sites_along a (front (first ∷ more))) (front (first ∷ more)))
@@ -200,20 +157,15 @@ module _ (q : List (List ℕ)) (a : Content) (numbered : IsNumbered a) (tidy : I
           (with_node a (moved_node s e (last_name (first ∷ more))))
       on e at_e (inl is) =
           let given = move_granted caller a first more s d e at_e none in
-          changed_outcome q a (Asked user moment (Move (name ∷ names) (first ∷ more)) reply)
-          (with_node a (moved_node s e (last_name (first ∷ more)))) (
-            is,
-            may_take a user name names s d at at_d free given.0,
-            (
-              s,
-              at,
-              in_table a user (front (first ∷ more)) e execute at_e
-                  (open_to a user false (front (first ∷ more)) _ none) given.1 bits_known.4,
-              in_table a user (front (first ∷ more)) e (right_to_add s.node) at_e
-                  (open_to a user false (front (first ∷ more)) _ none) given.2
-                  (adding_known s.node),
-            ),
-            done,
+          grind (
+            arith,
+            nat_tests,
+            adding_known,
+            bits_known,
+            changed_outcome,
+            in_table,
+            may_take,
+            open_to,
           )
       on e at_e (inr apart) =
           same_outcome q a (Asked user moment (Move (name ∷ names) (first ∷ more)) reply)
@@ -234,10 +186,7 @@ module _ (q : List (List ℕ)) (a : Content) (numbered : IsNumbered a) (tidy : I
       → first_failure caller (plan_of a (SetList path which sent)) ≡ None → reply ≡ Done
       → After (SetList path which sent)
       (set_list a which sent (parent_at (sites_along a path) path) s)
-  listed_down path Sacl sent s at none done =
-      same_outcome q a (Asked user moment (SetList path Sacl sent) reply) _
-      (audits_apart a numbered path s (target_found a path s at) q sent
-      (parent_at (sites_along a path) path))
+  listed_down path Sacl sent s at none done = search (audits_apart, same_outcome, target_found)
   listed_down path Dacl sent s at none done = on (goes_on path q)
     where
       on : GoesOn path q ⊎ (GoesOn path q → ⊥) → After (SetList path Dacl sent)
@@ -251,10 +200,7 @@ module _ (q : List (List ℕ)) (a : Content) (numbered : IsNumbered a) (tidy : I
                 bits_known.0,
             done,
           )
-      on (inr apart) =
-          same_outcome q a (Asked user moment (SetList path Dacl sent) reply) _
-          (list_apart a numbered path s (target_found a path s at) q apart Dacl sent
-          (parent_at (sites_along a path) path))
+      on (inr apart) = search (list_apart, same_outcome, target_found)
 
   owned_down : (path : List (List ℕ)) (owners : _) (s : Site)
       → site_at (sites_along a path) path ≡ Some s
@@ -271,9 +217,7 @@ module _ (q : List (List ℕ)) (a : Content) (numbered : IsNumbered a) (tidy : I
                 (check_passed caller a path (write_owner ∷ []) (λ t. []) s at none) bits_known.1,
             done,
           )
-      on (inr apart) =
-          same_outcome q a (Asked user moment (SetOwners path owners) reply) _
-          (owners_apart a numbered path s (target_found a path s at) q apart owners)
+      on (inr apart) = search (owners_apart, same_outcome, target_found)
 
   -- ---- all requests
 
@@ -335,10 +279,7 @@ module _ (q : List (List ℕ)) (a : Content) (numbered : IsNumbered a) (tidy : I
       → After request after
   step_down request after s =
       subst (Outcome q a (Asked user moment request reply)) (ap (λ (d : Reply × Content). d.1) s.2)
-      (noted (Asked user moment request reply) _
-      (records_of_plan caller moment (plan_of a request))
-      (on (first_failure caller (plan_of a request)) refl
-      (ap (λ (d : Reply × Content). d.0) s.2)))
+      (grind (arith, nat_tests, noted, on))
     where
       on : (o : Option Reply) → first_failure caller (plan_of a request) ≡ o
           → (failure_or o a (effect a caller s.0 request)).0 ≡ reply
@@ -355,8 +296,7 @@ noted_pairs a c rows keeps = record { members = keeps.members }
 step_pairs : (a : Content) (user : Option (List ℕ)) (moment : ℤ) (request : Request) (reply : Reply)
     (after : Content) → Step a user moment request reply after → KeepsMembers a after
 step_pairs a user moment request reply after s =
-    after_step (KeepsMembers a) (noted_pairs a) a user moment request reply after s
-    (kept_by a a refl) (members_stay a (caller_in a user) s.0 request)
+    grind (arith, nat_tests, after_step, kept_by, members_stay, noted_pairs)
 
 -- ---- any event
 
@@ -402,13 +342,9 @@ module _ (q : List (List ℕ)) (a : Content) (path : List (List ℕ))
 pub changed_by : ChangedBy
 changed_by q a (Asked user moment request reply) after numbered tidy there s =
     let at = there_at a q there in
-    standing_of q a after (Asked user moment request reply)
-    (step_pairs a user moment request reply after s)
-    (step_down q a numbered tidy at.0 at.1 user moment reply request after s)
+    search (standing_of, step_down, step_pairs)
 changed_by q a (WasReset path Sacl sent reply) after numbered tidy there s =
-    inl (reset_apart q a path Sacl sent (λ x at.
-    audits_apart a numbered path x (target_found a path x at) q sent
-    (parent_at (sites_along a path) path)) reply after s)
+    inl (reset_apart q a path Sacl sent (λ x at. search (audits_apart, target_found)) reply after s)
 changed_by q a (WasReset path Dacl sent reply) after numbered tidy there s = on (goes_on path q)
   where
     on : GoesOn path q ⊎ (GoesOn path q → ⊥)
@@ -423,9 +359,7 @@ changed_by q a (Replaced pairs) after numbered tidy there s = inr tt
 
 some_blank : (o p : Option Site) → option_map deciding_site o ≡ option_map deciding_site p
     → is_some o ≡ true → is_some p ≡ true
-some_blank None p same none = absurd (false≢true none)
-some_blank (Some s) None same some = absurd (none-some _ (sym same))
-some_blank (Some s) (Some t) same some = refl
+some_blank o p same none = grind (arith, nat_tests)
 
 pub still_there : (q : List (List ℕ)) (a c : Content) → SameBasis q a c → IsThere a q
     → IsThere c q
@@ -463,8 +397,7 @@ first_or_later q a mid after event events happens (inl same) rest = on (rest sam
         )
 
 pub changed_in_run : ChangedInRun
-changed_in_run q a [] after numbered tidy there is =
-    inl (subst (SameBasis q a) (sym is) (standing_itself q a))
+changed_in_run q a [] after numbered tidy there is = grind (arith, nat_tests, standing_itself)
 changed_in_run q a (event ∷ events) after numbered tidy there (mid, happens, run) =
     first_or_later q a mid after event events happens
     (changed_by q a event mid numbered tidy there happens)

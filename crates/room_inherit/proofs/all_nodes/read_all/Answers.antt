@@ -1,16 +1,12 @@
 use Rattle.std.proofs.Common.{◌++◌, Result, Ok, Err, List, sym, ap, subst, ◌∙◌}
-use Rattle.std.specs.List.{find, filter_map}
 use Rattle.std.proofs.lemmas.List.{append-nil, drop_all}
-use Rattle.room_rows.specs.declared.keep.KeepFault.TheVariants.{Memory}
-use Rattle.room_rows.specs.declared.keep.KeepFault.{KeepFault}
-use Rattle.room_rows.specs.declared.node.Node.{Node}
-use Rattle.room_rows.specs.Content.{node_at}
-use Rattle.room_rows.specs.Keep.{IsRead}
+use Rattle.std.specs.List.{find, filter_map}
+use Rattle.room_rows.specs.declared.{keep.KeepFault.{KeepFault, TheVariants.Memory}, node.Node.Node}
+use Rattle.room_rows.specs.{Content.node_at, Keep.IsRead, Sound.has_bad_list}
 use Rattle.room_rows.proofs.Steps.{handed_on, seen, read_on, answered, no_memory}
 use Rattle.room_inherit.specs.Reading.{AreAll, IsFirstBad}
-use Rattle.room_rows.specs.Sound.{has_bad_list}
-use Rattle.room_inherit.proofs.Blaming.{blames_less}
-use Rattle.room_inherit.proofs.Whole.{bad_at, one_more_node, sound_here, whole}
+use Rattle.room_inherit.proofs.{Blaming.blames_less, Whole.{bad_at, one_more_node, sound_here}}
+use Rattle.room_inherit.proofs.Whole.{whole}
 use Rattle.room_inherit.proofs.all_nodes.read_all.Goals as goal
 
 pub returns-in_err-read_sound : goal.returns-in_err-read_sound

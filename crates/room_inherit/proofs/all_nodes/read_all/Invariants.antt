@@ -1,9 +1,7 @@
 use Rattle.std.proofs.Common.{◌≡◌, ◌++◌, drop}
 use Rattle.std.specs.List.{find, filter_map}
-use Rattle.room_rows.specs.Content.{node_at}
-use Rattle.room_rows.specs.Rows.{numbers_of}
+use Rattle.room_rows.specs.{Content.node_at, Rows.numbers_of, Sound.has_bad_list}
 use Rattle.room_rows.proofs.Steps.{HasRead}
-use Rattle.room_rows.specs.Sound.{has_bad_list}
 use Rattle.room_inherit.proofs.all_nodes.read_all.Given as goal
 
 -- the reads have answered; none so far is bad, and the objects are those of the numbers so far

@@ -1,13 +1,11 @@
 use Rattle.std.proofs.Common.{◌≡◌, true, ◌+◌, ◌<◌, ◌^◌, length, [], Ok, Err, sym, ap, ◌∙◌, arith}
-use Rattle.std.specs.Prelude.{nat_lt}
 use Rattle.std.proofs.lemmas.Bool.{eqb-true, eqb-false, false≢true, ltb-true}
-use Rattle.room_rows.specs.declared.keep.KeepFault.TheVariants.{Damaged}
-use Rattle.room_rows.specs.Keep.{capped}
+use Rattle.std.specs.Prelude.{nat_lt}
+use Rattle.room_rows.specs.{declared.keep.KeepFault.TheVariants.Damaged, Keep.capped}
 use Rattle.room_inherit.specs.declared.outcome.SpreadFault.TheVariants.{Keeper}
 use Rattle.room_entry.proofs.Facts.Members.{no_length}
-use Rattle.room_inherit.proofs.Turns.{first_turn_fails}
-use Rattle.room_inherit.proofs.Bounded.{soon_fails, soon_done, ids_fail, later_fails, later_done}
-use Rattle.room_inherit.proofs.Bounded.{never_too_many}
+use Rattle.room_inherit.proofs.{Turns.first_turn_fails, Bounded.{soon_fails, soon_done, ids_fail}}
+use Rattle.room_inherit.proofs.Bounded.{later_fails, later_done, never_too_many}
 use Rattle.room_inherit.proofs.Descending.{descends, descends_not}
 use Rattle.room_inherit.proofs.descent.go_down.Goals.{then-is_empty, else-is_empty}
 use Rattle.room_inherit.proofs.descent.go_down.Goals as goal

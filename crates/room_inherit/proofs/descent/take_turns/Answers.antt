@@ -1,9 +1,6 @@
 use Rattle.std.proofs.Common.{◌≡◌, ℕ, ◌+◌, List, Result, refl, sym, ap, subst, ◌∙◌, inl, inr, arith}
-use Rattle.std.proofs.Common.{add-one, length}
-use Rattle.std.proofs.lemmas.List.{append-nil, length_push}
-use Rattle.room_rows.specs.declared.node.Node.{Node}
-use Rattle.room_rows.specs.Counts.{capped_below}
-use Rattle.room_rows.specs.Keep.{capped}
+use Rattle.std.proofs.{Common.{add-one, length}, lemmas.List.{append-nil, length_push}}
+use Rattle.room_rows.specs.{declared.node.Node.Node, Counts.capped_below, Keep.capped}
 use Rattle.room_inherit.specs.Turns.{AreTurns, TakesTurns}
 use Rattle.room_inherit.specs.declared.outcome.SpreadFault.{SpreadFault}
 use Rattle.room_entry.proofs.Facts.Members.{no_length}

@@ -1,7 +1,6 @@
 use Rattle.std.proofs.Common.{◌≡◌, ℕ, ◌+◌, ◌-◌, ◌*◌, ◌^◌, ◌<◌, ◌≤◌, length}
 use Rattle.room_rows.specs.Keep.{capped}
-use Rattle.room_inherit.specs.Turns.{AreTurns}
-use Rattle.room_inherit.specs.declared.descent.Reach.TheVariants.{Renewed}
+use Rattle.room_inherit.specs.{Turns.AreTurns, declared.descent.Reach.TheVariants.Renewed}
 use Rattle.room_inherit.proofs.descent.take_turns.Given as goal
 
 -- this many turns were taken

@@ -1,6 +1,5 @@
 use Rattle.std.proofs.Common.{◌≡◌, ◌∷◌, map, drop}
-use Rattle.room_rows.specs.declared.node.Node.{Node}
-use Rattle.room_rows.specs.Content.{is_rising}
+use Rattle.room_rows.specs.{declared.node.Node.Node, Content.is_rising}
 use Rattle.room_inherit.specs.Objects.{are_rising}
 use Rattle.room_inherit.proofs.objects.are_rising.Given as goal
 

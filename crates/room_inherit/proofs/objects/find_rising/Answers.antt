@@ -1,9 +1,7 @@
 use Rattle.std.proofs.Common.{◌≡◌, Some, sym, ap, ◌∙◌, rules, arith, inl, inr}
+use Rattle.std.proofs.lemmas.{List.Sorted.{answers_always, searchable_from_sorted}, Bool.cases_lt}
 use Rattle.std.specs.Cmp.{nat_cmp_total}
-use Rattle.std.proofs.lemmas.List.Sorted.{answers_always, searchable_from_sorted}
-use Rattle.room_rows.specs.declared.node.Node.{Node}
-use Rattle.room_rows.specs.Finding.{find_id}
-use Rattle.std.proofs.lemmas.Bool.{cases_lt}
+use Rattle.room_rows.specs.{declared.node.Node.Node, Finding.find_id}
 use Rattle.room_inherit.proofs.Numbers.{found_at, none_at, sorted_by_number, equal_from_cmp}
 use Rattle.room_inherit.proofs.Numbers.{apart_from_less, apart_from_greater}
 use Rattle.room_inherit.proofs.objects.find_rising.Goals as goal

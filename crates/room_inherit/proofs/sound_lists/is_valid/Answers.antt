@@ -1,7 +1,6 @@
 use Rattle.std.proofs.Common.{◌≡◌, Option, Some, None, Result, Ok, Err, MatchOption, ap, ◌∙◌}
 use Rattle.std.specs.Prelude.{is_none, is_ok}
-use Rattle.room_entry.specs.declared.fault.ListFault.{ListFault}
-use Rattle.room_entry.specs.Valid.{entry_fault}
+use Rattle.room_entry.specs.{declared.fault.ListFault.ListFault, Valid.entry_fault}
 use Rattle.room_inherit.proofs.sound_lists.is_valid.Goals as goal
 
 passes : (o : Option ListFault) (r : Result (Unit {0}) ListFault)

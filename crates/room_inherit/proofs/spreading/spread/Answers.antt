@@ -1,6 +1,5 @@
 use Rattle.std.proofs.Common.{Ok, Option, subst}
-use Rattle.room_rows.specs.Keep.{IsNodeAt, IsRead, IsUnreadableAt}
-use Rattle.room_rows.specs.declared.node.Node.{Node}
+use Rattle.room_rows.specs.{Keep.{IsNodeAt, IsRead, IsUnreadableAt}, declared.node.Node.Node}
 use Rattle.room_inherit.proofs.Carrying.{spreads_nowhere, spreads_there}
 use Rattle.room_inherit.proofs.spreading.spread.Goals as goal
 

@@ -1,9 +1,7 @@
 use Rattle.std.proofs.Common.{ℕ, Result, Ok, sym, subst}
-use Rattle.room_inherit.specs.SpreadAll.{SpreadsAll}
-use Rattle.room_inherit.specs.declared.outcome.Spread.{Spread}
+use Rattle.room_inherit.specs.{SpreadAll.SpreadsAll, declared.outcome.Spread.Spread}
 use Rattle.room_inherit.specs.declared.outcome.SpreadFault.{SpreadFault}
-use Rattle.room_inherit.proofs.BothSwept.{first_fails, second_fails, both_done}
-use Rattle.room_inherit.proofs.Calls.{handed_on}
+use Rattle.room_inherit.proofs.{BothSwept.{first_fails, second_fails, both_done}, Calls.handed_on}
 use Rattle.room_inherit.proofs.spreading.spread_all.Goals as goal
 
 pub returns-in_err-dacls : goal.returns-in_err-dacls

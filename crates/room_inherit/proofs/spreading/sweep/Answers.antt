@@ -1,10 +1,7 @@
 use Rattle.std.proofs.Common.{Result, sym, subst}
-use Rattle.room_inherit.specs.SpreadAll.{Sweeps}
-use Rattle.room_inherit.specs.declared.outcome.Spread.{Spread}
-use Rattle.room_inherit.specs.declared.outcome.SpreadFault.{SpreadFault}
-use Rattle.room_inherit.specs.declared.outcome.SpreadFault.TheVariants.{Keeper}
-use Rattle.room_inherit.proofs.Calls.{handed_on}
-use Rattle.room_inherit.proofs.SweepCalls.{sweeps_from, no_root_read}
+use Rattle.room_inherit.specs.{SpreadAll.Sweeps, declared.outcome.Spread.Spread}
+use Rattle.room_inherit.specs.declared.outcome.SpreadFault.{SpreadFault, TheVariants.Keeper}
+use Rattle.room_inherit.proofs.{Calls.handed_on, SweepCalls.{sweeps_from, no_root_read}}
 use Rattle.room_inherit.proofs.spreading.sweep.Goals as goal
 
 pub returns-in_err-root : goal.returns-in_err-root

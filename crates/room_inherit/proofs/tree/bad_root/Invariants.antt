@@ -1,7 +1,6 @@
 use Rattle.std.proofs.Common.{◌≡◌, ◌++◌, filter, drop, option_to_list}
 use Rattle.std.specs.Option.{option_copied}
-use Rattle.room_rows.specs.Content.{is_root}
-use Rattle.room_rows.specs.Sound.{bad_root}
+use Rattle.room_rows.specs.{Content.is_root, Sound.bad_root}
 use Rattle.room_inherit.proofs.tree.bad_root.Given as goal
 
 -- the one so far, and then those of what is left

@@ -1,10 +1,8 @@
 use Rattle.std.proofs.Common.{ℕ, ◌+◌, List, Result, length, drop, sym, ap, subst, ◌∙◌, arith}
-use Rattle.std.proofs.lemmas.Iterator.Adapters.{YieldsList-from_vec}
-use Rattle.std.proofs.lemmas.Iterator.Consumers.{YieldsList-turn, YieldsList-end}
-use Rattle.std.proofs.lemmas.List.{length_push}
+use Rattle.std.proofs.lemmas.Iterator.{Adapters.YieldsList-from_vec, Consumers.YieldsList-turn}
+use Rattle.std.proofs.lemmas.{Iterator.Consumers.YieldsList-end, List.length_push}
 use Rattle.std.proofs.Math.Seq.{drop-length}
-use Rattle.room_rows.specs.declared.keep.KeepFault.{KeepFault}
-use Rattle.room_rows.specs.declared.node.Node.{Node}
+use Rattle.room_rows.specs.declared.{keep.KeepFault.KeepFault, node.Node.Node}
 use Rattle.room_rows.proofs.Steps.{handed_on}
 use Rattle.room_inherit.specs.Turn.{Gathers}
 use Rattle.room_inherit.proofs.Gathered.{Gathering, gathering_begins, gathering_ends, gathering_on}

@@ -1,6 +1,5 @@
 use Rattle.std.proofs.Common.{◌≡◌, ◌+◌, ◌*◌, ◌≤◌, length, drop}
-use Rattle.room_rows.specs.declared.node.Node.{Node}
-use Rattle.room_rows.specs.Held.{held_of}
+use Rattle.room_rows.specs.{declared.node.Node.Node, Held.held_of}
 use Rattle.room_inherit.specs.Turn.{IsPassed, count_of}
 use Rattle.room_inherit.specs.declared.descent.Reach.TheVariants.{Renewed}
 use Rattle.room_inherit.proofs.Gathered.{Gathering}

@@ -1,5 +1,4 @@
-use Rattle.std.proofs.Common.{cond, [], ◌∷◌, ◌++◌, sym, ap, ◌∙◌}
-use Rattle.std.proofs.lemmas.List.{append-nil}
+use Rattle.std.proofs.{Common.{cond, [], ◌∷◌, ◌++◌, sym, ap, ◌∙◌}, lemmas.List.append-nil}
 use Rattle.room_inherit.specs.Turn.{brought_up}
 use Rattle.room_inherit.proofs.Gathered.{one_gathered}
 use Rattle.room_inherit.proofs.turn.gather_next.Goals as goal

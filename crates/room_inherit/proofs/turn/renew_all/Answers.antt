@@ -1,7 +1,6 @@
 use Rattle.std.proofs.Common.{ℕ, Result, length, sym, ap, subst, arith}
 use Rattle.room_entry.specs.declared.object.ObjKind.TheVariants.{Document, Folder}
-use Rattle.room_inherit.specs.Turn.{RenewsAll}
-use Rattle.room_inherit.specs.declared.outcome.SpreadFault.{SpreadFault}
+use Rattle.room_inherit.specs.{Turn.RenewsAll, declared.outcome.SpreadFault.SpreadFault}
 use Rattle.room_inherit.proofs.Calls.{gathered_written, handed_on, writing_fails}
 use Rattle.room_inherit.proofs.turn.renew_all.Goals as goal
 

@@ -1,6 +1,5 @@
 use Rattle.std.proofs.Common.{◌≡◌, false, List, sym, ap, subst, ◌∙◌}
-use Rattle.room_rows.specs.declared.node.Node.{Node}
-use Rattle.room_rows.specs.HeldList.{Held}
+use Rattle.room_rows.specs.{declared.node.Node.Node, HeldList.Held}
 use Rattle.room_inherit.specs.Turn.{IsPassed, RenewsAll, meets_again}
 use Rattle.room_inherit.proofs.Calls.{visited}
 use Rattle.room_inherit.proofs.turn.visit.Goals as goal

@@ -1,6 +1,5 @@
 use Rattle.std.proofs.Common.{Result, Ok, Err, sym, subst, ◌∙◌}
-use Rattle.room_inherit.specs.Turn.{WritesAll}
-use Rattle.room_inherit.specs.declared.outcome.SpreadFault.{SpreadFault}
+use Rattle.room_inherit.specs.{Turn.WritesAll, declared.outcome.SpreadFault.SpreadFault}
 use Rattle.room_inherit.specs.declared.outcome.SpreadFault.TheVariants.{Keeper}
 use Rattle.room_inherit.proofs.Calls.{both_written, folders_fail, handed_on, wrote}
 use Rattle.room_inherit.proofs.turn.write_all.Goals as goal

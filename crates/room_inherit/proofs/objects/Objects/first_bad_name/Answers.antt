@@ -1,15 +1,13 @@
-use Rattle.std.proofs.Common.{◌≡◌, true, false, not, take, sym, ap, ◌∙◌}
-use Rattle.std.specs.List.{list_any}
-use Rattle.std.specs.BTreeSet.{contains}
-use Rattle.std.proofs.lemmas.Bool.{and_left, and_right, and_from}
-use Rattle.room_rows.specs.Paths.{is_object_name}
+use Rattle.std.proofs.{Common.{◌≡◌, true, false, not, take, sym, ap, ◌∙◌}, lemmas.Bool.and_left}
+use Rattle.std.proofs.lemmas.Bool.{and_right, and_from}
+use Rattle.std.specs.{List.list_any, BTreeSet.contains}
+use Rattle.room_rows.specs.{Paths.is_object_name, Sound.has_sound_name}
 use Rattle.room_inherit.specs.Objects.{only}
-use Rattle.room_rows.specs.Sound.{has_sound_name}
-use Rattle.room_inherit.proofs.Given.{key_order, holds, one_more, name_test}
-use Rattle.room_inherit.proofs.Looking.{fails_here, passes_here}
-use Rattle.room_inherit.proofs.objects.Objects.first_bad_name.Goals as goal
+use Rattle.room_inherit.proofs.{Given.{key_order, holds, one_more, name_test}, Looking.fails_here}
+use Rattle.room_inherit.proofs.Looking.{passes_here}
 use Rattle.room_inherit.proofs.objects.Objects.first_bad_name.Goals.{then-not-is_object_name-via-then-not-is_object_name}
 use Rattle.room_inherit.proofs.objects.Objects.first_bad_name.Goals.{then-not-is_object_name-via-else-not-is_object_name+in_ok-insert+then-not-branch}
+use Rattle.room_inherit.proofs.objects.Objects.first_bad_name.Goals as goal
 
 pub returns-then-not-is_object_name : goal.returns-then-not-is_object_name
 returns-then-not-is_object_name c =

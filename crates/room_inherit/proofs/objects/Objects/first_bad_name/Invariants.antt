@@ -1,10 +1,7 @@
 use Rattle.std.proofs.Common.{◌≡◌, ℕ, not, List, drop, take}
-use Rattle.std.specs.Borrow.{Bor}
-use Rattle.std.specs.List.{find, list_any}
-use Rattle.std.specs.BTreeSet.{contains}
-use Rattle.room_rows.specs.declared.node.Node.{Node}
+use Rattle.std.specs.{Borrow.Bor, List.{find, list_any}, BTreeSet.contains}
+use Rattle.room_rows.specs.{declared.node.Node.Node, Sound.has_sound_name}
 use Rattle.room_inherit.specs.Objects.{only}
-use Rattle.room_rows.specs.Sound.{has_sound_name}
 use Rattle.room_inherit.proofs.Given.{key_order, holds}
 use Rattle.room_inherit.proofs.objects.Objects.first_bad_name.Given as goal
 

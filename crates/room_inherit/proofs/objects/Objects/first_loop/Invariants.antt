@@ -1,9 +1,6 @@
 use Rattle.std.proofs.Common.{◌≡◌, not, drop}
-use Rattle.std.specs.BTreeSet.{contains}
-use Rattle.std.specs.List.{find}
-use Rattle.std.specs.Ordering.{nat_cmp}
-use Rattle.room_rows.specs.declared.node.Node.{Node}
-use Rattle.room_rows.specs.Sound.{reaches}
+use Rattle.std.specs.{BTreeSet.contains, List.find, Ordering.nat_cmp}
+use Rattle.room_rows.specs.{declared.node.Node.Node, Sound.reaches}
 use Rattle.room_inherit.specs.Objects.{AllLead, only}
 use Rattle.room_inherit.proofs.objects.Objects.first_loop.Given as goal
 

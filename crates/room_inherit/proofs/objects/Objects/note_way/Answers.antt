@@ -1,6 +1,5 @@
 use Rattle.std.proofs.Common.{◌<◌, length, refl, sym, ap, ◌∙◌, arith}
-use Rattle.std.specs.BTreeSet.{contains}
-use Rattle.std.specs.Ordering.{nat_cmp}
+use Rattle.std.specs.{BTreeSet.contains, Ordering.nat_cmp}
 use Rattle.room_rows.specs.Content.{reaches_root}
 use Rattle.room_inherit.specs.Objects.{only}
 use Rattle.room_inherit.proofs.Upward.{leads_too, way_above}

@@ -1,10 +1,7 @@
 use Rattle.std.proofs.Common.{◌≡◌, true, length}
-use Rattle.std.specs.BTreeSet.{contains}
-use Rattle.std.specs.Ordering.{nat_cmp}
-use Rattle.std.specs.Prelude.{IsTrue}
-use Rattle.room_rows.specs.Content.{reaches_root}
+use Rattle.std.specs.{BTreeSet.contains, Ordering.nat_cmp, Prelude.IsTrue}
+use Rattle.room_rows.specs.{Content.reaches_root, Sound.reaches}
 use Rattle.room_inherit.specs.Objects.{AllLead, only}
-use Rattle.room_rows.specs.Sound.{reaches}
 use Rattle.room_inherit.proofs.objects.Objects.note_way.Given as goal
 
 -- what is known leads to the root, and so does what is above

@@ -1,8 +1,7 @@
 use Rattle.std.proofs.Common.{◌<◌, ◌+◌, length, sym, ap, ◌∙◌, arith}
 use Rattle.room_rows.specs.Content.{reaches_root}
 use Rattle.room_inherit.specs.Objects.{only}
-use Rattle.room_inherit.proofs.Enough.{enough_steps}
-use Rattle.room_inherit.proofs.Upward.{way_left, way_longer}
+use Rattle.room_inherit.proofs.{Enough.enough_steps, Upward.{way_left, way_longer}}
 use Rattle.room_inherit.proofs.objects.Objects.reaches_root.Goals as goal
 
 pub returns-then-contains : goal.returns-then-contains

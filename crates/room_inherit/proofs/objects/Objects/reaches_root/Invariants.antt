@@ -1,7 +1,6 @@
 use Rattle.std.proofs.Common.{◌≡◌, ℕ, ◌+◌, ◌-◌, true, length}
-use Rattle.room_rows.specs.Content.{reaches_root}
+use Rattle.room_rows.specs.{Content.reaches_root, Sound.reaches}
 use Rattle.room_inherit.specs.Objects.{only}
-use Rattle.room_rows.specs.Sound.{reaches}
 use Rattle.room_inherit.proofs.objects.Objects.reaches_root.Given as goal
 
 -- the steps that are left lead to the root exactly if all do, and any steps from here make a way
