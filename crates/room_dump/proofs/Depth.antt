@@ -8,26 +8,16 @@ use Rattle.std.proofs.lemmas.Bool.{false≢true, eqb-true, eq-eqb}
 use Rattle.room_rows.specs.declared.node.Node.{Node}
 use Rattle.room_rows.specs.Content.{Content, children_of, has_parent}
 use Rattle.room_dump.specs.Dump.{tree_of}
+use Rattle.room_dump.specs.Visits.{HasAll, always, is_number}
 use Rattle.room_dump.proofs.Counting.{count_parts, each_both, each_counted, each_filter}
 use Rattle.room_dump.proofs.Counting.{none_counted, same_flat}
 use Rattle.room_entry.proofs.Facts.Members.{count}
 use Rattle.room_entry.proofs.Facts.Lists.{filter_weaker}
 use Rattle.room_rows.proofs.Lookups.{each-sorted}
 
-abbrev pub is_number : ℕ → Node → Bool
-is_number id node = node.id == id
-
-abbrev pub always : Node → Bool
-always node = true
-
 -- no number stands twice
 abbrev pub IsOnce : Node → List Node → Type 0
 IsOnce node rest = (id : ℕ) → count (is_number id) (node ∷ []) + count (is_number id) rest ≤ 1
-
--- all children of the object are among these
-abbrev pub HasAll : Content → List Node → Node → Type 0
-HasAll content rest node =
-    filter (has_parent node.id) rest ≡ filter (has_parent node.id) content.nodes
 
 -- these without the children of the object
 abbrev pub others : Node → List Node → List Node

@@ -11,8 +11,8 @@ use Rattle.room_rows.specs.Rows.{AreRows, Rows}
 use Rattle.room_rows.specs.Walk.{behind, walk_from, walk_of}
 use Rattle.room_rows.proofs.Frames.{Rises, child_of-is_there, root_of-is_there}
 use Rattle.room_dump.proofs.Counting.{each_last}
-use Rattle.room_dump.proofs.Reached.{IsThere}
 use Rattle.room_dump.specs.Fetching.{EndsAt, LacksItsBytes}
+use Rattle.room_dump.specs.Visits.{IsThere}
 
 module _ (content : Content) (rises : Rises content) where
   there_from : (names : List (List ℕ)) (node : Node) → IsThere content node

@@ -1,8 +1,8 @@
 pub mod Counting
 pub mod Depth
+pub mod Dumped
 pub mod Ends
 pub mod Reached
 pub mod Reading
-pub mod Turning
-pub mod Waits
+pub mod Walks
 pub mod Whole

@@ -10,25 +10,22 @@ use Rattle.std.proofs.lemmas.Bool.{false≢true, and_parts, eqb-true, eq-eqb, ne
 use Rattle.std.proofs.lemmas.List.{length-map}
 use Rattle.std.proofs.Math.Nat.{le_trans}
 use Rattle.room_rows.specs.declared.node.Node.{Node}
-use Rattle.room_rows.specs.Content.{Content, child_of, children_of, has_parent, is_rising, node_at}
+use Rattle.room_rows.specs.Content.{Content, child_of, children_of, has_parent, is_rising}
 use Rattle.room_rows.specs.Content.{root_of}
 use Rattle.room_entry.specs.Pieces.{same_text}
 use Rattle.room_rows.specs.Finding.{find_id}
 use Rattle.room_rows.specs.Rows.{AreRows, Rows, numbers_of, unread_numbers}
 use Rattle.room_dump.specs.Dump.{tree_of}
+use Rattle.room_dump.specs.Visits.{Fits, HasAll, IsThere, Reached, always, is_number}
 use Rattle.room_dump.proofs.Counting.{count_all, count_append, count_found, count_parts}
 use Rattle.room_dump.proofs.Counting.{count_reverse, each_always, each_both, each_filter}
 use Rattle.room_dump.proofs.Counting.{each_found, each_last, each_reverse, none_counted}
-use Rattle.room_dump.proofs.Depth.{HasAll, all_still, always, goes_on, is_number, others}
+use Rattle.room_dump.proofs.Depth.{all_still, goes_on, others}
 use Rattle.room_entry.proofs.Facts.Members.{each_append, each_front, each_weaker, one_if, count}
 use Rattle.room_entry.proofs.Facts.Lists.{filter_weaker}
 use Rattle.room_rows.proofs.Lookups.{each-sorted, count_sorted, length_numbers}
 
 -- ---- rows
-
--- the object is found by its number
-abbrev pub IsThere : Content → Node → Type 0
-IsThere content node = node_at content node.id ≡ Some node
 
 abbrev Above : ℕ → Node → Type 0
 Above k node = k < node.id
@@ -112,17 +109,6 @@ no_more_objects rows =
 
 -- ---- what waits
 
-abbrev pub Fits : Content → List Node → Node → Type 0
-Fits content rest node = HasAll content rest node × IsThere content node
-
--- The rest wasn't reached yet. All children of what waits and of the rest are among it.
-pub record Reached (content : Content) (waiting : List Node) (most turn : ℕ) : Type 0 where
-  pub rest : List Node
-  pub waits : Each (Fits content rest) waiting
-  pub rests : Each (HasAll content rest) rest
-  pub once : (id : ℕ) → count (is_number id) waiting + count (is_number id) rest ≤ 1
-  pub fewer : (count always waiting + count always rest) + turn ≤ most
-
 below_root : (id : ℕ) (node : Node) → has_parent id node ≡ true → not (is_none node.parent) ≡ true
 below_root id node is = on node.parent is
   where
@@ -131,12 +117,9 @@ below_root id node is = on node.parent is
     on None is = absurd (false≢true is)
     on (Some p) is = refl
 
-none_yet_turned : (a b c : ℕ) → a ≤ b → b ≤ c → a + 0 ≤ c
-none_yet_turned a b c e f = omega (arith, e, f)
-
 -- the root waits
 pub reached_first : (rows : Rows) → AreRows rows → (root : Node) → root_of rows.read ≡ Some root
-    → Reached rows.read (root ∷ []) (length (numbers_of rows)) 0
+    → Reached rows.read (root ∷ []) (length (numbers_of rows))
 reached_first rows are root is =
     let nodes = rows.read.nodes in
     let rest = filter (λ (n : Node). not (is_none n.parent)) nodes in
@@ -156,20 +139,8 @@ reached_first rows are root is =
       rests = each_always (HasAll rows.read rest) all rest;
       once =
           λ id. le_trans (found (is_number id)) (once_rising 0 id nodes are.numbers);
-      fewer =
-          none_yet_turned (count always (root ∷ []) + count always rest) (count always nodes)
-          (length (numbers_of rows)) (found always) (no_more_objects rows);
+      fewer = le_trans (found always) (no_more_objects rows);
     }
-
-too_many : (a b c d : ℕ) → d ≤ c → ((1 + a) + b) + c ≤ d → ⊥
-too_many a b c d e f = omega (arith, e, f)
-
--- none waits after n turns
-pub none_waits : (content : Content) (waiting : List Node) (most turn : ℕ) → most ≤ turn
-    → (length waiting ≡ 0 → ⊥) → Reached content waiting most turn → ⊥
-none_waits content [] most turn over some r = some refl
-none_waits content (node ∷ waiting) most turn over some r =
-    too_many (count always waiting) (count always r.rest) turn most over r.fewer
 
 -- the sums of a turn
 one_gone : (a b c : ℕ) → (a + (1 + 0)) + c ≤ 1 → a ≤ 0
@@ -182,12 +153,16 @@ once_more : (waits gone kids left rest : ℕ) → (waits + gone) + rest ≤ 1 �
     → (waits + kids) + left ≤ 1
 once_more waits gone kids left rest e f = omega (arith, e, f)
 
-one_turn : (waits kids left rest turn most : ℕ) → ((waits + (1 + 0)) + rest) + turn ≤ most
-    → kids + left ≡ rest → ((waits + kids) + left) + (turn + 1) ≤ most
-one_turn waits kids left rest turn most e f = omega (arith, e, f)
+one_turn : (waits kids left rest more next : ℕ) → (waits + (1 + 0)) + rest ≤ more
+    → kids + left ≡ rest → more ≤ next + 1 → (waits + kids) + left ≤ next
+one_turn waits kids left rest more next e f g = omega (arith, e, f, g)
 
-rest_below : (waits rest turn most : ℕ) → ((waits + (1 + 0)) + rest) + turn ≤ most → rest < most
-rest_below waits rest turn most e = omega (arith, e)
+rest_below : (waits rest left most : ℕ) → (waits + (1 + 0)) + rest ≤ left → left ≤ most
+    → rest < most
+rest_below waits rest left most e f = omega (arith, e, f)
+
+one_at_least : (waits rest left : ℕ) → (waits + (1 + 0)) + rest ≤ left → 0 < left
+one_at_least waits rest left e = omega (arith, e)
 
 alone_too : (waits one rest : ℕ) → (waits + one) + rest ≤ 1 → one + rest ≤ 1
 alone_too waits one rest e = omega (arith, e)
@@ -196,9 +171,9 @@ one_child : (gone one kids left rest : ℕ) → (0 + gone) + rest ≤ 1 → kids
     → one + left ≤ 1
 one_child gone one kids left rest e f g = omega (arith, e, f, g)
 
-fewer_below : (gone one kids left rest turn most : ℕ) → ((0 + gone) + rest) + turn ≤ most
-    → kids + left ≡ rest → one ≤ kids → (one + left) + turn ≤ most
-fewer_below gone one kids left rest turn most e f g = omega (arith, e, f, g)
+fewer_below : (gone one kids left rest most : ℕ) → (0 + gone) + rest ≤ most → kids + left ≡ rest
+    → one ≤ kids → one + left ≤ most
+fewer_below gone one kids left rest most e f g = omega (arith, e, f, g)
 
 no_more : (a b c : ℕ) → a + b ≤ c → a ≤ c
 no_more a b c e = omega (arith, e)
@@ -215,7 +190,7 @@ find_both q s (x ∷ xs) = on (q x) (find_both q s xs)
     on false same = same
 
 module _ (content : Content) (there : Each (IsThere content) content.nodes) (waits : List Node)
-    (node : Node) (most turn : ℕ) (r : Reached content (waits ++ node ∷ []) most turn) where
+    (node : Node) (more : ℕ) (r : Reached content (waits ++ node ∷ []) more) where
   -- the numbers of what waits, with the object last
   once_last : (id : ℕ)
       → (count (is_number id) waits + count (is_number id) (node ∷ []))
@@ -223,9 +198,12 @@ module _ (content : Content) (there : Each (IsThere content) content.nodes) (wai
   once_last id = subst (λ n. n + count (is_number id) r.rest ≤ 1)
       (count_append (is_number id) waits (node ∷ [])) (r.once id)
 
-  fewer_last : ((count always waits + count always (node ∷ [])) + count always r.rest) + turn ≤ most
-  fewer_last = subst (λ n. (n + count always r.rest) + turn ≤ most)
+  fewer_last : (count always waits + count always (node ∷ [])) + count always r.rest ≤ more
+  fewer_last = subst (λ n. n + count always r.rest ≤ more)
       (count_append always waits (node ∷ [])) r.fewer
+
+  pub some_left : 0 < more
+  some_left = one_at_least (count always waits) (count always r.rest) more fewer_last
 
   fits_last : Fits content r.rest node
   fits_last = each_last (Fits content r.rest) waits node r.waits
@@ -239,14 +217,16 @@ module _ (content : Content) (there : Each (IsThere content) content.nodes) (wai
 
   -- what is told from the object that is taken next
   pub goes_down : {P X : Type 0} (below : P → Node → Node → P) (tell : P → Node → List X) (place : P)
+      (most : ℕ)
+      → more ≤ most
       → tree_of below tell most content place node ≡ tell place node
       ++ flat_map (λ child. tree_of below tell most content (below place node child) child)
       (children_of content node.id)
-  goes_down below tell place =
+  goes_down below tell place most within =
       goes_on below tell most content r.rest place node fits_last.0 r.rests
       (λ id. alone_too (count (is_number id) waits) (count (is_number id) (node ∷ []))
       (count (is_number id) r.rest) (once_last id))
-      (rest_below (count always waits) (count always r.rest) turn most fewer_last)
+      (rest_below (count always waits) (count always r.rest) more most fewer_last within)
 
   -- what is left of the rest without its children, and these
   abbrev left : List Node
@@ -287,8 +267,9 @@ module _ (content : Content) (there : Each (IsThere content) content.nodes) (wai
       (one_gone (count (is_number node.id) waits) 0 (count (is_number node.id) r.rest) here))
 
   -- it is taken, and its children wait
-  pub reached_next : Reached content (waits ++ reverse (children_of content node.id)) most (turn + 1)
-  reached_next =
+  pub reached_next : (next : ℕ) → more ≤ next + 1
+      → Reached content (waits ++ reverse (children_of content node.id)) next
+  reached_next next less =
       let children = children_of content node.id in
       let in_order = λ (p : Node → Bool). ap (λ (n : ℕ). n + count p left) (count_sorted p kids)
       ∙ parts p in
@@ -304,37 +285,37 @@ module _ (content : Content) (there : Each (IsThere content) content.nodes) (wai
             (once_more (count (is_number id) waits) (count (is_number id) (node ∷ []))
             (count (is_number id) children) (count (is_number id) left)
             (count (is_number id) r.rest) (once_last id) (in_order (is_number id)));
-        fewer = subst (λ n. (n + count always left) + (turn + 1) ≤ most) (sym (come always))
+        fewer = subst (λ n. n + count always left ≤ next) (sym (come always))
             (one_turn (count always waits) (count always children) (count always left)
-            (count always r.rest) turn most fewer_last (in_order always));
+            (count always r.rest) more next fewer_last (in_order always) less);
       }
 
 -- a child waits alone where its folder waited alone
 pub reached_child : (content : Content) → Each (IsThere content) content.nodes
-    → (node child : Node) (name : List ℕ) (most turn : ℕ) → Reached content (node ∷ []) most turn
-    → child_of content node.id name ≡ Some child → Reached content (child ∷ []) most turn
-reached_child content there node child name most turn r is =
+    → (node child : Node) (name : List ℕ) (most : ℕ) → Reached content (node ∷ []) most
+    → child_of content node.id name ≡ Some child → Reached content (child ∷ []) most
+reached_child content there node child name most r is =
     let s = λ (n : Node). same_text n.name name in
     let found = sym (find_both (has_parent node.id) s content.nodes) ∙ is in
-    let all = kids content there [] node most turn r in
-    let more = left content there [] node most turn r in
+    let all = kids content there [] node most r in
+    let more = left content there [] node most r in
     let fewer = λ (p : Node → Bool). no_more (count p (child ∷ []))
     (count p (filter (λ y. not (s y)) all)) (count p all) (count_found p s all child found) in
-    let sums = parts content there [] node most turn r in
+    let sums = parts content there [] node most r in
     record {
       rest = more;
       waits = (
-        each_found (Fits content more) s all child (kids_fit content there [] node most turn r) found,
+        each_found (Fits content more) s all child (kids_fit content there [] node most r) found,
         tt,
       );
-      rests = rests_still content there [] node most turn r;
+      rests = rests_still content there [] node most r;
       once = λ id. one_child (count (is_number id) (node ∷ [])) (count (is_number id) (child ∷ []))
           (count (is_number id) all) (count (is_number id) more) (count (is_number id) r.rest)
-          (once_last content there [] node most turn r id) (sums (is_number id))
+          (once_last content there [] node most r id) (sums (is_number id))
           (fewer (is_number id));
       fewer = fewer_below (count always (node ∷ [])) (count always (child ∷ [])) (count always all)
-          (count always more) (count always r.rest) turn most
-          (fewer_last content there [] node most turn r) (sums always) (fewer always);
+          (count always more) (count always r.rest) most
+          (fewer_last content there [] node most r) (sums always) (fewer always);
     }
 
 -- all objects are found by their numbers

@@ -6,7 +6,7 @@ use Rattle.room_rows.specs.declared.keep.KeepFault.{KeepFault}
 use Rattle.room_rows.specs.declared.keep.KeepFault.TheVariants.{Memory, Store, Damaged}
 use Rattle.room_rows.specs.Calls.{Reads}
 use Rattle.room_rows.specs.Keep.{HasCause, IfSeen, KeepLaws}
-use Rattle.room_rows.specs.Rows.{Rows}
+use Rattle.room_rows.specs.Rows.{AreRows, Rows}
 
 -- an error that `?` hands on
 handed_on : {X : Type 0} (r : Result X KeepFault) (e : KeepFault) → IsErrAnd r (λ x. x ≡ e)
@@ -16,71 +16,90 @@ handed_on (Err x) e h = ap Err h
 
 module _ {S : Type 0} (k : Ghosts S)
     (laws : KeepLaws k.rows k.failures k.writes k.Follows k.IsTrusted) where
-  -- calls that read, each of which answered
-  pub record HasRead (a b : S) : Type 0 where
+  -- what calls that read, each of which answered, tell of the rows
+  pub record Knows (a b : S) (P : Rows → Type 0) : Type 0 where
     pub follows : k.Follows a b
     pub unwritten : k.writes b ≡ k.writes a
     pub unfailed : k.failures b ≡ k.failures a
     pub same : k.IsTrusted a b → k.rows b ≡ k.rows a
+    pub known : k.IsTrusted a b → P (k.rows a)
 
-  pub none_yet : (a : S) → HasRead a a
-  none_yet a =
-      record { follows = laws.itself a; unwritten = refl; unfailed = refl; same = λ t. refl }
-
-  -- a read after others
-  pub read_on : {X : Type 0} (a b c : S) (x : X) {Blames : Rows → ℕ → Type 0}
-      {Answers : Rows → X → Type 0} → HasRead a b → Reads k b c (Ok x) Blames Answers → HasRead a c
-  read_on a b c x sofar read = record {
-    follows = laws.on a b c sofar.follows read.follows;
-    unwritten = read.unwritten ∙ sofar.unwritten;
-    unfailed = read.unfailed ∙ sofar.unfailed;
-    same =
-        λ t. read.same (laws.last a b c sofar.follows read.follows t)
-        ∙ sofar.same (laws.first a b c sofar.follows read.follows t);
+  -- no call
+  pub knows : (a : S) {P : Rows → Type 0} → ((rows : Rows) → AreRows rows → P rows) → Knows a a P
+  knows a known = record {
+    follows = laws.itself a;
+    unwritten = refl;
+    unfailed = refl;
+    same = λ t. refl;
+    known = λ t. known (k.rows a) (laws.are a a t);
   }
 
-  -- what it answers, by the rows before the first read
-  pub answer_on : {X : Type 0} (a b c : S) (x : X) {Blames : Rows → ℕ → Type 0}
-      {Answers : Rows → X → Type 0} → HasRead a b → Reads k b c (Ok x) Blames Answers
-      → k.IsTrusted a c → Answers (k.rows a) x
-  answer_on a b c x {Answers = Answers} sofar read t =
-      subst (λ (w : Rows). Answers w x) (sofar.same (laws.first a b c sofar.follows read.follows t))
-      (read.answers (laws.last a b c sofar.follows read.follows t))
+  -- a read after others
+  pub learns : {X : Type 0} (a b c : S) (x : X) {Blames : Rows → ℕ → Type 0}
+      {Answers : Rows → X → Type 0} {P Q : Rows → Type 0} → Knows a b P
+      → Reads k b c (Ok x) Blames Answers
+      → ((rows : Rows) → AreRows rows → P rows → Answers rows x → Q rows) → Knows a c Q
+  learns a b c x {Answers = Answers} sofar read adds =
+      let first = laws.first a b c sofar.follows read.follows in
+      let last = laws.last a b c sofar.follows read.follows in
+      record {
+        follows = laws.on a b c sofar.follows read.follows;
+        unwritten = read.unwritten ∙ sofar.unwritten;
+        unfailed = read.unfailed ∙ sofar.unfailed;
+        same = λ t. read.same (last t) ∙ sofar.same (first t);
+        known = λ t. adds (k.rows a) (laws.are a c t) (sofar.known (first t))
+            (subst (λ (w : Rows). Answers w x) (sofar.same (first t)) (read.answers (last t)));
+      }
 
   -- the calls that answered are all
   pub answered : {Y : Type 0} (a c : S) (x : Y) {Blames : Rows → ℕ → Type 0}
-      {Answers : Rows → Y → Type 0} → HasRead a c → (k.IsTrusted a c → Answers (k.rows a) x)
+      {Answers : Rows → Y → Type 0} → Knows a c (λ rows. Answers rows x)
       → Reads k {X = Y} a c (Ok x) Blames Answers
-  answered a c x sofar answers =
+  answered a c x sofar =
       record {
         follows = sofar.follows;
         unwritten = sofar.unwritten;
         same = sofar.same;
-        answers = answers;
+        answers = sofar.known;
         unfailed = sofar.unfailed;
         fault = tt;
       }
 
   -- the rows themselves are at fault
   pub damaged : {Y : Type 0} (a c : S) (id : ℕ) {Blames : Rows → ℕ → Type 0}
-      {Answers : Rows → Y → Type 0} → HasRead a c → (k.IsTrusted a c → Blames (k.rows a) id)
+      {Answers : Rows → Y → Type 0} → Knows a c (λ rows. Blames rows id)
       → Reads k {X = Y} a c (Err (Damaged id)) Blames Answers
-  damaged a c id sofar blames =
+  damaged a c id sofar =
       record {
         follows = sofar.follows;
         unwritten = sofar.unwritten;
         same = sofar.same;
         answers = λ t. tt;
         unfailed = tt;
-        fault = blames;
+        fault = sofar.known;
       }
+
+  -- memory runs out after them
+  pub out_of_memory : {Y : Type 0} (a c : S) (r : Result Y KeepFault) {Blames : Rows → ℕ → Type 0}
+      {Answers : Rows → Y → Type 0} {P : Rows → Type 0} → Knows a c P → IsErrAnd r (λ x. x ≡ Memory)
+      → Reads k a c r Blames Answers
+  out_of_memory {Y = Y} a c r {Blames} {Answers} sofar is =
+      subst (λ (result : Result Y KeepFault). Reads k a c result Blames Answers)
+      (sym (handed_on r Memory is)) (record {
+        follows = sofar.follows;
+        unwritten = sofar.unwritten;
+        same = λ t. tt;
+        answers = λ t. tt;
+        unfailed = tt;
+        fault = tt;
+      })
 
   -- a read after others fails, and so does the call that made it
   pub fails : {X Y : Type 0} (a b c : S) (e : KeepFault) (r : Result Y KeepFault)
       {Blames Blames' : Rows → ℕ → Type 0} {Answers : Rows → X → Type 0}
-      {Answers' : Rows → Y → Type 0}
-      → (k.IsTrusted a b → (row : ℕ) → Blames (k.rows a) row → Blames' (k.rows a) row)
-      → HasRead a b → Reads k {X = X} b c (Err e) Blames Answers → IsErrAnd r (λ x. x ≡ e)
+      {Answers' : Rows → Y → Type 0} {P : Rows → Type 0}
+      → ((rows : Rows) → AreRows rows → P rows → (row : ℕ) → Blames rows row → Blames' rows row)
+      → Knows a b P → Reads k {X = X} b c (Err e) Blames Answers → IsErrAnd r (λ x. x ≡ e)
       → Reads k a c r Blames' Answers'
   fails {X = X} {Y = Y} a b c e r {Blames} {Blames'} {Answers} {Answers'} blames sofar read is =
       subst (λ (result : Result Y KeepFault). Reads k a c result Blames' Answers')
@@ -115,16 +134,16 @@ module _ {S : Type 0} (k : Ghosts S)
           subst (λ (n : ℕ). HasCause n (k.failures c)
           (λ row. k.IsTrusted a c → Blames' (k.rows a) row) Store) sofar.unfailed h
       cause (Damaged id) h =
-          λ t. blames (before t) id
+          λ t. blames (k.rows a) (laws.are a c t) (sofar.known (before t)) id
           (subst (λ (w : Rows). Blames w id) (sofar.same (before t)) (h (now t)))
 
   -- a last read, whose answer is that of the call that made it
   pub tail : {X : Type 0} (a b c : S) (r : Result X KeepFault) {Blames Blames' : Rows → ℕ → Type 0}
-      {Answers Answers' : Rows → X → Type 0} → HasRead a b
-      → (k.IsTrusted a b → (row : ℕ) → Blames (k.rows a) row → Blames' (k.rows a) row)
-      → (k.IsTrusted a c → (x : X) → Answers (k.rows a) x → Answers' (k.rows a) x)
+      {Answers Answers' : Rows → X → Type 0} {P : Rows → Type 0} → Knows a b P
+      → ((rows : Rows) → AreRows rows → P rows → (row : ℕ) → Blames rows row → Blames' rows row)
+      → ((rows : Rows) → AreRows rows → P rows → (x : X) → Answers rows x → Answers' rows x)
       → Reads k b c r Blames Answers → Reads k a c r Blames' Answers'
   tail a b c (Ok x) sofar blames answers read =
-      answered a c x (read_on a b c x sofar read)
-      (λ t. answers t x (answer_on a b c x sofar read t))
+      answered a c x
+      (learns a b c x sofar read (λ rows are known is. answers rows are known x is))
   tail a b c (Err e) sofar blames answers read = fails a b c e (Err e) blames sofar read refl

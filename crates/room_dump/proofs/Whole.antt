@@ -3,12 +3,13 @@ use Rattle.std.proofs.Common.{ℕ, ◌+◌, ◌<◌, ◌≤◌, [], length, sym,
 use Rattle.room_rows.specs.Rows.{numbers_of}
 use Rattle.room_dump.specs.Dump.{child_path, object_lines}
 use Rattle.room_dump.specs.Laws.{TextIsWhole}
-use Rattle.room_dump.proofs.Depth.{always, deep_enough}
+use Rattle.room_dump.specs.Visits.{always}
+use Rattle.room_dump.proofs.Depth.{deep_enough}
+use Rattle.room_dump.proofs.Dumped.{told_from}
 use Rattle.room_dump.proofs.Reached.{reached_first}
-use Rattle.room_dump.proofs.Turning.{told_from}
 use Rattle.room_entry.proofs.Facts.Members.{count}
 
-below_both : (rest most depth : ℕ) → ((1 + 0) + rest) + 0 ≤ most → most ≤ depth → rest < depth
+below_both : (rest most depth : ℕ) → (1 + 0) + rest ≤ most → most ≤ depth → rest < depth
 below_both rest most depth e f = omega (arith, e, f)
 
 pub whole : TextIsWhole

@@ -1,7 +1,7 @@
 pub mod Lines
 pub mod Members
 pub mod Dump
-pub mod Waiting
+pub mod Visits
 pub mod Telling
 pub mod Fetching
 pub mod Laws

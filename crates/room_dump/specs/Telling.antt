@@ -1,13 +1,15 @@
 -- What the functions of a dump promise one another.
-use Rattle.std.specs.Prelude.{◌≡◌, ℕ, ◌⊎◌, List, [], ◌∷◌, ◌++◌, length, Some, None, IsTrue, true}
+use Rattle.std.specs.Prelude.{◌≡◌, ℕ, ◌⊎◌, Bool, List, ◌++◌, length, Some, None, IsTrue, true}
+use Rattle.std.specs.List.{flat_map, list_all}
 use Rattle.room_entry.specs.Valid.{is_document}
 use Rattle.room_rows.specs.declared.node.Node.{Node}
-use Rattle.room_rows.specs.Content.{body_of, children_of, root_of}
-use Rattle.room_rows.specs.Rows.{Rows, is_unreadable, numbers_of}
+use Rattle.room_rows.specs.Content.{Content, body_of}
+use Rattle.room_rows.specs.Rows.{Rows, is_unreadable}
 use Rattle.room_rows.specs.Keep.{IsDamaged}
-use Rattle.room_dump.specs.declared.dumping.Waiting.{Waiting}
-use Rattle.room_dump.specs.Dump.{HasAllBytes, has_bytes, object_lines, objects_text, size_of}
-use Rattle.room_dump.specs.Waiting.{waiting_children, waiting_root}
+use Rattle.room_dump.specs.declared.visiting.Below.{Below}
+use Rattle.room_dump.specs.declared.visiting.Visit.{Visit}
+use Rattle.room_dump.specs.Dump.{has_bytes, object_lines, size_of}
+use Rattle.room_dump.specs.Visits.{GoesOn, coming}
 
 -- there are no bytes of this number
 abbrev pub LacksBytesAt : ℕ → Rows → ℕ → Type 0
@@ -28,24 +30,23 @@ IsUntellable node rows row =
 abbrev pub IsSize : Node → Rows → ℕ → Type 0
 IsSize node rows size = (size ≡ size_of rows.read node) × (has_bytes rows.read node ≡ true)
 
--- the text of the object, which has its bytes, and its children wait
-abbrev pub AddsOne : Waiting → List Waiting → List Waiting → List ℕ → List ℕ
-    → Rows → Unit {0} → Type 0
-AddsOne object before after text more rows answer =
-    (more ≡ text ++ object_lines rows.read object.path object.node)
-    × (after ≡ before ++ waiting_children object.path (children_of rows.read object.node.id))
-    × (has_bytes rows.read object.node ≡ true)
+abbrev pub visit_lines : Content → Visit → List ℕ
+visit_lines content visit = object_lines content visit.path visit.node
 
--- The root waits, and it is known how many rows there are.
-abbrev pub Begins : ℕ → List Waiting → Rows → Type 0
-Begins most waiting rows =
-    (most ≡ length (numbers_of rows))
-    × ((root : Node) × (root_of rows.read ≡ Some root) × (waiting ≡ waiting_root root ∷ []))
+abbrev pub has_its_bytes : Content → Visit → Bool
+has_its_bytes content visit = has_bytes content visit.node
 
--- the text of all objects, of which each document has bytes
-abbrev pub AddsAll : ℕ → List Waiting → List ℕ → List ℕ → Rows → Unit {0} → Type 0
-AddsAll most waiting text more rows answer =
-    Begins most waiting rows → (more ≡ text ++ objects_text rows) × HasAllBytes rows
+-- the text of the object, which has its bytes
+abbrev pub AddsOne : Visit → List ℕ → List ℕ → Rows → Unit {0} → Type 0
+AddsOne visit text more rows answer =
+    (more ≡ text ++ visit_lines rows.read visit) × (has_bytes rows.read visit.node ≡ true)
 
-abbrev pub IsHole : ℕ → List Waiting → Rows → ℕ → Type 0
-IsHole most waiting rows row = Begins most waiting rows → IsDamaged rows row
+-- the text of all that is still to come, of which each document has bytes
+abbrev pub AddsAll : Below → List ℕ → List ℕ → Rows → Unit {0} → Type 0
+AddsAll walk text more rows answer =
+    GoesOn rows walk
+    → (more ≡ text ++ flat_map (visit_lines rows.read) (coming rows walk))
+    × (list_all (has_its_bytes rows.read) (coming rows walk) ≡ true)
+
+abbrev pub IsHole : Below → Rows → ℕ → Type 0
+IsHole walk rows row = GoesOn rows walk → IsDamaged rows row

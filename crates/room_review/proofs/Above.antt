@@ -1,6 +1,8 @@
 -- All callers at the objects on a way, one after the other.
 use Rattle.std.proofs.Common.{◌≡◌, ℕ, zero, suc, ◌+◌, ◌<◌, List, [], ◌∷◌, ◌++◌, map, length, take}
-use Rattle.std.proofs.Common.{Some, sym, ap, subst, ◌∙◌, arith, get_or}
+use Rattle.std.proofs.Common.{Some, refl, sym, ap, subst, ◌∙◌, append_assoc, arith, get_or}
+use Rattle.std.specs.Prelude.{◌-◌, slice_get}
+use Rattle.std.proofs.lemmas.List.{append-nil}
 use Rattle.std.specs.List.{AllByRecursion as Each}
 use Rattle.room_rows.specs.declared.node.Node.{Node}
 use Rattle.room_machine.specs.Site.{Site}
@@ -8,7 +10,7 @@ use Rattle.room_machine.specs.Stored.{stored_site}
 use Rattle.room_review.specs.declared.parties.Party.{Party}
 use Rattle.room_review.specs.declared.standing.Standing.{Standing}
 use Rattle.room_review.specs.Standing.{folder_standings, standings}
-use Rattle.room_review.specs.Telling.{AreOn}
+use Rattle.room_review.specs.Telling.{AreOn, along}
 use Rattle.room_review.proofs.Ending.{IsStored, before_after, last_after}
 use Rattle.std.proofs.lemmas.Bool.Decides.{nat_tests}
 
@@ -37,17 +39,60 @@ folder_last parties above site = grind (arith, nat_tests, before_after, last_aft
 next_is : (i : ℕ) → i + 1 ≡ suc i
 next_is i = omega arith
 
--- all callers at the next object on the way
-pub standings_next : (parties : List Party) (above : List Node) (sites : List Site) (i : ℕ)
-    (node : Node) (next : List Standing) → AreOn above sites → i < length above
-    → node ≡ get_or above i node
+-- ---- one after the other
+
+pub along_on : (parties : List Party) (before sites : List Site) (site : Site)
+    → along parties before (sites ++ site ∷ [])
+    ≡ along parties before sites ++ standings parties (before ++ sites) site ∷ []
+along_on parties before [] site =
+    ap (λ (l : List Site). standings parties l site ∷ []) (sym (append-nil before))
+along_on parties before (first ∷ sites) site =
+    ap (λ (l : List (List Standing)). standings parties before first ∷ l)
+    (along_on parties (before ++ first ∷ []) sites site
+    ∙ ap (λ (l : List Site).
+    along parties (before ++ first ∷ []) sites ++ standings parties l site ∷ [])
+    (append_assoc before (first ∷ []) sites))
+
+length_along : (parties : List Party) (before sites : List Site)
+    → length (along parties before sites) ≡ length sites
+length_along parties before [] = refl
+length_along parties before (site ∷ sites) =
+    ap (λ (n : ℕ). suc n) (length_along parties (before ++ site ∷ []) sites)
+
+last_from : (parties : List Party) (before : List Site) (site : Site) (sites : List Site)
+    → slice_get (along parties before (site ∷ sites)) (length sites)
+    ≡ folder_standings parties (before ++ site ∷ sites)
+last_from parties before site [] = sym (folder_last parties before site)
+last_from parties before site (next ∷ sites) =
+    last_from parties (before ++ site ∷ []) next sites
+    ∙ ap (folder_standings parties) (append_assoc before (site ∷ []) (next ∷ sites))
+
+one_back : (n m : ℕ) → n ≡ m → suc n - 1 ≡ m
+one_back n m is = omega (arith, is)
+
+-- the last one
+pub last_along : (parties : List Party) (sites : List Site) (way : List (List Standing))
+    → way ≡ along parties [] sites
+    → slice_get way (length way - 1) ≡ folder_standings parties sites
+last_along parties [] way is = ap (λ (l : List (List Standing)). slice_get l (length l - 1)) is
+last_along parties (site ∷ sites) way is =
+    ap (λ (l : List (List Standing)). slice_get l (length l - 1)) is
+    ∙ ap (slice_get (along parties [] (site ∷ sites)))
+    (one_back (length (along parties (site ∷ []) sites)) (length sites)
+    (length_along parties (site ∷ []) sites))
+    ∙ last_from parties [] site sites
+
+-- and the next object on the way
+pub along_next : (parties : List Party) (above : List Node) (sites : List Site) (i : ℕ)
+    (node : Node) (way : List (List Standing)) (next : List Standing) → AreOn above sites
+    → i < length above → node ≡ get_or above i node → way ≡ along parties [] (take i sites)
     → ((path : List (List ℕ)) → next ≡ standings parties (take i sites) (stored_site path node))
-    → Some next ≡ folder_standings parties (take (i + 1) sites)
-standings_next parties above sites i node next on below is given =
+    → way ++ next ∷ [] ≡ along parties [] (take (i + 1) sites)
+along_next parties above sites i node way next on below is same given =
     let more = one_more sites i node on.1
     (subst (λ (l : List Node). i < length l) on.0 below)
     (is ∙ ap (λ (l : List Node). get_or l i node) on.0) in
-    ap Some (given more.0)
-    ∙ sym (folder_last parties (take i sites) (stored_site more.0 node))
-    ∙ ap (folder_standings parties) (sym more.1)
-    ∙ ap (λ (n : ℕ). folder_standings parties (take n sites)) (sym (next_is i))
+    (λ j. same j ++ given more.0 j ∷ [])
+    ∙ sym (along_on parties [] (take i sites) (stored_site more.0 node))
+    ∙ ap (along parties []) (sym more.1)
+    ∙ ap (λ (n : ℕ). along parties [] (take n sites)) (sym (next_is i))

@@ -19,7 +19,8 @@ use Rattle.room_rows.proofs.Lookups.{each-sorted}
 use Rattle.room_inherit.proofs.Children.{any_sorted}
 use Rattle.room_dump.specs.Dump.{tree_of}
 use Rattle.room_dump.proofs.Counting.{each_always, each_found}
-use Rattle.room_dump.proofs.Reached.{IsThere, Reached, goes_down, reached_child}
+use Rattle.room_dump.specs.Visits.{IsThere, Reached}
+use Rattle.room_dump.proofs.Reached.{goes_down, reached_child}
 use Rattle.room_machine.specs.Site.{Site, site_at}
 use Rattle.room_machine.specs.Stored.{stored_from}
 use Rattle.room_review.specs.declared.parties.Party.{Party}
@@ -297,13 +298,13 @@ module _ (content : Content) (there : Each (IsThere content) content.nodes) (mos
         abbrev FindsBelow : List (List ℕ) → Type 0
         FindsBelow names =
             (place : Place) (node : Node) (own : List (List (List ℕ)))
-            (above : Option (List ℕ × List ℕ)) (site : Site) → Reached content (node ∷ []) most 0
+            (above : Option (List ℕ × List ℕ)) (site : Site) → Reached content (node ∷ []) most
             → site_at (stored_from content place.path node names) names ≡ Some site
             → Each Says (told place node) → Owns place node own above
             → Finds names place node own above
 
         module _ (place : Place) (node : Node) (own : List (List (List ℕ)))
-            (above : Option (List ℕ × List ℕ)) (r : Reached content (node ∷ []) most 0)
+            (above : Option (List ℕ × List ℕ)) (r : Reached content (node ∷ []) most)
             (tells : Each Says (told place node)) (owns : Owns place node own above) where
           abbrev table : List (List (List ℕ))
           table = own ++ rows_under place node
@@ -317,7 +318,8 @@ module _ (content : Content) (there : Each (IsThere content) content.nodes) (mos
               Each Says (told (place_below place node child) child)) (children_of content node.id)
           tells_each =
               let parts = subst (Each Says)
-              (goes_down content there [] node most 0 r place_below (λ p n. (p, n) ∷ []) place)
+              (goes_down content there [] node most r place_below (λ p n. (p, n) ∷ []) place most
+              (omega arith))
               tells
               in (
                 parts.0,
@@ -338,8 +340,8 @@ module _ (content : Content) (there : Each (IsThere content) content.nodes) (mos
             kid : IsKid node.id child
             kid = of_child (IsKid node.id) node.id child.name child (kids_sorted node.id) is
 
-            child_reached : Reached content (child ∷ []) most 0
-            child_reached = reached_child content there node child child.name most 0 r is
+            child_reached : Reached content (child ∷ []) most
+            child_reached = reached_child content there node child child.name most r is
 
             -- from the child's path on, its rows and those below it say all
             in_child_alone : (after : List (List ℕ))
@@ -363,8 +365,8 @@ module _ (content : Content) (there : Each (IsThere content) content.nodes) (mos
                 same_nearest party.label table (rows_in most below child) below.path more
                 in_child_alone
                 ∙ ap (λ rows. nearest rows party.label below.path more)
-                (goes_down content there [] child most 0 child_reached place_below
-                (object_rows all parties) below)
+                (goes_down content there [] child most child_reached place_below
+                (object_rows all parties) below most (omega arith))
 
             child_owns : Owns below child (object_rows all parties below child)
                 (Some (value_at place node))

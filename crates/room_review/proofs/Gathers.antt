@@ -14,10 +14,6 @@ listed_on : (name : List ℕ) (xs ys : List (List ℕ))
 listed_on name [] ys = refl
 listed_on name (x ∷ xs) ys = grind (arith, nat_tests, or_assoc, listed_on name xs ys)
 
--- no name
-pub gathers_none : (names : List (List ℕ)) → Gathers names [] names
-gathers_none names name = grind (arith, nat_tests)
-
 -- some names, and then more of them
 pub gathers_on : (a b c xs ys : List (List ℕ)) → Gathers a xs b → Gathers b ys c
     → Gathers a (xs ++ ys) c

@@ -14,7 +14,8 @@ use Rattle.room_rows.specs.Paths.{is_object_name}
 use Rattle.room_rows.specs.Rows.{AreRows, Rows}
 use Rattle.room_rows.specs.Sound.{has_sound_name, same_place}
 use Rattle.room_dump.proofs.Counting.{each_found}
-use Rattle.room_dump.proofs.Reached.{IsThere, all_there}
+use Rattle.room_dump.specs.Visits.{IsThere}
+use Rattle.room_dump.proofs.Reached.{all_there}
 use Rattle.room_sound.proofs.SoundParts.{SoundParts, passes_test}
 use Rattle.room_review.proofs.Visited.{IsNamed}
 use Rattle.std.proofs.lemmas.Bool.Decides.{nat_tests}

@@ -1,95 +1,25 @@
 -- A whole table, of its parts.
-use Rattle.std.proofs.Common.{◌≡◌, ℕ, zero, suc, ◌<◌, true, List, [], ◌∷◌, ◌++◌, map, length, take}
+use Rattle.std.proofs.Common.{◌≡◌, ℕ, zero, suc, ◌<◌, List, [], ◌∷◌, ◌++◌, map, length, take}
 use Rattle.std.proofs.Common.{Option, Some, refl, sym, ap, subst, ◌∙◌, arith}
 use Rattle.std.specs.List.{flat_map}
-use Rattle.std.proofs.lemmas.Grind.{flat_map-append}
 use Rattle.std.proofs.lemmas.List.{append-nil}
 use Rattle.room_import.specs.Exports.{rows_text}
-use Rattle.room_entry.specs.Bytes.{slash}
-use Rattle.room_rows.specs.declared.node.Node.{Node}
 use Rattle.room_rows.specs.Keep.{HasNoRoot}
-use Rattle.room_rows.specs.Paths.{path_text}
 use Rattle.room_rows.specs.Rows.{Rows}
 use Rattle.room_rows.specs.Walk.{walk_of}
 use Rattle.room_machine.specs.Site.{Site, site_at}
 use Rattle.room_machine.specs.Stored.{stored_along, stored_site}
-use Rattle.room_review.specs.declared.parties.Party.{Party}
 use Rattle.room_review.specs.declared.question.Scope.{Scope}
 use Rattle.room_review.specs.declared.question.Reviewed.TheVariants.{Table}
 use Rattle.room_review.specs.declared.question.Start.{Start}
-use Rattle.room_review.specs.declared.standing.Standing.{Standing}
-use Rattle.room_review.specs.declared.telling.Audience.{Audience}
-use Rattle.room_review.specs.declared.telling.Pending.{Pending}
-use Rattle.room_review.specs.Standing.{standings}
-use Rattle.room_review.specs.Table.{IsReview, IsReviewAt, Place, header, object_rows, site_of}
-use Rattle.room_review.specs.Table.{table_rows, users_of}
-use Rattle.room_review.specs.Telling.{GathersAll, GivesReview, IsLostAt, Starts, TellsAll, Under}
-use Rattle.room_review.specs.Telling.{WaitsBelow, children_under, ended_at, parent_path, place_at}
-use Rattle.room_review.specs.Telling.{place_under, under, waiting_at, waiting_below}
-use Rattle.room_review.specs.Telling.{waiting_children}
+use Rattle.room_review.specs.Table.{IsReview, IsReviewAt, header, users_of}
+use Rattle.room_review.specs.Telling.{GathersAll, GivesReview, IsLostAt, Starts, ended_at}
 use Rattle.room_review.specs.Users.{Gathers, users_at}
 use Rattle.room_review.proofs.Ending.{ended, strayed}
-use Rattle.room_review.proofs.Told.{rows_on}
 use Rattle.room_review.proofs.Gathers.{gathers_on}
 use Rattle.std.proofs.lemmas.Bool.Decides.{nat_tests}
 
--- ---- the children of an object
-
--- the path of a child
-child_path : (path : List (List ℕ)) (name : List ℕ)
-    → parent_path path ++ slash ∷ name ≡ path_text (path ++ name ∷ [])
-child_path [] name = sym (append-nil (slash ∷ name))
-child_path (first ∷ path) name =
-    ap (λ (t : List ℕ). parent_path (first ∷ path) ++ t) (sym (append-nil (slash ∷ name)))
-    ∙ sym (flat_map-append (λ (n : List ℕ). slash ∷ n) (first ∷ path) (name ∷ []))
-
--- a child's path is that of a parent
-below_root : (path : List (List ℕ)) (name : List ℕ)
-    → path_text (path ++ name ∷ []) ≡ parent_path (path ++ name ∷ [])
-below_root [] name = refl
-below_root (first ∷ path) name = refl
-
-module _ (parties : List Party) where
-  children_same : (place : Place) (node : Node) (children : List Node)
-      → map (waiting_below (parent_path place.path)
-      (standings parties place.above (site_of place node))) children
-      ≡ map (waiting_at parties) (map (under place node) children)
-  children_same place node [] = refl
-  children_same place node (child ∷ children) =
-      (λ i. (record {
-        path = child_path place.path child.name i;
-        node = child;
-        folder = standings parties place.above (site_of place node);
-      }) ∷ children_same place node children i)
-
-  -- where an object stands under its folder, its children wait behind it
-  pub children_wait : (it : Under) (above : List ℕ) (here : List Standing) (children : List Node)
-      → above ≡ path_text (place_under it).path
-      → here ≡ standings parties (place_under it).above (site_of (place_under it) it.node)
-      → waiting_children above here children
-      ≡ map (waiting_at parties) (children_under (place_under it) it.node children)
-  children_wait it above here children at are = grind (arith, nat_tests, below_root, children_same)
-
-  -- and where a review starts
-  pub first_wait : (place : Place) (node : Node) (here : List Standing) (children : List Node)
-      → here ≡ standings parties place.above (site_of place node)
-      → waiting_children (parent_path place.path) here children
-      ≡ map (waiting_at parties) (children_under place node children)
-  first_wait place node here children are = grind (arith, nat_tests, children_same)
-
 -- ---- the table
-
--- the rows of the object, and then those of all below it
-pub table_told : (asked : Audience) (rows : Rows) (most : ℕ) (start : Start) (sites : List Site)
-    (waiting : List Pending) (before text more : List ℕ)
-    → WaitsBelow asked most (place_at start sites) start.node waiting rows
-    → text ≡ before
-    ++ rows_text (object_rows true asked.parties.items (place_at start sites) start.node)
-    → TellsAll asked most waiting text more rows tt
-    → more ≡ before
-    ++ rows_text (table_rows rows asked.all asked.parties.items (place_at start sites) start.node)
-table_told asked rows most start sites waiting before text more below first rest =
-    grind (arith, nat_tests, rows_on)
 
 -- under the header
 pub under_header : (before more : List ℕ) (rows : List (List (List ℕ)))

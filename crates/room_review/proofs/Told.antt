@@ -1,196 +1,224 @@
--- The rows that are told after n turns.
-use Rattle.std.proofs.Common.{◌≡◌, ℕ, ◌+◌, ◌≤◌, List, [], ◌∷◌, ◌++◌, map, reverse, length, refl}
-use Rattle.std.proofs.Common.{sym, ap}
-use Rattle.std.proofs.Common.{subst, ◌∙◌, arith, append_assoc}
+-- The rows that are told of a walk.
+use Rattle.std.proofs.Common.{◌≡◌, ℕ, zero, suc, Bool, true, List, [], ◌∷◌, ◌++◌, length, take}
+use Rattle.std.proofs.Common.{refl, sym, ap, subst, ◌∙◌, append_assoc, arith}
 use Rattle.std.specs.List.{flat_map}
-use Rattle.std.proofs.lemmas.List.{append-nil, length-map, map-append}
+use Rattle.std.proofs.lemmas.Grind.{flat_map-append}
+use Rattle.std.proofs.lemmas.List.{append-nil, length-append, length-map, take_all}
 use Rattle.csv.specs.Writing.{default_writer, row_text}
 use Rattle.room_import.specs.Exports.{rows_text}
+use Rattle.room_entry.specs.Bytes.{slash}
 use Rattle.room_rows.specs.declared.node.Node.{Node}
 use Rattle.room_rows.specs.Content.{Content, children_of}
-use Rattle.room_rows.specs.Rows.{AreRows, Rows}
-use Rattle.room_dump.specs.Dump.{tree_of}
-use Rattle.room_dump.proofs.Depth.{always}
-use Rattle.room_dump.proofs.Reached.{Reached, all_there, goes_down, none_waits, reached_next}
-use Rattle.room_dump.proofs.Waits.{texts, texts-below, told_on}
-use Rattle.room_entry.proofs.Facts.Members.{count}
+use Rattle.room_rows.specs.Paths.{path_text}
+use Rattle.room_rows.specs.Rows.{AreRows, Rows, numbers_of}
+use Rattle.room_dump.specs.declared.visiting.Below.{Below}
+use Rattle.room_dump.specs.declared.visiting.Visit.{Visit}
+use Rattle.room_dump.specs.Dump.{shown, tree_of}
+use Rattle.room_dump.specs.Visits.{GoesOn, IsFrom, Way, coming, visit_on, visits_from}
+use Rattle.room_dump.specs.Visits.{way_below}
+use Rattle.room_dump.proofs.Reached.{all_there, goes_down}
+use Rattle.room_dump.proofs.Walks.{goes_from, told_below, told_by}
+use Rattle.room_machine.specs.Site.{Site}
 use Rattle.room_review.specs.declared.parties.Party.{Party}
+use Rattle.room_review.specs.declared.question.Start.{Start}
+use Rattle.room_review.specs.declared.standing.Standing.{Standing}
 use Rattle.room_review.specs.declared.telling.Audience.{Audience}
-use Rattle.room_review.specs.declared.telling.Pending.{Pending}
-use Rattle.room_review.specs.Table.{Place, place_below, object_rows}
-use Rattle.room_review.specs.Telling.{TellsOne, Under, WaitsBelow, below_rows, children_under}
-use Rattle.room_review.specs.Telling.{place_under, rows_under, under, waiting_at}
+use Rattle.room_review.specs.Standing.{standings}
+use Rattle.room_review.specs.Table.{Place, object_rows, place_below, site_of, table_rows}
+use Rattle.room_review.specs.Telling.{Comes, InOrder, Starts, TellsOne, along, parent_path, place_at}
+use Rattle.room_review.specs.Telling.{rows_of, start_visit, visit_at, visits_at}
 use Rattle.room_review.proofs.Starting.{starts_reached}
 
--- the rows of an object that waits and of all below it, no deeper than the number says
-abbrev tale : Audience → ℕ → Content → Under → List (List (List ℕ))
-tale asked depth content it =
-    tree_of place_below (object_rows asked.all asked.parties.items) depth content (place_under it) it.node
+-- ---- objects in order
 
-abbrev nodes_of : List Under → List Node
-nodes_of its = map (λ (it : Under). it.node) its
+all_taken : (sites : List Site) → take (length sites) sites ≡ sites
+all_taken sites = take_all (length sites) sites (omega arith)
 
-pub record Telling (asked : Audience) (rows : Rows) (waiting : List Pending) (most turn : ℕ)
-    (before text : List ℕ) (whole : List (List (List ℕ))) : Type 0 where
-  pub its : List Under
-  pub waits : waiting ≡ map (waiting_at asked.parties.items) its
-  pub reached : Reached rows.read (nodes_of its) most turn
-  pub met : List (List (List ℕ))
-  pub meets : met ++ texts (tale asked most rows.read) its ≡ whole
-  pub told : text ≡ before ++ rows_text met
+shorter : (xs zs : List Site) (y : Site) → take (length (xs ++ y ∷ [])) zs ≡ xs ++ y ∷ []
+    → take (length xs) zs ≡ xs
+shorter [] zs y is = refl
+shorter (x ∷ xs) [] y is = absurd (let wrong : ⊥ = cc in wrong)
+shorter (x ∷ xs) (z ∷ zs) y is =
+    let first : z ≡ x = cc in
+    let rest : take (length (xs ++ y ∷ [])) zs ≡ xs ++ y ∷ [] = cc in
+    λ i. first i ∷ shorter xs zs y rest i
 
--- more rows
-pub rows_on : (before text more : List ℕ) (xs ys : List (List (List ℕ)))
-    → text ≡ before ++ rows_text xs → more ≡ text ++ rows_text ys
-    → more ≡ before ++ rows_text (xs ++ ys)
-rows_on before text more xs ys is grows =
-    grows ∙ ap (λ (t : List ℕ). t ++ rows_text ys) is
-    ∙ append_assoc before (rows_text xs) (rows_text ys)
-    ∙ ap (λ (t : List ℕ). before ++ t) (sym (flat_on xs))
+module _ (content : Content) where
+  abbrev tree : ℕ → Place → Node → List (Place × Node)
+  tree depth place node =
+      tree_of place_below (λ p n. (p, n) ∷ []) depth content place node
+
+  -- the sites on the way to the place are the first of these
+  abbrev StandsOn : Place → List Site → Type 0
+  StandsOn place sites = take (length place.above) sites ≡ place.above
+
+  abbrev GoOn : Place → List (Place × Node) → Type 0
+  GoOn place objects = (sites : List Site) → StandsOn place sites → InOrder sites objects
+
+  children_in_order : (depth : ℕ)
+      → ((place : Place) (node : Node) (sites : List Site) (after : List (Place × Node))
+      → StandsOn place sites → GoOn place after → InOrder sites (tree depth place node ++ after))
+      → (place : Place) (node : Node) (nodes : List Node) (sites : List Site)
+      (after : List (Place × Node))
+      → take (length (place.above ++ site_of place node ∷ [])) sites
+      ≡ place.above ++ site_of place node ∷ []
+      → GoOn place after
+      → InOrder sites
+      (flat_map (λ child. tree depth (place_below place node child) child) nodes ++ after)
+  children_in_order depth each place node [] sites after on rest =
+      rest sites (shorter place.above sites (site_of place node) on)
+  children_in_order depth each place node (child ∷ nodes) sites after on rest =
+      subst (InOrder sites)
+      (sym (append_assoc (tree depth (place_below place node child) child)
+      (flat_map (λ c. tree depth (place_below place node c) c) nodes) after))
+      (each (place_below place node child) child sites _ on
+      (λ later is. children_in_order depth each place node nodes later after is rest))
+
+  -- an object, then all below it, then others
+  in_order : (depth : ℕ) (place : Place) (node : Node) (sites : List Site)
+      (after : List (Place × Node)) → StandsOn place sites → GoOn place after
+      → InOrder sites (tree depth place node ++ after)
+  in_order zero place node sites after on rest = rest sites on
+  in_order (suc depth) place node sites after on rest = (
+    on,
+    children_in_order depth (λ p n s a o r. in_order depth p n s a o r) place node
+        (children_of content node.id) (place.above ++ site_of place node ∷ []) after
+        (all_taken (place.above ++ site_of place node ∷ [])) rest,
+  )
+
+-- ---- callers on the way
+
+along_front : (parties : List Party) (n : ℕ) (before sites : List Site)
+    → take n (along parties before sites) ≡ along parties before (take n sites)
+along_front parties zero before sites = refl
+along_front parties (suc n) before [] = refl
+along_front parties (suc n) before (site ∷ sites) =
+    ap (λ (l : List (List Standing)). standings parties before site ∷ l)
+    (along_front parties n (before ++ site ∷ []) sites)
+
+-- ---- what is told so far
+
+abbrev rows_at_all : Audience → List (Place × Node) → List (List (List ℕ))
+rows_at_all asked objects =
+    flat_map (λ next. object_rows asked.all asked.parties.items next.0 next.1) objects
+
+alike : (asked : Audience) (objects : List (Place × Node))
+    → rows_of asked asked.all objects ≡ rows_at_all asked objects
+alike asked [] = refl
+alike asked (object ∷ objects) = refl
+
+pub record Telling (asked : Audience) (rows : Rows) (walk : Below) (way : List (List Standing))
+    (all : Bool) (before text : List ℕ) (whole : List (Place × Node)) : Type 0 where
+  pub sites : List Site
+  pub objects : List (Place × Node)
+  pub comes : Comes asked.parties.items rows walk way sites objects
+  pub told : text ++ rows_text (rows_of asked all objects) ≡ before
+      ++ rows_text (rows_of asked true whole)
+
+-- one object further
+pub tells_next : (asked : Audience) (rows : Rows) (old new : Below)
+    (way next : List (List Standing)) (all : Bool) (before text more : List ℕ) (whole : List (Place × Node)) (visit : Visit)
+    → Telling asked rows old way all before text whole → coming rows old ≡ visit ∷ coming rows new
+    → GoesOn rows new → TellsOne asked.parties.items all visit way next text more
+    → Telling asked rows new next asked.all before more whole
+tells_next asked rows old new way next all before text more whole visit t comes goes one =
+    on t.objects (sym comes ∙ t.comes.visits) t.comes.ordered t.told
   where
-    flat_on : (xs : List (List (List ℕ))) → rows_text (xs ++ ys) ≡ rows_text xs ++ rows_text ys
-    flat_on [] = refl
-    flat_on (x ∷ xs) =
-        ap (λ (t : List ℕ). row_text default_writer x ++ t) (flat_on xs)
-        ∙ sym (append_assoc (row_text default_writer x) (rows_text xs) (rows_text ys))
+    on : (objects : List (Place × Node)) → visit ∷ coming rows new ≡ visits_at objects
+        → InOrder t.sites objects
+        → text ++ rows_text (rows_of asked all objects) ≡ before
+        ++ rows_text (rows_of asked true whole)
+        → Telling asked rows new next asked.all before more whole
+    on [] visits ordered told = absurd (let wrong : ⊥ = cc in wrong)
+    on ((place, node) ∷ objects) visits ordered told =
+        let parties = asked.parties.items in
+        let first : visit ≡ visit_at place node = cc in
+        let rest : coming rows new ≡ visits_at objects = cc in
+        let n = length place.above in
+        let done = one place node first
+        (ap (take n) t.comes.way_is ∙ along_front parties n [] t.sites
+        ∙ ap (along parties []) ordered.0) in
+        record {
+          sites = place.above ++ site_of place node ∷ [];
+          objects = objects;
+          comes = record { goes = goes; visits = rest; way_is = done.1; ordered = ordered.1 };
+          told =
+              (λ i. done.0 i ++ rows_text (alike asked objects i))
+              ∙ append_assoc text (rows_text (object_rows all parties place node))
+              (rows_text (rows_at_all asked objects))
+              ∙ ap (λ (l : List ℕ). text ++ l)
+              (sym (flat_map-append (row_text default_writer) (object_rows all parties place node)
+              (rows_at_all asked objects)))
+              ∙ told;
+        }
 
-nodes_under : (place : Place) (node : Node) (nodes : List Node)
-    → nodes_of (map (under place node) nodes) ≡ nodes
-nodes_under place node [] = refl
-nodes_under place node (n ∷ ns) = ap (λ (l : List Node). n ∷ l) (nodes_under place node ns)
+-- ---- from the object that a review starts at
 
-earlier : (a b c : ℕ) → (a + b) + 1 ≤ c → (a + b) + 0 ≤ c
-earlier a b c e = omega (arith, e)
+-- its path as it is printed
+pub shown_path : (path : List (List ℕ)) → shown (parent_path path) ≡ path_text path
+shown_path [] = refl
+shown_path (name ∷ path) = refl
 
--- the children of the object that a review starts at wait
-pub tells_first : (asked : Audience) (rows : Rows) → AreRows rows → (most : ℕ) (place : Place)
-    (node : Node) (waiting : List Pending) → WaitsBelow asked most place node waiting rows
-    → (text : List ℕ)
-    → Telling asked rows waiting most 0 text text (below_rows asked rows place node)
-tells_first asked rows are most place node waiting below text =
-    let content = rows.read in
-    let children = children_of content node.id in
-    let start = starts_reached rows are most place.path node below.starts in
-    let r = reached_next content (all_there rows are) [] node most 0 start in
-    record {
-      its = children_under place node children;
-      waits = below.waits;
-      reached =
-          subst (λ (l : List Node). Reached content l most 0)
-          (sym (nodes_under place node (reverse children)))
-          (record {
-            rest = r.rest;
-            waits = r.waits;
-            rests = r.rests;
-            once = r.once;
-            fewer = earlier (count always (reverse children)) (count always r.rest) most r.fewer;
-          });
-      met = [];
-      meets =
-          texts-below (tale asked most content) (under place node) children []
-          ∙ append-nil (flat_map (λ child. tale asked most content (under place node child)) children)
-          ∙ ap (λ (n : ℕ). flat_map (λ child. tale asked n content (under place node child)) children)
-          below.starts.most_is;
-      told = sym (append-nil text);
-    }
+abbrev place_way : Place → Way
+place_way place = (parent_path place.path, length place.above)
 
--- ---- the one that is taken
+ways_below : (place : Place) (node child : Node)
+    → place_way (place_below place node child) ≡ way_below (place_way place) node child
+ways_below place node child = λ i. (
+  (flat_map-append (λ (name : List ℕ). slash ∷ name) place.path (child.name ∷ [])
+      ∙ ap (λ (l : List ℕ). parent_path place.path ++ l) (append-nil (slash ∷ child.name))) i,
+  length-append place.above (site_of place node ∷ []) i,
+)
 
-record Last (parties : List Party) (its : List Under) (waits : List Pending) (object : Pending)
-    : Type 0 where
-  pub front : List Under
-  pub it : Under
-  pub its_are : its ≡ front ++ it ∷ []
-  pub waits_are : waits ≡ map (waiting_at parties) front
-  pub object_is : object ≡ waiting_at parties it
+module _ (asked : Audience) (rows : Rows) (are : AreRows rows) (most : ℕ) (start : Start)
+    (sites : List Site) (starts : Starts most start sites rows) (walk : Below)
+    (from : IsFrom most (start_visit start) walk) where
+  abbrev place : Place
+  place = place_at start sites
 
-last_of_them : (parties : List Party) (its : List Under) (waits : List Pending) (object : Pending)
-    → waits ++ object ∷ [] ≡ map (waiting_at parties) its → Last parties its waits object
-last_of_them parties [] [] object is = absurd (let wrong : ⊥ = cc in wrong)
-last_of_them parties [] (wait ∷ waits) object is = absurd (let wrong : ⊥ = cc in wrong)
-last_of_them parties (it ∷ []) [] object is = record {
-  front = [];
-  it = it;
-  its_are = refl;
-  waits_are = refl;
-  object_is = let same : object ≡ waiting_at parties it = cc in same;
-}
-last_of_them parties (it ∷ next ∷ its) [] object is = absurd (let wrong : ⊥ = cc in wrong)
-last_of_them parties (it ∷ its) (wait ∷ waits) object is =
-    let rest : waits ++ object ∷ [] ≡ map (waiting_at parties) its = cc in
-    let first : wait ≡ waiting_at parties it = cc in
-    let last = last_of_them parties its waits object rest in
-    record {
-      front = it ∷ last.front;
-      it = last.it;
-      its_are = ap (λ (l : List Under). it ∷ l) last.its_are;
-      waits_are = (λ i. first i ∷ last.waits_are i);
-      object_is = last.object_is;
-    }
+  abbrev parties : List Party
+  parties = asked.parties.items
 
--- its rows are told, and its children wait
-pub tells_next : (asked : Audience) (rows : Rows) → AreRows rows
-    → (waits after : List Pending) (object : Pending) (most turn : ℕ) (before text more : List ℕ)
-    (whole : List (List (List ℕ)))
-    → Telling asked rows (waits ++ object ∷ []) most turn before text whole
-    → TellsOne asked object waits after text more rows tt
-    → Telling asked rows after most (turn + 1) before more whole
-tells_next asked rows are waits after object most turn before text more whole t one =
-    let parties = asked.parties.items in
-    let content = rows.read in
-    let there = all_there rows are in
-    let last = last_of_them parties t.its waits object t.waits in
-    let it = last.it in
-    let front = last.front in
-    let children = children_of content it.node.id in
-    let told = one it last.object_is in
-    let nodes : nodes_of t.its ≡ nodes_of front ++ it.node ∷ [] =
-    ap nodes_of last.its_are ∙ map-append (λ (u : Under). u.node) front (it ∷ []) in
-    let r = subst (λ (l : List Node). Reached content l most turn) nodes t.reached in
-    let kids = children_under (place_under it) it.node children in
-    record {
-      its = front ++ kids;
-      waits =
-          told.1
-          ∙ ap (λ (l : List Pending). l ++ map (waiting_at parties) kids) last.waits_are
-          ∙ sym (map-append (waiting_at parties) front kids);
-      reached =
-          subst (λ (l : List Node). Reached content l most (turn + 1))
-          (sym (map-append (λ (u : Under). u.node) front kids
-          ∙ ap (λ (l : List Node). nodes_of front ++ l)
-          (nodes_under (place_under it) it.node (reverse children))))
-          (reached_next content there (nodes_of front) it.node most turn r);
-      met = t.met ++ rows_under asked it;
-      meets =
-          told_on (tale asked most content) front it (under (place_under it) it.node) children t.met
-          (rows_under asked it) whole
-          (goes_down content there (nodes_of front) it.node most turn r place_below
-          (object_rows asked.all parties) (place_under it))
-          (ap (λ (l : List Under). t.met ++ texts (tale asked most content) l) (sym last.its_are)
-          ∙ t.meets);
-      told = rows_on before text more t.met (rows_under asked it) t.told told.0;
-    }
+  abbrev deep : ℕ
+  deep = length (numbers_of rows)
 
--- none waits after n turns
-pub none_left : (asked : Audience) (rows : Rows) (waiting : List Pending) (most turn : ℕ)
-    (before text : List ℕ) (whole : List (List (List ℕ))) → most ≤ turn
-    → (length waiting ≡ 0 → ⊥) → Telling asked rows waiting most turn before text whole → ⊥
-none_left asked rows waiting most turn before text whole over some t =
-    none_waits rows.read (nodes_of t.its) most turn over
-    (λ none. some (ap length t.waits ∙ length-map t.its (waiting_at asked.parties.items)
-    ∙ sym (length-map t.its (λ (u : Under). u.node)) ∙ none))
-    t.reached
+  abbrev pub objects : List (Place × Node)
+  objects = tree rows.read deep place start.node
 
--- where none waits, all is told
-pub all_told : (asked : Audience) (rows : Rows) (waiting : List Pending) (most turn : ℕ)
-    (before text : List ℕ) (whole : List (List (List ℕ))) → waiting ≡ []
-    → Telling asked rows waiting most turn before text whole → text ≡ before ++ rows_text whole
-all_told asked rows waiting most turn before text whole none t =
-    on t.its (sym t.waits ∙ none) t.meets
-  where
-    on : (its : List Under) → map (waiting_at asked.parties.items) its ≡ []
-        → t.met ++ texts (tale asked most rows.read) its ≡ whole → text ≡ before ++ rows_text whole
-    on [] is meets =
-        t.told ∙ ap (λ (l : List (List (List ℕ))). before ++ rows_text l)
-        (sym (append-nil t.met) ∙ meets)
-    on (it ∷ its) is meets = absurd (let wrong : ⊥ = cc in wrong)
+  begun : GoesOn rows walk
+      × (coming rows walk ≡ visits_from deep rows.read (start_visit start))
+  begun =
+      goes_from rows most (start_visit start) walk starts.there.most_is
+      (starts_reached rows are most start.path start.node starts.there) from
+
+  many : length start.above ≡ length sites
+  many = ap length starts.way.0 ∙ length-map sites (λ (s : Site). s.node)
+
+  pub come : (way : List (List Standing)) → way ≡ along parties [] sites
+      → Comes parties rows walk way sites objects
+  come way is = record {
+    goes = begun.0;
+    visits =
+        begun.1
+        ∙ (λ i. visits_from deep rows.read
+        (record { path = parent_path start.path; depth = many i; node = start.node }))
+        ∙ sym (told_by place_below (λ p n. (p, n) ∷ []) way_below visit_on place_way
+        (λ object. visit_at object.0 object.1 ∷ []) ways_below (λ p n. refl) rows.read deep place
+        start.node);
+    way_is = is;
+    ordered =
+        subst (InOrder sites) (append-nil objects)
+        (in_order rows.read deep place start.node sites [] (all_taken sites) (λ s on. tt));
+  }
+
+  -- their rows are those of the table
+  pub rows_are : rows_of asked true objects ≡ table_rows rows asked.all parties place start.node
+  rows_are =
+      ap (rows_of asked true)
+      (goes_down rows.read (all_there rows are) [] start.node most
+      (starts_reached rows are most start.path start.node starts.there) place_below
+      (λ p n. (p, n) ∷ []) place deep (let is = starts.there.most_is in omega (arith, is)))
+      ∙ ap (λ (l : List (List (List ℕ))). object_rows true parties place start.node ++ l)
+      (told_below place_below (λ p n. (p, n) ∷ []) place_below (object_rows asked.all parties)
+      (λ p. p) (λ object. object_rows asked.all parties object.0 object.1) (λ p n child. refl)
+      (λ p n. append-nil (object_rows asked.all parties p n)) rows.read deep place start.node)

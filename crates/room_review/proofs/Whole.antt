@@ -22,7 +22,8 @@ use Rattle.room_sound.proofs.Filled.{site_filled, target_there}
 use Rattle.room_sound.proofs.Sites.{fill, sites_filled}
 use Rattle.room_sound.proofs.SoundParts.{sound_parts}
 use Rattle.room_dump.proofs.Counting.{each_always, each_both, each_filter}
-use Rattle.room_dump.proofs.Reached.{Reached, all_there, goes_down}
+use Rattle.room_dump.specs.Visits.{Reached}
+use Rattle.room_dump.proofs.Reached.{all_there, goes_down}
 use Rattle.room_machine.specs.Rights.{may_remove_at, rights_at}
 use Rattle.room_machine.specs.Site.{Site, site_at, sites_along}
 use Rattle.room_machine.specs.Step.{caller_in}
@@ -133,7 +134,7 @@ module _ (rows : Rows) (are : AreRows rows) (sound : AreSound rows) (question : 
   at_path : target.path ≡ path
   at_path = ap (λ (s : Site). s.path) ends
 
-  reached : Reached content (target.node ∷ []) most 0
+  reached : Reached content (target.node ∷ []) most
   reached = grind (arith, nat_tests, ends, starts_reached)
 
   -- ---- whose rows are looked up for a caller
@@ -339,15 +340,15 @@ module _ (rows : Rows) (are : AreRows rows) (sound : AreSound rows) (question : 
     all_rows : Each (IsRow room question table) table
     all_rows =
         let whole = subst (Each IsPlaced)
-        (goes_down content (all_there rows are) [] target.node most 0 reached place_below
-        (λ p n. (p, n) ∷ []) place) all_placed in
+        (goes_down content (all_there rows are) [] target.node most reached place_below
+        (λ p n. (p, n) ∷ []) place most (omega arith)) all_placed in
         each_append (IsRow room question table) (object_rows true parties place target.node) _
         (rows_placed true (place, target.node) whole.0)
         (each_back (IsRow room question table)
         (object_rows question.all parties place target.node) _
         (subst (Each (IsRow room question table))
-        (goes_down content (all_there rows are) [] target.node most 0 reached place_below
-        (object_rows question.all parties) place)
+        (goes_down content (all_there rows are) [] target.node most reached place_below
+        (object_rows question.all parties) place most (omega arith))
         (below.each_row content (all_there rows are) most question.all parties IsPlaced
         (IsRow room question table) (rows_placed question.all) most place target.node all_placed)))
 

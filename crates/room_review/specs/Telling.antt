@@ -1,5 +1,5 @@
 -- What the functions of a review promise one another.
-use Rattle.std.specs.Prelude.{◌≡◌, ℕ, ◌-◌, List, [], ◌∷◌, ◌++◌, length, map, reverse, take}
+use Rattle.std.specs.Prelude.{◌≡◌, ℕ, ◌-◌, Bool, true, List, [], ◌∷◌, ◌++◌, length, map, take}
 use Rattle.std.specs.Prelude.{Option, Some}
 use Rattle.std.specs.List.{flat_map, AllByRecursion as Each}
 use Rattle.room_import.specs.Exports.{rows_text}
@@ -7,12 +7,12 @@ use Rattle.room_entry.specs.Bytes.{slash}
 use Rattle.room_entry.specs.declared.object.ObjKind.{ObjKind}
 use Rattle.room_entry.specs.declared.object.ObjKind.TheVariants.{Document, Folder}
 use Rattle.room_rows.specs.declared.node.Node.{Node}
-use Rattle.room_rows.specs.Content.{children_of}
-use Rattle.room_rows.specs.Keep.{HasNoRoot}
-use Rattle.room_rows.specs.Paths.{path_text}
+use Rattle.room_rows.specs.Keep.{HasNoRoot, IsUnreadable}
 use Rattle.room_rows.specs.Rows.{Rows, numbers_of}
 use Rattle.room_rows.specs.Walk.{walk_of}
-use Rattle.room_dump.specs.Dump.{tree_of}
+use Rattle.room_dump.specs.declared.visiting.Below.{Below}
+use Rattle.room_dump.specs.declared.visiting.Visit.{Visit}
+use Rattle.room_dump.specs.Visits.{GoesOn, coming}
 use Rattle.room_machine.specs.declared.reply.Reason.TheVariants.{NoSuch, NotFolder}
 use Rattle.room_machine.specs.Site.{Site, site_at}
 use Rattle.room_machine.specs.Stored.{stored_along, stored_site}
@@ -23,9 +23,8 @@ use Rattle.room_review.specs.declared.question.Reviewed.TheVariants.{Refused, Ta
 use Rattle.room_review.specs.declared.question.Start.{Start}
 use Rattle.room_review.specs.declared.standing.Standing.{Standing}
 use Rattle.room_review.specs.declared.telling.Audience.{Audience}
-use Rattle.room_review.specs.declared.telling.Pending.{Pending}
 use Rattle.room_review.specs.Standing.{standings}
-use Rattle.room_review.specs.Table.{AreAsked, IsReview, IsTable, Place, place_below, object_rows}
+use Rattle.room_review.specs.Table.{AreAsked, IsReview, IsTable, Place, object_rows}
 use Rattle.room_review.specs.Table.{site_of, table_rows}
 use Rattle.room_review.specs.Table.{table_text, users_below, users_of}
 use Rattle.room_review.specs.Users.{Gathers, users_at}
@@ -48,91 +47,86 @@ IsLost most waiting rows row =
     (path : List (List ℕ)) (node : Node) → StartsAt most path node rows → waiting ≡ node ∷ []
     → HasNoRoot rows row
 
--- the users at an object, and its children wait
-abbrev pub GathersOne : Node → List Node → List Node → List (List ℕ) → List (List ℕ) → Rows
-    → Unit {0} → Type 0
-GathersOne node before after old new rows answer =
-    Gathers old (users_at node) new × (after ≡ before ++ reverse (children_of rows.read node.id))
+-- the users at all that is still to come
+abbrev pub GathersComing : Below → List (List ℕ) → List (List ℕ) → Rows → Unit {0} → Type 0
+GathersComing walk old new rows answer =
+    GoesOn rows walk → Gathers old (flat_map (λ visit. users_at visit.node) (coming rows walk)) new
 
 -- ---- rows
-
--- an object under a folder at a place
-pub record Under : Type 0 where
-  pub place : Place
-  pub folder : Node
-  pub node : Node
-
-abbrev pub under : Place → Node → Node → Under
-under place folder node = record { place = place; folder = folder; node = node }
-
-abbrev pub place_under : Under → Place
-place_under it = place_below it.place it.folder it.node
-
--- an object that waits, with all callers at its folder
-abbrev pub waiting_at : List Party → Under → Pending
-waiting_at parties it = record {
-  path = path_text (place_under it).path;
-  node = it.node;
-  folder = standings parties it.place.above (site_of it.place it.folder);
-}
 
 -- the text of a path, but nothing for the root: what stands before a child's `/`
 abbrev pub parent_path : List (List ℕ) → List ℕ
 parent_path path = flat_map (λ name. slash ∷ name) path
 
--- a child of the object at this path
-abbrev pub waiting_below : List ℕ → List Standing → Node → Pending
-waiting_below above here node = record {
-  path = above ++ slash ∷ node.name;
+-- an object at a place, where a walk comes to it
+abbrev pub visit_at : Place → Node → Visit
+visit_at place node = record {
+  path = parent_path place.path;
+  depth = length place.above;
   node = node;
-  folder = here;
 }
 
--- the children, of which the first in order of name is taken next
-abbrev pub waiting_children : List ℕ → List Standing → List Node → List Pending
-waiting_children above here nodes = map (waiting_below above here) (reverse nodes)
+abbrev pub start_visit : Start → Visit
+start_visit start = record {
+  path = parent_path start.path;
+  depth = length start.above;
+  node = start.node;
+}
 
--- the same, each with where it stands
-abbrev pub children_under : Place → Node → List Node → List Under
-children_under place node children = map (under place node) (reverse children)
+abbrev pub visits_at : List (Place × Node) → List Visit
+visits_at objects = flat_map (λ object. visit_at object.0 object.1 ∷ []) objects
 
--- the rows of an object that stands under a folder
-abbrev pub rows_under : Audience → Under → List (List (List ℕ))
-rows_under asked it = object_rows asked.all asked.parties.items (place_under it) it.node
+-- all callers at each of the objects behind others
+abbrev pub along : List Party → List Site → List Site → List (List Standing)
+along parties before [] = []
+along parties before (site ∷ sites) =
+    standings parties before site ∷ along parties (before ++ site ∷ []) sites
 
--- the rows of an object that waits, and its children wait
-abbrev pub TellsOne : Audience → Pending → List Pending → List Pending → List ℕ → List ℕ → Rows
+-- The first of these are on the way to the first object, and those together with it in the same way
+-- to the next.
+abbrev pub InOrder : List Site → List (Place × Node) → Type 0
+InOrder sites [] = Unit {0}
+InOrder sites (object ∷ objects) =
+    (take (length object.0.above) sites ≡ object.0.above)
+    × InOrder (object.0.above ++ site_of object.0 object.1 ∷ []) objects
+
+-- the rows of objects, of the first all of them
+abbrev pub rows_of : Audience → Bool → List (Place × Node) → List (List (List ℕ))
+rows_of asked all [] = []
+rows_of asked all (object ∷ objects) =
+    object_rows all asked.parties.items object.0 object.1
+    ++ flat_map (λ next. object_rows asked.all asked.parties.items next.0 next.1) objects
+
+-- The rows of an object, where the first of these callers are on the way to it. Then those at it
+-- stand behind them.
+abbrev pub TellsOne : List Party → Bool → Visit → List (List Standing) → List (List Standing)
+    → List ℕ → List ℕ → Type 0
+TellsOne parties all visit old new text more =
+    (place : Place) (node : Node) → visit ≡ visit_at place node
+    → take (length place.above) old ≡ along parties [] place.above
+    → (more ≡ text ++ rows_text (object_rows all parties place node))
+    × (new ≡ along parties [] (place.above ++ site_of place node ∷ []))
+
+-- These objects are still to come of a walk, and callers stand at those on the way to the first.
+pub record Comes (parties : List Party) (rows : Rows) (walk : Below) (way : List (List Standing))
+    (sites : List Site) (objects : List (Place × Node)) : Type 0 where
+  pub goes : GoesOn rows walk
+  pub visits : coming rows walk ≡ visits_at objects
+  pub way_is : way ≡ along parties [] sites
+  pub ordered : InOrder sites objects
+
+-- the rows of all that is still to come, of the first object all of them
+abbrev pub TellsComing : Audience → Below → List (List Standing) → List ℕ → List ℕ → Rows
     → Unit {0} → Type 0
-TellsOne asked object before after text more rows answer =
-    (it : Under) → object ≡ waiting_at asked.parties.items it
-    → (more ≡ text ++ rows_text (rows_under asked it))
-    × (after ≡ before ++ map (waiting_at asked.parties.items)
-    (children_under (place_under it) it.node (children_of rows.read it.node.id)))
+TellsComing asked walk way text more rows answer =
+    (sites : List Site) (objects : List (Place × Node))
+    → Comes asked.parties.items rows walk way sites objects
+    → more ≡ text ++ rows_text (rows_of asked true objects)
 
--- the rows of all below an object
-abbrev pub below_rows : Audience → Rows → Place → Node → List (List (List ℕ))
-below_rows asked rows place node =
-    flat_map (λ child. tree_of place_below (object_rows asked.all asked.parties.items)
-    (length (numbers_of rows)) rows.read (place_below place node child) child)
-    (children_of rows.read node.id)
-
--- The children of an object at the path wait.
-pub record WaitsBelow (asked : Audience) (most : ℕ) (place : Place) (node : Node)
-    (waiting : List Pending) (rows : Rows) : Type 0 where
-  pub starts : StartsAt most place.path node rows
-  pub waits : waiting ≡ map (waiting_at asked.parties.items)
-      (children_under place node (children_of rows.read node.id))
-
--- the rows of all below the object whose children wait
-abbrev pub TellsAll : Audience → ℕ → List Pending → List ℕ → List ℕ → Rows → Unit {0} → Type 0
-TellsAll asked most waiting text more rows answer =
-    (place : Place) (node : Node) → WaitsBelow asked most place node waiting rows
-    → more ≡ text ++ rows_text (below_rows asked rows place node)
-
-abbrev pub IsStray : Audience → ℕ → List Pending → Rows → ℕ → Type 0
-IsStray asked most waiting rows row =
-    (place : Place) (node : Node) → WaitsBelow asked most place node waiting rows
-    → HasNoRoot rows row
+abbrev pub IsStray : Audience → Below → List (List Standing) → Rows → ℕ → Type 0
+IsStray asked walk way rows row =
+    (sites : List Site) (objects : List (Place × Node))
+    → Comes asked.parties.items rows walk way sites objects → IsUnreadable rows row
 
 -- ---- the way
 

@@ -16,7 +16,6 @@ use room_ace::{Caller, Mask};
 use room_rows::Node;
 use std::alloc::{AllocError, Global};
 use std::marker::Model;
-use std::rc::Rc;
 
 /// What one caller may do with an object, and what the object says for what stands below it.
 #[derive(Drop)]
@@ -34,11 +33,9 @@ pub(crate) struct Standing {
 }
 
 /// All callers at one object, in their order. A contract sees the list of them.
-///
-/// It is shared by all that waits below the object, so a copy takes no memory.
 #[derive(Drop)]
 pub(crate) struct Standings {
-    items: Rc<Vec<Standing>>,
+    items: Vec<Standing>,
 }
 
 impl Model for Standings {
@@ -47,33 +44,15 @@ impl Model for Standings {
 
     ghost Value = { List Standing };
 
-    ghost view = { λ s. s.items.value.items };
+    ghost view = { λ s. s.items.items };
 }
 
 impl Standings {
-    // The standings of the vector.
-    fn new(alloc: Global, items: Vec<Standing>) -> Result<Standings, AllocError>
-        ensures { IfOk result (λ here. here ≡ items.items) }
-    {
-        Ok(Standings {
-            items: Rc::new(alloc, items)?,
-        })
-    }
-
     /// The standings as a slice.
     pub(crate) fn as_slice(&self) -> &[Standing]
         ensures { result.now ≡ self.now }
     {
         self.items.as_slice()
-    }
-
-    /// A copy.
-    pub(crate) fn copy(&self) -> Result<Standings, AllocError>
-        ensures { IfOk result (λ copy. copy ≡ self.now) }
-    {
-        Ok(Standings {
-            items: self.items.clone()?,
-        })
     }
 }
 
@@ -132,7 +111,7 @@ fn standings_at_root(alloc: Global, parties: &[Party], root: &Node) -> Result<St
     for party in parties {
         items.push(at_root(&party.caller, root))?;
     }
-    Standings::new(alloc, items)
+    Ok(Standings { items })
 }
 
 // All callers at an object in a folder.
@@ -151,7 +130,7 @@ fn standings_below(
     for (party, above) in parties.iter().zip(folder) {
         items.push(below(above, &party.caller, node))?;
     }
-    Standings::new(alloc, items)
+    Ok(Standings { items })
 }
 
 // A caller at the root, to which each comes, and which none may remove.

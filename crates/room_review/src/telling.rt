@@ -1,36 +1,33 @@
 //! The rows of a part of a room.
-ghost use Rattle.std.specs.Prelude.{◌≡◌, ◌++◌, ◌∷◌, [], IfOk, List, OnOk, string_bytes, true};
-ghost use Rattle.std.specs.Option.{option_copied};
-ghost use Rattle.room_entry.specs.Bytes.{slash};
+ghost use Rattle.std.specs.Prelude.{◌≡◌, ◌++◌, [], IfOk, List, OnOk, string_bytes, ℕ};
 ghost use Rattle.room_import.specs.Exports.{rows_text};
+ghost use Rattle.room_rows.specs.declared.node.Node.{Node};
 ghost use Rattle.room_rows.specs.Calls.{Reads};
-ghost use Rattle.room_rows.specs.Keep.{IsUnreadable};
 ghost use Rattle.room_machine.specs.Site.{Site};
 ghost use Rattle.room_machine.specs.Stored.{stored_site};
-ghost use Rattle.room_review.specs.Standing.{folder_standings, standings};
-ghost use Rattle.room_review.specs.Table.{rows_at, site_of};
+ghost use Rattle.room_dump.specs.Visits.{IsFrom};
+ghost use Rattle.room_review.specs.Standing.{standings};
+ghost use Rattle.room_review.specs.Table.{Place, object_rows, site_of};
 ghost use Rattle.room_review.specs.Telling.{
   AreOn,
   GivesTable,
   IsAstray,
   IsStray,
-  TellsAll,
+  TellsComing,
   TellsOne,
   TellsTable,
-  Under,
+  along,
   parent_path,
-  place_under,
-  rows_under,
-  waiting_at,
-  waiting_below,
-  waiting_children,
+  start_visit,
+  visit_at,
 };
 
 use crate::parties::Party;
 use crate::question::Start;
 use crate::sheet::{Described, Sheet};
 use crate::standing::{Standings, standings_at};
-use room_rows::{Bytes, Keep, KeepFault, Node, Nodes, Path, Text};
+use room_dump::{Below, Visit};
+use room_rows::{Bytes, Keep, KeepFault, Node, Path, Text};
 use std::alloc::{AllocError, Global};
 
 /// Whose rows are told, and which.
@@ -42,14 +39,6 @@ pub(crate) struct Audience {
     pub(crate) parties: Vec<Party>,
     /// Whether rows stand that say the same as those of the folder above.
     pub(crate) all: bool,
-}
-
-// An object that waits, its path, and all callers at the folder that it stands in.
-#[derive(Drop)]
-struct Pending {
-    path: Text,
-    node: Node,
-    folder: Standings,
 }
 
 /// The table of an object and of all below it. There are at most `most` objects.
@@ -78,79 +67,50 @@ fn push_table<K: Keep>(
     ensures read { Reads K.Keep keep.old keep.new result (IsAstray most start.now)
         (TellsTable most start.now asked.now sheet.old sheet.new) }
 {
-    let here = push_first(start, asked, sheet)?;
-    let children = keep.children(start.node.id)?;
-    let mut waiting = children_of(asked.alloc, &start.path, &here, children)?;
-    push_waiting(keep, most, asked, &mut waiting, sheet)
+    let mut way = standings_along(asked, start.above.as_slice())?;
+    let mut walk = walk_from(asked.alloc, most, start)?;
+    push_all(keep, asked, &mut walk, &mut way, sheet)
 }
 
-// Adds all rows of the object that a review starts at, and answers with all callers at it.
-fn push_first(start: &Start, asked: &Audience, sheet: &mut Sheet) -> Result<Standings, AllocError>
-    ensures here { (sites : List Site) → AreOn start.now.above sites
-        → IfOk result (λ here. here ≡ standings asked.now.parties.items sites
-        (stored_site start.now.path start.now.node)) }
-    ensures text { (sites : List Site) → AreOn start.now.above sites
-        → OnOk result (sheet.new ≡ sheet.old
-        ++ rows_text (rows_at true asked.now.parties.items sites
-        (stored_site start.now.path start.now.node))) }
-{
-    let folder = standings_above(asked, start.above.as_slice())?;
-    let here = standings_at(asked.alloc, &asked.parties, folder.as_ref(), &start.node)?;
-    push_all(start, asked, &here, sheet)?;
-    Ok(here)
-}
-
-// Adds all rows of an object.
-fn push_all(
-    start: &Start,
-    asked: &Audience,
-    here: &Standings,
-    sheet: &mut Sheet,
-) -> Result<(), AllocError>
-    ensures { (sites : List Site)
-        → here.now ≡ standings asked.now.parties.items sites
-        (stored_site start.now.path start.now.node)
-        → OnOk result (sheet.new ≡ sheet.old
-        ++ rows_text (rows_at true asked.now.parties.items sites
-        (stored_site start.now.path start.now.node))) }
-{
-    let path = start.path.to_text(asked.alloc)?;
-    let told = Described {
-        path: path.as_str(),
-        kind: start.node.kind,
-        here,
-        all: true,
-    };
-    sheet.push_rows(asked.alloc, &asked.parties, &told)
-}
-
-// All callers at the last of the objects on a way, or none where there is none.
-fn standings_above(asked: &Audience, above: &[Node]) -> Result<Option<Standings>, AllocError>
+// All callers at each of the objects on a way.
+fn standings_along(asked: &Audience, above: &[Node]) -> Result<Vec<Standings>, AllocError>
     ensures { (sites : List Site) → AreOn above.now sites
-        → IfOk result (λ folder. folder ≡ folder_standings asked.now.parties.items sites) }
+        → IfOk result (λ way. way.items ≡ along asked.now.parties.items [] sites) }
 {
-    let mut folder = None;
+    let mut way = Vec::new(asked.alloc);
     'nodes: for node in above {
-        let next = standings_at(asked.alloc, &asked.parties, folder.as_ref(), node)?;
-        folder = Some(next);
+        let here = standings_behind(asked, way.as_slice(), node)?;
+        way.push(here)?;
     }
-    Ok(folder)
+    Ok(way)
 }
 
-// The children of the object at a path, of which the first in order of name is taken next.
-fn children_of(
-    alloc: Global,
-    path: &Path,
-    here: &Standings,
-    children: Nodes,
-) -> Result<Vec<Pending>, AllocError>
-    ensures { IfOk result (λ waiting.
-        waiting.items ≡ waiting_children (parent_path path.now) here.now children) }
+// All callers at an object behind these.
+#[tactic(auto, using(crate::proofs::Above::last_along))]
+fn standings_behind(
+    asked: &Audience,
+    way: &[Standings],
+    node: &Node,
+) -> Result<Standings, AllocError>
+    ensures { (sites : List Site) (path : List (List ℕ))
+        → way.now ≡ along asked.now.parties.items [] sites
+        → IfOk result (λ here. here ≡ standings asked.now.parties.items sites
+        (stored_site path node.now)) }
 {
-    let mut waiting = Vec::new(alloc);
-    let above = parent_text(alloc, path)?;
-    push_children(alloc, &mut waiting, above.as_str(), here, children)?;
-    Ok(waiting)
+    standings_at(asked.alloc, &asked.parties, way.last(), node)
+}
+
+// A walk from the object that a review starts at.
+fn walk_from(alloc: Global, most: usize, start: &Start) -> Result<Below, AllocError>
+    ensures { IfOk result (IsFrom most (start_visit start.now)) }
+{
+    let path = parent_text(alloc, &start.path)?;
+    let first = Visit {
+        path: Text::from_string(path),
+        depth: start.above.len(),
+        node: start.node.copy()?,
+    };
+    Below::at(alloc, most, first)
 }
 
 // The text of a path, but nothing for the root: what stands before a child's `/`.
@@ -164,121 +124,66 @@ fn parent_text(alloc: Global, path: &Path) -> Result<String, AllocError>
     }
 }
 
-// Adds the rows of what waits and of all below it, one object in a turn.
-fn push_waiting<K: Keep>(
+// Adds the rows of all that is still to come, and of the first object all rows.
+fn push_all<K: Keep>(
     keep: &mut K,
-    most: usize,
     asked: &Audience,
-    waiting: &mut Vec<Pending>,
+    walk: &mut Below,
+    way: &mut Vec<Standings>,
     sheet: &mut Sheet,
 ) -> Result<(), KeepFault>
     ensures read { Reads K.Keep keep.old keep.new result
-        (IsStray asked.now most waiting.old.items)
-        (TellsAll asked.now most waiting.old.items sheet.old sheet.new) }
+        (IsStray asked.now walk.old way.old.items)
+        (TellsComing asked.now walk.old way.old.items sheet.old sheet.new) }
 {
-    'turns: for _turn in 0..most {
-        let Some(object) = waiting.pop() else {
-            return Ok(());
-        };
-        let told = push_one(keep, asked, &object, waiting, sheet);
+    let mut all = true;
+    'objects: while let Some(visit) = walk.next(keep)? {
+        let told = push_rows(asked, all, &visit, way, sheet);
         // Dropped here, and not part by part on each way out.
-        drop(object);
+        drop(visit);
         told?;
+        all = asked.all;
     }
-    if waiting.is_empty() {
-        Ok(())
-    } else {
-        Err(KeepFault::Damaged { id: 0 })
-    }
+    Ok(())
 }
 
-// Adds the rows of an object, and has its children wait.
-fn push_one<K: Keep>(
-    keep: &mut K,
+// Adds the rows of an object, and puts all callers at it behind those on the way to it.
+fn push_rows(
     asked: &Audience,
-    object: &Pending,
-    waiting: &mut Vec<Pending>,
+    all: bool,
+    visit: &Visit,
+    way: &mut Vec<Standings>,
     sheet: &mut Sheet,
-) -> Result<(), KeepFault>
-    ensures read { Reads K.Keep keep.old keep.new result IsUnreadable
-        (TellsOne asked.now object.now waiting.old.items waiting.new.items sheet.old sheet.new) }
+) -> Result<(), AllocError>
+    ensures { OnOk result (TellsOne asked.now.parties.items all visit.now way.old.items
+        way.new.items sheet.old sheet.new) }
 {
-    let here = push_rows(asked, object, sheet)?;
-    let children = keep.children(object.node.id)?;
-    let above = object.path.as_str();
-    Ok(push_children(asked.alloc, waiting, above, &here, children)?)
+    way.truncate(visit.depth);
+    let here = standings_behind(asked, way.as_slice(), &visit.node)?;
+    push_told(asked, all, visit, &here, sheet)?;
+    way.push(here)?;
+    Ok(())
 }
 
-// Adds the rows of an object, and answers with all callers at it.
-fn push_rows(asked: &Audience, object: &Pending, sheet: &mut Sheet) -> Result<Standings, AllocError>
-    ensures here { (it : Under) → object.now ≡ waiting_at asked.now.parties.items it
-        → IfOk result (λ here. here ≡ standings asked.now.parties.items (place_under it).above
-        (site_of (place_under it) it.node)) }
-    ensures text { (it : Under) → object.now ≡ waiting_at asked.now.parties.items it
-        → OnOk result (sheet.new ≡ sheet.old ++ rows_text (rows_under asked.now it)) }
-{
-    let folder = Some(&object.folder);
-    let here = standings_at(asked.alloc, &asked.parties, folder, &object.node)?;
-    push_told(asked, object, &here, sheet)?;
-    Ok(here)
-}
-
+// Adds the rows of an object at which the callers stand so.
+#[tactic(auto, using(crate::proofs::Told::shown_path))]
 fn push_told(
     asked: &Audience,
-    object: &Pending,
+    all: bool,
+    visit: &Visit,
     here: &Standings,
     sheet: &mut Sheet,
 ) -> Result<(), AllocError>
-    ensures { (it : Under) → object.now ≡ waiting_at asked.now.parties.items it
-        → here.now ≡ standings asked.now.parties.items (place_under it).above
-        (site_of (place_under it) it.node)
-        → OnOk result (sheet.new ≡ sheet.old ++ rows_text (rows_under asked.now it)) }
+    ensures { (place : Place) (node : Node) → visit.now ≡ visit_at place node
+        → here.now ≡ standings asked.now.parties.items place.above (site_of place node)
+        → OnOk result (sheet.new ≡ sheet.old
+        ++ rows_text (object_rows all asked.now.parties.items place node)) }
 {
     let told = Described {
-        path: object.path.as_str(),
-        kind: object.node.kind,
+        path: visit.shown(),
+        kind: visit.node.kind,
         here,
-        all: asked.all,
+        all,
     };
     sheet.push_rows(asked.alloc, &asked.parties, &told)
-}
-
-// Has the children wait, of which the first in order of name is taken next.
-fn push_children(
-    alloc: Global,
-    waiting: &mut Vec<Pending>,
-    above: &str,
-    here: &Standings,
-    children: Nodes,
-) -> Result<(), AllocError>
-    ensures { OnOk result
-        (waiting.new.items ≡ waiting.old.items ++ waiting_children above.now here.now children) }
-{
-    let mut nodes = children.into_vec();
-    'children: while let Some(node) = nodes.pop() {
-        push_child(alloc, waiting, above, here, node)?;
-    }
-    Ok(())
-}
-
-fn push_child(
-    alloc: Global,
-    waiting: &mut Vec<Pending>,
-    above: &str,
-    here: &Standings,
-    node: Node,
-) -> Result<(), AllocError>
-    ensures { OnOk result
-        (waiting.new.items ≡ waiting.old.items ++ waiting_below above.now here.now node ∷ []) }
-{
-    let path = path_below(alloc, above, node.name.as_str())?;
-    let folder = here.copy()?;
-    waiting.push(Pending { path, node, folder })?;
-    Ok(())
-}
-
-fn path_below(alloc: Global, above: &str, name: &str) -> Result<Text, AllocError>
-    ensures { IfOk result (λ path. path ≡ above.now ++ slash ∷ name.now) }
-{
-    Ok(Text::from_string(format!(in alloc; "{above}/{name}")?))
 }

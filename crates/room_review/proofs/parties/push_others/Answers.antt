@@ -1,6 +1,7 @@
-use Rattle.std.proofs.Common.{◌∷◌, ◌++◌, [], List, ap, ◌∙◌, append_assoc}
-use Rattle.room_dump.proofs.Reading.{answer_on, none_yet, read_on}
+use Rattle.std.proofs.Common.{◌≡◌, ◌∷◌, ◌++◌, [], List, ap, ◌∙◌, append_assoc}
+use Rattle.room_dump.proofs.Reading.{Knows, answered, knows, learns}
 use Rattle.room_review.specs.declared.parties.Party.{Party}
+use Rattle.room_review.specs.Table.{other_name}
 use Rattle.room_review.proofs.parties.push_others.Goals as goal
 
 pub returns : goal.returns
@@ -12,23 +13,16 @@ returns g c =
     let d = c.party_of-2.new.keep in
     let other = c.in_ok-other.other in
     let nobody = c.in_ok-nobody.nobody in
-    let start = none_yet k laws a in
-    let one = read_on k laws a a b other start c.in_ok-other.ensures.read in
-    let two = read_on k laws a b d nobody one c.in_ok-nobody.ensures.read in
+    let before = c.args.parties.now.items in
+    let one : Knows k laws a b (λ rows. other ≡ other_name rows.read c.args.stranger.now) =
+    learns k laws a a b other (knows k laws a (λ rows are. are)) c.in_ok-other.ensures.read
+    (λ rows are _ is. is) in
     record {
-      read = record {
-        follows = two.follows;
-        unwritten = two.unwritten;
-        same = two.same;
-        unfailed = two.unfailed;
-        fault = tt;
-        answers = λ t.
-            c.in_ok-push_party-2.ensures
-            ∙ ap (λ (l : List Party). l ++ nobody ∷ []) c.in_ok-push_party.ensures
-            ∙ append_assoc c.args.parties.now.items (other ∷ []) (nobody ∷ [])
-            ∙ (λ i. c.args.parties.now.items
-            ++ (answer_on k laws a a b other start c.in_ok-other.ensures.read
-            (laws.first a b d one.follows c.in_ok-nobody.ensures.read.follows t)) i
-            ∷ (answer_on k laws a b d nobody one c.in_ok-nobody.ensures.read t) i ∷ []);
-      };
+      read =
+          answered k laws a d tt
+          (learns k laws a b d nobody one c.in_ok-nobody.ensures.read (λ rows are first second.
+          c.in_ok-push_party-2.ensures
+          ∙ ap (λ (l : List Party). l ++ nobody ∷ []) c.in_ok-push_party.ensures
+          ∙ append_assoc before (other ∷ []) (nobody ∷ [])
+          ∙ (λ i. before ++ first i ∷ second i ∷ [])));
     }

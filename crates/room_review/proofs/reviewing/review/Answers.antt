@@ -1,8 +1,9 @@
-use Rattle.std.proofs.Common.{◌++◌, ◌∷◌, [], List, sym, ap, ◌∙◌}
+use Rattle.std.proofs.Common.{◌≡◌, ◌++◌, ◌∷◌, [], List, sym, ap, ◌∙◌}
 use Rattle.room_entry.proofs.Facts.Members.{no_length}
 use Rattle.room_rows.specs.declared.node.Node.{Node}
 use Rattle.room_rows.specs.declared.node.Walk.{Walk}
-use Rattle.room_dump.proofs.Reading.{answer_on, damaged, none_yet, read_on, tail}
+use Rattle.room_rows.specs.Walk.{walk_of}
+use Rattle.room_dump.proofs.Reading.{Knows, damaged, knows, learns, tail}
 use Rattle.room_review.proofs.Ending.{rootless}
 use Rattle.room_review.proofs.reviewing.review.Goals as goal
 
@@ -13,14 +14,14 @@ returns-in-None g c =
     let a = c.args.keep.now in
     let b = c.walk.new.keep in
     let found = c.in_ok-found.found in
-    let read = c.in_ok-found.ensures.read in
     let none = sym c.into_vec-above.ensures
     ∙ no_length c.into_vec-above.result.items
     (sym c.into_vec-above.result.ok.0 ∙ c.in-None.ensures.cases.0) in
     record {
-      read = damaged k laws a b 0 (read_on k laws a a b found (none_yet k laws a) read)
-          (λ t. rootless (k.rows a) c.args.question.now.path found
-          (answer_on k laws a a b found (none_yet k laws a) read t).0 none);
+      read =
+          damaged k laws a b 0
+          (learns k laws a a b found (knows k laws a (λ rows are. are)) c.in_ok-found.ensures.read
+          (λ rows are _ is. rootless rows c.args.question.now.path found is.0 none));
     }
 
 pub returns-in_ok-copy-in-Some : goal.returns-in_ok-copy-in-Some
@@ -29,20 +30,19 @@ returns-in_ok-copy-in-Some g c =
     let laws = g.met.K.Keep.laws in
     let a = c.args.keep.now in
     let b = c.walk.new.keep in
-    let d = c.review_from.new.keep in
     let found = c.in_ok-found.found in
-    let read = c.in_ok-found.ensures.read in
-    let sofar = read_on k laws a a b found (none_yet k laws a) read in
     let walk_with : List Node → Walk = λ chain. record { chain = chain; rest = found.rest } in
     let chain = sym c.into_vec-above.ensures ∙ c.in-Some.ensures.items in
-    let walked = λ (t : k.IsTrusted a b).
+    let walked : Knows k laws a b (λ rows.
+    walk_with (c.from_vec.result ++ c.in-Some.node ∷ []) ≡ walk_of rows.read c.args.question.now.path) =
+    learns k laws a a b found (knows k laws a (λ rows are. are)) c.in_ok-found.ensures.read
+    (λ rows are _ is.
     ap walk_with (ap (λ (l : List Node). l ++ c.in-Some.node ∷ []) c.from_vec.ensures ∙ sym chain)
-    ∙ (answer_on k laws a a b found (none_yet k laws a) read t).0 in
+    ∙ is.0) in
     record {
       read =
-          tail k laws a b d c.review_from.result sofar
-          (λ t at stranded. stranded c.in_ok-copy-in-Some.ensures (walked t))
-          (λ t x gives. gives c.in_ok-copy-in-Some.ensures
-          (walked (laws.first a b d sofar.follows c.review_from.ensures.read.follows t)))
+          tail k laws a b c.review_from.new.keep c.review_from.result walked
+          (λ rows are walked row stranded. stranded c.in_ok-copy-in-Some.ensures walked)
+          (λ rows are walked x gives. gives c.in_ok-copy-in-Some.ensures walked)
           c.review_from.ensures.read;
     }

@@ -1,9 +1,10 @@
 use Rattle.std.proofs.Common.{◌≡◌, List, Some, length, ap, ◌∙◌}
+use Rattle.room_rows.specs.Rows.{Rows, numbers_of}
 use Rattle.room_machine.specs.Site.{Site, site_at}
 use Rattle.room_machine.specs.Stored.{stored_along, stored_site}
-use Rattle.room_dump.proofs.Reading.{answer_on, none_yet, read_on, tail}
+use Rattle.room_dump.proofs.Reading.{Knows, knows, learns, tail}
 use Rattle.room_review.specs.declared.question.Reviewed.TheVariants.{Table}
-use Rattle.room_review.specs.Telling.{AreOn, Starts}
+use Rattle.room_review.specs.Telling.{AreOn, GivesParties, Starts}
 use Rattle.room_review.proofs.reviewing.table_at.Goals as goal
 
 pub returns : goal.returns
@@ -13,35 +14,30 @@ returns g c =
     let a = c.args.keep.now in
     let b = c.ids.new.self in
     let d = c.parties_at.new.keep in
-    let e = c.table_from.new.keep in
-    let ids = c.in_ok-ids.field-0 in
+    let most = c.len-most.result in
     let parties = c.in_ok-parties.parties in
-    let start = none_yet k laws a in
-    let counted = read_on k laws a a b ids start c.in_ok-ids.ensures.read in
-    let sofar = read_on k laws a b d parties counted c.in_ok-parties.ensures.read in
-    let many = λ (t : k.IsTrusted a d). c.len-most.ensures
-    ∙ ap length (answer_on k laws a a b ids start c.in_ok-ids.ensures.read
-    (laws.first a b d counted.follows c.in_ok-parties.ensures.read.follows t)) in
     let first = c.args.start.now in
-    let starts : k.IsTrusted a d → (sites : List Site)
-    → site_at (stored_along (k.rows a).read first.path) first.path
+    let counted : Knows k laws a b (λ rows. most ≡ length (numbers_of rows)) =
+    learns k laws a a b c.in_ok-ids.field-0 (knows k laws a (λ rows are. are))
+    c.in_ok-ids.ensures.read (λ rows are _ is. c.len-most.ensures ∙ ap length is) in
+    let found : Knows k laws a d (λ rows. (most ≡ length (numbers_of rows))
+    × GivesParties most first c.args.pairs.now c.args.question.now.user rows parties.items) =
+    learns k laws a b d parties counted c.in_ok-parties.ensures.read
+    (λ rows are many gives. (many, gives)) in
+    let starts : (rows : Rows) → most ≡ length (numbers_of rows) → (sites : List Site)
+    → site_at (stored_along rows.read first.path) first.path
     ≡ Some (stored_site first.path first.node)
-    → AreOn first.above sites → Starts c.len-most.result first sites (k.rows a) =
-    λ t sites there way. record {
-      there = record { most_is = many t; is_there = there };
+    → AreOn first.above sites → Starts most first sites rows =
+    λ rows many sites there way. record {
+      there = record { most_is = many; is_there = there };
       way = way;
     } in
     record {
       read =
-          tail k laws a d e c.table_from.result sofar
-          (λ t at astray sites there way. astray sites (starts t sites there way))
-          (λ t x gives sites there way.
-          let trusted = laws.first a d e sofar.follows c.table_from.ensures.read.follows t in
-          record {
-            parties = parties.items;
-            are = answer_on k laws a b d parties counted c.in_ok-parties.ensures.read trusted sites
-                (starts trusted sites there way);
-            is = ap Table (gives sites (starts trusted sites there way));
-          })
+          tail k laws a d c.table_from.new.keep c.table_from.result found
+          (λ rows are is row astray sites there way. astray sites (starts rows is.0 sites there way))
+          (λ rows are is x gives sites there way.
+          let begun = starts rows is.0 sites there way in
+          record { parties = parties.items; are = is.1 sites begun; is = ap Table (gives sites begun) })
           c.table_from.ensures.read;
     }

@@ -1,7 +1,7 @@
 use Rattle.std.proofs.Common.{List, ℕ, map, refl, subst}
 use Rattle.std.specs.List.{flat_map}
 use Rattle.room_rows.specs.declared.node.Node.{Node}
-use Rattle.room_dump.proofs.Reading.{answer_on, answered, fails, none_yet, read_on}
+use Rattle.room_dump.proofs.Reading.{answered, fails, knows, learns}
 use Rattle.room_review.specs.Users.{Gathers, users_at}
 use Rattle.room_review.proofs.Tabled.{gathers_users}
 use Rattle.room_review.proofs.reviewing.users_at.Goals as goal
@@ -13,17 +13,17 @@ returns g c =
     let a = c.args.keep.now in
     let b = c.gather_below.new.keep in
     let pairs = c.args.pairs.now in
-    let read = c.in_ok-gather_below.ensures.read in
     record {
       read = answered k laws a b c.gather_below.new.users
-          (read_on k laws a a b tt (none_yet k laws a) read)
-          (λ t sites starts. gathers_users (k.rows a) pairs c.args.most c.args.start.now sites
+          (learns k laws a a b tt (knows k laws a (λ rows are. are))
+          c.in_ok-gather_below.ensures.read
+          (λ rows are _ gathers sites starts. gathers_users rows pairs c.args.most c.args.start.now sites
           c.add_paired.new.self c.gather_above.new.users c.gather_below.new.users starts
           (subst (λ (names : List (List ℕ)). Gathers names (map (λ pair. pair.1) pairs)
           c.add_paired.new.self) c.new-users.ensures c.in_ok-add_paired.ensures)
           (subst (λ (nodes : List Node). Gathers c.add_paired.new.self (flat_map users_at nodes)
           c.gather_above.new.users) c.as_slice.ensures c.in_ok-gather_above.ensures)
-          (answer_on k laws a a b tt (none_yet k laws a) read t));
+          gathers));
     }
 
 pub returns-in_err-gather_below : goal.returns-in_err-gather_below
@@ -34,8 +34,8 @@ returns-in_err-gather_below g c =
     record {
       read = fails k laws a a c.gather_below.new.keep c.in_err-gather_below.field-0.0
           c.from_residual-in_err-gather_below.result
-          (λ t at lost sites starts. lost c.args.start.now.path c.args.start.now.node starts.there
-          refl)
-          (none_yet k laws a) c.in_err-gather_below.ensures.read
+          (λ rows are _ row lost sites starts. lost c.args.start.now.path c.args.start.now.node
+          starts.there refl)
+          (knows k laws a (λ rows are. are)) c.in_err-gather_below.ensures.read
           c.from_residual-in_err-gather_below.ensures.1;
     }

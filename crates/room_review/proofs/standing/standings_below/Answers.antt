@@ -1,6 +1,5 @@
 use Rattle.std.proofs.Common.{length, take, ap, sym, ◌∙◌, rules}
 use Rattle.std.proofs.lemmas.List.{length_push}
-use Rattle.std.proofs.lemmas.Result.{IfOk-weaker}
 use Rattle.std.proofs.lemmas.Slice.Zip.{zip_end, zip_turn}
 use Rattle.room_machine.specs.Stored.{stored_site}
 use Rattle.room_review.specs.declared.parties.Party.{Party}
@@ -30,13 +29,11 @@ pub returns : goal.returns
 returns c above site path last is =
     let parties = c.args.parties.now in
     let folder = c.args.folder.now in
-    IfOk-weaker c.new.result _ _ (λ here same. same
-    ∙ all_mapped (λ (party : Party). standing party.caller (before_last above) site)
+    all_mapped (λ (party : Party). standing party.caller (before_last above) site)
     (λ (party : Party). standing party.caller above (stored_site path c.args.node.now)) parties
     folder
     (length c.loop-party.yielded) c.loop-party.items.items
     (zip_end parties folder c.loop-party.yielded c.into_iter-party-iterator.result
     c.loop-party.party-iterator c.next.new.self c.next.result (search rules) (search rules)
     c.loop-party.yielded_by
-    c.in-None.is c.next.ensures.steps) is (c.loop-party.invariant above site path last is))
-    c.new.ensures
+    c.in-None.is c.next.ensures.steps) is (c.loop-party.invariant above site path last is)

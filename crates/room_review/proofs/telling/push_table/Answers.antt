@@ -1,9 +1,10 @@
-use Rattle.std.proofs.Common.{◌∙◌, List, map, ap}
+use Rattle.std.proofs.Common.{◌≡◌, List, [], ℕ, sym, ap, subst, inl, ◌++◌, ◌∙◌}
+use Rattle.room_import.specs.Exports.{rows_text}
+use Rattle.room_dump.proofs.Reading.{knows, tail}
 use Rattle.room_rows.specs.declared.node.Node.{Node}
 use Rattle.room_machine.specs.Site.{Site}
-use Rattle.room_dump.proofs.Reading.{answer_on, none_yet, read_on, tail}
-use Rattle.room_review.specs.Telling.{Starts, WaitsBelow, children_under, place_at, waiting_at}
-use Rattle.room_review.proofs.Tabled.{first_wait, table_told}
+use Rattle.room_review.specs.Telling.{AreOn, along}
+use Rattle.room_review.proofs.Told.{come, objects, rows_are}
 use Rattle.room_review.proofs.telling.push_table.Goals as goal
 
 pub returns : goal.returns
@@ -11,34 +12,26 @@ returns g c =
     let k = g.K.Keep in
     let laws = g.met.K.Keep.laws in
     let a = c.args.keep.now in
-    let b = c.children.new.self in
-    let d = c.push_waiting.new.keep in
-    let w = k.rows a in
+    let d = c.push_all.new.keep in
     let asked = c.args.asked.now in
+    let most = c.args.most in
     let start = c.args.start.now in
-    let parties = asked.parties.items in
-    let children = c.in_ok-children.children in
-    let read = c.in_ok-children.ensures.read in
-    let waiting = c.in_ok-waiting.waiting.items in
-    let below : k.IsTrusted a b → (sites : List Site) → Starts c.args.most start sites w
-    → WaitsBelow asked c.args.most (place_at start sites) start.node waiting w =
-    λ t sites starts. record {
-      starts = starts.there;
-      waits = c.in_ok-waiting.ensures
-          ∙ first_wait parties (place_at start sites) start.node c.in_ok-here.here children
-          (c.in_ok-here.ensures.here sites starts.way)
-          ∙ ap (λ (l : List Node). map (waiting_at parties)
-          (children_under (place_at start sites) start.node l))
-          (answer_on k laws a a b children (none_yet k laws a) read t);
-    } in
-    let sofar = read_on k laws a a b children (none_yet k laws a) read in
+    let walk = c.in_ok-walk.walk in
+    let from = c.in_ok-walk.ensures in
+    let way = c.in_ok-way.way.items in
+    let along_way : (sites : List Site) → AreOn start.above sites
+    → way ≡ along asked.parties.items [] sites = λ sites on. c.in_ok-way.ensures sites
+    (subst (λ (nodes : List Node). AreOn nodes sites) (sym c.as_slice.ensures) on) in
     record {
       read =
-          tail k laws a b d c.push_waiting.result sofar
-          (λ t at stray sites starts. stray (place_at start sites) start.node (below t sites starts))
-          (λ t x all sites starts. table_told asked w c.args.most start sites waiting
-          c.args.sheet.now c.push_first.new.sheet c.push_waiting.new.sheet
-          (below (laws.first a b d sofar.follows c.push_waiting.ensures.read.follows t) sites starts)
-          (c.in_ok-here.ensures.text sites starts.way) all)
-          c.push_waiting.ensures.read;
+          tail k laws a a d c.push_all.result (knows k laws a (λ rows are. are))
+          (λ rows are _ row blocked sites starts.
+          inl (blocked sites (objects asked rows are most start sites starts walk from)
+          (come asked rows are most start sites starts walk from way (along_way sites starts.way))))
+          (λ rows are _ x all sites starts.
+          all sites (objects asked rows are most start sites starts walk from)
+          (come asked rows are most start sites starts walk from way (along_way sites starts.way))
+          ∙ ap (λ (l : List (List (List ℕ))). c.args.sheet.now ++ rows_text l)
+          (rows_are asked rows are most start sites starts walk from))
+          c.push_all.ensures.read;
     }

@@ -1,5 +1,5 @@
 use Rattle.std.proofs.Common.{◌∙◌}
-use Rattle.room_dump.proofs.Reading.{answer_on, answered, none_yet, read_on}
+use Rattle.room_dump.proofs.Reading.{answered, knows, learns}
 use Rattle.room_review.specs.Table.{table_rows}
 use Rattle.room_review.specs.Telling.{place_at}
 use Rattle.room_review.proofs.Tabled.{under_header}
@@ -11,16 +11,14 @@ returns g c =
     let laws = g.met.K.Keep.laws in
     let a = c.args.keep.now in
     let b = c.push_table.new.keep in
-    let w = k.rows a in
     let asked = c.args.asked.now in
     let start = c.args.start.now in
-    let read = c.in_ok-push_table.ensures.read in
     record {
-      read = answered k laws a b c.into_bytes.result
-          (read_on k laws a a b tt (none_yet k laws a) read)
-          (λ t sites starts. c.into_bytes.ensures
+      read =
+          answered k laws a b c.into_bytes.result
+          (learns k laws a a b tt (knows k laws a (λ rows are. are)) c.in_ok-push_table.ensures.read
+          (λ rows are _ told sites starts. c.into_bytes.ensures
           ∙ under_header c.in_ok-sheet.sheet c.push_table.new.sheet
-          (table_rows w asked.all asked.parties.items (place_at start sites) start.node)
-          c.in_ok-sheet.ensures
-          (answer_on k laws a a b tt (none_yet k laws a) read t sites starts));
+          (table_rows rows asked.all asked.parties.items (place_at start sites) start.node)
+          c.in_ok-sheet.ensures (told sites starts)));
     }
