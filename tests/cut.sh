@@ -16,8 +16,14 @@ nobody_left() { # NAME RUN
   holds "$1: none of its processes goes on" [ -z "$(goes_on "$2")" ]
 }
 
-# Each call of the verb in `words`: `before` makes ready, `is_served` looks at the room, and `again` at the
-# command once more.
+# What a case may have otherwise: the command once more, what is found in the folder of marks, and whether a run
+# that got a signal may say that all is well.
+once_more() { admin "${words[@]}"; }
+owes() { ls "$ROOMS_RUN"; }
+ended_badly() { [ "$status" != 0 ]; }
+
+# Each call of the verb in `words`: `before` makes ready, `is_served` looks at the room and at what is left, and
+# `again` at the command once more.
 at_each_call() { # NAME LEAST
   local number name lock
   for number in {1..200}; do
@@ -27,14 +33,14 @@ at_each_call() { # NAME LEAST
     [ -e "$stand/hit" ] || break
     name="$1, $how at $number, $(cat "$stand/hit")"
     name=${name//$PWD\//}
-    holds "$name: it doesn't end well" [ "$status" != 0 ]
+    holds "$name: it doesn't end well" ended_badly
     nobody_left "$name" "${words[0]}.$how.$number"
-    holds "$name: nothing is owed" [ -z "$(ls "$ROOMS_RUN")" ]
+    holds "$name: nothing is owed" [ -z "$(owes)" ]
     for lock in "$ROOMS_RUN"/.rooms-admin/*; do
       [ ! -e "$lock" ] || holds "$name: the lock $lock is free" flock -n "$lock" true
     done
     is_served "$name"
-    admin "${words[@]}"
+    once_more
     again "$name"
   done
   holds "$1, $how: the calls come to an end, after $number" [ "$number" -gt "$2" -a "$number" -lt 200 ]

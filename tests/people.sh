@@ -38,22 +38,3 @@ leaves_socket() {
   rm -r "$stand/socket" run/rooms
   setting SOCKET ''
 }
-
-# Plays a verb that is killed at each call, and CHECK after each.
-killed_everywhere() { # CHECK VERB LEAST
-  local check=$1 number
-  for how in TERM KILL; do
-    for number in {1..80}; do
-      rm -f "$stand/hit"
-      export KILL_AT=$number KILL_HOW=$how
-      room_verb "$2"
-      unset KILL_AT
-      [ -e "$stand/hit" ] || break
-      name="$2, $how at $(cat "$stand/hit")"
-      name=${name//$PWD\//}
-      "$check"
-    done
-    holds "$2, $how: the calls came to an end" [ "$number" -gt "$3" -a "$number" -lt 80 ]
-    holds "$2, $how: the last one ends well" [ "$status" = 0 ]
-  done
-}

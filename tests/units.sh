@@ -8,7 +8,7 @@ stand=
 # that.
 make_stand() {
   stand=$PWD/stand
-  mkdir "$stand" "$stand/bin" run office
+  mkdir -p "$stand/bin" run office
   mkdir -m 700 backups
   echo 0 >"$stand/count"
   : >"$stand/pid"
@@ -119,7 +119,7 @@ serve() {
     place=(--socket "$(<"$STAND/socket")")
     rm -f "${place[1]}"
   fi
-  setsid "${user[@]}" "$STAND_ROOMS" serve "$STAND_FILE" "${place[@]}" --count 1000000 </dev/null >"$STAND/out" 2>"$STAND/err" &
+  setsid env -u CUT "${user[@]}" "$STAND_ROOMS" serve "$STAND_FILE" "${place[@]}" --count 1000000 </dev/null >"$STAND/out" 2>"$STAND/err" &
   pid=$!
   echo "$pid" >"$STAND/pid"
   until grep -q '^listening ' "$STAND/out" || ! alive; do sleep 0.02; done

@@ -77,10 +77,12 @@ class Night:
 
     def remove_left(self) -> None:
         """What runs have left that were cut off with their machine, or after which nobody looked.
-        Other rooms may have their backups here too: what they have isn't touched."""
+        Other rooms may have their backups here too: what they have isn't touched, nor what a run of
+        theirs is at. One of this room's isn't at work: this one has the lock."""
         own = {self.room.base, self.room.base + "-wal", *_TEXTS, "unfinished"}
         busy = {(unit.Mark(one).read() or ("", ""))[0]
-                for one in glob.glob(f"{glob.escape(locks.RUN)}/rooms-nightly.*")}
+                for one in glob.glob(f"{glob.escape(locks.RUN)}/rooms-nightly.*")
+                if one not in (self.mark.place, self.note.place)}
         for name in sorted(os.listdir(self.room.backups)):
             place = os.path.join(self.room.backups, name)
             dated = name.removesuffix(".part")
@@ -91,10 +93,14 @@ class Night:
                 self.remove_own(place, "has more in it than a copy")
                 self.failed(f"interrupted: an earlier run was cut off, and left no backup of "
                             f"{dated}; what it had copied is removed")
-            elif name == dated and {"unfinished", self.room.base} <= inside:
-                _remove_unfinished(place)
-                self.failed(f"interrupted: an earlier run was cut off, and the backup of {dated} "
-                            "may lack a part of what is written beside it")
+            elif name == dated and self.room.base in inside:
+                was_lent = lent.is_lent(self.room, place)
+                if was_lent:
+                    self.failed(lent.take_back(self.room, place))
+                if was_lent or "unfinished" in inside:
+                    _remove_unfinished(place)
+                    self.failed(f"interrupted: an earlier run was cut off, and the backup of "
+                                f"{dated} may lack a part of what is written beside it")
 
     def back_up(self) -> None:
         try:
@@ -333,8 +339,8 @@ class Night:
             self.kept = self.part.removesuffix(".part")
         if self.kept:
             _remove_unfinished(self.kept)
-            with safe.opened(safe.folder(self.kept)) as within:
-                lent.take_back(self.room, within)
+            if lent.is_lent(self.room, self.kept):
+                self.failed(lent.take_back(self.room, self.kept))
         if os.path.exists(self.note.place):
             os.unlink(self.note.place)
 

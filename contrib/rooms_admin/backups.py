@@ -1,27 +1,23 @@
 """A private copy of a backup, and that copy served by the program in a network of its own, which
-nobody else can reach. (`rooms get` reads one document without a server. For all of a folder that
-would be a start of the program, and an opening of the room, for each document.)"""
+nobody else can reach. (`rooms get` reads one document without a server, but all of the room for it:
+that takes a processor 9 ms in a room of one document, 70 ms with 1,000 of 20,000 bytes, 0.7 s with
+10,000; and one process at a time has a file. A server reads it once.)"""
 import ctypes
 import fcntl
-import glob
 import os
-import re
 import select
-import shutil
 import signal
 import socket
 import struct
 import subprocess
-import tempfile
 from collections.abc import Iterator
 from contextlib import contextmanager
 
-from . import names, program, safe, settings, unit
+from . import names, private, program, safe, settings
 from .said import Stop
 
 PORT = 8780
 USER = "rooms-get"
-_PREFIX = "rooms-get."
 _ENDS_WITH_PARENT = 1
 _NEW_USER, _NEW_NETWORK = 0x10000000, 0x40000000
 _GET_FLAGS, _SET_FLAGS, _UP = 0x8913, 0x8914, 1
@@ -39,9 +35,9 @@ def own_network() -> None:
         fcntl.ioctl(any_socket, _SET_FLAGS, struct.pack("16sH22x", b"lo", got[1] | _UP))
 
 
-def _copy(room: settings.Room, backup: str, private: str) -> str:
+def _copy(room: settings.Room, backup: str, into: str) -> str:
     """The backup may lie in the room's folder, and its user gets the copy: no link is followed."""
-    target = os.path.join(private, "room")
+    target = os.path.join(into, "room")
     base = room.base
     try:
         with safe.opened(safe.folder(backup)) as within:
@@ -61,7 +57,7 @@ def _copy(room: settings.Room, backup: str, private: str) -> str:
                             os.fchown(made, room.owner, room.group)
         if os.geteuid() == 0:
             # The folder comes last: from then on the room's user may put links into it.
-            os.chown(private, room.owner, room.group, follow_symlinks=False)
+            os.chown(into, room.owner, room.group, follow_symlinks=False)
     except (OSError, safe.NoFile) as fault:
         why = safe.reason(fault) if isinstance(fault, OSError) else str(fault)
         raise Stop(f"the backup can't be copied: {why}") from fault
@@ -70,22 +66,9 @@ def _copy(room: settings.Room, backup: str, private: str) -> str:
 
 @contextmanager
 def private_copy(room: settings.Room, backup: str) -> Iterator[str]:
-    """Of the backup in a folder. Not in /tmp, which may be memory."""
-    place = os.environ.get("TMPDIR", "/var/tmp")
-    _remove_left(room, place)
-    own = f"{_PREFIX}{os.getpid()}.{unit.began(os.getpid())}."
-    with tempfile.TemporaryDirectory(prefix=own, dir=place) as private:
-        yield _copy(room, backup, private)
-
-
-def _remove_left(room: settings.Room, place: str) -> None:
-    """Copies of runs that were killed. Anybody may make a folder there, so only ours go."""
-    for one in glob.glob(f"{glob.escape(place)}/{_PREFIX}*"):
-        found = re.fullmatch(r"(\d+)\.(\d+)\..*", os.path.basename(one).removeprefix(_PREFIX))
-        seen = os.lstat(one)
-        if found and seen.st_uid in (os.geteuid(), room.owner) and (
-                unit.began(int(found[1])) != found[2]):
-            shutil.rmtree(one, ignore_errors=True)
+    """Of the backup in a folder."""
+    with private.folder("rooms-get", room.owner) as made:
+        yield _copy(room, backup, made)
 
 
 def set_list(room: settings.Room, copied: str, path: bytes, lines: bytes) -> None:

@@ -42,11 +42,12 @@ class Changes:
         if not self.does(f"folder {path}"):
             return
         os.makedirs(os.path.dirname(place), 0o755, exist_ok=True)
-        os.mkdir(place, 0o700)
-        if not self.root:
-            user = pwd.getpwnam(owner)
-            os.chown(place, user.pw_uid, getgrnam(group).gr_gid if group else user.pw_gid)
-        os.chmod(place, mode)
+        if self.root:
+            safe.put_folder(place, mode)
+            return
+        user = pwd.getpwnam(owner)
+        safe.put_folder(place, mode, user.pw_uid,
+                        getgrnam(group).gr_gid if group else user.pw_gid)
 
     def _remember(self, path: str) -> None:
         place = self.root + path

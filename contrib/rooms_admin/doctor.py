@@ -154,7 +154,7 @@ class Doctor:
         return True
 
     def look_inside(self) -> None:
-        with patient.private(self.user) as place:
+        with patient.own_folder(self.user) as place:
             for what, text in self.as_user(
                     lambda: patient.verify(self.program, self.file, place)):
                 self.cause(what, text)

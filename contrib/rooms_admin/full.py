@@ -13,7 +13,7 @@ import socket
 import time
 from contextlib import ExitStack
 
-from . import locks, settings, unit
+from . import locks, said, settings, unit
 from .said import Interrupted, Refused, Stop, say
 from .used import NoRoom, Used
 
@@ -139,22 +139,27 @@ def run(given: argparse.Namespace) -> int:
     with ExitStack() as owned:
         for room in rooms:
             owned.enter_context(locks.lock(f"full.{room.flag}", 2, within))
-        status = _watch([Watch(room) for room in rooms])
+        status = _watch(rooms)
     return status
 
 
-def _watch(watches: list[Watch]) -> int:
-    for watch in watches:
-        if watch.limit is None:
-            say(f"the room has no limit: LIMIT in {watch.room.conf} is "
-                + (watch.room.limit or f"empty, and {watch.room.unit} has no MemoryMax"))
+def _watch(rooms: list[settings.Room]) -> int:
+    """It has their locks, so from here on their flags are its own, also those of before."""
+    watches: list[Watch] = []
     try:
+        for room in rooms:
+            watches.append(Watch(room))
+        for watch in watches:
+            if watch.limit is None:
+                say(f"the room has no limit: LIMIT in {watch.room.conf} is "
+                    + (watch.room.limit or f"empty, and {watch.room.unit} has no MemoryMax"))
         while True:
             for watch in watches:
                 if time.monotonic() >= watch.next:
                     watch.look()
             time.sleep(max(0.0, min(watch.next for watch in watches) - time.monotonic()))
     except Interrupted:
+        said.ignore_signals()
         for watch in watches:
             _remove(watch.flag)
         return 0

@@ -3,11 +3,13 @@ as root: the copy belongs to the room's user meanwhile. Nobody else of the machi
 room's group alone may pass through the folder of backups, may list nothing there, and each folder
 in it is closed to all but its owner."""
 import os
+import signal
 import subprocess
 from collections.abc import Iterator
 from contextlib import contextmanager
 
 from . import backups, program, safe, settings
+from .said import Stop, say, signals_wait
 from .settings import Room
 
 
@@ -49,35 +51,79 @@ def may_reach(room: Room, place: str) -> bool:
 
 @contextmanager
 def _lent(room: Room, place: str) -> Iterator[None]:
-    """The files belong to the room's user while the program works on them. No name in the folder is
-    believed afterwards."""
-    with safe.opened(safe.folder(place)) as within:
-        files = []
+    """The files belong to the room's user while the program works on them. A signal that comes
+    before that or after it waits until they are root's again."""
+    with signals_wait(), safe.opened(safe.folder(place)) as within:
+        files: dict[str, int] = {}
+        still = ""
         try:
             for name in (room.base, room.base + "-wal"):
                 try:
-                    files.append(safe.file_below(within, name))
+                    files[name] = safe.file_below(within, name)
                 except FileNotFoundError:
                     pass
-            for number in [*files, within]:
+            for number in [*files.values(), within]:
                 os.fchown(number, room.owner, room.group)
-            yield
+            with signals_wait(signal.SIG_UNBLOCK):
+                yield
+        except BaseException:
+            if still := _give_back(room, place, within, files):
+                say(still)
+            raise
+        else:
+            still = _give_back(room, place, within, files)
         finally:
-            take_back(room, within)
-            for number in files:
-                os.fchown(number, os.geteuid(), os.getegid())
+            for number in files.values():
                 os.close(number)
+        if still:
+            raise Stop(still)
 
 
-def take_back(room: Room, within: int) -> None:
-    """The folder first: from then on nobody else changes a name in it."""
-    os.fchown(within, os.geteuid(), os.getegid())
+def _give_back(room: Room, place: str, within: int, files: dict[str, int]) -> str:
+    """The folder first: from then on nobody else changes a name in it. What has the names by then
+    may be other files. Each is tried, whatever happened to the others; says which of them isn't
+    root's again, if any."""
+    still: dict[str, str] = {}
+
+    def take(name: str, number: int) -> None:
+        try:
+            os.fchown(number, os.geteuid(), os.getegid())
+        except OSError as fault:
+            still[os.path.join(place, name)] = safe.reason(fault)
+    take("", within)
     for name in (room.base, room.base + "-wal"):
         try:
             with safe.opened(safe.file_below(within, name)) as number:
-                os.fchown(number, os.geteuid(), os.getegid())
+                take(name, number)
         except (FileNotFoundError, safe.NoFile):
             pass
+        except OSError as fault:
+            still[os.path.join(place, name)] = safe.reason(fault)
+    for name, number in files.items():
+        take(name, number)
+    if not still:
+        return ""
+    return (f"still lent: {', '.join(still)}: the room's user can change that, since chown failed: "
+            f"{', '.join(dict.fromkeys(still.values()))}")
+
+
+def is_lent(room: Room, place: str) -> bool:
+    """Whether a run that was cut off has left a backup, or a part of it, to the room's user."""
+    if os.geteuid() == room.owner:
+        return False
+    for name in ("", room.base, room.base + "-wal"):
+        try:
+            if os.lstat(os.path.join(place, name)).st_uid == room.owner:
+                return True
+        except FileNotFoundError:
+            pass
+    return False
+
+
+def take_back(room: Room, place: str) -> str:
+    """What such a run has left, and what isn't root's even so."""
+    with signals_wait(), safe.opened(safe.folder(place)) as within:
+        return _give_back(room, place, within, {})
 
 
 def _bring_back(room: Room, copied: str, place: str) -> None:

@@ -11,10 +11,11 @@ from .settings import Room
 
 @contextmanager
 def at_rest(room: Room) -> Iterator[None]:
-    """The server is stopped if it runs, and started again whatever happens. The mark is that of
-    groups: a run of that starts the server after a kill."""
+    """The server is stopped if it runs, and started again whatever happens: after a kill by another
+    process. The mark is that of groups, for where all processes are killed: the next run of either
+    starts the server."""
     mark = os.path.join(locks.RUN, f"rooms-directory.{room.unit}")
-    if unit.settled(room) != "active":
+    if unit.settled(room) != "active" and not os.path.exists(mark):
         yield
         return
     try:
@@ -23,16 +24,24 @@ def at_rest(room: Room) -> Iterator[None]:
     except OSError as fault:
         raise Stop(f"no mark: {mark} can't be written, so {room.unit} was not stopped: "
                    f"{fault.strerror}") from fault
+    guard = unit.Guard(lambda: _start(room, mark))
     try:
         if unit.systemctl("stop", room.unit)[0] != 0:
             raise Stop(f"{room.unit} doesn't stop")
         yield
     finally:
-        said.ignore_signals()
-        if unit.systemctl("start", room.unit)[0] != 0 or unit.state(room) != "active":
-            raise Stop(f"{room.unit} doesn't start: systemctl status {room.unit}")
+        with said.signals_wait():
+            try:
+                _start(room, mark)
+            finally:
+                guard.end()
+
+
+def _start(room: Room, mark: str) -> None:
+    if unit.systemctl("start", room.unit)[0] != 0 or unit.state(room) != "active":
+        raise Stop(f"{room.unit} doesn't start: systemctl status {room.unit}")
+    if os.path.exists(mark):
         os.unlink(mark)
-        said.catch_signals()
 
 
 def _done(what: str, done: tuple[int, bytes, str]) -> bytes:

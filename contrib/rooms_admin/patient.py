@@ -11,6 +11,8 @@ import tempfile
 from collections.abc import Callable, Iterator
 from contextlib import contextmanager
 
+from . import private
+
 Work = Callable[[], list[list[str]]]
 # Bytes: twice the largest document, and as much for the log.
 TRIAL = 4194304
@@ -87,13 +89,12 @@ def kind(file: str) -> list[list[str]]:
 
 
 @contextmanager
-def private(user: pwd.struct_passwd) -> Iterator[str]:
-    """A folder of the user's. Not /tmp, which may be memory."""
-    place = os.environ.get("TMPDIR", "/var/tmp")
-    with tempfile.TemporaryDirectory(prefix="rooms-doctor.", dir=place) as folder:
+def own_folder(user: pwd.struct_passwd) -> Iterator[str]:
+    """A folder of the user's."""
+    with private.folder("rooms-doctor", user.pw_uid) as made:
         if os.getuid() != user.pw_uid:
-            os.chown(folder, user.pw_uid, user.pw_gid)
-        yield folder
+            os.chown(made, user.pw_uid, user.pw_gid)
+        yield made
 
 
 def verify(program: str, file: str, place: str) -> list[list[str]]:

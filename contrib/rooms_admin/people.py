@@ -109,9 +109,7 @@ def _why_not(row: list[str], found: dict[str, str]) -> str:
 def _keep(room: Room, members: set[Pair], made: float) -> None:
     """So that a run which only has other passwords knows the groups."""
     text = "group,user\n" + "".join(f"{group},{user}\n" for group, user in sorted(members))
-    place = f"{web.folder(room)}/{MEMBERS}"
-    safe.put_file(place, text.encode(), 0o600)
-    os.utime(place, (made, made))
+    safe.put_file(f"{web.folder(room)}/{MEMBERS}", text.encode(), 0o600, at=made)
 
 
 def known(room: Room) -> tuple[set[Pair], float]:

@@ -1,6 +1,8 @@
 """Running the program: as whom, and with how much memory."""
+import ctypes
 import os
 import resource
+import signal
 import subprocess
 import tempfile
 from collections.abc import Callable, Iterator
@@ -11,6 +13,7 @@ from .settings import Room
 
 # What a change needs at most: twice the largest document, and as much for the log.
 CHANGE = 4 << 20
+_ENDS_WITH_PARENT = 1
 
 
 def user_of(room: Room) -> dict[str, object]:
@@ -21,8 +24,14 @@ def user_of(room: Room) -> dict[str, object]:
 
 
 def limits(megabytes: int) -> Callable[[], None]:
-    """What a child does before the program: nothing here is shared with other threads."""
+    """What a child does before the program: nothing here is shared with other threads. It ends with
+    what called it; 0 is as much memory as there is."""
+    libc = ctypes.CDLL(None)
+
     def less() -> None:
+        libc.prctl(_ENDS_WITH_PARENT, int(signal.SIGKILL))
+        if not megabytes:
+            return
         _, hard = resource.getrlimit(resource.RLIMIT_AS)
         most = megabytes << 20
         if hard != resource.RLIM_INFINITY:
@@ -67,7 +76,7 @@ def run(room: Room, words: list[str | bytes], stdin: bytes = b"", as_owner: bool
     """Status, standard output, and what it said, which is standard error. The folder is entered
     before the child becomes the room's user, who need not get there by its name."""
     how = user_of(room) if as_owner else {}
-    before = limits(megabytes) if megabytes else None
+    before = limits(megabytes)
     child: subprocess.Popen[bytes]
     with _first_to_go():
         child = subprocess.Popen(

@@ -52,7 +52,7 @@ class Restore:
     def __init__(self, room: Room, start: bool) -> None:
         self.room = room
         self.start = start
-        self.guard: Guard | None = None
+        self.guard: unit.Guard | None = None
         self.base, self.log = room.base, room.base + "-wal"
         self.at = safe.folder(room.folder)
         self.name = f"restoring.{room.base}"
@@ -212,10 +212,18 @@ class Restore:
     def stop_server(self) -> None:
         if not self.start or self.guard is not None:
             return
-        self.guard = Guard(self)
+        self.guard = unit.Guard(self.repair)
         if unit.state(self.room) not in ("inactive", "failed"):
             if unit.systemctl("stop", self.room.unit)[0] != 0:
                 raise Stop(f"{self.room.unit} doesn't stop")
+
+    def repair(self) -> None:
+        """After a kill: a whole room in place, and the server."""
+        try:
+            self.settle("this restore")
+        except (Stop, OSError) as fault:
+            say(str(fault))
+        unit.systemctl("start", self.room.unit)
 
     def start_server(self) -> None:
         """Whatever happened, if this run has stopped it or was to start it."""
@@ -231,39 +239,6 @@ class Restore:
         why = health.answer(self.room)
         if why:
             raise Stop(why)
-
-
-class Guard:
-    """Another process, for as long as the server is stopped: if this one is killed, it puts a whole
-    room in place, and starts the server."""
-
-    def __init__(self, task: Restore) -> None:
-        reader, self.writer = os.pipe()
-        self.process = os.fork()
-        if self.process:
-            os.close(reader)
-            return
-        try:
-            os.setsid()
-            said.ignore_signals()
-            os.close(self.writer)
-            if os.read(reader, 1) == b"":
-                self._repair(task)
-        finally:
-            os._exit(0)
-
-    @staticmethod
-    def _repair(task: Restore) -> None:
-        try:
-            task.settle("this restore")
-        except (Stop, OSError) as fault:
-            say(str(fault))
-        unit.systemctl("start", task.room.unit)
-
-    def end(self) -> None:
-        os.write(self.writer, b"x")
-        os.close(self.writer)
-        os.waitpid(self.process, 0)
 
 
 def restore_room(conf: str, backup: str, start: bool) -> None:

@@ -77,24 +77,42 @@ def new_file(within: int, name: bytes | str, data: bytes, mode: int = 0o666) -> 
         raise
 
 
-def put_file(path: str, data: bytes, mode: int, group: int = -1, owner: int = -1) -> None:
-    """A file of root's, in the place of what is there: the old one or the new one at any moment."""
+def put_file(path: str, data: bytes, mode: int, group: int = -1, owner: int = -1,
+             at: float | None = None) -> None:
+    """A file of root's, in the place of what is there: the old one or the new one at any moment.
+    `at` is when what is in it was so, if that isn't now."""
     within, name = os.path.split(path)
     fresh = f".{name}.new"
-    with opened(folder(within)) as at:
+    with opened(folder(within)) as above:
         try:
-            os.unlink(fresh, dir_fd=at)
+            os.unlink(fresh, dir_fd=above)
         except FileNotFoundError:
             pass
-        new_file(at, fresh, b"", 0o600)
-        with opened(os.open(fresh, os.O_WRONLY | os.O_NOFOLLOW, dir_fd=at)) as number:
+        new_file(above, fresh, b"", 0o600)
+        with opened(os.open(fresh, os.O_WRONLY | os.O_NOFOLLOW, dir_fd=above)) as number:
             write_all(number, data)
             if (owner, group) != (-1, -1):
                 os.fchown(number, owner, group)
             os.fchmod(number, mode)
+            if at is not None:
+                os.utime(number, (at, at))
             os.fsync(number)
-        os.rename(fresh, name, src_dir_fd=at, dst_dir_fd=at)
-        os.fsync(at)
+        os.rename(fresh, name, src_dir_fd=above, dst_dir_fd=above)
+        os.fsync(above)
+
+
+def put_folder(path: str, mode: int, owner: int = -1, group: int = -1) -> None:
+    """A folder that wasn't there: with its owner and its mode, or not at all."""
+    within, name = os.path.split(path)
+    fresh = os.path.join(within, f".{name}.new")
+    try:
+        os.rmdir(fresh)
+    except FileNotFoundError:
+        pass
+    os.mkdir(fresh, 0o700)
+    os.chown(fresh, owner, group)
+    os.chmod(fresh, mode)
+    os.rename(fresh, path)
 
 
 def reason(fault: OSError) -> str:

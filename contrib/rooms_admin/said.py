@@ -5,6 +5,8 @@ import signal
 import subprocess
 import sys
 import types
+from collections.abc import Iterator
+from contextlib import contextmanager
 
 prog = "rooms-admin"
 
@@ -32,14 +34,28 @@ def _interrupt(_number: int, _frame: types.FrameType | None) -> None:
     raise Interrupted("interrupted")
 
 
+_ENDING = (signal.SIGTERM, signal.SIGINT, signal.SIGHUP)
+
+
 def catch_signals() -> None:
-    for one in (signal.SIGTERM, signal.SIGINT, signal.SIGHUP):
+    for one in _ENDING:
         signal.signal(one, _interrupt)
 
 
 def ignore_signals() -> None:
-    for one in (signal.SIGTERM, signal.SIGINT, signal.SIGHUP):
+    for one in _ENDING:
         signal.signal(one, signal.SIG_IGN)
+
+
+@contextmanager
+def signals_wait(how: int = signal.SIG_BLOCK) -> Iterator[None]:
+    """Until this is done; within it SIG_UNBLOCK lets them through for a while."""
+    before = signal.pthread_sigmask(signal.SIG_BLOCK, ())
+    try:
+        signal.pthread_sigmask(how, _ENDING)
+        yield
+    finally:
+        signal.pthread_sigmask(signal.SIG_SETMASK, before)
 
 
 def mail(to: str, subject: str, lines: list[str]) -> bool:

@@ -3,8 +3,10 @@ import os
 import signal
 import subprocess
 import time
+from collections.abc import Callable
 
-from .said import Stop
+from . import said
+from .said import Stop, say
 from .settings import Room
 
 
@@ -165,6 +167,41 @@ def hold(room: Room, mark: Mark, part: str) -> Held | None:
             return None
         time.sleep(0.02)
     return None
+
+
+class Guard:
+    """Another process, for as long as a server is stopped: if this one is killed, it does the work
+    in its place. Until then it has this one's locks too, so nobody else begins."""
+
+    def __init__(self, work: Callable[[], None]) -> None:
+        reader, self.writer = os.pipe()
+        with said.signals_wait():
+            self.process = os.fork()
+            if self.process == 0:
+                self._wait(reader, work)
+        os.close(reader)
+
+    def _wait(self, reader: int, work: Callable[[], None]) -> None:
+        """It never gets back to what called it."""
+        try:
+            os.setsid()
+            said.ignore_signals()
+            with said.signals_wait(signal.SIG_UNBLOCK):
+                os.close(self.writer)
+                if os.read(reader, 1) == b"":
+                    work()
+        except (Stop, OSError) as fault:
+            say(str(fault))
+        finally:
+            os._exit(0)
+
+    def end(self) -> None:
+        try:
+            os.write(self.writer, b"x")
+        except BrokenPipeError:
+            pass  # Somebody has killed that one.
+        os.close(self.writer)
+        os.waitpid(self.process, 0)
 
 
 def has_open(process: int, file: str) -> bool:

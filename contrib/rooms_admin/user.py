@@ -3,12 +3,11 @@ groups, and what names them afterwards. The server stops only where groups chang
 somebody leaves, for what the room has of them."""
 import argparse
 import os
-import tempfile
 
 from . import handover, locks, members, names, passwords, people, settings, web
 from .dumped import Pair
 from .room_http import Caller
-from .said import Refused, Stop, say
+from .said import Interrupted, Refused, Stop, say
 from .settings import Room
 
 USAGE = "user add NAME [--groups A,B] [CONF], or user remove NAME [--to HEIR] [CONF]"
@@ -80,16 +79,21 @@ def _show(room: Room, now: set[Pair] | None) -> None:
             say(failure)
     except Refused:
         pass
+    except Interrupted:
+        raise
     except Stop as stop:
         say(f"the names that the web interface offers are those of before: {stop}")
 
 
 def _hand_over(room: Room, lists: bytes, name: str, heir: str) -> int:
-    """By requests of the heir's, so that what the room denies them is left out and told."""
-    with tempfile.NamedTemporaryFile(dir="/var/tmp") as file:
+    """By requests of the heir's, so that what the room denies them is left out and told. The lists
+    have no name, so a kill leaves none of them."""
+    number = os.memfd_create("lists", os.MFD_CLOEXEC)
+    with os.fdopen(number, "wb") as file:
         file.write(lists)
         file.flush()
-        given = argparse.Namespace(words=[room.conf, file.name, name, heir], dry_run=False)
+        given = argparse.Namespace(words=[room.conf, f"/proc/self/fd/{number}", name, heir],
+                                   dry_run=False)
         return handover.run(given, Caller(as_user=heir))
 
 

@@ -56,12 +56,8 @@ def folder(room: Room) -> str:
     place = f"{FOLDER}/{name_of(room)}"
     os.makedirs(os.path.dirname(FOLDER), exist_ok=True)
     for one in (FOLDER, place):
-        try:
-            os.mkdir(one, 0o750)
-        except FileExistsError:
-            continue
-        os.chmod(one, 0o750)
-        os.chown(one, -1, reader())
+        if not os.path.lexists(one):
+            safe.put_folder(one, 0o750, group=reader())
     return place
 
 

@@ -1,6 +1,8 @@
 """For tests: a verb of rooms-admin whose calls of the system are counted, so that it can be killed
 at each of them. STAND, KILL_AT and KILL_HOW are those of tests/units.sh; the words are those of
 rooms-admin."""
+import builtins
+import fnmatch
 import os
 import signal
 import subprocess
@@ -10,11 +12,12 @@ import time
 
 here = os.path.dirname(os.path.realpath(__file__))
 sys.path.insert(0, os.path.join(here, "..", "..", "contrib"))
-sys.dont_write_bytecode = True
 stand = os.environ["STAND"]
+# Compiled once for all runs of a case.
+sys.pycache_prefix = os.path.join(stand, "compiled")
 main_process, own_user = os.getpid(), os.geteuid()
 real_rename, real_open, real_write = os.rename, os.open, os.write
-real_close, real_kill, real_fork = os.close, os.kill, os.fork
+real_close, real_kill, open_text = os.close, os.kill, open
 WRITES = os.O_WRONLY | os.O_RDWR | os.O_CREAT
 
 
@@ -29,7 +32,7 @@ def step(what):
     processes of a unit. A process that has become another user counts nothing."""
     if os.geteuid() != own_user:
         return
-    with open(f"{stand}/count") as source:
+    with open_text(f"{stand}/count") as source:
         number = int(source.read() or 0) + 1
     put("count", f"{number}\n")
     put("steps", f"{number} {what}\n", os.O_APPEND)
@@ -43,8 +46,8 @@ def step(what):
 
 def fails(tool):
     try:
-        with open(f"{stand}/no-tool") as source:
-            return source.read().strip() == tool
+        with open_text(f"{stand}/no-tool") as source:
+            return fnmatch.fnmatchcase(tool, source.read().strip())
     except OSError:
         return False
 
@@ -73,10 +76,10 @@ def wrap(module, name, tool=None, hooks=()):
 
 
 for one, stands_for, before in (
-        ("mkdir", "mkdir", ("mkdir",)), ("rename", "mv", ("mv",)), ("unlink", None, ()),
+        ("mkdir", "mkdir", ("mkdir",)), ("rename", "mv", ("mv",)), ("unlink", None, ("rm",)),
         ("rmdir", None, ()), ("open", None, ()), ("fsync", "sync", ()), ("symlink", None, ()),
         ("copy_file_range", "cat", ("cat", "setpriv")), ("sendfile", "cat", ("cat", "setpriv")),
-        ("kill", None, ())):
+        ("chmod", None, ()), ("chown", None, ()), ("kill", None, ())):
     wrap(os, one, stands_for, before)
 wrap(signal, "pidfd_send_signal")
 real_addfile = tarfile.TarFile.addfile
@@ -86,6 +89,26 @@ def addfile(*given):
     if fails("tar"):
         raise OSError(5, "Input/output error")
     return real_addfile(*given)
+
+
+real_fchown = os.fchown
+
+
+def fchown(number, owner, group):
+    """Where root takes a file back that it has lent: fails for the one that STAND/no-tool names."""
+    name = os.path.basename(os.readlink(f"/proc/self/fd/{number}"))
+    if os.path.exists(f"{stand}/chowns"):
+        step(f"fchown {name} {owner}")
+    if owner == own_user and fails(f"chown {name}"):
+        raise OSError(5, "Input/output error")
+    real_fchown(number, owner, group)
+
+
+def opens(name, mode="r", *given, **named):
+    """A mark, and what else is written under its name at once."""
+    if mode != "r" and "b" not in mode and not str(name).startswith("/proc/"):
+        step(f"open {name}")
+    return open_text(name, mode, *given, **named)
 
 
 class Counted(subprocess.Popen):
@@ -100,7 +123,8 @@ class Counted(subprocess.Popen):
 
 tarfile.TarFile.addfile = addfile
 subprocess.Popen = Counted
-time.sleep = lambda seconds: None
+os.fchown, builtins.open = fchown, opens
+time.sleep = lambda seconds: hook("sleep")
 import http.client  # noqa: E402
 from rooms_admin import web  # noqa: E402
 

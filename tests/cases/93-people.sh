@@ -120,9 +120,7 @@ else
   skip 'somebody joins' 'missing: htpasswd'
 fi
 
-names_are_whole() { people_are "$name" "$few"; }
-killed_everywhere names_are_whole people 8
-holds 'nothing else is left' [ "$(ls -A "$web" | tr '\n' ' ')" = 'members.csv people.json ' ]
+holds 'nothing else is there' [ "$(ls -A "$web" | tr '\n' ' ')" = 'members.csv people.json ' ]
 modes_are 'members are for root alone' "$web/members.csv" '600 root:root'
 
 # Folders in folders, documents in them, and lists at random: by turns for users and groups, open and protected.
@@ -202,12 +200,8 @@ setting PEOPLE no
 room_verb mine
 holds 'where no names are shown, managers are none' grep -q '"managers":\[\]' "$web/mine/bob.json"
 setting PEOPLE names
-places_are_whole() {
-  [ ! -e "$web/mine" ] || /usr/bin/python3 "$here/admin/places.py" review.csv all.csv "$web/mine" >"$work/out" 2>&1 || fail "$name" "$(cat "$work/out")"
-  pass
-}
 rm -r "$web/mine"
-killed_everywhere places_are_whole mine 20
+room_verb mine
 holds 'nothing else is left beside them' [ "$(ls -A "$web" | tr '\n' ' ')" = 'members.csv mine people.json ' ]
 holds 'nor elsewhere' [ -z "$(ls run)" ]
 echo bob >office.names

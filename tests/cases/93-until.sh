@@ -168,19 +168,4 @@ flock 8
 room_verb until
 exec 8>&-
 says 'a room that is at work' 2 busy
-
-# What a killed run leaves is one of both lists.
-before=(list:a A:fd:eve:rxtc "$(ends "$over" read u.eve alice)" A:fd:bob:rxtc)
-after=(list:a "$(ended read u.eve alice)" A:fd:bob:rxtc)
-list_is_whole() {
-  curl -s -H 'Room-User: alice' "http://127.0.0.1:$port/dacl/given" >got
-  lists "${before[@]}" "${top[@]}" >before
-  lists "${after[@]}" "${top[@]}" >after
-  holds "$name: the list is one of both" eval 'cmp -s got before || cmp -s got after'
-  sets alice /given "${before[@]}"
-}
-sets alice /given "${before[@]}"
-dumps
-killed_everywhere list_is_whole until 4
-list_is 'and the last run took it back' alice /given "${after[@]}" "${top[@]}"
 holds 'nothing is left' [ -z "$(ls run)" ]

@@ -184,6 +184,31 @@ prints 'leaves one backup more' 2
 does 'and it serves' "$(got $named -u alice:typed $site/doc/letter)"
 prints 'after that' 200
 
+# It still works, and a third machine gets its rooms, by the blocks of machines.md: with the last document.
+does 'a document of the last day' "$(got $named -u alice:typed -X PUT -d farewell $site/doc/last)"
+prints 'is made' 201
+does 'the rooms end, and have a last backup' "$(block docs/machines.md 'systemctl start "rooms-nightly@')"
+holds "which all went well: $(cat "$work/err")" [ -z "$(grep -vE "isn't running, and is not started$|the certificate .* ends on " "$work/err")" ]
+does 'for good' "$(block docs/machines.md 'systemctl disable --now "rooms@$room"')"
+does 'what the old machine serves' 'for unit in rooms@{office,invoices} rooms-nightly@{office,invoices}.timer; do systemctl is-active $unit; done
+  find /etc/systemd/system/*.wants -name "rooms@*" -o -name "rooms-*.timer"; '"$(got $named -u alice:typed $site/doc/last)"
+prints 'is nothing' inactive inactive inactive inactive 502
+cp -a "$machine/var/backups/rooms" moved
+stop_proxy
+rm -rf "$machine"
+make_machine 'a new machine' third || return
+furnish
+cp -a moved "$machine/mnt/rooms"
+does 'the package on the third machine' "$(installs)"
+does 'the backups of the second' "$(block docs/backup.md 'cp -a /mnt/rooms')"
+does 'its rooms' "$(block docs/backup.md 'do rooms-admin restore --conf')"
+does 'they start' "$(block docs/backup.md reload-or-restart)"
+does 'and have all' "$(got $named -u alice:typed $site/doc/last); cat body; echo
+  $(got $named -u alice:typed $site/doc/letter)
+  $(got $named -u carol:typed $site/invoices/doc/one)
+  systemctl is-active rooms@office rooms@invoices rooms-nightly@office.timer rooms-nightly@invoices.timer"
+prints 'that was answered' 200 farewell 200 200 active active active active
+
 # To another machine by ssh. Both are this one, with a layer above its disk and a network of its own.
 stop_proxy
 machine=$PWD/both

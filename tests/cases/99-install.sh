@@ -30,6 +30,13 @@ for file in /usr/local/bin/rooms /usr/local/sbin/rooms-nightly /usr/local/sbin/r
   /var/lib/rooms-front/start.html; do
   holds "$file is there" [ -s "machine$file" ]
 done
+# Each unit names a page that is there, and that is about it: about rooms-tell@ by what it does.
+for file in machine/etc/systemd/system/rooms*; do
+  unit=${file##*/} page=machine$(sed -n 's#^Documentation=file:##p' "$file")
+  text=${unit%.*}
+  [ "$text" != rooms-tell@ ] || text='`MAIL` is told'
+  holds "the page of $unit is about it" grep -qF -e "${text%@}" "$page"
+done
 holds 'nobody else reads the passwords' [ -n "$(find machine/etc/nginx/rooms.htpasswd -perm 600)" ]
 holds 'the room has a folder of its own' [ -n "$(find machine/var/lib/rooms -perm 700)" ]
 holds 'the page is there if there is one' [ ! -d "$contrib/page" -o -n "$(find machine/usr -path '*rooms/page/index.html')" ]
