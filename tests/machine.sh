@@ -147,7 +147,6 @@ done
 case $verb in
   daemon-reload | reset-failed) exit ;;
   is-failed) echo inactive && exit 1 ;;
-  is-enabled) echo static && exit ;;
   show) printf '%s\n' MemoryCurrent=0 MemoryMax=0; exit ;;
   reload | reload-or-restart | try-reload-or-restart)
     [ "${units[*]}" != rooms-firewall ] || exit 0

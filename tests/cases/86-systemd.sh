@@ -94,10 +94,8 @@ does 'who gets there' 'for user in root www-data rooms nobody; do
   done; ! (exec 3<>/dev/tcp/127.0.0.1/8780) 2>/dev/null'
 printf '%s\n' root www-data rooms >wanted
 same 'are root, nginx and its own user, and there is no port' "$work/out" wanted
-does 'nothing is to be closed' 'systemctl show rooms-firewall -p ActiveState,Result --value; ! nft list table inet rooms 2>/dev/null'
-printf '%s\n' exec-condition inactive | sort >wanted
-sort "$work/out" >got
-same 'so the table is not loaded' got wanted
+does 'nothing is to be closed' 'systemctl is-active rooms-firewall; ! nft list table inet rooms 2>/dev/null'
+holds 'so the table is not loaded' grep -qx inactive "$work/out"
 # The unit has started when the server answers.
 restarts_well() { # NAME HOW-CURL-GETS-THERE
   local turn
@@ -112,10 +110,18 @@ does 'a port' "$(block docs/operating.md 'echo SOCKET= ')"
 does 'the firewall' 'systemctl is-active rooms-firewall && nft list table inet rooms | grep -c "tcp dport"; ls /run/rooms/office'
 printf '%s\n' active 1 >wanted
 same 'has one rule, and the room no socket' "$work/out" wanted
-does 'who gets to the port' 'for user in root www-data rooms nobody; do
-  ! setpriv --reuid=$user --regid=nogroup --clear-groups bash -c "exec 3<>/dev/tcp/127.0.0.1/8780" 2>/dev/null || echo $user; done'
-printf '%s\n' root www-data >wanted
-same 'are root and nginx' "$work/out" wanted
+gets_to_port() { # NAME
+  does "$1" 'for user in root www-data rooms nobody; do
+    ! setpriv --reuid=$user --regid=nogroup --clear-groups bash -c "exec 3<>/dev/tcp/127.0.0.1/8780" 2>/dev/null || echo $user; done'
+  printf '%s\n' root www-data >wanted
+  same "$1: root and nginx" "$work/out" wanted
+}
+gets_to_port 'who gets to the port'
+stop_machine
+holds 'the machine starts again' boot
+does 'and the table is there before the server' 'entered() { systemctl show "$1" -p "$2" --value; }
+  [ "$(entered rooms-firewall ActiveEnterTimestampMonotonic)" -lt "$(entered rooms@office ExecMainStartTimestampMonotonic)" ]'
+gets_to_port 'who gets to it then'
 restarts_well 'at its port' http://127.0.0.1:8780
 until_inside 'nginx gets there' '[ "$(curl -s -u alice:a http://127.0.0.1/can/?)" = "{}" ]'
 does 'loaded again' 'systemctl restart rooms-firewall && systemctl reload rooms-firewall && nft list table inet rooms | grep -c "tcp dport"'
@@ -126,11 +132,16 @@ does 'settings of an earlier version, in which there is no socket' 'systemctl st
   systemctl restart rooms@office; systemctl is-active rooms-firewall'
 does 'a socket again' "$(block docs/operating.md 'echo SOCKET=yes')"
 until_inside 'nginx gets there too' '[ "$(curl -s -u alice:a http://127.0.0.1/can/?)" = "{}" ]'
-does 'the firewall is asked again' 'systemctl stop rooms-firewall; systemctl restart rooms@office; systemctl is-active rooms-firewall || :; ls /run/rooms/office'
+does 'the table is not asked for' 'systemctl stop rooms-firewall; systemctl restart rooms@office; systemctl is-active rooms-firewall || :; ls /run/rooms/office'
 printf '%s\n' inactive socket >wanted
-same 'and has nothing to do' "$work/out" wanted
-does 'an Apache that checks passwords' ': >/etc/rooms/other.apache; systemctl restart rooms@office; systemctl is-active rooms-firewall
-  rm /etc/rooms/other.apache; systemctl stop rooms-firewall'
+same 'by a room with a socket' "$work/out" wanted
+does 'what checks passwords' 'systemctl show rooms-passwords -p Wants -p After | grep -c rooms-firewall.service'
+holds 'asks for it first' grep -qx 2 "$work/out"
+does 'a table that can not be loaded' 'mv /usr/sbin/nft . && echo SOCKET= >>/etc/rooms/office.conf && systemctl restart rooms@office
+  systemctl is-failed rooms-firewall; systemctl is-active rooms@office; mv nft /usr/sbin; systemctl reset-failed rooms-firewall'
+printf '%s\n' failed active >wanted
+same 'fails, which is told, and the room is served' "$work/out" wanted
+does 'back' 'echo SOCKET=yes >>/etc/rooms/office.conf && systemctl restart rooms@office'
 does 'how long runs may take' 'for unit in nightly standby directory; do systemctl show rooms-$unit@office -p TimeoutStartUSec --value; done'
 printf '%s\n' 4h 1h 1h >wanted
 same 'ends' "$work/out" wanted

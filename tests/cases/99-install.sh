@@ -289,35 +289,40 @@ if [ "$(id -u)" != 0 ] || has setpriv; then
   fi
 fi
 
-# The firewall's table is loaded unless it is certain that nothing listens at a port.
-condition=$(sed -n '/^ExecCondition=/{:a; /\\$/{N; s/\\\n *//; ba}; s/^ExecCondition=//p}' "$contrib/rooms-firewall.service")
-condition=${condition//\$\$/\$}
-mkdir closed
-closes() { # NAME STATUS, for what is in ./closed, which goes
-  (eval "${condition//\/etc\/rooms/$PWD/closed}") >"$work/out" 2>&1
-  holds "the ports: $1" [ $? = "$2" ]
-  rm -f closed/*
+# The firewall's table is loaded before a server listens, unless that has a socket; and at an upgrade, if a room has a port.
+mkdir -p asked etc/rooms run/systemd/system
+printf '#!/bin/sh\necho "$*" >>"%s/asked/words"\n' "$PWD" >asked/systemctl
+chmod 755 asked/systemctl
+starts_table() { # NAME WORDS SETTING ..: what systemctl is asked by the unit of a room
+  local line
+  line=$(sed -n 's/^ExecStartPre=-+//p' "$contrib/rooms@.service")
+  : >asked/words
+  (eval "env PATH=$PWD/asked:$PATH ${*:3} ${line//\$\$/\$}") >"$work/out" 2>&1
+  holds "a room $1: '$(cat asked/words)'" [ "$(cat asked/words)" = "$2" ]
 }
-holds 'the unit has a condition' grep -q '^/bin/sh -c ' <<<"$condition"
-closes 'no settings' 1
-printf '%s\n' FILE=F SOCKET=yes PORT=8780 | tee closed/office.conf >closed/hr.conf
-closes 'rooms with sockets' 1
-printf '%s\n' FILE=F SOCKET= PORT=8780 SOCKET=yes >closed/office.conf
-closes 'a room that has changed to a socket' 1
-echo ON=b.example >closed/archive.on
-closes 'a room on another machine' 1
-printf '%s\n' FILE=F SOCKET=yes PORT=8780 >closed/hr.conf
-echo FILE=F >closed/office.conf
-closes 'one of two rooms, by settings of an earlier version' 0
-printf '%s\n' FILE=F SOCKET=yes PORT=8780 SOCKET= >closed/office.conf
-closes 'a room that has changed to a port' 0
-for line in '#SOCKET=yes' ' SOCKET=yes' SOCKET=no 'SOCKET=yes # of course' 'SOCKET="yes"' XSOCKET=yes; do
-  echo "$line" >closed/office.conf
-  closes "the line $line" 0
-done
-printf '%s\n' FILE=F SOCKET=yes PORT=8780 >closed/hr.conf
-: >closed/directory.apache
-closes 'an Apache that checks passwords' 0
+starts_table 'with a socket' '' SOCKET=yes PORT=8780
+starts_table 'with a port' 'start rooms-firewall.service' SOCKET= PORT=8780
+starts_table 'of an earlier version' 'start rooms-firewall.service' PORT=8780
+starts_table 'with another word' 'start rooms-firewall.service' SOCKET=no PORT=8780
+sed -n '/^      for conf in/,/^      done/p' "$contrib/debian/postinst" | sed "s#/etc/rooms#$PWD/etc/rooms#" >closes
+holds 'the package looks at settings' [ -s closes ]
+loads() { # NAME WANTED, for what is in ./etc/rooms, which goes
+  : >asked/words
+  PATH=$PWD/asked:$PATH sh -e closes >"$work/out" 2>&1
+  holds "the ports of $1" [ "$?$(cat asked/words)" = "0$2" ]
+  rm -f etc/rooms/*
+}
+table='reload-or-restart rooms-firewall.service'
+loads 'no room' ''
+printf '%s\n' FILE=F SOCKET=yes PORT=8780 | tee etc/rooms/office.conf >etc/rooms/hr.conf
+loads 'rooms with sockets' ''
+printf '%s\n' FILE=F SOCKET= PORT=8780 SOCKET=yes >etc/rooms/office.conf
+loads 'a room that has changed to a socket' ''
+printf '%s\n' FILE=F SOCKET=yes PORT=8780 >etc/rooms/hr.conf
+echo FILE=F >etc/rooms/office.conf
+loads 'two rooms, one by settings of an earlier version' "$table"
+printf '%s\n' FILE=F SOCKET=yes PORT=8780 SOCKET= >etc/rooms/office.conf
+loads 'a room that has changed to a port' "$table"
 
 # The units, as systemd reads them; with the programs that they name in their places.
 if has systemd-analyze; then

@@ -9,8 +9,9 @@ use crate::statements::{delete_bytes, insert_bytes, update_bytes};
 use room_rows::KeepFault;
 use sqlite::Alter;
 
-// From so many bytes on a DELETE and an INSERT take less time than an UPDATE, which copies the new
-// bytes through a query that looks for the row. Below, two statements take more than one.
+// From so many bytes on, a DELETE and an INSERT take less time than an UPDATE, which copies the new
+// bytes through the query that finds the row, and they use the pages of the old bytes again.
+// Smaller documents gain nothing by it.
 const LARGE: usize = 64 * 1024;
 
 // Takes the bytes of a document out, and puts others in.
