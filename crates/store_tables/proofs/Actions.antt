@@ -2,52 +2,35 @@
 use Rattle.std.proofs.Common.{◌≡◌, ℕ, zero, suc, ℤ, List, [], ◌∷◌, length, map, filter, Result, Ok}
 use Rattle.std.proofs.Common.{Err, Some, IsTrue, inl, inr, ◌⊎◌, refl, sym, ap, subst, ◌∙◌, true}
 use Rattle.std.proofs.Common.{false, Bool, codes, not, IfOk, if◌then◌else◌, drop, find, unwrap_or}
-use Rattle.std.proofs.Common.{◌<ℤ◌, subst₂, arith, length-append}
-use Rattle.sqlite.specs.declared.types.Value.TheVariants.{Int}
-use Rattle.sqlite.specs.Order.{Row}
-use Rattle.sqlite.specs.Tree.{Trees, rowid, has_rowid, without_rowid}
-use Rattle.sqlite_schema.specs.declared.schema.Keys.TheVariants.{Enforced}
-use Rattle.sqlite_schema.specs.declared.schema.Table.{Table}
-use Rattle.sqlite_schema.specs.declared.schema.Reference.{Reference}
-use Rattle.sqlite_schema.specs.declared.schema.Action.TheVariants.{NoAction, Restrict, Cascade}
-use Rattle.sqlite_value.specs.Keys.{plain}
-use Rattle.sqlite_value.specs.Order.{value_cmp}
-use Rattle.std.specs.Ordering.{is_eq}
-use Rattle.sqlite_rules.specs.declared.action.Deed.TheVariants.{Refuse, Delete}
-use Rattle.sqlite_rules.specs.Action.{Work, works, is_child_of, action_edit, AreChildren, Leads}
-use Rattle.sqlite_rules.specs.Action.{ActsOn, Acts}
-use Rattle.std.specs.List.{list_any, AllByRecursion}
+use Rattle.std.proofs.{Common.{◌<ℤ◌, subst₂, arith, length-append}, lemmas.Cmp.tied_itself}
+use Rattle.std.proofs.lemmas.{Cmp.int_cmp_total, Bool.Decides.nat_tests}
+use Rattle.sqlite.specs.{declared.{types.Value.TheVariants.Int, error.Error.Error}, Order.Row}
+use Rattle.sqlite.specs.{Tree.{Trees, rowid, has_rowid, without_rowid}, State.{State, Executes}}
+use Rattle.sqlite.specs.{Effect.Database, Term.col, Edit.{without_all, taken_by, edited}}
+use Rattle.sqlite.specs.Rows.{Edited}
+use Rattle.sqlite_schema.specs.declared.schema.{Keys.TheVariants.Enforced, Table.Table}
+use Rattle.sqlite_schema.specs.declared.schema.{Reference.Reference, Action.TheVariants.NoAction}
+use Rattle.sqlite_schema.specs.declared.schema.Action.TheVariants.{Restrict, Cascade}
+use Rattle.sqlite_value.specs.{Keys.plain, Order.value_cmp}
+use Rattle.std.specs.{Ordering.is_eq, List.{list_any, AllByRecursion, Sorted.IsPermutation}}
+use Rattle.std.specs.{Cmp.int_cmp_is, declared.cmp.Ordering.TheVariants.Less}
+use Rattle.sqlite_rules.specs.{declared.action.Deed.TheVariants.{Refuse, Delete}, Action.Work}
+use Rattle.sqlite_rules.specs.Action.{works, is_child_of, action_edit, AreChildren, Leads, ActsOn}
+use Rattle.sqlite_rules.specs.{Action.Acts, InPlace.Rise, Lists.Has}
 use Rattle.sqlite_tied.specs.Compute.{everything}
 use Rattle.sqlite_sql.specs.Ops.{binary}
-use Rattle.store_tables.specs.Tables.{bodies, room_schema}
-use Rattle.store_tables.proofs.Writes.{nodes_table, delete_edit, Deleted, deleted}
-use Rattle.store_tables.specs.Shown.{IsRoom, RemovesRow, KeepsAll}
-use Rattle.store_tables.proofs.Answers.{shows}
-use Rattle.sqlite.specs.State.{State, Executes}
-use Rattle.sqlite.specs.declared.error.Error.{Error}
-use Rattle.store_tables.proofs.Texts.{delete_text}
+use Rattle.store_tables.specs.{Tables.{bodies, room_schema}, Shown.{IsRoom, RemovesRow, KeepsAll}}
 use Rattle.store_tables.specs.Printed.{KeepsPrinted}
-use Rattle.store_tables.proofs.Printed.{keeps_fewer, keeps_same}
-use Rattle.store_tables.proofs.Calls.{retains_by}
-use Rattle.store_tables.proofs.Executed.{WritesRoom}
+use Rattle.store_tables.proofs.{Writes.{nodes_table, delete_edit, Deleted, deleted}, Answers.shows}
+use Rattle.store_tables.proofs.{Texts.delete_text, Printed.{keeps_fewer, keeps_same}}
+use Rattle.store_tables.proofs.{Calls.retains_by, Executed.WritesRoom, Rowids.at_most_one}
+use Rattle.store_tables.proofs.Rowids.{only_one, has_found, cells_of, alone_in, has_itself}
+use Rattle.store_tables.proofs.Rowids.{same_int, rowid_is, none_taken, each_of, of_each, pop_one}
+use Rattle.store_tables.proofs.Rowids.{pop_two}
 use Rattle.sqlite_trees.proofs.TreeLemmas.{IsShaped-filter}
-use Rattle.sqlite.specs.Effect.{Database}
-use Rattle.sqlite.specs.Term.{col}
 use Rattle.sqlite.proofs.Callers.{one_permutation}
-use Rattle.std.specs.List.Sorted.{IsPermutation}
-use Rattle.store_tables.proofs.Rowids.{at_most_one, only_one, has_found, cells_of, alone_in}
-use Rattle.store_tables.proofs.Rowids.{has_itself, same_int, rowid_is, none_taken, each_of, of_each}
-use Rattle.store_tables.proofs.Rowids.{pop_one, pop_two}
-use Rattle.sqlite_rules.specs.InPlace.{Rise}
-use Rattle.sqlite.specs.Edit.{without_all, taken_by, edited}
-use Rattle.std.specs.Cmp.{int_cmp_is}
-use Rattle.std.proofs.lemmas.Cmp.{tied_itself, int_cmp_total}
-use Rattle.std.specs.declared.cmp.Ordering.TheVariants.{Less}
-use Rattle.sqlite_rules.specs.Lists.{Has}
 use Rattle.sqlite_trees.specs.View.{is_int, IsShaped}
 use Rattle.sqlite_trees.specs.declared.store.Shape.TheVariants as Shape
-use Rattle.sqlite.specs.Rows.{Edited}
-use Rattle.std.proofs.lemmas.Bool.Decides.{nat_tests}
 
 abbrev pub bodies_table : Table
 bodies_table = record bodies { tree = 2 }

@@ -1,31 +1,22 @@
 -- What the rows mean once an object is put in, and once its bytes are.
 use Rattle.std.proofs.Common.{◌≡◌, ◌<◌, ℕ, ℤ, pos, List, [], ◌∷◌, map, None, Some, refl, sym, ap}
-use Rattle.std.proofs.Common.{subst, ◌∙◌, true, false, Bool, arith}
+use Rattle.std.proofs.{Common.{subst, ◌∙◌, true, false, Bool, arith}, lemmas.Bool.Decides.nat_tests}
 use Rattle.std.specs.Prelude.{is_none, is_some, option_and_then, option_map, if◌then◌else◌}
 use Rattle.std.specs.List.{filter_map}
-use Rattle.sqlite.specs.declared.types.Value.TheVariants.{Int}
-use Rattle.sqlite.specs.Effect.{Database}
-use Rattle.sqlite.specs.Order.{Row}
+use Rattle.sqlite.specs.{declared.types.Value.TheVariants.Int, Effect.Database, Order.Row}
 use Rattle.sqlite.specs.Tree.{rowid}
 use Rattle.room_entry.specs.Valid.{is_document}
-use Rattle.room_rows.specs.declared.node.NewNode.{NewNode}
-use Rattle.room_rows.specs.declared.node.Node.{Node}
-use Rattle.room_rows.specs.Content.{put_body, put_node, with_body, with_node}
-use Rattle.room_rows.specs.Keep.{IsAdded, node_of, with_content}
-use Rattle.room_rows.specs.Rows.{Rows}
-use Rattle.store_tables.specs.declared.columns.Columns.{Columns}
-use Rattle.store_tables.specs.Columns.{ReadsAsNode, values_of}
-use Rattle.store_tables.specs.Filed.{node_at_row, node_keyed, unread_at_row}
-use Rattle.store_tables.specs.Meaning.{audit_in, bodies_of, node_in, nodes_of, number_in, pairs_of}
-use Rattle.store_tables.specs.Meaning.{rows_of, unread_in, unread_of, unread_with}
-use Rattle.store_tables.specs.Shown.{AddsRow, Bodies, GetsBytes, IsRoom, shown_node, stored_node}
-use Rattle.store_tables.proofs.Chosen.{none_taken}
-use Rattle.store_tables.proofs.Filling.{body_put, number, stored_bytes}
-use Rattle.store_tables.proofs.Put.{put_seen, unseen}
-use Rattle.store_tables.proofs.Removed.{same_rows}
-use Rattle.store_tables.proofs.Replaced.{node_put}
+use Rattle.room_rows.specs.{declared.node.{NewNode.NewNode, Node.Node}, Content.put_body}
+use Rattle.room_rows.specs.{Content.{put_node, with_body, with_node}, Keep.{IsAdded, node_of}}
+use Rattle.room_rows.specs.{Keep.with_content, Rows.Rows}
+use Rattle.store_tables.specs.{declared.columns.Columns.Columns, Columns.{ReadsAsNode, values_of}}
+use Rattle.store_tables.specs.{Filed.{node_at_row, node_keyed, unread_at_row}, Meaning.audit_in}
+use Rattle.store_tables.specs.Meaning.{bodies_of, node_in, nodes_of, number_in, pairs_of, rows_of}
+use Rattle.store_tables.specs.{Meaning.{unread_in, unread_of, unread_with}, Shown.{AddsRow, Bodies}}
+use Rattle.store_tables.specs.Shown.{GetsBytes, IsRoom, shown_node, stored_node}
+use Rattle.store_tables.proofs.{Chosen.none_taken, Filling.{body_put, number, stored_bytes}}
+use Rattle.store_tables.proofs.{Put.{put_seen, unseen}, Removed.same_rows, Replaced.node_put}
 use Rattle.store_tables.proofs.Storing.{stored_back}
-use Rattle.std.proofs.lemmas.Bool.Decides.{nat_tests}
 
 abbrev see : Row → Rattle.std.proofs.Common.Option Node
 see r = node_in (shown_node r)

@@ -1,39 +1,23 @@
 -- What the rows mean once some columns of an object's row are written.
 use Rattle.std.proofs.Common.{◌≡◌, ℕ, ℤ, pos, List, [], ◌∷◌, find, None, Some, Option, refl, sym}
-use Rattle.std.proofs.Common.{ap, subst, ◌∙◌, arith}
-use Rattle.std.specs.Prelude.{option_and_then}
-use Rattle.std.proofs.lemmas.Option.{none-some}
-use Rattle.sqlite.specs.declared.types.Value.{Value}
-use Rattle.sqlite.specs.declared.types.Value.TheVariants.{Null, Int, Real, Text, Blob}
-use Rattle.sqlite.specs.Kind.TheVariants as kind
-use Rattle.sqlite.specs.Cast.{cast}
-use Rattle.sqlite.specs.Order.{Row, column}
-use Rattle.sqlite.specs.Tree.{has_rowid}
-use Rattle.sqlite.specs.Effect.{Database}
-use Rattle.room_entry.specs.Ace.{Ace}
-use Rattle.room_entry.specs.declared.flags.ListFlags.{ListFlags}
-use Rattle.room_entry.specs.declared.object.ObjKind.{ObjKind}
-use Rattle.room_entry.specs.declared.object.Which.{Which}
-use Rattle.room_entry.specs.declared.object.Which.TheVariants.{Dacl, Sacl}
-use Rattle.room_entry.specs.declared.parties.Owners.{Owners}
-use Rattle.room_rows.specs.HeldList.{Held}
-use Rattle.room_rows.specs.declared.node.Node.{Node}
-use Rattle.room_rows.specs.Content.{with_node}
-use Rattle.room_rows.specs.Held.{with_held}
-use Rattle.room_rows.specs.Keep.{with_content, with_inh, with_owners, with_place}
-use Rattle.room_rows.proofs.Frames.{node_at-number}
-use Rattle.store_tables.specs.Filed.{node_at_row}
-use Rattle.store_tables.specs.Meaning.{number_in, parent_in, kind_in, flags_in, text_in}
-use Rattle.store_tables.specs.Meaning.{name_of_text, name_in, entries_in, given, given_last}
-use Rattle.store_tables.specs.Meaning.{held_in, owners_in, node_in, rows_of}
-use Rattle.store_tables.specs.Shown.{IsRoom, Recasts, sets_held, sets_inh, sets_owners, sets_place}
-use Rattle.store_tables.specs.Shown.{shown_node, stored_node}
-use Rattle.store_tables.specs.Trust.{Alters}
-use Rattle.store_tables.proofs.Recast.{recast}
-use Rattle.store_tables.proofs.Replaced.{replaced_rows}
-use Rattle.store_tables.proofs.Updates.{cast_int, cast_null}
-use Rattle.room_rows.proofs.InPlace.{with_inh-id, with_held-id}
+use Rattle.std.proofs.{Common.{ap, subst, ◌∙◌, arith}, lemmas.Option.none-some}
 use Rattle.std.proofs.lemmas.Bool.Decides.{nat_tests}
+use Rattle.sqlite.specs.{declared.types.Value.{Value, TheVariants.{Int, Text}}, Cast.cast}
+use Rattle.sqlite.specs.{Order.{Row, column}, Tree.has_rowid, Effect.Database}
+use Rattle.room_entry.specs.{Ace.Ace, declared.{flags.ListFlags.ListFlags, object.ObjKind.ObjKind}}
+use Rattle.room_entry.specs.declared.object.Which.{Which, TheVariants.{Dacl, Sacl}}
+use Rattle.room_entry.specs.declared.parties.Owners.{Owners}
+use Rattle.room_rows.specs.{HeldList.Held, declared.node.Node.Node, Content.with_node}
+use Rattle.room_rows.specs.{Held.with_held, Keep.{with_content, with_inh, with_owners, with_place}}
+use Rattle.room_rows.proofs.{Frames.node_at-number, InPlace.{with_inh-id, with_held-id}}
+use Rattle.store_tables.specs.{Filed.node_at_row, Meaning.{number_in, parent_in, kind_in, flags_in}}
+use Rattle.store_tables.specs.Meaning.{text_in, name_of_text, name_in, entries_in, given}
+use Rattle.store_tables.specs.Meaning.{given_last, held_in, owners_in, node_in, rows_of}
+use Rattle.store_tables.specs.Shown.{IsRoom, Recasts, sets_held, sets_inh, sets_owners, sets_place}
+use Rattle.store_tables.specs.{Shown.{shown_node, stored_node}, Trust.Alters}
+use Rattle.store_tables.proofs.{Recast.recast, Replaced.replaced_rows, Updates.cast_int}
+use Rattle.store_tables.proofs.Updates.{cast_null}
+use Rattle.sqlite.specs.Kind.TheVariants as kind
 
 -- ---- what is read goes on
 
@@ -56,42 +40,22 @@ abbrev IsText : Value → Type 0
 IsText v = cast kind.Text v ≡ v
 
 parent_typed : (v : Value) (p : Option ℕ) → parent_in v ≡ Some p → IsInteger v
-parent_typed Null p e = cast_null
-parent_typed (Int n) p e = cast_int n
-parent_typed (Real x) p e = absurd (none-some p e)
-parent_typed (Text t) p e = absurd (none-some p e)
-parent_typed (Blob b) p e = absurd (none-some p e)
+parent_typed v p e = grind (arith, nat_tests, cast_int, cast_null)
 
 kind_typed : (v : Value) (k : ObjKind) → kind_in v ≡ Some k → IsInteger v
-kind_typed Null k e = absurd (none-some k e)
-kind_typed (Int n) k e = cast_int n
-kind_typed (Real x) k e = absurd (none-some k e)
-kind_typed (Text t) k e = absurd (none-some k e)
-kind_typed (Blob b) k e = absurd (none-some k e)
+kind_typed v k e = grind (arith, nat_tests, cast_int)
 
 flags_typed : (v : Value) (f : ListFlags) → flags_in v ≡ Some f → IsInteger v
-flags_typed Null f e = absurd (none-some f e)
-flags_typed (Int n) f e = cast_int n
-flags_typed (Real x) f e = absurd (none-some f e)
-flags_typed (Text t) f e = absurd (none-some f e)
-flags_typed (Blob b) f e = absurd (none-some f e)
+flags_typed v f e = grind (arith, nat_tests, cast_int)
 
 text_typed : (v : Value) (t : List ℕ) → text_in v ≡ Some t → IsText v
-text_typed Null t e = absurd (none-some t e)
-text_typed (Int n) t e = absurd (none-some t e)
-text_typed (Real x) t e = absurd (none-some t e)
-text_typed (Text s) t e = refl
-text_typed (Blob b) t e = absurd (none-some t e)
+text_typed v t e = grind (arith, nat_tests)
 
 name_typed : (v : Value) (t : List ℕ) → name_in v ≡ Some t → IsText v
 name_typed v t e = let p = given_some (text_in v) name_of_text t e in text_typed v p.0 p.1
 
 entries_typed : (v : Value) (l : List Ace) → entries_in v ≡ Some l → IsText v
-entries_typed Null l e = absurd (none-some l e)
-entries_typed (Int n) l e = absurd (none-some l e)
-entries_typed (Real x) l e = absurd (none-some l e)
-entries_typed (Text s) l e = refl
-entries_typed (Blob b) l e = absurd (none-some l e)
+entries_typed v l e = grind (arith, nat_tests)
 
 -- ---- a row that is read, value by value
 
@@ -182,40 +146,23 @@ module _ (v2 v3 v4 v5 v6 v7 v8 v9 v10 v11 v12 : Value) (n : Node) where
 
 module _ (id : ℕ) (r : Row) (before : Node) (number : number_in (Int (pos id)) ≡ Some before.id)
     (e : node_in (shown_node r) ≡ Some before) where
+  -- the cells of the row, as they are read
+  known : ReadsCells (column r 2) (column r 3) (column r 4) (column r 5) (column r 6) (column r 7)
+      (column r 8) (column r 9) (column r 10) (column r 11) (column r 12) before
+  known = search (reads_cells)
+
   pub inherits_back : (which : Which) (text : List ℕ) (entries : List Ace)
       → entries_in (Text text) ≡ Some entries
       → node_in (shown_node (stored_node (pos id) (recast (sets_inh which text r))))
       ≡ Some (with_inh which entries before)
   inherits_back Dacl text entries back =
-      let s = reads_cells (column r 2) (column r 3) (column r 4) (column r 5) (column r 6)
-      (column r 7) (column r 8) (column r 9) (column r 10) (column r 11) (column r 12) before
-      (column r 0) e in
       stored_again (column r 2) (column r 3) (column r 4) (column r 5) (column r 6) (column r 7)
       (column r 8) (column r 9) (Text text) (column r 11) (column r 12)
-      (with_inh Dacl entries before) id number (record {
-        parent = s.parent;
-        name = s.name;
-        kind = s.kind;
-        owner = s.owner;
-        group = s.group;
-        dacl = record { flags = s.dacl.flags; own = s.dacl.own; inh = back };
-        sacl = s.sacl;
-      })
+      (with_inh Dacl entries before) id number (search (known))
   inherits_back Sacl text entries back =
-      let s = reads_cells (column r 2) (column r 3) (column r 4) (column r 5) (column r 6)
-      (column r 7) (column r 8) (column r 9) (column r 10) (column r 11) (column r 12) before
-      (column r 0) e in
       stored_again (column r 2) (column r 3) (column r 4) (column r 5) (column r 6) (column r 7)
       (column r 8) (column r 9) (column r 10) (column r 11) (Text text)
-      (with_inh Sacl entries before) id number (record {
-        parent = s.parent;
-        name = s.name;
-        kind = s.kind;
-        owner = s.owner;
-        group = s.group;
-        dacl = s.dacl;
-        sacl = record { flags = s.sacl.flags; own = s.sacl.own; inh = back };
-      })
+      (with_inh Sacl entries before) id number (search (known))
 
   holds_back : (which : Which) (flags : ℤ) (own inh : List ℕ) (held : Held)
       → flags_in (Int flags) ≡ Some held.flags → entries_in (Text own) ≡ Some held.own
@@ -223,75 +170,31 @@ module _ (id : ℕ) (r : Row) (before : Node) (number : number_in (Int (pos id))
       → node_in (shown_node (stored_node (pos id) (recast (sets_held which flags own inh r))))
       ≡ Some (with_held which held before)
   holds_back Dacl flags own inh held p q t =
-      let s = reads_cells (column r 2) (column r 3) (column r 4) (column r 5) (column r 6)
-      (column r 7) (column r 8) (column r 9) (column r 10) (column r 11) (column r 12) before
-      (column r 0) e in
       stored_again (column r 2) (column r 3) (column r 4) (column r 5) (column r 6) (Int flags)
       (column r 8) (Text own) (Text inh) (column r 11) (column r 12)
-      (with_held Dacl held before) id number (record {
-        parent = s.parent;
-        name = s.name;
-        kind = s.kind;
-        owner = s.owner;
-        group = s.group;
-        dacl = record { flags = p; own = q; inh = t };
-        sacl = s.sacl;
-      })
+      (with_held Dacl held before) id number (search (known))
   holds_back Sacl flags own inh held p q t =
-      let s = reads_cells (column r 2) (column r 3) (column r 4) (column r 5) (column r 6)
-      (column r 7) (column r 8) (column r 9) (column r 10) (column r 11) (column r 12) before
-      (column r 0) e in
       stored_again (column r 2) (column r 3) (column r 4) (column r 5) (column r 6) (column r 7)
       (Int flags) (column r 9) (column r 10) (Text own) (Text inh)
-      (with_held Sacl held before) id number (record {
-        parent = s.parent;
-        name = s.name;
-        kind = s.kind;
-        owner = s.owner;
-        group = s.group;
-        dacl = s.dacl;
-        sacl = record { flags = p; own = q; inh = t };
-      })
+      (with_held Sacl held before) id number (search (known))
 
   owns_back : (owner group : List ℕ) (owners : Owners) → name_in (Text owner) ≡ Some owners.owner
       → name_in (Text group) ≡ Some owners.group
       → node_in (shown_node (stored_node (pos id) (recast (sets_owners owner group r))))
       ≡ Some (with_owners owners before)
   owns_back owner group owners p q =
-      let s = reads_cells (column r 2) (column r 3) (column r 4) (column r 5) (column r 6)
-      (column r 7) (column r 8) (column r 9) (column r 10) (column r 11) (column r 12) before
-      (column r 0) e in
       stored_again (column r 2) (column r 3) (column r 4) (Text owner) (Text group) (column r 7)
       (column r 8) (column r 9) (column r 10) (column r 11) (column r 12)
-      (with_owners owners before) id number (record {
-        parent = s.parent;
-        name = s.name;
-        kind = s.kind;
-        owner = p;
-        group = q;
-        dacl = s.dacl;
-        sacl = s.sacl;
-      })
+      (with_owners owners before) id number (search (known))
 
   lies_back : (index : ℤ) (text : List ℕ) (parent : ℕ) (name : List ℕ)
       → parent_in (Int index) ≡ Some (Some parent) → text_in (Text text) ≡ Some name
       → node_in (shown_node (stored_node (pos id) (recast (sets_place index text r))))
       ≡ Some (with_place parent name before)
   lies_back index text parent name p q =
-      let s = reads_cells (column r 2) (column r 3) (column r 4) (column r 5) (column r 6)
-      (column r 7) (column r 8) (column r 9) (column r 10) (column r 11) (column r 12) before
-      (column r 0) e in
       stored_again (Int index) (Text text) (column r 4) (column r 5) (column r 6) (column r 7)
       (column r 8) (column r 9) (column r 10) (column r 11) (column r 12)
-      (with_place parent name before) id number (record {
-        parent = p;
-        name = q;
-        kind = s.kind;
-        owner = s.owner;
-        group = s.group;
-        dacl = s.dacl;
-        sacl = s.sacl;
-      })
+      (with_place parent name before) id number (search (known))
 
 -- ---- the object is changed
 
@@ -310,12 +213,10 @@ module _ (db next : Database) (id : ℕ) (room : IsRoom db)
           → rows_of next ≡ with_content (rows_of db) (with_node (rows_of db).read (change before))
       by None found =
           absurd
-          (none-some before (sym (ap (option_and_then (λ r. node_in (shown_node r))) found)
-          ∙ sym (node_at_row db id room.nodes.0) ∙ there))
+          (none-some before (cc (found, node_at_row db id room.nodes.0, there)))
       by (Some r) found =
           let seen : node_in (shown_node r) ≡ Some before =
-          sym (ap (option_and_then (λ r. node_in (shown_node r))) found)
-          ∙ sym (node_at_row db id room.nodes.0) ∙ there in
+          cc (found, node_at_row db id room.nodes.0, there) in
           let is = node_at-number (rows_of db).read id before there in
           replaced_rows db next id (recast (cells r)) before (change before) room there
           (back r before (number ∙ ap Some (sym is)) seen) (keeps before ∙ is) (put r found)
@@ -324,31 +225,23 @@ module _ (db next : Database) (id : ℕ) (room : IsRoom db)
       → entries_in (Text text) ≡ Some entries
       → Recasts (sets_inh which text) (pos id) db.trees next.trees
       → Alters id (with_inh which entries) db next
-  inherited_rows which text entries back =
-      altered (sets_inh which text) (with_inh which entries) (with_inh-id which entries)
-      (λ r before n e. inherits_back id r before n e which text entries back)
+  inherited_rows which text entries back = search (altered, inherits_back, with_inh-id)
 
   pub held_rows : (which : Which) (flags : ℤ) (own inh : List ℕ) (held : Held)
       → flags_in (Int flags) ≡ Some held.flags → entries_in (Text own) ≡ Some held.own
       → entries_in (Text inh) ≡ Some held.inh
       → Recasts (sets_held which flags own inh) (pos id) db.trees next.trees
       → Alters id (with_held which held) db next
-  held_rows which flags own inh held p q t =
-      altered (sets_held which flags own inh) (with_held which held) (with_held-id which held)
-      (λ r before n e. holds_back id r before n e which flags own inh held p q t)
+  held_rows which flags own inh held p q t = search (altered, holds_back, with_held-id)
 
   pub owned_rows : (owner group : List ℕ) (owners : Owners)
       → name_in (Text owner) ≡ Some owners.owner → name_in (Text group) ≡ Some owners.group
       → Recasts (sets_owners owner group) (pos id) db.trees next.trees
       → Alters id (with_owners owners) db next
-  owned_rows owner group owners p q =
-      altered (sets_owners owner group) (with_owners owners) (λ n. refl)
-      (λ r before n e. owns_back id r before n e owner group owners p q)
+  owned_rows owner group owners p q = search (altered, owns_back)
 
   pub placed_rows : (index : ℤ) (text : List ℕ) (parent : ℕ) (name : List ℕ)
       → parent_in (Int index) ≡ Some (Some parent) → text_in (Text text) ≡ Some name
       → Recasts (sets_place index text) (pos id) db.trees next.trees
       → Alters id (with_place parent name) db next
-  placed_rows index text parent name p q =
-      altered (sets_place index text) (with_place parent name) (λ n. refl)
-      (λ r before n e. lies_back id r before n e index text parent name p q)
+  placed_rows index text parent name p q = search (altered, lies_back)

@@ -1,42 +1,28 @@
 -- What the rows mean once the rows of a range of numbers are written.
-use Rattle.std.proofs.Common.{◌≡◌, ◌<◌, ◌≤◌, ◌+◌, ℕ, suc, zero, ℤ, pos, negsuc, List, [], ◌∷◌, map}
-use Rattle.std.proofs.Common.{find, not, None, Some, Option, refl, sym, ap, subst, ◌∙◌, Bool, true}
-use Rattle.std.proofs.Common.{false, cond, inl, inr, ◌⊎◌, arith, unwrap_or}
-use Rattle.std.specs.Prelude.{◌==◌, ◌&&◌, ◌||◌, is_none, is_some, nat_lt, option_and_then}
-use Rattle.std.specs.Prelude.{if◌then◌else◌}
-use Rattle.std.specs.List.{cons_option, filter_map, list_any, range_with_len}
-use Rattle.std.specs.Option.{option_map}
-use Rattle.std.specs.Ordering.{is_eq, is_gt, is_lt}
-use Rattle.std.specs.declared.cmp.Ordering.TheVariants.{Equal, Greater, Less}
-use Rattle.std.proofs.lemmas.Bool.{and_parts, cond-false, cond-true, eqb-true, eqb-false, ne_eqb}
-use Rattle.sqlite.specs.declared.types.Value.TheVariants.{Int, Null, Text}
-use Rattle.sqlite.specs.Effect.{Database}
-use Rattle.sqlite.specs.Order.{Row, value_cmp}
-use Rattle.sqlite.specs.Tree.{has_rowid, rowid}
-use Rattle.sqlite_rules.specs.Edit.{id_in}
-use Rattle.sqlite_rules.specs.Lists.{Has}
-use Rattle.sqlite_rules.proofs.PlaceLemmas.{row_at_is}
-use Rattle.sqlite_rules.proofs.TableLemmas.{int_is}
+use Rattle.std.proofs.Common.{◌≡◌, ◌<◌, ◌≤◌, ◌+◌, ℕ, suc, zero, ℤ, pos, List, [], ◌∷◌, map, find}
+use Rattle.std.proofs.Common.{not, None, Some, Option, refl, sym, ap, subst, ◌∙◌, Bool, true, false}
+use Rattle.std.proofs.{Common.{cond, inl, inr, ◌⊎◌, arith, unwrap_or}, lemmas.Bool.and_parts}
+use Rattle.std.proofs.lemmas.Bool.{cond-false, cond-true, eqb-false, ne_eqb, Decides.nat_tests}
+use Rattle.std.specs.Prelude.{◌==◌, ◌&&◌, ◌||◌, is_some, nat_lt, option_and_then}
+use Rattle.std.specs.{List.{cons_option, filter_map, list_any, range_with_len}, Option.option_map}
+use Rattle.std.specs.{Ordering.{is_eq, is_gt, is_lt}, declared.cmp.Ordering.TheVariants.Equal}
+use Rattle.std.specs.declared.cmp.Ordering.TheVariants.{Greater, Less}
+use Rattle.sqlite.specs.{declared.types.Value.TheVariants.{Int, Null, Text}, Effect.Database}
+use Rattle.sqlite.specs.{Order.{Row, value_cmp}, Tree.{has_rowid, rowid}}
+use Rattle.sqlite_rules.specs.{Edit.id_in, Lists.Has}
+use Rattle.sqlite_rules.proofs.{PlaceLemmas.row_at_is, TableLemmas.int_is}
 use Rattle.sqlite_value.proofs.OrderLemmas.{value_cmp-Int}
-use Rattle.room_entry.specs.Ace.{Ace}
-use Rattle.room_entry.specs.declared.object.Which.{Which}
-use Rattle.room_rows.specs.declared.node.Node.{Node}
-use Rattle.room_rows.specs.Content.{Content, node_at}
-use Rattle.room_rows.specs.Keep.{are_there, with_inh}
+use Rattle.room_entry.specs.{Ace.Ace, declared.object.Which.Which}
+use Rattle.room_rows.specs.{declared.node.Node.Node, Content.{Content, node_at}, Keep.are_there}
+use Rattle.room_rows.specs.Keep.{with_inh}
 use Rattle.room_rows.proofs.Many.{changed_among}
-use Rattle.store_tables.specs.Filed.{node_at_row, node_keyed}
-use Rattle.store_tables.specs.Meaning.{audit_in, bodies_of, entries_in, node_in, nodes_of}
-use Rattle.store_tables.specs.Meaning.{number_in, pairs_of, rows_of, unread_in, unread_of}
-use Rattle.store_tables.specs.Meaning.{unread_with}
-use Rattle.store_tables.specs.RoomRows.{number_in-low}
-use Rattle.store_tables.specs.Shown.{IsRoom, RecastsAll, is_in_range, recast_in, sets_inh}
-use Rattle.store_tables.specs.Shown.{shown_node}
+use Rattle.store_tables.specs.{Filed.{node_at_row, node_keyed}, Meaning.{audit_in, bodies_of}}
+use Rattle.store_tables.specs.Meaning.{entries_in, node_in, nodes_of, number_in, pairs_of, rows_of}
+use Rattle.store_tables.specs.{Meaning.{unread_in, unread_of}, RoomRows.number_in-low, Shown.IsRoom}
+use Rattle.store_tables.specs.Shown.{RecastsAll, is_in_range, recast_in, sets_inh, shown_node}
 use Rattle.store_tables.specs.Trust.{AltersAll}
-use Rattle.store_tables.proofs.Altered.{inherits_back}
-use Rattle.store_tables.proofs.Recast.{recast}
-use Rattle.store_tables.proofs.Removed.{same_rows}
+use Rattle.store_tables.proofs.{Altered.inherits_back, Recast.recast, Removed.same_rows}
 use Rattle.store_tables.proofs.Rowids.{has_itself, of_each}
-use Rattle.std.proofs.lemmas.Bool.Decides.{nat_tests}
 
 -- ---- numbers that follow one another
 
@@ -54,23 +40,21 @@ in_run first (suc more) n low high =
         → ((first == n) ≡ false
         → list_any (λ (id : ℕ). id == n) (range_with_len (first + 1) more) ≡ true)
         → ((first == n) || list_any (λ (id : ℕ). id == n) (range_with_len (first + 1) more)) ≡ true
-    by true is later =
-        ap (λ c. c || list_any (λ (id : ℕ). id == n) (range_with_len (first + 1) more)) is
-    by false isnt later =
-        ap (λ c. c || list_any (λ (id : ℕ). id == n) (range_with_len (first + 1) more)) isnt
-        ∙ later isnt
+    by b is later = grind (arith, nat_tests)
 
 past_run : (first count n : ℕ) → (n < first) ⊎ (first + count ≤ n)
     → list_any (λ (id : ℕ). id == n) (range_with_len first count) ≡ false
 past_run first zero n out = refl
 past_run first (suc more) n (inl low) =
-    ap (λ c. c || list_any (λ (id : ℕ). id == n) (range_with_len (first + 1) more))
-    (ne_eqb first n (λ e. absurd (omega (arith, low, e))))
-    ∙ past_run (first + 1) more n (inl (omega (arith, low)))
+    cc (
+      ne_eqb first n (λ e. absurd (omega (arith, low, e))),
+      past_run (first + 1) more n (inl (omega (arith, low))),
+    )
 past_run first (suc more) n (inr high) =
-    ap (λ c. c || list_any (λ (id : ℕ). id == n) (range_with_len (first + 1) more))
-    (ne_eqb first n (λ e. absurd (omega (arith, high, e))))
-    ∙ past_run (first + 1) more n (inr (omega (arith, high)))
+    cc (
+      ne_eqb first n (λ e. absurd (omega (arith, high, e))),
+      past_run (first + 1) more n (inr (omega (arith, high))),
+    )
 
 there_in_run : (content : Content) (first count n : ℕ)
     → are_there (range_with_len first count) content ≡ true → first ≤ n → n < first + count
@@ -86,21 +70,15 @@ there_in_run content first (suc more) n there low high =
     by : (b : Bool) → (first == n) ≡ b → is_some (node_at content first) ≡ true
         → ((first == n) ≡ false → is_some (node_at content n) ≡ true)
         → is_some (node_at content n) ≡ true
-    by true is here later =
-        subst (λ (m : ℕ). is_some (node_at content m) ≡ true) (eqb-true first n is) here
-    by false isnt here later = later isnt
+    by b is here later = grind (arith, nat_tests)
 
 -- ---- rowids between two numbers
 
 less_test : (b c : Bool) → is_lt (cond b Less (cond c Greater Equal)) ≡ b
-less_test true c = refl
-less_test false true = refl
-less_test false false = refl
+less_test b c = grind (arith, nat_tests)
 
 more_test : (b c : Bool) → is_gt (cond b Less (cond c Greater Equal)) ≡ (not b && c)
-more_test true c = refl
-more_test false true = refl
-more_test false false = refl
+more_test b c = grind (arith, nat_tests)
 
 test_of : (r : Row) (m first last : ℕ) → rowid r ≡ Int (pos m)
     → is_in_range (pos first) (pos last) r
@@ -124,15 +102,8 @@ below_none b x is e = absurd (let f = sym (ap (λ c. not c && x) is) ∙ e in cc
 number_between : (r : Row) (first last : ℕ) (z : ℤ) → rowid r ≡ Int z
     → is_in_range (pos first) (pos last) r ≡ true
     → (m : ℕ) × (rowid r ≡ Int (pos m)) × (first ≤ m) × (m ≤ last)
-number_between r first last (pos m) is within =
-    let it = between m first last (sym (test_of r m first last is) ∙ within) in
-    (m, is, it.0, it.1)
-number_between r first last (negsuc k) is within =
-    absurd
-    (below_none (is_lt (value_cmp (rowid r) (Int (pos first))))
-    (not (is_gt (value_cmp (rowid r) (Int (pos last)))))
-    (ap (λ v. is_lt (value_cmp v (Int (pos first)))) is
-    ∙ ap is_lt (value_cmp-Int (negsuc k) (pos first))) within)
+number_between r first last z is within =
+    grind (arith, nat_tests, below_none, between, test_of, value_cmp-Int)
 
 -- ---- the objects are changed
 
@@ -175,8 +146,7 @@ module _ (db next : Database) (room : IsRoom db) (which : Which) (text : List �
           → unwrap_or (find (has_rowid (pos m)) (db.trees 0)) [] ≡ r
           → is_some (option_and_then see (find (has_rowid (pos m)) (db.trees 0))) ≡ true
           → is_some (see r) ≡ true
-      by None found same some =
-          absurd (let e = sym (ap (λ o. is_some (option_and_then see o)) found) ∙ some in cc)
+      by None found same some = grind (arith, nat_tests)
       by (Some y) found same some =
           let it : y ≡ r = sym (ap (λ o. unwrap_or o []) found) ∙ same in
           subst (λ (x : Row). is_some (see x) ≡ true) it
@@ -194,9 +164,11 @@ module _ (db next : Database) (room : IsRoom db) (which : Which) (text : List �
       let number : number_in (Int (pos at.0)) ≡ Some one.0.id =
       number_in-low at.0 (omega (arith, low, at.2)) ∙ ap Some same in
       let new : to_row r ≡ Int (pos at.0) ∷ Null ∷ recast (cells r) =
-      cond-true (is_in_range (pos first) (pos (first + more)) r)
-      (rowid r ∷ Null ∷ recast (cells r)) r within
-      ∙ ap (λ v. v ∷ Null ∷ recast (cells r)) at.1 in (
+      cc (
+        cond-true (is_in_range (pos first) (pos (first + more)) r)
+            (rowid r ∷ Null ∷ recast (cells r)) r within,
+        at.1,
+      ) in (
         one.0,
         one.1,
         ap see new ∙ inherits_back at.0 r one.0 number one.1 which text entries back
@@ -212,10 +184,10 @@ module _ (db next : Database) (room : IsRoom db) (which : Which) (text : List �
       → see r ≡ o → o ≡ option_map (changed_among run change) o
   out_seen r isnt None is = refl
   out_seen r isnt (Some n) is =
-      ap Some (sym (cond-false _ (change n) n
+      cc (cond-false _ (change n) n
       (past_run first (more + 1) n.id
       (on (outside n.id first (first + more)
-      (sym (test_of r n.id first (first + more) (node_keyed r n is)) ∙ isnt))))))
+      (sym (test_of r n.id first (first + more) (node_keyed r n is)) ∙ isnt)))))
     where
       on : (n.id < first) ⊎ (first + more < n.id) → (n.id < first) ⊎ (first + (more + 1) ≤ n.id)
       on (inl l) = inl l
@@ -230,29 +202,14 @@ module _ (db next : Database) (room : IsRoom db) (which : Which) (text : List �
       by : (b : Bool) → is_in_range (pos first) (pos (first + more)) r ≡ b
           → (see (to_row r) ≡ option_map (changed_among run change) (see r))
           × (unread_in (to_row r) ≡ unread_in r)
-      by true within =
-          let it = within_seen r has within in (
-            it.2 ∙ sym (ap (option_map (changed_among run change)) it.1),
-            ap (λ o. if is_none o
-                then option_map (unread_with (to_row r)) (number_in (rowid (to_row r)))
-                else None) it.2
-                ∙ sym (ap (λ o. if is_none o
-                then option_map (unread_with r) (number_in (rowid r))
-                else None) it.1),
-          )
-      by false isnt = (
-        ap see (stays r isnt) ∙ out_seen r isnt (see r) refl,
-        ap unread_in (stays r isnt),
-      )
+      by true within = grind (arith, nat_tests, changed_among, within_seen)
+      by false isnt = search (out_seen, stays)
 
   nodes_so : (rows : List Row) → ((r : Row) → Has rows r → Has (db.trees 0) r)
       → nodes_of (map to_row rows) ≡ map (changed_among run change) (nodes_of rows)
   nodes_so [] has = refl
   nodes_so (r ∷ rows) has =
-      ap (λ o. cons_option o (nodes_of (map to_row rows))) (read_so r (has r (inl refl))).0
-      ∙ ap (cons_option (option_map (changed_among run change) (see r)))
-      (nodes_so rows (λ x h. has x (inr h)))
-      ∙ on (see r)
+      cc ((read_so r (has r (inl refl))).0, nodes_so rows (λ x h. has x (inr h)), on (see r))
     where
       on : (o : Option Node)
           → cons_option (option_map (changed_among run change) o)
@@ -265,8 +222,7 @@ module _ (db next : Database) (room : IsRoom db) (which : Which) (text : List �
       → unread_of (map to_row rows) ≡ unread_of rows
   unread_so [] has = refl
   unread_so (r ∷ rows) has =
-      ap (λ o. cons_option o (unread_of (map to_row rows))) (read_so r (has r (inl refl))).1
-      ∙ ap (cons_option (unread_in r)) (unread_so rows (λ x h. has x (inr h)))
+      cc ((read_so r (has r (inl refl))).1, unread_so rows (λ x h. has x (inr h)))
 
 -- the rows of a range are written, and so are the objects
 pub inherited_range : (db next : Database) → IsRoom db → (which : Which) (text : List ℕ)

@@ -1,39 +1,28 @@
 -- No two children have one name: what UNIQUE says of rows that agree in its first column.
-use Rattle.std.proofs.Common.{◌≡◌, ℕ, ℤ, subst, List, [], ◌∷◌, filter, IsTrue, inl, inr, refl, sym}
-use Rattle.std.proofs.Common.{ap, ◌∙◌, true, false, Bool, cond, ◌&&◌, Less, is_eq, arith}
-use Rattle.std.specs.List.{AllByRecursion, list_any}
-use Rattle.std.proofs.lemmas.Bool.{and_parts, and_from, false≢true, not-true, or_parts}
+use Rattle.std.proofs.Common.{◌≡◌, ℕ, ℤ, subst, List, [], ◌∷◌, filter, IsTrue, inl, inr, refl, ap}
+use Rattle.std.proofs.Common.{◌∙◌, true, false, Bool, cond, Less, is_eq, arith}
+use Rattle.std.proofs.lemmas.Bool.{and_parts, and_from, not-true, or_parts, Decides.nat_tests}
 use Rattle.std.proofs.lemmas.Cmp.{alike_right}
-use Rattle.sqlite.specs.declared.types.Value.{Value}
-use Rattle.sqlite.specs.declared.types.Value.TheVariants.{Null, Int, Real, Text, Blob}
-use Rattle.sqlite.specs.Effect.{Database}
-use Rattle.sqlite.specs.Ops.{binary, is_true}
-use Rattle.sqlite.specs.Order.{Row, column, value_cmp}
-use Rattle.sqlite.specs.Tree.{Trees, rowid, IsTable}
+use Rattle.std.specs.List.{AllByRecursion, list_any}
+use Rattle.sqlite.specs.{declared.types.Value.{Value, TheVariants.{Int, Text}}, Effect.Database}
+use Rattle.sqlite.specs.{Ops.{binary, is_true}, Order.{Row, column, value_cmp}, Tree.{Trees, rowid}}
+use Rattle.sqlite.specs.Tree.{IsTable}
 use Rattle.sqlite_catalog.proofs.AlterLemmas.{keys_are_unique}
 use Rattle.sqlite_catalog.specs.Listing.{IsSound}
 use Rattle.sqlite_rules.specs.Lists.{Has}
 use Rattle.sqlite_rules.proofs.RuleLemmas.{keeps_at}
-use Rattle.sqlite_schema.specs.declared.schema.Constraint.TheVariants.{NotNull}
-use Rattle.sqlite_schema.specs.declared.schema.Table.{Table}
+use Rattle.sqlite_schema.specs.declared.schema.{Constraint.TheVariants.NotNull, Table.Table}
 use Rattle.sqlite_schema.specs.Rules.{agree, clashes, differ, passes}
-use Rattle.sqlite_sql.specs.Ops.{is_null, test}
-use Rattle.sqlite_sql.specs.declared.ops.BinaryOp.TheVariants.{Compare}
+use Rattle.sqlite_sql.specs.{Ops.{is_null, test}, declared.ops.BinaryOp.TheVariants.Compare}
 use Rattle.sqlite_sql.specs.declared.ops.CompareOp.TheVariants.{Eq, Ne}
 use Rattle.sqlite_tied.specs.Compute.{everything}
 use Rattle.sqlite_trees.specs.View.{is_int}
-use Rattle.sqlite_value.specs.Keys.{first_key, plain}
-use Rattle.sqlite_value.specs.declared.keys.Collation.TheVariants.{Binary}
+use Rattle.sqlite_value.specs.{Keys.{first_key, plain}, declared.keys.Collation.TheVariants.Binary}
 use Rattle.sqlite_value.proofs.OrderLemmas.{value_cmp-Null, value_cmp_total}
 use Rattle.store_tables.specs.Shown.{IsRoom, is_child, is_numbered, is_user_row}
-use Rattle.store_tables.specs.Statements.{by_column}
-use Rattle.store_tables.specs.Tables.{members, room_schema}
-use Rattle.store_tables.proofs.Ordered.{HasNoTies}
-use Rattle.store_tables.proofs.Rowids.{each_of, is_equal, of_each}
-use Rattle.store_tables.proofs.Tests.{told}
-use Rattle.store_tables.proofs.Tops.{kept_from}
-use Rattle.store_tables.proofs.Writes.{nodes_table}
-use Rattle.std.proofs.lemmas.Bool.Decides.{nat_tests}
+use Rattle.store_tables.specs.{Statements.by_column, Tables.{members, room_schema}}
+use Rattle.store_tables.proofs.{Ordered.HasNoTies, Rowids.{each_of, is_equal, of_each}, Tests.told}
+use Rattle.store_tables.proofs.{Tops.kept_from, Writes.nodes_table}
 
 pub any_none : {A : Type 0} (p : A → Bool) (xs : List A) (x : A) → list_any p xs ≡ false → Has xs x
     → p x ≡ false
@@ -68,11 +57,7 @@ unfolding first_key
 agrees_by first second a b one two = and_from _ _ one (and_from _ true two refl)
 
 pub int_is_some : (v : Value) → IsTrue (is_int v) → is_null v ≡ false
-int_is_some (Int n) int = refl
-int_is_some Null int = absurd (let e = int in cc)
-int_is_some (Real x) int = absurd (let e = int in cc)
-int_is_some (Text t) int = absurd (let e = int in cc)
-int_is_some (Blob b) int = absurd (let e = int in cc)
+int_is_some v int = grind (arith, nat_tests)
 
 -- ---- rows that agree in the first column of a key differ in the second
 
@@ -94,18 +79,13 @@ module _ (rows : List Row) (table : IsTable rows)
   apart a b here there one two less true is =
       let na = present a here one in
       let nb = present b there two in
-      let agrees : agree plain (first ∷ second ∷ []) a (first ∷ second ∷ []) b ≡ true =
-      agrees_by first second a b
+      let agrees = agrees_by first second a b
       (equal_from (column a first) (column b first) na.0 nb.0 (same_first a b one two))
       (equal_from (column a second) (column b second) na.1 nb.1 is) in
       let differs = differ_from (rowid a) (rowid b)
       (int_is_some (rowid a) (of_each _ rows ints a here))
       (int_is_some (rowid b) (of_each _ rows ints b there)) less in
-      absurd
-      (false≢true
-      (sym (any_none (λ other. agree plain (first ∷ second ∷ []) other (first ∷ second ∷ []) b
-      && differ (rowid other) (rowid b)) rows a (unique b there) here)
-      ∙ and_from _ _ agrees differs))
+      grind (arith, nat_tests, any_none)
 
   none_tied : (some : List Row) → IsTable some → ((r : Row) → Has some r → Has rows r)
       → HasNoTies (by_column second) (filter p some)
@@ -130,11 +110,7 @@ module _ (rows : List Row) (table : IsTable rows)
 -- ---- children
 
 like_int : (v : Value) (n : ℤ) → is_eq (value_cmp v (Int n)) ≡ true → is_null v ≡ false
-like_int Null n same = absurd (let e = sym (ap is_eq (value_cmp-Null (Int n))) ∙ same in cc)
-like_int (Int z) n same = refl
-like_int (Real x) n same = refl
-like_int (Text t) n same = refl
-like_int (Blob b) n same = refl
+like_int v n same = grind (arith, nat_tests, value_cmp-Null)
 
 named : (db : Trees) (r : Row) → passes NotNull room_schema db nodes_table r ≡ true
     → is_null (column r 3) ≡ false
@@ -165,11 +141,7 @@ abbrev members_table : Table
 members_table = record members { tree = 3 }
 
 like_text : (v : Value) (t : List ℕ) → is_eq (value_cmp v (Text t)) ≡ true → is_null v ≡ false
-like_text Null t same = absurd (let e = sym (ap is_eq (value_cmp-Null (Text t))) ∙ same in cc)
-like_text (Int z) t same = refl
-like_text (Real x) t same = refl
-like_text (Text s) t same = refl
-like_text (Blob b) t same = refl
+like_text v t same = grind (arith, nat_tests, value_cmp-Null)
 
 grouped : (db : Trees) (r : Row) → passes NotNull room_schema db members_table r ≡ true
     → is_null (column r 1) ≡ false

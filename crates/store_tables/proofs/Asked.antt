@@ -1,21 +1,13 @@
 -- What a statement inside a transaction answers and leaves.
-use Rattle.std.proofs.Common.{◌≡◌, ℕ, List, Result, Ok, Err, IsTrue, ◌⊎◌, false, IfOk, IfErr, subst}
-use Rattle.std.proofs.Common.{sym, Vec, Global, arith}
-use Rattle.sqlite.specs.Order.{Row}
-use Rattle.sqlite.specs.Tree.{Trees}
-use Rattle.sqlite.specs.declared.error.Error.{Error}
-use Rattle.sqlite.specs.State.{State, HasCleanDisk, Shown, FailsToQuery, IsTooLate, Executes}
+use Rattle.std.proofs.Common.{◌≡◌, ℕ, List, Result, Ok, Err, IsTrue, ◌⊎◌, false, IfOk, IfErr, Vec}
+use Rattle.std.proofs.{Common.{Global, arith}, lemmas.Bool.Decides.nat_tests}
+use Rattle.sqlite.specs.{Order.Row, Tree.Trees, declared.error.Error.Error, State.State}
+use Rattle.sqlite.specs.State.{HasCleanDisk, Shown, FailsToQuery, IsTooLate, Executes}
 use Rattle.sqlite.specs.State.{ExecutesInside}
-use Rattle.store_tables.specs.Shown.{IsRoom, Stays}
-use Rattle.store_tables.specs.Statements.{QueriesSql, ExecutesSql}
-use Rattle.store_tables.specs.Trust.{stays_itself}
-use Rattle.store_tables.proofs.Calls.{same_ok}
-use Rattle.store_tables.proofs.Executed.{WritesRoom}
-use Rattle.store_tables.proofs.Inside.{did_inside, query_inside, write_inside}
-use Rattle.store_tables.proofs.Bare.{IsReading}
-use Rattle.store_tables.proofs.Within.{CommitsNothing}
-use Rattle.store_tables.proofs.Tests.{if_ok}
-use Rattle.std.proofs.lemmas.Bool.Decides.{nat_tests}
+use Rattle.store_tables.specs.{Shown.{IsRoom, Stays}, Statements.{QueriesSql, ExecutesSql}}
+use Rattle.store_tables.proofs.{Calls.same_ok, Executed.WritesRoom, Inside.did_inside}
+use Rattle.store_tables.proofs.{Inside.{query_inside, write_inside}, Bare.IsReading}
+use Rattle.store_tables.proofs.{Within.CommitsNothing, Tests.if_ok}
 
 -- a query inside a transaction keeps `QueriesSql`, once it is known what its rows show of a room
 pub asks : (sql : List ℕ) (params : Row) (old new : State) (r : Result (Vec Row Global) Error)
@@ -33,8 +25,7 @@ asks sql params old new r Shows reads quiet shows ok err =
 pub ended : {H : Type 0} (shown : H → State) (old new : H) (r : Result ℕ Error) (e : Error)
     (IsOver : Type 0) → (IsOver → (r ≡ Err e) × (new ≡ old)) → IsOver
     → (r ≡ Err e) × Stays (shown old) (shown new)
-ended shown old new r e IsOver h over =
-    ((h over).0, subst (λ s. Stays (shown old) (shown s)) (sym (h over).1) (stays_itself (shown old)))
+ended shown old new r e IsOver h over = grind (arith, nat_tests)
 
 -- a write inside a transaction keeps `ExecutesSql`, once it is known what it leaves by its count
 pub writes : (sql : List ℕ) (params : Row) (old new : State) (r : Result ℕ Error) (e : Error)

@@ -1,18 +1,14 @@
 -- A text without RETURNING writes nothing where it shows rows, whatever the tables are.
-use Rattle.std.proofs.Common.{◌≡◌, ℕ, List, Bool, true, false, Option, None, Ok, Err, IfOk, refl}
-use Rattle.std.proofs.Common.{ap, ◌∙◌, if◌then◌else◌, arith}
-use Rattle.sqlite.specs.Order.{Row}
-use Rattle.sqlite.specs.Listing.{understood, reads_listing, if_select, is_select, listing_schema}
+use Rattle.std.proofs.Common.{◌≡◌, ℕ, List, Bool, true, false, Option, None, Ok, Err, IfOk}
+use Rattle.std.proofs.{Common.{if◌then◌else◌, arith}, lemmas.Bool.Decides.nat_tests}
+use Rattle.sqlite.specs.{Order.Row, Listing.{understood, reads_listing, if_select, listing_schema}}
 use Rattle.sqlite.specs.State.{State, IsUnchanged, Shown, ShowsRows}
 use Rattle.sqlite_resolve.specs.Compile.{compiled, first, meaning, planned, returning, with_command}
-use Rattle.sqlite_resolve.specs.Lowering.{Checked, and_then}
-use Rattle.sqlite_resolve.specs.Scope.{Name}
+use Rattle.sqlite_resolve.specs.{Lowering.{Checked, and_then}, Scope.Name}
 use Rattle.sqlite_resolve.specs.declared.compiled.Compiled.{Compiled}
 use Rattle.sqlite_resolve.specs.declared.error.CompileError.TheVariants.{NoSuchTable}
-use Rattle.sqlite_schema.specs.declared.command.Command.{Command}
-use Rattle.sqlite_schema.specs.declared.command.Returning.{Returning}
+use Rattle.sqlite_schema.specs.declared.command.{Command.Command, Returning.Returning}
 use Rattle.sqlite_schema.specs.declared.schema.Schema.{Schema}
-use Rattle.std.proofs.lemmas.Bool.Decides.{nat_tests}
 
 -- the statement of the text has no RETURNING, over any schema
 abbrev pub LacksReturning : List ℕ → Type 0
@@ -32,9 +28,7 @@ by_command : (formats : List Name) (r : Checked Command) (plan : Plan)
     → ◌≡◌ {A = Checked Plan} (and_then (and_then r (λ c. Ok (c, None)))
     (λ found. Ok (formats, found))) (Ok plan)
     → plan.1.1 ≡ None
-by_command formats (Ok c) plan is = let e : plan ≡ (formats, (c, None)) = cc in
-    ap (λ (p : Plan). p.1.1) e
-by_command formats (Err e) plan is = absurd (cc)
+by_command formats r plan is = grind (arith, nat_tests)
 
 unplanned : (schema : Schema) (p : _) (plan : Plan) → planned schema p ≡ Ok plan
     → ((schema : Schema) (base : ℕ) → returning schema base p.statement ≡ Ok None)
@@ -44,9 +38,7 @@ unplanned schema p plan is bare = by_command _ _ plan (rw (bare schema _) at is)
 
 by_plan : (p : _) (r : Checked Plan) → ((plan : Plan) → r ≡ Ok plan → plan.1.1 ≡ None)
     → (c : Compiled) → and_then r (λ plan. Ok (with_command p plan)) ≡ Ok c → c.returning ≡ None
-by_plan p (Ok plan) none c is = let e : c ≡ with_command p plan = cc in
-    ap (λ (x : Compiled). x.returning) e ∙ none plan refl
-by_plan p (Err e) none c is = absurd (cc)
+by_plan p r none c is = grind (arith, nat_tests)
 
 by_first : (schema : Schema) (r : Checked _) (c : Compiled)
     → and_then r (λ p. and_then (planned schema p) (λ plan. Ok (with_command p plan))) ≡ Ok c
@@ -68,9 +60,7 @@ by_test false x c is = absurd (cc)
 
 by_select : (r : Checked Compiled) → ((c : Compiled) → r ≡ Ok c → c.returning ≡ None)
     → (c : Compiled) → if_select r ≡ Ok c → c.returning ≡ None
-by_select (Ok x) none c is =
-    ap (λ (y : Compiled). y.returning) (by_test (is_select x.command) x c is) ∙ none x refl
-by_select (Err e) none c is = absurd (cc)
+by_select r none c is = grind (arith, nat_tests, by_test)
 
 by_listing : (b : Bool) (one two : Checked Compiled)
     → ((c : Compiled) → one ≡ Ok c → c.returning ≡ None)

@@ -1,26 +1,19 @@
 -- What reading the bytes of a number answers.
 use Rattle.std.proofs.Common.{◌≡◌, ◌<◌, ℕ, pos, List, [], ◌∷◌, map, filter, find, Some, inl, inr}
 use Rattle.std.proofs.Common.{◌⊎◌, refl, sym, ap, subst, ◌∙◌, option_map, IsPermutation, arith}
-use Rattle.std.specs.Prelude.{◌==◌, option_and_then}
-use Rattle.sqlite.specs.declared.types.Value.{Value}
-use Rattle.sqlite.specs.declared.types.Value.TheVariants.{Null, Int, Real, Text, Blob}
-use Rattle.sqlite.specs.Order.{Row, column}
-use Rattle.sqlite.specs.Tree.{rowid, has_rowid}
-use Rattle.sqlite.specs.Effect.{Database}
-use Rattle.sqlite.proofs.Callers.{one_permutation}
-use Rattle.room_rows.specs.Content as content
-use Rattle.room_rows.specs.Keep.{IsBodyOf, IsNever}
-use Rattle.store_tables.specs.Filed.{body_rowid}
-use Rattle.store_tables.specs.Keyed.{find_key}
-use Rattle.store_tables.specs.Meaning.{body_in, number_in, rows_of}
-use Rattle.store_tables.specs.RoomRows.{number_in-low}
-use Rattle.store_tables.specs.Seeing.{result_of_seen, bytes_as, bytes_seen}
-use Rattle.store_tables.specs.Shown.{IsRoom}
-use Rattle.store_tables.specs.Statements.{HasBytes, shown_bytes}
-use Rattle.store_tables.proofs.Nodes.{Tells, none_passes}
-use Rattle.store_tables.proofs.Rowids.{alone_in, at_most_one, has_found, of_each, only_one}
-use Rattle.store_tables.proofs.Rowids.{rowid_is}
 use Rattle.std.proofs.lemmas.Bool.Decides.{nat_tests}
+use Rattle.std.specs.Prelude.{◌==◌, option_and_then}
+use Rattle.sqlite.specs.declared.types.Value.{Value, TheVariants.{Null, Int, Real, Text, Blob}}
+use Rattle.sqlite.specs.{Order.{Row, column}, Tree.{rowid, has_rowid}, Effect.Database}
+use Rattle.sqlite.proofs.Callers.{one_permutation}
+use Rattle.room_rows.specs.Keep.{IsBodyOf, IsNever}
+use Rattle.store_tables.specs.{Filed.body_rowid, Keyed.find_key, Meaning.{body_in, number_in}}
+use Rattle.store_tables.specs.{Meaning.rows_of, RoomRows.number_in-low, Seeing.result_of_seen}
+use Rattle.store_tables.specs.{Seeing.{bytes_as, bytes_seen}, Shown.IsRoom, Statements.HasBytes}
+use Rattle.store_tables.specs.Statements.{shown_bytes}
+use Rattle.store_tables.proofs.{Nodes.{Tells, none_passes}, Rowids.{alone_in, at_most_one}}
+use Rattle.store_tables.proofs.Rowids.{has_found, of_each, only_one, rowid_is}
+use Rattle.room_rows.specs.Content as content
 
 abbrev Blobbed : Type 0
 Blobbed = ℕ × List ℕ

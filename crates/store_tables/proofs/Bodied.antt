@@ -1,34 +1,23 @@
 -- What new bytes leave.
 use Rattle.std.proofs.Common.{◌≡◌, ℕ, ℤ, List, [], ◌∷◌, Ok, None, IsTrue, refl, sym, ap, subst, ◌∙◌}
-use Rattle.std.proofs.Common.{true, if◌then◌else◌, arith}
+use Rattle.std.proofs.{Common.{if◌then◌else◌, arith}, lemmas.Bool.Decides.nat_tests}
 use Rattle.sqlite.specs.declared.types.Value.TheVariants.{Null, Int, Blob}
-use Rattle.sqlite.specs.Command.TheVariants.{Insert}
-use Rattle.sqlite.specs.Does.{Tally, Does}
-use Rattle.sqlite.specs.Edit.{Edit, are_fresh, edit_of, is_taken, numbered, put_all}
-use Rattle.sqlite.specs.Effect.{Database, IsDatabase}
-use Rattle.sqlite.specs.Listing.{understood}
-use Rattle.sqlite.specs.Order.{Row}
-use Rattle.sqlite.specs.Rowids.TheVariants.{Chosen}
-use Rattle.sqlite.specs.Rows.{Written}
-use Rattle.sqlite.specs.Source.TheVariants.{Values}
-use Rattle.sqlite.specs.State.{State, mode_of, Executes, Shows}
+use Rattle.sqlite.specs.{Command.TheVariants.Insert, Does.{Tally, Does}, Edit.{Edit, are_fresh}}
+use Rattle.sqlite.specs.{Edit.{edit_of, is_taken, numbered, put_all}, Effect.{Database, IsDatabase}}
+use Rattle.sqlite.specs.{Listing.understood, Order.Row, Rowids.TheVariants.Chosen, Rows.Written}
+use Rattle.sqlite.specs.{Source.TheVariants.Values, State.{State, mode_of, Executes, Shows}}
 use Rattle.sqlite.specs.Tree.{Trees}
 use Rattle.sqlite.proofs.Callers.{one_step, runs_as, statement_of}
 use Rattle.sqlite_rules.specs.Action.{works}
 use Rattle.sqlite_schema.specs.declared.schema.Keys.TheVariants.{Enforced}
 use Rattle.sqlite_trees.specs.View.{IsShaped}
-use Rattle.sqlite_trees.specs.declared.store.Shape.TheVariants as Shape
 use Rattle.sqlite_trees.proofs.TreeLemmas.{IsShaped-put_row}
-use Rattle.store_tables.specs.Shown.{Bodies, IsRoom, stored_body}
-use Rattle.store_tables.specs.Tables.{room_schema}
-use Rattle.store_tables.proofs.Actions.{bodies_table}
-use Rattle.store_tables.proofs.Calls.{retains_by}
-use Rattle.store_tables.proofs.Printed.{keeps_same}
-use Rattle.store_tables.proofs.Executed.{WritesRoom}
-use Rattle.store_tables.proofs.Filled.{cast_body, one_off}
-use Rattle.store_tables.proofs.Inserts.{fresh_alone}
-use Rattle.store_tables.proofs.Texts.{plain_put, put_is, put_text}
+use Rattle.store_tables.specs.{Shown.{Bodies, IsRoom, stored_body}, Tables.room_schema}
+use Rattle.store_tables.proofs.{Actions.bodies_table, Calls.retains_by, Printed.keeps_same}
+use Rattle.store_tables.proofs.{Executed.WritesRoom, Filled.{cast_body, one_off}}
+use Rattle.store_tables.proofs.{Inserts.fresh_alone, Texts.{plain_put, put_is, put_text}}
 use Rattle.store_tables.proofs.Writes.{same_value, went}
+use Rattle.sqlite_trees.specs.declared.store.Shape.TheVariants as Shape
 
 abbrev put_edit : Trees → List Row → Edit
 put_edit db rows = edit_of db bodies_table [] Chosen 0 rows
@@ -63,28 +52,13 @@ bodied id bytes old new count has h =
     let trees : done.0.trees ≡ written.0 = ap (λ (it : Written). it.trees) wrote
     ∙ same_value counted.1 in
     let source : given.0 ≡ stored_body id bytes ∷ [] = given.1.1 in
-    let news : (put_edit db given.0).news ≡ stored_body id bytes ∷ [] =
-    ap (λ l. (put_edit db l).news) source
+    let news = ap (λ l. (put_edit db l).news) source
     ∙ ap (λ r. numbered Chosen (db 2) (r ∷ [])) (cast_body id bytes) in
     let none = ap (works room_schema Enforced 0 2 []) news ∙ one_off [] (stored_body id bytes) in
     let applies = one_step room_schema Enforced db written.0 (put_edit db given.0) none written.1 in
     let at : (tree : ℕ) → new.now.trees tree ≡ written.0 tree = λ tree. ap
     (λ (d : Database). d.trees tree) now ∙ ap (λ (t : Trees). t tree) trees in
-    record {
-      schema = ap (λ (d : Database). d.schema) now;
-      sound = w.sound;
-      puts = record {
-        fresh =
-            fresh_alone (db 2) (stored_body id bytes)
-            (subst (λ l. are_fresh (db 2) l ≡ true) news applies.fresh);
-        bodies = at 2 ∙ applies.rows ∙ ap (put_all (db 2)) news;
-        nodes = at 0 ∙ applies.tables.0 (λ e. let e' : 0 ≡ 2 = e in omega (arith, e'));
-        members = at 3 ∙ applies.tables.1.1.0 (λ e. let e' : 3 ≡ 2 = e in omega (arith, e'));
-        meta = at 5 ∙ applies.tables.1.1.1.0 (λ e. let e' : 5 ≡ 2 = e in omega (arith, e'));
-        audits = at 7 ∙ applies.tables.1.1.1.1.0 (λ e. let e' : 7 ≡ 2 = e in omega (arith, e'));
-      };
-      shown = w.shown;
-    }
+    grind (arith, nat_tests, fresh_alone)
 
 pub put_room : (id : ℤ) (bytes : List ℕ) (old new : State) → IsTrue old.in_transaction → (count : ℕ)
     → Executes put_text (Int id ∷ Blob bytes ∷ []) old new (Ok count) → IsRoom old.now

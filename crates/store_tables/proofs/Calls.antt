@@ -1,33 +1,23 @@
 -- What a read or a failure leaves of a connection.
-use Rattle.std.proofs.Common.{◌≡◌, ℕ, List, [], ◌++◌, Result, Ok, Err, None, Some, Option, inl, inr}
-use Rattle.std.proofs.Common.{◌⊎◌, map, filter, ap, ◌∙◌, false, IfOk, OnOk, Vec, Global, arith}
-use Rattle.std.proofs.lemmas.List.{append-nil, append_assoc}
-use Rattle.std.proofs.lemmas.List.Elements.{All-append}
+use Rattle.std.proofs.Common.{◌≡◌, ℕ, List, [], ◌++◌, Result, Ok, Err, Option, inl, inr, ◌⊎◌, map}
+use Rattle.std.proofs.Common.{filter, ap, ◌∙◌, false, IfOk, OnOk, Vec, Global, arith}
+use Rattle.std.proofs.lemmas.List.{append-nil, append_assoc, Elements.All-append}
+use Rattle.std.proofs.lemmas.Bool.Decides.{nat_tests}
 use Rattle.std.specs.List.Sorted.{IsPermutation}
-use Rattle.sqlite.specs.declared.types.Value.TheVariants.{Null}
-use Rattle.sqlite.specs.Order.{Row}
-use Rattle.sqlite.specs.Effect.{Database}
-use Rattle.sqlite.specs.Program.{overlay}
-use Rattle.sqlite.specs.Tree.{Trees}
-use Rattle.sqlite.specs.Term.{Term}
+use Rattle.sqlite.specs.{declared.{types.Value.TheVariants.Null, error.Error.Error}, Order.Row}
+use Rattle.sqlite.specs.{Effect.Database, Program.overlay, Tree.Trees, Term.Term}
+use Rattle.sqlite.specs.{Listing.{understood, reads_listing}, State.{State, HasCleanDisk}}
+use Rattle.sqlite.specs.State.{IsUnchanged, IsRolledBack, Shown, FailsToQuery, IsNotRun}
+use Rattle.sqlite.specs.State.{FailsToShow}
 use Rattle.sqlite_value.specs.declared.keys.Key.{Key}
-use Rattle.sqlite.specs.declared.error.Error.{Error}
-use Rattle.sqlite.specs.Listing.{understood, reads_listing}
-use Rattle.sqlite.specs.State.{State, HasCleanDisk, IsUnchanged, IsRolledBack, Shown, FailsToQuery}
-use Rattle.sqlite.specs.State.{IsNotRun, FailsToShow}
 use Rattle.sqlite_resolve.specs.declared.compiled.Compiled.{Compiled}
 use Rattle.sqlite_schema.specs.declared.command.Returning.{Returning}
 use Rattle.sqlite.proofs.Callers.{IsPlain, command_of, reads_as}
-use Rattle.store_tables.specs.Tables.{room_schema}
-use Rattle.store_tables.specs.Meaning.{IsRecord}
-use Rattle.store_tables.specs.Shown.{Retains, Stays}
-use Rattle.store_tables.proofs.Texts.{query_of, selects}
-use Rattle.store_tables.proofs.Answers.{passes, shows, selected}
-use Rattle.store_tables.proofs.Bare.{IsReading, shown_same}
+use Rattle.store_tables.specs.{Tables.room_schema, Meaning.IsRecord, Shown.{Retains, Stays}}
 use Rattle.store_tables.specs.Printed.{KeepsPrinted}
-use Rattle.store_tables.proofs.Printed.{keeps_on, keeps_itself}
+use Rattle.store_tables.proofs.{Texts.{query_of, selects}, Answers.{passes, shows, selected}}
+use Rattle.store_tables.proofs.{Bare.{IsReading, shown_same}, Printed.{keeps_on, keeps_itself}}
 use Rattle.store_tables.proofs.Within.{CommitsNothing, as_before, unchanged_within, undone_within}
-use Rattle.std.proofs.lemmas.Bool.Decides.{nat_tests}
 
 -- ---- what is retained
 
@@ -78,9 +68,7 @@ module _ (old new : State) (quiet : CommitsNothing old new) where
 not_shown : (sql : List ℕ) (c : Compiled) (full : Row) (old new : State) (e : Error)
     (r : Option Returning) → FailsToShow old new sql c full e r → IsUnchanged old new
     ⊎ IsRolledBack old new
-not_shown sql c full old new e None f = inl f.3
-not_shown sql c full old new e (Some what) (inl f) = inl f.1
-not_shown sql c full old new e (Some what) (inr f) = inr f.3
+not_shown sql c full old new e r f = grind (arith, nat_tests)
 
 -- a query that is refused or fails leaves all, or the transaction is undone
 pub failed_query : (sql : List ℕ) (params : Row) (old new : State) (e : Error)

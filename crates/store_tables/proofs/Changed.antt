@@ -1,9 +1,8 @@
 -- What came of a statement that had to change some rows.
-use Rattle.std.proofs.Common.{◌≡◌, ℕ, Result, Ok, Err, IfOk, arith}
+use Rattle.std.proofs.{Common.{◌≡◌, ℕ, Result, Ok, Err, IfOk, arith}, lemmas.Bool.Decides.nat_tests}
 use Rattle.sqlite.specs.declared.error.Error.{Error}
 use Rattle.room_rows.specs.declared.keep.KeepFault.{KeepFault}
 use Rattle.store_tables.specs.Seeing.{all_changed}
-use Rattle.std.proofs.lemmas.Bool.Decides.{nat_tests}
 
 -- what it did, where so many were changed
 pub of_all : (wanted : ℕ) (done : Result ℕ Error) (P : Type 0) (x : Unit {0})

@@ -10,9 +10,7 @@ use Rattle.std.proofs.lemmas.Bool.Decides.{nat_tests}
 pub cause_later : {X : Type 0} (r : Result X KeepFault) (first mid last : ℕ) (E : ℕ → Type 0)
     → first ≤ mid → mid ≤ last → IfErr r (HasCause mid last Nowhere)
     → IfErr r (HasCause first last E)
-cause_later (Ok x) first mid last E up on h = tt
-cause_later (Err e) first mid last E up on h =
-    later_cause first mid last e Nowhere E up on (λ id never. absurd never) h
+cause_later r first mid last E up on h = grind (arith, nat_tests, later_cause)
 
 -- no call takes back what was counted
 pub writes_rise : {X : Type 0} (count : ℕ) (r : Result X KeepFault) (before after : ℕ)

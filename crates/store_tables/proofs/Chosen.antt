@@ -1,11 +1,9 @@
 -- The number that a new row gets.
 use Rattle.std.proofs.Common.{◌≡◌, ℕ, pos, List, [], ◌∷◌, find, None, refl, false, arith}
-use Rattle.std.specs.List.{AllByRecursion}
-use Rattle.sqlite.specs.declared.types.Value.TheVariants.{Int}
-use Rattle.sqlite.specs.Order.{Row}
-use Rattle.sqlite.specs.Tree.{has_rowid}
-use Rattle.sqlite.specs.Edit.{is_taken}
 use Rattle.std.proofs.lemmas.Bool.Decides.{nat_tests}
+use Rattle.std.specs.List.{AllByRecursion}
+use Rattle.sqlite.specs.{declared.types.Value.TheVariants.Int, Order.Row, Tree.has_rowid}
+use Rattle.sqlite.specs.Edit.{is_taken}
 
 pub none_taken : (m : ℕ) (cells : Row) (rows : List Row)
     → is_taken rows (Int (pos m) ∷ cells) ≡ false

@@ -1,43 +1,26 @@
 -- What is left once bytes are taken out by their number.
 use Rattle.std.proofs.Common.{◌≡◌, ℕ, ℤ, List, [], ◌∷◌, length, map, filter, Ok, None, IsTrue, inl}
 use Rattle.std.proofs.Common.{inr, ◌⊎◌, sym, ap, subst, ◌∙◌, not, if◌then◌else◌, unwrap_or, arith}
-use Rattle.std.proofs.Common.{IsPermutation}
-use Rattle.std.proofs.lemmas.List.{length-map}
-use Rattle.std.proofs.lemmas.Bool.Decides.{nat_tests}
-use Rattle.sqlite.specs.declared.types.Value.TheVariants.{Null, Int}
-use Rattle.sqlite.specs.Command.TheVariants.{Delete}
-use Rattle.sqlite.specs.Does.{Tally, Does}
-use Rattle.sqlite.specs.Edit.{Edit, edit_of, edited, taken_by}
-use Rattle.sqlite.specs.Effect.{Database, IsDatabase}
-use Rattle.sqlite.specs.Listing.{understood}
-use Rattle.sqlite.specs.Order.{Row}
-use Rattle.sqlite.specs.Program.{overlay}
-use Rattle.sqlite.specs.Rowids.TheVariants.{Given}
-use Rattle.sqlite.specs.Rows.{Edited, Written}
-use Rattle.sqlite.specs.State.{State, mode_of, Executes, Shows}
-use Rattle.sqlite.specs.Term.{col}
-use Rattle.sqlite.specs.Tree.{Trees, has_rowid}
+use Rattle.std.proofs.{Common.IsPermutation, lemmas.{List.length-map, Bool.Decides.nat_tests}}
+use Rattle.sqlite.specs.{declared.types.Value.TheVariants.{Null, Int}, Command.TheVariants.Delete}
+use Rattle.sqlite.specs.{Does.{Tally, Does}, Edit.{Edit, edit_of, edited, taken_by}}
+use Rattle.sqlite.specs.{Effect.{Database, IsDatabase}, Listing.understood, Order.Row}
+use Rattle.sqlite.specs.{Program.overlay, Rowids.TheVariants.Given, Rows.{Edited, Written}}
+use Rattle.sqlite.specs.{State.{State, mode_of, Executes, Shows}, Term.col, Tree.{Trees, has_rowid}}
 use Rattle.sqlite.proofs.Callers.{one_permutation, one_step, runs_as, statement_of}
 use Rattle.sqlite_rules.specs.Calls.{ids_of}
 use Rattle.sqlite_schema.specs.declared.schema.Keys.TheVariants.{Enforced}
 use Rattle.sqlite_trees.specs.View.{IsShaped}
-use Rattle.sqlite_trees.specs.declared.store.Shape.TheVariants as Shape
 use Rattle.sqlite_trees.proofs.TreeLemmas.{IsShaped-filter}
-use Rattle.store_tables.specs.Shown.{IsRoom, KeepsAll, RemovesBytes}
-use Rattle.store_tables.specs.Tables.{room_schema}
-use Rattle.store_tables.proofs.Actions.{bodies_table}
-use Rattle.store_tables.proofs.Answers.{selected, shows}
-use Rattle.store_tables.proofs.Calls.{retains_by}
-use Rattle.store_tables.proofs.Executed.{WritesRoom}
-use Rattle.store_tables.proofs.Filled.{none_off}
-use Rattle.store_tables.proofs.Printed.{keeps_same}
+use Rattle.store_tables.specs.{Shown.{IsRoom, KeepsAll, RemovesBytes}, Tables.room_schema}
+use Rattle.store_tables.proofs.{Actions.bodies_table, Answers.{selected, shows}, Calls.retains_by}
+use Rattle.store_tables.proofs.{Executed.WritesRoom, Filled.none_off, Printed.keeps_same}
 use Rattle.store_tables.proofs.Rowids.{alone_in, at_most_one, has_found, of_each, only_one}
-use Rattle.store_tables.proofs.Rowids.{rowid_is}
-use Rattle.store_tables.proofs.Tests.{passes_id}
-use Rattle.store_tables.proofs.Texts.{clear_is, clear_text, matches_parameter, plain_clear}
-use Rattle.store_tables.proofs.Texts.{query_of}
-use Rattle.store_tables.proofs.Writes.{same_value, went}
+use Rattle.store_tables.proofs.{Rowids.rowid_is, Tests.passes_id, Texts.{clear_is, clear_text}}
+use Rattle.store_tables.proofs.{Texts.{matches_parameter, plain_clear, query_of}, Writes.same_value}
+use Rattle.store_tables.proofs.Writes.{went}
 use Rattle.room_entry.proofs.Facts.Lists.{filter_same}
+use Rattle.sqlite_trees.specs.declared.store.Shape.TheVariants as Shape
 
 -- the edit of a DELETE from `bodies`: the rows found go, and none is put in
 abbrev clear_edit : Trees → List Row → Edit

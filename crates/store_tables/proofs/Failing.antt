@@ -1,29 +1,20 @@
 -- Why a query of a room's tables has no answer.
 use Rattle.std.proofs.Common.{◌≡◌, ◌≤◌, ◌+◌, ◌-◌, ◌^◌, ◌⊎◌, ℕ, List, [], length, min, Result, Ok}
 use Rattle.std.proofs.Common.{Err, None, Some, Option, IsTrue, IsSome, IfErr, inl, inr, true, false}
-use Rattle.std.proofs.Common.{sym, ap, subst, ◌∙◌, arith, append-nil, true≢false}
-use Rattle.sqlite.specs.Clock.{timed}
-use Rattle.sqlite.specs.Effect.{Database, RefusesToRead}
-use Rattle.sqlite.specs.Listing.{understood, reads_listing, IsSourceOf}
-use Rattle.sqlite.specs.Order.{Row}
-use Rattle.sqlite.specs.State.{State, HasCleanDisk, FailsToQuery, FailsToShow, HasCause}
-use Rattle.sqlite.specs.State.{IsNoStatement, IsNotRun, IsTooLate, store_error}
-use Rattle.sqlite.specs.declared.error.Error.{Error}
+use Rattle.std.proofs.Common.{sym, ap, subst, ◌∙◌, arith, append-nil}
+use Rattle.std.proofs.lemmas.Bool.Decides.{nat_tests}
+use Rattle.sqlite.specs.{Clock.timed, Effect.{Database, RefusesToRead}, Listing.understood}
+use Rattle.sqlite.specs.{Listing.{reads_listing, IsSourceOf}, Order.Row, State.State}
+use Rattle.sqlite.specs.State.{HasCleanDisk, FailsToQuery, FailsToShow, HasCause, IsNoStatement}
+use Rattle.sqlite.specs.{State.{IsNotRun, IsTooLate, store_error}, declared.error.Error.Error}
 use Rattle.sqlite.proofs.Callers.{command_of}
 use Rattle.sqlite_resolve.specs.declared.compiled.Compiled.{Compiled}
 use Rattle.sqlite_resolve.specs.declared.error.CompileError.{CompileError}
-use Rattle.sqlite_schema.specs.declared.command.Command.{Command}
-use Rattle.sqlite_schema.specs.declared.command.Returning.{Returning}
+use Rattle.sqlite_schema.specs.declared.command.{Command.Command, Returning.Returning}
 use Rattle.sqlite_trees.specs.declared.error.StoreError.{StoreError}
-use Rattle.sqlite_trees.specs.declared.error.StoreError.TheVariants.{OutOfMemory, Io, Corrupt, Full}
-use Rattle.sqlite_trees.specs.declared.error.StoreError.TheVariants.{Broken, Unstorable}
-use Rattle.room_rows.specs.declared.keep.KeepFault.{KeepFault}
-use Rattle.room_rows.specs.declared.keep.KeepFault.TheVariants.{Store}
-use Rattle.store_tables.specs.Seeing.{fault_for, wants_memory}
-use Rattle.store_tables.specs.Tables.{room_schema}
-use Rattle.store_tables.specs.Trust.{IsTrusted}
-use Rattle.store_tables.specs.Failing.{FailsSql, HasFailed, HasRisen}
-use Rattle.std.proofs.lemmas.Bool.Decides.{nat_tests}
+use Rattle.room_rows.specs.declared.keep.KeepFault.{KeepFault, TheVariants.Store}
+use Rattle.store_tables.specs.{Seeing.{fault_for, wants_memory}, Tables.room_schema}
+use Rattle.store_tables.specs.{Trust.IsTrusted, Failing.{FailsSql, HasFailed, HasRisen}}
 
 -- the text is one statement with so many parameters, which shows no rows that it writes
 abbrev pub IsAsked : List ℕ → ℕ → Result Compiled CompileError → Type 0
@@ -40,12 +31,7 @@ Why old new e = (wants_memory e ≡ true) ⊎ HasFailed old new
 
 by_cause : (old new : State) (e : Error) (cause : StoreError) → e ≡ store_error cause
     → HasCause old new ⊥ cause → IsTrue old.is_open → Why old new e
-by_cause old new e OutOfMemory is has was = inl (ap wants_memory is)
-by_cause old new e Io is has was = inr (inl (rises old.faults new.faults has))
-by_cause old new e Corrupt is has was = inr (inl (rises old.faults new.faults has))
-by_cause old new e Full is has was = inr (inl (rises old.faults new.faults has))
-by_cause old new e Broken is has was = absurd (let shut : true ≡ false = sym was ∙ has in cc)
-by_cause old new e Unstorable is has was = absurd has
+by_cause old new e cause is has was = grind (arith, nat_tests, rises)
 
 never_some : (r : Option Returning) → r ≡ None → IsSome r → ⊥
 never_some None is some = absurd (let e : false ≡ true = some in cc)
@@ -62,15 +48,10 @@ module _ (sql : List ℕ) (params : Row) (command : Command)
       (e : Error) where
     asked_as : (r : Result Compiled CompileError) → understood old.now.schema sql ≡ r
         → IsAsked sql (length params) r
-    asked_as r known =
-        subst (IsAsked sql (length params)) (ap (λ s. understood s sql) (sym has) ∙ known) asked
+    asked_as r known = grind (arith, nat_tests)
 
     is_statement : IsNoStatement old sql params e → ⊥
-    is_statement (inl (fault, known, told)) = asked_as (Err fault) known
-    is_statement (inr (c, known, inl (longer, told))) = longer (asked_as (Ok c) known).0
-    is_statement (inr (c, known, inr (inl (differ, told)))) =
-        differ (sym (asked_as (Ok c) known).1)
-    is_statement (inr (c, known, inr (inr (some, told)))) = some (asked_as (Ok c) known).2
+    is_statement given = grind (arith, nat_tests, asked_as)
 
     not_run : IsNotRun old new sql params e → Why old new e
     unfolding IsNotRun
@@ -130,8 +111,4 @@ pub record Counts (old begun mid end : State) : Type 0 where
 
 pub around : (old begun mid end : State) → Counts old begun mid end → HasFailed begun mid
     → HasRisen old.faults end.faults
-around old begun mid end counts (inl (inl rose)) =
-    inl (omega (arith, counts.faults, counts.rise, rose))
-around old begun mid end counts (inl (inr full)) = inr (omega (arith, counts.faults, full))
-around old begun mid end counts (inr limited) =
-    absurd (true≢false (sym (subst IsSome counts.limit limited)))
+around old begun mid end counts given = grind (arith, nat_tests)

@@ -1,44 +1,28 @@
 -- What bytes that are written by their number leave.
 use Rattle.std.proofs.Common.{◌≡◌, ℕ, ℤ, List, [], ◌∷◌, length, map, filter, Ok, None, IsTrue, inl}
 use Rattle.std.proofs.Common.{inr, ◌⊎◌, refl, sym, ap, subst, ◌∙◌, not, if◌then◌else◌, unwrap_or}
-use Rattle.std.proofs.Common.{arith, IsPermutation}
-use Rattle.sqlite.specs.declared.types.Value.TheVariants.{Null, Int, Blob}
-use Rattle.sqlite.specs.Order.{Row}
-use Rattle.sqlite.specs.Cast.{cast_row}
-use Rattle.sqlite.specs.Command.TheVariants.{Update}
-use Rattle.sqlite.specs.Does.{Tally, Does}
-use Rattle.sqlite.specs.Edit.{Edit, edit_of, edited, taken_by}
-use Rattle.sqlite.specs.Effect.{Database, IsDatabase}
-use Rattle.sqlite.specs.Listing.{understood}
-use Rattle.sqlite.specs.Program.{overlay}
-use Rattle.sqlite.specs.Rowids.TheVariants.{Given}
-use Rattle.sqlite.specs.Rows.{Edited, Written}
-use Rattle.sqlite.specs.State.{State, mode_of, Executes, Shows}
-use Rattle.sqlite.specs.Tree.{Trees, has_rowid, without_rowid, put_row}
+use Rattle.std.proofs.{Common.{arith, IsPermutation}, lemmas.Bool.Decides.nat_tests}
+use Rattle.sqlite.specs.{declared.types.Value.TheVariants.{Null, Int, Blob}, Order.Row}
+use Rattle.sqlite.specs.{Cast.cast_row, Command.TheVariants.Update, Does.{Tally, Does}, Edit.Edit}
+use Rattle.sqlite.specs.{Edit.{edit_of, edited, taken_by}, Effect.{Database, IsDatabase}}
+use Rattle.sqlite.specs.{Listing.understood, Program.overlay, Rowids.TheVariants.Given, Rows.Edited}
+use Rattle.sqlite.specs.{Rows.Written, State.{State, mode_of, Executes, Shows}, Tree.Trees}
+use Rattle.sqlite.specs.Tree.{has_rowid, without_rowid, put_row}
 use Rattle.sqlite.proofs.Callers.{one_permutation, one_step, runs_as, statement_of}
-use Rattle.sqlite_rules.specs.Action.{works}
-use Rattle.sqlite_rules.specs.Calls.{ids_of}
+use Rattle.sqlite_rules.specs.{Action.works, Calls.ids_of}
 use Rattle.sqlite_schema.specs.declared.schema.Keys.TheVariants.{Enforced}
 use Rattle.sqlite_tied.specs.Compute.{everything}
 use Rattle.sqlite_trees.specs.View.{IsShaped}
-use Rattle.sqlite_trees.specs.declared.store.Shape.TheVariants as Shape
 use Rattle.sqlite_trees.proofs.TreeLemmas.{IsShaped-filter, IsShaped-put_row}
-use Rattle.store_tables.specs.Shown.{Fills, IsRoom, KeepsAll, stored_body}
-use Rattle.store_tables.specs.Tables.{room_schema}
-use Rattle.store_tables.proofs.Actions.{bodies_table}
-use Rattle.store_tables.proofs.Answers.{selected, shows}
-use Rattle.store_tables.proofs.Calls.{retains_by}
-use Rattle.store_tables.proofs.Printed.{keeps_same}
-use Rattle.store_tables.proofs.Executed.{WritesRoom}
-use Rattle.store_tables.proofs.Rowids.{alone_in, at_most_one, has_found, of_each, only_one}
-use Rattle.store_tables.proofs.Rowids.{rowid_is}
-use Rattle.store_tables.proofs.Tests.{passes_id}
-use Rattle.store_tables.proofs.Texts.{fill_is, fill_terms, fill_text, matches_parameter, plain_fill}
-use Rattle.store_tables.proofs.Texts.{query_of}
-use Rattle.store_tables.proofs.Updates.{cast_int, cast_null}
-use Rattle.store_tables.proofs.Writes.{same_value, went}
+use Rattle.store_tables.specs.{Shown.{Fills, IsRoom, KeepsAll, stored_body}, Tables.room_schema}
+use Rattle.store_tables.proofs.{Actions.bodies_table, Answers.{selected, shows}, Calls.retains_by}
+use Rattle.store_tables.proofs.{Printed.keeps_same, Executed.WritesRoom, Rowids.alone_in}
+use Rattle.store_tables.proofs.Rowids.{at_most_one, has_found, of_each, only_one, rowid_is}
+use Rattle.store_tables.proofs.{Tests.passes_id, Texts.{fill_is, fill_terms, fill_text}}
+use Rattle.store_tables.proofs.{Texts.{matches_parameter, plain_fill, query_of}, Updates.cast_int}
+use Rattle.store_tables.proofs.{Updates.cast_null, Writes.{same_value, went}}
 use Rattle.room_entry.proofs.Facts.Lists.{filter_same}
-use Rattle.std.proofs.lemmas.Bool.Decides.{nat_tests}
+use Rattle.sqlite_trees.specs.declared.store.Shape.TheVariants as Shape
 
 pub cast_body : (id : ℤ) (bytes : List ℕ)
     → cast_row bodies_table (stored_body id bytes) ≡ stored_body id bytes

@@ -1,21 +1,18 @@
 -- What the rows mean once bytes are written anew.
-use Rattle.std.proofs.Common.{◌≡◌, ◌<◌, ℕ, ℤ, pos, List, [], ◌∷◌, Some, refl, sym, ap, ◌∙◌, not, arith}
+use Rattle.std.proofs.Common.{◌≡◌, ◌<◌, ℕ, ℤ, pos, List, [], ◌∷◌, Some, refl, sym, ap, ◌∙◌, not}
+use Rattle.std.proofs.{Common.arith, lemmas.Bool.Decides.nat_tests}
 use Rattle.std.specs.List.{filter_map}
-use Rattle.sqlite.specs.declared.types.Value.TheVariants.{Blob}
-use Rattle.sqlite.specs.Effect.{Database}
-use Rattle.sqlite.specs.Tree.{Trees, has_rowid, put_row, without_rowid, IsTable}
-use Rattle.sqlite_trees.specs.declared.store.Shape.TheVariants as Shape
+use Rattle.sqlite.specs.{declared.types.Value.TheVariants.Blob, Effect.Database, Tree.Trees}
+use Rattle.sqlite.specs.Tree.{has_rowid, put_row, without_rowid, IsTable}
 use Rattle.sqlite_trees.proofs.TreeLemmas.{IsShaped-filter}
 use Rattle.room_rows.specs.Content.{put_body}
-use Rattle.store_tables.specs.Filed.{bodies_rise, body_rowid}
-use Rattle.store_tables.specs.Meaning.{audit_in, bodies_of, body_in, body_row, nodes_of, pairs_of}
-use Rattle.store_tables.specs.Meaning.{unread_of}
-use Rattle.store_tables.specs.RoomRows.{number_in-low}
-use Rattle.store_tables.specs.Shown.{Bodies, Fills, IsRoom, RemovesBytes, stored_body}
-use Rattle.store_tables.specs.Trust.{HasBody}
-use Rattle.store_tables.proofs.Put.{others, put_again, put_by, put_seen}
-use Rattle.store_tables.proofs.Removed.{read_without, same_rows}
-use Rattle.std.proofs.lemmas.Bool.Decides.{nat_tests}
+use Rattle.store_tables.specs.{Filed.{bodies_rise, body_rowid}, Meaning.{audit_in, bodies_of}}
+use Rattle.store_tables.specs.Meaning.{body_in, body_row, nodes_of, pairs_of, unread_of}
+use Rattle.store_tables.specs.{RoomRows.number_in-low, Shown.{Bodies, Fills, IsRoom, RemovesBytes}}
+use Rattle.store_tables.specs.{Shown.stored_body, Trust.HasBody}
+use Rattle.store_tables.proofs.{Put.{others, put_again, put_by, put_seen}, Removed.read_without}
+use Rattle.store_tables.proofs.Removed.{same_rows}
+use Rattle.sqlite_trees.specs.declared.store.Shape.TheVariants as Shape
 
 abbrev pub Bytes : Type 0
 Bytes = ℕ × List ℕ

@@ -1,54 +1,34 @@
 -- The groups of a user are what the rows of that user, in order of group, are read as.
 use Rattle.std.proofs.Common.{◌≡◌, ℕ, List, [], ◌∷◌, map, filter, None, Some, Option, refl, sym, ap}
 use Rattle.std.proofs.Common.{◌∙◌, true, false, Bool, cond, IsTrue, arith, Ordering, Less, Equal}
-use Rattle.std.proofs.Common.{Greater, is_gt, is_lt, is_eq, nat_cmp, true≢false}
-use Rattle.std.specs.Prelude.{option_map, option_and_then, if◌then◌else◌}
-use Rattle.std.specs.List.{AllByRecursion, filter_map, cons_option}
-use Rattle.std.specs.List.Sorted.{IsStrictlySortedBy}
-use Rattle.std.specs.Ordering.{ordering_reverse, ordering_then}
-use Rattle.std.specs.Cmp.Lexicographic.{slice_cmp}
-use Rattle.std.proofs.lemmas.Bool.{cond-true, cond-false, false≢true}
-use Rattle.std.proofs.lemmas.Cmp.{on_total}
-use Rattle.std.proofs.lemmas.Map.Text.{is_eq-slice_cmp}
-use Rattle.std.proofs.lemmas.Slice.Eq.{bytes_eq-Decides}
-use Rattle.sqlite.specs.declared.types.Value.{Value}
-use Rattle.sqlite.specs.declared.types.Value.TheVariants.{Null, Int, Real, Text, Blob}
-use Rattle.sqlite.specs.Effect.{Database}
-use Rattle.sqlite.specs.Order.{Row, column, value_cmp}
+use Rattle.std.proofs.{Common.{Greater, is_gt, is_lt, is_eq, nat_cmp}, lemmas.Bool.cond-true}
+use Rattle.std.proofs.lemmas.{Bool.{cond-false, false≢true, Decides.nat_tests}, Cmp.on_total}
+use Rattle.std.proofs.lemmas.{Map.Text.is_eq-slice_cmp, Slice.Eq.bytes_eq-Decides}
+use Rattle.std.specs.{Prelude.{option_map, option_and_then, if◌then◌else◌}, List.AllByRecursion}
+use Rattle.std.specs.List.{filter_map, cons_option, Sorted.IsStrictlySortedBy}
+use Rattle.std.specs.{Ordering.{ordering_reverse, ordering_then}, Cmp.Lexicographic.slice_cmp}
+use Rattle.sqlite.specs.{declared.types.Value.{Value, TheVariants.Text}, Effect.Database, Order.Row}
+use Rattle.sqlite.specs.Order.{column, value_cmp}
 use Rattle.sqlite_keyed.specs.Lists.{insert_sorted, sort_by}
 use Rattle.sqlite_trees.specs.Tree.{IsAscending}
 use Rattle.sqlite_value.proofs.OrderLemmas.{value_cmp-Null, value_cmp-Text, value_cmp-apart}
 use Rattle.sqlite_value.proofs.OrderLemmas.{value_cmp_total}
-use Rattle.room_entry.specs.Utf8.{is_utf8}
-use Rattle.room_entry.specs.Names.{is_name}
-use Rattle.room_entry.specs.Pieces.{same_text}
-use Rattle.room_rows.specs.Content.{put_pair, set_of}
-use Rattle.room_rows.specs.Keep.{AreGroupsOf}
-use Rattle.store_tables.specs.Meaning.{name_in, name_of_text, pair_in, rows_of}
-use Rattle.store_tables.specs.Paired.{Pair, all_filter, all_past, before, before_is, pair_cmp}
-use Rattle.store_tables.specs.Paired.{put_first, total}
-use Rattle.store_tables.specs.RoomRows.{set_sorted}
-use Rattle.store_tables.specs.Seeing.{names_seen}
-use Rattle.store_tables.specs.Shown.{is_user_row}
-use Rattle.store_tables.specs.Statements.{HasGroups, by_column, shown_group}
-use Rattle.store_tables.proofs.Apart.{kept_passes}
-use Rattle.store_tables.proofs.Named.{filter_read}
-use Rattle.store_tables.proofs.Ordered.{HasNoTies}
+use Rattle.room_entry.specs.{Utf8.is_utf8, Names.is_name, Pieces.same_text}
+use Rattle.room_rows.specs.{Content.{put_pair, set_of}, Keep.AreGroupsOf}
+use Rattle.store_tables.specs.{Meaning.{name_in, name_of_text, pair_in, rows_of}, Paired.Pair}
+use Rattle.store_tables.specs.Paired.{all_filter, all_past, before, before_is, pair_cmp, put_first}
+use Rattle.store_tables.specs.{Paired.total, RoomRows.set_sorted, Seeing.names_seen}
+use Rattle.store_tables.specs.{Shown.is_user_row, Statements.{HasGroups, by_column, shown_group}}
+use Rattle.store_tables.proofs.{Apart.kept_passes, Named.filter_read, Ordered.HasNoTies}
 use Rattle.store_tables.proofs.Rowids.{each_of}
 
 -- ---- to pass a test and to stand in order can change places
 
 pub equal_pairs : (p o : Pair) → pair_cmp o p ≡ Equal → o ≡ p
-equal_pairs p o same =
-    let parts = both (slice_cmp nat_cmp o.0 p.0) (slice_cmp nat_cmp o.1 p.1) same in
-    let a : o.0 ≡ p.0 = same_list o.0 p.0 parts.0 in
-    let b : o.1 ≡ p.1 = same_list o.1 p.1 parts.1 in
-    λ i. (a i, b i)
+equal_pairs p o same = grind (arith, nat_tests, both, same_list)
   where
     both : (x y : Ordering) → ordering_then x y ≡ Equal → (x ≡ Equal) × (y ≡ Equal)
-    both Less y e = absurd (true≢false (sym (ap is_eq e)))
-    both Equal y e = (refl, e)
-    both Greater y e = absurd (true≢false (sym (ap is_eq e)))
+    both x y e = grind (arith, nat_tests)
 
     same_list : (s t : List ℕ) → slice_cmp nat_cmp s t ≡ Equal → s ≡ t
     same_list s t e = (bytes_eq-Decides s t).0 (sym (is_eq-slice_cmp s t) ∙ ap is_eq e)
@@ -70,24 +50,11 @@ module _ (q : Pair → Bool) where
   less_step : (p o : Pair) (os : List Pair) (b c : Bool) → pair_cmp o p ≡ Less → q o ≡ b → q p ≡ c
       → filter q (put_pair p os) ≡ Put c p (filter q os)
       → filter q (o ∷ put_pair p os) ≡ Put c p (filter q (o ∷ os))
-  less_step p o os true true less is has more =
-      cond-true _ (o ∷ filter q (put_pair p os)) _ is ∙ ap (λ l. o ∷ l) more
-      ∙ sym (put_behind p o (filter q os) less)
-      ∙ ap (put_pair p) (sym (cond-true _ (o ∷ filter q os) _ is))
-  less_step p o os true false less is has more =
-      cond-true _ (o ∷ filter q (put_pair p os)) _ is ∙ ap (λ l. o ∷ l) more
-      ∙ sym (cond-true _ (o ∷ filter q os) _ is)
-  less_step p o os false c less is has more =
-      cond-false _ (o ∷ filter q (put_pair p os)) _ is ∙ more
-      ∙ ap (Put c p) (sym (cond-false _ (o ∷ filter q os) _ is))
+  less_step p o os b c less is has more = grind (arith, nat_tests, put_behind)
 
   there_step : (p o : Pair) (os : List Pair) (c : Bool) → pair_cmp o p ≡ Equal → q p ≡ c
       → filter q (o ∷ os) ≡ Put c p (filter q (o ∷ os))
-  there_step p o os false same has = refl
-  there_step p o os true same has =
-      let is : q o ≡ true = ap q (equal_pairs p o same) ∙ has in
-      cond-true _ (o ∷ filter q os) _ is ∙ sym (put_there p o (filter q os) same)
-      ∙ ap (put_pair p) (sym (cond-true _ (o ∷ filter q os) _ is))
+  there_step p o os c same has = grind (arith, nat_tests, equal_pairs, put_there)
 
   first_step : (p : Pair) (l : List Pair) (c : Bool) → q p ≡ c
       → AllByRecursion (λ y. pair_cmp p y ≡ Less) l → filter q (p ∷ l) ≡ Put c p (filter q l)
@@ -104,8 +71,7 @@ module _ (q : Pair → Bool) where
     where
       by : (x : Ordering) → pair_cmp o p ≡ x → filter q (put_pair p os) ≡ Put (q p) p (filter q os)
           → filter q (put_pair p (o ∷ os)) ≡ Put (q p) p (filter q (o ∷ os))
-      by Less e more =
-          ap (filter q) (put_behind p o os e) ∙ less_step p o os (q o) (q p) e refl refl more
+      by Less e more = grind (arith, nat_tests, less_step, put_behind)
       by Equal e more = ap (filter q) (put_there p o os e) ∙ there_step p o os (q p) e refl
       by Greater e more =
           let up : pair_cmp p o ≡ Less = total.antisymm p o ∙ ap ordering_reverse e in
@@ -142,8 +108,7 @@ all_inserted P new (r ∷ rows) here all =
 all_sorted : (P : Row → Type 0) (rows : List Row) → AllByRecursion P rows
     → AllByRecursion P (sort_by by_group rows)
 all_sorted P [] all = tt
-all_sorted P (r ∷ rows) all =
-    all_inserted P r (sort_by by_group rows) all.0 (all_sorted P rows all.1)
+all_sorted P (r ∷ rows) all = search (all_inserted, all_sorted P rows all.1)
 
 abbrev Rise : List Row → Type 0
 Rise = IsAscending (λ a b. by_group a b ≡ Less)
@@ -167,19 +132,12 @@ rises_inserted new (r ∷ rows) apart up =
   where
     by : (o : Ordering) → by_group new r ≡ o → Rise (insert_sorted by_group new rows)
         → Rise (cond (is_gt o) (r ∷ insert_sorted by_group new rows) (new ∷ r ∷ rows))
-    by Less e more = ((e, behind new r rows e up.0), up)
-    by Equal e more = absurd (false≢true (sym apart.0 ∙ ap is_eq e))
-    by Greater e more = (
-      all_inserted (λ b. by_group r b ≡ Less) new rows
-          (group_total.antisymm r new ∙ ap ordering_reverse e) up.0,
-      more,
-    )
+    by o e more = grind (arith, nat_tests, all_inserted, behind, group_total)
 
 rises_sorted : (rows : List Row) → HasNoTies by_group rows → Rise (sort_by by_group rows)
 rises_sorted [] apart = tt
 rises_sorted (r ∷ rows) apart =
-    rises_inserted r (sort_by by_group rows)
-    (all_sorted (λ b. is_eq (by_group r b) ≡ false) rows apart.0) (rises_sorted rows apart.1)
+    search (all_sorted, is_eq, rises_inserted, rises_sorted rows apart.1)
 
 -- ---- what they are read as
 
@@ -194,22 +152,15 @@ name_text (Text s) t is = by (is_utf8 s) is
         → Text s ≡ Text t
     by true e = named (is_name s) e
     by false e = absurd (let z = e in cc)
-name_text Null t is = absurd (let e = is in cc)
-name_text (Int z) t is = absurd (let e = is in cc)
-name_text (Real x) t is = absurd (let e = is in cc)
-name_text (Blob b) t is = absurd (let e = is in cc)
+name_text _ t is = absurd (let e = is in cc)
 
 pair_group : (g u : Option (List ℕ)) (p : Pair)
     → option_and_then (λ a. option_map (λ b. (a, b)) u) g ≡ Some p → g ≡ Some p.0
-pair_group None u p is = absurd (let e = is in cc)
-pair_group (Some g) None p is = absurd (let e = is in cc)
-pair_group (Some g) (Some u) p is = let same : (g, u) ≡ p = cc in ap (λ (x : Pair). Some x.0) same
+pair_group g u p is = grind (arith, nat_tests)
 
 pair_user : (g u : Option (List ℕ)) (p : Pair)
     → option_and_then (λ a. option_map (λ b. (a, b)) u) g ≡ Some p → u ≡ Some p.1
-pair_user None u p is = absurd (let e = is in cc)
-pair_user (Some g) None p is = absurd (let e = is in cc)
-pair_user (Some g) (Some u) p is = let same : (g, u) ≡ p = cc in ap (λ (x : Pair). Some x.1) same
+pair_user g u p is = grind (arith, nat_tests)
 
 less_pairs : (r o : Row) (p m : Pair) → pair_in r ≡ Some p → pair_in o ≡ Some m
     → by_group r o ≡ Less → pair_cmp p m ≡ Less
@@ -218,9 +169,7 @@ less_pairs r o p m is at less =
     (pair_group (name_in (column r 1)) (name_in (column r 2)) p is) in
     let b : column o 1 ≡ Text m.0 = name_text (column o 1) m.0
     (pair_group (name_in (column o 1)) (name_in (column o 2)) m at) in
-    let groups : slice_cmp nat_cmp p.0 m.0 ≡ Less =
-    sym (ap (λ v. value_cmp v (column o 1)) a ∙ ap (value_cmp (Text p.0)) b
-    ∙ value_cmp-Text p.0 m.0) ∙ less in
+    let groups : slice_cmp nat_cmp p.0 m.0 ≡ Less = cc (value_cmp-Text p.0 m.0, b, a, less) in
     ap (λ x. ordering_then x (slice_cmp nat_cmp p.1 m.1)) groups
 
 all_less : (r : Row) (p : Pair) → pair_in r ≡ Some p → (rows : List Row)
@@ -246,22 +195,22 @@ insert_pair r p is (o ∷ rows) apart up =
         → filter_map pair_in (insert_sorted by_group r rows) ≡ put_pair p (filter_map pair_in rows)
         → cons_option x (filter_map pair_in (insert_sorted by_group r rows))
         ≡ put_pair p (cons_option x (filter_map pair_in rows))
-    later None at less more = more
-    later (Some m) at less more =
-        ap (λ l. m ∷ l) more
-        ∙ sym (put_behind p m (filter_map pair_in rows) (less_pairs o r m p at is less))
+    later x at less more = grind (arith, nat_tests, less_pairs, put_behind)
 
     by : (x : Ordering) → by_group r o ≡ x
         → filter_map pair_in (insert_sorted by_group r rows) ≡ put_pair p (filter_map pair_in rows)
         → filter_map pair_in (cond (is_gt x) (o ∷ insert_sorted by_group r rows) (r ∷ o ∷ rows))
         ≡ put_pair p (filter_map pair_in (o ∷ rows))
     by Less e more =
-        ap (λ x. cons_option x (filter_map pair_in (o ∷ rows))) is
-        ∙ sym (put_first p (filter_map pair_in (o ∷ rows))
-        (all_less r p is (o ∷ rows) (e, behind r o rows e up.0)))
+        cc (
+          is,
+          put_first p (filter_map pair_in (o ∷ rows)) (all_less r p is (o ∷ rows) (
+            e,
+            behind r o rows e up.0,
+          )),
+        )
     by Equal e more = absurd (false≢true (sym apart.0 ∙ ap is_eq e))
-    by Greater e more =
-        later (pair_in o) refl (group_total.antisymm o r ∙ ap ordering_reverse e) more
+    by Greater e more = grind (arith, nat_tests, group_total, later)
 
 skip_pair : (r : Row) → pair_in r ≡ None → (rows : List Row)
     → filter_map pair_in (insert_sorted by_group r rows) ≡ filter_map pair_in rows
@@ -283,11 +232,7 @@ set_of_rows (r ∷ rows) apart = by (pair_in r) refl (set_of_rows rows apart.1)
         → set_of (filter_map pair_in rows) ≡ filter_map pair_in (sort_by by_group rows)
         → set_of (cons_option x (filter_map pair_in rows))
         ≡ filter_map pair_in (insert_sorted by_group r (sort_by by_group rows))
-    by None is more = more ∙ sym (skip_pair r is (sort_by by_group rows))
-    by (Some p) is more =
-        ap (put_pair p) more
-        ∙ sym (insert_pair r p is (sort_by by_group rows)
-        (all_sorted (λ b. is_eq (by_group r b) ≡ false) rows apart.0) (rises_sorted rows apart.1))
+    by x is more = grind (arith, nat_tests, all_sorted, insert_pair, rises_sorted, skip_pair)
 
 names_shown : (rows : List Row)
     → names_seen (map shown_group rows) ≡ filter_map (λ r. name_in (column r 1)) rows
@@ -302,37 +247,22 @@ module _ (user : List ℕ) (named : IsTrue (is_name user)) (text : IsTrue (is_ut
   IsOf r = column r 2 ≡ Text user
 
   user_is : (v : Value) → is_eq (value_cmp v (Text user)) ≡ true → v ≡ Text user
-  user_is (Text s) same =
-      ap Text
-      ((bytes_eq-Decides s user).0
-      (sym (ap is_eq (value_cmp-Text s user) ∙ is_eq-slice_cmp s user) ∙ same))
-  user_is Null same = absurd (false≢true (sym (ap is_eq (value_cmp-Null (Text user))) ∙ same))
-  user_is (Int z) same =
-      absurd
-      (false≢true
-      (sym (ap is_eq (value_cmp-apart (Int z) (Text user)
-      (λ e. let e' : 1 ≡ 2 = e in omega (arith, e')))) ∙ same))
-  user_is (Real x) same =
-      absurd
-      (false≢true
-      (sym (ap is_eq (value_cmp-apart (Real x) (Text user)
-      (λ e. let e' : 1 ≡ 2 = e in omega (arith, e')))) ∙ same))
-  user_is (Blob b) same =
-      absurd
-      (false≢true
-      (sym (ap is_eq (value_cmp-apart (Blob b) (Text user)
-      (λ e. let e' : 3 ≡ 2 = e in omega (arith, e')))) ∙ same))
+  user_is v same =
+      grind (
+        arith,
+        nat_tests,
+        bytes_eq-Decides,
+        is_eq-slice_cmp,
+        value_cmp-Null,
+        value_cmp-Text,
+        value_cmp-apart,
+      )
 
   user_named : (v : Value) → v ≡ Text user → name_in v ≡ Some user
-  user_named v is =
-      ap name_in is ∙ ap (option_and_then name_of_text)
-      (cond-true (is_utf8 user) (Some user) None text)
-      ∙ cond-true (is_name user) (Some user) None named
+  user_named v is = grind (arith, nat_tests)
 
   pair_is : (r : Row) → IsOf r → pair_in r ≡ option_map (λ g. (g, user)) (group r)
-  pair_is r is =
-      ap (λ o. option_and_then {U = Pair} (λ a. option_map (λ b. (a, b)) o) (group r))
-      (user_named (column r 2) is) ∙ by (group r)
+  pair_is r is = search (by, user_named)
     where
       by : (o : Option (List ℕ))
           → option_and_then {U = Pair} (λ a. option_map (λ b. (a, b)) (Some user)) o
@@ -341,17 +271,12 @@ module _ (user : List ℕ) (named : IsTrue (is_name user)) (text : IsTrue (is_ut
       by (Some g) = refl
 
   agrees : (r : Row) (p : Pair) → pair_in r ≡ Some p → same_text p.1 user ≡ is_user_row user r
-  agrees r p is =
-      let t = name_text (column r 2) p.1 (pair_user (group r) (name_in (column r 2)) p is) in
-      sym (ap (λ v. is_eq (value_cmp v (Text user))) t ∙ ap is_eq (value_cmp-Text p.1 user)
-      ∙ is_eq-slice_cmp p.1 user)
+  agrees r p is = grind (arith, nat_tests, is_eq-slice_cmp, name_text, pair_user, value_cmp-Text)
 
   groups_read : (rows : List Row) → AllByRecursion IsOf rows
       → map (λ (p : Pair). p.0) (filter_map pair_in rows) ≡ filter_map group rows
   groups_read [] all = refl
-  groups_read (r ∷ rows) all =
-      ap (λ o. map (λ (p : Pair). p.0) (cons_option o (filter_map pair_in rows))) (pair_is r all.0)
-      ∙ by (group r) (groups_read rows all.1)
+  groups_read (r ∷ rows) all = search (by, pair_is, groups_read rows all.1)
     where
       by : (o : Option (List ℕ))
           → map (λ (p : Pair). p.0) (filter_map pair_in rows) ≡ filter_map group rows

@@ -1,44 +1,32 @@
 -- What a new row leaves.
-use Rattle.std.proofs.Common.{◌≡◌, ℕ, List, [], ◌∷◌, Ok, None, IsTrue, inl, refl, sym, ap, subst}
-use Rattle.std.proofs.Common.{◌∙◌, true, false, if◌then◌else◌, unwrap_or, arith}
-use Rattle.sqlite.specs.declared.types.Value.TheVariants.{Null}
-use Rattle.sqlite.specs.Order.{Row}
-use Rattle.sqlite.specs.Cast.{cast_row}
-use Rattle.sqlite.specs.Tree.{Trees, rowid, put_row}
-use Rattle.sqlite.specs.Command.TheVariants.{Insert}
-use Rattle.sqlite.specs.Source.TheVariants.{Values}
-use Rattle.sqlite.specs.Edit.{Edit, edit_of, taken_by, edited, next_rowid, is_taken, are_fresh}
-use Rattle.sqlite.specs.Rowids.TheVariants.{Chosen}
+use Rattle.std.proofs.Common.{◌≡◌, ℕ, List, [], ◌∷◌, Ok, None, IsTrue, refl, sym, ap, subst, ◌∙◌}
+use Rattle.std.proofs.{Common.{true, false, if◌then◌else◌, arith}, lemmas.Bool.Decides.nat_tests}
+use Rattle.sqlite.specs.{declared.types.Value.TheVariants.Null, Order.Row, Cast.cast_row}
+use Rattle.sqlite.specs.{Tree.{Trees, rowid, put_row}, Command.TheVariants.Insert}
+use Rattle.sqlite.specs.{Source.TheVariants.Values, Edit.{Edit, edit_of, taken_by, edited}}
+use Rattle.sqlite.specs.{Edit.{next_rowid, is_taken, are_fresh}, Rowids.TheVariants.Chosen}
+use Rattle.sqlite.specs.{Does.{Tally, Does}, Rows.Written, Effect.{Database, IsDatabase}}
+use Rattle.sqlite.specs.{Listing.understood, State.{State, mode_of, Executes, Shows}}
 use Rattle.sqlite_schema.specs.declared.schema.Keys.TheVariants.{Enforced}
-use Rattle.sqlite.specs.Does.{Tally, Does}
-use Rattle.sqlite.specs.Rows.{Edited, Written}
-use Rattle.sqlite.specs.Effect.{Database, IsDatabase}
-use Rattle.sqlite.specs.Listing.{understood}
-use Rattle.sqlite.specs.State.{State, mode_of, Executes, Shows}
 use Rattle.sqlite.proofs.Callers.{runs_as, statement_of, one_step}
 use Rattle.sqlite_trees.specs.View.{IsShaped}
-use Rattle.sqlite_trees.specs.declared.store.Shape.TheVariants as Shape
 use Rattle.sqlite_trees.proofs.TreeLemmas.{IsShaped-put_row}
 use Rattle.sqlite_rules.specs.Action.{works}
 use Rattle.sqlite_tied.specs.Compute.{everything}
-use Rattle.store_tables.specs.Tables.{room_schema}
-use Rattle.store_tables.specs.Shown.{IsRoom, AddsRow, stored_node}
-use Rattle.store_tables.proofs.Texts.{insert_text, insert_is, insert_terms, plain_texts}
-use Rattle.store_tables.proofs.Writes.{went, same_value, nodes_table}
+use Rattle.store_tables.specs.{Tables.room_schema, Shown.{IsRoom, AddsRow, stored_node}}
 use Rattle.store_tables.specs.Printed.{IsCanonical, KeepsPrinted}
-use Rattle.store_tables.proofs.Printed.{by_cell, keeps_itself, keeps_more, printed_text}
-use Rattle.store_tables.proofs.Calls.{retains_by}
-use Rattle.store_tables.proofs.Executed.{WritesRoom}
-use Rattle.store_tables.proofs.Updates.{Columns, values, cast_null, cast_int}
-use Rattle.std.proofs.lemmas.Bool.Decides.{nat_tests}
+use Rattle.store_tables.proofs.Texts.{insert_text, insert_is, insert_terms, plain_texts}
+use Rattle.store_tables.proofs.{Writes.{went, same_value, nodes_table}, Printed.by_cell}
+use Rattle.store_tables.proofs.{Printed.{keeps_itself, keeps_more, printed_text}, Calls.retains_by}
+use Rattle.store_tables.proofs.{Executed.WritesRoom, Updates.{Columns, values, cast_null, cast_int}}
+use Rattle.sqlite_trees.specs.declared.store.Shape.TheVariants as Shape
 
 abbrev insert_edit : Trees → List Row → Edit
 insert_edit db rows = edit_of db nodes_table [] Chosen 0 rows
 
 -- the new row before its number is chosen
 cast_new : (c : Columns) → cast_row nodes_table (Null ∷ Null ∷ values c) ≡ Null ∷ Null ∷ values c
-cast_new c =
-    rw (cast_null, c.whole, cast_int c.kind, cast_int c.dacl_flags, cast_int c.sacl_flags) refl
+cast_new c = search (cast_int, cast_null)
 
 -- where one row is put in and its number is fresh, no row of the table has that number
 pub fresh_alone : (rows : List Row) (r : Row) → are_fresh rows (r ∷ []) ≡ true
@@ -82,8 +70,7 @@ inserted c old new count has h =
     let trees : done.0.trees ≡ written.0 = ap (λ (it : Written). it.trees) wrote
     ∙ same_value counted.1 in
     let source : given.0 ≡ (Null ∷ Null ∷ values c) ∷ [] = given.1.1 in
-    let news : (insert_edit db given.0).news ≡ stored_node (next_rowid (db 0)) (values c) ∷ [] =
-    ap (λ l. (insert_edit db l).news) source
+    let news = ap (λ l. (insert_edit db l).news) source
     ∙ ap (λ r. Rattle.sqlite.specs.Edit.numbered Chosen (db 0) (r ∷ [])) (cast_new c) in
     let none = ap (works room_schema Enforced 0 0 []) news
     ∙ new_sets_off_nothing (stored_node (next_rowid (db 0)) (values c)) in
@@ -91,26 +78,7 @@ inserted c old new count has h =
     (insert_edit db given.0) none written.1 in
     let at : (tree : ℕ) → new.now.trees tree ≡ written.0 tree = λ tree. ap
     (λ (d : Database). d.trees tree) now ∙ ap (λ (t : Trees). t tree) trees in
-    record {
-      schema = ap (λ (d : Database). d.schema) now;
-      sound = w.sound;
-      adds = record {
-        number = refl;
-        fresh =
-            fresh_alone (db 0) (stored_node (next_rowid (db 0)) (values c))
-            (subst (λ l. are_fresh (db 0) l ≡ true) news applies.fresh);
-        nodes = at 0 ∙ applies.rows ∙ ap (Rattle.sqlite.specs.Edit.put_all (db 0)) news;
-        bodies = at 2 ∙ applies.tables.1.0 (λ e. let e' : 2 ≡ 0 = e in omega (arith, e'));
-        members = at 3 ∙ applies.tables.1.1.0 (λ e. let e' : 3 ≡ 0 = e in omega (arith, e'));
-        meta = at 5 ∙ applies.tables.1.1.1.0 (λ e. let e' : 5 ≡ 0 = e in omega (arith, e'));
-        audits = at 7 ∙ applies.tables.1.1.1.1.0 (λ e. let e' : 7 ≡ 0 = e in omega (arith, e'));
-      };
-      last =
-          w.last_rowid ∙ ap (λ (p : Tally × Database). unwrap_or p.0.last old.last_rowid) concluded
-          ∙ ap (λ (it : Written). unwrap_or it.last old.last_rowid) wrote
-          ∙ ap (λ l. unwrap_or (Rattle.sqlite.specs.Rows.last_id l) old.last_rowid) news;
-      shown = w.shown;
-    }
+    grind (arith, nat_tests, fresh_alone, values)
 
 -- the texts of its lists are printed
 pub record ListsPrinted (c : Columns) : Type 0 where
@@ -142,8 +110,5 @@ insert_room c printed old new inside count h room =
           (subst (KeepsPrinted (old.now.trees 0)) (sym d.adds.nodes)
           (keeps_more (stored_node (next_rowid (old.now.trees 0)) (values c)) (old.now.trees 0)
           (old.now.trees 0) (keeps_itself (old.now.trees 0))
-          (by_cell _ (inl (printed_text c.dacl_own printed.dacl_own))
-          (inl (printed_text c.dacl_inh printed.dacl_inh))
-          (inl (printed_text c.sacl_own printed.sacl_own))
-          (inl (printed_text c.sacl_inh printed.sacl_inh))))),
+          (grind (arith, nat_tests, by_cell, printed_text)))),
     )

@@ -1,24 +1,19 @@
 -- What a call inside a `Transaction` leaves.
 use Rattle.std.proofs.Common.{◌≡◌, ℕ, List, Result, Ok, Err, IsTrue, inl, inr, ◌⊎◌, refl, sym}
 use Rattle.std.proofs.Common.{subst, true, false, Bool, IfOk, IfErr, Vec, Global, arith}
-use Rattle.sqlite.specs.Order.{Row}
-use Rattle.sqlite.specs.declared.error.Error.{Error}
-use Rattle.sqlite.specs.State.{State, HasCleanDisk, Shown, FailsToQuery, IsTooLate, Executes}
-use Rattle.sqlite.specs.State.{ExecutesInside}
+use Rattle.std.proofs.lemmas.Bool.Decides.{nat_tests}
+use Rattle.sqlite.specs.{Order.Row, declared.error.Error.Error, State.{State, HasCleanDisk, Shown}}
+use Rattle.sqlite.specs.State.{FailsToQuery, IsTooLate, Executes, ExecutesInside}
 use Rattle.store_tables.specs.Shown.{IsRoom, Stays}
 use Rattle.store_tables.proofs.Calls.{failed_query, left_stays, retains_on, stays_by}
-use Rattle.store_tables.proofs.Calls.{unchanged_stays}
-use Rattle.store_tables.proofs.Executed.{WritesRoom}
-use Rattle.store_tables.proofs.Bare.{IsReading, shown_same}
-use Rattle.store_tables.proofs.Within.{CommitsNothing, wrote_within}
-use Rattle.std.proofs.lemmas.Bool.Decides.{nat_tests}
+use Rattle.store_tables.proofs.{Calls.unchanged_stays, Executed.WritesRoom, Bare.IsReading}
+use Rattle.store_tables.proofs.{Bare.shown_same, Within.{CommitsNothing, wrote_within}}
 
 late_or : (sql : List ℕ) (params : Row) (old new : State) (e : Error)
     → CommitsNothing old new
     → FailsToQuery sql params old new e ⊎ IsTooLate sql params old new e → Stays old new
-late_or sql params old new e quiet (inl h) =
-    left_stays old new quiet (failed_query sql params old new e h)
-late_or sql params old new e quiet (inr h) = unchanged_stays old new quiet h.5
+late_or sql params old new e quiet given =
+    grind (arith, nat_tests, failed_query, left_stays, unchanged_stays)
 
 -- what a query leaves, whatever it answers
 pub query_inside : (sql : List ℕ) (params : Row) (old new : State)
@@ -37,11 +32,8 @@ inside_only : (sql : List ℕ) (params : Row) (old new : State) (r : Result ℕ 
     → CommitsNothing old new
     → ((count : ℕ) → Executes sql params old new (Ok count) → IsRoom old.now → WritesRoom old new)
     → ExecutesInside 0 sql params old new r → Stays old new
-inside_only sql params old new (Ok count) quiet writes h =
-    grind (arith, nat_tests, retains_on, wrote_within)
-inside_only sql params old new (Err e) quiet writes (inl ran) = left_stays old new quiet ran.1
-inside_only sql params old new (Err e) quiet writes (inr ends) =
-    grind (arith, nat_tests, unchanged_stays)
+inside_only sql params old new r quiet writes h =
+    grind (arith, nat_tests, left_stays, retains_on, unchanged_stays, wrote_within)
 
 pub write_inside : (sql : List ℕ) (params : Row) (old new : State) (r : Result ℕ Error)
     → CommitsNothing old new

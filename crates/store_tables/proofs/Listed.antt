@@ -2,46 +2,33 @@
 use Rattle.std.proofs.Common.{◌≡◌, ℕ, zero, suc, pos, negsuc, List, [], ◌∷◌, ◌++◌, map, filter}
 use Rattle.std.proofs.Common.{take, length, None, Some, Option, IsTrue, inl, inr, refl, sym, ap}
 use Rattle.std.proofs.Common.{subst, ◌∙◌, true, not, append-nil, append_assoc, arith, is_lt}
-use Rattle.std.proofs.Common.{IsPermutation, false}
-use Rattle.std.specs.Prelude.{◌==◌, is_none, option_and_then, option_map, if◌then◌else◌}
-use Rattle.std.specs.List.{AllByRecursion, filter_map, cons_option, Contains}
-use Rattle.std.specs.Option.{option_map_or}
-use Rattle.std.proofs.lemmas.Bool.{and_parts, eq-eqb}
-use Rattle.std.proofs.lemmas.List.Sorted.{IsPermutation-sym}
+use Rattle.std.proofs.{Common.{IsPermutation, false}, lemmas.Bool.{and_parts, eq-eqb}}
+use Rattle.std.proofs.lemmas.{Bool.Decides.nat_tests, List.Sorted.IsPermutation-sym}
 use Rattle.std.proofs.lemmas.Option.{none-some, same_Some}
-use Rattle.sqlite.specs.declared.types.Value.{Value}
-use Rattle.sqlite.specs.declared.types.Value.TheVariants.{Null, Int, Real, Text, Blob}
-use Rattle.sqlite.specs.Effect.{Database}
-use Rattle.sqlite.specs.Order.{Row, column, value_cmp}
-use Rattle.sqlite.specs.Tree.{rowid}
+use Rattle.std.specs.{Prelude.{◌==◌, is_none, option_map, if◌then◌else◌}, List.AllByRecursion}
+use Rattle.std.specs.{List.{filter_map, cons_option, Contains}, Option.option_map_or}
+use Rattle.sqlite.specs.{declared.types.Value.{Value, TheVariants.Int}, Effect.Database, Order.Row}
+use Rattle.sqlite.specs.{Order.{column, value_cmp}, Tree.rowid}
 use Rattle.sqlite_keyed.specs.Lists.{sort_by}
 use Rattle.sqlite_rules.specs.Lists.{Has}
 use Rattle.sqlite_rules.proofs.ListLemmas.{contains_had, has_filtered, has_kept}
 use Rattle.sqlite_trees.specs.View.{is_int}
 use Rattle.sqlite_value.proofs.OrderLemmas.{value_cmp-Int}
 use Rattle.room_entry.specs.declared.object.ObjKind.{ObjKind}
-use Rattle.room_rows.specs.declared.node.Node.{Node}
-use Rattle.room_rows.specs.Content.{is_empty, sorted_by_name}
+use Rattle.room_rows.specs.{declared.node.Node.Node, Content.{is_empty, sorted_by_name}}
 use Rattle.room_rows.specs.Keep.{AreNamedUnder, HasChildren, IsMixed, IsUnreadable, unread_under}
 use Rattle.room_rows.specs.Rows.{Rows, Unread}
-use Rattle.room_rows.proofs.Mixed.{mixed_other}
-use Rattle.store_tables.specs.Filed.{node_parts}
-use Rattle.store_tables.specs.Meaning.{named_in, node_in, number_in, rows_of, text_in, unread_in}
-use Rattle.store_tables.specs.Meaning.{unread_of, unread_with, whole_in}
-use Rattle.store_tables.specs.RoomRows.{number_in-low}
-use Rattle.store_tables.specs.Seeing.{result_of_seen, seen_as, seen_behind, seen_then}
-use Rattle.store_tables.specs.Shown.{IsRoom, is_child, is_numbered, shown_node}
-use Rattle.store_tables.specs.Statements.{HasNames, HasSome, shown_name, shown_number}
-use Rattle.store_tables.proofs.Apart.{kept_passes}
-use Rattle.store_tables.proofs.Named.{no_map, unread_row}
-use Rattle.store_tables.proofs.Nodes.{Tells}
-use Rattle.store_tables.proofs.Rowids.{alone_in, each_of, of_each}
-use Rattle.store_tables.proofs.Tops.{children_read, kept_from}
-use Rattle.store_tables.proofs.Under.{IsSeen, by_name, sorted_from, sorted_read, sorted_within}
-use Rattle.store_tables.proofs.Under.{tells_by}
-use Rattle.store_tables.proofs.Typed.{parent_whole}
-use Rattle.room_rows.proofs.Lookups.{put_is_some}
-use Rattle.std.proofs.lemmas.Bool.Decides.{nat_tests}
+use Rattle.room_rows.proofs.{Mixed.mixed_other, Lookups.put_is_some}
+use Rattle.store_tables.specs.{Filed.node_parts, Meaning.{named_in, node_in, number_in, rows_of}}
+use Rattle.store_tables.specs.Meaning.{unread_in, unread_of, unread_with, whole_in}
+use Rattle.store_tables.specs.{RoomRows.number_in-low, Seeing.{result_of_seen, seen_as}}
+use Rattle.store_tables.specs.{Seeing.{seen_behind, seen_then}, Shown.{IsRoom, is_child}}
+use Rattle.store_tables.specs.{Shown.{is_numbered, shown_node}, Statements.{HasNames, HasSome}}
+use Rattle.store_tables.specs.Statements.{shown_name, shown_number}
+use Rattle.store_tables.proofs.{Apart.kept_passes, Named.{no_map, unread_row}, Nodes.Tells}
+use Rattle.store_tables.proofs.{Rowids.{alone_in, each_of, of_each}, Tops.children_read}
+use Rattle.store_tables.proofs.{Tops.kept_from, Under.{IsSeen, by_name, sorted_from, sorted_read}}
+use Rattle.store_tables.proofs.{Under.{sorted_within, tells_by}, Typed.parent_whole}
 
 abbrev Named : Type 0
 Named = List ℕ × ObjKind
@@ -63,10 +50,7 @@ number_kept : (v : Value) → IsTrue (is_int v) → not (is_lt (value_cmp v (Int
 number_kept (Int (pos zero)) int high = grind (arith, nat_tests, value_cmp-Int)
 number_kept (Int (pos (suc n))) int high = (suc n, number_in-low (suc n) (omega arith))
 number_kept (Int (negsuc n)) int high = grind (arith, nat_tests, value_cmp-Int)
-number_kept Null int high = absurd (let e = int in cc)
-number_kept (Real x) int high = absurd (let e = int in cc)
-number_kept (Text t) int high = absurd (let e = int in cc)
-number_kept (Blob b) int high = absurd (let e = int in cc)
+number_kept _ int high = absurd (let e = int in cc)
 
 read_if : (o : Option Node) (m : Option Unread) (u : Unread) → m ≡ Some u
     → (if is_none o then m else None) ≡ None → (n : Node) × (o ≡ Some n)
@@ -80,9 +64,7 @@ nothing_of f (x ∷ rows) none r there = by (f x) refl none there (λ e. nothing
   where
     by : (o : Option _) → f x ≡ o → cons_option o (filter_map f rows) ≡ [] → Has (x ∷ rows) r
         → (filter_map f rows ≡ [] → Has rows r → f r ≡ None) → f r ≡ None
-    by None is e (inl same) more = ap f same ∙ is
-    by None is e (inr later) more = more e later
-    by (Some y) is e there more = absurd (let z = e in cc)
+    by o is e there more = grind (arith, nat_tests)
 
 -- what a row of a list is read as stands among what the list is read as
 has_read : {A B : Type 0} (f : A → Option B) (xs : List A) (x : A) (y : B) → Has xs x
@@ -92,10 +74,7 @@ has_read f (z ∷ xs) x y there is = by (f z) refl there (λ later. has_read f x
   where
     by : (o : Option _) → f z ≡ o → Has (z ∷ xs) x → (Has xs x → Has (filter_map f xs) y)
         → Has (cons_option o (filter_map f xs)) y
-    by None at (inl same) more = absurd (none-some y (sym at ∙ ap f (sym same) ∙ is))
-    by None at (inr later) more = more later
-    by (Some w) at (inl same) more = inl (same_Some y w (sym is ∙ ap f same ∙ at))
-    by (Some w) at (inr later) more = inr (more later)
+    by o at given more = grind (arith, nat_tests)
 
 module _ (db : Database) (room : IsRoom db) where
   seen_there : (rows_of db).unreadable ≡ [] → (r : Row) → Has (db.trees 0) r → is_numbered r ≡ true
@@ -111,9 +90,7 @@ module _ (db : Database) (room : IsRoom db) where
 
   under_seen : (parent : ℕ) → (rows_of db).unreadable ≡ [] → AllByRecursion IsSeen (under parent)
   under_seen parent none =
-      each_of IsSeen (under parent) (λ r there.
-      seen_there none r (kept_from (is_child (pos parent)) (db.trees 0) r there)
-      (and_parts _ (is_numbered r) (kept_passes (is_child (pos parent)) (db.trees 0) r there)).1)
+      each_of IsSeen (under parent) (grind (arith, nat_tests, kept_from, kept_passes, seen_there))
 
 -- ---- whether there is a child
 
@@ -129,9 +106,7 @@ module _ (db : Database) (room : IsRoom db) (parent : ℕ) where
       absurd (let e = no_map shown_number (r ∷ rows)
       (alone_in (map shown_number (r ∷ rows))
       (IsPermutation-sym (map shown_number (r ∷ rows)) [] perm)) in cc)
-  some_child (r ∷ rows) (x ∷ more) is seen perm =
-      sym (ap (λ o. is_empty (sorted_by_name (cons_option o (filter_map see rows)))) seen.0.1
-      ∙ put_is_some seen.0.0 (sorted_by_name (filter_map see rows)))
+  some_child (r ∷ rows) (x ∷ more) is seen perm = grind (arith, nat_tests, put_is_some)
 
   no_child : (rows all : List Row) → IsPermutation (map shown_number rows) all
       → not (length (take 1 all) == 0) ≡ false → sorted_by_name (filter_map see rows) ≡ []
@@ -151,8 +126,7 @@ module _ (db : Database) (room : IsRoom db) (parent : ℕ) where
   named_of : (r : Row) (n : Node) → see r ≡ Some n → named r ≡ Some (name_of n)
   named_of r n is =
       let parts = node_parts (shown_node r) n is in
-      ap (option_and_then (λ kind. option_map (λ name. (name, kind)) (text_in (column r 3))))
-      parts.kind ∙ ap (option_map (λ name. (name, n.kind))) parts.name
+      cc (parts.kind, parts.name)
 
   -- what has no name or no kind is no object
   not_named : (r : Row) (o : Option Node) → see r ≡ o → named r ≡ None → see r ≡ None
@@ -171,13 +145,9 @@ module _ (db : Database) (room : IsRoom db) (parent : ℕ) where
       let number = number_kept (rowid r) (of_each _ (db.trees 0) room.nodes.1 r row.0) parts.1 in
       let above : whole_in (column r 2) ≡ Some parent =
       ap whole_in (parent_whole db room r row.0 parent parts.0) in
-      let read : unread_in r ≡ Some (unread_with r number.0) =
-      ap (λ o. if is_none o then option_map (unread_with r) (number_in (rowid r)) else None) unseen
-      ∙ ap (option_map (unread_with r)) number.1 in
-      let stands : Has (unread_of (db.trees 0)) (unread_with r number.0) =
-      has_read unread_in (db.trees 0) r (unread_with r number.0) row.0 read in
-      let under_it : option_map_or (λ above. above == parent) (whole_in (column r 2)) false ≡ true =
-      ap (λ o. option_map_or (λ above. above == parent) o false) above
+      let read : unread_in r ≡ Some (unread_with r number.0) = grind (arith, nat_tests) in
+      let stands = has_read unread_in (db.trees 0) r (unread_with r number.0) row.0 read in
+      let under_it = ap (λ o. option_map_or (λ above. above == parent) o false) above
       ∙ eq-eqb parent parent refl in
       contains_had others p
       (has_read (λ (u : Unread). u.named)
@@ -195,9 +165,7 @@ module _ (db : Database) (room : IsRoom db) (parent : ℕ) where
       inl (same_Some p (name_of n) (sym is ∙ named_of r n seen), more)
   mixed_step r rows there (Some n) seen None is more =
       absurd (none-some (name_of n) (sym is ∙ named_of r n seen))
-  mixed_step r rows there None unseen (Some p) is more =
-      mixed_other others (map name_of (filter_map see rows)) p (filter_map named rows)
-      (other_named r there unseen p is) more
+  mixed_step r rows there None unseen (Some p) is more = search (mixed_other, other_named)
   mixed_step r rows there None unseen None is more = more
 
   -- the names of rows are those of their objects, and of rows that can't be read
@@ -222,8 +190,7 @@ module _ (db : Database) (room : IsRoom db) (parent : ℕ) where
       (λ before. seen_behind named_in before (map shown_name rows)) done))
   name_step done r rows there more (Some p) is m number =
       tells_by IsUnreadable (AreNamed (done ++ p ∷ []) rows) (AreNamed done (r ∷ rows)) (rows_of db)
-      (λ names read. read ∙ append_assoc done (p ∷ []) (filter_map named rows)
-      ∙ ap (λ x. done ++ cons_option x (filter_map named rows)) (sym is))
+      (λ names read. cc (read, append_assoc done (p ∷ []) (filter_map named rows), is))
       (result_of_seen (seen_behind named_in (done ++ p ∷ []) (map shown_name rows)))
       (more (done ++ p ∷ []))
   name_step done r rows there more None is None number = tt

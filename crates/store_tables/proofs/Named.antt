@@ -1,40 +1,27 @@
 -- What reading the rows of one parent and one name answers.
 use Rattle.std.proofs.Common.{◌≡◌, ◌<◌, ℕ, ℤ, pos, List, [], ◌∷◌, map, filter, find, None, Some}
 use Rattle.std.proofs.Common.{Option, Result, refl, sym, ap, subst, ◌∙◌, true, false, Bool, cond}
-use Rattle.std.proofs.Common.{not, ◌&&◌, arith}
+use Rattle.std.proofs.{Common.{not, ◌&&◌, arith}, lemmas.List.Sorted.IsPermutation-sym}
+use Rattle.std.proofs.lemmas.{Map.Text.is_eq-slice_cmp, Bool.Decides.nat_tests}
+use Rattle.std.proofs.Math.Bool.{and-true}
 use Rattle.std.specs.Prelude.{option_and_then, option_map, is_none, is_some, if◌then◌else◌, ◌==◌}
-use Rattle.std.specs.List.{filter_map, cons_option}
-use Rattle.std.specs.List.Sorted.{IsPermutation}
-use Rattle.std.specs.Option.{option_map_or}
-use Rattle.std.specs.Ordering.{is_eq, is_lt}
-use Rattle.std.proofs.lemmas.List.Sorted.{IsPermutation-sym}
-use Rattle.std.proofs.lemmas.Map.Text.{is_eq-slice_cmp}
-use Rattle.std.proofs.lemmas.Bool.{cond-true, cond-false}
-use Rattle.sqlite.specs.declared.types.Value.{Value}
-use Rattle.sqlite.specs.declared.types.Value.TheVariants.{Null, Int, Real, Text, Blob}
-use Rattle.sqlite.specs.Order.{Row, column, value_cmp}
-use Rattle.sqlite.specs.Tree.{rowid}
-use Rattle.sqlite.specs.Effect.{Database}
+use Rattle.std.specs.{List.{filter_map, cons_option, Sorted.IsPermutation}, Option.option_map_or}
+use Rattle.std.specs.{Ordering.{is_eq, is_lt}, declared.cmp.Ordering.TheVariants.{Less, Equal}}
+use Rattle.std.specs.declared.cmp.Ordering.TheVariants.{Greater}
+use Rattle.sqlite.specs.{declared.types.Value.{Value, TheVariants.{Int, Text}}, Order.Row}
+use Rattle.sqlite.specs.{Order.value_cmp, Tree.rowid, Effect.Database}
 use Rattle.sqlite.proofs.Callers.{one_permutation}
 use Rattle.sqlite_rules.specs.Lists.{Has}
 use Rattle.sqlite_value.proofs.OrderLemmas.{value_cmp-Null, value_cmp-Text, value_cmp-Int}
 use Rattle.room_entry.specs.Pieces.{same_text}
-use Rattle.room_rows.specs.declared.node.Node.{Node}
-use Rattle.room_rows.specs.Content.{has_parent}
-use Rattle.room_rows.specs.Keep.{IsChildOf, IsUnreadable}
+use Rattle.room_rows.specs.{declared.node.Node.Node, Content.has_parent, Keep.IsChildOf}
+use Rattle.room_rows.specs.Keep.{IsUnreadable}
 use Rattle.room_rows.proofs.Lookups.{find_yes, find_no}
-use Rattle.store_tables.specs.Shown.{IsRoom, shown_node, is_child_named}
-use Rattle.store_tables.specs.Meaning.{number_in, parent_in, text_in, node_in, unread_in}
-use Rattle.store_tables.specs.Meaning.{unread_with, rows_of}
-use Rattle.store_tables.specs.Keyed.{same_number}
-use Rattle.store_tables.specs.Filed.{number_is, node_parts, unread_at_row}
-use Rattle.store_tables.specs.RoomRows.{row_found}
-use Rattle.store_tables.specs.Seeing.{result_of_seen, seen_only, seen_as}
-use Rattle.std.specs.declared.cmp.Ordering.TheVariants.{Less, Equal, Greater}
-use Rattle.std.proofs.Math.Bool.{and-true}
-use Rattle.store_tables.proofs.Nodes.{Tells}
-use Rattle.store_tables.proofs.Rowids.{alone_in, has_found, only_one}
-use Rattle.std.proofs.lemmas.Bool.Decides.{nat_tests}
+use Rattle.store_tables.specs.{Shown.{IsRoom, shown_node, is_child_named}, Meaning.number_in}
+use Rattle.store_tables.specs.Meaning.{parent_in, text_in, node_in, unread_in, unread_with, rows_of}
+use Rattle.store_tables.specs.{Keyed.same_number, Filed.{number_is, node_parts, unread_at_row}}
+use Rattle.store_tables.specs.{RoomRows.row_found, Seeing.{result_of_seen, seen_only, seen_as}}
+use Rattle.store_tables.proofs.{Nodes.Tells, Rowids.{alone_in, has_found, only_one}}
 
 pub no_map : {A B : Type 0} (f : A → B) (xs : List A) → map f xs ≡ [] → xs ≡ []
 no_map f [] h = refl
@@ -76,11 +63,7 @@ module _ {X : Type 0} (f : Row → Option X) (q : X → Bool) (p : Row → Bool)
 
   read_step : (r : Row) (o : Option X) (b : Bool) (kept rest : List X) → f r ≡ o → p r ≡ b
       → filter q rest ≡ kept → filter q (cons_option o rest) ≡ filter_map_step o b kept
-  read_step r None true kept rest is has more = more
-  read_step r None false kept rest is has more = more
-  read_step r (Some x) true kept rest is has more =
-      cond-true _ _ _ (same r x is ∙ has) ∙ ap (λ l. x ∷ l) more
-  read_step r (Some x) false kept rest is has more = cond-false _ _ _ (same r x is ∙ has) ∙ more
+  read_step r o b kept rest is has more = grind (arith, nat_tests)
 
   -- to be read and to pass can change places
   pub filter_read : (rows : List Row) → filter q (filter_map f rows) ≡ filter_map f (filter p rows)
@@ -90,9 +73,7 @@ module _ {X : Type 0} (f : Row → Option X) (q : X → Bool) (p : Row → Bool)
 -- ---- the test of SQL is that of the objects
 
 at_least_by : (b c : Bool) → b ≡ false → not (is_lt (cond b Less (cond c Greater Equal))) ≡ true
-at_least_by true c e = absurd (let x = e in cc)
-at_least_by false true e = refl
-at_least_by false false e = refl
+at_least_by b c e = grind (arith, nat_tests)
 
 pub at_least_one : (k : ℕ) → 0 < k → not (is_lt (value_cmp (Int (pos k)) (Int (pos 1)))) ≡ true
 at_least_one k low = grind (arith, nat_tests, at_least_by, value_cmp-Int)
@@ -106,16 +87,11 @@ number_agrees : (parent : ℕ) (z : ℤ) (p : Option ℕ) → (id : ℕ) × (num
     × (p ≡ Some id) → option_map_or (λ id. id == parent) p false
     ≡ is_eq (value_cmp (Int z) (Int (pos parent)))
 number_agrees parent z p (id, number, is) =
-    ap (λ o. option_map_or (λ id. id == parent) o false) is ∙ sym (same_number id parent)
-    ∙ ap (λ v. is_eq (value_cmp v (Int (pos parent)))) (sym (number_is (Int z) id number).0)
+    cc (is, same_number id parent, (number_is (Int z) id number).0)
 
 pub parent_agrees : (parent : ℕ) (v : Value) (p : Option ℕ) → parent_in v ≡ Some p
     → option_map_or (λ id. id == parent) p false ≡ is_eq (value_cmp v (Int (pos parent)))
-parent_agrees parent Null p is = grind (arith, nat_tests, value_cmp-Null)
-parent_agrees parent (Int z) p is = number_agrees parent z p (mapped (number_in (Int z)) p is)
-parent_agrees parent (Real x) p is = absurd (let e = is in cc)
-parent_agrees parent (Text t) p is = absurd (let e = is in cc)
-parent_agrees parent (Blob b) p is = absurd (let e = is in cc)
+parent_agrees parent v p is = grind (arith, nat_tests, mapped, number_agrees, value_cmp-Null)
 
 pub utf8_is : (s t : List ℕ) (b : Bool) → (if b then Some s else None) ≡ Some t → s ≡ t
 utf8_is s t true is = let e = is in cc
@@ -123,24 +99,14 @@ utf8_is s t false is = absurd (let e = is in cc)
 
 text_agrees : (name : List ℕ) (v : Value) (t : List ℕ) → text_in v ≡ Some t
     → same_text t name ≡ is_eq (value_cmp v (Text name))
-text_agrees name (Text s) t is = grind (arith, nat_tests, is_eq-slice_cmp, utf8_is, value_cmp-Text)
-text_agrees name Null t is = absurd (let e = is in cc)
-text_agrees name (Int z) t is = absurd (let e = is in cc)
-text_agrees name (Real x) t is = absurd (let e = is in cc)
-text_agrees name (Blob b) t is = absurd (let e = is in cc)
+text_agrees name v t is = grind (arith, nat_tests, is_eq-slice_cmp, utf8_is, value_cmp-Text)
 
 child_agrees : (parent : ℕ) (name : List ℕ) (r : Row) (n : Node) → node_in (shown_node r) ≡ Some n
     → (has_parent parent n && same_text n.name name) ≡ is_child_named (pos parent) name r
 child_agrees parent name r n is =
     let parts = node_parts (shown_node r) n is in
     let number = number_is (rowid r) n.id parts.number in
-    ap (λ b. b && same_text n.name name) (parent_agrees parent (column r 2) n.parent parts.parent)
-    ∙ ap (λ b. is_eq (value_cmp (column r 2) (Int (pos parent))) && b)
-    (text_agrees name (column r 3) n.name parts.name)
-    ∙ ap (λ b. is_eq (value_cmp (column r 2) (Int (pos parent))) && b)
-    (sym (ap (λ b. is_eq (value_cmp (column r 3) (Text name)) && b)
-    (ap (λ v. not (is_lt (value_cmp v (Int (pos 1))))) number.0 ∙ at_least_one n.id number.1)
-    ∙ and-true _))
+    grind (arith, nat_tests, and-true, at_least_one, parent_agrees, text_agrees)
 
 -- a row that is there and isn't read as an object is one that can't be read
 pub unread_row : (db : Database) → IsRoom db → (r : Row) (id : ℕ) → Has (db.trees 0) r
@@ -165,9 +131,7 @@ module _ (db : Database) (room : IsRoom db) (parent : ℕ) (name : List ℕ) whe
       → node_in (shown_node r) ≡ o → (m : Option ℕ) → number_in (rowid r) ≡ m
       → told (result_of_seen (seen_as (option_map Some o) m))
   something r one (Some n) seen m number =
-      sym (first_read (λ r. node_in (shown_node r))
-      (λ (n : Node). has_parent parent n && same_text n.name name) test (child_agrees parent name)
-      (db.trees 0) r [] n one seen)
+      sym (search (child_agrees, first_read))
   something r one None seen None number = tt
   something r one None seen (Some id) number =
       unread_row db room r id

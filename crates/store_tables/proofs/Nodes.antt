@@ -1,28 +1,21 @@
 -- What reading a row by its number answers.
 use Rattle.std.proofs.Common.{◌≡◌, ◌<◌, ℕ, pos, List, [], ◌∷◌, map, filter, find, None, Some}
 use Rattle.std.proofs.Common.{Option, Result, Ok, Err, inl, inr, ◌⊎◌, refl, sym, ap, subst, ◌∙◌}
-use Rattle.std.proofs.Common.{Bool, arith}
+use Rattle.std.proofs.{Common.{Bool, arith}, lemmas.Bool.Decides.nat_tests}
 use Rattle.std.specs.Prelude.{option_and_then, option_map, is_none, is_some, if◌then◌else◌, IfOk}
-use Rattle.std.specs.Prelude.{IfErr}
-use Rattle.std.specs.List.Sorted.{IsPermutation}
-use Rattle.sqlite.specs.declared.types.Value.TheVariants.{Int}
-use Rattle.sqlite.specs.Order.{Row}
-use Rattle.sqlite.specs.Tree.{rowid, has_rowid}
+use Rattle.std.specs.{Prelude.IfErr, List.Sorted.IsPermutation}
+use Rattle.sqlite.specs.{declared.types.Value.TheVariants.Int, Order.Row, Tree.{rowid, has_rowid}}
 use Rattle.sqlite.specs.Effect.{Database}
 use Rattle.sqlite.proofs.Callers.{one_permutation}
-use Rattle.room_rows.specs.declared.keep.KeepFault.{KeepFault}
-use Rattle.room_rows.specs.declared.keep.KeepFault.TheVariants.{Memory, Store, Damaged}
-use Rattle.room_rows.specs.declared.node.Node.{Node}
-use Rattle.room_rows.specs.Rows.{Rows}
-use Rattle.room_rows.specs.Keep.{IsNodeAt, IsRead, IsUnreadableAt, HasCause, IfSeen}
-use Rattle.store_tables.specs.Shown.{IsRoom, shown_node}
-use Rattle.store_tables.specs.Meaning.{number_in, node_in, unread_in, unread_with, rows_of}
-use Rattle.store_tables.specs.Filed.{node_at_row, unread_at_row}
-use Rattle.store_tables.specs.RoomRows.{number_in-low}
-use Rattle.store_tables.specs.Seeing.{result_of_seen, seen_only, seen_as, counted_by}
+use Rattle.room_rows.specs.declared.keep.KeepFault.{KeepFault, TheVariants.{Memory, Store, Damaged}}
+use Rattle.room_rows.specs.{declared.node.Node.Node, Rows.Rows, Keep.{IsNodeAt, IsRead}}
+use Rattle.room_rows.specs.Keep.{IsUnreadableAt, HasCause, IfSeen}
+use Rattle.store_tables.specs.{Shown.{IsRoom, shown_node}, Meaning.{number_in, node_in, unread_in}}
+use Rattle.store_tables.specs.{Meaning.{unread_with, rows_of}, Filed.{node_at_row, unread_at_row}}
+use Rattle.store_tables.specs.{RoomRows.number_in-low, Seeing.{result_of_seen, seen_only, seen_as}}
+use Rattle.store_tables.specs.Seeing.{counted_by}
 use Rattle.store_tables.proofs.Rowids.{alone_in, at_most_one, only_one, has_found, rowid_is}
 use Rattle.store_tables.proofs.Rowids.{of_each}
-use Rattle.std.proofs.lemmas.Bool.Decides.{nat_tests}
 
 -- an answer, or a row that is blamed
 abbrev pub Tells : {X : Type 0} → (Rows → ℕ → Type 0) → (Rows → X → Type 0) → Rows

@@ -1,50 +1,33 @@
 -- What a new record leaves.
 use Rattle.std.proofs.Common.{◌≡◌, ◌+ℤ◌, ◌<ℤ◌, ℕ, ℤ, pos, List, [], ◌∷◌, ◌++◌, fold, Ok, None, Some}
 use Rattle.std.proofs.Common.{Option, IsTrue, refl, sym, ap, subst, ◌∙◌, true, false, Bool}
-use Rattle.std.proofs.Common.{if◌then◌else◌, is_some, arith, Less}
-use Rattle.std.proofs.lemmas.Bool.Decides.{nat_tests}
-use Rattle.std.proofs.lemmas.Int.{ints}
-use Rattle.std.proofs.lemmas.List.Elements.{All-cons, All-nil}
-use Rattle.std.specs.Bool.{MatchBool}
-use Rattle.std.specs.List.{AllByRecursion}
-use Rattle.std.specs.Ordering.{int_cmp, is_lt}
-use Rattle.sqlite.specs.declared.types.Value.TheVariants.{Null, Int}
-use Rattle.sqlite.specs.Cast.{cast_row}
-use Rattle.sqlite.specs.Command.TheVariants.{Insert}
-use Rattle.sqlite.specs.Does.{Tally, Does}
-use Rattle.sqlite.specs.Edit.{Edit, edit_of, next_rowid, numbered, put_all, taken_by}
-use Rattle.sqlite.specs.Effect.{Database, IsDatabase}
-use Rattle.sqlite.specs.Listing.{understood}
-use Rattle.sqlite.specs.Order.{Row, value_cmp}
-use Rattle.sqlite.specs.Rowids.TheVariants.{Above}
-use Rattle.sqlite.specs.Rows.{Counts, CountsIn, Edited, Gives, Task, Written, count_of, counting}
-use Rattle.sqlite.specs.Rows.{sequence}
-use Rattle.sqlite.specs.Source.TheVariants.{Values}
-use Rattle.sqlite.specs.State.{State, mode_of, Executes, Shows}
-use Rattle.sqlite.specs.Term.{Term, col, lit}
-use Rattle.sqlite.specs.Tree.{Trees, rowid, put_row, IsTable}
+use Rattle.std.proofs.{Common.{if◌then◌else◌, is_some, arith, Less}, lemmas.Bool.Decides.nat_tests}
+use Rattle.std.proofs.lemmas.{Int.ints, List.Elements.{All-cons, All-nil}}
+use Rattle.std.specs.{Bool.MatchBool, List.AllByRecursion, Ordering.{int_cmp, is_lt}}
+use Rattle.sqlite.specs.{declared.types.Value.TheVariants.{Null, Int}, Cast.cast_row}
+use Rattle.sqlite.specs.{Command.TheVariants.Insert, Does.{Tally, Does}, Edit.{Edit, edit_of}}
+use Rattle.sqlite.specs.{Edit.{next_rowid, numbered, put_all, taken_by}, Effect.Database}
+use Rattle.sqlite.specs.{Effect.IsDatabase, Listing.understood, Order.{Row, value_cmp}}
+use Rattle.sqlite.specs.{Rowids.TheVariants.Above, Rows.{Counts, CountsIn, Edited, Gives, Task}}
+use Rattle.sqlite.specs.{Rows.{Written, count_of, counting, sequence}, Source.TheVariants.Values}
+use Rattle.sqlite.specs.{State.{State, mode_of, Executes, Shows}, Term.{Term, col, lit}, Tree.Trees}
+use Rattle.sqlite.specs.Tree.{rowid, put_row, IsTable}
 use Rattle.sqlite.proofs.Callers.{one_step, runs_as, statement_of}
-use Rattle.sqlite_rules.specs.Action.{works}
-use Rattle.sqlite_rules.specs.Edit.{at_least, id_in}
+use Rattle.sqlite_rules.specs.{Action.works, Edit.{at_least, id_in}}
 use Rattle.sqlite_rules.proofs.TableLemmas.{int_is}
-use Rattle.sqlite_schema.specs.declared.schema.Keys.TheVariants.{Enforced}
-use Rattle.sqlite_schema.specs.declared.schema.Table.{Table}
+use Rattle.sqlite_schema.specs.declared.schema.{Keys.TheVariants.Enforced, Table.Table}
 use Rattle.sqlite_tied.specs.Compute.{everything}
 use Rattle.sqlite_trees.specs.View.{IsShaped, is_int}
-use Rattle.sqlite_trees.specs.declared.store.Shape.TheVariants as Shape
 use Rattle.sqlite_trees.proofs.TreeLemmas.{IsShaped-put_row}
 use Rattle.sqlite_value.proofs.OrderLemmas.{value_cmp-Int}
-use Rattle.store_tables.specs.declared.columns.Record.{Record}
-use Rattle.store_tables.specs.Columns.{StoresRecord, record_values}
-use Rattle.store_tables.specs.Meaning.{IsRecord}
-use Rattle.store_tables.specs.Shown.{IsRoom, AddsRecordRow, stored_record}
-use Rattle.store_tables.specs.Tables.{audits, counters, room_schema}
-use Rattle.store_tables.proofs.Executed.{WritesRoom}
-use Rattle.store_tables.proofs.Noting.{recalled}
-use Rattle.store_tables.proofs.Printed.{keeps_same}
-use Rattle.store_tables.proofs.Texts.{note_is, note_text, plain_texts}
-use Rattle.store_tables.proofs.Updates.{cast_int, cast_null}
-use Rattle.store_tables.proofs.Writes.{same_value, went}
+use Rattle.store_tables.specs.{declared.columns.Record.Record, Columns.StoresRecord}
+use Rattle.store_tables.specs.{Columns.record_values, Meaning.IsRecord, Shown.IsRoom}
+use Rattle.store_tables.specs.{Shown.{AddsRecordRow, stored_record}, Tables.{audits, counters}}
+use Rattle.store_tables.specs.Tables.{room_schema}
+use Rattle.store_tables.proofs.{Executed.WritesRoom, Noting.recalled, Printed.keeps_same}
+use Rattle.store_tables.proofs.{Texts.{note_is, note_text, plain_texts}, Updates.cast_int}
+use Rattle.store_tables.proofs.{Updates.cast_null, Writes.{same_value, went}}
+use Rattle.sqlite_trees.specs.declared.store.Shape.TheVariants as Shape
 
 -- ---- the new number comes last
 

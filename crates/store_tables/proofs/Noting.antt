@@ -1,19 +1,15 @@
 -- What the rows mean once a record is put in.
 use Rattle.std.proofs.Common.{◌≡◌, ℕ, ℤ, pos, List, [], ◌∷◌, Some, refl, ap, Bool, true, false}
-use Rattle.std.proofs.Common.{arith}
+use Rattle.std.proofs.{Common.arith, lemmas.List.Elements.filter_map-append}
+use Rattle.std.proofs.lemmas.Bool.Decides.{nat_tests}
 use Rattle.std.specs.Prelude.{option_map, if◌then◌else◌}
-use Rattle.std.proofs.lemmas.List.Elements.{filter_map-append}
-use Rattle.sqlite.specs.declared.types.Value.TheVariants.{Int, Text}
-use Rattle.sqlite.specs.Effect.{Database}
+use Rattle.sqlite.specs.{declared.types.Value.TheVariants.{Int, Text}, Effect.Database}
 use Rattle.room_entry.specs.Names.{is_name}
 use Rattle.room_rows.specs.declared.node.AuditRow.{AuditRow}
-use Rattle.store_tables.specs.declared.columns.Record.{Record}
-use Rattle.store_tables.specs.Columns.{Recalls, record_values}
+use Rattle.store_tables.specs.{declared.columns.Record.Record, Columns.{Recalls, record_values}}
 use Rattle.store_tables.specs.Meaning.{audit_in, granted_in, name_in, user_in}
-use Rattle.store_tables.specs.Shown.{AddsRecordRow, stored_record}
-use Rattle.store_tables.specs.Trust.{HasNoted}
+use Rattle.store_tables.specs.{Shown.{AddsRecordRow, stored_record}, Trust.HasNoted}
 use Rattle.store_tables.proofs.Removed.{same_rows}
-use Rattle.std.proofs.lemmas.Bool.Decides.{nat_tests}
 
 -- ---- a record that is stored is read back
 

@@ -1,26 +1,20 @@
 -- All numbers in use are those of the rows, in their order.
 use Rattle.std.proofs.Common.{◌≡◌, ◌<◌, ℕ, pos, List, [], ◌∷◌, map, filter, None, Some, Option}
-use Rattle.std.proofs.Common.{refl, sym, ap, ◌∙◌, true, false, Bool, cond, arith, Less}
-use Rattle.std.specs.Prelude.{is_none, option_map, if◌then◌else◌}
-use Rattle.std.specs.List.{AllByRecursion, filter_map, cons_option}
-use Rattle.std.proofs.lemmas.Bool.{cond-true, cond-false, lt-ltb, le-ltb}
-use Rattle.sqlite.specs.declared.types.Value.TheVariants.{Int}
-use Rattle.sqlite.specs.Order.{Row, value_cmp}
-use Rattle.sqlite.specs.Tree.{rowid, IsTable}
-use Rattle.sqlite.specs.Effect.{Database}
+use Rattle.std.proofs.{Common.{refl, sym, ap, ◌∙◌, Bool, cond, arith, Less}, lemmas.Bool.cond-true}
+use Rattle.std.proofs.lemmas.Bool.{cond-false, lt-ltb, le-ltb, Decides.nat_tests}
+use Rattle.std.specs.{Prelude.{is_none, option_map, if◌then◌else◌}, List.AllByRecursion}
+use Rattle.std.specs.List.{filter_map, cons_option}
+use Rattle.sqlite.specs.{declared.types.Value.TheVariants.Int, Order.{Row, value_cmp}, Tree.rowid}
+use Rattle.sqlite.specs.{Tree.IsTable, Effect.Database}
 use Rattle.room_entry.proofs.Facts.Members.{each_map}
-use Rattle.room_rows.specs.declared.node.Node.{Node}
-use Rattle.room_rows.specs.Keep.{AreNumbers}
-use Rattle.room_rows.specs.Rows.{Unread, put_number, put_numbers}
-use Rattle.store_tables.specs.Filed.{node_parts, number_is, unread_keyed}
-use Rattle.store_tables.specs.Keyed.{below}
+use Rattle.room_rows.specs.{declared.node.Node.Node, Keep.AreNumbers, Rows.{Unread, put_number}}
+use Rattle.room_rows.specs.Rows.{put_numbers}
+use Rattle.store_tables.specs.{Filed.{node_parts, number_is, unread_keyed}, Keyed.below}
 use Rattle.store_tables.specs.Meaning.{node_in, nodes_of, number_in, rows_of, unread_in, unread_of}
-use Rattle.store_tables.specs.Meaning.{unread_with}
-use Rattle.store_tables.specs.Seeing.{numbers_seen}
-use Rattle.store_tables.specs.Shown.{IsRoom, is_numbered, shown_node}
-use Rattle.store_tables.specs.Statements.{HasNumbers, shown_number}
+use Rattle.store_tables.specs.{Meaning.unread_with, Seeing.numbers_seen, Shown.IsRoom}
+use Rattle.store_tables.specs.{Shown.{is_numbered, shown_node}, Statements.HasNumbers}
+use Rattle.store_tables.specs.Statements.{shown_number}
 use Rattle.store_tables.proofs.Named.{at_least_one}
-use Rattle.std.proofs.lemmas.Bool.Decides.{nat_tests}
 
 abbrev number_of_row : Row → Option ℕ
 number_of_row r = number_in (rowid r)
@@ -39,16 +33,14 @@ module _ {X : Type 0} (f : Row → Option X) (key : X → ℕ)
   past_step b rest None at less all = all
   past_step b rest (Some x) at less all = (
     below id (key x)
-        (sym (ap (λ v. value_cmp v (rowid b)) is ∙ ap (value_cmp (Int (pos id))) (keyed b x at))
-        ∙ less),
+        (cc (keyed b x at, is, less)),
     all,
   )
 
   all_past : (rows : List Row) → AllByRecursion (λ b. value_cmp (rowid r) (rowid b) ≡ Less) rows
       → AllByRecursion (λ x. id < key x) (filter_map f rows)
   all_past [] later = tt
-  all_past (b ∷ rows) later =
-      past_step b (filter_map f rows) (f b) refl later.0 (all_past rows later.1)
+  all_past (b ∷ rows) later = search (past_step, all_past rows later.1)
 
 -- ---- merging
 
@@ -62,8 +54,7 @@ put_behind id x ids up = cond-true _ _ _ (lt-ltb x id up)
 put_under : (x : ℕ) (us ids : List ℕ) → AllPast x us
     → put_numbers us (x ∷ ids) ≡ x ∷ put_numbers us ids
 put_under x [] ids all = refl
-put_under x (u ∷ us) ids all =
-    ap (put_number u) (put_under x us ids all.1) ∙ put_behind u x (put_numbers us ids) all.0
+put_under x (u ∷ us) ids all = search (put_behind, put_under x us ids all.1)
 
 number_keyed : (r : Row) (k : ℕ) → number_of_row r ≡ Some k → rowid r ≡ Int (pos k)
 number_keyed r k is = (number_is (rowid r) k is).0
@@ -105,9 +96,7 @@ merged (r ∷ rows) table = grind (arith, nat_tests, merge_step, merged rows tab
 kept_step : (r : Row) (rest : List ℕ) (o : Option ℕ) (b : Bool) → number_of_row r ≡ o
     → is_numbered r ≡ b → (kept : List Row) → numbers_seen (map shown_number kept) ≡ rest
     → numbers_seen (map shown_number (cond b (r ∷ kept) kept)) ≡ cons_option o rest
-kept_step r rest o true is has kept more = grind (arith, nat_tests)
-kept_step r rest None false is has kept more = more
-kept_step r rest (Some k) false is has kept more = grind (arith, nat_tests, at_least_one)
+kept_step r rest o b is has kept more = grind (arith, nat_tests, at_least_one)
 
 shown_are : (rows : List Row)
     → numbers_seen (map shown_number (filter is_numbered rows)) ≡ filter_map number_of_row rows
@@ -116,5 +105,4 @@ shown_are (r ∷ rows) = grind (arith, nat_tests, kept_step, shown_are rows)
 
 pub tells_numbers : (db : Database) → IsRoom db → (rows : List Row) → HasNumbers db.trees rows
     → AreNumbers (rows_of db) (numbers_seen rows)
-tells_numbers db room rows shown =
-    ap numbers_seen shown ∙ shown_are (db.trees 0) ∙ sym (merged (db.trees 0) room.nodes.0)
+tells_numbers db room rows shown = grind (arith, nat_tests, merged, shown_are)

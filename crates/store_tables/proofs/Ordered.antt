@@ -1,13 +1,10 @@
 -- The rows of a query over one table, in the order of one column or cut off after the first.
 use Rattle.std.proofs.Common.{◌≡◌, ℕ, List, [], ◌∷◌, map, filter, false, refl, ap, subst, ◌∙◌}
 use Rattle.std.proofs.Common.{Ordering, Less, is_gt, is_eq, IsPermutation, arith}
+use Rattle.std.proofs.lemmas.{Bool.{cond-false, Decides.nat_tests}, List.Sorted.IsPermutation-map}
 use Rattle.std.specs.List.{AllByRecursion}
-use Rattle.std.proofs.lemmas.Bool.{cond-false}
-use Rattle.std.proofs.lemmas.List.Sorted.{IsPermutation-map}
-use Rattle.sqlite.specs.declared.types.Value.TheVariants.{Null}
-use Rattle.sqlite.specs.Order.{Row, column, value_cmp}
-use Rattle.sqlite.specs.Query.{Query, Output, output, output_cmp, page, IsAnswerAs}
-use Rattle.sqlite.specs.Term.{Term}
+use Rattle.sqlite.specs.{declared.types.Value.TheVariants.Null, Order.{Row, column, value_cmp}}
+use Rattle.sqlite.specs.{Query.{Query, Output, output, output_cmp, page, IsAnswerAs}, Term.Term}
 use Rattle.sqlite.specs.Tree.{Trees}
 use Rattle.sqlite_keyed.specs.Lists.{insert_sorted, sort_by}
 use Rattle.sqlite_keyed.proofs.ListLemmas.{map-map, ascending-map, ascending_weaker}
@@ -17,9 +14,8 @@ use Rattle.sqlite_trees.specs.Tree.{IsAscending}
 use Rattle.sqlite_value.specs.declared.keys.Key.{Key}
 use Rattle.sqlite_value.proofs.OrderLemmas.{then-Equal}
 use Rattle.store_tables.specs.Statements.{by_column}
-use Rattle.store_tables.proofs.Answers.{each_way, passes, shows, way}
-use Rattle.store_tables.proofs.Texts.{ascending_by, query_of}
-use Rattle.std.proofs.lemmas.Bool.Decides.{nat_tests}
+use Rattle.store_tables.proofs.{Answers.{each_way, passes, shows, way}, Texts.ascending_by}
+use Rattle.store_tables.proofs.Texts.{query_of}
 
 first_stays : {X : Type 0} (cmp : X → X → Ordering) (x : X) (xs : List X)
     → AllByRecursion (λ y. cmp x y ≡ Less) xs → insert_sorted cmp x xs ≡ x ∷ xs
@@ -30,8 +26,7 @@ first_stays cmp x (y ∷ ys) up = cond-false _ _ _ (ap is_gt up.0)
 pub already_sorted : {X : Type 0} (cmp : X → X → Ordering) (xs : List X)
     → IsAscending (λ a b. cmp a b ≡ Less) xs → sort_by cmp xs ≡ xs
 already_sorted cmp [] up = refl
-already_sorted cmp (x ∷ xs) up =
-    ap (insert_sorted cmp x) (already_sorted cmp xs up.1) ∙ first_stays cmp x xs up.0
+already_sorted cmp (x ∷ xs) up = search (first_stays, already_sorted cmp xs up.1)
 
 -- the same query with this LIMIT
 abbrev pub cut_to : Term → Query → Query
@@ -59,7 +54,7 @@ module _ (tree : ℕ) (tests terms : List Term) (order : List (Term × Key)) (li
       × (rows ≡ page asked params all)
   cut =
       let all = IsPermutation-map (λ (o : Output). o.1) a.kept a.ordered a.same in
-      let from : map (λ (o : Output). o.1) a.kept ≡ map (shows terms params) kept = ap
+      let from = ap
       (map (λ (o : Output). o.1)) kept_are ∙ map-map (λ (o : Output). o.1) out kept in (
         map (λ (o : Output). o.1) a.ordered,
         subst (λ l. IsPermutation l (map (λ (o : Output). o.1) a.ordered)) from all,
@@ -103,9 +98,7 @@ module _ (tree place : ℕ) (tests terms : List Term) (limit : Term) (db : Trees
       (subst (λ l. IsPermutation l a.ordered) passing_are a.same) a.sorted
       ∙ sort_by-map (output_cmp question) shown passing
       ∙ (λ i. map shown (sort_by (λ r s. compared r s i) passing)) in
-      a.shown ∙ ap (λ l. page question params (map (λ (o : Output). o.1) l)) ordered
-      ∙ ap (page question params)
-      (map-map (λ (o : Output). o.1) shown (sort_by (by_column place) passing))
+      grind (arith, nat_tests, map-map)
 
   -- the same, where the table has them in that order already
   pub as_stored : IsAscending (λ r s. by_column place r s ≡ Less) passing

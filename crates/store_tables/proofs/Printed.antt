@@ -1,40 +1,25 @@
 -- What a change of `nodes` leaves of the list columns: what they held, or printed entries.
 use Rattle.std.proofs.Common.{◌≡◌, ℕ, ℤ, ◌+◌, List, [], ◌∷◌, codes, drop, find, Bool, true, false}
-use Rattle.std.proofs.Common.{not, map, Some, inl, inr, ◌⊎◌, refl, sym, ap, subst, ◌∙◌}
-use Rattle.std.proofs.Common.{if◌then◌else◌, arith}
-use Rattle.std.specs.Prelude.{◌==◌}
-use Rattle.std.proofs.lemmas.Bool.{and_parts, cases_Bool, cond-false, cond-true}
+use Rattle.std.proofs.Common.{map, Some, inl, inr, ◌⊎◌, refl, sym, ap, subst, ◌∙◌, if◌then◌else◌}
+use Rattle.std.proofs.{Common.arith, lemmas.Bool.{cases_Bool, cond-true, Decides.nat_tests}}
 use Rattle.std.proofs.lemmas.Grind.{get_or_after_one}
-use Rattle.sqlite.specs.declared.types.Value.{Value}
-use Rattle.sqlite.specs.declared.types.Value.TheVariants.{Null, Int, Real, Text, Blob}
-use Rattle.sqlite.specs.Cast.{cast}
-use Rattle.sqlite.specs.Kind.TheVariants as kind
-use Rattle.sqlite.specs.Order.{Row, column, value_cmp}
-use Rattle.sqlite.specs.Tree.{rowid, has_rowid, without_rowid, put_row}
-use Rattle.sqlite.specs.Effect.{Database}
-use Rattle.sqlite_rules.specs.Lists.{Has}
-use Rattle.sqlite_rules.proofs.ListLemmas.{has_filtered, has_found}
-use Rattle.sqlite_rules.specs.Edit.{id_in}
-use Rattle.sqlite_rules.proofs.ProbeLemmas.{has_mapped}
+use Rattle.std.specs.{Prelude.◌==◌, Ordering.match_ordering, declared.cmp.Ordering.Ordering}
+use Rattle.sqlite.specs.{declared.types.Value.{Value, TheVariants.{Null, Text}}, Cast.cast}
+use Rattle.sqlite.specs.{Order.{Row, column, value_cmp}, Tree.{rowid, has_rowid, without_rowid}}
+use Rattle.sqlite.specs.{Tree.put_row, Effect.Database}
+use Rattle.sqlite_rules.specs.{Lists.Has, Edit.id_in, Cast.cast_all}
+use Rattle.sqlite_rules.proofs.{ListLemmas.{has_filtered, has_found}, ProbeLemmas.has_mapped}
 use Rattle.sqlite_rules.proofs.TableLemmas.{int_is}
-use Rattle.sqlite_schema.specs.Rules.{are_typed, is_of}
-use Rattle.sqlite_schema.specs.declared.schema.Column.{Column}
+use Rattle.sqlite_schema.specs.{Rules.{are_typed, is_of}, declared.schema.Column.Column}
 use Rattle.sqlite_sql.specs.Ops.{is_null}
-use Rattle.sqlite_rules.specs.Cast.{cast_all}
-use Rattle.std.specs.Ordering.{match_ordering}
-use Rattle.std.specs.declared.cmp.Ordering.{Ordering}
-use Rattle.std.specs.declared.cmp.Ordering.TheVariants.{Less, Equal, Greater}
-use Rattle.room_entry.specs.declared.object.Which.{Which}
-use Rattle.room_entry.specs.declared.object.Which.TheVariants.{Dacl, Sacl}
+use Rattle.room_entry.specs.declared.object.Which.{Which, TheVariants.{Dacl, Sacl}}
 use Rattle.store_tables.specs.Printed.{ArePrinted, HeldBefore, HoldsPrinted, IsCanonical}
-use Rattle.store_tables.specs.Printed.{KeepsPrinted, list_cells}
-use Rattle.store_tables.specs.Shown.{IsRoom, is_in_range, recast_in, sets_held, sets_inh}
-use Rattle.store_tables.specs.Shown.{sets_owners, sets_place, stored_node}
-use Rattle.store_tables.specs.Tables.{column_of, nodes}
-use Rattle.store_tables.proofs.Rowids.{of_each, rowid_is}
-use Rattle.store_tables.proofs.Typed.{row_typed}
+use Rattle.store_tables.specs.{Printed.{KeepsPrinted, list_cells}, Shown.{IsRoom, is_in_range}}
+use Rattle.store_tables.specs.Shown.{recast_in, sets_held, sets_inh, sets_owners, sets_place}
+use Rattle.store_tables.specs.{Shown.stored_node, Tables.{column_of, nodes}}
+use Rattle.store_tables.proofs.{Rowids.{of_each, rowid_is}, Typed.row_typed}
+use Rattle.sqlite.specs.Kind.TheVariants as kind
 use Rattle.store_tables.specs.NodeCells as cell
-use Rattle.std.proofs.lemmas.Bool.Decides.{nat_tests}
 
 -- ---- calls one after the other
 
@@ -67,18 +52,11 @@ abbrev pub IsText : Value → Type 0
 IsText v = cast kind.Text v ≡ v
 
 text_of : (v : Value) → is_of kind.Text v ≡ true → IsText v
-text_of Null e = refl
-text_of (Int n) e = absurd (let x = e in cc)
-text_of (Real y) e = absurd (let x = e in cc)
-text_of (Text t) e = refl
-text_of (Blob b) e = absurd (let x = e in cc)
+text_of v e = grind (arith, nat_tests)
 
 next_typed : (at : ℕ) (cs : List Column) (vs : Row) → are_typed (Some 0) at cs vs ≡ true
     → are_typed (Some 0) (at + 1) (drop 1 cs) (drop 1 vs) ≡ true
-next_typed at [] [] h = refl
-next_typed at [] (v ∷ vs) h = absurd (let x = h in cc)
-next_typed at (c ∷ cs) [] h = (and_parts (is_null c.default) _ h).1
-next_typed at (c ∷ cs) (v ∷ vs) h = (and_parts _ (are_typed (Some 0) (at + 1) cs vs) h).1
+next_typed at cs vs h = grind (arith, nat_tests)
 
 typed_alone : (b : Bool) (v : Value) → b ≡ false
     → (if b then is_null v else is_of kind.Text v) ≡ true → is_of kind.Text v ≡ true
@@ -139,15 +117,9 @@ has_texts r h0 =
     let h11 = next_typed 10 c10 r11 h10 in
     let at9 : column r9 0 ≡ column r 9 = cell_at r8 0 ∙ cell_at r7 1 ∙ cell_at r6 2 ∙ cell_at r5 3
     ∙ cell_at r4 4 ∙ cell_at r3 5 ∙ cell_at r2 6 ∙ cell_at r1 7 ∙ cell_at r 8 in
-    let at10 : column r10 0 ≡ column r 10 = cell_at r9 0 ∙ cell_at r8 1 ∙ cell_at r7 2
-    ∙ cell_at r6 3 ∙ cell_at r5 4 ∙ cell_at r4 5 ∙ cell_at r3 6 ∙ cell_at r2 7 ∙ cell_at r1 8
-    ∙ cell_at r 9 in
-    let at11 : column r11 0 ≡ column r 11 = cell_at r10 0 ∙ cell_at r9 1 ∙ cell_at r8 2
-    ∙ cell_at r7 3 ∙ cell_at r6 4 ∙ cell_at r5 5 ∙ cell_at r4 6 ∙ cell_at r3 7 ∙ cell_at r2 8
-    ∙ cell_at r1 9 ∙ cell_at r 10 in
-    let at12 : column r12 0 ≡ column r 12 = cell_at r11 0 ∙ cell_at r10 1 ∙ cell_at r9 2
-    ∙ cell_at r8 3 ∙ cell_at r7 4 ∙ cell_at r6 5 ∙ cell_at r5 6 ∙ cell_at r4 7 ∙ cell_at r3 8
-    ∙ cell_at r2 9 ∙ cell_at r1 10 ∙ cell_at r 11 in
+    let at10 : column r10 0 ≡ column r 10 = search (cell_at) in
+    let at11 : column r11 0 ≡ column r 11 = search (cell_at) in
+    let at12 : column r12 0 ≡ column r 12 = search (cell_at) in
     record {
       dacl_own = subst IsText at9 (head_typed 8 (codes "dacl_own") (drop 9 nodes.columns) r9
           refl h8);
@@ -167,11 +139,7 @@ room_texts db room r there = has_texts r (row_typed db room r there)
 -- which cell, of those that hold lists
 pub by_cell : (P : ℕ → Type 0) → P cell.dacl_own → P cell.dacl_inh → P cell.sacl_own → P cell.sacl_inh
     → (place : ℕ) → Has list_cells place → P place
-by_cell P a b c d place (inl e) = subst P (sym e) a
-by_cell P a b c d place (inr (inl e)) = subst P (sym e) b
-by_cell P a b c d place (inr (inr (inl e))) = subst P (sym e) c
-by_cell P a b c d place (inr (inr (inr (inl e)))) = subst P (sym e) d
-by_cell P a b c d place (inr (inr (inr (inr none)))) = absurd none
+by_cell P a b c d place given = grind (arith, nat_tests)
 
 -- a cell of a row that is written over another one: printed entries, or what stood there
 abbrev pub WritesCell : Row → Row → ℕ → Type 0
@@ -214,17 +182,11 @@ has_put x (y ∷ rows) r there =
   where
     by : (o : Ordering) → Has (match_ordering o (y ∷ put_row x rows) (x ∷ rows) (x ∷ y ∷ rows)) r
         → (Has (put_row x rows) r → (r ≡ x) ⊎ Has rows r) → (r ≡ x) ⊎ Has (y ∷ rows) r
-    by Less (inl e) more = inr (inl e)
-    by Less (inr later) more = elim (more later) [ inl e ↦ inl e | inr h ↦ inr (inr h) ]
-    by Equal (inl e) more = inl e
-    by Equal (inr later) more = inr (inr later)
-    by Greater (inl e) more = inl e
-    by Greater (inr later) more = inr later
+    by o given more = grind (arith, nat_tests)
 
 -- where rows are taken out
 pub keeps_fewer : (id : ℤ) (rows : List Row) → KeepsPrinted rows (without_rowid id rows)
-keeps_fewer id rows place list r there =
-    keeps_itself rows place list r (has_filtered (λ r. not (has_rowid id r)) rows r there).0
+keeps_fewer id rows place list r there = grind (arith, nat_tests, has_filtered, keeps_itself)
 
 -- where one is put in
 pub keeps_more : (x : Row) (old rows : List Row) → KeepsPrinted old rows
@@ -263,23 +225,12 @@ keeps_each db room change writes first last place list x there =
     elim (cases_Bool (is_in_range first last r)) [
       | inl within ↦
           let number = int_is (rowid r) (of_each _ (db.trees 0) room.nodes.1 r from.1) in
-          let is : x ≡ stored_node (id_in (rowid r)) (cast_all (drop 1 nodes.columns) (change r)) =
-          from.2 ∙ cond-true (is_in_range first last r) written r within
+          let is = from.2 ∙ cond-true (is_in_range first last r) written r within
           ∙ ap (λ v. v ∷ Null ∷ cast_all (drop 1 nodes.columns) (change r)) number in
           elim (writes (id_in (rowid r)) r (room_texts db room r from.1) place list) [
             | inl printed ↦
                 inl (subst (λ (l : Row). HoldsPrinted (column l place)) (sym is) printed)
-            | inr same ↦
-                inr (
-                  r,
-                  from.1,
-                  number ∙ ap rowid (sym is),
-                  same ∙ ap (λ (l : Row). column l place) (sym is),
-                )
+            | inr same ↦ grind (arith, nat_tests)
           ]
-      | inr isnt ↦
-          subst
-          (λ (l : Row). HoldsPrinted (column l place) ⊎ HeldBefore (db.trees 0) place l)
-          (sym (from.2 ∙ cond-false (is_in_range first last r) written r isnt))
-          (inr (r, from.1, refl, refl))
+      | inr isnt ↦ grind (arith, nat_tests)
     ]

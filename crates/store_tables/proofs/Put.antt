@@ -1,21 +1,17 @@
 -- Rows that are read as things with numbers: one is put in, or in the place of another.
 use Rattle.std.proofs.Common.{◌≡◌, ◌<◌, ◌≤◌, ℕ, pos, List, [], ◌∷◌, map, filter, None, Some, Option}
 use Rattle.std.proofs.Common.{refl, sym, ap, ◌∙◌, true, false, Bool, cond, not, inl, inr, arith}
-use Rattle.std.specs.Prelude.{if◌then◌else◌, ◌==◌, nat_lt}
-use Rattle.std.specs.List.{filter_map, cons_option, AllByRecursion}
-use Rattle.std.specs.Ordering.{is_eq, match_ordering, ordering_reverse}
-use Rattle.std.specs.declared.cmp.Ordering.{Ordering}
+use Rattle.std.proofs.lemmas.Bool.{cases_order, cond-true, ne_eqb, lt-ltb, ltb-true, and_parts}
+use Rattle.std.proofs.lemmas.Bool.Decides.{nat_tests}
+use Rattle.std.specs.{Prelude.{if◌then◌else◌, ◌==◌, nat_lt}, List.{filter_map, cons_option}}
+use Rattle.std.specs.{List.AllByRecursion, Ordering.match_ordering, declared.cmp.Ordering.Ordering}
 use Rattle.std.specs.declared.cmp.Ordering.TheVariants.{Less, Equal, Greater}
-use Rattle.std.proofs.lemmas.Bool.{cases_order, false≢true, cond-true, cond-false, eq-eqb, ne_eqb}
-use Rattle.std.proofs.lemmas.Bool.{lt-ltb, le-ltb, ltb-true, and_parts}
-use Rattle.sqlite.specs.declared.types.Value.TheVariants.{Int}
-use Rattle.sqlite.specs.Order.{Row, value_cmp}
-use Rattle.sqlite.specs.Tree.{rowid, has_rowid, without_rowid, put_row, IsTable}
+use Rattle.sqlite.specs.{declared.types.Value.TheVariants.Int, Order.{Row, value_cmp}, Tree.rowid}
+use Rattle.sqlite.specs.Tree.{has_rowid, without_rowid, put_row, IsTable}
 use Rattle.sqlite_value.proofs.OrderLemmas.{value_cmp_total}
 use Rattle.room_rows.proofs.Lookups.{each-weaker}
 use Rattle.room_rows.specs.Content.{is_rising}
 use Rattle.store_tables.specs.Keyed.{below}
-use Rattle.std.proofs.lemmas.Bool.Decides.{nat_tests}
 
 abbrev pub IsOther : ℕ → Row → Type 0
 IsOther id r = has_rowid (pos id) r ≡ false
@@ -28,13 +24,11 @@ others_step id r rest false is all = (is, all)
 -- no row of that number is left
 pub others : (id : ℕ) (rows : List Row) → AllByRecursion (IsOther id) (without_rowid (pos id) rows)
 others id [] = tt
-others id (r ∷ rows) =
-    others_step id r (without_rowid (pos id) rows) (has_rowid (pos id) r) refl (others id rows)
+others id (r ∷ rows) = search (others_step, others id rows)
 
 not_equal : (id : ℕ) (r new : Row) → rowid new ≡ Int (pos id) → IsOther id r
     → value_cmp (rowid r) (rowid new) ≡ Equal → ⊥
-not_equal id r new is other equal =
-    false≢true (sym other ∙ ap is_eq (ap (value_cmp (rowid r)) (sym is) ∙ equal))
+not_equal id r new is other equal = grind (arith, nat_tests)
 
 -- ---- a row that is read as nothing isn't seen
 
@@ -44,10 +38,7 @@ module _ {X : Type 0} (f : Row → Option X) (new : Row) (id : ℕ)
       → f new ≡ None → IsOther id r → filter_map f (put_row new rows) ≡ filter_map f rows
       → filter_map f (match_ordering o (r ∷ put_row new rows) (new ∷ rows) (new ∷ r ∷ rows))
       ≡ filter_map f (r ∷ rows)
-  unseen_step r rows Less is nothing other more = ap (cons_option (f r)) more
-  unseen_step r rows Equal is nothing other more = absurd (not_equal id r new number other is)
-  unseen_step r rows Greater is nothing other more =
-      ap (λ o. cons_option o (filter_map f (r ∷ rows))) nothing
+  unseen_step r rows o is nothing other more = grind (arith, nat_tests, not_equal)
 
   pub unseen : (rows : List Row) → f new ≡ None → AllByRecursion (IsOther id) rows
       → filter_map f (put_row new rows) ≡ filter_map f rows
@@ -88,12 +79,7 @@ module _ {X : Type 0} (key : X → ℕ) where
       (is_rising ((key other) ∷ map key others)) rises in
       let kept = λ (b : Bool) (l : List X). cond b (other ∷ l) l in
       elim (cases_order (key other) (key n)) [
-        | inl same ↦
-            ap (put_by key n) (cond-false _ _ _ (ap not (eq-eqb (key other) (key n) same))
-            ∙ none_gone n others (key other) (omega (arith, same)) parts.1)
-            ∙ put_first n others (key other) (omega (arith, same)) parts.1
-            ∙ sym (cond-false _ _ _ (le-ltb (key other) (key n) (omega (arith, same)))
-            ∙ cond-true _ _ _ (eq-eqb (key other) (key n) same))
+        | inl same ↦ grind (arith, nat_tests, none_gone, put_first)
         | inr apart ↦ elim apart [
           | inl low ↦
               ap (put_by key n)
@@ -102,11 +88,7 @@ module _ {X : Type 0} (key : X → ℕ) where
               ∙ cond-true _ _ _ (lt-ltb (key other) (key n) low)
               ∙ ap (λ l. other ∷ l) (put_again n others (key other) parts.1)
               ∙ sym (cond-true _ _ _ (lt-ltb (key other) (key n) low))
-          | inr high ↦
-              ap (put_by key n)
-              (cond-true _ _ _
-              (ap not (ne_eqb (key other) (key n) (λ e. absurd (omega (arith, high, e)))))
-              ∙ ap (λ l. other ∷ l) (none_gone n others (key other) (omega (arith, high)) parts.1))
+          | inr high ↦ grind (arith, nat_tests, none_gone)
         ]
       ]
 
@@ -122,8 +104,7 @@ module _ {X : Type 0} (f : Row → Option X) (key : X → ℕ)
     after_step r rest None is less = refl
     after_step r rest (Some m) is less =
         let low : (key m) < (key n) = below (key m) (key n)
-        (ap (λ v. value_cmp v (Int (pos (key n)))) (sym (keyed r m is))
-        ∙ ap (value_cmp (rowid r)) (sym number) ∙ less) in
+        (cc (keyed r m is, number, less)) in
         cond-true _ _ _ (lt-ltb (key m) (key n) low)
 
     before_all : (rows : List Row)
@@ -136,8 +117,7 @@ module _ {X : Type 0} (f : Row → Option X) (key : X → ℕ)
         → (key n) < (key m)
     later x m up is =
         below (key n) (key m)
-        (ap (λ v. value_cmp v (Int (pos (key m)))) (sym number)
-        ∙ ap (value_cmp (rowid new)) (sym (keyed x m is)) ∙ up)
+        (cc (number, keyed x m is, up))
 
     pub put_seen : (rows : List Row) → IsTable rows → AllByRecursion (IsOther (key n)) rows
         → filter_map f (put_row new rows) ≡ put_by key n (filter_map f rows)
@@ -149,15 +129,13 @@ module _ {X : Type 0} (f : Row → Option X) (key : X → ℕ)
             → filter_map f (put_row new rows) ≡ put_by key n (filter_map f rows)
             → filter_map f (match_ordering o (r ∷ put_row new rows) (new ∷ rows) (new ∷ r ∷ rows))
             ≡ put_by key n (cons_option (f r) (filter_map f rows))
-        by Less is more =
-            ap (cons_option (f r)) more ∙ sym (after_step r (filter_map f rows) (f r) refl is)
+        by Less is more = grind (arith, nat_tests, after_step)
         by Equal is more = absurd (not_equal (key n) r new number all.0 is)
         by Greater is more =
-            let up : value_cmp (rowid new) (rowid r) ≡ Less = value_cmp_total.antisymm (rowid new)
-            (rowid r) ∙ ap ordering_reverse is in
+            let up : value_cmp (rowid new) (rowid r) ≡ Less =
+            cc (value_cmp_total.antisymm (rowid new) (rowid r), is) in
             let each = each-weaker (λ b. value_cmp (rowid r) (rowid b) ≡ Less)
             (λ b. (m : X) → f b ≡ Some m → (key n) < (key m))
             (λ x less m at. later x m
             (value_cmp_total.trans (rowid new) (rowid r) (rowid x) up less) at) rows table.0 in
-            ap (λ o. cons_option o (filter_map f (r ∷ rows))) seen
-            ∙ sym (before_all (r ∷ rows) (λ m at. later r m up at, each))
+            cc (seen, before_all (r ∷ rows) (λ m at. later r m up at, each))

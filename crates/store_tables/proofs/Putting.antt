@@ -1,21 +1,14 @@
 -- Parts of a call that write, one after the other.
 use Rattle.std.proofs.Common.{◌≡◌, ◌++◌, ◌+◌, ℕ, suc, zero, List, [], ◌∷◌, Result, Ok, Err, refl}
-use Rattle.std.proofs.Common.{◌∙◌, arith}
-use Rattle.std.specs.List.{range_with_len}
-use Rattle.std.specs.List.Sorted.{IsPermutation}
+use Rattle.std.proofs.{Common.{◌∙◌, arith}, lemmas.Bool.Decides.nat_tests}
+use Rattle.std.specs.List.{range_with_len, Sorted.IsPermutation}
 use Rattle.sqlite.specs.State.{State}
-use Rattle.room_rows.specs.declared.keep.KeepFault.{KeepFault}
-use Rattle.room_rows.specs.declared.node.Node.{Node}
-use Rattle.room_rows.specs.Counts.{capped_rises}
+use Rattle.room_rows.specs.declared.{keep.KeepFault.KeepFault, node.Node.Node}
 use Rattle.room_rows.proofs.Many.{IsOnce, in_any_order, none_changed, one_changed, then_changed}
 use Rattle.room_rows.proofs.SamePlace.{IsSamePlace}
-use Rattle.store_tables.specs.Meaning.{rows_of}
-use Rattle.store_tables.specs.RoomRows.{room_rows}
-use Rattle.store_tables.specs.Trust.{Alters, AltersAll, Puts, stays_itself, stays_on, trusted_first}
-use Rattle.store_tables.specs.Trust.{trusted_last}
-use Rattle.store_tables.proofs.Changing.{cause_later}
-use Rattle.store_tables.proofs.Tests.{if_ok}
-use Rattle.std.proofs.lemmas.Bool.Decides.{nat_tests}
+use Rattle.store_tables.specs.{Meaning.rows_of, RoomRows.room_rows, Trust.{Alters, AltersAll, Puts}}
+use Rattle.store_tables.specs.Trust.{stays_itself, stays_on, trusted_first, trusted_last}
+use Rattle.store_tables.proofs.{Changing.cause_later, Tests.if_ok}
 
 -- objects that are changed
 abbrev pub PutsAll : State → State → ℕ → ℕ → Result (Unit {0}) KeepFault → List ℕ → (Node → Node)
@@ -46,9 +39,7 @@ puts_more change stays once old mid new before between after ids more r first se
       stays = stays_on old mid new first.stays second.stays;
       no_less = omega (arith, first.no_less, second.no_less);
       unfailed = if_ok r _ _ (λ x same. same ∙ first.unfailed) second.unfailed;
-      fault =
-          cause_later r _ _ _ _ (capped_rises _ _ first.no_less) (capped_rises _ _ second.no_less)
-          second.fault;
+      fault = grind (arith, nat_tests, cause_later);
       becomes =
           λ trust. if_ok r _ _
           (λ x then. then_changed change stays once ids more (rows_of old.now) (rows_of mid.now)

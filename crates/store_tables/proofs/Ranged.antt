@@ -1,63 +1,43 @@
 -- What is left where the rows of a range of numbers are written by one statement.
 use Rattle.std.proofs.Common.{◌≡◌, ℕ, ℤ, List, [], ◌∷◌, Bool, true, false, not, length, map, filter}
 use Rattle.std.proofs.Common.{drop, Ok, IsTrue, inl, inr, refl, sym, ap, subst, ◌∙◌, arith}
-use Rattle.std.proofs.Common.{if◌then◌else◌}
-use Rattle.std.specs.Prelude.{◌==◌, ◌||◌}
-use Rattle.std.specs.List.{AllByRecursion, filter_map, flat_map, list_any}
-use Rattle.std.specs.List.Sorted.{IsPermutation}
-use Rattle.std.specs.Ordering.{is_eq}
-use Rattle.std.specs.declared.cmp.Ordering.TheVariants.{Less}
-use Rattle.std.proofs.lemmas.Bool.{cases_Bool, cond-false, cond-true}
-use Rattle.std.proofs.lemmas.Cmp.{tied_itself}
+use Rattle.std.proofs.{Common.if◌then◌else◌, lemmas.Bool.{cases_Bool, cond-false, cond-true}}
+use Rattle.std.proofs.lemmas.{Bool.Decides.nat_tests, Cmp.tied_itself}
 use Rattle.std.proofs.lemmas.List.Sorted.{IsPermutation-sym}
-use Rattle.sqlite.specs.declared.types.Value.TheVariants.{Null, Int}
-use Rattle.sqlite.specs.Cast.{cast_row}
-use Rattle.sqlite.specs.Edit.{taken_by}
-use Rattle.sqlite.specs.Effect.{Database}
-use Rattle.sqlite.specs.Listing.{understood}
-use Rattle.sqlite.specs.Order.{Row, value_cmp}
-use Rattle.sqlite.specs.Rows.{Edited}
-use Rattle.sqlite.specs.State.{Executes, State}
-use Rattle.sqlite.specs.Term.{Term}
-use Rattle.sqlite.specs.Tree.{IsTable, Trees, has_rowid, rowid, without_rowid}
+use Rattle.std.specs.{Prelude.◌==◌, List.{AllByRecursion, filter_map, flat_map, list_any}}
+use Rattle.std.specs.{List.Sorted.IsPermutation, Ordering.is_eq}
+use Rattle.std.specs.declared.cmp.Ordering.TheVariants.{Less}
+use Rattle.sqlite.specs.{declared.types.Value.TheVariants.{Null, Int}, Cast.cast_row, Edit.taken_by}
+use Rattle.sqlite.specs.{Effect.Database, Listing.understood, Order.{Row, value_cmp}, Rows.Edited}
+use Rattle.sqlite.specs.{State.{Executes, State}, Term.Term, Tree.{IsTable, Trees, has_rowid}}
+use Rattle.sqlite.specs.Tree.{rowid, without_rowid}
 use Rattle.sqlite.proofs.Callers.{IsPlain, command_of}
 use Rattle.sqlite_keyed.proofs.ListLemmas.{ascending-map, ascending_weaker}
-use Rattle.sqlite_rules.specs.Action.{Leads, deed_for, loses, pairs, work_by, works}
-use Rattle.sqlite_rules.specs.Calls.{ids_of}
+use Rattle.sqlite_rules.specs.{Action.{Leads, deed_for, loses, pairs, work_by, works}, Calls.ids_of}
 use Rattle.sqlite_rules.specs.Edit.{are_fresh, id_in, left_by, put_all, row_at, without_all}
 use Rattle.sqlite_rules.specs.Lists.{Has}
 use Rattle.sqlite_rules.proofs.ListLemmas.{all_from, all_has, has_filtered, has_kept}
 use Rattle.sqlite_rules.proofs.PlaceLemmas.{given, left_or_taken, row_at_is}
-use Rattle.sqlite_rules.proofs.ProbeLemmas.{has_mapped, mapped_has}
-use Rattle.sqlite_rules.proofs.TableLemmas.{int_is, put_all_adds, put_all_has, put_all_keeps}
+use Rattle.sqlite_rules.proofs.{ProbeLemmas.{has_mapped, mapped_has}, TableLemmas.int_is}
+use Rattle.sqlite_rules.proofs.TableLemmas.{put_all_adds, put_all_has, put_all_keeps}
 use Rattle.sqlite_rules.proofs.TableLemmas.{without_all_has}
-use Rattle.sqlite_schema.specs.Rules.{parent_key}
-use Rattle.sqlite_schema.specs.declared.schema.Keys.TheVariants.{Enforced}
+use Rattle.sqlite_schema.specs.{Rules.parent_key, declared.schema.Keys.TheVariants.Enforced}
 use Rattle.sqlite_sql.specs.Ops.{binary}
 use Rattle.sqlite_tied.specs.Compute.{everything}
 use Rattle.sqlite_trees.specs.View.{IsShaped, is_int}
-use Rattle.sqlite_trees.specs.declared.store.Shape.TheVariants as Shape
-use Rattle.sqlite_trees.proofs.ListLemmas.{all-permutation}
-use Rattle.sqlite_trees.proofs.TreeLemmas.{IsShaped-filter, IsTable-put_row}
+use Rattle.sqlite_trees.proofs.{ListLemmas.all-permutation, TreeLemmas.IsShaped-filter}
+use Rattle.sqlite_trees.proofs.TreeLemmas.{IsTable-put_row}
 use Rattle.sqlite_value.specs.Keys.{plain}
 use Rattle.sqlite_value.proofs.OrderLemmas.{value_cmp_total}
 use Rattle.room_entry.proofs.Facts.Lists.{filter_same}
-use Rattle.store_tables.specs.Printed.{KeepsPrinted}
-use Rattle.store_tables.specs.Shown.{IsRoom, RecastsAll, is_in_range, recast_in}
-use Rattle.store_tables.specs.Tables.{room_schema}
-use Rattle.store_tables.proofs.Actions.{ends}
-use Rattle.store_tables.proofs.Answers.{shows}
-use Rattle.store_tables.proofs.Calls.{retains_by}
-use Rattle.store_tables.proofs.Executed.{WritesRoom}
-use Rattle.store_tables.proofs.Printed.{WritesPrinted, keeps_each}
-use Rattle.store_tables.proofs.RangeTexts.{range_tests}
-use Rattle.store_tables.proofs.Recast.{Rewritten, cast_head, recast, rewritten}
-use Rattle.store_tables.proofs.Rowids.{cells_of, has_itself, of_each}
-use Rattle.store_tables.proofs.Tests.{passes_range}
-use Rattle.store_tables.proofs.Texts.{updates_where}
-use Rattle.store_tables.proofs.Updates.{update_edit}
-use Rattle.store_tables.proofs.Writes.{nodes_table}
-use Rattle.std.proofs.lemmas.Bool.Decides.{nat_tests}
+use Rattle.store_tables.specs.{Printed.KeepsPrinted, Shown.{IsRoom, RecastsAll, is_in_range}}
+use Rattle.store_tables.specs.{Shown.recast_in, Tables.room_schema}
+use Rattle.store_tables.proofs.{Actions.ends, Answers.shows, Calls.retains_by, Executed.WritesRoom}
+use Rattle.store_tables.proofs.{Printed.{WritesPrinted, keeps_each}, RangeTexts.range_tests}
+use Rattle.store_tables.proofs.{Recast.{Rewritten, cast_head, recast, rewritten}, Rowids.cells_of}
+use Rattle.store_tables.proofs.{Rowids.{has_itself, of_each}, Tests.passes_range}
+use Rattle.store_tables.proofs.{Texts.updates_where, Updates.update_edit, Writes.nodes_table}
+use Rattle.sqlite_trees.specs.declared.store.Shape.TheVariants as Shape
 
 -- ---- rows in the order of their numbers
 
@@ -93,24 +73,10 @@ same_rows (x ∷ xs) (y ∷ ys) up up' on back =
     ]
 
     later : (z : Row) → Has xs z → Has ys z
-    later z here = elim (on z (inr here)) [
-      | inl e ↦
-          absurd
-          (not_itself x
-          (subst (λ w. value_cmp (rowid x) (rowid w) ≡ Less) (e ∙ sym head)
-          (of_each _ xs up.0 z here)))
-      | inr there ↦ there
-    ]
+    later z here = grind (arith, nat_tests, head, not_itself, of_each)
 
     earlier : (z : Row) → Has ys z → Has xs z
-    earlier z there = elim (back z (inr there)) [
-      | inl e ↦
-          absurd
-          (not_itself y
-          (subst (λ w. value_cmp (rowid y) (rowid w) ≡ Less) (e ∙ head)
-          (of_each _ ys up'.0 z there)))
-      | inr here ↦ here
-    ]
+    earlier z there = grind (arith, nat_tests, head, not_itself, of_each)
 
 left_shaped : (ids : List ℤ) (rows : List Row) → IsShaped Shape.Table rows
     → IsShaped Shape.Table (without_all rows ids)
@@ -130,9 +96,7 @@ not_gone id x is isnt = absurd (let e = sym isnt ∙ ap not is in cc)
 gone_all : (ids : List ℤ) (rows : List Row) (x : Row) (id : ℤ) → Has ids id
     → has_rowid id x ≡ true → Has (without_all rows ids) x → ⊥
 gone_all (i ∷ ids) rows x id (inl e) is left =
-    not_gone i x (subst (λ z. has_rowid z x ≡ true) e is)
-    (has_filtered (λ r. not (has_rowid i r)) rows x
-    (without_all_has ids (without_rowid i rows) x left)).1
+    grind (arith, nat_tests, has_filtered, not_gone, without_all_has)
 gone_all (i ∷ ids) rows x id (inr more) is left =
     gone_all ids (without_rowid i rows) x id more is left
 gone_all [] rows x id none is left = absurd none
@@ -169,8 +133,7 @@ module _ (change : Row → Row) (first last : ℤ) where
 
   mapped_shaped : (rows : List Row) → IsShaped Shape.Table rows
       → IsShaped Shape.Table (map into rows)
-  mapped_shaped rows shaped =
-      grind (arith, nat_tests, ascending-map, ascending_weaker, keep_ints, keeps_rowid)
+  mapped_shaped rows shaped = search (ascending-map, ascending_weaker, keep_ints, keeps_rowid)
 
 -- ---- the rows that are found
 
@@ -240,12 +203,12 @@ module _ (change : Row → Row) (first last : ℤ) (terms : List Term) (params :
       let it = from x (inl refl) in
       let old = old_is it.0 x it.1 ∙ cells_of it.1.id it.0 it.1.number in
       let this : loses plain (0 ∷ []) (row_at (db 0) (id_in (rowid x)), new_of x) ≡ false =
-      ap (λ o. loses plain (0 ∷ []) (o, new_of x)) old
-      ∙ ap (λ n. loses plain (0 ∷ []) (Int it.1.id ∷ drop 1 it.0, n)) (cast_is it.0 x it.1)
-      ∙ keeps_one it.1.id (drop 1 it.0) (Null ∷ recast (change it.0)) in
-      ap (λ b. b || list_any (loses plain (0 ∷ []))
-      (pairs (map (row_at (db 0)) (ids_of xs)) (map new_of xs))) this
-      ∙ none_lost xs (λ y there. from y (inr there))
+      cc (
+        old,
+        cast_is it.0 x it.1,
+        keeps_one it.1.id (drop 1 it.0) (Null ∷ recast (change it.0)),
+      ) in
+      cc (this, none_lost xs (λ y there. from y (inr there)))
 
   -- ---- what the edit leaves
 
@@ -269,8 +232,7 @@ module _ (change : Row → Row) (first last : ℤ) (terms : List Term) (params :
             elim (cases_Bool (is_in_range first last x)) [
               | inl within ↦
                   let s = shown x was within in
-                  let id : Has (ids_of rows) (id_in (rowid (shows terms params x))) =
-                  mapped_has (λ r. id_in (rowid r)) rows (shows terms params x)
+                  let id = mapped_has (λ r. id_in (rowid r)) rows (shows terms params x)
                   (answered x was within) in
                   absurd (gone_all (ids_of rows) (db 0) x s.id
                   (subst (Has (ids_of rows)) (ap (λ l. id_in (rowid l)) s.is) id)
@@ -321,26 +283,14 @@ module _ (change : Row → Row) (first last : ℤ) (terms : List Term) (params :
   all_recast (inr (inr went)) =
       let start = went.0 in
       let other = went.1.tables in
-      let work : works room_schema Enforced 0 0 (taken_by db (update_edit db rows))
-      (update_edit db rows).news ≡ [] =
-      ap (works room_schema Enforced 0 0 (taken_by db (update_edit db rows))) news_are
+      let work = ap (works room_schema Enforced 0 0 (taken_by db (update_edit db rows))) news_are
       ∙ spares (length (map new_of rows) == 0) (map (row_at (db 0)) (ids_of rows))
       (map new_of rows) (none_lost rows source) in
       let led = subst (λ stack. Leads room_schema Enforced went.2.0 start stack (Ok next)) work
       went.2.1 in
       let same : start ≡ next = ends went.2.0 start next led in
-      let at : (tree : ℕ) → next tree ≡ start tree = λ tree. ap (λ (t : Trees). t tree)
-      (sym same) in
-      record {
-        nodes =
-            at 0 ∙ went.1.rows ∙ ap (put_all (left_by db (update_edit db rows))) news_are
-            ∙ edited_is
-            (sym (ap (are_fresh (left_by db (update_edit db rows))) news_are) ∙ went.1.fresh);
-        bodies = at 2 ∙ other.1.0 (λ e. let e' : 2 ≡ 0 = e in omega (arith, e'));
-        members = at 3 ∙ other.1.1.0 (λ e. let e' : 3 ≡ 0 = e in omega (arith, e'));
-        meta = at 5 ∙ other.1.1.1.0 (λ e. let e' : 5 ≡ 0 = e in omega (arith, e'));
-        audits = at 7 ∙ other.1.1.1.1.0 (λ e. let e' : 7 ≡ 0 = e in omega (arith, e'));
-      }
+      let at : (tree : ℕ) → next tree ≡ start tree = λ tree. cc (same) in
+      grind (arith, nat_tests, edited_is, news_are, update_edit)
 
 -- ---- the statement
 
@@ -371,16 +321,7 @@ module _ (text : List ℕ) (terms : List Term)
       let d = rewritten text range_tests terms is plain_text params old new count room.schema h in
       let it = ranged old new count room d in (
         d.shown.committed_is ∙ ap (λ b. if b then old.committed else new.now) within,
-        record {
-          schema = ap (λ (db : Database). db.schema) d.now;
-          sound = d.sound;
-          nodes =
-              subst (IsShaped Shape.Table) (sym it.nodes)
-              (mapped_shaped change first last (old.now.trees 0) room.nodes);
-          bodies = subst (IsShaped Shape.Table) (sym it.bodies) room.bodies;
-          members = subst (IsShaped Shape.Table) (sym it.members) room.members;
-          audits = subst (IsShaped Shape.Table) (sym it.audits) room.audits;
-        },
+        grind (arith, nat_tests, mapped_shaped),
         d.shown.mode ∙ within,
         retains_by _ _ it.meta it.audits
             (subst (KeepsPrinted (old.now.trees 0)) (sym it.nodes)

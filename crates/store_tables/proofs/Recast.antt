@@ -1,42 +1,30 @@
 -- What is left where some cells of a row are written by its number, and the others as they are.
 use Rattle.std.proofs.Common.{◌≡◌, ℕ, ℤ, List, [], ◌∷◌, length, map, filter, find, drop, Ok, None}
 use Rattle.std.proofs.Common.{Some, IsTrue, inl, inr, ◌⊎◌, refl, sym, ap, subst, ◌∙◌, not}
-use Rattle.std.proofs.Common.{if◌then◌else◌, unwrap_or, arith}
+use Rattle.std.proofs.{Common.{if◌then◌else◌, unwrap_or, arith}, lemmas.Option.same_Some}
+use Rattle.std.proofs.lemmas.Bool.Decides.{nat_tests}
 use Rattle.std.specs.List.Sorted.{IsPermutation}
-use Rattle.std.proofs.lemmas.Option.{same_Some}
-use Rattle.sqlite.specs.declared.types.Value.TheVariants.{Null, Int}
-use Rattle.sqlite.specs.Order.{Row}
-use Rattle.sqlite.specs.Program.{overlay}
-use Rattle.sqlite.specs.Cast.{cast_row}
-use Rattle.sqlite.specs.Term.{Term}
-use Rattle.sqlite.specs.Tree.{Trees, rowid, has_rowid}
-use Rattle.sqlite.specs.Does.{Tally, Does}
-use Rattle.sqlite.specs.Rows.{Edited, Written}
-use Rattle.sqlite.specs.Effect.{Database, IsDatabase}
-use Rattle.sqlite.specs.Listing.{understood}
-use Rattle.sqlite.specs.State.{State, mode_of, Executes, Shows}
+use Rattle.sqlite.specs.{declared.types.Value.TheVariants.{Null, Int}, Order.Row, Program.overlay}
+use Rattle.sqlite.specs.{Cast.cast_row, Term.Term, Tree.{Trees, rowid, has_rowid}, Does.Tally}
+use Rattle.sqlite.specs.{Does.Does, Rows.{Edited, Written}, Effect.{Database, IsDatabase}}
+use Rattle.sqlite.specs.{Listing.understood, State.{State, mode_of, Executes, Shows}}
 use Rattle.sqlite.proofs.Callers.{IsPlain, command_of, runs_as, statement_of, one_permutation}
 use Rattle.sqlite_rules.specs.Cast.{cast_all}
 use Rattle.sqlite_schema.specs.declared.schema.Keys.TheVariants.{Enforced}
 use Rattle.sqlite_trees.specs.View.{IsShaped}
-use Rattle.sqlite_trees.specs.declared.store.Shape.TheVariants as Shape
 use Rattle.sqlite_trees.proofs.TreeLemmas.{IsShaped-filter, IsShaped-put_row}
-use Rattle.store_tables.specs.Tables.{nodes, room_schema}
-use Rattle.store_tables.specs.Shown.{IsRoom, KeepsAll, Recasts, Replaces, stored_node}
+use Rattle.store_tables.specs.{Tables.{nodes, room_schema}, Shown.{IsRoom, KeepsAll, Recasts}}
+use Rattle.store_tables.specs.{Shown.{Replaces, stored_node}, Printed.KeepsPrinted}
 use Rattle.store_tables.proofs.Texts.{matches_parameter, updates_nodes, updates_where}
-use Rattle.store_tables.proofs.Answers.{passes, shows, selected}
-use Rattle.store_tables.proofs.Tests.{passes_id}
-use Rattle.store_tables.proofs.Writes.{went, same_value, nodes_table}
-use Rattle.store_tables.specs.Printed.{KeepsPrinted}
-use Rattle.store_tables.proofs.Printed.{WritesPrinted, keeps_over, keeps_same}
-use Rattle.store_tables.proofs.Calls.{retains_by}
-use Rattle.store_tables.proofs.Executed.{WritesRoom}
-use Rattle.store_tables.proofs.Rowids.{at_most_one, only_one, has_found, cells_of, alone_in}
-use Rattle.store_tables.proofs.Rowids.{rowid_is, of_each}
-use Rattle.store_tables.proofs.Actions.{ends, sets_off_none}
-use Rattle.store_tables.proofs.Updates.{cast_int, cast_null, keeps_number, update_edit}
+use Rattle.store_tables.proofs.{Answers.{passes, shows, selected}, Tests.passes_id, Writes.went}
+use Rattle.store_tables.proofs.{Writes.{same_value, nodes_table}, Printed.WritesPrinted}
+use Rattle.store_tables.proofs.{Printed.{keeps_over, keeps_same}, Calls.retains_by}
+use Rattle.store_tables.proofs.{Executed.WritesRoom, Rowids.{at_most_one, only_one, has_found}}
+use Rattle.store_tables.proofs.{Rowids.{cells_of, alone_in, rowid_is, of_each}, Actions.ends}
+use Rattle.store_tables.proofs.{Actions.sets_off_none, Updates.{cast_int, cast_null, keeps_number}}
+use Rattle.store_tables.proofs.Updates.{update_edit}
 use Rattle.room_entry.proofs.Facts.Lists.{filter_same}
-use Rattle.std.proofs.lemmas.Bool.Decides.{nat_tests}
+use Rattle.sqlite_trees.specs.declared.store.Shape.TheVariants as Shape
 
 -- what the columns after the number make of cells
 abbrev pub recast : Row → Row

@@ -1,27 +1,20 @@
 -- What the rows mean once an object is taken out.
 use Rattle.std.proofs.Common.{◌≡◌, ℕ, pos, List, [], ◌∷◌, filter, find, None, Some, Option, refl}
 use Rattle.std.proofs.Common.{sym, ap, ◌∙◌, true, false, Bool, cond, not, arith}
+use Rattle.std.proofs.lemmas.{Bool.{cond-true, cond-false, Decides.nat_tests}, Option.none-some}
 use Rattle.std.specs.Prelude.{option_and_then, option_map, is_none, is_some, if◌then◌else◌, ◌==◌}
-use Rattle.std.specs.Prelude.{map}
-use Rattle.std.specs.List.{filter_map, cons_option}
-use Rattle.std.proofs.lemmas.Bool.{cond-true, cond-false}
-use Rattle.std.proofs.lemmas.Option.{none-some}
-use Rattle.sqlite.specs.Order.{Row}
-use Rattle.sqlite.specs.Tree.{rowid, has_rowid, without_rowid, IsTable}
+use Rattle.std.specs.{Prelude.map, List.{filter_map, cons_option}}
+use Rattle.sqlite.specs.{Order.Row, Tree.{rowid, has_rowid, without_rowid, IsTable}}
 use Rattle.sqlite.specs.Effect.{Database}
 use Rattle.room_entry.specs.Pieces.{is_among}
-use Rattle.room_rows.specs.declared.node.AuditRow.{AuditRow}
-use Rattle.room_rows.specs.declared.node.Node.{Node}
-use Rattle.room_rows.specs.Content.{node_at, without_node}
-use Rattle.room_rows.specs.Rows.{Rows, Unread, is_unreadable}
+use Rattle.room_rows.specs.{declared.node.{AuditRow.AuditRow, Node.Node}, Content.node_at}
+use Rattle.room_rows.specs.{Content.without_node, Rows.{Rows, Unread, is_unreadable}}
 use Rattle.room_rows.specs.Keep.{CanRemove, with_content}
-use Rattle.store_tables.specs.Shown.{RemovesRow, IsRoom, shown_node}
-use Rattle.store_tables.specs.Meaning.{number_in, node_in, unread_in, body_in, audit_in, nodes_of}
-use Rattle.store_tables.specs.Meaning.{unread_of, unread_with, bodies_of, pairs_of, rows_of}
-use Rattle.store_tables.specs.Keyed.{has_key}
+use Rattle.store_tables.specs.{Shown.{RemovesRow, IsRoom, shown_node}, Meaning.{number_in, node_in}}
+use Rattle.store_tables.specs.Meaning.{unread_in, body_in, audit_in, nodes_of, unread_of}
+use Rattle.store_tables.specs.{Meaning.{unread_with, bodies_of, pairs_of, rows_of}, Keyed.has_key}
 use Rattle.store_tables.specs.Filed.{node_keyed, unread_keyed, body_rowid, node_at_row}
 use Rattle.store_tables.specs.Filed.{unread_at_row}
-use Rattle.std.proofs.lemmas.Bool.Decides.{nat_tests}
 
 -- ---- rows that stay, and what they are read as
 
@@ -35,21 +28,18 @@ module _ {X : Type 0} (f : Row → Option X) (key : X → ℕ)
       → filter_map f (cond (not b) (r ∷ without_rowid (pos id) rows) (without_rowid (pos id) rows))
       ≡ filter (λ x. not (key x == id)) (cons_option o (filter_map f rows))
   stay_step id r rows None true is has more = more
-  stay_step id r rows None false is has more =
-      ap (λ o. cons_option o (filter_map f (without_rowid (pos id) rows))) is ∙ more
+  stay_step id r rows None false is has more = cc (is, more)
   stay_step id r rows (Some x) true is has more =
       more ∙ sym (cond-false _ _ _ (ap not (sym (has_key f key keyed id r x is) ∙ has)))
   stay_step id r rows (Some x) false is has more =
-      ap (λ o. cons_option o (filter_map f (without_rowid (pos id) rows))) is ∙ ap (λ l. x ∷ l) more
-      ∙ sym (cond-true _ _ _ (ap not (sym (has_key f key keyed id r x is) ∙ has)))
+      cc (is, more, cond-true _ _ _ (ap not (sym (has_key f key keyed id r x is) ∙ has)))
 
   -- a table without the row of a number is read as before, less what was read of that number
   pub read_without : (id : ℕ) (rows : List Row)
       → filter_map f (without_rowid (pos id) rows)
       ≡ filter (λ x. not (key x == id)) (filter_map f rows)
   read_without id [] = refl
-  read_without id (r ∷ rows) =
-      stay_step id r rows (f r) (has_rowid (pos id) r) refl refl (read_without id rows)
+  read_without id (r ∷ rows) = grind (arith, nat_tests, stay_step, read_without id rows)
 
 -- a number that isn't there is not missed
 pub none_missed : {X : Type 0} (key : X → ℕ) (id : ℕ) (xs : List X)
@@ -71,14 +61,12 @@ readable db id n table there = by (find (has_rowid (pos id)) (db.trees 0)) refl
         → is_unreadable (rows_of db) id ≡ false
     by None found =
         absurd
-        (none-some n (sym (ap (option_and_then (λ r. node_in (shown_node r))) found)
-        ∙ sym (node_at_row db id table) ∙ there))
+        (none-some n (cc (found, node_at_row db id table, there)))
     by (Some r) found =
         unread_at_row db id table
         ∙ ap (λ o. is_some (option_and_then unread_in o)) found
         ∙ seen (node_in (shown_node r)) (option_map (unread_with r) (number_in (rowid r)))
-        (sym (ap (option_and_then (λ r. node_in (shown_node r))) found)
-        ∙ sym (node_at_row db id table) ∙ there)
+        (cc (found, node_at_row db id table, there))
 
 -- what a file says is equal where objects, rows that can't be read, bytes, pairs and records are
 pub same_rows : {a b : List Node} {u v : List Unread} {c d : List (ℕ × List ℕ)}
@@ -99,18 +87,13 @@ pub removed_rows : (db next : Database) (id : ℕ) → IsRoom db
     → RemovesRow (pos id) db.trees next.trees → CanRemove id (rows_of db)
     → rows_of next ≡ with_content (rows_of db) (without_node (rows_of db).read id)
 removed_rows db next id room gone can =
-    let nodes : nodes_of (next.trees 0)
-    ≡ filter (λ (n : Node). not (n.id == id)) (nodes_of (db.trees 0)) =
-    ap nodes_of gone.nodes
+    let nodes = ap nodes_of gone.nodes
     ∙ read_without (λ r. node_in (shown_node r)) (λ (n : Node). n.id) node_keyed id
     (db.trees 0) in
-    let unread : unread_of (next.trees 0) ≡ unread_of (db.trees 0) =
-    ap unread_of gone.nodes
+    let unread = ap unread_of gone.nodes
     ∙ read_without unread_in (λ (u : Unread). u.id) unread_keyed id (db.trees 0)
     ∙ none_missed (λ (u : Unread). u.id) id (unread_of (db.trees 0))
     (readable db id can.node room.nodes.0 can.is_there) in
-    let bodies : bodies_of (next.trees 2)
-    ≡ filter (λ (x : ℕ × List ℕ). not (x.0 == id)) (bodies_of (db.trees 2)) =
-    ap bodies_of gone.bodies
+    let bodies = ap bodies_of gone.bodies
     ∙ read_without body_in (λ (x : ℕ × List ℕ). x.0) body_rowid id (db.trees 2) in
     same_rows nodes unread bodies (ap pairs_of gone.members) (ap (filter_map audit_in) gone.audits)

@@ -1,24 +1,18 @@
 -- What the rows mean once the row of an object is written anew.
 use Rattle.std.proofs.Common.{◌≡◌, ℕ, pos, List, [], ◌∷◌, filter, None, Some, Option, refl, sym, ap}
-use Rattle.std.proofs.Common.{subst, ◌∙◌, not, arith}
-use Rattle.std.specs.Prelude.{is_none, option_map, if◌then◌else◌, ◌==◌}
-use Rattle.std.specs.List.{filter_map, AllByRecursion}
-use Rattle.sqlite.specs.Order.{Row}
-use Rattle.sqlite.specs.Tree.{rowid, has_rowid, without_rowid, IsTable}
-use Rattle.sqlite.specs.Effect.{Database}
-use Rattle.room_rows.specs.declared.node.Node.{Node}
-use Rattle.room_rows.specs.Content.{node_at, put_node, with_node}
-use Rattle.room_rows.specs.Keep.{with_content}
-use Rattle.room_rows.specs.Rows.{Unread}
-use Rattle.sqlite_trees.specs.declared.store.Shape.TheVariants as Shape
+use Rattle.std.proofs.{Common.{subst, ◌∙◌, not, arith}, lemmas.Bool.Decides.nat_tests}
+use Rattle.std.specs.{Prelude.◌==◌, List.{filter_map, AllByRecursion}}
+use Rattle.sqlite.specs.{Order.Row, Tree.{has_rowid, without_rowid, IsTable}, Effect.Database}
+use Rattle.room_rows.specs.{declared.node.Node.Node, Content.{node_at, put_node, with_node}}
+use Rattle.room_rows.specs.{Keep.with_content, Rows.Unread}
 use Rattle.sqlite_trees.proofs.TreeLemmas.{IsShaped-filter}
-use Rattle.store_tables.specs.Shown.{Replaces, IsRoom, shown_node, stored_node}
-use Rattle.store_tables.specs.Meaning.{number_in, node_in, unread_in, audit_in, nodes_of, unread_of}
-use Rattle.store_tables.specs.Meaning.{bodies_of, pairs_of, rows_of, unread_with}
+use Rattle.store_tables.specs.{Shown.{Replaces, IsRoom, shown_node, stored_node}, Meaning.node_in}
+use Rattle.store_tables.specs.Meaning.{unread_in, audit_in, nodes_of, unread_of, bodies_of}
+use Rattle.store_tables.specs.{Meaning.{pairs_of, rows_of}, Filed.{node_keyed, unread_keyed}}
+use Rattle.store_tables.specs.Filed.{nodes_rise}
 use Rattle.store_tables.proofs.Put.{IsOther, others, put_again, put_by, put_seen, unseen}
-use Rattle.store_tables.specs.Filed.{node_keyed, unread_keyed, nodes_rise}
 use Rattle.store_tables.proofs.Removed.{read_without, none_missed, readable, same_rows}
-use Rattle.std.proofs.lemmas.Bool.Decides.{nat_tests}
+use Rattle.sqlite_trees.specs.declared.store.Shape.TheVariants as Shape
 
 pub node_put : (n : Node) (nodes : List Node)
     → put_node n nodes ≡ put_by (λ (m : Node). m.id) n nodes
@@ -40,8 +34,7 @@ replaced_rows db next id values before n room there seen is put =
     let table : IsTable left =
     (IsShaped-filter Shape.Table (λ r. not (has_rowid (pos id) r)) (db.trees 0) room.nodes).0 in
     let gone : AllByRecursion (IsOther id) left = others id (db.trees 0) in
-    let nodes : nodes_of (next.trees 0) ≡ put_node n (nodes_of (db.trees 0)) =
-    ap nodes_of put.nodes
+    let nodes = ap nodes_of put.nodes
     ∙ put_seen see (λ (m : Node). m.id) node_keyed new n seen left table
     (subst (λ k. AllByRecursion (IsOther k) left) (sym is) gone)
     ∙ ap (put_by (λ (m : Node). m.id) n)
@@ -50,10 +43,8 @@ replaced_rows db next id values before n room there seen is put =
     (filter (λ (m : Node). not (m.id == k)) (nodes_of (db.trees 0)))) (sym is)
     ∙ put_again (λ (m : Node). m.id) n (nodes_of (db.trees 0)) 0
     (nodes_rise (db.trees 0) room.nodes.0) ∙ sym (node_put n (nodes_of (db.trees 0))) in
-    let nothing : unread_in new ≡ None = ap
-    (λ o. if is_none o then option_map (unread_with new) (number_in (rowid new)) else None) seen in
-    let unread : unread_of (next.trees 0) ≡ unread_of (db.trees 0) =
-    ap unread_of put.nodes ∙ unseen unread_in new id refl left nothing gone
+    let nothing : unread_in new ≡ None = cc (seen) in
+    let unread = ap unread_of put.nodes ∙ unseen unread_in new id refl left nothing gone
     ∙ read_without unread_in (λ (u : Unread). u.id) unread_keyed id (db.trees 0)
     ∙ none_missed (λ (u : Unread). u.id) id (unread_of (db.trees 0))
     (readable db id before room.nodes.0 there) in

@@ -1,26 +1,18 @@
 -- Rows by their rowids.
 use Rattle.std.proofs.Common.{◌≡◌, ◌<◌, ℕ, ℤ, pos, to_z, of_z, w64, List, [], ◌∷◌, ◌++◌, filter}
 use Rattle.std.proofs.Common.{Some, IsTrue, inl, inr, ◌⊎◌, refl, sym, ap, subst, ◌∙◌, true, false}
-use Rattle.std.proofs.Common.{Bool, cond, find, arith, drop}
-use Rattle.std.proofs.Math.Facts.{to_z-of_z}
-use Rattle.std.specs.Prelude.{FitsSigned}
-use Rattle.std.specs.Ordering.{is_eq, is_lt}
-use Rattle.std.specs.List.{AllByRecursion}
-use Rattle.sqlite.specs.declared.types.Value.{Value}
-use Rattle.sqlite.specs.declared.types.Value.TheVariants.{Null, Int, Real, Text, Blob}
-use Rattle.sqlite.specs.Order.{Row, value_cmp}
-use Rattle.sqlite.specs.Tree.{rowid, has_rowid, without_rowid, IsTable}
+use Rattle.std.proofs.{Common.{Bool, cond, find, arith, drop}, Math.Facts.to_z-of_z}
+use Rattle.std.proofs.lemmas.{List.Sorted.length_permutation, Cmp.tied_itself}
+use Rattle.std.proofs.lemmas.Bool.Decides.{nat_tests}
+use Rattle.std.specs.{Prelude.FitsSigned, Ordering.{is_eq, is_lt}, List.AllByRecursion}
+use Rattle.std.specs.{List.Sorted.IsPermutation, FinMap.int_cmp-IsAntisymmetric}
+use Rattle.std.specs.declared.cmp.Ordering.{Ordering, TheVariants.Equal}
+use Rattle.sqlite.specs.{declared.types.Value.{Value, TheVariants.{Null, Int}}, Order.Row}
+use Rattle.sqlite.specs.{Order.value_cmp, Tree.{rowid, has_rowid, without_rowid, IsTable}}
 use Rattle.sqlite_trees.proofs.TreeLemmas.{later_rowids}
-use Rattle.std.specs.List.Sorted.{IsPermutation}
-use Rattle.std.proofs.lemmas.List.Sorted.{length_permutation}
 use Rattle.sqlite_trees.specs.View.{is_int}
 use Rattle.sqlite_value.proofs.OrderLemmas.{value_cmp-Int, value_cmp_total}
 use Rattle.sqlite_rules.specs.Lists.{Has}
-use Rattle.std.proofs.lemmas.Cmp.{tied_itself}
-use Rattle.std.specs.FinMap.{int_cmp-IsAntisymmetric}
-use Rattle.std.specs.declared.cmp.Ordering.{Ordering}
-use Rattle.std.specs.declared.cmp.Ordering.TheVariants.{Less, Equal, Greater}
-use Rattle.std.proofs.lemmas.Bool.Decides.{nat_tests}
 
 -- a number's rowid that is passed on is that number
 pub passed_on : (row : ℤ) (id : ℕ) → FitsSigned w64 (pos id) × (row ≡ pos id) × (0 < id)
@@ -33,9 +25,7 @@ has_itself id = ap is_eq (tied_itself value_cmp_total (Int id))
 
 -- of the three orderings only `Equal` says that two values are equal
 pub is_equal : (o : Ordering) → is_eq o ≡ true → o ≡ Equal
-is_equal Less h = absurd (let e = h in cc)
-is_equal Equal h = refl
-is_equal Greater h = absurd (let e = h in cc)
+is_equal o h = grind (arith, nat_tests)
 
 -- integers that compare as equal, as values of a table, are the same integer
 pub same_int : (m n : ℤ) → is_eq (value_cmp (Int m) (Int n)) ≡ true → m ≡ n
@@ -49,17 +39,13 @@ rowid_is id r int h = go (rowid r) int h
     go : (v : Value) → IsTrue (is_int v) → is_eq (value_cmp v (Int id)) ≡ true → v ≡ Int id
     go (Int n) i e = ap Int (same_int n id e)
     go Null i e = absurd (let x = i in cc)
-    go (Real x) i e = absurd (let y = i in cc)
-    go (Text t) i e = absurd (let y = i in cc)
-    go (Blob b) i e = absurd (let y = i in cc)
+    go _ i e = absurd (let y = i in cc)
 
 first_step : {A : Type 0} (p : A → Bool) (y : A) (ys : List A) (x : A) (more : List A) (b : Bool)
     → p y ≡ b → (filter p ys ≡ x ∷ more → (find p ys ≡ Some x) × (p x ≡ true))
     → cond b (y ∷ filter p ys) (filter p ys) ≡ x ∷ more → (cond b (Some y) (find p ys) ≡ Some x)
     × (p x ≡ true)
-first_step p y ys x more true is later e = let same : y ≡ x = cc in
-    (ap Some same, subst (λ z. p z ≡ true) same is)
-first_step p y ys x more false is later e = later e
+first_step p y ys x more b is later e = grind (arith, nat_tests)
 
 -- the first of the rows that pass a test is the one that `find` gives, and it passes
 pub first_one : {A : Type 0} (p : A → Bool) (xs : List A) (x : A) (more : List A)
@@ -112,9 +98,7 @@ none_pass p [] all = refl
 none_pass p (x ∷ xs) all = rw all.0 (none_pass p xs all.1)
 
 is_not_less : (o : Ordering) → is_eq o ≡ true → is_lt o ≡ false
-is_not_less Less h = absurd (let e = h in cc)
-is_not_less Equal h = refl
-is_not_less Greater h = refl
+is_not_less o h = grind (arith, nat_tests)
 
 -- a table has a rowid at most once
 pub at_most_one : (id : ℤ) (rows : List Row) → IsTable rows → (filter (has_rowid id) rows ≡ [])
@@ -130,8 +114,7 @@ at_most_one id (r ∷ rows) table = go (has_rowid id r) refl (at_most_one id row
     go true is more =
         inr (
           r,
-          ap (λ l. r ∷ l)
-              (none_pass _ rows (later_rowids (Int id) r rows (is_not_less _ is) table.0)),
+          cc (none_pass _ rows (later_rowids (Int id) r rows (is_not_less _ is) table.0)),
         )
     go false is more = more
 

@@ -1,12 +1,8 @@
 -- What each query of the keeper shows of the tables.
 use Rattle.std.proofs.Common.{◌≡◌, ℕ, ℤ, pos, negsuc, List, [], ◌∷◌, map, take, codes, ap, subst}
 use Rattle.std.proofs.Common.{sym, ◌∙◌, Less, IsPermutation}
-use Rattle.sqlite.specs.declared.types.Value.TheVariants.{Null, Int, Text}
-use Rattle.sqlite.specs.Order.{Row, value_cmp}
-use Rattle.sqlite.specs.Program.{overlay}
-use Rattle.sqlite.specs.State.{State, Shown}
-use Rattle.sqlite.specs.Term.{col, lit}
-use Rattle.sqlite.specs.Tree.{rowid}
+use Rattle.sqlite.specs.{declared.types.Value.TheVariants.{Null, Int, Text}, Order.{Row, value_cmp}}
+use Rattle.sqlite.specs.{Program.overlay, State.{State, Shown}, Term.{col, lit}, Tree.rowid}
 use Rattle.sqlite.proofs.Callers.{reads_as}
 use Rattle.sqlite_keyed.specs.Lists.{sort_by}
 use Rattle.sqlite_keyed.proofs.ListLemmas.{ascending-filter}
@@ -15,19 +11,16 @@ use Rattle.store_tables.specs.Statements.{HasBytes, HasChild, HasGroups, HasName
 use Rattle.store_tables.specs.Statements.{HasNumbers, HasSome, HasTop, HasUnder, by_column}
 use Rattle.store_tables.specs.Statements.{shown_bytes, shown_group, shown_name, shown_number}
 use Rattle.store_tables.specs.Tables.{room_schema}
-use Rattle.store_tables.proofs.Answers.{passes}
-use Rattle.store_tables.proofs.Calls.{selects_rows}
-use Rattle.store_tables.proofs.Ordered.{HasNoTies, as_stored, cut, in_order}
-use Rattle.store_tables.proofs.Apart.{children_apart, members_apart}
+use Rattle.store_tables.proofs.{Answers.passes, Calls.selects_rows, Ordered.{HasNoTies, as_stored}}
+use Rattle.store_tables.proofs.{Ordered.{cut, in_order}, Apart.{children_apart, members_apart}}
 use Rattle.store_tables.proofs.Tests.{passes_child, passes_child_named, passes_id, passes_numbered}
-use Rattle.store_tables.proofs.Tests.{passes_top, passes_user}
-use Rattle.store_tables.proofs.Texts.{all_columns, body_is, body_text, child_is, child_text}
-use Rattle.store_tables.proofs.Texts.{children_is, children_query, children_text, groups_is}
-use Rattle.store_tables.proofs.Texts.{groups_query, groups_text, ids_is, ids_query, ids_text}
-use Rattle.store_tables.proofs.Texts.{is_kept, matches_parameter, name_columns, name_query, names}
-use Rattle.store_tables.proofs.Texts.{names_are, names_text, node_is, node_text, plain_names}
-use Rattle.store_tables.proofs.Texts.{plain_some, plain_texts, root_is, root_query, root_text}
-use Rattle.store_tables.proofs.Texts.{selects, some_is, some_query, some_text, top_tests}
+use Rattle.store_tables.proofs.{Tests.{passes_top, passes_user}, Texts.{all_columns, body_is}}
+use Rattle.store_tables.proofs.Texts.{body_text, child_is, child_text, children_is, children_query}
+use Rattle.store_tables.proofs.Texts.{children_text, groups_is, groups_query, groups_text, ids_is}
+use Rattle.store_tables.proofs.Texts.{ids_query, ids_text, is_kept, matches_parameter, name_columns}
+use Rattle.store_tables.proofs.Texts.{name_query, names, names_are, names_text, node_is, node_text}
+use Rattle.store_tables.proofs.Texts.{plain_names, plain_some, plain_texts, root_is, root_query}
+use Rattle.store_tables.proofs.Texts.{root_text, selects, some_is, some_query, some_text, top_tests}
 use Rattle.room_entry.proofs.Facts.Lists.{filter_same}
 
 module _ (old new : State) (rows : List Row) (room : IsRoom old.now) where

@@ -1,15 +1,11 @@
 -- What the tests of WHERE mean.
 use Rattle.std.proofs.Common.{◌≡◌, ℕ, ℤ, pos, List, [], ◌∷◌, Bool, true, false, not, ◌&&◌, refl}
-use Rattle.std.proofs.Common.{sym, ap, subst, ◌∙◌, nat_cmp, Result, Ok, Err, IfOk}
-use Rattle.std.specs.declared.cmp.Ordering.{Ordering}
-use Rattle.std.specs.declared.cmp.Ordering.TheVariants.{Less, Equal, Greater}
-use Rattle.std.specs.Ordering.{is_eq, is_gt, is_lt, is_ge, is_le}
-use Rattle.std.proofs.Math.Bool.{and-true}
-use Rattle.sqlite.specs.declared.types.Value.{Value}
-use Rattle.sqlite.specs.declared.types.Value.TheVariants.{Null, Int, Real, Text, Blob}
-use Rattle.sqlite.specs.Order.{Row, column, value_cmp}
-use Rattle.sqlite.specs.Tree.{rowid, has_rowid}
-use Rattle.sqlite.specs.Ops.{is_true, from_truth, binary}
+use Rattle.std.proofs.Common.{sym, ap, subst, ◌∙◌, nat_cmp, Result, Ok, Err, IfOk, arith}
+use Rattle.std.proofs.{Math.Bool.and-true, lemmas.Bool.Decides.nat_tests}
+use Rattle.std.specs.{declared.cmp.Ordering.Ordering, Ordering.{is_eq, is_gt, is_lt, is_ge, is_le}}
+use Rattle.sqlite.specs.declared.types.Value.{Value, TheVariants.{Null, Int, Real, Text, Blob}}
+use Rattle.sqlite.specs.{Order.{Row, column, value_cmp}, Tree.{rowid, has_rowid}, Ops.is_true}
+use Rattle.sqlite.specs.Ops.{from_truth, binary}
 use Rattle.sqlite_sql.specs.declared.ops.BinaryOp.TheVariants.{Compare, Is}
 use Rattle.sqlite_sql.specs.declared.ops.CompareOp.TheVariants.{Eq, Ge, Le}
 use Rattle.sqlite_value.specs.declared.keys.Collation.TheVariants.{Binary}
@@ -17,8 +13,7 @@ use Rattle.sqlite_value.proofs.OrderLemmas.{value_cmp-Null}
 use Rattle.store_tables.specs.Shown.{is_numbered, is_child, is_child_named, is_in_range, is_top}
 use Rattle.store_tables.specs.Shown.{is_user_row}
 use Rattle.store_tables.proofs.Texts.{matches_parameter, is_kept, top_tests}
-use Rattle.store_tables.proofs.RangeTexts.{range_tests}
-use Rattle.store_tables.proofs.Answers.{passes}
+use Rattle.store_tables.proofs.{RangeTexts.range_tests, Answers.passes}
 
 -- from what is known of the value of a result, if it is Ok, to what follows from it
 pub if_ok : {A E : Type 0} (r : Result A E) (P Q : A → Type 0) → ((a : A) → P a → Q a) → IfOk r P
@@ -56,9 +51,7 @@ unfolding binary
 is_null_is a = told _
 
 at_least_is : (o : Ordering) → is_ge o ≡ not (is_lt o)
-at_least_is Less = refl
-at_least_is Equal = refl
-at_least_is Greater = refl
+at_least_is o = grind (arith, nat_tests)
 
 -- a value is `>=` an integer in SQL where the order doesn't put it below, as it puts NULL
 pub at_least_int : (a : Value) (n : ℤ)
@@ -71,19 +64,14 @@ at_least_int (Text t) n = told _ ∙ at_least_is _
 at_least_int (Blob b) n = told _ ∙ at_least_is _
 
 at_most_is : (o : Ordering) → is_le o ≡ not (is_gt o)
-at_most_is Less = refl
-at_most_is Equal = refl
-at_most_is Greater = refl
+at_most_is o = grind (arith, nat_tests)
 
 within : (v : Value) (first last : ℤ)
     → is_true (binary (Compare Le Binary) v (Int last)) ≡ not (is_gt (value_cmp v (Int last)))
     → (is_true (binary (Compare Ge Binary) v (Int first))
     && (is_true (binary (Compare Le Binary) v (Int last)) && true))
     ≡ (not (is_lt (value_cmp v (Int first))) && not (is_gt (value_cmp v (Int last))))
-within v first last most =
-    ap (λ b. b && (is_true (binary (Compare Le Binary) v (Int last)) && true))
-    (at_least_int v first)
-    ∙ ap (λ b. not (is_lt (value_cmp v (Int first))) && b) (and-true _ ∙ most)
+within v first last most = cc (at_least_int v first, and-true _, most)
 
 -- a value is between two integers in SQL where the order puts it there, as it doesn't put NULL
 between_ints : (v : Value) (first last : ℤ)
@@ -116,25 +104,19 @@ passes_id id r = and-true _ ∙ equals_int (rowid r) id
 pub passes_child : (parent : ℤ) (r : Row)
     → passes (matches_parameter 2 0 ∷ is_kept ∷ []) (Int parent ∷ []) r ≡ is_child parent r
 passes_child parent r =
-    ap (λ b. b && (is_true (binary (Compare Ge Binary) (rowid r) (Int (pos 1))) && true))
-    (equals_int (column r 2) parent)
-    ∙ ap (λ b. is_eq (value_cmp (column r 2) (Int parent)) && b)
-    (and-true _ ∙ at_least_int (rowid r) (pos 1))
+    cc (equals_int (column r 2) parent, and-true _, at_least_int (rowid r) (pos 1))
 
 -- the tests by parent and name are met by the numbered rows with that parent and that name
 pub passes_child_named : (parent : ℤ) (name : List ℕ) (r : Row)
     → passes (matches_parameter 2 0 ∷ matches_parameter 3 1 ∷ is_kept ∷ [])
     (Int parent ∷ Text name ∷ []) r ≡ is_child_named parent name r
 passes_child_named parent name r =
-    ap (λ b. b && (is_true (binary (Compare Eq Binary) (column r 3) (Text name))
-    && (is_true (binary (Compare Ge Binary) (rowid r) (Int (pos 1))) && true)))
-    (equals_int (column r 2) parent)
-    ∙ ap (λ b. is_eq (value_cmp (column r 2) (Int parent))
-    && (b && (is_true (binary (Compare Ge Binary) (rowid r) (Int (pos 1))) && true)))
-    (equals_text (column r 3) name)
-    ∙ ap (λ b. is_eq (value_cmp (column r 2) (Int parent))
-    && (is_eq (value_cmp (column r 3) (Text name)) && b))
-    (and-true _ ∙ at_least_int (rowid r) (pos 1))
+    cc (
+      equals_int (column r 2) parent,
+      equals_text (column r 3) name,
+      and-true _,
+      at_least_int (rowid r) (pos 1),
+    )
 
 -- the one test of the query for all numbers is met by the rows numbered from 1 on
 pub passes_numbered : (r : Row) → passes (is_kept ∷ []) [] r ≡ is_numbered r
@@ -142,11 +124,7 @@ passes_numbered r = and-true _ ∙ at_least_int (rowid r) (pos 1)
 
 -- the tests of the query for the root are met by the numbered rows that have no parent
 pub passes_top : (r : Row) → passes top_tests [] r ≡ is_top r
-passes_top r =
-    ap (λ b. b && (is_true (binary (Compare Ge Binary) (rowid r) (Int (pos 1))) && true))
-    (is_null_is (column r 2))
-    ∙ ap (λ b. is_eq (value_cmp (column r 2) Null) && b)
-    (and-true _ ∙ at_least_int (rowid r) (pos 1))
+passes_top r = cc (is_null_is (column r 2), and-true _, at_least_int (rowid r) (pos 1))
 
 -- the test of the query for groups is met by the rows of `members` with that user
 pub passes_user : (user : List ℕ) (r : Row)

@@ -1,44 +1,29 @@
 -- What the rows of one parent, in order of name, are read as.
 use Rattle.std.proofs.Common.{◌≡◌, ℕ, pos, List, [], ◌∷◌, ◌++◌, map, filter, None, Some, Option}
-use Rattle.std.proofs.Common.{Result, Ok, Err, refl, sym, ap, ◌∙◌, true, false, Bool, cond}
-use Rattle.std.proofs.Common.{append-nil, append_assoc, Ordering, Less, Equal, Greater, is_gt}
-use Rattle.std.proofs.Common.{is_lt, inl, inr, nat_cmp, arith}
-use Rattle.std.specs.List.{AllByRecursion, filter_map, cons_option}
-use Rattle.std.specs.Ordering.{ordering_reverse}
-use Rattle.std.specs.Cmp.Lexicographic.{slice_cmp}
-use Rattle.std.proofs.lemmas.Bool.{cond-true, cond-false}
+use Rattle.std.proofs.Common.{Result, refl, sym, ap, ◌∙◌, true, false, Bool, cond, append-nil}
+use Rattle.std.proofs.Common.{append_assoc, Ordering, is_gt, is_lt, inl, inr, arith}
+use Rattle.std.proofs.lemmas.{Bool.{cond-false, Decides.nat_tests}, Cmp.nat_list_cmp_total}
+use Rattle.std.proofs.lemmas.{Cmp.{on_total, upto}, List.Sorted.IsPermutation-sym}
+use Rattle.std.specs.{List.{AllByRecursion, filter_map, cons_option}, Ordering.ordering_reverse}
 use Rattle.std.specs.Cmp.{IsTotalOrder}
-use Rattle.std.proofs.lemmas.Cmp.{nat_list_cmp_total, on_total, upto}
-use Rattle.std.proofs.lemmas.List.Sorted.{IsPermutation-sym}
-use Rattle.sqlite.specs.declared.types.Value.{Value}
-use Rattle.sqlite.specs.declared.types.Value.TheVariants.{Null, Int, Real, Text, Blob}
-use Rattle.sqlite.specs.Effect.{Database}
-use Rattle.sqlite.specs.Order.{Row, column, value_cmp}
-use Rattle.sqlite.specs.Tree.{rowid}
+use Rattle.sqlite.specs.{declared.types.Value.{Value, TheVariants.Text}, Effect.Database, Order.Row}
+use Rattle.sqlite.specs.{Order.column, Tree.rowid}
 use Rattle.sqlite_keyed.specs.Lists.{insert_sorted, sort_by}
 use Rattle.sqlite_keyed.proofs.SortLemmas.{IsPermutation-sort_by}
 use Rattle.sqlite_rules.specs.Lists.{Has}
 use Rattle.sqlite_trees.proofs.ListLemmas.{all-permutation}
 use Rattle.sqlite_trees.specs.Tree.{IsAscending}
 use Rattle.sqlite_value.proofs.OrderLemmas.{value_cmp-Text, value_cmp_total}
-use Rattle.room_entry.specs.Utf8.{is_utf8}
 use Rattle.room_entry.proofs.Facts.Members.{each_weaker}
-use Rattle.room_rows.specs.declared.keep.KeepFault.{KeepFault}
-use Rattle.room_rows.specs.declared.keep.KeepFault.TheVariants.{Memory, Store, Damaged}
-use Rattle.room_rows.specs.declared.node.Node.{Node}
-use Rattle.room_rows.specs.Content.{is_before, put_by_name, sorted_by_name}
-use Rattle.room_rows.specs.Keep.{AreChildrenOf, IsUnreadable}
-use Rattle.room_rows.specs.Rows.{Rows}
-use Rattle.store_tables.specs.Filed.{node_parts}
-use Rattle.store_tables.specs.Meaning.{node_in, number_in, rows_of, text_in}
+use Rattle.room_rows.specs.{declared.{keep.KeepFault.KeepFault, node.Node.Node}, Content.is_before}
+use Rattle.room_rows.specs.{Content.{put_by_name, sorted_by_name}, Keep.AreChildrenOf}
+use Rattle.room_rows.specs.{Keep.IsUnreadable, Rows.Rows}
+use Rattle.store_tables.specs.{Filed.node_parts, Meaning.{node_in, number_in, rows_of, text_in}}
 use Rattle.store_tables.specs.Seeing.{result_of_seen, seen_as, seen_behind, seen_then}
-use Rattle.store_tables.specs.Shown.{IsRoom, is_child, shown_node}
-use Rattle.store_tables.specs.Statements.{HasUnder, by_column}
-use Rattle.store_tables.proofs.Named.{unread_row, utf8_is}
-use Rattle.store_tables.proofs.Nodes.{Tells}
-use Rattle.store_tables.proofs.Rowids.{each_of, of_each}
+use Rattle.store_tables.specs.{Shown.{IsRoom, is_child, shown_node}, Statements.HasUnder}
+use Rattle.store_tables.specs.Statements.{by_column}
+use Rattle.store_tables.proofs.{Named.{unread_row, utf8_is}, Nodes.Tells, Rowids.{each_of, of_each}}
 use Rattle.store_tables.proofs.Tops.{children_read, kept_from}
-use Rattle.std.proofs.lemmas.Bool.Decides.{nat_tests}
 
 abbrev see : Row → Option Node
 see r = node_in (shown_node r)
@@ -52,16 +37,10 @@ by_name = by_column 3
 -- ---- the order of rows is that of the objects
 
 is_text : (v : Value) (t : List ℕ) → text_in v ≡ Some t → v ≡ Text t
-is_text (Text s) t is = ap Text (utf8_is s t (is_utf8 s) is)
-is_text Null t is = absurd (let e = is in cc)
-is_text (Int z) t is = absurd (let e = is in cc)
-is_text (Real x) t is = absurd (let e = is in cc)
-is_text (Blob b) t is = absurd (let e = is in cc)
+is_text v t is = grind (arith, nat_tests, utf8_is)
 
 turned : (o : Ordering) → is_gt o ≡ is_lt (ordering_reverse o)
-turned Less = refl
-turned Equal = refl
-turned Greater = refl
+turned o = grind (arith, nat_tests)
 
 ordered_so : (r o : Row) (n m : Node) → see r ≡ Some n → see o ≡ Some m
     → is_gt (by_name r o) ≡ is_before m.name n.name
@@ -70,10 +49,7 @@ ordered_so r o n m is at =
     (node_parts (shown_node r) n is).name in
     let b : column o 3 ≡ Text m.name = is_text (column o 3) m.name
     (node_parts (shown_node o) m at).name in
-    ap (λ v. is_gt (value_cmp v (column o 3))) a ∙ ap (λ v. is_gt (value_cmp (Text n.name) v)) b
-    ∙ ap is_gt (value_cmp-Text n.name m.name)
-    ∙ turned (slice_cmp nat_cmp n.name m.name)
-    ∙ ap is_lt (sym (nat_list_cmp_total.antisymm m.name n.name))
+    grind (arith, nat_tests, nat_list_cmp_total, turned, value_cmp-Text)
 
 by_name_total : IsTotalOrder by_name
 by_name_total = on_total (λ (r : Row). column r 3) value_cmp_total
@@ -83,9 +59,7 @@ abbrev AtMost : Row → Row → Type 0
 AtMost a b = is_gt (by_name a b) ≡ false
 
 turned_back : (o : Ordering) → is_gt o ≡ true → is_gt (ordering_reverse o) ≡ false
-turned_back Less past = absurd (let e = past in cc)
-turned_back Equal past = absurd (let e = past in cc)
-turned_back Greater past = refl
+turned_back o past = grind (arith, nat_tests)
 
 insert_all : (P : Row → Type 0) (r : Row) (rows : List Row) → P r → AllByRecursion P rows
     → AllByRecursion P (insert_sorted by_name r rows)
@@ -129,9 +103,7 @@ module _ (r : Row) (n : Node) (is : see r ≡ Some n) where
   behind_step : (o : Row) (rest kept : List Node) → is_gt (by_name r o) ≡ true
       → kept ≡ put_by_name n rest → (m : Option Node) → see o ≡ m
       → cons_option m kept ≡ put_by_name n (cons_option m rest)
-  behind_step o rest kept past more None at = more
-  behind_step o rest kept past more (Some m) at =
-      ap (λ l. m ∷ l) more ∙ sym (cond-true _ _ _ (sym (ordered_so r o n m is at) ∙ past))
+  behind_step o rest kept past more m at = grind (arith, nat_tests, ordered_so)
 
   insert_read : (rows : List Row) → IsAscending AtMost rows
       → filter_map see (insert_sorted by_name r rows) ≡ put_by_name n (filter_map see rows)
@@ -142,9 +114,7 @@ module _ (r : Row) (n : Node) (is : see r ≡ Some n) where
           → filter_map see (insert_sorted by_name r rows) ≡ put_by_name n (filter_map see rows)
           → filter_map see (cond b (o ∷ insert_sorted by_name r rows) (r ∷ o ∷ rows))
           ≡ put_by_name n (filter_map see (o ∷ rows))
-      by true past more =
-          behind_step o (filter_map see rows) (filter_map see (insert_sorted by_name r rows)) past
-          more (see o) refl
+      by true past more = search (behind_step)
       by false first more =
           ap (λ x. cons_option x (filter_map see (o ∷ rows))) is
           ∙ sym (put_before (o ∷ rows) (
@@ -167,9 +137,7 @@ sorted_read (r ∷ rows) = by (see r) refl (sorted_read rows)
         → filter_map see (sort_by by_name rows) ≡ sorted_by_name (filter_map see rows)
         → filter_map see (sort_by by_name (r ∷ rows))
         ≡ sorted_by_name (cons_option o (filter_map see rows))
-    by None is more = insert_unseen r is (sort_by by_name rows) ∙ more
-    by (Some n) is more =
-        insert_read r n is (sort_by by_name rows) (ascends rows) ∙ ap (put_by_name n) more
+    by o is more = grind (arith, nat_tests, ascends, insert_read, insert_unseen)
 
 -- a row stands in the order if it stands in the rows
 pub sorted_from : (rows : List Row) (r : Row) → Has (sort_by by_name rows) r → Has rows r
@@ -188,10 +156,7 @@ AreRead done rows told nodes = nodes ≡ done ++ filter_map see rows
 pub tells_by : {X : Type 0} (Blames : Rows → ℕ → Type 0) (A B : Rows → X → Type 0) (rows : Rows)
     → ((x : X) → A rows x → B rows x) → (r : Result X KeepFault) → Tells Blames A rows r
     → Tells Blames B rows r
-tells_by Blames A B rows f (Ok x) t = f x t
-tells_by Blames A B rows f (Err Memory) t = tt
-tells_by Blames A B rows f (Err Store) t = tt
-tells_by Blames A B rows f (Err (Damaged at)) t = t
+tells_by Blames A B rows f r t = grind (arith, nat_tests)
 
 module _ (db : Database) (room : IsRoom db) where
   read_step : (done : List Node) (r : Row) (rows : List Row) → Has (db.trees 0) r
@@ -209,8 +174,7 @@ module _ (db : Database) (room : IsRoom db) where
       (result_of_seen (seen_behind node_in (done ++ n ∷ []) (map shown_node rows)))
       (more (done ++ n ∷ []))
   read_step done r rows there more None seen None number = tt
-  read_step done r rows there more None seen (Some id) number =
-      unread_row db room r id there seen number
+  read_step done r rows there more None seen (Some id) number = search (unread_row)
 
   reads : (rows : List Row) → ((r : Row) → Has rows r → Has (db.trees 0) r) → (done : List Node)
       → Tells IsUnreadable (AreRead done rows) (rows_of db)
@@ -225,8 +189,7 @@ module _ (db : Database) (room : IsRoom db) where
 
   pub sorted_within : (parent : ℕ) (r : Row) → Has (sort_by by_name (under parent)) r
       → Has (db.trees 0) r
-  sorted_within parent r there =
-      kept_from (is_child (pos parent)) (db.trees 0) r (sorted_from (under parent) r there)
+  sorted_within parent r there = search (kept_from, sorted_from)
 
   pub tells_under : (parent : ℕ) (rows : List Row) → HasUnder (pos parent) db.trees rows
       → Tells IsUnreadable (AreChildrenOf parent) (rows_of db)

@@ -1,27 +1,18 @@
 -- The columns of a whole row, and what a row that is written by its number leaves.
 use Rattle.std.proofs.Common.{◌≡◌, ℕ, ℤ, List, [], ◌∷◌, inl, inr, refl, sym, subst, true, false}
 use Rattle.std.proofs.Common.{Bool, cond}
-use Rattle.sqlite.specs.declared.types.Value.{Value}
-use Rattle.sqlite.specs.declared.types.Value.TheVariants.{Null, Int, Text}
-use Rattle.sqlite.specs.Order.{Row}
-use Rattle.sqlite.specs.Ops.{unary}
+use Rattle.sqlite.specs.{declared.types.Value.{Value, TheVariants.{Null, Int, Text}}, Order.Row}
+use Rattle.sqlite.specs.{Ops.unary, Cast.cast, Tree.Trees, Edit.{Edit, edit_of}}
+use Rattle.sqlite.specs.{Rowids.TheVariants.Given, Values.bound_value}
 use Rattle.sqlite_sql.specs.Ops.{binary}
-use Rattle.sqlite.specs.Cast.{cast}
-use Rattle.sqlite.specs.Kind.TheVariants as kind
-use Rattle.sqlite.specs.Tree.{Trees}
-use Rattle.sqlite.specs.Edit.{Edit, edit_of}
-use Rattle.sqlite.specs.Rowids.TheVariants.{Given}
-use Rattle.sqlite_rules.specs.Calls.{ids_of}
-use Rattle.sqlite_rules.specs.Action.{works}
+use Rattle.sqlite_rules.specs.{Calls.ids_of, Action.works}
 use Rattle.sqlite_schema.specs.declared.schema.Keys.TheVariants.{Enforced}
 use Rattle.sqlite_tied.specs.Compute.{everything}
 use Rattle.std.specs.Prelude.{string_bytes}
-use Rattle.sqlite.specs.Values.{bound_value}
+use Rattle.store_tables.specs.{Columns.IsParent, Tables.room_schema}
+use Rattle.store_tables.proofs.{Rowids.has_itself, Writes.nodes_table}
+use Rattle.sqlite.specs.Kind.TheVariants as kind
 use Rattle.store_tables.specs.declared.columns.Columns as stored
-use Rattle.store_tables.specs.Columns.{IsParent}
-use Rattle.store_tables.specs.Tables.{room_schema}
-use Rattle.store_tables.proofs.Rowids.{has_itself}
-use Rattle.store_tables.proofs.Writes.{nodes_table}
 
 -- ---- what a column makes of a value of its own type
 

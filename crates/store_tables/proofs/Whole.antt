@@ -1,29 +1,21 @@
 -- Rows that can't be read are told as damaged, and none is left out.
 use Rattle.std.proofs.Common.{◌≡◌, ℕ, ◌+◌, pos, List, [], ◌∷◌, ◌++◌, length, map, filter, take}
 use Rattle.std.proofs.Common.{Option, Some, None, true, not, IfOk, refl, sym, ap, ◌∙◌, arith}
-use Rattle.std.proofs.Common.{IsPermutation}
+use Rattle.std.proofs.{Common.IsPermutation, lemmas.{Cmp.on_total, List.length-append}}
+use Rattle.std.proofs.lemmas.{List.{length-map, Sorted.length_permutation}, Bool.Decides.nat_tests}
 use Rattle.std.specs.Prelude.{is_some, option_map, ◌==◌}
-use Rattle.std.proofs.lemmas.Cmp.{on_total}
-use Rattle.std.proofs.lemmas.List.{length-append, length-map}
-use Rattle.std.proofs.lemmas.List.Sorted.{length_permutation}
-use Rattle.sqlite.specs.Effect.{Database}
-use Rattle.sqlite.specs.Order.{Row, column}
+use Rattle.sqlite.specs.{Effect.Database, Order.{Row, column}}
 use Rattle.sqlite_keyed.specs.Lists.{sort_by}
 use Rattle.sqlite_keyed.proofs.SortLemmas.{IsPermutation-sort_by}
 use Rattle.sqlite_value.proofs.OrderLemmas.{value_cmp_total}
-use Rattle.room_rows.specs.declared.node.Node.{Node}
-use Rattle.room_rows.specs.Content.{is_empty}
-use Rattle.store_tables.specs.declared.seen.Seen.{Seen}
-use Rattle.store_tables.specs.declared.seen.Seen.TheVariants.{Foreign, Unread, Found}
-use Rattle.store_tables.specs.Meaning.{named_in, node_in, number_in}
-use Rattle.store_tables.specs.Seeing.{result_of_seen, seen_as, seen_behind, seen_in, seen_only}
-use Rattle.store_tables.specs.Seeing.{seen_then, top_of}
+use Rattle.room_rows.specs.{declared.node.Node.Node, Content.is_empty}
+use Rattle.store_tables.specs.declared.seen.Seen.{Seen, TheVariants.{Foreign, Unread, Found}}
+use Rattle.store_tables.specs.{Meaning.{named_in, node_in, number_in}, Seeing.result_of_seen}
+use Rattle.store_tables.specs.Seeing.{seen_as, seen_behind, seen_in, seen_only, seen_then, top_of}
 use Rattle.store_tables.specs.Shown.{is_child, is_child_named, is_top, shown_node}
 use Rattle.store_tables.specs.Statements.{HasNames, HasSome, HasTop, HasUnder, shown_name}
 use Rattle.store_tables.specs.Whole.{SeesEach, SeesNamed, SeesSome, SeesTop}
-use Rattle.store_tables.proofs.Tests.{if_ok}
-use Rattle.store_tables.proofs.Under.{by_name}
-use Rattle.std.proofs.lemmas.Bool.Decides.{nat_tests}
+use Rattle.store_tables.proofs.{Tests.if_ok, Under.by_name}
 
 -- ---- lists of which both or neither are empty
 

@@ -1,11 +1,9 @@
 -- What a statement inside a transaction leaves, whatever the tables are.
-use Rattle.std.proofs.Common.{◌≡◌, IsTrue, true, arith}
-use Rattle.sqlite_trees.specs.Tree.{Trees}
-use Rattle.sqlite_trees.specs.declared.store.Store.{Ghosts}
-use Rattle.sqlite.specs.Held.{Held, state}
-use Rattle.sqlite.specs.State.{State, Survives, IsUnchanged, IsRolledBack, Shows}
+use Rattle.std.proofs.{Common.{◌≡◌, IsTrue, true, arith}, lemmas.Bool.Decides.nat_tests}
+use Rattle.sqlite_trees.specs.{Tree.Trees, declared.store.Store.Ghosts}
+use Rattle.sqlite.specs.{Held.{Held, state}, State.{State, Survives, IsUnchanged, IsRolledBack}}
+use Rattle.sqlite.specs.State.{Shows}
 use Rattle.store_tables.specs.Within.{IsSettled, IsWithin, LeavesAsBefore}
-use Rattle.std.proofs.lemmas.Bool.Decides.{nat_tests}
 
 -- no fault is forgotten, and a crash leaves nothing new
 abbrev pub CommitsNothing : State → State → Type 0
@@ -33,5 +31,4 @@ pub settled_by : {S : Type 0} (g : Ghosts S) (h : Held S)
     → db ≡ (g.view h.store).committed)
     → (IsTrue (g.view h.store).is_open → g.recovers h.store (g.view h.store).committed)
     → IsSettled (state g h)
-settled_by g h only left = λ open'.
-    record { left = left open'; only = λ db found. only db open' found }
+settled_by g h only left = grind (arith, nat_tests)

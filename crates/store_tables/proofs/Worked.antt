@@ -1,10 +1,7 @@
 -- Worked rows of nodes that can't be read as an object.
 use Rattle.std.proofs.Common.{◌≡◌, pos, List, [], ◌∷◌, codes, Some, None, ℕ, refl}
-use Rattle.sqlite.specs.declared.types.Value.TheVariants.{Null, Int, Text}
-use Rattle.sqlite.specs.Order.{Row}
-use Rattle.room_entry.specs.Bits.{all_bits}
-use Rattle.room_entry.specs.Letters.{mask_letters}
-use Rattle.room_entry.specs.Names.{is_name}
+use Rattle.sqlite.specs.{declared.types.Value.TheVariants.{Null, Int, Text}, Order.Row}
+use Rattle.room_entry.specs.{Bits.all_bits, Letters.mask_letters, Names.is_name}
 use Rattle.room_entry.specs.declared.object.ObjKind.TheVariants.{Document}
 use Rattle.room_rows.specs.Rows.{Stored, Nothing, Whole}
 use Rattle.store_tables.specs.Meaning.{unread_in}

@@ -1,31 +1,19 @@
 -- What a write leaves, before its edit is followed.
 use Rattle.std.proofs.Common.{◌≡◌, ℕ, ℤ, List, [], ◌∷◌, length, map, filter, Result, Ok, Err, None}
-use Rattle.std.proofs.Common.{inl, inr, ◌⊎◌, ap, subst, ◌∙◌}
+use Rattle.std.proofs.{Common.{inl, inr, ◌⊎◌, subst, if◌then◌else◌, arith}, lemmas.List.length-map}
+use Rattle.std.proofs.lemmas.Bool.Decides.{nat_tests}
 use Rattle.std.specs.List.Sorted.{IsPermutation}
-use Rattle.sqlite.specs.declared.types.Value.TheVariants.{Null, Int}
-use Rattle.std.proofs.Common.{unwrap_or, if◌then◌else◌}
-use Rattle.std.proofs.lemmas.List.{length-map}
-use Rattle.sqlite.specs.Program.{overlay}
-use Rattle.sqlite.specs.Term.{col}
-use Rattle.sqlite.specs.Order.{Row}
-use Rattle.sqlite.specs.Tree.{Trees, has_rowid}
-use Rattle.sqlite.specs.Command.TheVariants.{Delete}
-use Rattle.sqlite.specs.Edit.{Edit, edit_of, taken_by}
-use Rattle.sqlite.specs.Rowids.TheVariants.{Given}
+use Rattle.sqlite.specs.{declared.types.Value.TheVariants.{Null, Int}, Program.overlay, Term.col}
+use Rattle.sqlite.specs.{Order.Row, Tree.{Trees, has_rowid}, Command.TheVariants.Delete, Edit.Edit}
+use Rattle.sqlite.specs.{Edit.edit_of, Rowids.TheVariants.Given, Does.Does, Rows.Edited}
+use Rattle.sqlite.specs.{Effect.IsDatabase, Listing.understood, State.{State, mode_of, Executes}}
+use Rattle.sqlite.specs.State.{Shows}
 use Rattle.sqlite_rules.specs.Calls.{ids_of}
-use Rattle.sqlite_schema.specs.declared.schema.Keys.TheVariants.{Enforced}
-use Rattle.sqlite_schema.specs.declared.schema.Table.{Table}
-use Rattle.sqlite.specs.Does.{Tally, Does}
-use Rattle.sqlite.specs.Rows.{Edited, Written}
-use Rattle.sqlite.specs.Effect.{Database, IsDatabase}
-use Rattle.sqlite.specs.Listing.{understood}
-use Rattle.sqlite.specs.State.{State, mode_of, Executes, Shows}
+use Rattle.sqlite_schema.specs.declared.schema.{Keys.TheVariants.Enforced, Table.Table}
 use Rattle.sqlite.proofs.Callers.{runs_as, statement_of}
 use Rattle.store_tables.specs.Tables.{nodes, room_schema}
 use Rattle.store_tables.proofs.Texts.{delete_text, delete_is, plain_texts, query_of}
-use Rattle.store_tables.proofs.Texts.{matches_parameter}
-use Rattle.store_tables.proofs.Answers.{shows, selected}
-use Rattle.store_tables.proofs.Tests.{passes_id}
+use Rattle.store_tables.proofs.{Texts.matches_parameter, Answers.{shows, selected}, Tests.passes_id}
 use Rattle.room_entry.proofs.Facts.Lists.{filter_same}
 
 -- a part that gave a value did not stop on the way
@@ -76,12 +64,7 @@ deleted id old new count has h =
     let asked = went done.1 in
     let did = went asked.2 in
     let last = same_value (went (went done.2).2).2 in
-    let wrote : done.0 ≡ record {
-      trees = did.0;
-      rows = taken_by old.now.trees (delete_edit old.now.trees asked.0);
-      last = None;
-    } =
-    same_value did.2 in
+    let wrote = same_value did.2 in
     let found = selected Null 0 (matches_parameter 0 0 ∷ []) (col 1 0 ∷ []) []
     (overlay old.now.trees []) params asked.0 (asked.1.answer Null) in
     record {
@@ -91,16 +74,8 @@ deleted id old new count has h =
           (filter_same _ _ (passes_id id) (old.now.trees 0)) found;
       next = did.0;
       edited = did.1;
-      now =
-          ap (λ (p : Tally × Database). p.1) last
-          ∙ ap
-          (λ (it : Written). let db : Database = record {
-            schema = room_schema;
-            trees = it.trees;
-          } in db) wrote;
+      now = grind (arith, nat_tests);
       sound = w.sound;
       shown = w.shown;
-      counted =
-          w.counted ∙ ap (λ (p : Tally × Database). unwrap_or p.0.rows 0) last
-          ∙ ap (λ (it : Written). length it.rows) wrote ∙ length-map _ _ ∙ length-map _ _;
+      counted = grind (arith, nat_tests, length-map);
     }

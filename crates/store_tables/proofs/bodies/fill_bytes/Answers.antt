@@ -1,7 +1,5 @@
 use Rattle.sqlite.specs.Held.{state}
-use Rattle.store_tables.proofs.Changed.{if_all}
-use Rattle.store_tables.proofs.Filling.{filled_rows}
-use Rattle.store_tables.proofs.Tests.{if_ok}
+use Rattle.store_tables.proofs.{Changed.if_all, Filling.filled_rows, Tests.if_ok}
 use Rattle.store_tables.proofs.bodies.fill_bytes.Goals as goal
 
 pub returns-clause-puts : goal.returns-clause-puts

@@ -1,9 +1,8 @@
 use Rattle.std.proofs.Common.{subst, ◌∙◌, arith}
 use Rattle.sqlite.specs.Held.{state}
-use Rattle.store_tables.specs.Statements.{ExecutesSql}
-use Rattle.store_tables.specs.Trust.{stays_on, trusted_first, trusted_last}
-use Rattle.store_tables.proofs.Changed.{of_one}
-use Rattle.store_tables.proofs.Filling.{filled_rows, replaced}
+use Rattle.store_tables.specs.{Statements.ExecutesSql, Trust.{stays_on, trusted_first}}
+use Rattle.store_tables.specs.Trust.{trusted_last}
+use Rattle.store_tables.proofs.{Changed.of_one, Filling.{filled_rows, replaced}}
 use Rattle.store_tables.proofs.bodies.replace_bytes.Goals as goal
 
 pub returns-clause-puts : goal.returns-clause-puts

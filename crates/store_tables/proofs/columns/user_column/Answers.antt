@@ -1,6 +1,5 @@
 use Rattle.std.proofs.Common.{Some, ap, sym, ◌∙◌, string_bytes}
-use Rattle.store_tables.proofs.Noting.{user_named}
-use Rattle.store_tables.proofs.Tests.{if_ok}
+use Rattle.store_tables.proofs.{Noting.user_named, Tests.if_ok}
 use Rattle.store_tables.proofs.columns.user_column.Goals as goal
 
 pub returns-in-Some : goal.returns-in-Some

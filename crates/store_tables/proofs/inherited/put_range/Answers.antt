@@ -2,11 +2,8 @@ use Rattle.std.proofs.Common.{◌≡◌, ◌+◌, ◌-◌, subst, pos, arith}
 use Rattle.std.specs.List.{range_with_len}
 use Rattle.sqlite.specs.Held.{state}
 use Rattle.room_rows.specs.Keep.{with_inh}
-use Rattle.store_tables.specs.Shown.{RecastsAll, sets_inh}
-use Rattle.store_tables.specs.Trust.{AltersAll}
-use Rattle.store_tables.proofs.AlteredAll.{inherited_range}
-use Rattle.store_tables.proofs.Changed.{if_all}
-use Rattle.store_tables.proofs.Tests.{if_ok}
+use Rattle.store_tables.specs.{Shown.{RecastsAll, sets_inh}, Trust.AltersAll}
+use Rattle.store_tables.proofs.{AlteredAll.inherited_range, Changed.if_all, Tests.if_ok}
 use Rattle.store_tables.proofs.inherited.put_range.Goals as goal
 
 pub returns-clause-puts : goal.returns-clause-puts

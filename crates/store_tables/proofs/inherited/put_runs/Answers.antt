@@ -1,12 +1,9 @@
-use Rattle.std.proofs.Common.{◌≡◌, ◌++◌, ◌∷◌, [], ℕ, List, Ok, get_or, refl, sym, subst, ap}
-use Rattle.std.proofs.Common.{◌∙◌}
-use Rattle.std.specs.List.{range_with_len}
+use Rattle.std.proofs.Common.{◌≡◌, ◌++◌, ◌∷◌, [], ℕ, List, Ok, get_or, refl, sym, subst, ap, ◌∙◌}
 use Rattle.std.proofs.lemmas.List.{append_assoc, take_all, take_more}
+use Rattle.std.specs.List.{range_with_len}
 use Rattle.sqlite.specs.Held.{state}
 use Rattle.room_rows.specs.Keep.{with_inh}
-use Rattle.room_rows.proofs.InPlace.{place-with_inh}
-use Rattle.room_rows.proofs.Many.{with_inh-once}
-use Rattle.room_rows.proofs.Steps.{handed_on}
+use Rattle.room_rows.proofs.{InPlace.place-with_inh, Many.with_inh-once, Steps.handed_on}
 use Rattle.store_tables.proofs.Putting.{PutsAll, puts_failed, puts_more, puts_none}
 use Rattle.store_tables.proofs.inherited.put_runs.Goals as goal
 

@@ -1,8 +1,6 @@
 use Rattle.sqlite.specs.Held.{state}
 use Rattle.store_tables.specs.RoomRows.{number_in-low}
-use Rattle.store_tables.proofs.Altered.{inherited_rows}
-use Rattle.store_tables.proofs.Changed.{if_all}
-use Rattle.store_tables.proofs.Tests.{if_ok}
+use Rattle.store_tables.proofs.{Altered.inherited_rows, Changed.if_all, Tests.if_ok}
 use Rattle.store_tables.proofs.inherited.put_text.Goals as goal
 
 pub returns-clause-puts : goal.returns-clause-puts

@@ -1,7 +1,6 @@
 use Rattle.std.proofs.Common.{sym, subst, ◌∙◌, pos}
 use Rattle.sqlite.specs.Held.{state}
-use Rattle.store_tables.specs.Shown.{GetsBytes}
-use Rattle.store_tables.specs.Statements.{ExecutesSql}
+use Rattle.store_tables.specs.{Shown.GetsBytes, Statements.ExecutesSql}
 use Rattle.store_tables.proofs.keeper.put_bytes.Goals as goal
 
 pub returns-clause-puts : goal.returns-clause-puts

@@ -1,13 +1,9 @@
-use Rattle.std.proofs.Math.Facts.{to_z-of_z}
+use Rattle.std.proofs.{Math.Facts.to_z-of_z, Common.{◌≡◌, rules, w64, Some, pos, ap, sym, subst}}
+use Rattle.std.proofs.Common.{◌∙◌}
 use Rattle.std.specs.Prelude.{FitsSigned}
-use Rattle.std.proofs.Common.{◌≡◌, rules, w64, Some, pos, ap, sym, subst, ◌∙◌}
-use Rattle.sqlite.specs.Held.{state}
-use Rattle.sqlite.specs.declared.types.Value.TheVariants.{Int}
-use Rattle.store_tables.specs.Columns.{ReadsAsNode, values_of}
-use Rattle.store_tables.specs.Filed.{number_is}
-use Rattle.store_tables.specs.Meaning.{number_in}
-use Rattle.store_tables.specs.Shown.{AddsRow}
-use Rattle.store_tables.specs.Statements.{ExecutesSql}
+use Rattle.sqlite.specs.{Held.state, declared.types.Value.TheVariants.Int}
+use Rattle.store_tables.specs.{Columns.{ReadsAsNode, values_of}, Filed.number_is, Meaning.number_in}
+use Rattle.store_tables.specs.{Shown.AddsRow, Statements.ExecutesSql}
 use Rattle.store_tables.proofs.Adding.{same_int}
 use Rattle.store_tables.proofs.keeper.put_new.Goals as goal
 

@@ -1,10 +1,7 @@
 use Rattle.std.proofs.Common.{◌≡◌, Some, sym, subst}
-use Rattle.sqlite.specs.declared.types.Value.TheVariants.{Text}
-use Rattle.store_tables.specs.Meaning.{name_in}
-use Rattle.sqlite.specs.Held.{state}
-use Rattle.store_tables.specs.RoomRows.{number_in-low}
-use Rattle.store_tables.proofs.Changed.{of_one}
-use Rattle.store_tables.proofs.Altered.{owned_rows}
+use Rattle.sqlite.specs.{declared.types.Value.TheVariants.Text, Held.state}
+use Rattle.store_tables.specs.{Meaning.name_in, RoomRows.number_in-low}
+use Rattle.store_tables.proofs.{Changed.of_one, Altered.owned_rows}
 use Rattle.store_tables.proofs.keeper.put_owners.Goals as goal
 
 pub returns-clause-puts : goal.returns-clause-puts

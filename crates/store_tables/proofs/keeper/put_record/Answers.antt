@@ -1,7 +1,6 @@
 use Rattle.std.proofs.Common.{subst}
 use Rattle.sqlite.specs.Held.{state}
-use Rattle.store_tables.specs.Columns.{Recalls}
-use Rattle.store_tables.specs.Statements.{ExecutesSql}
+use Rattle.store_tables.specs.{Columns.Recalls, Statements.ExecutesSql}
 use Rattle.store_tables.proofs.Noting.{noted_rows}
 use Rattle.store_tables.proofs.keeper.put_record.Goals as goal
 

@@ -1,6 +1,5 @@
 use Rattle.std.proofs.Common.{◌≡◌, [], drop}
-use Rattle.store_tables.specs.Meaning.{named_in}
-use Rattle.store_tables.specs.Seeing.{seen_behind}
+use Rattle.store_tables.specs.{Meaning.named_in, Seeing.seen_behind}
 use Rattle.store_tables.proofs.seen.see_listing.Given as goal
 
 -- the names so far, followed by what the rest is read as, are what all rows are read as

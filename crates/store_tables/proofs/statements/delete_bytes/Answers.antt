@@ -1,10 +1,7 @@
 use Rattle.std.proofs.Common.{◌∷◌, [], pos}
-use Rattle.sqlite.specs.declared.types.Value.TheVariants.{Int}
-use Rattle.sqlite.specs.Held.{state}
-use Rattle.store_tables.proofs.Asked.{ended, writes}
-use Rattle.store_tables.proofs.Cleared.{clear_one, clear_room}
-use Rattle.store_tables.proofs.Rowids.{passed_on}
-use Rattle.store_tables.proofs.Texts.{clear_text}
+use Rattle.sqlite.specs.{declared.types.Value.TheVariants.Int, Held.state}
+use Rattle.store_tables.proofs.{Asked.{ended, writes}, Cleared.{clear_one, clear_room}}
+use Rattle.store_tables.proofs.{Rowids.passed_on, Texts.clear_text}
 use Rattle.store_tables.proofs.statements.delete_bytes.Goals as goal
 
 pub returns-clause-writes : goal.returns-clause-writes

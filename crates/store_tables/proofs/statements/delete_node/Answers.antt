@@ -1,10 +1,7 @@
 use Rattle.std.proofs.Common.{◌∷◌, [], Ok, pos}
-use Rattle.sqlite.specs.declared.types.Value.TheVariants.{Int}
-use Rattle.sqlite.specs.Held.{state}
-use Rattle.store_tables.proofs.Actions.{delete_room, delete_one}
-use Rattle.store_tables.proofs.Asked.{ended, writes}
-use Rattle.store_tables.proofs.Rowids.{passed_on}
-use Rattle.store_tables.proofs.Texts.{delete_text}
+use Rattle.sqlite.specs.{declared.types.Value.TheVariants.Int, Held.state}
+use Rattle.store_tables.proofs.{Actions.{delete_room, delete_one}, Asked.{ended, writes}}
+use Rattle.store_tables.proofs.{Rowids.passed_on, Texts.delete_text}
 use Rattle.store_tables.proofs.statements.delete_node.Goals as goal
 
 pub returns-clause-writes : goal.returns-clause-writes

@@ -1,9 +1,6 @@
 use Rattle.std.proofs.Common.{◌∷◌, [], pos}
-use Rattle.sqlite.specs.declared.types.Value.TheVariants.{Int, Blob}
-use Rattle.sqlite.specs.Held.{state}
-use Rattle.store_tables.proofs.Asked.{ended, writes}
-use Rattle.store_tables.proofs.Bodied.{bodied, put_room}
-use Rattle.store_tables.proofs.Rowids.{passed_on}
+use Rattle.sqlite.specs.{declared.types.Value.TheVariants.{Int, Blob}, Held.state}
+use Rattle.store_tables.proofs.{Asked.{ended, writes}, Bodied.{bodied, put_room}, Rowids.passed_on}
 use Rattle.store_tables.proofs.Texts.{put_text}
 use Rattle.store_tables.proofs.statements.insert_bytes.Goals as goal
 

@@ -1,9 +1,6 @@
-use Rattle.std.proofs.Common.{}
 use Rattle.sqlite.specs.Held.{state}
-use Rattle.store_tables.proofs.Asked.{ended, writes}
-use Rattle.store_tables.proofs.Inserts.{insert_room, inserted}
-use Rattle.store_tables.proofs.Texts.{insert_text}
-use Rattle.store_tables.proofs.Updates.{bound_parent, columns_in, values}
+use Rattle.store_tables.proofs.{Asked.{ended, writes}, Inserts.{insert_room, inserted}}
+use Rattle.store_tables.proofs.{Texts.insert_text, Updates.{bound_parent, columns_in, values}}
 use Rattle.store_tables.proofs.statements.insert_node.Goals as goal
 
 pub returns-clause-writes : goal.returns-clause-writes

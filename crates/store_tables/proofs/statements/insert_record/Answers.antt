@@ -1,9 +1,6 @@
-use Rattle.std.proofs.Common.{}
 use Rattle.sqlite.specs.Held.{state}
 use Rattle.store_tables.specs.Columns.{record_values}
-use Rattle.store_tables.proofs.Asked.{ended, writes}
-use Rattle.store_tables.proofs.Noted.{note_room, notes}
-use Rattle.store_tables.proofs.Texts.{note_text}
+use Rattle.store_tables.proofs.{Asked.{ended, writes}, Noted.{note_room, notes}, Texts.note_text}
 use Rattle.store_tables.proofs.statements.insert_record.Goals as goal
 
 pub returns-clause-writes : goal.returns-clause-writes

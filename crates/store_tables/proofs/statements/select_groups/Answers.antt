@@ -1,10 +1,7 @@
 use Rattle.std.proofs.Common.{◌∷◌, []}
-use Rattle.sqlite.specs.declared.types.Value.TheVariants.{Text}
-use Rattle.sqlite.specs.Held.{state}
-use Rattle.store_tables.proofs.Asked.{asks}
-use Rattle.store_tables.proofs.Selected.{shows_groups}
-use Rattle.store_tables.proofs.Bare.{reads_by}
-use Rattle.store_tables.proofs.Texts.{bare_texts, groups_text}
+use Rattle.sqlite.specs.{declared.types.Value.TheVariants.Text, Held.state}
+use Rattle.store_tables.proofs.{Asked.asks, Selected.shows_groups, Bare.reads_by, Texts.bare_texts}
+use Rattle.store_tables.proofs.Texts.{groups_text}
 use Rattle.store_tables.proofs.statements.select_groups.Goals as goal
 
 pub returns-clause-asks : goal.returns-clause-asks

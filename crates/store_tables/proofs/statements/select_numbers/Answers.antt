@@ -1,9 +1,7 @@
 use Rattle.std.proofs.Common.{[]}
 use Rattle.sqlite.specs.Held.{state}
-use Rattle.store_tables.proofs.Asked.{asks}
-use Rattle.store_tables.proofs.Selected.{shows_numbers}
-use Rattle.store_tables.proofs.Bare.{reads_by}
-use Rattle.store_tables.proofs.Texts.{bare_texts, ids_text}
+use Rattle.store_tables.proofs.{Asked.asks, Selected.shows_numbers, Bare.reads_by, Texts.bare_texts}
+use Rattle.store_tables.proofs.Texts.{ids_text}
 use Rattle.store_tables.proofs.statements.select_numbers.Goals as goal
 
 pub returns-clause-asks : goal.returns-clause-asks

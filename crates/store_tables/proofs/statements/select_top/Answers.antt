@@ -1,9 +1,7 @@
 use Rattle.std.proofs.Common.{[]}
 use Rattle.sqlite.specs.Held.{state}
-use Rattle.store_tables.proofs.Asked.{asks}
-use Rattle.store_tables.proofs.Selected.{shows_top}
-use Rattle.store_tables.proofs.Bare.{reads_by}
-use Rattle.store_tables.proofs.Texts.{bare_texts, root_text}
+use Rattle.store_tables.proofs.{Asked.asks, Selected.shows_top, Bare.reads_by, Texts.bare_texts}
+use Rattle.store_tables.proofs.Texts.{root_text}
 use Rattle.store_tables.proofs.statements.select_top.Goals as goal
 
 pub returns-clause-asks : goal.returns-clause-asks

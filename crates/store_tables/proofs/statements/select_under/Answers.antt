@@ -1,10 +1,6 @@
 use Rattle.std.proofs.Common.{◌∷◌, [], pos}
-use Rattle.sqlite.specs.declared.types.Value.TheVariants.{Int}
-use Rattle.sqlite.specs.Held.{state}
-use Rattle.store_tables.proofs.Asked.{asks}
-use Rattle.store_tables.proofs.Selected.{shows_under}
-use Rattle.store_tables.proofs.Bare.{reads_by}
-use Rattle.store_tables.proofs.Rowids.{passed_on}
+use Rattle.sqlite.specs.{declared.types.Value.TheVariants.Int, Held.state}
+use Rattle.store_tables.proofs.{Asked.asks, Selected.shows_under, Bare.reads_by, Rowids.passed_on}
 use Rattle.store_tables.proofs.Texts.{bare_texts, children_text}
 use Rattle.store_tables.proofs.statements.select_under.Goals as goal
 

@@ -1,10 +1,7 @@
 use Rattle.std.proofs.Common.{◌∷◌, [], pos}
-use Rattle.sqlite.specs.declared.types.Value.TheVariants.{Int, Blob}
-use Rattle.sqlite.specs.Held.{state}
-use Rattle.store_tables.proofs.Asked.{ended, writes}
-use Rattle.store_tables.proofs.Filled.{fill_one, fill_room}
-use Rattle.store_tables.proofs.Rowids.{passed_on}
-use Rattle.store_tables.proofs.Texts.{fill_text}
+use Rattle.sqlite.specs.{declared.types.Value.TheVariants.{Int, Blob}, Held.state}
+use Rattle.store_tables.proofs.{Asked.{ended, writes}, Filled.{fill_one, fill_room}}
+use Rattle.store_tables.proofs.{Rowids.passed_on, Texts.fill_text}
 use Rattle.store_tables.proofs.statements.update_bytes.Goals as goal
 
 pub returns-clause-writes : goal.returns-clause-writes

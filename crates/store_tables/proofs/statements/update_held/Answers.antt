@@ -1,16 +1,12 @@
 use Rattle.std.proofs.Common.{◌∷◌, [], refl, pos}
 use Rattle.std.specs.Prelude.{string_bytes}
-use Rattle.sqlite.specs.declared.types.Value.TheVariants.{Int, Text}
-use Rattle.sqlite.specs.Held.{state}
+use Rattle.sqlite.specs.{declared.types.Value.TheVariants.{Int, Text}, Held.state}
 use Rattle.room_entry.specs.declared.object.Which.TheVariants.{Dacl, Sacl}
-use Rattle.store_tables.specs.Shown.{Recasts, sets_held}
-use Rattle.store_tables.specs.Statements.{ExecutesSql, OfRow}
-use Rattle.store_tables.proofs.Asked.{ended, writes}
-use Rattle.store_tables.proofs.Printed.{holding_printed}
-use Rattle.store_tables.proofs.Recast.{recast_one, recast_room}
-use Rattle.store_tables.proofs.Rowids.{passed_on}
-use Rattle.store_tables.proofs.Texts.{dacl_is, dacl_terms, dacl_text, plain_dacl, sacl_is}
-use Rattle.store_tables.proofs.Texts.{sacl_terms, sacl_text, plain_sacl}
+use Rattle.store_tables.specs.{Shown.{Recasts, sets_held}, Statements.{ExecutesSql, OfRow}}
+use Rattle.store_tables.proofs.{Asked.{ended, writes}, Printed.holding_printed, Recast.recast_one}
+use Rattle.store_tables.proofs.{Recast.recast_room, Rowids.passed_on, Texts.{dacl_is, dacl_terms}}
+use Rattle.store_tables.proofs.Texts.{dacl_text, plain_dacl, sacl_is, sacl_terms, sacl_text}
+use Rattle.store_tables.proofs.Texts.{plain_sacl}
 use Rattle.store_tables.proofs.statements.update_held.Goals as goal
 
 pub returns-in-Dacl-clause-writes : goal.returns-in-Dacl-clause-writes

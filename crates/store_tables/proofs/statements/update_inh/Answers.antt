@@ -1,13 +1,9 @@
 use Rattle.std.proofs.Common.{◌∷◌, [], refl, pos}
-use Rattle.sqlite.specs.declared.types.Value.TheVariants.{Int, Text}
-use Rattle.sqlite.specs.Held.{state}
+use Rattle.sqlite.specs.{declared.types.Value.TheVariants.{Int, Text}, Held.state}
 use Rattle.room_entry.specs.declared.object.Which.TheVariants.{Dacl, Sacl}
-use Rattle.store_tables.specs.Shown.{Recasts, sets_inh}
-use Rattle.store_tables.specs.Statements.{ExecutesSql, OfRow}
-use Rattle.store_tables.proofs.Asked.{ended, writes}
-use Rattle.store_tables.proofs.Printed.{inheriting_printed}
-use Rattle.store_tables.proofs.Recast.{recast_one, recast_room}
-use Rattle.store_tables.proofs.Rowids.{passed_on}
+use Rattle.store_tables.specs.{Shown.{Recasts, sets_inh}, Statements.{ExecutesSql, OfRow}}
+use Rattle.store_tables.proofs.{Asked.{ended, writes}, Printed.inheriting_printed}
+use Rattle.store_tables.proofs.{Recast.{recast_one, recast_room}, Rowids.passed_on}
 use Rattle.store_tables.proofs.Texts.{dacl_inh_is, dacl_inh_terms, dacl_inh_text, plain_dacl_inh}
 use Rattle.store_tables.proofs.Texts.{sacl_inh_is, sacl_inh_terms, sacl_inh_text, plain_sacl_inh}
 use Rattle.store_tables.proofs.statements.update_inh.Goals as goal

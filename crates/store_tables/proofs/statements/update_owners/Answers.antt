@@ -1,12 +1,9 @@
 use Rattle.std.proofs.Common.{◌∷◌, [], refl, pos}
-use Rattle.sqlite.specs.declared.types.Value.TheVariants.{Int, Text}
-use Rattle.sqlite.specs.Held.{state}
+use Rattle.sqlite.specs.{declared.types.Value.TheVariants.{Int, Text}, Held.state}
 use Rattle.store_tables.specs.Shown.{sets_owners}
-use Rattle.store_tables.proofs.Asked.{ended, writes}
-use Rattle.store_tables.proofs.Printed.{owning_printed}
-use Rattle.store_tables.proofs.Recast.{recast_one, recast_room}
-use Rattle.store_tables.proofs.Rowids.{passed_on}
-use Rattle.store_tables.proofs.Texts.{owners_is, owners_terms, owners_text, plain_owners}
+use Rattle.store_tables.proofs.{Asked.{ended, writes}, Printed.owning_printed, Recast.recast_one}
+use Rattle.store_tables.proofs.{Recast.recast_room, Rowids.passed_on, Texts.owners_is}
+use Rattle.store_tables.proofs.Texts.{owners_terms, owners_text, plain_owners}
 use Rattle.store_tables.proofs.statements.update_owners.Goals as goal
 
 pub returns-clause-writes : goal.returns-clause-writes

@@ -1,12 +1,9 @@
 use Rattle.std.proofs.Common.{◌∷◌, [], refl, pos}
-use Rattle.sqlite.specs.declared.types.Value.TheVariants.{Int, Text}
-use Rattle.sqlite.specs.Held.{state}
+use Rattle.sqlite.specs.{declared.types.Value.TheVariants.{Int, Text}, Held.state}
 use Rattle.store_tables.specs.Shown.{sets_place}
-use Rattle.store_tables.proofs.Asked.{ended, writes}
-use Rattle.store_tables.proofs.Printed.{lying_printed}
-use Rattle.store_tables.proofs.Recast.{recast_one, recast_room}
-use Rattle.store_tables.proofs.Rowids.{passed_on}
-use Rattle.store_tables.proofs.Texts.{place_is, place_terms, place_text, plain_place}
+use Rattle.store_tables.proofs.{Asked.{ended, writes}, Printed.lying_printed, Recast.recast_one}
+use Rattle.store_tables.proofs.{Recast.recast_room, Rowids.passed_on, Texts.{place_is, place_terms}}
+use Rattle.store_tables.proofs.Texts.{place_text, plain_place}
 use Rattle.store_tables.proofs.statements.update_place.Goals as goal
 
 pub returns-clause-writes : goal.returns-clause-writes

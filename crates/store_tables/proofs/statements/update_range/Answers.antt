@@ -1,16 +1,12 @@
 use Rattle.std.proofs.Common.{◌∷◌, [], refl, pos}
-use Rattle.sqlite.specs.declared.types.Value.TheVariants.{Int, Text}
-use Rattle.sqlite.specs.Held.{state}
+use Rattle.sqlite.specs.{declared.types.Value.TheVariants.{Int, Text}, Held.state}
 use Rattle.room_entry.specs.declared.object.Which.TheVariants.{Dacl, Sacl}
-use Rattle.store_tables.specs.Shown.{RecastsAll, sets_inh}
-use Rattle.store_tables.specs.Statements.{ExecutesSql, OfRows}
-use Rattle.store_tables.proofs.Asked.{ended, writes}
-use Rattle.store_tables.proofs.Printed.{inheriting_printed}
+use Rattle.store_tables.specs.{Shown.{RecastsAll, sets_inh}, Statements.{ExecutesSql, OfRows}}
+use Rattle.store_tables.proofs.{Asked.{ended, writes}, Printed.inheriting_printed}
 use Rattle.store_tables.proofs.RangeTexts.{dacl_range_is, dacl_range_terms, dacl_range_text}
 use Rattle.store_tables.proofs.RangeTexts.{plain_dacl_range, sacl_range_is, sacl_range_terms}
-use Rattle.store_tables.proofs.RangeTexts.{sacl_range_text, plain_sacl_range}
-use Rattle.store_tables.proofs.Ranged.{range_room, range_rows}
-use Rattle.store_tables.proofs.Rowids.{passed_on}
+use Rattle.store_tables.proofs.{RangeTexts.{sacl_range_text, plain_sacl_range}, Ranged.range_room}
+use Rattle.store_tables.proofs.{Ranged.range_rows, Rowids.passed_on}
 use Rattle.store_tables.proofs.statements.update_range.Goals as goal
 
 pub returns-in-Dacl-clause-writes : goal.returns-in-Dacl-clause-writes

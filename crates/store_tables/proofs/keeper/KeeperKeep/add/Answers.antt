@@ -1,12 +1,10 @@
 use Rattle.std.proofs.Common.{◌≡◌, ℕ, List, pos, sym, ap, subst, ◌∙◌, arith, rules}
 use Rattle.sqlite.specs.Held.{state}
 use Rattle.room_entry.specs.Valid.{is_document}
-use Rattle.room_rows.specs.declared.node.Node.{Node}
-use Rattle.room_rows.specs.Counts.{capped_rises}
-use Rattle.room_rows.specs.Keep.{capped, node_of, one_more}
-use Rattle.store_tables.specs.Columns.{ReadsAsNode}
-use Rattle.store_tables.specs.Shown.{GetsBytes}
-use Rattle.store_tables.specs.Trust.{stays_on, trusted_first, trusted_last}
+use Rattle.room_rows.specs.{declared.node.Node.Node, Counts.capped_rises, Keep.{capped, node_of}}
+use Rattle.room_rows.specs.Keep.{one_more}
+use Rattle.store_tables.specs.{Columns.ReadsAsNode, Shown.GetsBytes, Trust.stays_on}
+use Rattle.store_tables.specs.Trust.{trusted_first, trusted_last}
 use Rattle.store_tables.proofs.Adding.{added, put_rows}
 use Rattle.store_tables.proofs.keeper.KeeperKeep.add.Goals as goal
 

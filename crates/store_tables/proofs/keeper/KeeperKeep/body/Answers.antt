@@ -1,12 +1,9 @@
 use Rattle.std.proofs.Common.{◌≡◌, ◌<◌, OnOk, Ok, refl, sym, ap, subst, ◌∙◌, pos, arith}
 use Rattle.sqlite.specs.Held.{state}
 use Rattle.room_rows.specs.Keep.{IsBodyOf, IsNever, capped}
-use Rattle.store_tables.specs.Meaning.{rows_of}
-use Rattle.store_tables.specs.Seeing.{bytes_seen, result_of_seen}
-use Rattle.store_tables.specs.Statements.{HasBytes, QueriesSql}
-use Rattle.store_tables.specs.Trust.{IsTrusted}
-use Rattle.store_tables.proofs.Blobs.{tells_bytes}
-use Rattle.store_tables.proofs.Nodes.{Tells, reads}
+use Rattle.store_tables.specs.{Meaning.rows_of, Seeing.{bytes_seen, result_of_seen}}
+use Rattle.store_tables.specs.{Statements.{HasBytes, QueriesSql}, Trust.IsTrusted}
+use Rattle.store_tables.proofs.{Blobs.tells_bytes, Nodes.{Tells, reads}}
 use Rattle.store_tables.proofs.keeper.KeeperKeep.body.Goals as goal
 
 pub returns : goal.returns

@@ -1,14 +1,9 @@
 use Rattle.std.proofs.Common.{◌≡◌, IfOk, Ok, refl, sym, ap, subst, ◌∙◌, pos, arith}
 use Rattle.sqlite.specs.Held.{state}
 use Rattle.room_rows.specs.Keep.{IsChildOf, IsUnreadable, capped}
-use Rattle.store_tables.specs.Meaning.{rows_of}
-use Rattle.store_tables.specs.Seeing.{result_of_seen, seen_only}
-use Rattle.store_tables.specs.Statements.{HasChild, QueriesSql}
-use Rattle.store_tables.specs.Trust.{IsTrusted}
-use Rattle.store_tables.specs.Whole.{SeesNamed}
-use Rattle.store_tables.proofs.Named.{tells_child}
-use Rattle.store_tables.proofs.Nodes.{Tells, reads}
-use Rattle.store_tables.proofs.Whole.{sees_named}
+use Rattle.store_tables.specs.{Meaning.rows_of, Seeing.{result_of_seen, seen_only}}
+use Rattle.store_tables.specs.{Statements.{HasChild, QueriesSql}, Trust.IsTrusted, Whole.SeesNamed}
+use Rattle.store_tables.proofs.{Named.tells_child, Nodes.{Tells, reads}, Whole.sees_named}
 use Rattle.store_tables.proofs.keeper.KeeperKeep.child.Goals as goal
 
 pub returns : goal.returns

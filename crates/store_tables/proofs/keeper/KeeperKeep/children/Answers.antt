@@ -1,14 +1,9 @@
 use Rattle.std.proofs.Common.{◌≡◌, [], IfOk, Ok, refl, sym, ap, subst, ◌∙◌, pos, arith}
 use Rattle.sqlite.specs.Held.{state}
 use Rattle.room_rows.specs.Keep.{AreChildrenOf, IsUnreadable, capped}
-use Rattle.store_tables.specs.Meaning.{node_in, rows_of}
-use Rattle.store_tables.specs.Seeing.{result_of_seen, seen_behind}
-use Rattle.store_tables.specs.Statements.{HasUnder, QueriesSql}
-use Rattle.store_tables.specs.Trust.{IsTrusted}
-use Rattle.store_tables.specs.Whole.{SeesEach}
-use Rattle.store_tables.proofs.Nodes.{Tells, reads}
-use Rattle.store_tables.proofs.Under.{tells_under}
-use Rattle.store_tables.proofs.Whole.{sees_under}
+use Rattle.store_tables.specs.{Meaning.{node_in, rows_of}, Seeing.{result_of_seen, seen_behind}}
+use Rattle.store_tables.specs.{Statements.{HasUnder, QueriesSql}, Trust.IsTrusted, Whole.SeesEach}
+use Rattle.store_tables.proofs.{Nodes.{Tells, reads}, Under.tells_under, Whole.sees_under}
 use Rattle.store_tables.proofs.keeper.KeeperKeep.children.Goals as goal
 
 pub returns : goal.returns

@@ -1,11 +1,9 @@
 use Rattle.std.proofs.Common.{◌≡◌, Ok, refl, ap, subst, ◌∙◌, arith}
 use Rattle.sqlite.specs.Held.{state}
 use Rattle.room_rows.specs.Keep.{capped}
-use Rattle.store_tables.specs.Meaning.{rows_of}
-use Rattle.store_tables.specs.Seeing.{names_seen}
-use Rattle.store_tables.specs.Statements.{HasGroups, QueriesSql}
-use Rattle.store_tables.proofs.Apart.{members_apart}
-use Rattle.store_tables.proofs.Grouped.{tells_groups}
+use Rattle.store_tables.specs.{Meaning.rows_of, Seeing.names_seen, Statements.HasGroups}
+use Rattle.store_tables.specs.Statements.{QueriesSql}
+use Rattle.store_tables.proofs.{Apart.members_apart, Grouped.tells_groups}
 use Rattle.store_tables.proofs.keeper.KeeperKeep.groups_of.Goals as goal
 
 pub returns : goal.returns

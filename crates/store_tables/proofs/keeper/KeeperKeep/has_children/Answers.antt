@@ -2,11 +2,8 @@ use Rattle.std.proofs.Common.{Ok, length, not, refl, sym, ap, subst, ◌∙◌, 
 use Rattle.std.specs.Prelude.{◌==◌}
 use Rattle.sqlite.specs.Held.{state}
 use Rattle.room_rows.specs.Keep.{HasChildren, capped}
-use Rattle.store_tables.specs.Meaning.{rows_of}
-use Rattle.store_tables.specs.Statements.{HasSome, QueriesSql}
-use Rattle.store_tables.proofs.Listed.{tells_some}
-use Rattle.store_tables.specs.Whole.{SeesSome}
-use Rattle.store_tables.proofs.Whole.{sees_some}
+use Rattle.store_tables.specs.{Meaning.rows_of, Statements.{HasSome, QueriesSql}, Whole.SeesSome}
+use Rattle.store_tables.proofs.{Listed.tells_some, Whole.sees_some}
 use Rattle.store_tables.proofs.keeper.KeeperKeep.has_children.Goals as goal
 
 pub returns : goal.returns

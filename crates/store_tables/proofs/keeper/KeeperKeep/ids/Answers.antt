@@ -1,9 +1,8 @@
 use Rattle.std.proofs.Common.{◌≡◌, Ok, refl, ap, subst, ◌∙◌, arith}
 use Rattle.sqlite.specs.Held.{state}
 use Rattle.room_rows.specs.Keep.{capped}
-use Rattle.store_tables.specs.Meaning.{rows_of}
-use Rattle.store_tables.specs.Seeing.{numbers_seen}
-use Rattle.store_tables.specs.Statements.{HasNumbers, QueriesSql}
+use Rattle.store_tables.specs.{Meaning.rows_of, Seeing.numbers_seen, Statements.HasNumbers}
+use Rattle.store_tables.specs.Statements.{QueriesSql}
 use Rattle.store_tables.proofs.Numbers.{tells_numbers}
 use Rattle.store_tables.proofs.keeper.KeeperKeep.ids.Goals as goal
 

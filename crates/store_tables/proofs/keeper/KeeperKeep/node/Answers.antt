@@ -1,10 +1,8 @@
 use Rattle.std.proofs.Common.{◌≡◌, ◌<◌, OnOk, Ok, refl, sym, ap, subst, ◌∙◌, pos, arith}
 use Rattle.sqlite.specs.Held.{state}
 use Rattle.room_rows.specs.Keep.{IsNodeAt, IsUnreadableAt, capped}
-use Rattle.store_tables.specs.Meaning.{rows_of}
-use Rattle.store_tables.specs.Seeing.{result_of_seen, seen_only}
-use Rattle.store_tables.specs.Statements.{HasNode, QueriesSql}
-use Rattle.store_tables.specs.Trust.{IsTrusted}
+use Rattle.store_tables.specs.{Meaning.rows_of, Seeing.{result_of_seen, seen_only}}
+use Rattle.store_tables.specs.{Statements.{HasNode, QueriesSql}, Trust.IsTrusted}
 use Rattle.store_tables.proofs.Nodes.{Tells, reads, tells_node}
 use Rattle.store_tables.proofs.keeper.KeeperKeep.node.Goals as goal
 

@@ -1,9 +1,7 @@
 use Rattle.std.proofs.Common.{refl, ap, arith}
 use Rattle.sqlite.specs.Held.{state}
-use Rattle.room_rows.specs.Counts.{capped_rises}
-use Rattle.room_rows.specs.Keep.{capped}
-use Rattle.store_tables.proofs.Removed.{removed_rows}
-use Rattle.store_tables.proofs.Changed.{of_one}
+use Rattle.room_rows.specs.{Counts.capped_rises, Keep.capped}
+use Rattle.store_tables.proofs.{Removed.removed_rows, Changed.of_one}
 use Rattle.store_tables.proofs.keeper.KeeperKeep.remove.Goals as goal
 
 pub returns : goal.returns

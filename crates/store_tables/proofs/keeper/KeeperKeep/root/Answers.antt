@@ -1,14 +1,9 @@
 use Rattle.std.proofs.Common.{◌≡◌, IfOk, Ok, refl, sym, ap, subst, ◌∙◌, arith}
 use Rattle.sqlite.specs.Held.{state}
 use Rattle.room_rows.specs.Keep.{HasNoRoot, IsRootOf, capped}
-use Rattle.store_tables.specs.Meaning.{rows_of}
-use Rattle.store_tables.specs.Seeing.{seen_only, top_of}
-use Rattle.store_tables.specs.Statements.{HasTop, QueriesSql}
-use Rattle.store_tables.specs.Trust.{IsTrusted}
-use Rattle.store_tables.specs.Whole.{SeesTop}
-use Rattle.store_tables.proofs.Nodes.{Tells, reads}
-use Rattle.store_tables.proofs.Tops.{tells_top}
-use Rattle.store_tables.proofs.Whole.{sees_top}
+use Rattle.store_tables.specs.{Meaning.rows_of, Seeing.{seen_only, top_of}, Statements.HasTop}
+use Rattle.store_tables.specs.{Statements.QueriesSql, Trust.IsTrusted, Whole.SeesTop}
+use Rattle.store_tables.proofs.{Nodes.{Tells, reads}, Tops.tells_top, Whole.sees_top}
 use Rattle.store_tables.proofs.keeper.KeeperKeep.root.Goals as goal
 
 pub returns : goal.returns

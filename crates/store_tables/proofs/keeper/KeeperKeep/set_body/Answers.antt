@@ -1,6 +1,5 @@
 use Rattle.std.proofs.Common.{ap, arith, ◌∙◌}
-use Rattle.room_rows.specs.Counts.{capped_rises}
-use Rattle.room_rows.specs.Keep.{capped, one_more}
+use Rattle.room_rows.specs.{Counts.capped_rises, Keep.{capped, one_more}}
 use Rattle.store_tables.proofs.keeper.KeeperKeep.set_body.Goals as goal
 
 pub returns : goal.returns

@@ -1,8 +1,6 @@
 use Rattle.std.proofs.Common.{ap, arith}
-use Rattle.room_rows.specs.Counts.{capped_rises}
-use Rattle.room_rows.specs.Keep.{capped}
-use Rattle.store_tables.proofs.Changing.{cause_later, writes_rise}
-use Rattle.store_tables.proofs.Tests.{if_ok}
+use Rattle.room_rows.specs.{Counts.capped_rises, Keep.capped}
+use Rattle.store_tables.proofs.{Changing.{cause_later, writes_rise}, Tests.if_ok}
 use Rattle.store_tables.proofs.keeper.KeeperKeep.set_inh.Goals as goal
 
 pub returns : goal.returns

@@ -1,8 +1,7 @@
 use Rattle.std.proofs.Common.{List, Some, sym, ap, ◌∙◌}
 use Rattle.room_entry.specs.Ace.{Ace}
 use Rattle.room_entry.proofs.Same.{entries_equal}
-use Rattle.room_ace.specs.Column.{entries_of}
-use Rattle.room_ace.specs.Lists.{entry_lines}
+use Rattle.room_ace.specs.{Column.entries_of, Lists.entry_lines}
 use Rattle.store_tables.proofs.recent.PrintedText.spelling.Goals as goal
 
 pub returns-then-is_same : goal.returns-then-is_same
