@@ -1,19 +1,14 @@
 -- The groups of pairs: those of all pairs, each once, in the order in which they come first.
 use Rattle.std.proofs.Common.{◌≡◌, ℕ, zero, suc, Bool, true, false, List, [], ◌∷◌, ◌++◌, take, refl}
 use Rattle.std.proofs.Common.{sym, ap, ◌∙◌, inl, inr, append_assoc, append-nil}
-use Rattle.std.specs.Prelude.{◌||◌, not}
-use Rattle.std.specs.List.{list_any}
-use Rattle.std.specs.Cmp.Lexicographic.{bytes_decides}
-use Rattle.std.proofs.Math.Bool.{or_assoc, or-false}
-use Rattle.std.proofs.lemmas.Bool.{and_from, and_parts, cases_Bool, cond-true, cond-false}
-use Rattle.std.proofs.lemmas.Bool.{false≢true, not-true, not_from_false, or_cases, or_from}
-use Rattle.std.proofs.lemmas.Bool.{or_left, or_parts, or_right}
+use Rattle.std.proofs.{Math.Bool.{or_assoc, or-false}, lemmas.Bool.{and_from, and_parts}}
+use Rattle.std.proofs.lemmas.Bool.{cases_Bool, cond-true, cond-false, false≢true, not-true}
+use Rattle.std.proofs.lemmas.Bool.{not_from_false, or_cases, or_from, or_left, or_parts, or_right}
 use Rattle.std.proofs.lemmas.List.Folds.{list_any-append}
+use Rattle.std.specs.{Prelude.{◌||◌, not}, List.list_any, Cmp.Lexicographic.bytes_decides}
 use Rattle.room_entry.specs.Pieces.{same_text}
-use Rattle.room_entry.proofs.Facts.Booleans.{same_truth}
-use Rattle.room_entry.proofs.Texts.{same_text-sym}
-use Rattle.cli_act.specs.Counting.{GroupsOfPairs, are_once}
-use Rattle.cli_act.specs.Counting.{groups_after, with_group}
+use Rattle.room_entry.proofs.{Facts.Booleans.same_truth, Texts.same_text-sym}
+use Rattle.cli_act.specs.Counting.{GroupsOfPairs, are_once, groups_after, with_group}
 
 abbrev Groups : Type 0
 Groups = List (List ℕ)

@@ -1,12 +1,9 @@
 -- After a task no transaction is open.
 use Rattle.std.proofs.Common.{◌≡◌, inl, inr, false}
-use Rattle.sqlite.specs.Held.{Held}
-use Rattle.sqlite.specs.State.{State}
-use Rattle.cli_act.specs.Doing.{DoesTask, Works, WorksOnRoom}
-use Rattle.cli_act.specs.declared.outcome.Outcome.{Outcome}
-use Rattle.cli_words.specs.declared.judging.RoomTask.{RoomTask}
+use Rattle.sqlite.specs.{Held.Held, State.State}
+use Rattle.cli_act.specs.{Doing.{DoesTask, Works, WorksOnRoom}, declared.outcome.Outcome.Outcome}
+use Rattle.cli_words.specs.declared.judging.{RoomTask.RoomTask, Task.Task}
 use Rattle.cli_words.specs.declared.judging.RoomTask.TheVariants as room
-use Rattle.cli_words.specs.declared.judging.Task.{Task}
 use Rattle.cli_words.specs.declared.judging.Task.TheVariants as task
 
 work_ended : (work : RoomTask) (old new : State) (outcome : Outcome) → Works work old outcome new

@@ -1,22 +1,15 @@
 -- The set of groups that came before, as pairs are counted.
 use Rattle.std.proofs.Common.{ℕ, ◌≡◌, ◌+◌, ◌∷◌, ◌++◌, Bool, true, false, cond, length, List, []}
-use Rattle.std.proofs.Common.{refl, sym, ap, subst, ◌∙◌, ◌<◌, ◌≤◌}
-use Rattle.std.proofs.Common.{Ordering, get_or, drop, drop-cons, add-one}
-use Rattle.std.specs.Prelude.{not, if◌then◌else◌}
-use Rattle.std.specs.Bool.{OnFalse}
-use Rattle.std.specs.Borrow.{Bor}
-use Rattle.std.specs.List.{list_any}
-use Rattle.std.specs.Ordering.{is_eq, nat_cmp}
-use Rattle.std.specs.Cmp.Lexicographic.{slice_cmp}
-use Rattle.std.specs.BTreeSet.{BTreeSet, contains}
-use Rattle.std.proofs.lemmas.Bool.{cond-true, cond-false}
-use Rattle.std.proofs.lemmas.List.Folds.{list_any-append}
-use Rattle.std.proofs.lemmas.List.{drop_all, length-append}
+use Rattle.std.proofs.Common.{refl, sym, ap, subst, ◌∙◌, ◌<◌, ◌≤◌, Ordering, get_or, drop}
+use Rattle.std.proofs.{Common.{drop-cons, add-one}, lemmas.Bool.{cond-true, cond-false}}
+use Rattle.std.proofs.lemmas.List.{drop_all, length-append, Folds.list_any-append}
 use Rattle.std.proofs.lemmas.Map.Text.{is_eq-slice_cmp}
+use Rattle.std.specs.{Prelude.{not, if◌then◌else◌}, Bool.OnFalse, Borrow.Bor, List.list_any}
+use Rattle.std.specs.{Ordering.{is_eq, nat_cmp}, Cmp.Lexicographic.slice_cmp, BTreeSet.BTreeSet}
+use Rattle.std.specs.BTreeSet.{contains}
 use Rattle.room_entry.specs.Pieces.{same_text}
 use Rattle.cli_act.specs.Counting.{groups_after, distinct_groups, with_group}
-use Rattle.room_entry.proofs.Facts.Booleans.{one_more}
-use Rattle.room_entry.proofs.Texts.{same_text-sym}
+use Rattle.room_entry.proofs.{Facts.Booleans.one_more, Texts.same_text-sym}
 
 -- names in the order of their bytes
 abbrev pub name_order : Bor (List ℕ) → Bor (List ℕ) → Ordering

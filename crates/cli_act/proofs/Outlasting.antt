@@ -1,19 +1,13 @@
 -- What a crash leaves of a task.
 use Rattle.std.proofs.Common.{◌≡◌, IsTrue, inl, inr, subst}
-use Rattle.sqlite.specs.Effect.{Database}
-use Rattle.sqlite.specs.Held.{Held}
-use Rattle.sqlite.specs.State.{State, HasCleanDisk}
-use Rattle.sqlite.specs.Tree.{Trees}
+use Rattle.sqlite.specs.{Effect.Database, Held.Held, State.{State, HasCleanDisk}, Tree.Trees}
 use Rattle.room_rows.specs.Rows.{Rows}
-use Rattle.store_tables.specs.Shown.{HasTables}
-use Rattle.store_tables.specs.Within.{LeavesOrCommits, TreesOf}
+use Rattle.store_tables.specs.{Shown.HasTables, Within.{LeavesOrCommits, TreesOf}}
 use Rattle.room_store.specs.Ran.{CommitsAnswer, IsAnswered}
-use Rattle.cli_act.specs.Acting.{CommitsTask, CommitsWork}
-use Rattle.cli_act.specs.Doing.{DoesTask, Works, WorksOnRoom}
+use Rattle.cli_act.specs.{Acting.{CommitsTask, CommitsWork}, Doing.{DoesTask, Works, WorksOnRoom}}
 use Rattle.cli_act.specs.declared.outcome.Outcome.{Outcome}
-use Rattle.cli_words.specs.declared.judging.RoomTask.{RoomTask}
+use Rattle.cli_words.specs.declared.judging.{RoomTask.RoomTask, Task.Task}
 use Rattle.cli_words.specs.declared.judging.RoomTask.TheVariants as room
-use Rattle.cli_words.specs.declared.judging.Task.{Task}
 use Rattle.cli_words.specs.declared.judging.Task.TheVariants as task
 
 work_outlasts : (work : RoomTask) (old new : State) (outcome : Outcome)

@@ -1,7 +1,6 @@
 -- Texts that are printed.
 use Rattle.std.proofs.Common.{◌≡◌, ℕ, List, Option, subst}
-use Rattle.cli_outcome.specs.Written.{PrintsText}
-use Rattle.cli_outcome.specs.declared.status.Status.{Status}
+use Rattle.cli_outcome.specs.{Written.PrintsText, declared.status.Status.Status}
 
 pub told_as : (text text' : List ℕ) (how how' : Status) (u v w x : Option (List ℕ)) (status : ℕ)
     → text ≡ text' → how ≡ how' → PrintsText text how u v w x status

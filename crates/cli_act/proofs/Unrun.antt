@@ -1,10 +1,8 @@
 -- A call that isn't made, since memory ran out.
 use Rattle.std.proofs.Common.{◌≡◌, Result, Err, inl, refl}
-use Rattle.sqlite.specs.Effect.{Database}
-use Rattle.sqlite.specs.State.{State}
+use Rattle.sqlite.specs.{Effect.Database, State.State}
 use Rattle.room_rows.specs.Rows.{Rows}
-use Rattle.room_store.specs.declared.fault.StoreFault.{StoreFault}
-use Rattle.room_store.specs.declared.fault.StoreFault.TheVariants.{Memory, Damaged}
+use Rattle.room_store.specs.declared.fault.StoreFault.{StoreFault, TheVariants.{Memory, Damaged}}
 use Rattle.room_store.specs.Ran.{Looked, Ran}
 use Rattle.store_tables.proofs.Calls.{retains_same}
 

@@ -1,13 +1,9 @@
 -- Bytes that are no text are no letters of a mask.
-use Rattle.std.proofs.Common.{ℕ, ◌≡◌, Bool, true, false, List, refl}
-use Rattle.std.specs.Prelude.{nat_lt}
-use Rattle.std.specs.List.{list_all}
-use Rattle.std.proofs.lemmas.Bool.{or_left, false_from_ne_true, both_ways}
-use Rattle.room_entry.specs.Pieces.{is_among}
-use Rattle.room_entry.specs.Letters.{mask_letters}
-use Rattle.room_entry.specs.Utf8.{is_utf8}
-use Rattle.room_entry.proofs.Facts.Lists.{all_implied}
-use Rattle.room_entry.proofs.Texts.{at_bit}
+use Rattle.std.proofs.{Common.{ℕ, ◌≡◌, Bool, true, false, List, refl}, lemmas.Bool.or_left}
+use Rattle.std.proofs.lemmas.Bool.{false_from_ne_true, both_ways}
+use Rattle.std.specs.{Prelude.nat_lt, List.list_all}
+use Rattle.room_entry.specs.{Pieces.is_among, Letters.mask_letters, Utf8.is_utf8}
+use Rattle.room_entry.proofs.{Facts.Lists.all_implied, Texts.at_bit}
 
 abbrev is_ascii : ℕ → Bool
 is_ascii byte = nat_lt byte 128

@@ -1,22 +1,16 @@
 -- A list text below other lines says what it says alone, its faults' lines counted from the top.
 use Rattle.std.proofs.Common.{ℕ, ◌≡◌, ◌≤◌, ◌+◌, Bool, true, not, List, [], ◌∷◌, ◌++◌, map, Option}
 use Rattle.std.proofs.Common.{Some, None, length, refl, ap, ◌∙◌, ◌⊎◌, inl, inr, arith}
-use Rattle.std.specs.Prelude.{◌||◌, ◌==◌, nat_le, filter, Result, Ok, Err}
-use Rattle.std.specs.List.{enumerate_from, list_all}
 use Rattle.std.proofs.lemmas.Bool.{cases_Bool, leb-true, le-leb, and_parts, and_from}
-use Rattle.std.proofs.lemmas.List.Splits.{length-slice_split}
-use Rattle.std.proofs.lemmas.List.Sums.{count_by-le-length}
-use Rattle.room_entry.specs.Pieces.{pieces}
-use Rattle.room_entry.specs.Ace.{Ace}
-use Rattle.room_ace.specs.Sent.{Sent, limit_fault}
-use Rattle.room_ace.specs.Text.{entry_of}
-use Rattle.room_ace.specs.Lists.{lines_of, lines_of_pieces, is_blank, is_comment, numbered_lines}
+use Rattle.std.proofs.lemmas.List.{Splits.length-slice_split, Sums.count_by-le-length}
+use Rattle.std.specs.{Prelude.{◌||◌, ◌==◌, nat_le, filter, Result, Ok, Err}, List.enumerate_from}
+use Rattle.std.specs.List.{list_all}
+use Rattle.room_entry.specs.{Pieces.pieces, Ace.Ace, Utf8.is_utf8}
+use Rattle.room_entry.specs.declared.{flags.ListFlags.ListFlags, fault.TextFault.TextFault}
+use Rattle.room_ace.specs.{Sent.{Sent, limit_fault}, Text.entry_of, Lists.lines_of}
+use Rattle.room_ace.specs.Lists.{lines_of_pieces, is_blank, is_comment, numbered_lines}
 use Rattle.room_ace.specs.Lists.{flags_of_list, with_entry, and_then, entries_after, sent_with}
-use Rattle.room_ace.specs.Lists.{sent_of_lines, sent_of}
-use Rattle.room_entry.specs.Utf8.{is_utf8}
-use Rattle.room_entry.specs.declared.flags.ListFlags.{ListFlags}
-use Rattle.room_entry.specs.declared.fault.TextFault.{TextFault}
-use Rattle.room_ace.specs.declared.fault.LineFault.{LineFault}
+use Rattle.room_ace.specs.{Lists.{sent_of_lines, sent_of}, declared.fault.LineFault.LineFault}
 use Rattle.cli_check.specs.Check.{in_list, list_below}
 
 abbrev says : ℕ × List ℕ → Bool

@@ -1,12 +1,9 @@
 -- Worked rows: what is printed for one list.
 use Rattle.std.proofs.Common.{ℕ, ◌≡◌, List, [], ◌∷◌, ◌++◌, refl, ap, arith, codes}
-use Rattle.std.specs.List.{flat_map}
 use Rattle.std.proofs.lemmas.Fmt.{decimal_digit}
-use Rattle.room_entry.specs.Bits.{all_bits}
-use Rattle.room_entry.specs.Names.{is_name}
-use Rattle.room_entry.specs.Letters.{mask_letters}
-use Rattle.cli_check.specs.Check.{judged}
-use Rattle.cli_check.specs.Reply.{judged_text}
+use Rattle.std.specs.List.{flat_map}
+use Rattle.room_entry.specs.{Bits.all_bits, Names.is_name, Letters.mask_letters}
+use Rattle.cli_check.specs.{Check.judged, Reply.judged_text}
 
 -- the text that is printed for lines
 abbrev told : List (List ℕ) → List ℕ

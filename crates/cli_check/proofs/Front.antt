@@ -1,13 +1,10 @@
 -- A front that shows that an input is too long gets the answer of the whole input.
 use Rattle.std.proofs.Common.{ℕ, ◌≡◌, ◌≤◌, List, length, refl, inl, inr, arith}
+use Rattle.std.proofs.lemmas.{List.{length-take-le, take_all}, Bool.{cases_Bool, ltb-true}}
+use Rattle.std.proofs.lemmas.Bool.{ltb-false}
 use Rattle.std.specs.Prelude.{take, nat_lt, Option, Some, None, IfSome}
-use Rattle.cli_outcome.specs.Reading.{IsInput}
-use Rattle.cli_outcome.specs.declared.status.Status.{Status}
-use Rattle.cli_check.specs.Answering.{reply_line}
-use Rattle.cli_check.specs.Reply.{reply_status}
-use Rattle.std.proofs.lemmas.List.{length-take-le, take_all}
-use Rattle.std.proofs.lemmas.Bool.{cases_Bool, ltb-true, ltb-false}
-use Rattle.cli_check.specs.Check.{judged}
+use Rattle.cli_outcome.specs.{Reading.IsInput, declared.status.Status.Status}
+use Rattle.cli_check.specs.{Answering.reply_line, Reply.reply_status, Check.judged}
 
 pub judged-take : (input : List ℕ) → judged (take 1048577 input) ≡ judged input
 judged-take input =

@@ -1,15 +1,10 @@
 -- What is written of the line that answers an input.
 use Rattle.std.proofs.Common.{ℕ, ◌≡◌, List, [], Option, Some, None, Result, Ok, Err, refl, ◌∙◌}
 use Rattle.std.proofs.Common.{subst}
-use Rattle.std.specs.Io.KnownBytes.{Appends}
-use Rattle.std.specs.Prelude.{IfOk, OnErr, OnOk}
+use Rattle.std.specs.{Io.KnownBytes.Appends, Prelude.{IfOk, OnErr, OnOk}}
 use Rattle.cli_outcome.proofs.KnownBytes.{writes_none}
-use Rattle.cli_outcome.specs.Reading.{IsInput}
-use Rattle.cli_outcome.specs.Written.{WritesSome}
-use Rattle.cli_outcome.specs.declared.status.Status.{Status}
-use Rattle.cli_check.specs.Answering.{Answers, reply_line}
-use Rattle.cli_check.specs.Check.{judged}
-use Rattle.cli_check.specs.Reply.{reply_status}
+use Rattle.cli_outcome.specs.{Reading.IsInput, Written.WritesSome, declared.status.Status.Status}
+use Rattle.cli_check.specs.{Answering.{Answers, reply_line}, Check.judged, Reply.reply_status}
 
 -- nothing
 pub untold : {E : Type 0} (known old : Option (List ℕ)) (error : E)

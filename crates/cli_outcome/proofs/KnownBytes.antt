@@ -1,10 +1,8 @@
 -- Known bytes that are written one text after another.
 use Rattle.std.proofs.Common.{ℕ, List, [], take, drop, Option, Result, Ok, Err, refl, sym}
 use Rattle.std.proofs.lemmas.List.{append-nil, take-append-drop}
-use Rattle.std.specs.Io.KnownBytes.{Appends, Keeps}
-use Rattle.std.specs.Prelude.{OnErr, OnOk}
-use Rattle.cli_outcome.specs.Written.{WritesSome}
-use Rattle.cli_outcome.specs.declared.fault.Fault.{Fault}
+use Rattle.std.specs.{Io.KnownBytes.{Appends, Keeps}, Prelude.{OnErr, OnOk}}
+use Rattle.cli_outcome.specs.{Written.WritesSome, declared.fault.Fault.Fault}
 use Rattle.room_entry.proofs.Facts.KnownBytes.{Appends-kept, Appends-none}
 
 -- a front was written, and nothing more

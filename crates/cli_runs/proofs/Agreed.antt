@@ -2,10 +2,9 @@
 use Rattle.std.proofs.Common.{ℕ, List, [], ◌∷◌, Option, None, Some, All, subst, sym}
 use Rattle.std.proofs.lemmas.List.Elements.{recursion_from_All}
 use Rattle.std.specs.List.{AllByRecursion}
-use Rattle.room_http.specs.declared.ended.Cause.{Cause}
-use Rattle.room_http.specs.Message.{Message, asked}
-use Rattle.room_http.specs.Serve.{IsNext, Next, next_exchange}
-use Rattle.room_http.specs.Stream.{EndsStream, Exchange, HasReply, IsOpen, Last, last_exchange}
+use Rattle.room_http.specs.{declared.ended.Cause.Cause, Message.{Message, asked}, Serve.IsNext}
+use Rattle.room_http.specs.{Serve.{Next, next_exchange}, Stream.{EndsStream, Exchange, HasReply}}
+use Rattle.room_http.specs.Stream.{IsOpen, Last, last_exchange}
 use Rattle.cli_serve.specs.Visits.{IsServedVisit, Meeting, Talked, Visit}
 use Rattle.cli_runs.proofs.Gains.{all_both}
 

@@ -1,16 +1,14 @@
 -- Two servers to whom the same messages come have runs that are alike.
-use Rattle.std.proofs.Common.{◌≡◌, ℕ, ℤ, List, [], ◌∷◌, ◌++◌, Option, None, Some, Ok, Err}
-use Rattle.std.proofs.Common.{All, inl, inr, refl, sym, ap, subst, ◌∙◌, append_assoc}
+use Rattle.std.proofs.Common.{◌≡◌, ℕ, ℤ, List, [], ◌∷◌, ◌++◌, Option, None, Some, Ok, Err, All, inl}
+use Rattle.std.proofs.Common.{inr, refl, sym, ap, subst, ◌∙◌, append_assoc}
 use Rattle.std.specs.List.{AllByRecursion}
 use Rattle.sqlite.specs.State.{State}
 use Rattle.room_inherit.specs.Laws.{SoundIsContent}
-use Rattle.room_machine.specs.Run.{Event, Run}
-use Rattle.room_machine.specs.declared.reply.Reply.{Reply}
-use Rattle.room_laws.specs.Laws.{front_after}
-use Rattle.room_laws.specs.Tidy.{ContentIsTidy}
-use Rattle.room_laws.specs.Twins.{AnswersAlike, Turn, Unseen, first_events, second_events}
-use Rattle.room_http.specs.Message.{Message, Parsed, asked}
-use Rattle.room_http.specs.Stream.{Exchange, HasReply, event_at, events_at, events_by}
+use Rattle.room_machine.specs.{Run.{Event, Run}, declared.reply.Reply.Reply}
+use Rattle.room_laws.specs.{Laws.front_after, Tidy.ContentIsTidy, Twins.{AnswersAlike, Turn}}
+use Rattle.room_laws.specs.Twins.{Unseen, first_events, second_events}
+use Rattle.room_http.specs.{Message.{Message, Parsed, asked}, Stream.{Exchange, HasReply, event_at}}
+use Rattle.room_http.specs.Stream.{events_at, events_by}
 use Rattle.room_store.specs.Leads.{Leads}
 use Rattle.store_runs.proofs.Rooms.{keeps, numbered, sound, tidy}
 use Rattle.cli_serve.specs.Visits.{IsServedVisit, Visit, requests_of, visit_events}

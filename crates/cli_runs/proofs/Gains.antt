@@ -4,11 +4,10 @@ use Rattle.std.proofs.lemmas.List.{append-nil}
 use Rattle.std.specs.List.{AllByRecursion}
 use Rattle.sqlite.specs.State.{State}
 use Rattle.room_rows.specs.Content.{Content}
-use Rattle.room_machine.specs.Run.{Asking, Event}
-use Rattle.room_machine.specs.declared.reply.Reply.{Reply}
+use Rattle.room_machine.specs.{Run.{Asking, Event}, declared.reply.Reply.Reply}
 use Rattle.room_laws.specs.WhoChanged.{IsHarmless}
-use Rattle.room_http.specs.Message.{Message, Parsed, asked}
-use Rattle.room_http.specs.Stream.{Exchange, asking_at, event_at, events_at, events_by}
+use Rattle.room_http.specs.{Message.{Message, Parsed, asked}, Stream.{Exchange, asking_at}}
+use Rattle.room_http.specs.Stream.{event_at, events_at, events_by}
 use Rattle.store_runs.specs.Rights.{CrashGainsNothing, GainsNothing, IsHarmlessAsking}
 use Rattle.cli_serve.specs.Visits.{Visit, asking_by, requests_of, unanswered_of, visit_events}
 use Rattle.cli_serve.specs.Visits.{visit_unanswered}

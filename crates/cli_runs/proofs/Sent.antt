@@ -1,18 +1,13 @@
 -- The texts of replies, one after another, of the exchanges alone.
-use Rattle.std.proofs.Common.{◌≡◌, ◌<◌, ℕ, suc, ◌+◌, Bool, false, true, List, [], ◌∷◌, ◌++◌, length, None}
-use Rattle.std.proofs.Common.{Option, Some, IsSome, refl, sym, ap, subst, ◌∙◌, append_assoc, arith}
-use Rattle.std.proofs.Common.{ne_eqb, true≢false, ◌≢◌}
-use Rattle.std.specs.Prelude.{◌==◌, ◌||◌}
-use Rattle.std.specs.Io.KnownBytes.{Appends}
-use Rattle.std.specs.List.{AllByRecursion}
-use Rattle.std.proofs.lemmas.List.{append-nil}
+use Rattle.std.proofs.Common.{◌≡◌, ◌<◌, ℕ, suc, ◌+◌, Bool, false, true, List, [], ◌∷◌, ◌++◌, length}
+use Rattle.std.proofs.Common.{None, Option, Some, IsSome, refl, sym, ap, subst, ◌∙◌, append_assoc}
+use Rattle.std.proofs.{Common.{arith, ne_eqb, true≢false, ◌≢◌}, lemmas.List.append-nil}
 use Rattle.std.proofs.lemmas.List.Elements.{recursion_from_All}
-use Rattle.room_http.specs.Limits.{max_messages}
-use Rattle.room_http.specs.Message.{closes}
-use Rattle.room_http.specs.Stream.{EndsStream, Exchange, IsOpen, Last, exchange_text}
-use Rattle.room_http.specs.Stream.{last_exchange, last_text, says_close, texts_of}
-use Rattle.cli_serve.specs.Peers.{Wire}
-use Rattle.cli_serve.specs.Visits.{EndsTalk, failed_last}
+use Rattle.std.specs.{Prelude.{◌==◌, ◌||◌}, Io.KnownBytes.Appends, List.AllByRecursion}
+use Rattle.room_http.specs.{Limits.max_messages, Message.closes, Stream.{EndsStream, Exchange}}
+use Rattle.room_http.specs.Stream.{IsOpen, Last, exchange_text, last_exchange, last_text}
+use Rattle.room_http.specs.Stream.{says_close, texts_of}
+use Rattle.cli_serve.specs.{Peers.Wire, Visits.{EndsTalk, failed_last}}
 use Rattle.cli_runs.specs.Sent.{ExchangesAreBytes, IsNoRefusal}
 
 -- the texts of the replies to messages that come after n others

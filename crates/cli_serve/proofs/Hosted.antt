@@ -1,33 +1,23 @@
 -- A store that is opened, and then serves.
-use Rattle.std.proofs.Common.{◌≡◌, ◌≤◌, ◌⊎◌, ℕ, ℤ, All, List, [], length, map, Option, Result}
-use Rattle.std.proofs.Common.{Ok, Err, OnOk, IsTrue, inl, inr, refl, subst, sym}
-use Rattle.sqlite.specs.Effect.{Database}
+use Rattle.std.proofs.Common.{◌≡◌, ◌≤◌, ◌⊎◌, ℕ, ℤ, All, List, [], length, map, Option, Result, Ok}
+use Rattle.std.proofs.Common.{Err, OnOk, IsTrue, inl, inr, refl, subst, sym}
+use Rattle.sqlite.specs.{Effect.Database, State.{State, HasCleanDisk}}
 use Rattle.cli_outcome.specs.declared.place.Place.{Place}
-use Rattle.sqlite.specs.State.{State, HasCleanDisk}
 use Rattle.room_rows.specs.Rows.{Rows}
-use Rattle.store_tables.specs.Meaning.{rows_of}
-use Rattle.store_tables.specs.Shown.{HasTables, Retains, room_of}
+use Rattle.store_tables.specs.{Meaning.rows_of, Shown.{HasTables, Retains, room_of}}
 use Rattle.store_tables.proofs.Calls.{retains_same}
-use Rattle.room_machine.specs.Desk.{RunsClosed}
-use Rattle.room_machine.specs.declared.desk.Desk.{Ghosts}
-use Rattle.room_machine.specs.Run.{Asking, Event}
+use Rattle.room_machine.specs.{Desk.RunsClosed, declared.desk.Desk.Ghosts, Run.{Asking, Event}}
 use Rattle.room_machine.proofs.Meeting.{meet}
 use Rattle.room_http.specs.Stream.{Runs}
-use Rattle.room_store.specs.Crash.{Lasts, Outlasts}
-use Rattle.room_store.specs.Lasting.{together}
-use Rattle.room_store.specs.Opens.{Opens}
-use Rattle.room_store.specs.Retained.{Holds, StillHolds}
-use Rattle.room_store.proofs.Outlasting.{idle, leaves_whole}
-use Rattle.room_store.proofs.Versions.{same_version}
+use Rattle.room_store.specs.{Crash.{Lasts, Outlasts}, Lasting.together, Opens.Opens, Retained.Holds}
+use Rattle.room_store.specs.{Retained.StillHolds, Kept.{IsOfThisVersion, IsShut, IsSound, Keeps}}
+use Rattle.room_store.specs.Kept.{Stores}
+use Rattle.room_store.proofs.{Outlasting.{idle, leaves_whole}, Versions.same_version}
 use Rattle.store_schema.specs.declared.fault.OpenFault.{OpenFault}
-use Rattle.room_store.specs.Kept.{IsOfThisVersion, IsShut, IsSound, Keeps, Stores}
-use Rattle.cli_serve.specs.Lines.{TellsFaults, TellsPlace}
-use Rattle.cli_serve.specs.Staying.{PassesUntil}
-use Rattle.cli_serve.specs.Peers.{Adds}
+use Rattle.cli_serve.specs.{Lines.{TellsFaults, TellsPlace}, Staying.PassesUntil, Peers.Adds}
 use Rattle.cli_serve.specs.Visits.{IsServedVisit, Visit, moment_of, requests_of, unanswered_of}
-use Rattle.cli_serve.specs.declared.fault.ServingFault.{ServingFault}
-use Rattle.cli_serve.specs.Hosts.{ServesRoom, LeavesRequests, LeavesShut, StaysRoom, TellsEnd}
-use Rattle.cli_serve.specs.Hosts.{end_status}
+use Rattle.cli_serve.specs.{declared.fault.ServingFault.ServingFault, Hosts.ServesRoom}
+use Rattle.cli_serve.specs.Hosts.{LeavesRequests, LeavesShut, StaysRoom, TellsEnd, end_status}
 use Rattle.cli_serve.specs.Places.{Deed, ListensAt}
 
 pub ends : (end : Result (Unit {0}) ServingFault) (place : Place) (status : ℕ)

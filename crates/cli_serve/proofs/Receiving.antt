@@ -1,26 +1,19 @@
 -- Connections one after another, as what a desk did.
-use Rattle.std.proofs.Common.{◌≡◌, ℕ, ℤ, ◌+◌, ◌≤◌, List, [], ◌∷◌, ◌++◌, length, map}
-use Rattle.std.proofs.Common.{Option, Some, None, Result, Ok, Err}
-use Rattle.std.proofs.Common.{subst, sym, ap, refl, ◌∙◌, arith, append_assoc}
-use Rattle.std.proofs.lemmas.Grind.{flat_map-append}
-use Rattle.std.proofs.lemmas.List.{append-nil, length-append, map-append}
+use Rattle.std.proofs.Common.{◌≡◌, ℕ, ℤ, ◌+◌, ◌≤◌, List, [], ◌∷◌, ◌++◌, length, map, Option, Some}
+use Rattle.std.proofs.Common.{None, Result, Ok, Err, subst, sym, ap, refl, ◌∙◌, arith, append_assoc}
+use Rattle.std.proofs.lemmas.{Grind.flat_map-append, List.{append-nil, length-append, map-append}}
 use Rattle.std.proofs.lemmas.List.Elements.{All-append, All-nil, All-from_recursion}
-use Rattle.room_machine.specs.declared.desk.Desk.{Ghosts}
-use Rattle.room_machine.specs.Desk.{DeskLaws}
-use Rattle.room_machine.specs.Run.{Asking, Event}
-use Rattle.room_http.specs.declared.ended.Cause.{Cause}
-use Rattle.room_http.specs.declared.ended.Ended.{Ended}
-use Rattle.room_http.specs.declared.ended.ServeFault.{ServeFault}
+use Rattle.room_machine.specs.{declared.desk.Desk.Ghosts, Desk.DeskLaws, Run.{Asking, Event}}
+use Rattle.room_http.specs.declared.ended.{Cause.Cause, Ended.Ended, ServeFault.ServeFault}
 use Rattle.room_http.specs.Serve.{Next, Serves, Stops, next_asking, next_exchange, seen}
 use Rattle.room_http.specs.Stream.{DeskRuns, Last, last_asking, last_exchange}
-use Rattle.cli_serve.specs.Peers.{Act, Adds, Wire, met_by, wire}
-use Rattle.cli_serve.specs.Visits.{Attends, IsServedVisit, Meeting, Receives, ReceivesAll}
-use Rattle.cli_serve.specs.Visits.{ReceivesOne, Sources, Visit, acts_at, acts_of, asking_by}
-use Rattle.cli_serve.specs.Visits.{end_acts, failed_last, failed_next, moment_of, requests_of}
-use Rattle.cli_serve.specs.Visits.{unanswered_of, until, visit_acts, visit_events, visit_unanswered}
+use Rattle.cli_serve.specs.{Peers.{Act, Adds, Wire, met_by, wire}, Visits.{Attends, IsServedVisit}}
+use Rattle.cli_serve.specs.Visits.{Meeting, Receives, ReceivesAll, ReceivesOne, Sources, Visit}
+use Rattle.cli_serve.specs.Visits.{acts_at, acts_of, asking_by, end_acts, failed_last, failed_next}
+use Rattle.cli_serve.specs.Visits.{moment_of, requests_of, unanswered_of, until, visit_acts}
+use Rattle.cli_serve.specs.Visits.{visit_events, visit_unanswered}
 use Rattle.cli_serve.specs.declared.fault.ServingFault.{ServingFault}
-use Rattle.room_http.proofs.Runs.{done-then, nothing-done}
-use Rattle.room_http.proofs.Telling.{at-value}
+use Rattle.room_http.proofs.{Runs.{done-then, nothing-done}, Telling.at-value}
 
 -- what got no answer
 last_unanswered : (moment : ℤ) (last : Last)

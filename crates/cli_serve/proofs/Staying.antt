@@ -1,28 +1,20 @@
 -- Connections one after another, up to one that leaves the desk shut.
 use Rattle.std.proofs.Common.{◌≡◌, ℕ, ℤ, ◌+◌, ◌<◌, Bool, true, false, List, [], ◌∷◌, ◌++◌, length}
 use Rattle.std.proofs.Common.{Ok, Err, IfErr, Option, Result, subst, sym, refl, inl, inr, ◌∙◌}
-use Rattle.std.proofs.Common.{add-one, arith}
-use Rattle.std.proofs.lemmas.List.{length-append}
-use Rattle.std.proofs.lemmas.List.Elements.{All-nil}
+use Rattle.std.proofs.{Common.{add-one, arith}, lemmas.List.{length-append, Elements.All-nil}}
 use Rattle.std.specs.Io.KnownBytes.{Appends}
-use Rattle.cli_outcome.specs.Written.{WritesSome}
-use Rattle.cli_outcome.specs.declared.place.Place.{Place}
-use Rattle.room_machine.specs.declared.desk.Desk.{Ghosts}
-use Rattle.room_machine.specs.Desk.{Agrees, DeskLaws}
-use Rattle.room_rows.specs.Content.{Content}
-use Rattle.room_rows.specs.Rows.{Rows}
+use Rattle.cli_outcome.specs.{Written.WritesSome, declared.place.Place.Place}
+use Rattle.room_machine.specs.{declared.desk.Desk.Ghosts, Desk.{Agrees, DeskLaws}}
+use Rattle.room_rows.specs.{Content.Content, Rows.Rows}
 use Rattle.room_machine.proofs.Meeting.{closed_still}
-use Rattle.room_http.specs.Stream.{DeskRuns}
-use Rattle.cli_serve.specs.Lines.{TellsEach, TellsFirst, TellsOf, TellsPlace, Writing}
-use Rattle.cli_serve.specs.Peers.{Act, Adds}
-use Rattle.cli_serve.specs.Places.{Deed, site_of}
-use Rattle.cli_serve.specs.Staying.{Passes, PassesEach, PassesUntil, Served, ServedAt, ServedHere}
-use Rattle.cli_serve.specs.Staying.{TellsShut}
-use Rattle.room_http.specs.declared.ended.Cause.{Cause}
-use Rattle.room_http.proofs.Runs.{nothing-done}
+use Rattle.room_http.specs.{Stream.DeskRuns, declared.ended.Cause.Cause}
+use Rattle.cli_serve.specs.{Lines.{TellsEach, TellsFirst, TellsOf, TellsPlace, Writing}, Peers.Act}
+use Rattle.cli_serve.specs.{Peers.Adds, Places.{Deed, site_of}, Staying.{Passes, PassesEach}}
+use Rattle.cli_serve.specs.Staying.{PassesUntil, Served, ServedAt, ServedHere, TellsShut}
 use Rattle.cli_serve.specs.Visits.{IsEnd, IsServedVisit, Receives, ReceivesAll, ReceivesOne}
 use Rattle.cli_serve.specs.Visits.{Sources, acts_of, end_acts, sources, until}
 use Rattle.cli_serve.specs.declared.fault.ServingFault.{ServingFault}
+use Rattle.room_http.proofs.Runs.{nothing-done}
 use Rattle.cli_serve.proofs.Receiving.{at_end, fewer, no_more, nobody, one_more, others, told_on}
 use Rattle.cli_serve.proofs.Told.{told_next, told_no_more}
 

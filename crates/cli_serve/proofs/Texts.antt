@@ -1,9 +1,7 @@
 -- Texts that are printed where a database isn't opened.
 use Rattle.std.proofs.Common.{◌≡◌, ℕ, List, Option, Result, Ok, Err, subst}
-use Rattle.cli_outcome.specs.Ending.{fault_line}
-use Rattle.cli_outcome.specs.Written.{PrintsText, WritesSome}
-use Rattle.cli_outcome.specs.declared.fault.Fault.{Fault}
-use Rattle.cli_outcome.specs.declared.no_room.NoRoom.{NoRoom}
+use Rattle.cli_outcome.specs.{Ending.fault_line, Written.{PrintsText, WritesSome}}
+use Rattle.cli_outcome.specs.declared.{fault.Fault.Fault, no_room.NoRoom.NoRoom}
 use Rattle.cli_outcome.specs.declared.status.Status.{Status}
 use Rattle.store_schema.specs.declared.fault.OpenFault.{OpenFault}
 use Rattle.cli_serve.specs.Hosts.{PrintsRefusal, TurnsDown, why_not_opened}

@@ -1,14 +1,11 @@
 -- Lines about connections, one after another.
 use Rattle.std.proofs.Common.{◌≡◌, ℕ, ◌+◌, ◌≤◌, Bool, List, [], ◌∷◌, Option, ◌++◌, length, Result}
 use Rattle.std.proofs.Common.{Ok, Err, IsTrue, OnOk, sym, ap, refl, ◌∙◌, subst, arith}
-use Rattle.std.proofs.lemmas.Fmt.{contents_after_writes}
-use Rattle.std.proofs.lemmas.List.{append-nil}
-use Rattle.std.specs.Fmt.{WritesInCalls}
-use Rattle.std.specs.Io.KnownBytes.{Appends}
+use Rattle.std.proofs.lemmas.{Fmt.contents_after_writes, List.append-nil}
+use Rattle.std.specs.{Fmt.WritesInCalls, Io.KnownBytes.Appends}
 use Rattle.cli_outcome.specs.Written.{WritesSome}
 use Rattle.room_http.specs.declared.ended.Cause.{Cause}
-use Rattle.cli_serve.specs.Lines.{TellsEach, TellsOf, Writing}
-use Rattle.cli_serve.specs.Staying.{PassesEach}
+use Rattle.cli_serve.specs.{Lines.{TellsEach, TellsOf, Writing}, Staying.PassesEach}
 use Rattle.cli_serve.specs.Visits.{ReceivesAll, Sources, Visit}
 use Rattle.room_machine.specs.declared.desk.Desk.{Ghosts}
 

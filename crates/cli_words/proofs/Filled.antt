@@ -2,28 +2,20 @@
 -- argument.
 use Rattle.std.proofs.Common.{◌≡◌, ◌∙◌, ap, sym, subst, refl, true, false, Bool, cond, List, []}
 use Rattle.std.proofs.Common.{◌∷◌, ◌++◌, ◌||◌, ◌&&◌, Option, Some, None, inl, inr, length, arith}
-use Rattle.std.proofs.Common.{true≢false}
-use Rattle.std.proofs.lemmas.Bool.{cond_both, or_cases, false≢true, ne_eqb}
+use Rattle.std.proofs.{Common.true≢false, lemmas.Bool.{cond_both, or_cases, false≢true, ne_eqb}}
 use Rattle.std.proofs.lemmas.Slice.Eq.{bytes_eq-Decides}
-use Rattle.std.specs.Prelude.{IfSome, find, nat_lt, ◌⊎◌}
-use Rattle.std.specs.List.{AllByRecursion as Each, list_any}
-use Rattle.std.specs.Option.{option_map_or}
-use Rattle.std.specs.Str.{bytes_eq}
-use Rattle.clap.specs.Facts.{parser_of_value, unwrap_or_range}
-use Rattle.clap.specs.Faults.{action_fault, repeat_fault, use_fault, values_fault}
-use Rattle.clap.specs.Kinds.{Kinds, or_else, range_kinds, value_kinds, values_kinds}
-use Rattle.clap.specs.Takes.{value_passes}
-use Rattle.clap.specs.ValueTests.{accepts}
-use Rattle.clap.specs.Walk.{Row, Rule, Text, action_of, is_empty, more_values, most_values}
-use Rattle.clap.specs.Walk.{reading_by, used, used_as, used_by_id, values_or_missing, with_values}
-use Rattle.clap.specs.Walk.{without}
-use Rattle.clap.specs.declared.builder.action.ArgAction.{ArgAction}
-use Rattle.clap.specs.declared.builder.action.ArgAction.TheVariants as action
-use Rattle.clap.specs.declared.builder.value_parser.ValueParser.{ValueParser}
-use Rattle.clap.specs.declared.builder.value_parser.Reading.{Reading}
-use Rattle.clap.specs.declared.parser.matches.ValueSource.{ValueSource}
-use Rattle.clap.specs.declared.parser.matches.ValueSource.TheVariants.{CommandLine}
+use Rattle.std.specs.{Prelude.{IfSome, find, nat_lt, ◌⊎◌}, List.{AllByRecursion as Each, list_any}}
+use Rattle.std.specs.{Option.option_map_or, Str.bytes_eq}
+use Rattle.clap.specs.{Facts.{parser_of_value, unwrap_or_range}, Faults.action_fault}
+use Rattle.clap.specs.{Faults.{repeat_fault, use_fault, values_fault}, Kinds.{Kinds, or_else}}
+use Rattle.clap.specs.{Kinds.{range_kinds, value_kinds, values_kinds}, Takes.value_passes}
+use Rattle.clap.specs.{ValueTests.accepts, Walk.{Row, Rule, Text, action_of, is_empty, more_values}}
+use Rattle.clap.specs.Walk.{most_values, reading_by, used, used_as, used_by_id, values_or_missing}
+use Rattle.clap.specs.{Walk.{with_values, without}, declared.builder.action.ArgAction.ArgAction}
+use Rattle.clap.specs.declared.builder.value_parser.{ValueParser.ValueParser, Reading.Reading}
+use Rattle.clap.specs.declared.parser.matches.ValueSource.{ValueSource, TheVariants.CommandLine}
 use Rattle.room_entry.proofs.Facts.Members.{each_append, each_weaker}
+use Rattle.clap.specs.declared.builder.action.ArgAction.TheVariants as action
 
 -- ---- lists
 

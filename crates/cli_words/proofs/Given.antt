@@ -1,12 +1,8 @@
 -- Where the value of an option came from, by the rows of the matches.
 use Rattle.std.proofs.Common.{◌≡◌, ◌∙◌, ap, sym, refl, Option, Some, None}
-use Rattle.std.specs.Prelude.{find, option_and_then, option_map}
-use Rattle.std.specs.Str.{bytes_eq}
-use Rattle.clap.specs.Facts.{Entry}
-use Rattle.clap.specs.Matches.{matched_of}
-use Rattle.clap.specs.Walk.{Row, Text, row_of, rows_of}
-use Rattle.clap.specs.declared.parser.matches.Found.{Found}
-use Rattle.clap.specs.declared.parser.matches.MatchedArg.{MatchedArg}
+use Rattle.std.specs.{Prelude.{find, option_and_then, option_map}, Str.bytes_eq}
+use Rattle.clap.specs.{Facts.Entry, Matches.matched_of, Walk.{Row, Text, row_of, rows_of}}
+use Rattle.clap.specs.declared.parser.matches.{Found.Found, MatchedArg.MatchedArg}
 use Rattle.clap.proofs.WalkLemmas.{find_row}
 
 source_at : (found : Option Entry)

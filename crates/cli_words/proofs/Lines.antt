@@ -1,8 +1,7 @@
 -- Subcommands that are added to a line one by one, and arguments to a subcommand.
 use Rattle.std.proofs.Common.{◌∙◌, ap, ap₂, ◌||◌}
 use Rattle.clap.specs.Words.{AddsArg, AddsSubcommand, App, Rule, with_rule, with_subcommand}
-use Rattle.clap.specs.declared.builder.arg.Arg.{Arg}
-use Rattle.clap.specs.declared.builder.command.Command.{Command}
+use Rattle.clap.specs.declared.builder.{arg.Arg.Arg, command.Command.Command}
 use Rattle.cli_words.specs.Line.{IsArg, IsLine}
 
 pub added : {a b : App} {old sub new : Command} → IsLine a old → IsLine b sub

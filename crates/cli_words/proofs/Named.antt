@@ -1,29 +1,23 @@
 -- A line without fault names one of the twelve subcommands, and has the words that it wants.
 use Rattle.std.proofs.Common.{◌≡◌, ◌∙◌, ap, sym, subst, refl, true, false, Bool, List, [], ◌∷◌}
 use Rattle.std.proofs.Common.{Option, Some, None, inl, inr, is_some, ◌||◌, codes}
-use Rattle.std.proofs.Math.Bool.{or-false}
-use Rattle.std.proofs.lemmas.Bool.{and_parts, both_ways, false≢true, or_cases, true≢false}
-use Rattle.std.proofs.lemmas.Slice.Eq.{bytes_eq-Decides}
+use Rattle.std.proofs.{Math.Bool.or-false, lemmas.Bool.{and_parts, both_ways, false≢true, or_cases}}
+use Rattle.std.proofs.lemmas.{Bool.true≢false, Slice.Eq.bytes_eq-Decides}
 use Rattle.std.specs.Prelude.{IfSome, IsSome, option_map, pos, unwrap_or}
-use Rattle.std.specs.List.{AllByRecursion as Each, list_all, list_any}
-use Rattle.std.specs.Option.{option_map_or}
-use Rattle.std.specs.Str.{bytes_eq}
-use Rattle.std.specs.Borrow.{Bor}
+use Rattle.std.specs.{List.{AllByRecursion as Each, list_all, list_any}, Option.option_map_or}
+use Rattle.std.specs.{Str.bytes_eq, Borrow.Bor}
 use Rattle.clap.specs.Faults.{check_fault, defaults_fault, entered_fault, fault_of, level_fault}
-use Rattle.clap.specs.Faults.{settle_fault, walk_fault}
-use Rattle.clap.specs.Kinds.{Kinds, or_else}
-use Rattle.clap.specs.ValueTests.{accepts}
-use Rattle.clap.specs.declared.builder.value_parser.ValueParser.TheVariants as parser
-use Rattle.clap.specs.Simple.{App, Shape, argument_words, built, entered, names_of, rows_at}
-use Rattle.clap.specs.Walk.{Held, Names, finished, nothing_held, rows_after, settled, stop_after}
-use Rattle.clap.specs.Walk.{walk, walk_from}
-use Rattle.clap.specs.Words.{Row, Text, subcommand_of}
+use Rattle.clap.specs.{Faults.{settle_fault, walk_fault}, Kinds.{Kinds, or_else}}
+use Rattle.clap.specs.{ValueTests.accepts, Simple.{App, Shape, argument_words, built, entered}}
+use Rattle.clap.specs.{Simple.{names_of, rows_at}, Walk.{Held, Names, finished, nothing_held}}
+use Rattle.clap.specs.{Walk.{rows_after, settled, stop_after, walk, walk_from}, Words.{Row, Text}}
+use Rattle.clap.specs.Words.{subcommand_of}
 use Rattle.clap.proofs.WalkLemmas.{list_any-map}
-use Rattle.cli_words.proofs.Filled.{first, found_each, passes_by, second}
-use Rattle.cli_words.proofs.Wanted.{are_bare, is_usual, is_wanted, leave_some, usual_number}
-use Rattle.cli_words.proofs.Wanted.{wanted_passed}
+use Rattle.cli_words.proofs.{Filled.{first, found_each, passes_by, second}, Wanted.are_bare}
+use Rattle.cli_words.proofs.Wanted.{is_usual, is_wanted, leave_some, usual_number, wanted_passed}
 use Rattle.cli_words.specs.Command.{HasWords, HaveWords, IsList, IsName, IsWhole, wanted_by, word}
 use Rattle.cli_words.specs.Line.{AreAttributes, command_line}
+use Rattle.clap.specs.declared.builder.value_parser.ValueParser.TheVariants as parser
 
 abbrev is_full : Kinds → Bool
 is_full [] = false

@@ -1,7 +1,6 @@
 -- Numbers of options and flags, as `clap` answers them.
 use Rattle.std.proofs.Common.{◌≡◌, ap, refl, codes, List, ℕ, Option, Some, None, Bool, true, false}
-use Rattle.std.specs.Prelude.{Result, Ok, Err, unwrap_or}
-use Rattle.std.specs.Str.Parse.{ParsesUnsigned}
+use Rattle.std.specs.{Prelude.{Result, Ok, Err, unwrap_or}, Str.Parse.ParsesUnsigned}
 use Rattle.clap.specs.Words.{ReadsOne}
 use Rattle.cli_words.specs.Command.{IsFlag, IsNumber}
 

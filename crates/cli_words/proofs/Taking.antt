@@ -1,30 +1,22 @@
 -- The first bytes of an input that show that it is too long have the task of all of it.
 use Rattle.std.proofs.Common.{ℕ, ◌≡◌, ◌+◌, ◌<◌, ◌≤◌, ◌∙◌, List, [], length, Option, Some, None}
 use Rattle.std.proofs.Common.{Result, Ok, Err, refl, sym, ap, subst, inl, inr, arith}
+use Rattle.std.proofs.lemmas.{List.{length-take-le, take_all}, Bool.{cases_Bool, cond-true, lt-ltb}}
+use Rattle.std.proofs.lemmas.Bool.{ltb-true, ltb-false}
 use Rattle.std.specs.Prelude.{take, nat_lt, IfSome, if◌then◌else◌}
-use Rattle.std.proofs.lemmas.List.{length-take-le, take_all}
-use Rattle.std.proofs.lemmas.Bool.{cases_Bool, cond-true, lt-ltb, ltb-true, ltb-false}
-use Rattle.room_entry.specs.Gives.{Gives}
-use Rattle.room_ace.specs.Lists.{sent_of}
-use Rattle.room_ace.specs.Sent.{Sent}
-use Rattle.room_entry.specs.declared.failure.Failure.{Failure}
+use Rattle.room_entry.specs.{Gives.Gives, declared.failure.Failure.Failure}
 use Rattle.room_entry.specs.declared.failure.Failure.TheVariants.{OutOfMemory, Fault}
+use Rattle.room_ace.specs.{Lists.sent_of, Sent.Sent}
 use Rattle.room_import.specs.Groups.{groups_in}
-use Rattle.cli_outcome.specs.Ending.{IsOfStream}
-use Rattle.cli_outcome.specs.declared.fault.Fault.{Fault as StreamFault}
-use Rattle.cli_words.specs.Tasks.{goes_on, pairs_in, task_path, refused_by, sent_in}
-use Rattle.cli_words.specs.Tasks.{task_of}
-use Rattle.cli_words.specs.declared.judging.Task.{Task}
+use Rattle.cli_outcome.specs.{Ending.IsOfStream, declared.fault.Fault.Fault as StreamFault}
+use Rattle.cli_words.specs.Tasks.{goes_on, pairs_in, task_path, refused_by, sent_in, task_of}
+use Rattle.cli_words.specs.declared.{judging.Task.Task, refusal.TaskRefusal.TaskRefusal}
+use Rattle.cli_words.specs.{declared.{command.Job.Job, stop.Stop.Stop}, Asked.input_of}
+use Rattle.cli_words.specs.{Reads.{IsTask, ReadsTask, most_of}, Stops.stop_of_refusal}
 use Rattle.cli_words.specs.declared.judging.Task.TheVariants as task
 use Rattle.cli_words.specs.declared.judging.RoomTask.TheVariants as room
-use Rattle.cli_words.specs.declared.refusal.TaskRefusal.{TaskRefusal}
 use Rattle.cli_words.specs.declared.refusal.TaskRefusal.TheVariants as refusal
-use Rattle.cli_words.specs.Asked.{input_of}
-use Rattle.cli_words.specs.declared.command.Job.{Job}
 use Rattle.cli_words.specs.declared.command.Job.TheVariants as job
-use Rattle.cli_words.specs.Reads.{IsTask, ReadsTask, most_of}
-use Rattle.cli_words.specs.Stops.{stop_of_refusal}
-use Rattle.cli_words.specs.declared.stop.Stop.{Stop}
 use Rattle.cli_words.specs.declared.stop.Stop.TheVariants as stop
 
 -- a test of the length, and then of the bytes

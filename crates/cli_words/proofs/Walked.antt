@@ -1,21 +1,16 @@
 -- A walk without fault keeps what holds of rows, word by word and then default by default.
 use Rattle.std.proofs.Common.{◌≡◌, refl, true, false, Bool, cond, List, [], ◌∷◌, ◌||◌, ◌&&◌, Option}
 use Rattle.std.proofs.Common.{Some, None, ℕ, zero, suc, length, is_some}
-use Rattle.std.specs.Prelude.{IfSome, find, fold, slice_get}
-use Rattle.std.specs.Option.{option_map_or}
-use Rattle.std.specs.Str.{bytes_eq, chars}
-use Rattle.std.specs.List.{AllByRecursion as Each}
-use Rattle.clap.specs.Facts.{parser_of_value}
-use Rattle.clap.specs.Faults.{bundle_fault, bundle_step_fault, check_fault, default_fault}
-use Rattle.clap.specs.Faults.{defaults_fault, flag_word_fault, flags_fault, given_default_fault}
-use Rattle.clap.specs.Faults.{level_fault, long_fault, option_fault, positional_fault, react_fault}
-use Rattle.clap.specs.Faults.{settle_fault, short_fault, step_fault, stray_fault, turn_fault}
-use Rattle.clap.specs.Faults.{use_fault, values_fault, walk_fault, word_fault, other_fault}
-use Rattle.clap.specs.Kinds.{Kinds, or_else, request_kinds}
-use Rattle.clap.specs.Lexer.{long_of, short_of}
-use Rattle.clap.specs.Simple.{Shape}
-use Rattle.clap.specs.Takes.{value_passes}
-use Rattle.clap.specs.Walk.{Held, Names, Outcome, Row, Rule, Step, Text, Waiting, Walk, action_of}
+use Rattle.std.specs.{Prelude.{IfSome, find, fold, slice_get}, Option.option_map_or, Str.bytes_eq}
+use Rattle.std.specs.{Str.chars, List.AllByRecursion as Each}
+use Rattle.clap.specs.{Facts.parser_of_value, Faults.{bundle_fault, bundle_step_fault, check_fault}}
+use Rattle.clap.specs.Faults.{default_fault, defaults_fault, flag_word_fault, flags_fault}
+use Rattle.clap.specs.Faults.{given_default_fault, level_fault, long_fault, option_fault}
+use Rattle.clap.specs.Faults.{positional_fault, react_fault, settle_fault, short_fault, step_fault}
+use Rattle.clap.specs.Faults.{stray_fault, turn_fault, use_fault, values_fault, walk_fault}
+use Rattle.clap.specs.{Faults.{word_fault, other_fault}, Kinds.{Kinds, or_else, request_kinds}}
+use Rattle.clap.specs.{Lexer.{long_of, short_of}, Simple.Shape, Takes.value_passes, Walk.Held}
+use Rattle.clap.specs.Walk.{Names, Outcome, Row, Rule, Step, Text, Waiting, Walk, action_of}
 use Rattle.clap.specs.Walk.{after_flag, after_step, arg_by_id, arg_by_index, arg_by_long}
 use Rattle.clap.specs.Walk.{arg_by_short, at_row, attached_value, bundle, bundle_met, bundle_step}
 use Rattle.clap.specs.Walk.{default_rows, done, finished, first_of, flag_met, has_row, idle}

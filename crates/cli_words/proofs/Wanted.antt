@@ -2,34 +2,25 @@
 use Rattle.std.proofs.Common.{◌≡◌, ◌∙◌, ap, sym, subst, refl, true, false, Bool, cond, List, []}
 use Rattle.std.proofs.Common.{◌∷◌, ◌++◌, ◌||◌, ◌&&◌, Option, Some, None, ℕ, inl, inr, true≢false}
 use Rattle.std.proofs.lemmas.Bool.{cond_both, or_cases, or_left, or_right, or_parts, false≢true}
-use Rattle.std.proofs.lemmas.Bool.{and_from, and_parts}
-use Rattle.std.proofs.lemmas.Slice.Eq.{bytes_eq-Decides}
-use Rattle.std.specs.Prelude.{IfSome, find, fold, not, option_and_then, option_map, pos, slice_get}
-use Rattle.std.specs.List.{AllByRecursion as Each, list_all, list_any}
-use Rattle.std.specs.Option.{option_map_or}
-use Rattle.std.specs.Str.{bytes_eq}
+use Rattle.std.proofs.lemmas.{Bool.{and_from, and_parts}, Slice.Eq.bytes_eq-Decides}
 use Rattle.std.proofs.Math.Bool.{or-false}
-use Rattle.clap.specs.Facts.{explicit_source}
-use Rattle.clap.specs.Faults.{level_fault}
-use Rattle.clap.specs.Kinds.{check_kinds}
-use Rattle.clap.specs.Values.{read_as}
-use Rattle.clap.proofs.ValueTestLemmas.{accepts-Accepts}
-use Rattle.clap.specs.Simple.{Shape}
-use Rattle.clap.specs.Takes.{is_given, value_passes}
-use Rattle.clap.specs.ValueTests.{accepts}
-use Rattle.clap.specs.Walk.{Row, Rule, Text, action_of, default_rows, first_of, has_row, is_empty}
+use Rattle.std.specs.Prelude.{IfSome, find, fold, not, option_and_then, option_map, pos, slice_get}
+use Rattle.std.specs.{List.{AllByRecursion as Each, list_all, list_any}, Option.option_map_or}
+use Rattle.std.specs.Str.{bytes_eq}
+use Rattle.clap.specs.{Facts.explicit_source, Faults.level_fault, Kinds.check_kinds, Values.read_as}
+use Rattle.clap.specs.{Simple.Shape, Takes.{is_given, value_passes}, ValueTests.accepts, Walk.Row}
+use Rattle.clap.specs.Walk.{Rule, Text, action_of, default_rows, first_of, has_row, is_empty}
 use Rattle.clap.specs.Walk.{more_values, nothing_held, one_of, row_text, reading_by, rows_after}
 use Rattle.clap.specs.Walk.{settled, walk, with_default, with_values}
-use Rattle.clap.specs.declared.builder.value_parser.ValueParser.TheVariants as parser
 use Rattle.clap.specs.declared.builder.value_parser.Reading.{Reading}
-use Rattle.clap.specs.declared.builder.value_parser.Reading.TheVariants as reading
-use Rattle.clap.specs.declared.parser.matches.ValueSource.{ValueSource}
-use Rattle.clap.specs.declared.parser.matches.ValueSource.TheVariants.{DefaultValue}
+use Rattle.clap.specs.declared.parser.matches.ValueSource.{ValueSource, TheVariants.DefaultValue}
+use Rattle.clap.proofs.ValueTestLemmas.{accepts-Accepts}
 use Rattle.room_entry.proofs.Facts.Members.{each_weaker}
 use Rattle.cli_words.specs.Command.{HasNumber}
 use Rattle.cli_words.proofs.Filled.{has_some, passes_by, Passes, ReadsBy, IsGood, AreGood, IsFine}
-use Rattle.cli_words.proofs.Filled.{leaves_some}
-use Rattle.cli_words.proofs.Walked.{level_rows}
+use Rattle.cli_words.proofs.{Filled.leaves_some, Walked.level_rows}
+use Rattle.clap.specs.declared.builder.value_parser.ValueParser.TheVariants as parser
+use Rattle.clap.specs.declared.builder.value_parser.Reading.TheVariants as reading
 
 -- ---- words
 

@@ -1,14 +1,11 @@
 -- A route that is added.
 use Rattle.std.proofs.Common.{◌≡◌, ℕ, List, [], Result, Ok, Err, OnOk, refl, sym, ◌∙◌, inl, inr}
-use Rattle.std.proofs.Common.{arith}
-use Rattle.matchit.specs.Route.{Scan, parse_route}
-use Rattle.matchit.specs.Router.{InsertsRead}
+use Rattle.std.proofs.{Common.arith, lemmas.Bool.Decides.nat_tests}
+use Rattle.matchit.specs.{Route.{Scan, parse_route}, Router.InsertsRead}
 use Rattle.matchit.specs.declared.error.InsertError.{InsertError}
 use Rattle.matchit.proofs.OnLiterals.{matchit_on_literals}
-use Rattle.http_message.specs.declared.word.Word.{Word}
-use Rattle.http_message.specs.Routes.{Table, TakesRoute, TakesScan, TakesWords, every_word}
-use Rattle.http_message.specs.Routes.{with_route, with_scan}
-use Rattle.std.proofs.lemmas.Bool.Decides.{nat_tests}
+use Rattle.http_message.specs.{declared.word.Word.Word, Routes.{Table, TakesRoute, TakesScan}}
+use Rattle.http_message.specs.Routes.{TakesWords, every_word, with_route, with_scan}
 
 ok-is-no-err : {A E : Type 0} {a : A} {e : E} → Ok a ≡ Err e → ⊥
 ok-is-no-err {A} {E} e = grind (arith, nat_tests)

@@ -1,8 +1,6 @@
 -- Worked examples: what the definitions say at written messages and replies.
 use Rattle.std.proofs.Common.{◌≡◌, [], refl, codes}
-use Rattle.http_message.specs.Form.{status_line}
-use Rattle.http_message.specs.Target.{path_part, query_part}
-use Rattle.http_message.specs.Fields.{trimmed}
+use Rattle.http_message.specs.{Form.status_line, Target.{path_part, query_part}, Fields.trimmed}
 
 -- ---- status lines
 

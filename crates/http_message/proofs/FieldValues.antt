@@ -1,12 +1,10 @@
 -- The fields of one name, field by field.
 use Rattle.std.proofs.Common.{◌≡◌, ℕ, ◌+◌, ◌<◌, Bool, true, false, List, [], ◌∷◌, ◌++◌, length}
 use Rattle.std.proofs.Common.{take, get_or, refl, sym, ap, subst, ◌∙◌, if◌then◌else◌}
-use Rattle.std.specs.Str.{str_eq_ignore_ascii_case}
 use Rattle.std.proofs.lemmas.List.{append-nil, take_more}
-use Rattle.http_message.specs.declared.fields.Values.{Values}
-use Rattle.http_message.specs.declared.head.Field.{Field}
-use Rattle.http_message.specs.Fields.{field_values}
-use Rattle.http_message.specs.Values.{AreValues}
+use Rattle.std.specs.Str.{str_eq_ignore_ascii_case}
+use Rattle.http_message.specs.declared.{fields.Values.Values, head.Field.Field}
+use Rattle.http_message.specs.{Fields.field_values, Values.AreValues}
 
 if-append : (b : Bool) (name : List ℕ) (f : Field) (fs gs : List Field)
     → field_values name (fs ++ gs) ≡ field_values name fs ++ field_values name gs

@@ -1,9 +1,7 @@
 -- The JSON of rulings has no float in it.
 use Rattle.std.proofs.Common.{◌≡◌, ℕ, false, List, [], ◌∷◌, Ordering, Less, Equal, Greater, nat_cmp}
-use Rattle.std.proofs.Common.{refl}
-use Rattle.std.proofs.lemmas.Bool.{or_parts, or_from}
-use Rattle.std.specs.Ordering.{match_ordering}
-use Rattle.std.specs.Cmp.Lexicographic.{slice_cmp}
+use Rattle.std.proofs.{Common.refl, lemmas.Bool.{or_parts, or_from}}
+use Rattle.std.specs.{Ordering.match_ordering, Cmp.Lexicographic.slice_cmp}
 use Rattle.serde_json.specs.Data.{Data, string, Members, no_members, member, put}
 use Rattle.serde_json.specs.Written.{has_float, members_have_float}
 use Rattle.room_entry.specs.Letters.{mask_text}

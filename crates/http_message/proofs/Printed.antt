@@ -1,10 +1,8 @@
 -- A value written a token at a time.
 use Rattle.std.proofs.Common.{◌≡◌, ℕ, List, [], ◌++◌, Result, Ok, Err, OnOk, ap, ◌∙◌, append_assoc}
 use Rattle.std.specs.declared.alloc.AllocError.{AllocError}
-use Rattle.json.specs.Print.{print}
-use Rattle.json.specs.Token.{Token}
-use Rattle.serde_json.specs.Data.{Data}
-use Rattle.serde_json.specs.Written.{compact_text}
+use Rattle.json.specs.{Print.print, Token.Token}
+use Rattle.serde_json.specs.{Data.Data, Written.compact_text}
 use Rattle.serde_json.proofs.Texts.{print-outline}
 use Rattle.http_message.specs.Form.{data_tokens}
 

@@ -2,12 +2,10 @@
 use Rattle.std.proofs.Common.{◌≡◌, [], ◌∷◌, false, true, None, refl, codes}
 use Rattle.std.specs.Fmt.{digits}
 use Rattle.serde_json.proofs.OnLiterals.{serde_json_on_literals}
-use Rattle.room_entry.specs.Bits.{all_bits}
-use Rattle.room_entry.specs.Letters.{mask_letters}
+use Rattle.room_entry.specs.{Bits.all_bits, Letters.mask_letters}
 use Rattle.room_ace.specs.declared.fault.Why.{Why}
 use Rattle.room_machine.specs.declared.reply.Reply.{Reply}
-use Rattle.http_message.specs.declared.fault.HttpFault.{HttpFault}
-use Rattle.http_message.specs.Form.{reply_form}
+use Rattle.http_message.specs.{declared.fault.HttpFault.HttpFault, Form.reply_form}
 use Rattle.http_message.specs.Reply.{reply_text, fault_text}
 
 made : reply_text Reply.Made false ≡ codes "HTTP/1.1 201 Created\r\nContent-Length: 0\r\n\r\n"

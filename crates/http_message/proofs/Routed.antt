@@ -2,8 +2,7 @@
 use Rattle.std.proofs.Common.{◌≡◌, Some, None, refl, codes}
 use Rattle.matchit.proofs.OnLiterals.{matchit_on_literals}
 use Rattle.percent_encoding.proofs.OnLiterals.{percent_encoding_on_literals}
-use Rattle.http_message.specs.declared.word.Word.{Word}
-use Rattle.http_message.specs.Routes.{word_of, routes, with_route}
+use Rattle.http_message.specs.{declared.word.Word.Word, Routes.{word_of, routes, with_route}}
 use Rattle.http_message.specs.Target.{named_path}
 
 document : word_of (codes "/doc/a%2Ff") ≡ Some Word.Doc

@@ -1,19 +1,15 @@
 -- Rulings under their letters, as the members of an object.
 use Rattle.std.proofs.Common.{◌≡◌, ℕ, List, [], ◌∷◌, ◌++◌, Some, Ordering, Less, Equal, Greater}
-use Rattle.std.proofs.Common.{nat_cmp, refl, ap, ◌∙◌, arith}
-use Rattle.std.proofs.lemmas.Cmp.{nat_list_cmp_total}
-use Rattle.std.specs.Cmp.Lexicographic.{slice_cmp}
-use Rattle.std.specs.List.{AllByRecursion}
-use Rattle.std.specs.List.Sorted.{IsStrictlySortedBy}
+use Rattle.std.proofs.{Common.{nat_cmp, refl, ap, ◌∙◌, arith}, lemmas.Cmp.nat_list_cmp_total}
+use Rattle.std.proofs.lemmas.Bool.Decides.{nat_tests}
+use Rattle.std.specs.{Cmp.Lexicographic.slice_cmp, List.{AllByRecursion, Sorted.IsStrictlySortedBy}}
 use Rattle.std.specs.Ordering.{match_ordering, ordering_reverse}
-use Rattle.serde_json.specs.Data.{Data, Members, no_members, member, put, string}
-use Rattle.serde_json.specs.Find.{get_member}
+use Rattle.serde_json.specs.{Data.{Data, Members, no_members, member, put, string}, Find.get_member}
 use Rattle.serde_json.proofs.Views.{get_member-put, get_member-put_other}
 use Rattle.room_entry.specs.Letters.{mask_text}
 use Rattle.room_eval.specs.declared.outcome.Ruling.{Ruling}
-use Rattle.http_message.specs.Bodies.{ruling_text, with_rulings}
-use Rattle.http_message.specs.Laws.{Lacks, RulingsAreKeys, keys_in}
-use Rattle.std.proofs.lemmas.Bool.Decides.{nat_tests}
+use Rattle.http_message.specs.{Bodies.{ruling_text, with_rulings}, Laws.{Lacks, RulingsAreKeys}}
+use Rattle.http_message.specs.Laws.{keys_in}
 
 -- ---- what stands under letters
 

@@ -1,18 +1,14 @@
 -- The word of a path, by a walk over the table of routes.
 use Rattle.std.proofs.Common.{◌≡◌, ◌⊎◌, ℕ, zero, suc, ◌-◌, Bool, true, false, not, cond, ◌==◌, ◌&&◌}
 use Rattle.std.proofs.Common.{List, [], ◌∷◌, ◌++◌, length, Option, Some, None, option_map, nat_eq}
-use Rattle.std.proofs.Common.{refl, ap, ◌∙◌, inl, inr, true≢false, arith}
-use Rattle.std.specs.Prelude.{⊤}
-use Rattle.std.specs.List.{starts_with}
-use Rattle.std.proofs.lemmas.Bool.{and_parts, cases_Bool}
-use Rattle.matchit.specs.Rows.{RowsOf, param_token, catch_all_token}
-use Rattle.matchit.specs.Router.{RouteOf}
-use Rattle.matchit.specs.Seek.{own, step, or_else, seek, param_step, has_slash}
+use Rattle.std.proofs.{Common.{refl, ap, ◌∙◌, inl, inr, true≢false, arith}, lemmas.Bool.and_parts}
+use Rattle.std.proofs.lemmas.Bool.{cases_Bool, Decides.nat_tests}
+use Rattle.std.specs.{Prelude.⊤, List.starts_with}
+use Rattle.matchit.specs.{Rows.{RowsOf, param_token, catch_all_token}, Router.RouteOf, Seek.own}
+use Rattle.matchit.specs.Seek.{step, or_else, seek, param_step, has_slash}
 use Rattle.matchit.proofs.OnLiterals.{matchit_on_literals}
-use Rattle.http_message.specs.declared.word.Word.{Word}
-use Rattle.http_message.specs.Laws.{WordsBeginPaths, word_start}
+use Rattle.http_message.specs.{declared.word.Word.Word, Laws.{WordsBeginPaths, word_start}}
 use Rattle.http_message.specs.Routes.{Table, routes, with_route, word_of}
-use Rattle.std.proofs.lemmas.Bool.Decides.{nat_tests}
 
 -- ---- rows without a parameter
 

@@ -1,9 +1,7 @@
 -- The tables of routes, word by word.
 use Rattle.std.proofs.Common.{◌≡◌, Some, refl}
-use Rattle.http_message.specs.declared.word.Word.{Word}
-use Rattle.http_message.specs.declared.word.Verb.{Verb}
-use Rattle.http_message.specs.Laws.{AllowsWhatIsAsked, EveryMethodIsListed, verb_text}
-use Rattle.http_message.specs.Words.{verb_of}
+use Rattle.http_message.specs.{declared.word.{Word.Word, Verb.Verb}, Laws.AllowsWhatIsAsked}
+use Rattle.http_message.specs.{Laws.{EveryMethodIsListed, verb_text}, Words.verb_of}
 
 pub allows : AllowsWhatIsAsked
 allows Word.Doc = refl

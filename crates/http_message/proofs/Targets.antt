@@ -2,18 +2,13 @@
 use Rattle.std.proofs.Common.{◌≡◌, ℕ, ◌+◌, ◌<◌, Bool, true, false, not, cond, ◌==◌, ◌&&◌, List, []}
 use Rattle.std.proofs.Common.{◌∷◌, ◌++◌, take, drop, map, nat_lt, Some, codes, refl, sym, ap, ◌∙◌}
 use Rattle.std.proofs.Common.{subst, inl, inr, arith, append_assoc, append-nil, true≢false}
-use Rattle.std.specs.List.{All, AllByRecursion, flat_map, list_all, position_or_len}
-use Rattle.std.specs.Str.{IsUtf8}
 use Rattle.std.proofs.lemmas.Bool.{and_from, and_parts, both_ways, cases_Bool, cond-true, lt-ltb}
-use Rattle.std.proofs.lemmas.Bool.{ltb-true, not-true}
-use Rattle.std.proofs.lemmas.Bool.Decides.{nat_tests}
+use Rattle.std.proofs.lemmas.Bool.{ltb-true, not-true, Decides.nat_tests}
 use Rattle.std.proofs.lemmas.List.Elements.{All-append, All-cons, All-from_recursion, All-head}
-use Rattle.std.proofs.lemmas.List.Elements.{All-nil, All-tail}
-use Rattle.std.proofs.lemmas.List.Folds.{list_all-append}
-use Rattle.std.proofs.lemmas.List.Sums.{list_all-from_AllPass}
-use Rattle.std.proofs.lemmas.Str.{IsUtf8-append, IsUtf8-from_ascii}
-use Rattle.std.proofs.lemmas.Str.Ascii.{IsAscii-from_all}
-use lib.Utf8.{encode, encodes, scalar, scalars, scalar_cases}
+use Rattle.std.proofs.lemmas.List.{Elements.{All-nil, All-tail}, Folds.list_all-append}
+use Rattle.std.proofs.lemmas.{List.Sums.list_all-from_AllPass, Str.IsUtf8-append}
+use Rattle.std.proofs.lemmas.Str.{IsUtf8-from_ascii, Ascii.IsAscii-from_all}
+use Rattle.std.specs.{List.{All, AllByRecursion, flat_map, list_all, position_or_len}, Str.IsUtf8}
 use Rattle.percent_encoding.specs.AsciiSet.{contains, should_percent_encode}
 use Rattle.percent_encoding.specs.Percent.{percent_encode, percent_encode_byte, percent_decode}
 use Rattle.percent_encoding.specs.declared.ascii_set.AsciiSet.{AsciiSet}
@@ -25,18 +20,15 @@ use Rattle.percent_encoding.proofs.PercentLemmas.{percent_encode_kept, percent_d
 use Rattle.percent_encoding.proofs.PercentLemmas.{percent_decode-percent_encode_byte}
 use Rattle.percent_encoding.proofs.PercentLemmas.{percent_decode_not_percent}
 use Rattle.room_entry.specs.Utf8.{is_utf8}
-use Rattle.room_rows.specs.Laws.{PathReadsBack}
-use Rattle.room_rows.specs.Paths.{is_object_name, is_path, path_of, path_text}
+use Rattle.room_rows.specs.{Laws.PathReadsBack, Paths.{is_object_name, is_path, path_of, path_text}}
 use Rattle.room_rows.proofs.Utf8.{text_from}
-use Rattle.http_message.specs.declared.word.Word.{Word}
-use Rattle.http_message.specs.declared.fault.HttpFault.{HttpFault}
-use Rattle.http_message.specs.Asked.{target_path, told}
-use Rattle.http_message.specs.Laws.{EveryPathHasATarget, IsReadAs, target_to}
-use Rattle.http_message.specs.Routes.{word_of}
-use Rattle.http_message.specs.Target.{is_mark, named_path, path_part, query_part}
-use Rattle.http_message.specs.Words.{word_text}
+use Rattle.http_message.specs.declared.{word.Word.Word, fault.HttpFault.HttpFault}
+use Rattle.http_message.specs.{Asked.{target_path, told}, Laws.{EveryPathHasATarget, IsReadAs}}
+use Rattle.http_message.specs.{Laws.target_to, Routes.word_of, Target.{is_mark, named_path}}
+use Rattle.http_message.specs.{Target.{path_part, query_part}, Words.word_text}
 use Rattle.http_message.proofs.Seeking.{words_begin}
 use Rattle.room_entry.proofs.Texts.{passes_as_utf8}
+use lib.Utf8.{encode, encodes, scalar, scalars, scalar_cases}
 
 -- ---- text is bytes
 

@@ -1,20 +1,12 @@
 -- A text is its first line and what follows it, and bytes are UTF-8 or not.
 use Rattle.std.proofs.Common.{ℕ, ◌≡◌, ◌<◌, ◌+◌, Bool, true, false, cond, List, [], ◌∷◌, ◌++◌, Some}
-use Rattle.std.proofs.Common.{None, length, take, drop, refl, ap, ◌∙◌, arith}
-use Rattle.std.specs.Prelude.{◌==◌}
-use Rattle.std.specs.List.{position}
-use Rattle.std.specs.Str.{IsUtf8}
-use Rattle.std.specs.Str.Lossy.{utf8_valid_len}
-use Rattle.std.proofs.lemmas.Bool.{ne_eqb, or_from, false_from_ne_true}
-use Rattle.std.proofs.lemmas.List.{length-drop}
-use Rattle.std.proofs.lemmas.List.Splits.{length-slice_split}
-use Rattle.std.proofs.lemmas.Str.{IsUtf8-from_ascii}
-use Rattle.room_entry.specs.Pieces.{pieces}
+use Rattle.std.proofs.{Common.{None, length, take, drop, refl, ap, ◌∙◌, arith}, lemmas.Bool.ne_eqb}
+use Rattle.std.proofs.lemmas.Bool.{or_from, false_from_ne_true, Decides.nat_tests}
+use Rattle.std.proofs.lemmas.{List.{length-drop, Splits.length-slice_split}, Str.IsUtf8-from_ascii}
+use Rattle.std.specs.{Prelude.◌==◌, List.position, Str.{IsUtf8, Lossy.utf8_valid_len}}
+use Rattle.room_entry.specs.{Pieces.pieces, Utf8.is_utf8}
 use Rattle.room_ace.specs.Lists.{after_line, lines_of, lines_of_pieces, without_return}
-use Rattle.room_entry.specs.Utf8.{is_utf8}
-use Rattle.room_entry.proofs.Cuts.{cut_at, not_cut}
-use Rattle.room_entry.proofs.Visible.{ascii}
-use Rattle.std.proofs.lemmas.Bool.Decides.{nat_tests}
+use Rattle.room_entry.proofs.{Cuts.{cut_at, not_cut}, Visible.ascii}
 
 abbrev is_end : ℕ → Bool
 is_end byte = byte == 10

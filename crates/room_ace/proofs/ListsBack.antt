@@ -2,40 +2,30 @@
 use Rattle.std.proofs.Common.{ℕ, ◌≡◌, ◌+◌, ◌≤◌, Bool, true, false, not, ◌||◌, List, [], ◌∷◌, ◌++◌}
 use Rattle.std.proofs.Common.{map, length, is_some, Option, Some, None, Result, Ok, if◌then◌else◌}
 use Rattle.std.proofs.Common.{refl, sym, ap, ◌∙◌, append_assoc, append-nil, length-append, codes}
-use Rattle.std.proofs.Common.{arith}
-use Rattle.std.specs.Prelude.{filter, ◌==◌, nat_lt, option_and_then}
-use Rattle.std.specs.List.{All, list_all, flat_map, enumerate_from}
-use Rattle.std.proofs.lemmas.Bool.{and_parts, and_from, false≢true, true≢false, not-true, cond-true}
-use Rattle.std.proofs.lemmas.Bool.{cond-false, ltb-false, le-ltb}
-use Rattle.std.proofs.lemmas.List.Elements.{All-head, All-tail, filter-append}
-use Rattle.room_entry.specs.Bits.{all_bits, has}
-use Rattle.room_entry.specs.Pieces.{pieces}
-use Rattle.room_entry.specs.Ace.{Ace}
-use Rattle.room_ace.specs.Sent.{Sent, own_of, limit_fault}
-use Rattle.room_entry.specs.Letters.{kind_text, letter_if, flags_text, mask_letters, mask_text}
-use Rattle.room_entry.specs.Letters.{letter_of}
-use Rattle.room_ace.specs.Text.{who_text, entry_text, entry_of}
+use Rattle.std.proofs.{Common.arith, lemmas.Bool.{and_parts, and_from, false≢true, true≢false}}
+use Rattle.std.proofs.lemmas.Bool.{not-true, cond-true, cond-false, ltb-false, le-ltb}
+use Rattle.std.proofs.lemmas.{Bool.Decides.nat_tests, List.Elements.{All-head, All-tail}}
+use Rattle.std.proofs.lemmas.List.Elements.{filter-append}
+use Rattle.std.specs.{Prelude.{filter, ◌==◌, nat_lt, option_and_then}, List.{All, list_all}}
+use Rattle.std.specs.List.{flat_map, enumerate_from}
+use Rattle.room_entry.specs.{Bits.{all_bits, has}, Pieces.pieces, Ace.Ace, Letters.kind_text}
+use Rattle.room_entry.specs.Letters.{letter_if, flags_text, mask_letters, mask_text, letter_of}
+use Rattle.room_entry.specs.{Utf8.is_utf8, Laws.{has_name, IsEntry}}
+use Rattle.room_entry.specs.declared.entry.EntryKind.{EntryKind, TheVariants.{Allow, Deny, Audit}}
+use Rattle.room_entry.specs.declared.entry.{EntryKind.TheVariants.Alarm, Who.Who}
+use Rattle.room_entry.specs.declared.entry.Who.TheVariants.{Owner, Group, Everyone, Anonymous}
+use Rattle.room_entry.specs.declared.entry.Who.TheVariants.{Authenticated, User, Members}
+use Rattle.room_entry.specs.declared.fault.ListFault.{ListFault, TheVariants.TooManyEntries}
+use Rattle.room_entry.specs.declared.fault.ListFault.TheVariants.{TooManyOwn}
+use Rattle.room_ace.specs.{Sent.{Sent, own_of, limit_fault}, Text.{who_text, entry_text, entry_of}}
 use Rattle.room_ace.specs.Lists.{entry_lines, list_line, list_text, without_return, lines_of_pieces}
 use Rattle.room_ace.specs.Lists.{lines_of, is_blank, is_comment, numbered_lines, flags_of_list}
 use Rattle.room_ace.specs.Lists.{fault_at, with_entry, and_then, entries_after, sent_of_lines}
-use Rattle.room_entry.specs.Utf8.{is_utf8}
-use Rattle.room_ace.specs.Column.{entry_in, entries_behind, entries_of}
-use Rattle.room_entry.specs.Laws.{has_name, IsEntry}
-use Rattle.room_ace.specs.Laws.{ListReadsBack}
-use Rattle.room_entry.specs.declared.entry.EntryKind.{EntryKind}
-use Rattle.room_entry.specs.declared.entry.EntryKind.TheVariants.{Allow, Deny, Audit, Alarm}
-use Rattle.room_entry.specs.declared.entry.Who.{Who}
-use Rattle.room_entry.specs.declared.entry.Who.TheVariants.{Owner, Group, Everyone, Anonymous}
-use Rattle.room_entry.specs.declared.entry.Who.TheVariants.{Authenticated, User, Members}
-use Rattle.room_entry.specs.declared.fault.ListFault.{ListFault}
-use Rattle.room_entry.specs.declared.fault.ListFault.TheVariants.{TooManyEntries, TooManyOwn}
-use Rattle.room_ace.specs.declared.fault.LineFault.{LineFault}
-use Rattle.room_ace.specs.declared.fault.Why.TheVariants.{NotUtf8}
+use Rattle.room_ace.specs.{Column.{entry_in, entries_behind, entries_of}, Laws.ListReadsBack}
+use Rattle.room_ace.specs.declared.fault.{LineFault.LineFault, Why.TheVariants.NotUtf8}
 use Rattle.room_ace.proofs.RoundTrip.{apart, pieces_at, all_flags, all-map, of_known, reads_back}
-use Rattle.room_entry.proofs.Texts.{all-append}
-use Rattle.room_entry.proofs.Visible.{is_visible, are_visible, visible_name, visible_utf8}
-use Rattle.room_entry.proofs.Facts.Lists.{all_implied}
-use Rattle.std.proofs.lemmas.Bool.Decides.{nat_tests}
+use Rattle.room_entry.proofs.{Texts.all-append, Visible.{is_visible, are_visible, visible_name}}
+use Rattle.room_entry.proofs.{Visible.visible_utf8, Facts.Lists.all_implied}
 
 -- ---- a printed entry is of visible ASCII bytes
 

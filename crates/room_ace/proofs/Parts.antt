@@ -1,10 +1,9 @@
 -- Texts of entries that have no four parts.
 use Rattle.std.proofs.Common.{ℕ, ◌<◌, ◌≡◌, List, [], ◌∷◌, Err, refl, arith, length}
-use Rattle.room_entry.specs.Pieces.{pieces}
-use Rattle.room_ace.specs.Text.{entry_of, entry_of_parts}
-use Rattle.room_entry.specs.declared.fault.TextFault.TheVariants.{NotFourParts}
-use Rattle.room_entry.proofs.Cuts.{length-pieces}
 use Rattle.std.proofs.lemmas.Bool.Decides.{nat_tests}
+use Rattle.room_entry.specs.{Pieces.pieces, declared.fault.TextFault.TheVariants.NotFourParts}
+use Rattle.room_ace.specs.Text.{entry_of, entry_of_parts}
+use Rattle.room_entry.proofs.Cuts.{length-pieces}
 
 more_parts : (a b c d : List ℕ) (ps : List (List ℕ)) → 0 < length ps
     → entry_of_parts (a ∷ b ∷ c ∷ d ∷ ps) ≡ Err NotFourParts

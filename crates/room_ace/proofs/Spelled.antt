@@ -1,25 +1,18 @@
 -- What spells an entry is ASCII.
 use Rattle.std.proofs.Common.{ℕ, ◌≡◌, Bool, true, false, cond, List, [], ◌∷◌, Option, Some, None}
 use Rattle.std.proofs.Common.{Result, Ok, refl, sym, ap, ◌∙◌, subst, inl, inr, ◌++◌, arith}
-use Rattle.std.specs.Prelude.{nat_lt}
-use Rattle.std.specs.List.{list_all, join_with_byte}
-use Rattle.std.specs.Cmp.Lexicographic.{same_text as text_equal}
-use Rattle.std.proofs.lemmas.Bool.{cases_Bool, cond-true, cond-false, or_left}
+use Rattle.std.proofs.lemmas.Bool.{cases_Bool, cond-true, cond-false, or_left, Decides.nat_tests}
 use Rattle.std.proofs.lemmas.List.Splits.{join_with_byte-slice_split}
-use Rattle.room_entry.specs.Pieces.{pieces, is_among, same_text}
-use Rattle.room_entry.specs.Ace.{Ace}
-use Rattle.room_entry.specs.Letters.{kind_of, flags_of, mask_letters, mask_of}
-use Rattle.room_ace.specs.Text.{who_of, part, entry_of, entry_of_parts}
-use Rattle.room_entry.specs.Utf8.{is_utf8}
-use Rattle.room_ace.specs.Column.{some_of, entry_in}
-use Rattle.room_entry.specs.declared.entry.EntryKind.{EntryKind}
-use Rattle.room_entry.specs.declared.entry.Who.{Who}
-use Rattle.room_entry.specs.declared.flags.EntryFlags.{EntryFlags}
-use Rattle.room_entry.specs.declared.fault.TextFault.{TextFault}
-use Rattle.room_entry.proofs.Texts.{all-append, at_bit}
-use Rattle.room_entry.proofs.Visible.{name_ascii}
+use Rattle.std.specs.{Prelude.nat_lt, List.{list_all, join_with_byte}}
+use Rattle.std.specs.Cmp.Lexicographic.{same_text as text_equal}
+use Rattle.room_entry.specs.{Pieces.{pieces, is_among, same_text}, Ace.Ace, Letters.kind_of}
+use Rattle.room_entry.specs.{Letters.{flags_of, mask_letters, mask_of}, Utf8.is_utf8}
+use Rattle.room_entry.specs.declared.entry.{EntryKind.EntryKind, Who.Who}
+use Rattle.room_entry.specs.declared.{flags.EntryFlags.EntryFlags, fault.TextFault.TextFault}
+use Rattle.room_ace.specs.{Text.{who_of, part, entry_of, entry_of_parts}, Column.some_of}
+use Rattle.room_ace.specs.Column.{entry_in}
+use Rattle.room_entry.proofs.{Texts.{all-append, at_bit}, Visible.name_ascii}
 use Rattle.room_entry.proofs.Facts.Lists.{all_implied}
-use Rattle.std.proofs.lemmas.Bool.Decides.{nat_tests}
 
 abbrev is_ascii : ℕ → Bool
 is_ascii byte = nat_lt byte 128

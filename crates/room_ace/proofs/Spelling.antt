@@ -1,26 +1,19 @@
 -- A text is read as a list exactly if it spells it.
 use Rattle.std.proofs.Common.{ℕ, ◌≡◌, ◌+◌, Bool, true, not, ◌||◌, List, [], ◌∷◌, ◌++◌, map, length}
 use Rattle.std.proofs.Common.{Option, Some, None, Result, Ok, Err, cond, refl, sym, ap, ◌∙◌, subst}
-use Rattle.std.proofs.Common.{inl, inr, append_assoc, append-nil, arith}
-use Rattle.std.specs.Prelude.{filter}
-use Rattle.std.specs.List.{All, AllZip, enumerate_from}
-use Rattle.std.proofs.lemmas.Bool.{cases_Bool, cond-true, cond-false}
+use Rattle.std.proofs.{Common.{inl, inr, append_assoc, append-nil, arith}, lemmas.Bool.cases_Bool}
+use Rattle.std.proofs.lemmas.Bool.{cond-true, cond-false, Decides.nat_tests}
 use Rattle.std.proofs.lemmas.List.Elements.{All-head, All-tail, All-cons, All-nil}
-use Rattle.room_entry.specs.Ace.{Ace}
-use Rattle.room_entry.specs.Utf8.{is_utf8}
-use Rattle.room_entry.specs.declared.flags.ListFlags.{ListFlags}
-use Rattle.room_entry.specs.declared.fault.ListFault.{ListFault}
-use Rattle.room_entry.specs.declared.fault.TextFault.{TextFault}
-use Rattle.room_ace.specs.declared.fault.LineFault.{LineFault}
-use Rattle.room_ace.specs.declared.fault.Why.TheVariants.{Entry, List as Limit, NoListLine, NotUtf8}
-use Rattle.room_ace.specs.Sent.{Sent, limit_fault}
-use Rattle.room_ace.specs.Text.{entry_of}
-use Rattle.room_ace.specs.Lists.{and_then, entries_after, fault_at, flags_of_list, is_blank}
-use Rattle.room_ace.specs.Lists.{is_comment, lines_of, numbered_lines, sent_of_lines, sent_with}
-use Rattle.room_ace.specs.Lists.{with_entry}
+use Rattle.std.specs.{Prelude.filter, List.{All, AllZip, enumerate_from}}
+use Rattle.room_entry.specs.{Ace.Ace, Utf8.is_utf8, declared.flags.ListFlags.ListFlags}
+use Rattle.room_entry.specs.declared.fault.{ListFault.ListFault, TextFault.TextFault}
+use Rattle.room_ace.specs.declared.fault.{LineFault.LineFault, Why.TheVariants.Entry}
+use Rattle.room_ace.specs.declared.fault.Why.TheVariants.{List as Limit, NoListLine, NotUtf8}
+use Rattle.room_ace.specs.{Sent.{Sent, limit_fault}, Text.entry_of, Lists.{and_then, entries_after}}
+use Rattle.room_ace.specs.Lists.{fault_at, flags_of_list, is_blank, is_comment, lines_of}
+use Rattle.room_ace.specs.Lists.{numbered_lines, sent_of_lines, sent_with, with_entry}
 use Rattle.room_ace.specs.Laws.{ReadsWhatIsSpelled, Spells, saying}
 use Rattle.room_ace.proofs.ListsBack.{with_entry_ok}
-use Rattle.std.proofs.lemmas.Bool.Decides.{nat_tests}
 
 abbrev says : List ℕ → Bool
 says line = not (is_blank line || is_comment line)

@@ -1,10 +1,8 @@
 -- What holds of each member of a list, and how many members pass a test.
 use Rattle.std.proofs.Common.{◌≡◌, ℕ, ◌+◌, ◌≤◌, Bool, true, false, cond, not, List, [], ◌∷◌, ◌++◌}
 use Rattle.std.proofs.Common.{filter, reverse, length, Some, refl, sym, ap, subst, ◌∙◌, arith}
-use Rattle.std.proofs.Common.{add_assoc}
-use Rattle.std.specs.List.{find, flat_map, AllByRecursion as Each}
-use Rattle.std.specs.Option.{option_map_or}
-use Rattle.std.proofs.lemmas.List.{reverse-append}
+use Rattle.std.proofs.{Common.add_assoc, lemmas.List.reverse-append}
+use Rattle.std.specs.{List.{find, flat_map, AllByRecursion as Each}, Option.option_map_or}
 use Rattle.room_entry.proofs.Facts.Members.{each_append, each_weaker, one_if, count}
 
 -- ---- each member

@@ -1,18 +1,13 @@
 -- How deep a tree is written: no deeper than there are objects that weren't reached yet.
 use Rattle.std.proofs.Common.{◌≡◌, ℕ, zero, suc, ◌+◌, ◌<◌, ◌≤◌, ◌==◌, Bool, true, false, cond, not}
 use Rattle.std.proofs.Common.{List, [], ◌∷◌, ◌++◌, filter, Option, Some, None, refl, ap, subst, ◌∙◌}
-use Rattle.std.proofs.Common.{arith}
-use Rattle.std.specs.List.{flat_map, AllByRecursion as Each}
-use Rattle.std.specs.Option.{option_map_or}
-use Rattle.std.proofs.lemmas.Bool.{false≢true, eqb-true, eq-eqb}
-use Rattle.room_rows.specs.declared.node.Node.{Node}
-use Rattle.room_rows.specs.Content.{Content, children_of, has_parent}
-use Rattle.room_dump.specs.Dump.{tree_of}
-use Rattle.room_dump.specs.Visits.{HasAll, always, is_number}
+use Rattle.std.proofs.{Common.arith, lemmas.Bool.{false≢true, eqb-true, eq-eqb}}
+use Rattle.std.specs.{List.{flat_map, AllByRecursion as Each}, Option.option_map_or}
+use Rattle.room_rows.specs.{declared.node.Node.Node, Content.{Content, children_of, has_parent}}
+use Rattle.room_dump.specs.{Dump.tree_of, Visits.{HasAll, always, is_number}}
 use Rattle.room_dump.proofs.Counting.{count_parts, each_both, each_counted, each_filter}
 use Rattle.room_dump.proofs.Counting.{none_counted, same_flat}
-use Rattle.room_entry.proofs.Facts.Members.{count}
-use Rattle.room_entry.proofs.Facts.Lists.{filter_weaker}
+use Rattle.room_entry.proofs.Facts.{Members.count, Lists.filter_weaker}
 use Rattle.room_rows.proofs.Lookups.{each-sorted}
 
 -- no number stands twice

@@ -1,23 +1,15 @@
 -- The text of a room, from what a walk comes to.
-use Rattle.std.proofs.Common.{◌≡◌, ℕ, ◌&&◌, Bool, List, [], ◌∷◌, ◌++◌, length, Some, refl}
-use Rattle.std.proofs.Common.{sym, ap, subst, ◌∙◌, inl, inr, append_assoc}
-use Rattle.std.specs.List.{flat_map, list_all}
-use Rattle.std.specs.Prelude.{is_some}
-use Rattle.std.specs.Option.{option_map_or}
-use Rattle.std.proofs.lemmas.List.{append-nil}
-use Rattle.room_rows.specs.declared.node.Node.{Node}
-use Rattle.room_rows.specs.Content.{body_of, node_at, root_of}
-use Rattle.room_rows.specs.Keep.{IsDamaged}
-use Rattle.room_rows.specs.Rows.{AreRows, Rows, numbers_of}
-use Rattle.room_dump.specs.declared.visiting.Below.{Below}
-use Rattle.room_dump.specs.declared.visiting.Visit.{Visit}
-use Rattle.room_dump.specs.Dump.{IsDumpText, all_of, child_path, has_bytes, itself, object_lines}
-use Rattle.room_dump.specs.Dump.{tree_of}
+use Rattle.std.proofs.Common.{◌≡◌, ℕ, ◌&&◌, Bool, List, [], ◌∷◌, ◌++◌, length, Some, refl, sym, ap}
+use Rattle.std.proofs.{Common.{subst, ◌∙◌, inl, inr, append_assoc}, lemmas.List.append-nil}
+use Rattle.std.specs.{List.{flat_map, list_all}, Prelude.is_some, Option.option_map_or}
+use Rattle.room_rows.specs.{declared.node.Node.Node, Content.{body_of, node_at, root_of}}
+use Rattle.room_rows.specs.{Keep.IsDamaged, Rows.{AreRows, Rows, numbers_of}}
+use Rattle.room_dump.specs.{declared.visiting.{Below.Below, Visit.Visit}, Dump.{IsDumpText, all_of}}
+use Rattle.room_dump.specs.Dump.{child_path, has_bytes, itself, object_lines, tree_of}
 use Rattle.room_dump.specs.Telling.{AddsAll, AddsOne, IsUntellable, has_its_bytes, visit_lines}
-use Rattle.room_dump.specs.Visits.{GoesOn, IsFrom, IsThere, Reached, coming, first_visit}
-use Rattle.room_dump.specs.Visits.{Way, visit_on, visits_from, way_below}
-use Rattle.room_dump.proofs.Reached.{reached_first}
-use Rattle.room_dump.proofs.Walks.{goes_from, told_by}
+use Rattle.room_dump.specs.Visits.{GoesOn, IsFrom, IsThere, Reached, coming, first_visit, Way}
+use Rattle.room_dump.specs.Visits.{visit_on, visits_from, way_below}
+use Rattle.room_dump.proofs.{Reached.reached_first, Walks.{goes_from, told_by}}
 
 -- ---- what is told so far
 

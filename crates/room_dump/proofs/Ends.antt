@@ -1,18 +1,13 @@
 -- The object that a walk ends at.
-use Rattle.std.proofs.Common.{◌≡◌, ℕ, List, [], ◌∷◌, length, Option, Some, None, inr, refl}
-use Rattle.std.proofs.Common.{ap, subst, ◌∙◌}
-use Rattle.std.specs.List.{AllByRecursion as Each}
-use Rattle.std.specs.Option.{option_map_or}
-use Rattle.room_rows.specs.declared.node.Node.{Node}
-use Rattle.room_rows.specs.declared.node.Walk.{Walk}
-use Rattle.room_rows.specs.Content.{Content, body_of, child_of, node_at, root_of}
-use Rattle.room_rows.specs.Keep.{IsDamaged}
-use Rattle.room_rows.specs.Rows.{AreRows, Rows}
-use Rattle.room_rows.specs.Walk.{behind, walk_from, walk_of}
+use Rattle.std.proofs.Common.{◌≡◌, ℕ, List, [], ◌∷◌, length, Option, Some, None, inr, refl, ap}
+use Rattle.std.proofs.Common.{subst, ◌∙◌}
+use Rattle.std.specs.{List.AllByRecursion as Each, Option.option_map_or}
+use Rattle.room_rows.specs.{declared.node.{Node.Node, Walk.Walk}, Content.{Content, body_of}}
+use Rattle.room_rows.specs.{Content.{child_of, node_at, root_of}, Keep.IsDamaged, Rows.AreRows}
+use Rattle.room_rows.specs.{Rows.Rows, Walk.{behind, walk_from, walk_of}}
 use Rattle.room_rows.proofs.Frames.{Rises, child_of-is_there, root_of-is_there}
 use Rattle.room_dump.proofs.Counting.{each_last}
-use Rattle.room_dump.specs.Fetching.{EndsAt, LacksItsBytes}
-use Rattle.room_dump.specs.Visits.{IsThere}
+use Rattle.room_dump.specs.{Fetching.{EndsAt, LacksItsBytes}, Visits.IsThere}
 
 module _ (content : Content) (rises : Rises content) where
   there_from : (names : List (List ℕ)) (node : Node) → IsThere content node

@@ -1,22 +1,17 @@
 -- Which objects a walk has still to come to, while others wait.
 use Rattle.std.proofs.Common.{◌≡◌, ℕ, ◌+◌, ◌<◌, ◌≤◌, ◌==◌, ◌&&◌, Bool, true, false, cond, not, List}
-use Rattle.std.proofs.Common.{[]}
-use Rattle.std.proofs.Common.{◌∷◌, ◌++◌, map, filter, reverse, length, Option, Some, None, nat_lt}
-use Rattle.std.proofs.Common.{refl, sym, ap, subst, ◌∙◌, arith}
-use Rattle.std.specs.Prelude.{is_none}
-use Rattle.std.specs.List.{find, flat_map, AllByRecursion as Each}
-use Rattle.std.specs.Option.{option_map_or}
-use Rattle.std.proofs.lemmas.Bool.{false≢true, and_parts, eqb-true, eq-eqb, ne_eqb, ltb-true}
-use Rattle.std.proofs.lemmas.List.{length-map}
+use Rattle.std.proofs.Common.{[], ◌∷◌, ◌++◌, map, filter, reverse, length, Option, Some, None}
+use Rattle.std.proofs.{Common.{nat_lt, refl, sym, ap, subst, ◌∙◌, arith}, lemmas.Bool.false≢true}
+use Rattle.std.proofs.lemmas.{Bool.{and_parts, eqb-true, eq-eqb, ne_eqb, ltb-true}, List.length-map}
 use Rattle.std.proofs.Math.Nat.{le_trans}
-use Rattle.room_rows.specs.declared.node.Node.{Node}
-use Rattle.room_rows.specs.Content.{Content, child_of, children_of, has_parent, is_rising}
-use Rattle.room_rows.specs.Content.{root_of}
+use Rattle.std.specs.{Prelude.is_none, List.{find, flat_map, AllByRecursion as Each}}
+use Rattle.std.specs.Option.{option_map_or}
+use Rattle.room_rows.specs.{declared.node.Node.Node, Content.{Content, child_of, children_of}}
+use Rattle.room_rows.specs.{Content.{has_parent, is_rising, root_of}, Finding.find_id, Rows.AreRows}
+use Rattle.room_rows.specs.Rows.{Rows, numbers_of, unread_numbers}
 use Rattle.room_entry.specs.Pieces.{same_text}
-use Rattle.room_rows.specs.Finding.{find_id}
-use Rattle.room_rows.specs.Rows.{AreRows, Rows, numbers_of, unread_numbers}
-use Rattle.room_dump.specs.Dump.{tree_of}
-use Rattle.room_dump.specs.Visits.{Fits, HasAll, IsThere, Reached, always, is_number}
+use Rattle.room_dump.specs.{Dump.tree_of, Visits.{Fits, HasAll, IsThere, Reached, always}}
+use Rattle.room_dump.specs.Visits.{is_number}
 use Rattle.room_dump.proofs.Counting.{count_all, count_append, count_found, count_parts}
 use Rattle.room_dump.proofs.Counting.{count_reverse, each_always, each_both, each_filter}
 use Rattle.room_dump.proofs.Counting.{each_found, each_last, each_reverse, none_counted}

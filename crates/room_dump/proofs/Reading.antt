@@ -1,12 +1,9 @@
 -- Calls of a keeper that read, one after the other.
 use Rattle.std.proofs.Common.{◌≡◌, ℕ, Result, Ok, Err, refl, sym, ap, subst, ◌∙◌}
 use Rattle.std.specs.Result.{IsErrAnd}
-use Rattle.room_rows.specs.declared.keep.Keep.{Ghosts}
-use Rattle.room_rows.specs.declared.keep.KeepFault.{KeepFault}
-use Rattle.room_rows.specs.declared.keep.KeepFault.TheVariants.{Memory, Store, Damaged}
-use Rattle.room_rows.specs.Calls.{Reads}
-use Rattle.room_rows.specs.Keep.{HasCause, IfSeen, KeepLaws}
-use Rattle.room_rows.specs.Rows.{AreRows, Rows}
+use Rattle.room_rows.specs.declared.keep.{Keep.Ghosts, KeepFault.{KeepFault, TheVariants.Memory}}
+use Rattle.room_rows.specs.{declared.keep.KeepFault.TheVariants.{Store, Damaged}, Calls.Reads}
+use Rattle.room_rows.specs.{Keep.{HasCause, IfSeen, KeepLaws}, Rows.{AreRows, Rows}}
 
 -- an error that `?` hands on
 handed_on : {X : Type 0} (r : Result X KeepFault) (e : KeepFault) → IsErrAnd r (λ x. x ≡ e)

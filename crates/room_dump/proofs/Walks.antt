@@ -1,15 +1,11 @@
 -- What is still to come of a walk, one object after the other.
 use Rattle.std.proofs.Common.{◌≡◌, ℕ, zero, suc, ◌+◌, ◌-◌, ◌≤◌, List, [], ◌∷◌, ◌++◌, map, reverse}
 use Rattle.std.proofs.Common.{length, Option, Some, refl, sym, ap, subst, ◌∙◌, append_assoc, arith}
+use Rattle.std.proofs.lemmas.{Grind.flat_map-append, List.{append-nil, map-append, reverse-append}}
 use Rattle.std.specs.List.{flat_map}
-use Rattle.std.proofs.lemmas.Grind.{flat_map-append}
-use Rattle.std.proofs.lemmas.List.{append-nil, map-append, reverse-append}
-use Rattle.room_rows.specs.declared.node.Node.{Node}
-use Rattle.room_rows.specs.Content.{Content, children_of}
-use Rattle.room_rows.specs.Rows.{AreRows, Rows, numbers_of}
-use Rattle.room_dump.specs.declared.visiting.Below.{Below}
-use Rattle.room_dump.specs.declared.visiting.Visit.{Visit}
-use Rattle.room_dump.specs.Dump.{tree_of}
+use Rattle.room_rows.specs.{declared.node.Node.Node, Content.{Content, children_of}, Rows.AreRows}
+use Rattle.room_rows.specs.Rows.{Rows, numbers_of}
+use Rattle.room_dump.specs.{declared.visiting.{Below.Below, Visit.Visit}, Dump.tree_of}
 use Rattle.room_dump.specs.Visits.{GoesOn, IsFrom, IsNext, Reached, coming, nodes_of, to_come}
 use Rattle.room_dump.specs.Visits.{IsThere, visit_below, visit_on, visits_from, waiting_below}
 use Rattle.room_dump.specs.Visits.{way_below}

@@ -1,12 +1,8 @@
 -- The text of a room is the whole of it.
 use Rattle.std.proofs.Common.{ℕ, ◌+◌, ◌<◌, ◌≤◌, [], length, sym, ◌∙◌, arith}
 use Rattle.room_rows.specs.Rows.{numbers_of}
-use Rattle.room_dump.specs.Dump.{child_path, object_lines}
-use Rattle.room_dump.specs.Laws.{TextIsWhole}
-use Rattle.room_dump.specs.Visits.{always}
-use Rattle.room_dump.proofs.Depth.{deep_enough}
-use Rattle.room_dump.proofs.Dumped.{told_from}
-use Rattle.room_dump.proofs.Reached.{reached_first}
+use Rattle.room_dump.specs.{Dump.{child_path, object_lines}, Laws.TextIsWhole, Visits.always}
+use Rattle.room_dump.proofs.{Depth.deep_enough, Dumped.told_from, Reached.reached_first}
 use Rattle.room_entry.proofs.Facts.Members.{count}
 
 below_both : (rest most depth : ℕ) → (1 + 0) + rest ≤ most → most ≤ depth → rest < depth

@@ -1,12 +1,8 @@
 -- Equal entries are the same, and a turn of a comparison.
 use Rattle.std.proofs.Common.{ℕ, ◌≡◌, suc, Bool, true, false, ◌&&◌, List, [], ◌∷◌, length, refl}
-use Rattle.std.proofs.Common.{sym, ap, ◌∙◌, arith}
-use Rattle.std.proofs.lemmas.Bool.{and_from}
+use Rattle.std.proofs.{Common.{sym, ap, ◌∙◌, arith}, lemmas.Bool.{and_from, Decides.nat_tests}}
 use Rattle.std.specs.Cmp.Lexicographic.{same_text as text_equal, bytes_decides}
-use Rattle.room_entry.specs.Pieces.{same_text}
-use Rattle.room_entry.specs.Ace.{Ace}
-use Rattle.room_entry.specs.Same.{same_entry, same_entries}
-use Rattle.std.proofs.lemmas.Bool.Decides.{nat_tests}
+use Rattle.room_entry.specs.{Pieces.same_text, Ace.Ace, Same.{same_entry, same_entries}}
 
 -- the test of the same texts gives true for a text and itself
 pub text_itself : (xs : List ℕ) → same_text xs xs ≡ true

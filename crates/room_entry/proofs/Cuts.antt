@@ -1,13 +1,11 @@
 -- A text cut at a separator, and names by their parts.
 use Rattle.std.proofs.Common.{ℕ, ◌+◌, ◌<◌, ◌≤◌, ◌≡◌, Bool, false, cond, ◌&&◌, eqb, List, [], ◌∷◌}
 use Rattle.std.proofs.Common.{Some, None, refl, ap, ◌∙◌, inl, inr, arith, length, take, drop}
-use Rattle.std.specs.Prelude.{◌==◌, nat_lt}
-use Rattle.std.specs.List.{slice_split, position, position_or_len}
-use Rattle.std.proofs.lemmas.Bool.{cases_Bool}
-use Rattle.std.proofs.lemmas.List.Splits.{slice_split_first, length-slice_split}
-use Rattle.room_entry.specs.Pieces.{pieces}
-use Rattle.room_entry.specs.Names.{is_name, is_part, is_local_byte, is_domain_byte, are_name_parts}
-use Rattle.std.proofs.lemmas.Bool.Decides.{nat_tests}
+use Rattle.std.proofs.lemmas.{Bool.{cases_Bool, Decides.nat_tests}, List.Splits.slice_split_first}
+use Rattle.std.proofs.lemmas.List.Splits.{length-slice_split}
+use Rattle.std.specs.{Prelude.{◌==◌, nat_lt}, List.{slice_split, position, position_or_len}}
+use Rattle.room_entry.specs.{Pieces.pieces, Names.{is_name, is_part, is_local_byte, is_domain_byte}}
+use Rattle.room_entry.specs.Names.{are_name_parts}
 
 -- what `position` gives, as the place and its bound
 pub place_of : (n m i : ℕ) → cond (nat_lt n m) (Some n) None ≡ Some i → (n < m) × (n ≡ i)

@@ -2,17 +2,13 @@
 use Rattle.std.proofs.Common.{ℕ, ◌≡◌, Bool, true, false, cond, not, eqb, List, [], ◌∷◌, ◌++◌, map}
 use Rattle.std.proofs.Common.{refl, sym, ap, subst, ◌∙◌, inl, inr, ◌+◌, ◌*◌, ◌^◌, ◌<◌, ◌≤◌, length}
 use Rattle.std.proofs.Common.{get_or, drop, add-one, arith, drop-cons, append_assoc}
-use Rattle.std.specs.Prelude.{bit_and, filter, nat_lt, ◌==◌, ◌&&◌, ◌||◌}
-use Rattle.std.specs.Int.{bit_at}
-use Rattle.std.specs.List.{list_all, zip}
-use Rattle.std.proofs.lemmas.Bool.{cases_Bool, and_parts, eqb-true, false≢true}
-use Rattle.std.proofs.lemmas.Bool.Decides.{nat_tests}
-use Rattle.std.proofs.lemmas.Nat.{pow_pos}
-use Rattle.std.proofs.lemmas.Nat.Bits.{and_pow, bit_at-lt}
-use Rattle.std.proofs.lemmas.List.{drop_all}
+use Rattle.std.proofs.lemmas.Bool.{cases_Bool, and_parts, eqb-true, false≢true, Decides.nat_tests}
+use Rattle.std.proofs.lemmas.{Nat.{pow_pos, Bits.{and_pow, bit_at-lt}}, List.drop_all}
 use Rattle.std.proofs.lemmas.List.Folds.{list_all_at}
-use Rattle.room_entry.specs.Bits.{all_bits, has, is_set, bits_of}
-use Rattle.room_entry.specs.Letters.{letter_in, letter_of, mask_letters, mask_text, table_text}
+use Rattle.std.specs.{Prelude.{bit_and, filter, nat_lt, ◌==◌, ◌&&◌, ◌||◌}, Int.bit_at}
+use Rattle.std.specs.List.{list_all, zip}
+use Rattle.room_entry.specs.{Bits.{all_bits, has, is_set, bits_of}, Letters.{letter_in, letter_of}}
+use Rattle.room_entry.specs.Letters.{mask_letters, mask_text, table_text}
 
 abbrev bits_in : List (ℕ × ℕ) → List ℕ
 bits_in rows = map (λ row. row.0) rows

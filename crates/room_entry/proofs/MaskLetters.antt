@@ -1,20 +1,14 @@
 -- Masks read from their letters.
 use Rattle.std.proofs.Common.{ℕ, ◌+◌, ◌<◌, ◌≡◌, Bool, true, false, ◌&&◌, ◌||◌, List, [], ◌∷◌, map}
 use Rattle.std.proofs.Common.{Option, refl, sym, ap, ◌∙◌, subst, inl, inr, length, take, get_or}
-use Rattle.std.proofs.Common.{arith}
-use Rattle.std.specs.Prelude.{◌==◌, filter, find, bit_and, MatchOption}
-use Rattle.std.specs.List.{list_all}
+use Rattle.std.proofs.{Common.arith, lemmas.Bool.{cases_Bool, and_parts, Decides.nat_tests}}
+use Rattle.std.proofs.lemmas.List.{take_more, Folds.{list_any-append, list_all-append}}
+use Rattle.std.specs.{Prelude.{◌==◌, filter, find, bit_and, MatchOption}, List.list_all}
 use Rattle.std.specs.Option.{option_map}
-use Rattle.std.proofs.lemmas.Bool.{cases_Bool, and_parts}
-use Rattle.std.proofs.lemmas.List.{take_more}
-use Rattle.std.proofs.lemmas.List.Folds.{list_any-append, list_all-append}
-use Rattle.room_entry.specs.Bits.{all_bits, has, bits_of}
-use Rattle.room_entry.specs.BitLaws.{has-chosen, chosen_agree}
-use Rattle.room_entry.specs.Pieces.{is_among, same_text}
-use Rattle.room_entry.specs.Letters.{bit_named, letter_of, mask_letters}
-use Rattle.room_entry.proofs.Letters.{the_table}
-use Rattle.room_entry.proofs.Texts.{same_text-true}
-use Rattle.std.proofs.lemmas.Bool.Decides.{nat_tests}
+use Rattle.room_entry.specs.{Bits.{all_bits, has, bits_of}, BitLaws.{has-chosen, chosen_agree}}
+use Rattle.room_entry.specs.{Pieces.{is_among, same_text}, Letters.{bit_named, letter_of}}
+use Rattle.room_entry.specs.Letters.{mask_letters}
+use Rattle.room_entry.proofs.{Letters.the_table, Texts.same_text-true}
 
 -- the mask of the letters of a text
 abbrev pub spelled : List ℕ → List ℕ

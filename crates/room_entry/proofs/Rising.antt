@@ -1,20 +1,14 @@
 -- Texts in order: one more at the end, and one that is looked for.
 use Rattle.std.proofs.Common.{ℕ, ◌≡◌, ◌<◌, ◌+◌, ◌-◌, true, false, List, [], ◌∷◌, ◌++◌, length}
 use Rattle.std.proofs.Common.{get_or, refl, sym, ap, ◌∙◌, arith, ⊎_elim, is_lt, nat_cmp, Result, Ok}
-use Rattle.std.proofs.Common.{Err}
-use Rattle.std.specs.Cmp.Lexicographic.{slice_cmp, nat_list_cmp_total, texts_ties}
-use Rattle.std.specs.List.{list_any}
-use Rattle.std.specs.List.Sorted.{IsBinarySearchResult, IsSearchInRange}
-use Rattle.std.specs.Ordering.{is_eq, is_le, ordering_reverse}
-use Rattle.std.specs.declared.cmp.Ordering.{Ordering}
-use Rattle.std.specs.declared.cmp.Ordering.TheVariants.{Less, Equal, Greater}
-use Rattle.std.specs.Result.{is_ok}
-use Rattle.std.proofs.lemmas.Bool.{cases_lt}
-use Rattle.std.proofs.lemmas.List.{length_push, get_or_push, get_or_append_left}
-use Rattle.std.proofs.lemmas.List.Folds.{list_any_at, list_any_none}
+use Rattle.std.proofs.{Common.Err, lemmas.{Bool.cases_lt, List.{length_push, get_or_push}}}
+use Rattle.std.proofs.lemmas.List.{get_or_append_left, Folds.{list_any_at, list_any_none}}
 use Rattle.std.proofs.lemmas.List.Sorted.{searchable_from_sorted}
-use Rattle.room_entry.specs.Pieces.{same_text}
-use Rattle.room_entry.specs.Rising.{AreRising}
+use Rattle.std.specs.{Cmp.Lexicographic.{slice_cmp, nat_list_cmp_total, texts_ties}, List.list_any}
+use Rattle.std.specs.{List.Sorted.{IsBinarySearchResult, IsSearchInRange}, Ordering.{is_eq, is_le}}
+use Rattle.std.specs.{Ordering.ordering_reverse, declared.cmp.Ordering.{Ordering, TheVariants.Less}}
+use Rattle.std.specs.{declared.cmp.Ordering.TheVariants.{Equal, Greater}, Result.is_ok}
+use Rattle.room_entry.specs.{Pieces.same_text, Rising.AreRising}
 
 not_after : (o : Ordering) → is_le o ≡ true → is_lt (ordering_reverse o) ≡ false
 not_after Less le = refl

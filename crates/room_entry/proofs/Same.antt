@@ -1,17 +1,13 @@
 -- Entries that are the same are equal.
 use Rattle.std.proofs.Common.{ℕ, ◌≡◌, ◌==◌, true, List, [], ◌∷◌, Some, refl, sym, ap, ◌∙◌}
-use Rattle.std.proofs.Common.{if◌then◌else◌}
-use Rattle.std.proofs.lemmas.Bool.{and_parts, false≢true}
+use Rattle.std.proofs.{Common.if◌then◌else◌, lemmas.Bool.{and_parts, false≢true}}
 use Rattle.std.specs.Cmp.Lexicographic.{same_text as text_equal}
-use Rattle.room_entry.specs.Pieces.{same_text}
-use Rattle.room_entry.specs.Ace.{Ace}
-use Rattle.room_entry.specs.Same.{who_key, same_entry, same_entries}
+use Rattle.room_entry.specs.{Pieces.same_text, Ace.Ace, Same.{who_key, same_entry, same_entries}}
 use Rattle.room_entry.specs.Letters.{kind_text, kind_of, flags_text, flags_among}
-use Rattle.room_entry.specs.declared.entry.EntryKind.{EntryKind}
-use Rattle.room_entry.specs.declared.flags.EntryFlags.{EntryFlags}
-use Rattle.room_entry.specs.declared.entry.Who.{Who}
-use Rattle.room_entry.specs.declared.entry.Who.TheVariants.{Owner, Group, Everyone, Anonymous}
+use Rattle.room_entry.specs.declared.entry.{EntryKind.EntryKind, Who.{Who, TheVariants.Owner}}
+use Rattle.room_entry.specs.declared.entry.Who.TheVariants.{Group, Everyone, Anonymous}
 use Rattle.room_entry.specs.declared.entry.Who.TheVariants.{Authenticated, User, Members}
+use Rattle.room_entry.specs.declared.flags.EntryFlags.{EntryFlags}
 use Rattle.room_entry.proofs.Back.{kind_back, flags_back}
 
 kind_equal : (a b : EntryKind) → kind_text a ≡ kind_text b → a ≡ b

@@ -1,15 +1,10 @@
 -- A mask taken apart into its bits.
 use Rattle.std.proofs.Common.{ℕ, ◌≡◌, ◌+◌, ◌<◌, true, false, cond, List, [], ◌∷◌, ◌++◌, map, refl}
 use Rattle.std.proofs.Common.{sym, ap, ◌∙◌, length, get_or, drop, add-one, drop-cons, append_assoc}
-use Rattle.std.proofs.Common.{arith}
-use Rattle.std.specs.Prelude.{filter, bit_and}
-use Rattle.std.specs.List.{list_all}
-use Rattle.std.proofs.lemmas.List.Folds.{list_all_at}
-use Rattle.room_entry.specs.Bits.{all_bits, is_set, bits_of}
-use Rattle.room_entry.specs.Single.{is_single}
-use Rattle.room_entry.proofs.MaskLetters.{letters_table}
-use Rattle.room_entry.proofs.Texts.{same_text-true}
-use Rattle.std.proofs.lemmas.Bool.Decides.{nat_tests}
+use Rattle.std.proofs.{Common.arith, lemmas.{List.Folds.list_all_at, Bool.Decides.nat_tests}}
+use Rattle.std.specs.{Prelude.{filter, bit_and}, List.list_all}
+use Rattle.room_entry.specs.{Bits.{all_bits, is_set, bits_of}, Single.is_single}
+use Rattle.room_entry.proofs.{MaskLetters.letters_table, Texts.same_text-true}
 
 -- the masks that the rows of a table give
 abbrev pub singles_in : ℕ → List (ℕ × ℕ) → List (List ℕ)

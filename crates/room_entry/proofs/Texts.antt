@@ -1,18 +1,12 @@
 -- Tests of each byte of a text, and texts that are the same.
 use Rattle.std.proofs.Common.{ℕ, ◌≡◌, Bool, true, cond, List, [], ◌∷◌, ◌++◌, filter, refl, sym, ap}
-use Rattle.std.proofs.Common.{◌∙◌, inl, inr, length}
-use Rattle.std.specs.Prelude.{◌==◌}
-use Rattle.std.specs.List.{list_all}
-use Rattle.std.specs.Cmp.Lexicographic.{bytes_decides}
-use Rattle.std.proofs.lemmas.Bool.{and_parts, and_from, eq-eqb, eqb-true, false≢true, or_cases}
-use Rattle.std.proofs.lemmas.Bool.{or_left, or_right}
-use Rattle.std.specs.Str.{IsUtf8}
-use Rattle.std.specs.Str.Lossy.{utf8_valid_len}
+use Rattle.std.proofs.{Common.{◌∙◌, inl, inr, length}, lemmas.Bool.{and_parts, and_from, eq-eqb}}
+use Rattle.std.proofs.lemmas.Bool.{eqb-true, false≢true, or_cases, or_left, or_right}
 use Rattle.std.proofs.lemmas.Str.{utf8_valid_len-IsUtf8}
-use Rattle.room_entry.specs.Bits.{has}
-use Rattle.room_entry.specs.Pieces.{same_text}
+use Rattle.std.specs.{Prelude.◌==◌, List.list_all, Cmp.Lexicographic.bytes_decides, Str.IsUtf8}
+use Rattle.std.specs.Str.Lossy.{utf8_valid_len}
+use Rattle.room_entry.specs.{Bits.has, Pieces.same_text, Utf8.is_utf8}
 use Rattle.room_entry.proofs.Facts.Booleans.{same_truth}
-use Rattle.room_entry.specs.Utf8.{is_utf8}
 
 -- texts that pass the test of the same texts are equal
 pub same_text-true : (a b : List ℕ) → same_text a b ≡ true → a ≡ b

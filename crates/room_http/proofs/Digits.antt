@@ -1,20 +1,14 @@
 -- The number of a Content-Length, digit by digit.
 use Rattle.std.proofs.Common.{◌≡◌, ℕ, ◌+◌, ◌*◌, ◌%◌, ◌&&◌, ◌<◌, ◌≤◌, Bool, true, false, List, []}
 use Rattle.std.proofs.Common.{◌∷◌, ◌++◌, length, take, get_or, refl, sym, ap, subst, ◌∙◌, arith}
-use Rattle.std.proofs.Common.{Result, Ok, Err, if◌then◌else◌, nat_le, nat_lt}
-use Rattle.std.proofs.lemmas.Bool.{lt-leb, le-leb, leb-true}
-use Rattle.std.proofs.lemmas.List.{take_all, take_more}
-use Rattle.std.proofs.lemmas.List.Sums.{AllPass-from_list_all}
+use Rattle.std.proofs.{Common.{Result, Ok, Err, if◌then◌else◌, nat_le, nat_lt}, lemmas.Bool.lt-leb}
+use Rattle.std.proofs.lemmas.{Bool.{le-leb, leb-true, Decides.nat_tests}, List.take_all}
+use Rattle.std.proofs.lemmas.{List.{take_more, Sums.AllPass-from_list_all}, Str.digit_value_digit}
 use Rattle.std.proofs.lemmas.Str.Parse.{digits_value-take-le}
-use Rattle.std.proofs.lemmas.Str.{digit_value_digit}
-use Rattle.std.specs.Int.{IsInRange}
-use Rattle.std.specs.Str.Parse.{digits_value, digits_value_after}
-use Rattle.std.specs.List.{list_all}
+use Rattle.std.specs.{Int.IsInRange, Str.Parse.{digits_value, digits_value_after}, List.list_all}
 use Rattle.std.specs.Char.{digit_value, is_ascii_digit}
-use Rattle.room_http.specs.declared.refusal.Refusal.{Refusal}
-use Rattle.room_http.specs.Limits.{max_body}
-use Rattle.room_http.specs.Message.{is_number, length_of_text}
-use Rattle.std.proofs.lemmas.Bool.Decides.{nat_tests}
+use Rattle.room_http.specs.{declared.refusal.Refusal.Refusal, Limits.max_body, Message.is_number}
+use Rattle.room_http.specs.Message.{length_of_text}
 
 pub refused-text : (text : List ℕ) → is_number text ≡ false
     → Err Refusal.BadLength ≡ length_of_text text

@@ -2,22 +2,20 @@
 use Rattle.std.proofs.Common.{◌≡◌, ℕ, zero, suc, ◌+◌, ◌<◌, ◌≤◌, ◌⊎◌, Bool, true, false, cond, List}
 use Rattle.std.proofs.Common.{[], ◌∷◌, ◌++◌, length, take, drop, Some, None, refl, inl, inr, sym}
 use Rattle.std.proofs.Common.{ap, subst, ◌∙◌, arith, append_assoc, append-nil}
-use Rattle.std.specs.Prelude.{◌==◌, not}
-use Rattle.std.specs.List.{flat_map, filter, AllByRecursion, position, position_or_len}
 use Rattle.std.proofs.lemmas.Bool.{cases_Bool, cond-true, cond-false, ne_eqb, both_ways}
-use Rattle.std.proofs.lemmas.List.{length-append, length-take-le, drop_all}
-use Rattle.std.proofs.lemmas.List.Elements.{All-head, All-tail, All-take, filter-append}
+use Rattle.std.proofs.lemmas.{Bool.Decides.nat_tests, List.{length-append, length-take-le}}
+use Rattle.std.proofs.lemmas.List.{drop_all, Elements.{All-head, All-tail, All-take, filter-append}}
 use Rattle.std.proofs.lemmas.List.Elements.{recursion_from_All}
+use Rattle.std.specs.{Prelude.{◌==◌, not}, List.{flat_map, filter, AllByRecursion, position}}
+use Rattle.std.specs.List.{position_or_len}
 use Rattle.httparse.specs.Grammar.{is_token_byte, is_uri_byte, is_value_byte, AllPass, LineEnd}
 use Rattle.httparse.specs.Grammar.{crlf, lf, print_end, print_blank, print_version, Field}
 use Rattle.httparse.specs.Grammar.{print_field, IsField, print_section, RequestHead, IsRequestHead}
 use Rattle.httparse.specs.Grammar.{print_request, ReadsRequest, HasNoRequest, MayBecomeRequest}
-use Rattle.httparse.specs.Pieces.{is_newline, Stops}
-use Rattle.httparse.specs.Spans.{RequestExceeds}
+use Rattle.httparse.specs.{Pieces.{is_newline, Stops}, Spans.RequestExceeds}
 use Rattle.room_entry.proofs.Cuts.{place_of, none_of}
-use Rattle.httparse.proofs.PieceLemmas.{Stops_token}
-use Rattle.httparse.proofs.GrammarLemmas.{print_request-append, cons-append}
-use Rattle.std.proofs.lemmas.Bool.Decides.{nat_tests}
+use Rattle.httparse.proofs.{PieceLemmas.Stops_token, GrammarLemmas.print_request-append}
+use Rattle.httparse.proofs.GrammarLemmas.{cons-append}
 
 abbrev is_feed : ℕ → Bool
 is_feed byte = byte == 10

@@ -3,8 +3,7 @@ use Rattle.std.proofs.Common.{◌≡◌, refl, codes}
 use Rattle.std.specs.Fmt.{digits}
 use Rattle.serde_json.proofs.OnLiterals.{serde_json_on_literals}
 use Rattle.http_message.specs.Form.{reply_form}
-use Rattle.room_http.specs.declared.refusal.Refusal.{Refusal}
-use Rattle.room_http.specs.Text.{refusal_reply, store_text}
+use Rattle.room_http.specs.{declared.refusal.Refusal.Refusal, Text.{refusal_reply, store_text}}
 
 pub store : codes
     "HTTP/1.1 500 Internal Server Error\r\nContent-Type: application/json\r\nContent-Length: 15\r\nConnection: close\r\n\r\n{\"why\":\"store\"}"

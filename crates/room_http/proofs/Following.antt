@@ -1,19 +1,15 @@
 -- The message at the front of the bytes.
 use Rattle.std.proofs.Common.{◌≡◌, ℕ, ◌+◌, ◌<◌, ◌≤◌, List, ◌++◌, length, take, drop, inr, sym, ap}
-use Rattle.std.proofs.Common.{◌∙◌, arith, append_assoc, Option, Ok}
-use Rattle.std.specs.List.{slice_range}
-use Rattle.std.proofs.lemmas.List.{take-append-drop, length-append, length-take-le}
+use Rattle.std.proofs.{Common.{◌∙◌, arith, append_assoc, Option, Ok}, lemmas.List.take-append-drop}
+use Rattle.std.proofs.lemmas.{List.{length-append, length-take-le}, Bool.Decides.nat_tests}
 use Rattle.std.proofs.Math.Seq.{drop-append_seam, take-append_seam, drop-append-add}
-use Rattle.httparse.specs.declared.spans.HeaderSpan.{HeaderSpan}
-use Rattle.httparse.specs.declared.spans.RequestSpans.{RequestSpans}
+use Rattle.std.specs.List.{slice_range}
+use Rattle.httparse.specs.declared.spans.{HeaderSpan.HeaderSpan, RequestSpans.RequestSpans}
 use Rattle.httparse.specs.Grammar.{RequestHead, print_request}
 use Rattle.http_message.specs.declared.head.Head.{Head}
 use Rattle.room_http.specs.Message.{print_message, BeginsWith, IsPart, head_of, body_size}
-use Rattle.room_http.specs.declared.ended.Cause.{Cause}
-use Rattle.room_http.specs.Limits.{max_body}
-use Rattle.room_http.specs.Spans.{AreSpansOf, head_at, StopsBody, StopsReading}
-use Rattle.room_http.specs.Turn.{WholeNext}
-use Rattle.std.proofs.lemmas.Bool.Decides.{nat_tests}
+use Rattle.room_http.specs.{declared.ended.Cause.Cause, Limits.max_body, Spans.AreSpansOf}
+use Rattle.room_http.specs.{Spans.{head_at, StopsBody, StopsReading}, Turn.WholeNext}
 
 parts-of-spans : (spans : List HeaderSpan) (r : RequestSpans) (h : RequestHead)
     → AreSpansOf spans r h

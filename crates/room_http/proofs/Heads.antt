@@ -1,28 +1,20 @@
 -- A head found in a window of the bytes is a head of the bytes.
 use Rattle.std.proofs.Common.{◌≡◌, ℕ, ◌<◌, ◌≤◌, List, [], ◌∷◌, ◌++◌, length, take, drop, map, refl}
 use Rattle.std.proofs.Common.{inl, inr, sym, ap, subst, ◌∙◌, arith, min, append_assoc, Result, Ok}
-use Rattle.std.specs.List.{All, AllByRecursion, slice_range}
 use Rattle.std.proofs.lemmas.List.{take-append-le, drop-append-le, take-append-drop, length-drop}
 use Rattle.std.proofs.lemmas.List.{length-take, take_min, take_all, length-map}
-use Rattle.std.proofs.lemmas.List.Elements.{recursion_from_All}
-use Rattle.std.proofs.Math.Seq.{drop-append_seam}
-use Rattle.httparse.specs.declared.Status.{Status}
-use Rattle.httparse.specs.declared.Status.TheVariants.{Complete}
-use Rattle.httparse.specs.Outcome.{IfComplete}
-use Rattle.httparse.specs.declared.spans.Span.{Span}
-use Rattle.httparse.specs.declared.spans.HeaderSpan.{HeaderSpan}
-use Rattle.httparse.specs.declared.spans.RequestSpans.{RequestSpans}
-use Rattle.httparse.specs.Grammar.{RequestHead, print_request, HasNoRequest, NeverHasRequest}
-use Rattle.httparse.specs.Grammar.{MayBecomeRequest}
-use Rattle.httparse.specs.Spans.{span_bytes, header_bytes, IsWithin, IsHeaderWithin}
-use Rattle.httparse.specs.Spans.{IsRequestWithin, IsRequestAt}
-use Rattle.room_http.specs.Limits.{max_head, max_fields}
-use Rattle.std.proofs.Math.Nat.{min_comm, le_trans}
-use Rattle.room_http.specs.Message.{IsHead, BeginsWith, HasTooMany}
-use Rattle.room_http.specs.declared.cut.HeadScan.{HeadScan}
-use Rattle.room_http.specs.declared.refusal.Refusal.{Refusal}
+use Rattle.std.proofs.lemmas.{List.Elements.recursion_from_All, Bool.Decides.nat_tests}
+use Rattle.std.proofs.Math.{Seq.drop-append_seam, Nat.{min_comm, le_trans}}
+use Rattle.std.specs.List.{All, AllByRecursion, slice_range}
+use Rattle.httparse.specs.declared.{Status.{Status, TheVariants.Complete}, spans.Span.Span}
+use Rattle.httparse.specs.declared.spans.{HeaderSpan.HeaderSpan, RequestSpans.RequestSpans}
+use Rattle.httparse.specs.{Outcome.IfComplete, Grammar.{RequestHead, print_request, HasNoRequest}}
+use Rattle.httparse.specs.{Grammar.{NeverHasRequest, MayBecomeRequest}, Spans.span_bytes}
+use Rattle.httparse.specs.Spans.{header_bytes, IsWithin, IsHeaderWithin, IsRequestWithin}
+use Rattle.httparse.specs.Spans.{IsRequestAt}
+use Rattle.room_http.specs.{Limits.{max_head, max_fields}, Message.{IsHead, BeginsWith, HasTooMany}}
+use Rattle.room_http.specs.declared.{cut.HeadScan.HeadScan, refusal.Refusal.Refusal}
 use Rattle.room_http.specs.Spans.{AreSpansOf, MayGoOn, Scans, ScansWindow}
-use Rattle.std.proofs.lemmas.Bool.Decides.{nat_tests}
 
 -- a slice of the front is a slice of the whole
 pub slice_range-append : (p q : List ℕ) (a b : ℕ) → a ≤ b → b ≤ length p

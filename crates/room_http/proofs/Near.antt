@@ -1,23 +1,17 @@
 -- How far the bytes that were read reach, and what is there where a read brings nothing.
 use Rattle.std.proofs.Common.{◌≡◌, ℕ, ◌+◌, ◌-◌, ◌<◌, ◌≤◌, ◌⊎◌, List, [], ◌∷◌, ◌++◌, length, take}
 use Rattle.std.proofs.Common.{drop, max, refl, inl, inr, sym, ap, subst, ◌∙◌, arith, Option}
-use Rattle.std.specs.Io.KnownBytes.{Consumes}
-use Rattle.std.proofs.lemmas.Bool.{cases_lt}
-use Rattle.std.proofs.lemmas.List.{append-nil, length-append, length-drop, take-append-le}
-use Rattle.std.proofs.lemmas.List.{take-append-drop}
+use Rattle.std.proofs.lemmas.{Bool.{cases_lt, Decides.nat_tests}, List.{append-nil, length-append}}
+use Rattle.std.proofs.lemmas.List.{length-drop, take-append-le, take-append-drop}
 use Rattle.std.proofs.Math.Seq.{take-append_seam}
+use Rattle.std.specs.Io.KnownBytes.{Consumes}
 use Rattle.httparse.specs.Grammar.{RequestHead, print_request, HasNoRequest}
-use Rattle.httparse.specs.declared.spans.RequestSpans.{RequestSpans}
-use Rattle.httparse.specs.declared.spans.HeaderSpan.{HeaderSpan}
-use Rattle.room_http.specs.declared.ended.Cause.{Cause}
-use Rattle.room_http.specs.declared.next.NextMessage.{NextMessage}
-use Rattle.room_http.specs.Limits.{max_head, max_unanswered, read_size}
-use Rattle.room_http.specs.Message.{BeginsWith, IsPart}
-use Rattle.room_http.specs.Serve.{IsNear}
-use Rattle.room_http.specs.Spans.{Came, Loses, MayGoOn, SpansHead, StopsBody, StopsReading}
-use Rattle.room_http.specs.Turn.{WholeNext}
+use Rattle.httparse.specs.declared.spans.{RequestSpans.RequestSpans, HeaderSpan.HeaderSpan}
+use Rattle.room_http.specs.declared.{ended.Cause.Cause, next.NextMessage.NextMessage}
+use Rattle.room_http.specs.{Limits.{max_head, max_unanswered, read_size}, Message.BeginsWith}
+use Rattle.room_http.specs.{Message.IsPart, Serve.IsNear, Spans.{Came, Loses, MayGoOn, SpansHead}}
+use Rattle.room_http.specs.{Spans.{StopsBody, StopsReading}, Turn.WholeNext}
 use Rattle.room_http.proofs.KnownBytes.{Came-then}
-use Rattle.std.proofs.lemmas.Bool.Decides.{nat_tests}
 
 -- while a head is read: nothing came yet, or there was no head before the last read
 abbrev pub Grown : List ℕ → List ℕ → Type 0

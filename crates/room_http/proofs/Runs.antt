@@ -1,13 +1,10 @@
 -- What a desk did from one state to another, in one part after the other.
-use Rattle.std.proofs.Common.{ℤ, List, [], ◌++◌, subst, sym, arith}
-use Rattle.std.proofs.lemmas.Grind.{flat_map-append}
+use Rattle.std.proofs.{Common.{ℤ, List, [], ◌++◌, subst, sym, arith}, lemmas.Grind.flat_map-append}
+use Rattle.std.proofs.lemmas.Bool.Decides.{nat_tests}
 use Rattle.room_rows.specs.Content.{Content}
-use Rattle.room_machine.specs.declared.desk.Desk.{Ghosts}
-use Rattle.room_machine.specs.Desk.{DeskLaws}
-use Rattle.room_machine.specs.Run.{Asking, Event}
+use Rattle.room_machine.specs.{declared.desk.Desk.Ghosts, Desk.DeskLaws, Run.{Asking, Event}}
 use Rattle.room_http.specs.Stream.{DeskRuns, Exchange, event_at, events_by, Runs}
 use Rattle.room_machine.proofs.Meeting.{closed_meet, closed_still, meet}
-use Rattle.std.proofs.lemmas.Bool.Decides.{nat_tests}
 
 Runs-then : (old mid new : Content → Type 0) (events others : List Event)
     → Runs old events mid → Runs mid others new → Runs old (events ++ others) new

@@ -1,29 +1,20 @@
 -- A connection turn by turn.
 use Rattle.std.proofs.Common.{◌≡◌, ℕ, ℤ, ◌+◌, ◌<◌, true, false, length, List, [], ◌∷◌, ◌++◌, refl}
-use Rattle.std.proofs.Common.{sym, ap, subst, ◌∙◌, append_assoc, arith}
-use Rattle.std.proofs.lemmas.List.{append-nil, length-append}
-use Rattle.std.proofs.lemmas.List.Elements.{All-append, All-nil, All-from_recursion}
-use Rattle.std.proofs.lemmas.Grind.{flat_map-append}
+use Rattle.std.proofs.{Common.{sym, ap, subst, ◌∙◌, append_assoc, arith}, lemmas.List.append-nil}
+use Rattle.std.proofs.lemmas.List.{length-append, Elements.{All-append, All-nil}}
+use Rattle.std.proofs.lemmas.{List.Elements.All-from_recursion, Grind.flat_map-append}
 use Rattle.std.specs.Io.KnownBytes.{Appends}
-use Rattle.room_machine.specs.declared.desk.Desk.{Ghosts}
-use Rattle.room_machine.specs.Desk.{DeskLaws}
-use Rattle.room_machine.specs.Run.{Asking}
-use Rattle.room_http.proofs.Runs.{exchanged-then, nothing-done}
-use Rattle.room_http.specs.declared.ended.Cause.{Cause}
-use Rattle.room_http.specs.declared.ended.Ended.{Ended}
-use Rattle.room_http.specs.declared.ended.ServeFault.{ServeFault}
-use Rattle.room_http.specs.declared.server.Connection.{Connection}
-use Rattle.room_http.specs.declared.server.TurnFault.{TurnFault}
-use Rattle.room_http.specs.Limits.{max_messages}
-use Rattle.room_http.specs.Message.{print_message}
-use Rattle.room_http.specs.Stream.{Exchange, IsOpen, exchange_text, bytes_of, texts_of, last_text}
-use Rattle.room_http.specs.Stream.{DeskRuns, Last, events_by, last_asking, last_exchange}
-use Rattle.room_http.specs.Stream.{EndsStream}
+use Rattle.room_machine.specs.{declared.desk.Desk.Ghosts, Desk.DeskLaws, Run.Asking}
+use Rattle.room_http.proofs.{Runs.{exchanged-then, nothing-done}, KnownBytes.Consumes-then}
+use Rattle.room_http.proofs.KnownBytes.{Consumes-none}
+use Rattle.room_http.specs.declared.ended.{Cause.Cause, Ended.Ended, ServeFault.ServeFault}
+use Rattle.room_http.specs.declared.server.{Connection.Connection, TurnFault.TurnFault}
+use Rattle.room_http.specs.{Limits.max_messages, Message.print_message, Stream.{Exchange, IsOpen}}
+use Rattle.room_http.specs.Stream.{exchange_text, bytes_of, texts_of, last_text, DeskRuns, Last}
+use Rattle.room_http.specs.Stream.{events_by, last_asking, last_exchange, EndsStream}
 use Rattle.room_http.specs.Serve.{Snapshot, Blames, FaultsRose, Serves, Stops, Connects, Next}
-use Rattle.room_http.specs.Serve.{next_asking, next_exchange, next_text, IsNext, NextRose}
-use Rattle.room_http.specs.Serve.{NearLast, NearNext}
-use Rattle.room_http.specs.Turn.{Along, TurnsOpen, TurnsLast, TurnsStop}
-use Rattle.room_http.proofs.KnownBytes.{Consumes-then, Consumes-none}
+use Rattle.room_http.specs.Serve.{next_asking, next_exchange, next_text, IsNext, NextRose, NearLast}
+use Rattle.room_http.specs.{Serve.NearNext, Turn.{Along, TurnsOpen, TurnsLast, TurnsStop}}
 use Rattle.room_entry.proofs.Facts.KnownBytes.{Appends-then, Appends-none}
 
 pub Along-begin : {D : Type 0} (d : Ghosts D) → DeskLaws d.Outlasts → (moment : ℤ)

@@ -1,30 +1,19 @@
 -- How one message was answered.
 use Rattle.std.proofs.Common.{◌≡◌, ℕ, ℤ, ◌+◌, ◌-◌, ◌^◌, ◌<◌, ◌≤◌, ◌⊎◌, Bool, List, [], min, refl}
 use Rattle.std.proofs.Common.{inl, inr, sym, subst, arith, Option, Some, None, Result, Ok, Err}
-use Rattle.std.proofs.Common.{OnOk, OnErr, IfErr}
+use Rattle.std.proofs.{Common.{OnOk, OnErr, IfErr}, lemmas.Bool.{cases_lt, Decides.nat_tests}}
 use Rattle.std.specs.Io.KnownBytes.{Appends}
-use Rattle.std.proofs.lemmas.Bool.{cases_lt}
-use Rattle.room_machine.specs.declared.desk.Desk.{Ghosts}
-use Rattle.room_machine.specs.declared.reply.Reply.{Reply}
-use Rattle.room_machine.specs.Desk.{DeskLaws}
+use Rattle.room_machine.specs.{declared.{desk.Desk.Ghosts, reply.Reply.Reply}, Desk.DeskLaws}
 use Rattle.http_message.specs.declared.fault.HttpFault.{HttpFault}
-use Rattle.room_http.specs.Message.{Parsed}
-use Rattle.room_http.specs.Answer.{Stepped, ActedIf, AnswersMessage, Delivers, JoinsText, Failed}
-use Rattle.room_http.specs.Answer.{Responds, SendsRefusal, TellsReply, Rose}
-use Rattle.room_http.specs.declared.told.Answer.{Answer}
-use Rattle.room_http.specs.declared.told.Response.{Response}
-use Rattle.room_http.specs.declared.told.Lost.{Lost}
-use Rattle.room_http.specs.Stream.{HasReply, DeskRuns, answer_text, events_at}
-use Rattle.room_http.proofs.Runs.{nothing-done}
-use Rattle.room_http.specs.Text.{store_text}
-use Rattle.room_http.specs.Serve.{BlamesText, BlamesWriter}
-use Rattle.room_http.specs.Turn.{WritesPart, WritesSome}
+use Rattle.room_http.specs.{Message.Parsed, Answer.{Stepped, ActedIf, AnswersMessage, Delivers}}
+use Rattle.room_http.specs.Answer.{JoinsText, Failed, Responds, SendsRefusal, TellsReply, Rose}
+use Rattle.room_http.specs.declared.told.{Answer.Answer, Response.Response, Lost.Lost}
+use Rattle.room_http.specs.declared.{server.{TurnFault.TurnFault, Wrote.Wrote}, ended.Cause.Cause}
+use Rattle.room_http.specs.{Stream.{HasReply, DeskRuns, answer_text, events_at}, Text.store_text}
+use Rattle.room_http.specs.{Serve.{BlamesText, BlamesWriter}, Turn.{WritesPart, WritesSome}}
 use Rattle.room_http.specs.Tell.{StopsWithin, Tells, TellsText}
-use Rattle.room_http.specs.declared.server.TurnFault.{TurnFault}
-use Rattle.room_http.specs.declared.server.Wrote.{Wrote}
-use Rattle.room_http.specs.declared.ended.Cause.{Cause}
+use Rattle.room_http.proofs.Runs.{nothing-done}
 use Rattle.room_entry.proofs.Facts.KnownBytes.{Appends-none}
-use Rattle.std.proofs.lemmas.Bool.Decides.{nat_tests}
 
 rose-by : (old new : ℕ) → (old < 2 ^ 64 - 1) ⊎ (2 ^ 64 - 1 ≤ old) → new ≡ min (old + 1) (2 ^ 64 - 1)
     → Rose old new

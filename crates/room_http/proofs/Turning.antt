@@ -1,44 +1,25 @@
 -- One turn of the server.
 use Rattle.std.proofs.Common.{◌≡◌, ℕ, ℤ, ◌+◌, ◌<◌, ◌||◌, ◌==◌, Bool, true, false, List, [], ◌∷◌}
 use Rattle.std.proofs.Common.{◌++◌, length, drop, refl, sym, ap, subst, ◌∙◌, arith, Option, Some}
-use Rattle.std.proofs.Common.{None, Result, Ok, Err, IfOk, IfErr}
-use Rattle.std.specs.Prelude.{is_some}
-use Rattle.std.proofs.lemmas.List.{append-nil}
-use Rattle.std.specs.List.{slice_range}
-use Rattle.std.specs.Io.KnownBytes.{Appends, IsAtEnd}
-use Rattle.std.proofs.lemmas.Option.{same_Some, none-some}
-use Rattle.room_machine.specs.declared.desk.Desk.{Ghosts}
-use Rattle.room_machine.specs.declared.reply.Reply.{Reply}
-use Rattle.room_machine.specs.Desk.{DeskLaws}
-use Rattle.http_message.specs.declared.head.Head.{Head}
-use Rattle.http_message.specs.Asked.{request_of}
-use Rattle.http_message.specs.Close.{asks_close}
-use Rattle.room_http.proofs.Runs.{nothing-done}
-use Rattle.room_http.specs.declared.next.NextMessage.{NextMessage}
-use Rattle.room_http.specs.declared.ended.Ended.{Ended}
-use Rattle.room_http.specs.declared.server.TurnFault.{TurnFault}
-use Rattle.room_http.specs.declared.ended.Cause.{Cause}
-use Rattle.room_http.specs.Limits.{max_messages, read_size}
-use Rattle.room_http.specs.Message.{Message, print_message, IsRefusedHead, IsPart, asked, closes}
-use Rattle.room_http.specs.Text.{refusal_reply}
-use Rattle.room_http.specs.Stream.{DeskRuns, Last, answer_text, events_at, events_by, says_close}
-use Rattle.room_http.specs.Spans.{Came}
-use Rattle.room_http.specs.Serve.{Snapshot, Next, BlamesBefore, BlamesText, IsNearHead, seen}
-use Rattle.room_http.specs.Turn.{TurnsOpen, TurnsLast, TurnsStop, Turns, WholeNext}
-use Rattle.room_http.specs.Answer.{ActedIf, Responds}
-use Rattle.room_http.specs.Tell.{StopsWithin, Tells}
-use Rattle.room_http.specs.declared.server.Connection.{Connection}
-use Rattle.room_http.specs.declared.server.Wrote.{Wrote}
-use Rattle.room_http.specs.declared.told.Lost.{Lost}
-use Rattle.room_http.specs.declared.told.Response.{Response}
-use Rattle.room_http.proofs.Telling.{Replies, answers-whole, fails-whole, nothing-sent}
-use Rattle.room_http.proofs.Telling.{refused-tells, replied-tells, replies-stepped, within-fault}
-use Rattle.room_http.proofs.Telling.{within-write}
-use Rattle.room_http.proofs.Near.{near-message, near-rest}
+use Rattle.std.proofs.{Common.{None, Result, Ok, Err, IfOk, IfErr}, lemmas.List.append-nil}
+use Rattle.std.proofs.lemmas.{Option.{same_Some, none-some}, Bool.Decides.nat_tests}
+use Rattle.std.specs.{Prelude.is_some, List.slice_range, Io.KnownBytes.{Appends, IsAtEnd}}
+use Rattle.room_machine.specs.{declared.{desk.Desk.Ghosts, reply.Reply.Reply}, Desk.DeskLaws}
+use Rattle.http_message.specs.{declared.head.Head.Head, Asked.request_of, Close.asks_close}
+use Rattle.room_http.proofs.{Runs.nothing-done, Telling.{Replies, answers-whole, fails-whole}}
+use Rattle.room_http.proofs.Telling.{nothing-sent, refused-tells, replied-tells, replies-stepped}
+use Rattle.room_http.proofs.{Telling.{within-fault, within-write}, Near.{near-message, near-rest}}
 use Rattle.room_http.proofs.KnownBytes.{Came-none, Came-then, Consumes-none}
-use Rattle.room_http.specs.declared.refusal.Refusal.{Refusal}
+use Rattle.room_http.specs.declared.{next.NextMessage.NextMessage, ended.{Ended.Ended, Cause.Cause}}
+use Rattle.room_http.specs.declared.server.{TurnFault.TurnFault, Connection.Connection, Wrote.Wrote}
+use Rattle.room_http.specs.declared.{told.{Lost.Lost, Response.Response}, refusal.Refusal.Refusal}
+use Rattle.room_http.specs.{Limits.{max_messages, read_size}, Message.{Message, print_message}}
+use Rattle.room_http.specs.{Message.{IsRefusedHead, IsPart, asked, closes}, Text.refusal_reply}
+use Rattle.room_http.specs.Stream.{DeskRuns, Last, answer_text, events_at, events_by, says_close}
+use Rattle.room_http.specs.{Spans.Came, Serve.{Snapshot, Next, BlamesBefore, BlamesText}}
+use Rattle.room_http.specs.{Serve.{IsNearHead, seen}, Turn.{TurnsOpen, TurnsLast, TurnsStop, Turns}}
+use Rattle.room_http.specs.{Turn.WholeNext, Answer.{ActedIf, Responds}, Tell.{StopsWithin, Tells}}
 use Rattle.room_entry.proofs.Facts.KnownBytes.{Appends-none}
-use Rattle.std.proofs.lemmas.Bool.Decides.{nat_tests}
 
 -- the message asks what its copied head and its body ask
 asks-the-same : (buf : List ℕ) (next : NextMessage) (w : WholeNext buf next)

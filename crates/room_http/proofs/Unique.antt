@@ -1,12 +1,10 @@
 -- A stream is these messages and no others.
 use Rattle.std.proofs.Common.{◌≡◌, ℕ, List, ◌++◌, length, take, drop, refl, sym, ap, ◌∙◌}
-use Rattle.std.proofs.Common.{append_assoc, Result, Ok, arith}
-use Rattle.std.proofs.Math.Seq.{take-append_seam, drop-append_seam}
+use Rattle.std.proofs.{Common.{append_assoc, Result, Ok, arith}, Math.Seq.take-append_seam}
+use Rattle.std.proofs.{Math.Seq.drop-append_seam, lemmas.Bool.Decides.nat_tests}
 use Rattle.httparse.specs.Grammar.{RequestHead, print_request}
 use Rattle.httparse.proofs.GrammarLemmas.{request_unique}
-use Rattle.room_http.specs.Laws.{MessageUnique}
-use Rattle.room_http.specs.Message.{print_message, body_size_of}
-use Rattle.std.proofs.lemmas.Bool.Decides.{nat_tests}
+use Rattle.room_http.specs.{Laws.MessageUnique, Message.{print_message, body_size_of}}
 
 ok-same : {A E : Type 0} (d x y : A) (r : Result A E) → r ≡ Ok x → r ≡ Ok y → x ≡ y
 ok-same {A} {E} d x y r e f = grind (arith, nat_tests)

@@ -1,23 +1,18 @@
 -- The pairs of rows: those of all rows, each once, in the order in which they come first.
 use Rattle.std.proofs.Common.{ℕ, zero, suc, ◌≡◌, ◌+◌, ◌∷◌, ◌++◌, Bool, true, false, cond, List, []}
 use Rattle.std.proofs.Common.{take, length, Result, Ok, Err, refl, sym, ap, subst, ◌∙◌, inl, inr}
-use Rattle.std.proofs.Common.{arith, append_assoc, append-nil}
-use Rattle.std.specs.Prelude.{◌||◌, ◌&&◌, not, nat_lt}
-use Rattle.std.specs.List.{list_all, list_any}
+use Rattle.std.proofs.{Common.{arith, append_assoc, append-nil}, lemmas.Bool.cases_Bool}
+use Rattle.std.proofs.lemmas.Bool.{and_parts, and_from, or_cases, or_from, or_left, or_right}
+use Rattle.std.proofs.lemmas.Bool.{or_parts, cond-true, cond-false, false≢true, not_from_false}
+use Rattle.std.proofs.lemmas.{Bool.not-true, List.Folds.list_any-append}
+use Rattle.std.specs.{Prelude.{◌||◌, ◌&&◌, not, nat_lt}, List.{list_all, list_any}}
 use Rattle.std.specs.Cmp.Lexicographic.{bytes_decides}
-use Rattle.std.proofs.lemmas.Bool.{cases_Bool, and_parts, and_from, or_cases, or_from, or_left}
-use Rattle.std.proofs.lemmas.Bool.{or_right, or_parts, cond-true, cond-false, false≢true}
-use Rattle.std.proofs.lemmas.Bool.{not_from_false, not-true}
-use Rattle.std.proofs.lemmas.List.Folds.{list_any-append}
-use Rattle.room_entry.specs.Pieces.{same_text}
-use Rattle.room_entry.specs.Names.{is_name}
-use Rattle.room_entry.specs.Utf8.{is_utf8}
-use Rattle.room_import.specs.declared.fault.CsvFault.{CsvFault}
-use Rattle.room_import.specs.declared.fault.CsvWhy.TheVariants.{BadName, NotTwoFields, TooManyRows}
-use Rattle.room_import.specs.declared.fault.CsvWhy.TheVariants.{NotUtf8}
+use Rattle.room_entry.specs.{Pieces.same_text, Names.is_name, Utf8.is_utf8}
+use Rattle.room_import.specs.declared.fault.{CsvFault.CsvFault, CsvWhy.TheVariants.BadName}
+use Rattle.room_import.specs.declared.fault.CsvWhy.TheVariants.{NotTwoFields, TooManyRows, NotUtf8}
 use Rattle.room_import.specs.Groups.{and_then, fault_at, pair_of, pair_of_row, pairs_after}
-use Rattle.room_import.specs.Groups.{same_pair, with_pair}
-use Rattle.room_import.specs.Exports.{FirstFault, PairsOfRows, are_once, has_pair, pair_row}
+use Rattle.room_import.specs.{Groups.{same_pair, with_pair}, Exports.{FirstFault, PairsOfRows}}
+use Rattle.room_import.specs.Exports.{are_once, has_pair, pair_row}
 use Rattle.room_entry.proofs.Texts.{same_text-sym}
 use Rattle.room_import.proofs.SeenFacts.{with_new, with_old}
 

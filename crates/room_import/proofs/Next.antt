@@ -1,16 +1,15 @@
 -- The rows that a reader has left, from one row to the next.
 use Rattle.std.proofs.Common.{ℕ, zero, suc, ◌≡◌, ◌+◌, ◌-◌, ◌<◌, ◌≤◌, ◌==◌, ◌||◌, Bool, true, false}
 use Rattle.std.proofs.Common.{cond, List, [], ◌∷◌, length, Option, Some, None, refl, sym, ap, subst}
-use Rattle.std.proofs.Common.{◌∙◌, inl, inr, arith, add-one}
-use Rattle.std.proofs.lemmas.Bool.{cases_Bool, false≢true, cond-true, cond-false}
+use Rattle.std.proofs.{Common.{◌∙◌, inl, inr, arith, add-one}, lemmas.Bool.{cases_Bool, false≢true}}
+use Rattle.std.proofs.lemmas.Bool.{cond-true, cond-false}
 use Rattle.csv.specs.Machine.{Read, ends_at_end, fields_after, field_after, in_field, is_end}
-use Rattle.csv.specs.Machine.{next_record, start_field, step}
-use Rattle.csv.specs.Reading.{NextIs, ReadsNext, default_config, records_from, records_next}
-use Rattle.csv.specs.declared.parser.Action.{Action}
-use Rattle.csv.specs.declared.parser.Action.TheVariants as act
-use Rattle.csv.specs.declared.parser.State.{State}
-use Rattle.csv.specs.declared.parser.State.TheVariants as st
+use Rattle.csv.specs.{Machine.{next_record, start_field, step}, Reading.{NextIs, ReadsNext}}
+use Rattle.csv.specs.Reading.{default_config, records_from, records_next}
+use Rattle.csv.specs.declared.parser.{Action.Action, State.State}
 use Rattle.room_import.specs.Rows.{IsBetween, rows_from}
+use Rattle.csv.specs.declared.parser.Action.TheVariants as act
+use Rattle.csv.specs.declared.parser.State.TheVariants as st
 
 -- ---- a record ends between records
 

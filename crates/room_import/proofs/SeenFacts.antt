@@ -1,19 +1,12 @@
 -- The set of pairs that came before, as pairs are added.
 use Rattle.std.proofs.Common.{ℕ, ◌≡◌, ◌∷◌, ◌++◌, true, false, cond, List, [], String, string_bytes}
-use Rattle.std.proofs.Common.{string_cmp, refl, sym, ap, ◌∙◌}
-use Rattle.std.specs.Prelude.{◌&&◌}
-use Rattle.std.specs.List.{list_any}
-use Rattle.std.specs.Ordering.{is_eq}
-use Rattle.std.specs.Cmp.{tied_then}
-use Rattle.std.specs.BTreeSet.{BTreeSet, contains}
-use Rattle.std.proofs.lemmas.Bool.{cond-true, cond-false}
-use Rattle.std.proofs.lemmas.List.Folds.{list_any-append}
-use Rattle.std.proofs.lemmas.Map.Text.{is_eq-slice_cmp}
+use Rattle.std.proofs.{Common.{string_cmp, refl, sym, ap, ◌∙◌}, lemmas.Bool.{cond-true, cond-false}}
+use Rattle.std.proofs.lemmas.{List.Folds.list_any-append, Map.Text.is_eq-slice_cmp}
+use Rattle.std.specs.{Prelude.◌&&◌, List.list_any, Ordering.is_eq, Cmp.tied_then, BTreeSet.BTreeSet}
+use Rattle.std.specs.BTreeSet.{contains}
 use Rattle.room_entry.specs.Pieces.{same_text}
-use Rattle.room_import.specs.Groups.{same_pair, with_pair}
-use Rattle.room_import.specs.Seen.{HasSeen, pair_bytes, pair_cmp}
-use Rattle.room_entry.proofs.Facts.Booleans.{one_more}
-use Rattle.room_entry.proofs.Texts.{same_text-sym}
+use Rattle.room_import.specs.{Groups.{same_pair, with_pair}, Seen.{HasSeen, pair_bytes, pair_cmp}}
+use Rattle.room_entry.proofs.{Facts.Booleans.one_more, Texts.same_text-sym}
 
 -- two keys compare as equal where their texts are the same
 key_equal : {A : Type 0} (x y : String A × String A)

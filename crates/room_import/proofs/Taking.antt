@@ -1,13 +1,12 @@
 -- What a reader took, by the clauses of `csv`.
 use Rattle.std.proofs.Common.{ℕ, ◌≡◌, Bor, true, false, List, Option, Some, ◌∙◌}
 use Rattle.csv.specs.Reading.{ReadRecord, Ready, TookRecord, default_config, is_flexible}
-use Rattle.csv.specs.Reading.{pending_of}
-use Rattle.csv.specs.Records.{AllText}
-use Rattle.csv.specs.declared.reader.Trim.TheVariants as trim
+use Rattle.csv.specs.{Reading.pending_of, Records.AllText}
 use Rattle.room_import.specs.declared.rows.NextRow.TheVariants.{End, NotText, Text}
 use Rattle.room_import.specs.Rows.{ReadsNextRow, ByteReader, ReadsRow, rows_from, unread}
-use Rattle.room_import.proofs.Next.{LeavesRows, no_row_read, row_read}
-use Rattle.room_import.proofs.Utf8.{row_fails, row_passes}
+use Rattle.room_import.proofs.{Next.{LeavesRows, no_row_read, row_read}, Utf8.row_fails}
+use Rattle.room_import.proofs.Utf8.{row_passes}
+use Rattle.csv.specs.declared.reader.Trim.TheVariants as trim
 
 abbrev known : Bor (List ℕ) → Option (List ℕ)
 known bytes = Some bytes.now

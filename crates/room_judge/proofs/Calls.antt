@@ -1,17 +1,15 @@
 -- Calls of a keeper one after the other, in the form in which a request is carried out.
 use Rattle.std.proofs.Common.{◌≡◌, ℕ, ◌+◌, ◌≤◌, Result, Ok, Err, IfOk, IfErr, length, sym, subst}
-use Rattle.std.proofs.Common.{arith}
+use Rattle.std.proofs.{Common.arith, lemmas.Bool.Decides.nat_tests}
 use Rattle.std.specs.Result.{IsErrAnd}
-use Rattle.room_rows.specs.declared.keep.KeepFault.{KeepFault}
-use Rattle.room_rows.specs.declared.keep.KeepFault.TheVariants.{Memory, Store, Damaged}
-use Rattle.room_rows.specs.Keep.{HasCause, IsRead, IsWriteOf, KeepLaws, writes_after}
-use Rattle.room_rows.specs.Rows.{Rows, AreRows}
+use Rattle.room_rows.specs.declared.keep.KeepFault.{KeepFault, TheVariants.{Memory, Store, Damaged}}
+use Rattle.room_rows.specs.{Keep.{HasCause, IsRead, IsWriteOf, KeepLaws, writes_after}, Rows.Rows}
+use Rattle.room_rows.specs.Rows.{AreRows}
 use Rattle.room_rows.proofs.Steps.{later_cause}
 use Rattle.room_judge.specs.Extent.{Extent, OnlyRecords, UpTo, StaysWithin, Unsaid, unrecorded}
 use Rattle.room_judge.specs.Judged.{IsDone}
 use Rattle.room_judge.proofs.Within.{within_after, within_any, within_later, within_same}
 use Rattle.room_judge.proofs.Within.{written_up_to}
-use Rattle.std.proofs.lemmas.Bool.Decides.{nat_tests}
 
 -- calls that each answered, and what became of the rows
 pub record HasDone {S : Type 0} (rows : S → Rows) (writes : S → ℕ)

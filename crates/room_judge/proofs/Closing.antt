@@ -1,33 +1,23 @@
 -- Requests that were judged by the stored lists.
 use Rattle.std.proofs.Common.{◌≡◌, ℕ, Bool, true, false, List, [], ◌∷◌, Option, Some, None, refl}
-use Rattle.std.proofs.Common.{sym, subst, arith}
+use Rattle.std.proofs.{Common.{sym, subst, arith}, lemmas.Bool.Decides.nat_tests}
 use Rattle.std.specs.Prelude.{if◌then◌else◌}
 use Rattle.room_entry.specs.declared.parties.Caller.{Caller}
-use Rattle.room_eval.specs.declared.outcome.Verdict.{Verdict}
-use Rattle.room_eval.specs.declared.outcome.Verdict.TheVariants.{Granted, Denied as DeniedWith}
+use Rattle.room_eval.specs.declared.outcome.Verdict.{Verdict, TheVariants.Granted}
+use Rattle.room_eval.specs.declared.outcome.Verdict.TheVariants.{Denied as DeniedWith}
 use Rattle.room_eval.specs.declared.deletion.DeleteVerdict.{DeleteVerdict}
 use Rattle.room_eval.specs.declared.deletion.DeleteVerdict.TheVariants.{Granted as MayDelete}
 use Rattle.room_eval.specs.declared.deletion.DeleteVerdict.TheVariants.{AtTarget, AtParent}
-use Rattle.room_rows.specs.Content.{Content}
-use Rattle.room_rows.specs.Keep.{with_content}
-use Rattle.room_rows.specs.Rows.{Rows}
-use Rattle.room_machine.specs.declared.reply.Reply.{Reply}
-use Rattle.room_machine.specs.declared.reply.Reply.TheVariants.{Refused}
-use Rattle.room_machine.specs.declared.reply.Reason.{Reason}
-use Rattle.room_machine.specs.declared.reply.Reason.TheVariants.{NotEmpty}
-use Rattle.room_machine.specs.declared.request.Request.{Request}
-use Rattle.room_machine.specs.declared.request.Request.TheVariants.{Remove}
-use Rattle.room_machine.specs.Site.{Site, site_at}
-use Rattle.room_machine.specs.Plan.{Item, Check, Deletion, Refusal}
-use Rattle.room_machine.specs.Judge.{failure, first_failure, of_deletion, of_verdict, or_else}
-use Rattle.room_machine.specs.Judge.{records_of_plan}
-use Rattle.room_judge.specs.declared.asker.Asker.{Asker}
-use Rattle.room_judge.specs.Judged.{IsJudged, with_notes}
-use Rattle.room_machine.specs.Stored.{stored_along, stored_plan}
-use Rattle.room_machine.specs.Changed.{IsChanged}
-use Rattle.room_machine.specs.Closed.{IsShown, only_reads, failure_told}
+use Rattle.room_rows.specs.{Content.Content, Keep.with_content, Rows.Rows}
+use Rattle.room_machine.specs.declared.reply.{Reply.{Reply, TheVariants.Refused}, Reason.Reason}
+use Rattle.room_machine.specs.declared.{reply.Reason.TheVariants.NotEmpty, request.Request.Request}
+use Rattle.room_machine.specs.{declared.request.Request.TheVariants.Remove, Site.{Site, site_at}}
+use Rattle.room_machine.specs.{Plan.{Item, Check, Deletion, Refusal}, Judge.failure}
+use Rattle.room_machine.specs.Judge.{first_failure, of_deletion, of_verdict, or_else}
+use Rattle.room_machine.specs.{Judge.records_of_plan, Stored.{stored_along, stored_plan}}
+use Rattle.room_machine.specs.{Changed.IsChanged, Closed.{IsShown, only_reads, failure_told}}
+use Rattle.room_judge.specs.{declared.asker.Asker.Asker, Judged.{IsJudged, with_notes}}
 use Rattle.room_judge.specs.Closed.{IsClosed}
-use Rattle.std.proofs.lemmas.Bool.Decides.{nat_tests}
 
 -- a reply that is told as a failure
 abbrev IsTold : Option Reply → Type 0

@@ -1,38 +1,25 @@
 -- The way to the folder of a path's last name, judged.
 use Rattle.std.proofs.Common.{◌≡◌, ℕ, ◌<◌, ◌+◌, Bool, true, false, cond, ◌&&◌, List, [], ◌∷◌, ◌++◌}
 use Rattle.std.proofs.Common.{length, take, Option, Some, None, Result, Ok, Err, refl, sym, ap}
-use Rattle.std.proofs.Common.{subst, ◌∙◌, arith}
-use Rattle.std.specs.Prelude.{is_none}
-use Rattle.std.specs.Option.{option_map, option_and_then}
-use Rattle.std.proofs.lemmas.List.{append-nil}
+use Rattle.std.proofs.{Common.{subst, ◌∙◌, arith}, lemmas.{List.append-nil, Bool.Decides.nat_tests}}
 use Rattle.std.proofs.Math.Bool.{and-false}
-use Rattle.room_rows.specs.declared.node.AuditRow.{AuditRow}
-use Rattle.room_rows.specs.declared.node.Node.{Node}
-use Rattle.room_rows.specs.Content.{child_of}
+use Rattle.std.specs.{Prelude.is_none, Option.{option_map, option_and_then}}
+use Rattle.room_rows.specs.{declared.node.{AuditRow.AuditRow, Node.Node}, Content.child_of}
 use Rattle.room_rows.specs.Rows.{Rows}
-use Rattle.room_judge.specs.declared.arrival.Both.{Both}
-use Rattle.room_judge.specs.declared.arrival.Found.{Found}
-use Rattle.room_judge.specs.declared.arrival.Under.{Under}
-use Rattle.room_judge.specs.declared.asker.Asker.{Asker}
-use Rattle.room_machine.specs.declared.reply.Reply.{Reply}
-use Rattle.room_machine.specs.declared.reply.Reply.TheVariants.{Refused}
-use Rattle.room_machine.specs.declared.reply.Reason.{Reason}
-use Rattle.room_machine.specs.declared.reply.Reason.TheVariants.{NoSuch}
-use Rattle.room_machine.specs.Site.{Site, front, last_name}
-use Rattle.room_machine.specs.Plan.{Item, Refusal, way, where_found}
-use Rattle.room_machine.specs.Judge.{first_failure, or_else, records_of_plan}
-use Rattle.room_machine.specs.Stored.{stored_site, stored_along, to_stored}
-use Rattle.room_judge.specs.Stored.{found_site}
-use Rattle.room_judge.specs.Halted.{both_with}
+use Rattle.room_judge.specs.declared.arrival.{Both.Both, Found.Found, Under.Under}
+use Rattle.room_judge.specs.{declared.asker.Asker.Asker, Stored.found_site, Halted.both_with}
 use Rattle.room_judge.specs.Judged.{IsJudged, IsReached, child_below, name_after, through}
 use Rattle.room_judge.specs.Spot.{IsPaired, IsSpotted, SpotsUnder, spot_of}
+use Rattle.room_machine.specs.declared.reply.{Reply.{Reply, TheVariants.Refused}, Reason.Reason}
+use Rattle.room_machine.specs.{declared.reply.Reason.TheVariants.NoSuch, Site.{Site, front}}
+use Rattle.room_machine.specs.{Site.last_name, Plan.{Item, Refusal, way, where_found}}
+use Rattle.room_machine.specs.{Judge.{first_failure, or_else, records_of_plan}, Stored.stored_site}
+use Rattle.room_machine.specs.Stored.{stored_along, to_stored}
 use Rattle.room_judge.proofs.Judging.{failure_of_parts, records_of_parts, fails_first, passes_first}
-use Rattle.room_judge.proofs.Judging.{refuses, passes_on, judged_none}
-use Rattle.room_judge.proofs.Ways.{plain_way}
+use Rattle.room_judge.proofs.{Judging.{refuses, passes_on, judged_none}, Ways.plain_way}
 use Rattle.room_judge.proofs.Spots.{below_of, missing, last_look, stem, way_along, folder_along}
 use Rattle.room_judge.proofs.Spots.{folder_found, target_found, folder_path, path_parts, take_front}
 use Rattle.room_judge.proofs.Spots.{name_is_last}
-use Rattle.std.proofs.lemmas.Bool.Decides.{nat_tests}
 
 -- ---- the folder of the last name
 

@@ -1,18 +1,14 @@
 -- Calls that may be refused, one after the other.
 use Rattle.std.proofs.Common.{◌≡◌, ℕ, Some, Result, Ok, Err, refl, sym, subst, arith}
+use Rattle.std.proofs.lemmas.Bool.Decides.{nat_tests}
 use Rattle.std.specs.Result.{IsErrAnd}
-use Rattle.room_rows.specs.declared.keep.KeepFault.{KeepFault}
-use Rattle.room_rows.specs.declared.keep.KeepFault.TheVariants.{Memory}
-use Rattle.room_rows.specs.Keep.{KeepLaws}
+use Rattle.room_rows.specs.{declared.keep.KeepFault.{KeepFault, TheVariants.Memory}, Keep.KeepLaws}
 use Rattle.room_rows.specs.Rows.{AreRows, Rows}
 use Rattle.room_machine.specs.declared.reply.Reply.{Reply}
-use Rattle.room_judge.specs.Extent.{Extent, OnlyRecords}
-use Rattle.room_judge.specs.Judged.{IsDone}
+use Rattle.room_judge.specs.{Extent.{Extent, OnlyRecords}, Judged.IsDone, declared.halt.Halt.Halt}
+use Rattle.room_judge.specs.{declared.halt.Halt.TheVariants.{Refused, Fault}, Halted.Comes}
+use Rattle.room_judge.specs.Halted.{Refuses, replied, reply_of, settled}
 use Rattle.room_judge.proofs.Calls.{HasDone, done, fails, finish, memory, none_done, then}
-use Rattle.room_judge.specs.declared.halt.Halt.{Halt}
-use Rattle.room_judge.specs.declared.halt.Halt.TheVariants.{Refused, Fault}
-use Rattle.room_judge.specs.Halted.{Comes, Refuses, replied, reply_of, settled}
-use Rattle.std.proofs.lemmas.Bool.Decides.{nat_tests}
 
 module _ {S : Type 0} {rows : S → Rows} {failures writes : S → ℕ}
     {Follows IsTrusted : S → S → Type 0}

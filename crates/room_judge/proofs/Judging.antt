@@ -1,21 +1,15 @@
 -- Items that are judged as they come, one after the other.
 use Rattle.std.proofs.Common.{◌≡◌, ℕ, ℤ, Bool, true, false, cond, List, [], ◌∷◌, ◌++◌, Option, Some}
 use Rattle.std.proofs.Common.{None, refl, sym, ap, subst, ◌∙◌, append_assoc, arith}
-use Rattle.std.proofs.lemmas.List.{append-nil}
+use Rattle.std.proofs.lemmas.{List.append-nil, Bool.Decides.nat_tests}
 use Rattle.std.specs.Prelude.{is_none}
 use Rattle.room_entry.specs.declared.parties.Caller.{Caller}
-use Rattle.room_rows.specs.declared.node.AuditRow.{AuditRow}
-use Rattle.room_rows.specs.Keep.{IsUnreadable, with_content}
+use Rattle.room_rows.specs.{declared.node.AuditRow.AuditRow, Keep.{IsUnreadable, with_content}}
 use Rattle.room_rows.specs.Rows.{Rows}
-use Rattle.room_judge.specs.declared.asker.Asker.{Asker}
-use Rattle.room_machine.specs.declared.reply.Reply.{Reply}
-use Rattle.room_machine.specs.declared.reply.Reply.TheVariants.{Refused}
-use Rattle.room_machine.specs.declared.reply.Reason.{Reason}
-use Rattle.room_machine.specs.Plan.{Item, Refusal}
-use Rattle.room_machine.specs.Judge.{failure, passes, or_else, first_failure, records_of_checks}
-use Rattle.room_machine.specs.Judge.{checks_of, records_of_plan}
-use Rattle.room_judge.specs.Judged.{IsJudged, with_notes}
-use Rattle.std.proofs.lemmas.Bool.Decides.{nat_tests}
+use Rattle.room_judge.specs.{declared.asker.Asker.Asker, Judged.{IsJudged, with_notes}}
+use Rattle.room_machine.specs.declared.reply.{Reply.{Reply, TheVariants.Refused}, Reason.Reason}
+use Rattle.room_machine.specs.{Plan.{Item, Refusal}, Judge.{failure, passes, or_else}}
+use Rattle.room_machine.specs.Judge.{first_failure, records_of_checks, checks_of, records_of_plan}
 
 -- ---- records after records
 

@@ -1,26 +1,17 @@
 -- The records of a check, noted one after the other.
 use Rattle.std.proofs.Common.{◌≡◌, ℕ, zero, suc, ◌<◌, ◌≤◌, ◌+◌, Bool, true, false, cond, List, []}
 use Rattle.std.proofs.Common.{◌∷◌, ◌++◌, map, length, take, get_or, sym, ap, ◌∙◌, arith, Result, Ok}
-use Rattle.std.proofs.Common.{Err, IfOk, length-append}
-use Rattle.std.proofs.lemmas.List.{take_more, map-append}
-use Rattle.std.proofs.Math.Seq.{take-length}
-use Rattle.room_entry.specs.Ace.{Ace}
-use Rattle.room_entry.specs.declared.object.Which.TheVariants.{Sacl}
-use Rattle.room_entry.specs.declared.parties.Caller.{Caller}
-use Rattle.room_entry.specs.declared.parties.Owners.{Owners}
+use Rattle.std.proofs.{Common.{Err, IfOk, length-append}, lemmas.List.{take_more, map-append}}
+use Rattle.std.proofs.{lemmas.Bool.Decides.nat_tests, Math.Seq.take-length}
+use Rattle.room_entry.specs.{Ace.Ace, declared.object.Which.TheVariants.Sacl}
+use Rattle.room_entry.specs.declared.parties.{Caller.Caller, Owners.Owners}
 use Rattle.room_eval.specs.Events.{events_from, events_of, is_event_of}
-use Rattle.room_rows.specs.declared.keep.KeepFault.{KeepFault}
-use Rattle.room_rows.specs.declared.node.AuditRow.{AuditRow}
-use Rattle.room_rows.specs.Keep.{IsWriteOf, Leaves, Notes as Noted, writes_after}
-use Rattle.room_rows.specs.Rows.{Rows}
-use Rattle.room_judge.specs.declared.asker.Asker.{Asker}
-use Rattle.room_machine.specs.Site.{Site, full_at}
-use Rattle.room_machine.specs.Judge.{record_at, records_of}
-use Rattle.room_judge.specs.Extent.{OnlyRecords, StaysWithin, unrecorded}
-use Rattle.room_judge.specs.Judged.{IsDone, with_notes}
-use Rattle.room_judge.proofs.Judging.{noted_none, noted_more}
-use Rattle.room_judge.proofs.Within.{written_up_to}
-use Rattle.std.proofs.lemmas.Bool.Decides.{nat_tests}
+use Rattle.room_rows.specs.declared.{keep.KeepFault.KeepFault, node.AuditRow.AuditRow}
+use Rattle.room_rows.specs.{Keep.{IsWriteOf, Leaves, Notes as Noted, writes_after}, Rows.Rows}
+use Rattle.room_judge.specs.{declared.asker.Asker.Asker, Extent.{OnlyRecords, StaysWithin}}
+use Rattle.room_judge.specs.{Extent.unrecorded, Judged.{IsDone, with_notes}}
+use Rattle.room_machine.specs.{Site.{Site, full_at}, Judge.{record_at, records_of}}
+use Rattle.room_judge.proofs.{Judging.{noted_none, noted_more}, Within.written_up_to}
 
 -- ---- places count from 1
 

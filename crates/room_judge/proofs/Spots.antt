@@ -1,19 +1,15 @@
 -- The way to the folder of a path's last name, and what has that name in it.
 use Rattle.std.proofs.Common.{◌≡◌, ℕ, ◌<◌, ◌+◌, Bool, true, false, not, ◌&&◌, List, [], ◌∷◌, ◌++◌}
 use Rattle.std.proofs.Common.{length, take, Option, Some, None, refl, sym, ap, ◌∙◌, append_assoc}
-use Rattle.std.proofs.Common.{arith, length-append}
-use Rattle.std.specs.Prelude.{is_none}
-use Rattle.std.specs.Option.{option_map, option_map_or, option_and_then}
-use Rattle.std.proofs.lemmas.List.{append-nil}
-use Rattle.std.proofs.Math.Seq.{take-append_seam, get_or-append_seam}
-use Rattle.room_rows.specs.declared.node.Node.{Node}
-use Rattle.room_rows.specs.Content.{Content, child_of, root_of, is_empty}
-use Rattle.room_machine.specs.declared.reply.Reason.TheVariants.{NoSuch}
-use Rattle.room_machine.specs.Site.{Site, site_at, parent_at, front, last_name}
-use Rattle.room_machine.specs.Plan.{Item, Refusal, way, where_found}
-use Rattle.room_machine.specs.Stored.{stored_site, stored_from, stored_along}
+use Rattle.std.proofs.{Common.{arith, length-append}, lemmas.List.append-nil}
+use Rattle.std.proofs.{lemmas.Bool.Decides.nat_tests, Math.Seq.take-append_seam}
+use Rattle.std.proofs.Math.Seq.{get_or-append_seam}
+use Rattle.std.specs.{Prelude.is_none, Option.{option_map, option_map_or, option_and_then}}
+use Rattle.room_rows.specs.{declared.node.Node.Node, Content.{Content, child_of, root_of, is_empty}}
+use Rattle.room_machine.specs.{declared.reply.Reason.TheVariants.NoSuch, Site.{Site, site_at}}
+use Rattle.room_machine.specs.{Site.{parent_at, front, last_name}, Plan.{Item, Refusal, way}}
+use Rattle.room_machine.specs.{Plan.where_found, Stored.{stored_site, stored_from, stored_along}}
 use Rattle.room_judge.specs.Judged.{name_after, through}
-use Rattle.std.proofs.lemmas.Bool.Decides.{nat_tests}
 
 -- ---- a path and its last name
 

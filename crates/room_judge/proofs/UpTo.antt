@@ -1,15 +1,12 @@
 -- Calls that write more than records, one after the other.
 use Rattle.std.proofs.Common.{Option, Some, None, ℕ, ◌+◌, ◌≤◌, Result, Ok, Err, IfOk, refl, arith}
-use Rattle.room_rows.specs.declared.keep.KeepFault.{KeepFault}
-use Rattle.room_rows.specs.Keep.{KeepLaws}
-use Rattle.room_rows.specs.Rows.{Rows, AreRows}
+use Rattle.std.proofs.lemmas.Bool.Decides.{nat_tests}
+use Rattle.room_rows.specs.{declared.keep.KeepFault.KeepFault, Keep.KeepLaws, Rows.{Rows, AreRows}}
 use Rattle.room_machine.specs.declared.reply.Reply.{Reply}
 use Rattle.room_judge.specs.Extent.{Extent, OnlyRecords, Unless, UpTo, StaysWithin, Unsaid}
-use Rattle.room_judge.specs.Extent.{unrecorded}
-use Rattle.room_judge.specs.Judged.{IsDone}
+use Rattle.room_judge.specs.{Extent.unrecorded, Judged.IsDone}
 use Rattle.room_judge.proofs.Calls.{HasDone, done, fails, tail_known, then_known}
 use Rattle.room_judge.proofs.Within.{within_any}
-use Rattle.std.proofs.lemmas.Bool.Decides.{nat_tests}
 
 -- What suffices for two calls is shared by them.
 pub record Share (First Second : Rows → Rows → ℕ → Type 0) (old mid new : Rows)

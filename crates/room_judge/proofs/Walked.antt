@@ -1,16 +1,12 @@
 -- A walk, step after step, and from the root.
 use Rattle.std.proofs.Common.{◌≡◌, ℕ, ◌<◌, ◌≤◌, ◌+◌, List, [], length, take, Some, refl, Result, Ok}
-use Rattle.std.proofs.Common.{Err, sym, subst, ◌∙◌, arith}
-use Rattle.std.proofs.lemmas.List.{take-take, get_or-take, length-take-le}
-use Rattle.room_rows.specs.declared.node.Node.{Node}
-use Rattle.room_rows.specs.Content.{root_of}
-use Rattle.room_rows.specs.Rows.{Rows}
-use Rattle.room_judge.specs.declared.arrival.Found.{Found}
-use Rattle.room_judge.specs.declared.asker.Asker.{Asker}
+use Rattle.std.proofs.{Common.{Err, sym, subst, ◌∙◌, arith}, lemmas.List.{take-take, get_or-take}}
+use Rattle.std.proofs.lemmas.{List.length-take-le, Bool.Decides.nat_tests}
+use Rattle.room_rows.specs.{declared.node.Node.Node, Content.root_of, Rows.Rows}
+use Rattle.room_judge.specs.{declared.{arrival.Found.Found, asker.Asker.Asker}, Judged.FromRoot}
+use Rattle.room_judge.specs.Judged.{IsStepDown, IsReached}
 use Rattle.room_machine.specs.declared.reply.Reply.{Reply}
-use Rattle.room_judge.specs.Judged.{FromRoot, IsStepDown, IsReached}
 use Rattle.room_judge.proofs.Ways.{IsOnWay, way_begins, way_done, way_ends, way_goes_on}
-use Rattle.std.proofs.lemmas.Bool.Decides.{nat_tests}
 
 -- ---- a walk, step after step
 

@@ -1,27 +1,19 @@
 -- The way to an object, one step after the other.
 use Rattle.std.proofs.Common.{◌≡◌, ℕ, ◌<◌, ◌+◌, false, List, [], ◌∷◌, ◌++◌, length, take, drop}
 use Rattle.std.proofs.Common.{get_or, Option, Some, None, Result, Ok, Err, refl, sym, ap, subst}
-use Rattle.std.proofs.Common.{◌∙◌, arith}
-use Rattle.std.specs.Prelude.{is_none}
-use Rattle.std.specs.Option.{option_map_or}
-use Rattle.std.proofs.lemmas.List.{append-nil, take_more, drop_more, get_or_read}
-use Rattle.std.proofs.Math.Seq.{take-length, drop-length}
-use Rattle.room_rows.specs.declared.node.Node.{Node}
-use Rattle.room_rows.specs.Content.{Content, child_of, root_of, is_empty}
-use Rattle.room_rows.specs.Keep.{IsUnreadable}
-use Rattle.room_rows.specs.Rows.{Rows}
-use Rattle.room_judge.specs.declared.arrival.Found.{Found}
-use Rattle.room_judge.specs.declared.asker.Asker.{Asker}
-use Rattle.room_machine.specs.declared.reply.Reply.{Reply}
-use Rattle.room_machine.specs.declared.reply.Reason.TheVariants.{NoSuch}
-use Rattle.room_machine.specs.Site.{Site, site_at}
-use Rattle.room_machine.specs.Plan.{Item, Refusal, way, where_found}
-use Rattle.room_machine.specs.Stored.{stored_site, stored_from, stored_along, to_stored}
-use Rattle.room_judge.specs.Stored.{found_site}
+use Rattle.std.proofs.{Common.{◌∙◌, arith}, lemmas.List.{append-nil, take_more, drop_more}}
+use Rattle.std.proofs.{lemmas.{List.get_or_read, Bool.Decides.nat_tests}, Math.Seq.take-length}
+use Rattle.std.proofs.Math.Seq.{drop-length}
+use Rattle.std.specs.{Prelude.is_none, Option.option_map_or}
+use Rattle.room_rows.specs.{declared.node.Node.Node, Content.{Content, child_of, root_of, is_empty}}
+use Rattle.room_rows.specs.{Keep.IsUnreadable, Rows.Rows}
+use Rattle.room_judge.specs.{declared.{arrival.Found.Found, asker.Asker.Asker}, Stored.found_site}
 use Rattle.room_judge.specs.Judged.{IsJudged, IsStepDown, IsReached, name_after, through}
+use Rattle.room_machine.specs.{declared.reply.{Reply.Reply, Reason.TheVariants.NoSuch}, Site.Site}
+use Rattle.room_machine.specs.{Site.site_at, Plan.{Item, Refusal, way, where_found}}
+use Rattle.room_machine.specs.Stored.{stored_site, stored_from, stored_along, to_stored}
 use Rattle.room_judge.proofs.Judging.{SoFar, fails_first, passes_first, judged_none, so_far_none}
 use Rattle.room_judge.proofs.Judging.{so_far_as, so_far_on, so_far_fails, so_far_last}
-use Rattle.std.proofs.lemmas.Bool.Decides.{nat_tests}
 
 -- ---- one step
 

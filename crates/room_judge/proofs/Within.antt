@@ -1,10 +1,8 @@
 -- How much calls write beside records, one after the other.
 use Rattle.std.proofs.Common.{◌≡◌, ℕ, Some, None, ◌+◌, ◌≤◌, Result, Ok, Err, IfOk, arith}
-use Rattle.room_rows.specs.declared.keep.KeepFault.{KeepFault}
-use Rattle.room_rows.specs.Keep.{capped}
-use Rattle.room_rows.specs.Rows.{Rows}
-use Rattle.room_judge.specs.Extent.{Extent, OnlyRecords, Unless, StaysWithin, WritesRecords}
 use Rattle.std.proofs.lemmas.Bool.Decides.{nat_tests}
+use Rattle.room_rows.specs.{declared.keep.KeepFault.KeepFault, Keep.capped, Rows.Rows}
+use Rattle.room_judge.specs.Extent.{Extent, OnlyRecords, Unless, StaysWithin, WritesRecords}
 
 capped_below : (n : ℕ) → capped n ≤ n
 capped_below n = omega arith

@@ -2,35 +2,26 @@
 use Rattle.std.proofs.Common.{ℕ, zero, suc, ◌+◌, ◌≡◌, ◌⊎◌, inl, inr, Bool, true, false, cond, not}
 use Rattle.std.proofs.Common.{◌&&◌, List, [], ◌∷◌, ◌++◌, length, length-append, take, Option, Some}
 use Rattle.std.proofs.Common.{None, refl, sym, ap, subst, ◌∙◌, add-one, arith}
+use Rattle.std.proofs.lemmas.Bool.Decides.{nat_tests}
 use Rattle.std.specs.Option.{option_map_or}
-use Rattle.room_entry.specs.Ace.{Ace}
-use Rattle.room_entry.specs.Rights.{execute}
-use Rattle.room_entry.specs.declared.parties.Caller.{Caller}
-use Rattle.room_eval.specs.declared.outcome.Verdict.{Verdict}
-use Rattle.room_eval.specs.declared.outcome.Verdict.TheVariants.{Granted, Denied as DeniedWith}
-use Rattle.room_rows.specs.declared.node.Node.{Node}
-use Rattle.room_rows.specs.Content.{Content, child_of, is_empty, is_folder}
-use Rattle.room_rows.specs.Rows.{Rows}
-use Rattle.room_rows.specs.Walk.{walk_of}
-use Rattle.room_machine.specs.declared.request.Request.{Request}
-use Rattle.room_machine.specs.declared.request.Request.TheVariants.{Read, List as ListFolder, Put}
-use Rattle.room_machine.specs.declared.request.Request.TheVariants.{Append, MakeFolder, Remove}
-use Rattle.room_machine.specs.declared.request.Request.TheVariants.{Move, ReadList, SetList}
-use Rattle.room_machine.specs.declared.request.Request.TheVariants.{ReadAttr, SetOwners, Can}
-use Rattle.room_machine.specs.declared.reply.Reply.{Reply}
-use Rattle.room_machine.specs.declared.reply.Reply.TheVariants.{Denied, Refused}
-use Rattle.room_machine.specs.declared.reply.Reason.{Reason}
-use Rattle.room_machine.specs.declared.reply.Reason.TheVariants.{NotFolder, NoSuch}
+use Rattle.room_entry.specs.{Ace.Ace, Rights.execute, declared.parties.Caller.Caller}
+use Rattle.room_eval.specs.declared.outcome.Verdict.{Verdict, TheVariants.Granted}
+use Rattle.room_eval.specs.declared.outcome.Verdict.TheVariants.{Denied as DeniedWith}
+use Rattle.room_rows.specs.{declared.node.Node.Node, Content.{Content, child_of, is_empty}}
+use Rattle.room_rows.specs.{Content.is_folder, Rows.Rows, Walk.walk_of}
+use Rattle.room_machine.specs.declared.request.Request.{Request, TheVariants.Read}
+use Rattle.room_machine.specs.declared.request.Request.TheVariants.{List as ListFolder, Put, Append}
+use Rattle.room_machine.specs.declared.request.Request.TheVariants.{MakeFolder, Remove, Move}
+use Rattle.room_machine.specs.declared.request.Request.TheVariants.{ReadList, SetList, ReadAttr}
+use Rattle.room_machine.specs.declared.request.Request.TheVariants.{SetOwners, Can}
+use Rattle.room_machine.specs.declared.reply.Reply.{Reply, TheVariants.{Denied, Refused}}
+use Rattle.room_machine.specs.declared.reply.Reason.{Reason, TheVariants.{NotFolder, NoSuch}}
 use Rattle.room_machine.specs.Site.{Site, sites_of, sites_below, site_below, root_site, sites_along}
 use Rattle.room_machine.specs.Plan.{Along, Item, Check, Refusal, way, plan_by}
-use Rattle.room_machine.specs.Stored.{stored_along, stored_from, stored_site}
-use Rattle.room_machine.specs.Closed.{TellsFailure}
-use Rattle.room_machine.specs.Judge.{failure, first_failure, of_verdict, or_else}
-use Rattle.room_machine.specs.Effect.{effect}
-use Rattle.room_machine.specs.Step.{caller_in}
-use Rattle.room_machine.specs.Laws.{first_path, Hides, HidesStored}
+use Rattle.room_machine.specs.{Stored.{stored_along, stored_from, stored_site}, Closed.TellsFailure}
+use Rattle.room_machine.specs.{Judge.{failure, first_failure, of_verdict, or_else}, Effect.effect}
+use Rattle.room_machine.specs.{Step.caller_in, Laws.{first_path, Hides, HidesStored}}
 use Rattle.room_machine.proofs.Replies.{or_reply, reply_of, same_caller}
-use Rattle.std.proofs.lemmas.Bool.Decides.{nat_tests}
 
 -- the way as far as the check of EXECUTE on the object after n names
 abbrev way_as_far : ℕ → List Site → List (List ℕ) → List Item

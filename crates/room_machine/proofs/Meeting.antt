@@ -1,13 +1,10 @@
 -- Runs that meet.
 use Rattle.std.proofs.Common.{ℕ, ℤ, List, [], ◌∷◌, ◌++◌, Option, Result, Ok, Err, refl, subst}
-use Rattle.std.proofs.Common.{arith}
-use Rattle.room_rows.specs.Content.{Content}
-use Rattle.room_rows.specs.Rows.{Rows}
-use Rattle.room_machine.specs.Desk.{Closes, RunsClosed}
-use Rattle.room_machine.specs.declared.reply.Reply.{Reply}
-use Rattle.room_machine.specs.declared.request.Request.{Request}
-use Rattle.room_machine.specs.Run.{Asked, ClosedRun, Event, Run, event_of}
-use Rattle.std.proofs.lemmas.Bool.Decides.{nat_tests}
+use Rattle.std.proofs.{Common.arith, lemmas.Bool.Decides.nat_tests}
+use Rattle.room_rows.specs.{Content.Content, Rows.Rows}
+use Rattle.room_machine.specs.{Desk.{Closes, RunsClosed}, declared.reply.Reply.Reply}
+use Rattle.room_machine.specs.{declared.request.Request.Request, Run.{Asked, ClosedRun, Event, Run}}
+use Rattle.room_machine.specs.Run.{event_of}
 
 -- two runs that meet are one run
 pub meet : (content mid after : Content) (events others : List Event) → Run content events mid

@@ -1,27 +1,19 @@
 -- What a reply depends on.
 use Rattle.std.proofs.Common.{ℕ, ◌≡◌, List, Option, Some, None, ℤ, refl, sym, ap, ◌∙◌, IsTrue}
-use Rattle.std.proofs.Common.{arith}
-use Rattle.std.specs.Prelude.{IfSome}
-use Rattle.std.specs.Option.{option_map_or}
-use Rattle.std.proofs.lemmas.Bool.{false≢true}
+use Rattle.std.proofs.{Common.arith, lemmas.Bool.{false≢true, Decides.nat_tests}}
+use Rattle.std.specs.{Prelude.IfSome, Option.option_map_or}
 use Rattle.room_entry.specs.declared.parties.Caller.{Caller}
-use Rattle.room_rows.specs.Content.{Content, groups_for}
-use Rattle.room_rows.specs.Walk.{walk_of}
-use Rattle.room_machine.specs.declared.request.Request.{Request}
-use Rattle.room_machine.specs.declared.request.Request.TheVariants.{Read, List as ListFolder, Put}
-use Rattle.room_machine.specs.declared.request.Request.TheVariants.{Append, MakeFolder, Remove}
-use Rattle.room_machine.specs.declared.request.Request.TheVariants.{Move, ReadList, SetList}
-use Rattle.room_machine.specs.declared.request.Request.TheVariants.{ReadAttr, SetOwners, Can}
-use Rattle.room_machine.specs.declared.reply.Reply.{Reply}
-use Rattle.room_machine.specs.declared.reply.Reply.TheVariants.{Done}
-use Rattle.room_machine.specs.Site.{Site, sites_of, sites_along, site_at}
-use Rattle.room_machine.specs.Plan.{Item, to_target, plan_of}
-use Rattle.room_machine.specs.Judge.{first_failure}
-use Rattle.room_machine.specs.Effect.{effect, with_site}
-use Rattle.room_machine.specs.Step.{Step, caller_in, failure_or}
-use Rattle.room_machine.specs.Closed.{only_reads}
+use Rattle.room_rows.specs.{Content.{Content, groups_for}, Walk.walk_of}
+use Rattle.room_machine.specs.declared.request.Request.{Request, TheVariants.Read}
+use Rattle.room_machine.specs.declared.request.Request.TheVariants.{List as ListFolder, Put, Append}
+use Rattle.room_machine.specs.declared.request.Request.TheVariants.{MakeFolder, Remove, Move}
+use Rattle.room_machine.specs.declared.request.Request.TheVariants.{ReadList, SetList, ReadAttr}
+use Rattle.room_machine.specs.declared.request.Request.TheVariants.{SetOwners, Can}
+use Rattle.room_machine.specs.{declared.reply.Reply.{Reply, TheVariants.Done}, Site.Site}
+use Rattle.room_machine.specs.{Site.{sites_of, sites_along, site_at}, Plan.{Item, to_target}}
+use Rattle.room_machine.specs.{Plan.plan_of, Judge.first_failure, Effect.{effect, with_site}}
+use Rattle.room_machine.specs.{Step.{Step, caller_in, failure_or}, Closed.only_reads}
 use Rattle.room_machine.specs.Laws.{first_path, same_target, ReadsOnly}
-use Rattle.std.proofs.lemmas.Bool.Decides.{nat_tests}
 
 -- ---- the reply of a step
 

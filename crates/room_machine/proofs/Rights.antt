@@ -1,11 +1,8 @@
 -- The folder that an object stands in, and the bits that are kept of a mask.
 use Rattle.std.proofs.Common.{◌≡◌, ℕ, Bool, ◌&&◌, List, [], ◌∷◌, length, take, filter, Some, refl}
-use Rattle.std.proofs.Common.{arith}
-use Rattle.std.proofs.lemmas.Map.Views.{any-filter_same}
+use Rattle.std.proofs.{Common.arith, lemmas.{Map.Views.any-filter_same, Bool.Decides.nat_tests}}
 use Rattle.room_entry.specs.Bits.{has}
-use Rattle.room_machine.specs.Rights.{last_of}
-use Rattle.room_machine.specs.Site.{Site, front, site_at}
-use Rattle.std.proofs.lemmas.Bool.Decides.{nat_tests}
+use Rattle.room_machine.specs.{Rights.last_of, Site.{Site, front, site_at}}
 
 -- the folder of the path's last name is the last of the objects above
 pub folder_is_last : (sites : List Site) (name : List ℕ) (names : List (List ℕ)) (target : Site)

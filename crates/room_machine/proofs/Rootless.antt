@@ -1,26 +1,21 @@
 -- Where no object is without a parent, nothing but the root's place is answered.
 use Rattle.std.proofs.Common.{ℕ, ◌≡◌, ◌⊎◌, inl, inr, false, List, [], ◌∷◌, ◌++◌, Some, None, refl}
-use Rattle.std.proofs.Common.{ap, arith}
+use Rattle.std.proofs.{Common.{ap, arith}, lemmas.Bool.Decides.nat_tests}
 use Rattle.std.specs.Option.{option_map_or}
 use Rattle.room_entry.specs.declared.parties.Caller.{Caller}
-use Rattle.room_rows.specs.Content.{root_of}
-use Rattle.room_rows.specs.Rows.{Rows}
-use Rattle.room_machine.specs.declared.request.Request.{Request}
-use Rattle.room_machine.specs.declared.request.Request.TheVariants.{Read, List as ListFolder, Put}
-use Rattle.room_machine.specs.declared.request.Request.TheVariants.{Append, MakeFolder, Remove}
-use Rattle.room_machine.specs.declared.request.Request.TheVariants.{Move, ReadList, SetList}
-use Rattle.room_machine.specs.declared.request.Request.TheVariants.{ReadAttr, SetOwners, Can}
-use Rattle.room_machine.specs.declared.reply.Reply.{Reply}
-use Rattle.room_machine.specs.declared.reply.Reply.TheVariants.{Bytes, Names, Lists, Attr, Rulings}
-use Rattle.room_machine.specs.declared.reply.Reply.TheVariants.{Made, Done, Denied, Refused}
-use Rattle.room_machine.specs.declared.reply.Reason.TheVariants.{Exists}
-use Rattle.room_machine.specs.Site.{Site, parent_at, site_at}
-use Rattle.room_machine.specs.Plan.{Item, target_by, way, where_found}
-use Rattle.room_machine.specs.Stored.{AtFree, AtStored, stored_along, stored_from, stored_plan}
-use Rattle.room_machine.specs.Closed.{IsShown, TellsFailure, failure_told}
-use Rattle.room_machine.specs.Judge.{first_failure}
-use Rattle.room_machine.specs.Laws.{AnswersNeedRoot}
-use Rattle.std.proofs.lemmas.Bool.Decides.{nat_tests}
+use Rattle.room_rows.specs.{Content.root_of, Rows.Rows}
+use Rattle.room_machine.specs.declared.request.Request.{Request, TheVariants.Read}
+use Rattle.room_machine.specs.declared.request.Request.TheVariants.{List as ListFolder, Put, Append}
+use Rattle.room_machine.specs.declared.request.Request.TheVariants.{MakeFolder, Remove, Move}
+use Rattle.room_machine.specs.declared.request.Request.TheVariants.{ReadList, SetList, ReadAttr}
+use Rattle.room_machine.specs.declared.request.Request.TheVariants.{SetOwners, Can}
+use Rattle.room_machine.specs.declared.reply.Reply.{Reply, TheVariants.{Bytes, Names, Lists, Attr}}
+use Rattle.room_machine.specs.declared.reply.Reply.TheVariants.{Rulings, Made, Done, Denied}
+use Rattle.room_machine.specs.declared.reply.{Reply.TheVariants.Refused, Reason.TheVariants.Exists}
+use Rattle.room_machine.specs.{Site.{Site, parent_at, site_at}, Plan.{Item, target_by, way}}
+use Rattle.room_machine.specs.{Plan.where_found, Stored.{AtFree, AtStored, stored_along}}
+use Rattle.room_machine.specs.{Stored.{stored_from, stored_plan}, Closed.{IsShown, TellsFailure}}
+use Rattle.room_machine.specs.{Closed.failure_told, Judge.first_failure, Laws.AnswersNeedRoot}
 
 some_none : (X : Type 0) (x : X) → None ≡ Some x → ⊥
 some_none X x is = cc

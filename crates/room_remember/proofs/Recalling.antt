@@ -1,8 +1,7 @@
 -- Answers that are found again.
 use Rattle.std.proofs.Common.{◌≡◌, Result, Ok, Err, Option, Some, None, IfOk, IfSome, subst}
 use Rattle.room_rows.specs.Rows.{Rows}
-use Rattle.room_remember.specs.declared.known.Known.{Known}
-use Rattle.room_remember.specs.Agrees.{Holds}
+use Rattle.room_remember.specs.{declared.known.Known.Known, Agrees.Holds}
 
 -- What holds of what is remembered holds of what is copied of it.
 pub recalled : {X E : Type 0} (result : Result (Option X) E) (known : Known) (Is : X → Known)

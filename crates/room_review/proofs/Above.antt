@@ -1,18 +1,13 @@
 -- All callers at the objects on a way, one after the other.
 use Rattle.std.proofs.Common.{◌≡◌, ℕ, zero, suc, ◌+◌, ◌<◌, List, [], ◌∷◌, ◌++◌, map, length, take}
 use Rattle.std.proofs.Common.{Some, refl, sym, ap, subst, ◌∙◌, append_assoc, arith, get_or}
-use Rattle.std.specs.Prelude.{◌-◌, slice_get}
-use Rattle.std.proofs.lemmas.List.{append-nil}
-use Rattle.std.specs.List.{AllByRecursion as Each}
+use Rattle.std.proofs.lemmas.{List.append-nil, Bool.Decides.nat_tests}
+use Rattle.std.specs.{Prelude.{◌-◌, slice_get}, List.AllByRecursion as Each}
 use Rattle.room_rows.specs.declared.node.Node.{Node}
-use Rattle.room_machine.specs.Site.{Site}
-use Rattle.room_machine.specs.Stored.{stored_site}
-use Rattle.room_review.specs.declared.parties.Party.{Party}
-use Rattle.room_review.specs.declared.standing.Standing.{Standing}
-use Rattle.room_review.specs.Standing.{folder_standings, standings}
-use Rattle.room_review.specs.Telling.{AreOn, along}
+use Rattle.room_machine.specs.{Site.Site, Stored.stored_site}
+use Rattle.room_review.specs.declared.{parties.Party.Party, standing.Standing.Standing}
+use Rattle.room_review.specs.{Standing.{folder_standings, standings}, Telling.{AreOn, along}}
 use Rattle.room_review.proofs.Ending.{IsStored, before_after, last_after}
-use Rattle.std.proofs.lemmas.Bool.Decides.{nat_tests}
 
 abbrev nodes_at : List Site → List Node
 nodes_at sites = map (λ (s : Site). s.node) sites

@@ -1,39 +1,28 @@
 -- What the rows of a tree say at a path below its object.
 use Rattle.std.proofs.Common.{◌≡◌, ℕ, zero, suc, ◌||◌, Bool, true, false, cond, not, List, [], ◌∷◌}
 use Rattle.std.proofs.Common.{◌++◌, filter, Option, Some, None, refl, sym, ap, subst, ◌∙◌}
-use Rattle.std.proofs.Common.{append_assoc, arith}
-use Rattle.std.specs.List.{find, flat_map, list_any, AllByRecursion as Each}
-use Rattle.std.specs.Option.{option_map_or, option_or}
-use Rattle.std.proofs.lemmas.Bool.{and_parts, or_from}
-use Rattle.std.proofs.lemmas.List.{append-nil}
-use Rattle.std.proofs.lemmas.List.Folds.{list_any-append}
+use Rattle.std.proofs.{Common.{append_assoc, arith}, lemmas.Bool.{and_parts, or_from}}
+use Rattle.std.proofs.lemmas.{Bool.Decides.nat_tests, List.{append-nil, Folds.list_any-append}}
+use Rattle.std.specs.{List.{find, flat_map, list_any, AllByRecursion as Each}, Option.option_map_or}
+use Rattle.std.specs.Option.{option_or}
 use Rattle.room_entry.specs.Pieces.{same_text}
 use Rattle.room_entry.proofs.Facts.Members.{any_filter, each_append, each_unfiltered, each_weaker}
 use Rattle.room_entry.proofs.Texts.{same_text-sym, same_text-true}
-use Rattle.room_rows.specs.declared.node.Node.{Node}
-use Rattle.room_rows.specs.Content.{Content, child_of, children_of, has_parent, put_by_name}
-use Rattle.room_rows.specs.Content.{sorted_by_name}
-use Rattle.room_rows.specs.Paths.{is_object_name, path_text}
-use Rattle.room_rows.proofs.Frames.{child_of-name}
-use Rattle.room_rows.proofs.Lookups.{each-sorted}
+use Rattle.room_rows.specs.{declared.node.Node.Node, Content.{Content, child_of, children_of}}
+use Rattle.room_rows.specs.{Content.{has_parent, put_by_name, sorted_by_name}, Paths.is_object_name}
+use Rattle.room_rows.specs.Paths.{path_text}
+use Rattle.room_rows.proofs.{Frames.child_of-name, Lookups.each-sorted}
 use Rattle.room_inherit.proofs.Children.{any_sorted}
-use Rattle.room_dump.specs.Dump.{tree_of}
-use Rattle.room_dump.proofs.Counting.{each_always, each_found}
-use Rattle.room_dump.specs.Visits.{IsThere, Reached}
-use Rattle.room_dump.proofs.Reached.{goes_down, reached_child}
-use Rattle.room_machine.specs.Site.{Site, site_at}
-use Rattle.room_machine.specs.Stored.{stored_from}
-use Rattle.room_review.specs.declared.parties.Party.{Party}
-use Rattle.room_review.specs.LookedUp.{is_row_of, nearest, said_in}
+use Rattle.room_dump.specs.{Dump.tree_of, Visits.{IsThere, Reached}}
+use Rattle.room_dump.proofs.{Counting.{each_always, each_found}, Reached.{goes_down, reached_child}}
+use Rattle.room_machine.specs.{Site.{Site, site_at}, Stored.stored_from}
+use Rattle.room_review.specs.{declared.parties.Party.Party, LookedUp.{is_row_of, nearest, said_in}}
 use Rattle.room_review.specs.Standing.{before_last, granted, repeats, same_answer, same_grant}
 use Rattle.room_review.specs.Table.{Place, place_below, object_rows, site_of}
-use Rattle.room_review.proofs.Ending.{before_after, last_after}
-use Rattle.room_review.proofs.Fronts.{goes_apart, goes_further}
+use Rattle.room_review.proofs.{Ending.{before_after, last_after}, Fronts.{goes_apart, goes_further}}
 use Rattle.room_review.proofs.Lookups.{any_flat, has_none, or_assoc, or_none, printed, said_append}
 use Rattle.room_review.proofs.Lookups.{said_elsewhere, said_here, said_none, said_those}
-use Rattle.room_review.proofs.Lookups.{same_nearest}
-use Rattle.room_review.proofs.Visited.{IsNamed, each_flat, some_same}
-use Rattle.std.proofs.lemmas.Bool.Decides.{nat_tests}
+use Rattle.room_review.proofs.{Lookups.same_nearest, Visited.{IsNamed, each_flat, some_same}}
 
 -- ---- members of lists
 

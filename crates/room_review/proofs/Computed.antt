@@ -2,23 +2,16 @@
 -- root.
 use Rattle.std.proofs.Common.{◌≡◌, ℕ, zero, suc, ◌&&◌, false, List, [], ◌∷◌, map, length, take}
 use Rattle.std.proofs.Common.{Option, Some, None, refl, sym, ap, ◌∙◌, arith}
+use Rattle.std.proofs.lemmas.Bool.Decides.{nat_tests}
 use Rattle.std.specs.Option.{option_map, option_map_or}
 use Rattle.room_entry.specs.declared.parties.Caller.{Caller}
-use Rattle.room_rows.specs.Meaning.{meaning}
-use Rattle.room_rows.specs.Rows.{AreRows, Rows}
-use Rattle.room_rows.specs.Sound.{AreSound}
-use Rattle.room_machine.specs.Judge.{passes}
-use Rattle.room_machine.specs.Plan.{Deletion}
-use Rattle.room_machine.specs.Site.{Site, site_at, sites_along}
-use Rattle.room_machine.specs.Step.{caller_in}
-use Rattle.room_machine.specs.Stored.{stored_along}
-use Rattle.room_sound.proofs.Filled.{site_filled}
-use Rattle.room_sound.proofs.Sites.{fill, sites_filled}
+use Rattle.room_rows.specs.{Meaning.meaning, Rows.{AreRows, Rows}, Sound.AreSound}
+use Rattle.room_machine.specs.{Judge.passes, Plan.Deletion, Site.{Site, site_at, sites_along}}
+use Rattle.room_machine.specs.{Step.caller_in, Stored.stored_along, Rights.{last_of, lets_through}}
+use Rattle.room_machine.specs.Rights.{may_remove, may_remove_at, reaches, rights, rights_at}
+use Rattle.room_sound.proofs.{Filled.site_filled, Sites.{fill, sites_filled}}
 use Rattle.room_sound.proofs.SoundParts.{sound_parts}
-use Rattle.room_machine.specs.Rights.{last_of, lets_through, may_remove, may_remove_at, reaches}
-use Rattle.room_machine.specs.Rights.{rights, rights_at}
 use Rattle.room_review.specs.Standing.{granted}
-use Rattle.std.proofs.lemmas.Bool.Decides.{nat_tests}
 
 module _ (caller : Caller) where
   same_reach : (sites : List Site) → reaches caller (map fill sites) ≡ reaches caller sites

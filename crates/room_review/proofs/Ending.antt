@@ -1,30 +1,20 @@
 -- The last object on a way, and those before it.
 use Rattle.std.proofs.Common.{◌≡◌, ℕ, suc, ◌+◌, ◌-◌, List, [], ◌∷◌, ◌++◌, map, length, take, Option}
 use Rattle.std.proofs.Common.{Some, None, refl, sym, ap, subst, ◌∙◌, arith, append_assoc, cond, inr}
-use Rattle.std.proofs.Common.{not, length-append}
-use Rattle.std.specs.List.{AllByRecursion as Each}
-use Rattle.std.specs.Option.{option_map_or}
-use Rattle.std.proofs.Math.Seq.{take-append_seam}
-use Rattle.std.proofs.lemmas.List.{append-nil}
-use Rattle.room_entry.specs.Valid.{is_document}
-use Rattle.room_entry.specs.declared.object.ObjKind.{ObjKind}
+use Rattle.std.proofs.{Common.{not, length-append}, Math.Seq.take-append_seam}
+use Rattle.std.proofs.lemmas.{List.append-nil, Bool.Decides.nat_tests}
+use Rattle.std.specs.{List.AllByRecursion as Each, Option.option_map_or}
+use Rattle.room_entry.specs.{Valid.is_document, declared.object.ObjKind.ObjKind}
 use Rattle.room_entry.specs.declared.object.ObjKind.TheVariants.{Document, Folder}
-use Rattle.room_rows.specs.declared.node.Node.{Node}
-use Rattle.room_rows.specs.declared.node.Walk.{Walk}
-use Rattle.room_rows.specs.Content.{Content, child_of, root_of}
-use Rattle.room_rows.specs.Keep.{HasNoRoot}
-use Rattle.room_rows.specs.Rows.{Rows}
-use Rattle.room_rows.specs.Walk.{behind, walk_from, walk_of}
-use Rattle.room_machine.specs.declared.reply.Reason.TheVariants.{NoSuch, NotFolder}
-use Rattle.room_machine.specs.Site.{Site, site_at}
-use Rattle.room_machine.specs.Stored.{stored_along, stored_from, stored_site}
-use Rattle.room_sound.proofs.Ends.{same_front, same_last}
-use Rattle.room_review.specs.declared.question.Reviewed.TheVariants.{Refused}
+use Rattle.room_rows.specs.{declared.node.{Node.Node, Walk.Walk}, Content.{Content, child_of}}
+use Rattle.room_rows.specs.{Content.root_of, Keep.HasNoRoot, Rows.Rows, Walk.{behind, walk_from}}
+use Rattle.room_rows.specs.Walk.{walk_of}
+use Rattle.room_machine.specs.{declared.reply.Reason.TheVariants.{NoSuch, NotFolder}, Site.Site}
+use Rattle.room_machine.specs.{Site.site_at, Stored.{stored_along, stored_from, stored_site}}
 use Rattle.room_machine.specs.Rights.{last_of}
-use Rattle.room_review.specs.Standing.{before_last}
-use Rattle.room_review.specs.Table.{IsRefusal}
-use Rattle.room_review.specs.Telling.{AreOn, ended_at}
-use Rattle.std.proofs.lemmas.Bool.Decides.{nat_tests}
+use Rattle.room_sound.proofs.Ends.{same_front, same_last}
+use Rattle.room_review.specs.{declared.question.Reviewed.TheVariants.Refused, Standing.before_last}
+use Rattle.room_review.specs.{Table.IsRefusal, Telling.{AreOn, ended_at}}
 
 -- ---- lists with one more
 

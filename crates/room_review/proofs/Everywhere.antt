@@ -1,48 +1,35 @@
 -- Names that a content doesn't know get the same reply to each request.
 use Rattle.std.proofs.Common.{ℕ, ◌≡◌, ◌+◌, ◌==◌, ◌&&◌, ◌||◌, Bool, true, false, cond, not, List, []}
 use Rattle.std.proofs.Common.{◌∷◌, ◌++◌, map, length, Option, Some, None, refl, sym, ap, subst, ◌∙◌}
-use Rattle.std.proofs.Common.{arith}
-use Rattle.std.specs.Prelude.{is_some, unwrap_or}
-use Rattle.std.specs.List.{cons_option, find, list_all, list_any}
+use Rattle.std.proofs.{Common.arith, lemmas.Bool.{and_parts, or_parts, Decides.nat_tests}}
+use Rattle.std.specs.{Prelude.{is_some, unwrap_or}, List.{cons_option, find, list_all, list_any}}
 use Rattle.std.specs.Option.{option_map, option_map_or}
-use Rattle.std.proofs.lemmas.Bool.{and_parts, or_parts}
-use Rattle.room_entry.specs.Ace.{Ace}
-use Rattle.room_entry.specs.Pieces.{same_text}
-use Rattle.room_entry.specs.Rights.{append_data, execute, read_acl, read_attributes, read_data}
-use Rattle.room_entry.specs.Rights.{write_acl, write_data, write_owner}
-use Rattle.room_entry.specs.Valid.{first_bad_entry}
-use Rattle.room_entry.specs.declared.fault.EntryFault.{EntryFault}
-use Rattle.room_entry.specs.declared.flags.EntryFlags.{EntryFlags}
-use Rattle.room_entry.specs.declared.object.ObjKind.{ObjKind}
-use Rattle.room_entry.specs.declared.object.ObjKind.TheVariants.{Folder}
-use Rattle.room_entry.specs.declared.parties.Caller.{Caller}
-use Rattle.room_rows.specs.declared.node.Node.{Node}
-use Rattle.room_rows.specs.Content.{Content, body_of, child_of, children_of, has_parent, is_empty}
-use Rattle.room_rows.specs.Content.{is_folder, with_node}
-use Rattle.room_rows.specs.Pass.{pass, passed_flags}
-use Rattle.room_rows.specs.Walk.{behind, walk_from}
-use Rattle.room_machine.specs.declared.reply.Reply.{Reply}
-use Rattle.room_machine.specs.declared.reply.Reply.TheVariants.{Done, Made, Rulings}
+use Rattle.room_entry.specs.{Ace.Ace, Pieces.same_text, Rights.{append_data, execute, read_acl}}
+use Rattle.room_entry.specs.Rights.{read_attributes, read_data, write_acl, write_data, write_owner}
+use Rattle.room_entry.specs.{Valid.first_bad_entry, declared.fault.EntryFault.EntryFault}
+use Rattle.room_entry.specs.declared.{flags.EntryFlags.EntryFlags, object.ObjKind.ObjKind}
+use Rattle.room_entry.specs.declared.{object.ObjKind.TheVariants.Folder, parties.Caller.Caller}
+use Rattle.room_rows.specs.{declared.node.Node.Node, Content.{Content, body_of, child_of}}
+use Rattle.room_rows.specs.Content.{children_of, has_parent, is_empty, is_folder, with_node}
+use Rattle.room_rows.specs.{Pass.{pass, passed_flags}, Walk.{behind, walk_from}}
+use Rattle.room_machine.specs.declared.reply.Reply.{Reply, TheVariants.{Done, Made, Rulings}}
 use Rattle.room_machine.specs.declared.reply.Reason.TheVariants.{Exists, Loop, NotEmpty, NotFolder}
-use Rattle.room_machine.specs.declared.reply.Reason.TheVariants.{Root}
-use Rattle.room_machine.specs.declared.request.Request.{Request}
+use Rattle.room_machine.specs.declared.{reply.Reason.TheVariants.Root, request.Request.Request}
 use Rattle.room_machine.specs.declared.request.Request.TheVariants.{Read, List as ListFolder, Put}
 use Rattle.room_machine.specs.declared.request.Request.TheVariants.{Append, MakeFolder, Remove}
 use Rattle.room_machine.specs.declared.request.Request.TheVariants.{Move, ReadList, SetList}
 use Rattle.room_machine.specs.declared.request.Request.TheVariants.{ReadAttr, SetOwners, Can}
 use Rattle.room_machine.specs.Effect.{effect, new_node, put_bytes, rulings as rulings_of, with_site}
-use Rattle.room_machine.specs.Judge.{failure, first_failure, or_else}
-use Rattle.room_machine.specs.Plan.{Check, Deletion, Item, Refusal, bad_list, move_items}
-use Rattle.room_machine.specs.Plan.{no_document, no_folder, not_over, plan_of, put_items}
-use Rattle.room_machine.specs.Plan.{right_to_add, to_target, way, where_found}
-use Rattle.room_machine.specs.Site.{Site, front, last_name, parent_at, site_at, site_below}
-use Rattle.room_machine.specs.Site.{sites_along, sites_below, sites_of}
+use Rattle.room_machine.specs.{Judge.{failure, first_failure, or_else}, Plan.{Check, Deletion}}
+use Rattle.room_machine.specs.Plan.{Item, Refusal, bad_list, move_items, no_document, no_folder}
+use Rattle.room_machine.specs.Plan.{not_over, plan_of, put_items, right_to_add, to_target, way}
+use Rattle.room_machine.specs.{Plan.where_found, Site.{Site, front, last_name, parent_at, site_at}}
+use Rattle.room_machine.specs.Site.{site_below, sites_along, sites_below, sites_of}
 use Rattle.room_review.specs.Laws.{IsUnknownIn, StrangersGetTheSame, is_known_at, is_known_to}
 use Rattle.room_review.specs.Laws.{is_paired, is_user_named}
 use Rattle.room_machine.proofs.Replies.{or_reply, reply_of}
 use Rattle.room_review.proofs.Strangers.{IsUnknown, alone, are_unknown, at_unknown, first_unknown}
 use Rattle.room_review.proofs.Strangers.{is_alone, is_not, others_unknown, rulings}
-use Rattle.std.proofs.lemmas.Bool.Decides.{nat_tests}
 
 found_passes : (p q : Node → Bool) (nodes : List Node) (node : Node) → list_all q nodes ≡ true
     → find p nodes ≡ Some node → q node ≡ true

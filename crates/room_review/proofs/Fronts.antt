@@ -1,15 +1,12 @@
 -- Texts of paths that part: one that goes on, and two that go on by different names.
 use Rattle.std.proofs.Common.{◌≡◌, ℕ, ◌<◌, true, false, List, [], ◌∷◌, ◌++◌, length, refl, sym, ap}
-use Rattle.std.proofs.Common.{◌∙◌, arith, length-append}
-use Rattle.std.specs.List.{flat_map, list_all}
-use Rattle.std.proofs.lemmas.Bool.{and_parts, false≢true, false_from_ne_true}
-use Rattle.std.proofs.lemmas.Grind.{flat_map-append}
+use Rattle.std.proofs.{Common.{◌∙◌, arith, length-append}, lemmas.Bool.{and_parts, false≢true}}
+use Rattle.std.proofs.lemmas.{Bool.{false_from_ne_true, Decides.nat_tests}, Grind.flat_map-append}
 use Rattle.std.proofs.lemmas.List.{append_cancel_left}
+use Rattle.std.specs.List.{flat_map, list_all}
 use Rattle.room_entry.specs.Pieces.{same_text}
-use Rattle.room_entry.proofs.Alike.{text_itself}
-use Rattle.room_entry.proofs.Texts.{same_text-true}
+use Rattle.room_entry.proofs.{Alike.text_itself, Texts.same_text-true}
 use Rattle.room_rows.specs.Paths.{is_name_byte, is_object_name, path_text}
-use Rattle.std.proofs.lemmas.Bool.Decides.{nat_tests}
 
 -- ---- object names
 

@@ -1,9 +1,8 @@
 -- Names that are gathered.
 use Rattle.std.proofs.Common.{◌≡◌, ℕ, ◌||◌, Bool, true, false, List, [], ◌∷◌, ◌++◌, refl, take}
-use Rattle.std.proofs.Common.{arith}
+use Rattle.std.proofs.{Common.arith, lemmas.Bool.Decides.nat_tests}
 use Rattle.std.specs.List.{flat_map}
 use Rattle.room_review.specs.Users.{Gathers, is_listed}
-use Rattle.std.proofs.lemmas.Bool.Decides.{nat_tests}
 
 or_assoc : (a b c : Bool) → (a || b) || c ≡ a || (b || c)
 or_assoc true b c = refl

@@ -1,36 +1,26 @@
 -- What is kept of an object, by what is kept of the folder that it stands in.
 use Rattle.std.proofs.Common.{ℕ, suc, ◌-◌, ◌≡◌, Bool, true, false, cond, not, ◌&&◌, ◌||◌, List, []}
 use Rattle.std.proofs.Common.{◌∷◌, ◌++◌, length, take, filter, Option, Some, None, refl, sym, ap}
-use Rattle.std.proofs.Common.{◌∙◌, arith, map, get_or, min, ◌+◌, ◌<◌}
-use Rattle.std.specs.Prelude.{is_none}
-use Rattle.std.specs.Option.{option_map, option_map_or}
-use Rattle.std.proofs.Math.Bool.{and-true, or-false}
-use Rattle.std.proofs.lemmas.List.{get_or-map, length-map, map-append, take_all, take_more}
-use Rattle.std.proofs.lemmas.List.Folds.{list_all-append}
-use Rattle.room_entry.specs.BitLaws.{has-chosen}
-use Rattle.room_entry.specs.Bits.{all_bits, has, shares}
-use Rattle.room_entry.specs.Rights.{delete, delete_child, execute, write_data}
-use Rattle.room_entry.specs.declared.object.Which.TheVariants.{Dacl}
-use Rattle.room_entry.specs.declared.parties.Caller.{Caller}
-use Rattle.room_eval.specs.Deletion.{by_adding, deletion_by}
-use Rattle.room_eval.specs.declared.deletion.DeleteVerdict.{DeleteVerdict}
-use Rattle.room_eval.specs.Verdict.{is_allowed, ruling_of, verdict_by}
-use Rattle.room_eval.specs.declared.outcome.Ruling.{Ruling}
-use Rattle.room_eval.specs.declared.outcome.Ruling.TheVariants.{Allowed, Denied, Silent}
-use Rattle.room_eval.specs.declared.outcome.Verdict.{Verdict}
-use Rattle.room_rows.specs.declared.node.Node.{Node}
-use Rattle.room_rows.specs.Content.{is_folder}
-use Rattle.room_rows.specs.Held.{full_of}
-use Rattle.room_machine.specs.Judge.{of_deletion, passes}
-use Rattle.room_machine.specs.Plan.{Deletion}
-use Rattle.room_machine.specs.Site.{Site, full_at}
-use Rattle.room_machine.specs.Stored.{stored_site}
-use Rattle.room_machine.specs.Rights.{grants, last_of, lets_through, may_remove, reaches, rights}
-use Rattle.room_review.specs.Standing.{before_last, is_denied, keeps_children, repeats, same_grant}
-use Rattle.room_review.specs.Standing.{standing}
-use Rattle.room_review.specs.declared.standing.Standing.{Standing}
-use Rattle.room_eval.proofs.Steps.{verdict_agree}
+use Rattle.std.proofs.{Common.{◌∙◌, arith, map, get_or, min, ◌+◌, ◌<◌}, Math.Bool.and-true}
+use Rattle.std.proofs.{Math.Bool.or-false, lemmas.List.{get_or-map, length-map, map-append}}
+use Rattle.std.proofs.lemmas.List.{take_all, take_more, Folds.list_all-append}
 use Rattle.std.proofs.lemmas.Bool.Decides.{nat_tests}
+use Rattle.std.specs.{Prelude.is_none, Option.{option_map, option_map_or}}
+use Rattle.room_entry.specs.{BitLaws.has-chosen, Bits.{all_bits, has, shares}, Rights.delete}
+use Rattle.room_entry.specs.Rights.{delete_child, execute, write_data}
+use Rattle.room_entry.specs.declared.{object.Which.TheVariants.Dacl, parties.Caller.Caller}
+use Rattle.room_eval.specs.Deletion.{by_adding, deletion_by}
+use Rattle.room_eval.specs.declared.{deletion.DeleteVerdict.DeleteVerdict, outcome.Ruling.Ruling}
+use Rattle.room_eval.specs.declared.outcome.Ruling.TheVariants.{Allowed, Denied, Silent}
+use Rattle.room_eval.specs.{declared.outcome.Verdict.Verdict, Verdict.{is_allowed, ruling_of}}
+use Rattle.room_eval.specs.Verdict.{verdict_by}
+use Rattle.room_rows.specs.{declared.node.Node.Node, Content.is_folder, Held.full_of}
+use Rattle.room_machine.specs.{Judge.{of_deletion, passes}, Plan.Deletion, Site.{Site, full_at}}
+use Rattle.room_machine.specs.{Stored.stored_site, Rights.{grants, last_of, lets_through}}
+use Rattle.room_machine.specs.Rights.{may_remove, reaches, rights}
+use Rattle.room_review.specs.Standing.{before_last, is_denied, keeps_children, repeats, same_grant}
+use Rattle.room_review.specs.{Standing.standing, declared.standing.Standing.Standing}
+use Rattle.room_eval.proofs.Steps.{verdict_agree}
 
 -- ---- the last object on a way
 

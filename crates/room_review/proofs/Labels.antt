@@ -1,20 +1,16 @@
 -- The callers of a table by their labels: a user's name, `*` and `ANONYMOUS@` are apart.
 use Rattle.std.proofs.Common.{◌≡◌, ℕ, ◌||◌, Bool, true, false, List, [], ◌∷◌, map, refl, sym, ap}
-use Rattle.std.proofs.Common.{◌∙◌, codes, arith}
-use Rattle.std.specs.List.{list_all, list_any, AllByRecursion as Each}
-use Rattle.std.proofs.lemmas.Bool.{and_parts, false_from_ne_true, false≢true, or_from, or_left}
-use Rattle.std.proofs.lemmas.Bool.{or_right}
+use Rattle.std.proofs.{Common.{◌∙◌, codes, arith}, lemmas.Bool.{and_parts, false_from_ne_true}}
+use Rattle.std.proofs.lemmas.Bool.{false≢true, or_from, or_left, or_right, Decides.nat_tests}
 use Rattle.std.proofs.lemmas.List.Folds.{list_any-append}
-use Rattle.room_entry.specs.Names.{is_name}
-use Rattle.room_entry.specs.Pieces.{same_text}
+use Rattle.std.specs.List.{list_all, list_any, AllByRecursion as Each}
+use Rattle.room_entry.specs.{Names.is_name, Pieces.same_text}
 use Rattle.room_entry.proofs.Facts.Members.{any_map, each_append, each_map, each_weaker}
 use Rattle.room_entry.proofs.Texts.{same_text-true}
 use Rattle.room_rows.specs.Content.{Content}
 use Rattle.room_dump.proofs.Counting.{each_always}
-use Rattle.room_review.specs.declared.parties.Party.{Party}
-use Rattle.room_review.specs.Table.{everybody, named, nameless, other_name}
-use Rattle.room_review.specs.Users.{is_listed}
-use Rattle.std.proofs.lemmas.Bool.Decides.{nat_tests}
+use Rattle.room_review.specs.{declared.parties.Party.Party, Table.{everybody, named, nameless}}
+use Rattle.room_review.specs.{Table.other_name, Users.is_listed}
 
 -- neither of the labels that aren't names is one
 no_names : (is_name (codes "*") ≡ false) × (is_name (codes "ANONYMOUS@") ≡ false)

@@ -2,33 +2,24 @@
 use Rattle.std.proofs.Common.{ℕ, zero, suc, ◌<◌, ◌≤◌, ◌^◌, ◌≡◌, Bool, true, false, cond, not, ◌&&◌}
 use Rattle.std.proofs.Common.{◌||◌, List, [], ◌∷◌, length, take, drop, get_or, refl, sym, ap, subst}
 use Rattle.std.proofs.Common.{◌∙◌, arith, nat_cmp, is_lt, drop-cons, ◌+◌, ◌%◌, ⊎_elim, Result, Ok}
-use Rattle.std.proofs.Common.{Err}
-use Rattle.std.specs.Prelude.{decimal, nat_lt, nat_le, ◌==◌}
-use Rattle.std.specs.Cmp.Lexicographic.{slice_cmp, nat_list_cmp_total, texts_ties}
-use Rattle.std.specs.List.{flat_map, insert, list_all, list_any, position_or_len}
-use Rattle.std.specs.Ordering.{is_eq, ordering_reverse}
-use Rattle.std.specs.Set.{remove_key}
-use Rattle.std.specs.declared.cmp.Ordering.TheVariants.{Equal, Greater}
-use Rattle.std.proofs.lemmas.Bool.{agree_below_at, and_from, and_parts, cases_lt}
-use Rattle.std.proofs.lemmas.Bool.{false_from_ne_true, le-leb, lt-ltb, not-true}
+use Rattle.std.proofs.{Common.Err, lemmas.Bool.{agree_below_at, and_from, and_parts, cases_lt}}
+use Rattle.std.proofs.lemmas.Bool.{false_from_ne_true, le-leb, lt-ltb, not-true, Decides.nat_tests}
 use Rattle.std.proofs.lemmas.Fmt.{decimal_by_steps, decimal_injective, decimal_nonempty}
-use Rattle.std.proofs.lemmas.Fmt.{length-decimal-le}
-use Rattle.std.proofs.lemmas.List.{take_all, take-append-drop}
-use Rattle.std.proofs.lemmas.List.Folds.{list_any_at, list_any-append}
-use Rattle.std.proofs.lemmas.Map.Made.{length-remove_key}
-use Rattle.room_entry.specs.Bytes.{at_sign}
-use Rattle.room_entry.specs.Gives.{Gives}
-use Rattle.room_entry.specs.Names.{are_name_parts, is_local_byte, is_name, name_of}
-use Rattle.room_entry.specs.declared.failure.Failure.{Failure}
+use Rattle.std.proofs.lemmas.{Fmt.length-decimal-le, List.{take_all, take-append-drop}}
+use Rattle.std.proofs.lemmas.{List.Folds.{list_any_at, list_any-append}, Map.Made.length-remove_key}
+use Rattle.std.specs.{Prelude.{decimal, nat_lt, nat_le, ◌==◌}, Cmp.Lexicographic.slice_cmp}
+use Rattle.std.specs.{Cmp.Lexicographic.{nat_list_cmp_total, texts_ties}, List.{flat_map, insert}}
+use Rattle.std.specs.{List.{list_all, list_any, position_or_len}, Ordering.is_eq}
+use Rattle.std.specs.{Ordering.ordering_reverse, Set.remove_key}
+use Rattle.std.specs.declared.cmp.Ordering.TheVariants.{Equal, Greater}
+use Rattle.room_entry.specs.{Bytes.at_sign, Gives.Gives, Names.{are_name_parts, is_local_byte}}
+use Rattle.room_entry.specs.{Names.{is_name, name_of}, declared.failure.Failure.Failure}
 use Rattle.room_entry.specs.declared.failure.Failure.TheVariants.{Fault}
-use Rattle.room_entry.specs.declared.fault.TextFault.TheVariants.{BadWho}
-use Rattle.room_entry.specs.Pieces.{same_text}
+use Rattle.room_entry.specs.{declared.fault.TextFault.TheVariants.BadWho, Pieces.same_text}
 use Rattle.room_rows.specs.Content.{is_before}
 use Rattle.room_review.specs.Users.{Gathers, are_apart, is_listed}
 use Rattle.room_review.proofs.Gathers.{GathersFirst}
-use Rattle.room_entry.proofs.Cuts.{pieces_whole}
-use Rattle.room_entry.proofs.Texts.{all-append, same_text-true}
-use Rattle.std.proofs.lemmas.Bool.Decides.{nat_tests}
+use Rattle.room_entry.proofs.{Cuts.pieces_whole, Texts.{all-append, same_text-true}}
 
 -- ---- names that are gathered
 

@@ -1,22 +1,15 @@
 -- What rows of several lists say, and the rows of one object.
 use Rattle.std.proofs.Common.{◌≡◌, ℕ, ◌&&◌, ◌||◌, Bool, true, false, cond, not, List, [], ◌∷◌, ◌++◌}
 use Rattle.std.proofs.Common.{filter, map, Option, Some, None, refl, sym, ap, subst, ◌∙◌}
-use Rattle.std.proofs.Common.{append_assoc, arith}
-use Rattle.std.specs.List.{flat_map, list_any, AllByRecursion as Each}
-use Rattle.std.specs.Option.{option_or}
-use Rattle.std.proofs.lemmas.List.{append-nil}
-use Rattle.std.proofs.lemmas.List.Folds.{list_any-append}
-use Rattle.room_entry.specs.Letters.{mask_text}
-use Rattle.room_entry.specs.Pieces.{same_text}
-use Rattle.room_entry.proofs.Alike.{text_itself}
-use Rattle.room_entry.proofs.Facts.Members.{any_filter, any_map, none_filter}
+use Rattle.std.proofs.{Common.{append_assoc, arith}, lemmas.List.append-nil}
+use Rattle.std.proofs.lemmas.{List.Folds.list_any-append, Bool.Decides.nat_tests}
+use Rattle.std.specs.{List.{flat_map, list_any, AllByRecursion as Each}, Option.option_or}
+use Rattle.room_entry.specs.{Letters.mask_text, Pieces.same_text}
+use Rattle.room_entry.proofs.{Alike.text_itself, Facts.Members.{any_filter, any_map, none_filter}}
 use Rattle.room_machine.specs.Site.{Site}
 use Rattle.room_rows.specs.Paths.{path_text}
-use Rattle.room_review.specs.declared.parties.Party.{Party}
-use Rattle.room_review.specs.LookedUp.{is_row_of, nearest, said_in}
-use Rattle.room_review.specs.Standing.{granted, repeats}
-use Rattle.room_review.specs.Table.{row, rows_at, yes_or_no}
-use Rattle.std.proofs.lemmas.Bool.Decides.{nat_tests}
+use Rattle.room_review.specs.{declared.parties.Party.Party, LookedUp.{is_row_of, nearest, said_in}}
+use Rattle.room_review.specs.{Standing.{granted, repeats}, Table.{row, rows_at, yes_or_no}}
 
 -- ---- the first of several
 

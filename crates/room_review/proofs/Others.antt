@@ -1,41 +1,32 @@
 -- A name that has no rows in a table is a stranger to each of its objects.
 use Rattle.std.proofs.Common.{ℕ, zero, suc, ◌≡◌, ◌<◌, ◌&&◌, Bool, true, false, List, [], ◌∷◌, ◌++◌}
 use Rattle.std.proofs.Common.{filter, length, take, Option, Some, None, refl, sym, ap, subst, ◌∙◌}
-use Rattle.std.proofs.Common.{arith, map, append_assoc}
+use Rattle.std.proofs.{Common.{arith, map, append_assoc}, lemmas.Bool.{and_from, and_parts}}
+use Rattle.std.proofs.lemmas.{Bool.{or_from, or_parts, Decides.nat_tests}, List.append-nil}
+use Rattle.std.proofs.lemmas.List.Folds.{list_any-append}
 use Rattle.std.specs.List.{flat_map, list_all, list_any, AllByRecursion as Each}
 use Rattle.std.specs.Option.{option_map, option_map_or}
-use Rattle.std.proofs.lemmas.Bool.{and_from, and_parts, or_from, or_parts}
-use Rattle.std.proofs.lemmas.List.{append-nil}
-use Rattle.std.proofs.lemmas.List.Folds.{list_any-append}
-use Rattle.room_entry.specs.Ace.{Ace}
-use Rattle.room_entry.specs.Pieces.{same_text}
-use Rattle.room_entry.specs.declared.entry.Who.{Who}
-use Rattle.room_entry.specs.declared.entry.Who.TheVariants.{Owner, Group, Everyone, Anonymous}
+use Rattle.room_entry.specs.{Ace.Ace, Pieces.same_text, declared.entry.Who.{Who, TheVariants.Owner}}
+use Rattle.room_entry.specs.declared.entry.Who.TheVariants.{Group, Everyone, Anonymous}
 use Rattle.room_entry.specs.declared.entry.Who.TheVariants.{Authenticated, User, Members}
 use Rattle.room_entry.proofs.Facts.Members.{any_filter, any_map, each_fails, each_weaker}
 use Rattle.room_entry.proofs.Texts.{same_text-sym}
-use Rattle.room_rows.specs.HeldList.{Held}
-use Rattle.room_rows.specs.declared.node.Node.{Node}
-use Rattle.room_rows.specs.Content.{Content, child_of, children_of, has_parent}
-use Rattle.room_rows.specs.Held.{full_of}
-use Rattle.room_rows.specs.Meaning.{kept_held, kept_node, meaning}
-use Rattle.room_rows.specs.Rows.{Rows}
-use Rattle.room_rows.specs.Walk.{behind, walk_from, walk_of}
+use Rattle.room_rows.specs.{HeldList.Held, declared.node.Node.Node, Content.{Content, child_of}}
+use Rattle.room_rows.specs.{Content.{children_of, has_parent}, Held.full_of, Meaning.kept_held}
+use Rattle.room_rows.specs.{Meaning.{kept_node, meaning}, Rows.Rows, Walk.{behind, walk_from}}
+use Rattle.room_rows.specs.Walk.{walk_of}
 use Rattle.room_rows.proofs.InPlace.{KeepsPlaces, child_of-with_each, keeps_places}
-use Rattle.room_rows.proofs.InPlace.{root_of-with_each}
-use Rattle.room_rows.proofs.Lookups.{found_passes}
+use Rattle.room_rows.proofs.{InPlace.root_of-with_each, Lookups.found_passes}
 use Rattle.room_inherit.proofs.Children.{any_sorted}
 use Rattle.room_dump.specs.Dump.{tree_of}
 use Rattle.room_dump.proofs.Counting.{each_always, each_found}
-use Rattle.room_machine.specs.Site.{Site, site_at}
-use Rattle.room_machine.specs.Stored.{stored_along, stored_from, stored_site}
+use Rattle.room_machine.specs.{Site.{Site, site_at}, Stored.{stored_along, stored_from}}
+use Rattle.room_machine.specs.Stored.{stored_site}
 use Rattle.room_review.specs.Laws.{OthersAreStrangers, is_known_to, is_paired, is_user_named}
-use Rattle.room_review.specs.Laws.{stored_above, users_on}
-use Rattle.room_review.specs.Table.{Place, place_below, users_below}
-use Rattle.room_review.specs.Users.{is_listed, user_in, users_at}
-use Rattle.room_review.proofs.Everywhere.{is_free, unknown_chain}
-use Rattle.room_review.proofs.Visited.{each_flat, ends_along, some_same}
-use Rattle.std.proofs.lemmas.Bool.Decides.{nat_tests}
+use Rattle.room_review.specs.{Laws.{stored_above, users_on}, Table.{Place, place_below}}
+use Rattle.room_review.specs.{Table.users_below, Users.{is_listed, user_in, users_at}}
+use Rattle.room_review.proofs.{Everywhere.{is_free, unknown_chain}, Visited.{each_flat, ends_along}}
+use Rattle.room_review.proofs.Visited.{some_same}
 
 module _ (name : List ℕ) where
   -- ---- names that aren't listed

@@ -2,24 +2,18 @@
 use Rattle.std.proofs.Common.{ℕ, suc, ◌≡◌, ◌||◌, ◌∷◌, ◌++◌, ◌+◌, ◌<◌, Bool, true, false, cond, List}
 use Rattle.std.proofs.Common.{[], not, filter, map, length, get_or, drop, min, refl, ap, ◌∙◌, sym}
 use Rattle.std.proofs.Common.{add-one, append_assoc, arith, drop-cons, OnOk, Result, Ok, Err}
-use Rattle.std.proofs.lemmas.List.{append-nil, drop_all}
-use Rattle.std.proofs.lemmas.Slice.Zip.{get_or-zip, length-zip}
+use Rattle.std.proofs.lemmas.{List.{append-nil, drop_all}, Slice.Zip.{get_or-zip, length-zip}}
+use Rattle.std.proofs.lemmas.Bool.Decides.{nat_tests}
 use Rattle.csv.specs.Writing.{default_writer, row_text}
 use Rattle.room_import.specs.Exports.{rows_text}
-use Rattle.std.specs.Prelude.{if◌then◌else◌}
-use Rattle.std.specs.List.{zip}
-use Rattle.std.specs.Result.{is_ok}
+use Rattle.std.specs.{Prelude.if◌then◌else◌, List.zip, Result.is_ok}
 use Rattle.room_entry.specs.declared.object.ObjKind.{ObjKind}
 use Rattle.room_rows.specs.Paths.{path_text}
 use Rattle.room_machine.specs.Site.{Site}
-use Rattle.room_review.specs.declared.parties.Party.{Party}
-use Rattle.room_review.specs.declared.standing.Standing.{Standing}
-use Rattle.room_review.specs.Lines.{line, lines}
-use Rattle.room_review.specs.Standing.{standing, standings}
-use Rattle.room_review.specs.Table.{rows_at}
+use Rattle.room_review.specs.declared.{parties.Party.Party, standing.Standing.Standing}
+use Rattle.room_review.specs.{Lines.{line, lines}, Standing.{standing, standings}, Table.rows_at}
 use Rattle.room_entry.proofs.Facts.Members.{filter_map}
 use Rattle.room_inherit.proofs.Renewing.{map_map}
-use Rattle.std.proofs.lemmas.Bool.Decides.{nat_tests}
 
 zip_map : {A B : Type 0} (f : A → B) (xs : List A) → zip xs (map f xs) ≡ map (λ x. (x, f x)) xs
 zip_map f [] = refl

@@ -1,18 +1,15 @@
 -- The text of a table is read as its rows.
 use Rattle.std.proofs.Common.{◌≡◌, ℕ, zero, suc, ◌+◌, ◌<◌, ◌≤◌, List, [], ◌∷◌, length, refl, arith}
+use Rattle.std.proofs.lemmas.{List.length-append, Bool.Decides.nat_tests}
 use Rattle.std.specs.List.{AllByRecursion as Each}
-use Rattle.std.proofs.lemmas.List.{length-append}
-use Rattle.csv.specs.Machine.{next_record}
-use Rattle.csv.specs.Reading.{default_config, records, records_from}
+use Rattle.csv.specs.{Machine.next_record, Reading.{default_config, records, records_from}}
 use Rattle.csv.specs.Writing.{read_back}
-use Rattle.csv.specs.declared.parser.State.TheVariants as st
 use Rattle.csv.proofs.RoundTrip.{read-write}
 use Rattle.room_import.specs.Exports.{rows_text}
 use Rattle.room_entry.proofs.Facts.Members.{each_weaker}
 use Rattle.room_rows.specs.Content.{Content}
-use Rattle.room_review.specs.declared.question.Scope.{Scope}
-use Rattle.room_review.specs.LookedUp.{IsRow}
-use Rattle.std.proofs.lemmas.Bool.Decides.{nat_tests}
+use Rattle.room_review.specs.{declared.question.Scope.Scope, LookedUp.IsRow}
+use Rattle.csv.specs.declared.parser.State.TheVariants as st
 
 -- a row has a column, so it is read as it was written
 abbrev pub HasColumn : List (List ℕ) → Type 0

@@ -1,24 +1,17 @@
 -- What a list says of all rights, entry by entry.
 use Rattle.std.proofs.Common.{ℕ, ◌+◌, ◌<◌, ◌≤◌, ◌≡◌, ◌∷◌, Bool, true, false, cond, not, ◌&&◌, ◌||◌}
 use Rattle.std.proofs.Common.{List, [], length, drop, get_or, refl, sym, ap, ◌∙◌, arith}
+use Rattle.std.proofs.lemmas.{Bool.{not-true, Decides.nat_tests}, List.drop_all}
 use Rattle.std.specs.Prelude.{filter}
-use Rattle.std.proofs.lemmas.Bool.{not-true}
-use Rattle.std.proofs.lemmas.List.{drop_all}
-use Rattle.room_entry.specs.Ace.{Ace}
-use Rattle.room_entry.specs.BitLaws.{chosen_agree}
-use Rattle.room_entry.specs.Bits.{all_bits, has, shares}
-use Rattle.room_entry.specs.declared.entry.EntryKind.{EntryKind}
-use Rattle.room_entry.specs.declared.parties.Caller.{Caller}
+use Rattle.room_entry.specs.{Ace.Ace, BitLaws.chosen_agree, Bits.{all_bits, has, shares}}
+use Rattle.room_entry.specs.declared.{entry.EntryKind.EntryKind, parties.Caller.Caller}
 use Rattle.room_entry.specs.declared.parties.Owners.{Owners}
 use Rattle.room_eval.specs.Verdict.{bears_on, counts, ruled_by, ruling_from, ruling_of}
-use Rattle.room_eval.specs.declared.outcome.Ruling.{Ruling}
-use Rattle.room_eval.specs.declared.outcome.Ruling.TheVariants.{Silent}
-use Rattle.room_entry.proofs.Facts.Members.{all_each, each_fails, each_weaker}
-use Rattle.room_entry.proofs.Texts.{at_bit}
+use Rattle.room_eval.specs.declared.outcome.Ruling.{Ruling, TheVariants.Silent}
+use Rattle.room_entry.proofs.{Facts.Members.{all_each, each_fails, each_weaker}, Texts.at_bit}
 use Rattle.room_machine.proofs.Rights.{has_kept}
 use Rattle.room_eval.proofs.Steps.{drop_here, ruling_head, ruling_passed, ruling_records}
 use Rattle.room_eval.proofs.Steps.{ruling_without}
-use Rattle.std.proofs.lemmas.Bool.Decides.{nat_tests}
 
 -- a bit of one of two masks that share none
 apart : (mask other : List ℕ) (bit : ℕ) → shares mask other ≡ false → has mask bit ≡ true

@@ -1,39 +1,26 @@
 -- What a table says of a name that has no rows in it is what it says of `*`.
 use Rattle.std.proofs.Common.{ℕ, zero, suc, ◌≡◌, ◌&&◌, true, false, not, List, [], ◌∷◌, ◌++◌}
 use Rattle.std.proofs.Common.{filter, length, map, take, Option, Some, None, refl, sym, ap, subst}
-use Rattle.std.proofs.Common.{◌∙◌, arith, length-append}
-use Rattle.std.specs.Prelude.{if◌then◌else◌}
-use Rattle.std.specs.List.{flat_map, list_all, AllByRecursion as Each}
+use Rattle.std.proofs.{Common.{◌∙◌, arith, length-append}, lemmas.Bool.and_from}
+use Rattle.std.proofs.lemmas.{Bool.Decides.nat_tests, List.{take_all, Folds.list_all-append}}
+use Rattle.std.specs.{Prelude.if◌then◌else◌, List.{flat_map, list_all, AllByRecursion as Each}}
 use Rattle.std.specs.Option.{option_map_or}
-use Rattle.std.proofs.lemmas.Bool.{and_from}
-use Rattle.std.proofs.lemmas.List.{take_all}
-use Rattle.std.proofs.lemmas.List.Folds.{list_all-append}
 use Rattle.room_entry.specs.Bits.{all_bits}
 use Rattle.room_entry.proofs.Facts.Members.{all_each, any_map, each_weaker}
-use Rattle.room_rows.specs.declared.node.Node.{Node}
-use Rattle.room_rows.specs.Content.{Content, child_of, children_of}
+use Rattle.room_rows.specs.{declared.node.Node.Node, Content.{Content, child_of, children_of}}
 use Rattle.room_rows.specs.Rows.{Rows}
 use Rattle.room_dump.specs.Dump.{tree_of}
 use Rattle.room_dump.proofs.Counting.{each_both}
-use Rattle.room_machine.specs.Judge.{passes}
-use Rattle.room_machine.specs.Plan.{Deletion}
-use Rattle.room_machine.specs.Site.{Site}
-use Rattle.room_machine.specs.Step.{caller_in}
-use Rattle.room_machine.specs.Stored.{stored_along, stored_from}
-use Rattle.room_review.specs.declared.parties.Party.{Party}
-use Rattle.room_review.specs.Laws.{SaysAlike, StarSpeaksForOthers, is_known_at, stored_above}
-use Rattle.room_review.specs.Laws.{told_at, told_there}
-use Rattle.room_machine.specs.Rights.{last_of, reaches}
-use Rattle.room_review.specs.Standing.{granted}
-use Rattle.room_review.specs.Table.{Place, named, nameless, other_name, place_below, site_of}
-use Rattle.room_review.specs.Users.{is_listed, users_at}
-use Rattle.room_review.proofs.Ending.{IsStored}
-use Rattle.room_review.proofs.Others.{IsNew, IsOther, is_other, new_each, new_parts, new_to}
-use Rattle.room_review.proofs.Others.{users_deep}
+use Rattle.room_machine.specs.{Judge.passes, Plan.Deletion, Site.Site, Step.caller_in}
+use Rattle.room_machine.specs.{Stored.{stored_along, stored_from}, Rights.{last_of, reaches}}
+use Rattle.room_review.specs.{declared.parties.Party.Party, Laws.{SaysAlike, StarSpeaksForOthers}}
+use Rattle.room_review.specs.Laws.{is_known_at, stored_above, told_at, told_there}
+use Rattle.room_review.specs.{Standing.granted, Table.{Place, named, nameless, other_name}}
+use Rattle.room_review.specs.{Table.{place_below, site_of}, Users.{is_listed, users_at}}
+use Rattle.room_review.proofs.{Ending.IsStored, Others.{IsNew, IsOther, is_other, new_each}}
+use Rattle.room_review.proofs.{Others.{new_parts, new_to, users_deep}, Strangers.{IsUnknown, alone}}
+use Rattle.room_review.proofs.{Strangers.{are_unknown, is_alone}, Visited.each_flat}
 use Rattle.room_review.proofs.Strangers as strangers
-use Rattle.room_review.proofs.Strangers.{IsUnknown, alone, are_unknown, is_alone}
-use Rattle.room_review.proofs.Visited.{each_flat}
-use Rattle.std.proofs.lemmas.Bool.Decides.{nat_tests}
 
 -- ---- two names that no object on a way knows
 

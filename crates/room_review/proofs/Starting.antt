@@ -1,15 +1,13 @@
 -- From the object that a review starts at, a walk comes to all below it.
 use Rattle.std.proofs.Common.{◌≡◌, ℕ, List, [], ◌∷◌, ◌++◌, length, Option, Some, None, refl, sym}
 use Rattle.std.proofs.Common.{ap, subst}
-use Rattle.std.specs.List.{AllByRecursion as Each}
-use Rattle.std.specs.Option.{option_map_or}
-use Rattle.room_rows.specs.declared.node.Node.{Node}
-use Rattle.room_rows.specs.Content.{Content, child_of, root_of}
+use Rattle.std.specs.{List.AllByRecursion as Each, Option.option_map_or}
+use Rattle.room_rows.specs.{declared.node.Node.Node, Content.{Content, child_of, root_of}}
 use Rattle.room_rows.specs.Rows.{AreRows, Rows, numbers_of}
 use Rattle.room_dump.specs.Visits.{IsThere, Reached}
 use Rattle.room_dump.proofs.Reached.{all_there, reached_child, reached_first}
-use Rattle.room_machine.specs.Site.{Site, site_at}
-use Rattle.room_machine.specs.Stored.{stored_along, stored_from, stored_site}
+use Rattle.room_machine.specs.{Site.{Site, site_at}, Stored.{stored_along, stored_from}}
+use Rattle.room_machine.specs.Stored.{stored_site}
 use Rattle.room_review.specs.Telling.{StartsAt}
 
 some_same : (x y : Site) → Some x ≡ Some y → x ≡ y

@@ -1,32 +1,21 @@
 -- Names that nothing on a way knows have the same rights at its end.
 use Rattle.std.proofs.Common.{ℕ, zero, suc, ◌≡◌, ◌+◌, ◌&&◌, Bool, true, false, cond, not, List, []}
 use Rattle.std.proofs.Common.{◌∷◌, filter, length, take, Option, Some, None, refl, sym, ap, subst}
-use Rattle.std.proofs.Common.{◌∙◌, arith}
-use Rattle.std.specs.Prelude.{if◌then◌else◌}
-use Rattle.std.specs.List.{list_all, list_any}
-use Rattle.std.specs.Option.{option_map_or}
-use Rattle.std.proofs.lemmas.Bool.{false≢true, or_parts}
-use Rattle.room_entry.specs.Ace.{Ace}
-use Rattle.room_entry.specs.Bits.{all_bits, has}
-use Rattle.room_entry.specs.Matching.{is_in_force, is_named}
-use Rattle.room_entry.specs.Pieces.{same_text}
-use Rattle.room_entry.specs.Rights.{execute}
-use Rattle.room_entry.specs.declared.entry.Who.{Who}
+use Rattle.std.proofs.{Common.{◌∙◌, arith}, lemmas.Bool.{false≢true, or_parts, Decides.nat_tests}}
+use Rattle.std.specs.{Prelude.if◌then◌else◌, List.{list_all, list_any}, Option.option_map_or}
+use Rattle.room_entry.specs.{Ace.Ace, Bits.{all_bits, has}, Matching.{is_in_force, is_named}}
+use Rattle.room_entry.specs.{Pieces.same_text, Rights.execute, declared.entry.Who.Who}
 use Rattle.room_entry.specs.declared.entry.Who.TheVariants.{Owner, Group, Everyone, Anonymous}
 use Rattle.room_entry.specs.declared.entry.Who.TheVariants.{Authenticated, User, Members}
-use Rattle.room_entry.specs.declared.object.Which.TheVariants.{Dacl}
-use Rattle.room_entry.specs.declared.parties.Caller.{Caller}
+use Rattle.room_entry.specs.declared.{object.Which.TheVariants.Dacl, parties.Caller.Caller}
 use Rattle.room_entry.specs.declared.parties.Owners.{Owners}
 use Rattle.room_eval.specs.Verdict.{is_allowed, ruled_by, ruling_from, ruling_of}
 use Rattle.room_rows.specs.Content.{Content, is_folder}
-use Rattle.room_machine.specs.Site.{Site, full_at, site_at, sites_along}
-use Rattle.room_machine.specs.Judge.{passes}
-use Rattle.room_machine.specs.Plan.{Deletion}
-use Rattle.room_machine.specs.Step.{caller_in}
-use Rattle.room_machine.specs.Rights.{grants, last_of, may_remove, reaches, rights, sites_above}
+use Rattle.room_machine.specs.{Site.{Site, full_at, site_at, sites_along}, Judge.passes}
+use Rattle.room_machine.specs.{Plan.Deletion, Step.caller_in, Rights.{grants, last_of, may_remove}}
+use Rattle.room_machine.specs.Rights.{reaches, rights, sites_above}
 use Rattle.room_review.specs.Laws.{IsStranger, StrangersAlike, is_known_at, is_paired}
 use Rattle.room_review.specs.Laws.{is_user_named}
-use Rattle.std.proofs.lemmas.Bool.Decides.{nat_tests}
 
 pub is_not : (t : Bool) → not t ≡ true → t ≡ false
 is_not true wrong = absurd (false≢true wrong)

@@ -1,23 +1,16 @@
 -- A whole table, of its parts.
 use Rattle.std.proofs.Common.{◌≡◌, ℕ, zero, suc, ◌<◌, List, [], ◌∷◌, ◌++◌, map, length, take}
 use Rattle.std.proofs.Common.{Option, Some, refl, sym, ap, subst, ◌∙◌, arith}
+use Rattle.std.proofs.lemmas.{List.append-nil, Bool.Decides.nat_tests}
 use Rattle.std.specs.List.{flat_map}
-use Rattle.std.proofs.lemmas.List.{append-nil}
 use Rattle.room_import.specs.Exports.{rows_text}
-use Rattle.room_rows.specs.Keep.{HasNoRoot}
-use Rattle.room_rows.specs.Rows.{Rows}
-use Rattle.room_rows.specs.Walk.{walk_of}
-use Rattle.room_machine.specs.Site.{Site, site_at}
-use Rattle.room_machine.specs.Stored.{stored_along, stored_site}
-use Rattle.room_review.specs.declared.question.Scope.{Scope}
-use Rattle.room_review.specs.declared.question.Reviewed.TheVariants.{Table}
-use Rattle.room_review.specs.declared.question.Start.{Start}
-use Rattle.room_review.specs.Table.{IsReview, IsReviewAt, header, users_of}
-use Rattle.room_review.specs.Telling.{GathersAll, GivesReview, IsLostAt, Starts, ended_at}
-use Rattle.room_review.specs.Users.{Gathers, users_at}
-use Rattle.room_review.proofs.Ending.{ended, strayed}
-use Rattle.room_review.proofs.Gathers.{gathers_on}
-use Rattle.std.proofs.lemmas.Bool.Decides.{nat_tests}
+use Rattle.room_rows.specs.{Keep.HasNoRoot, Rows.Rows, Walk.walk_of}
+use Rattle.room_machine.specs.{Site.{Site, site_at}, Stored.{stored_along, stored_site}}
+use Rattle.room_review.specs.declared.question.{Scope.Scope, Reviewed.TheVariants.Table}
+use Rattle.room_review.specs.{declared.question.Start.Start, Table.{IsReview, IsReviewAt, header}}
+use Rattle.room_review.specs.{Table.users_of, Telling.{GathersAll, GivesReview, IsLostAt, Starts}}
+use Rattle.room_review.specs.{Telling.ended_at, Users.{Gathers, users_at}}
+use Rattle.room_review.proofs.{Ending.{ended, strayed}, Gathers.gathers_on}
 
 -- ---- the table
 

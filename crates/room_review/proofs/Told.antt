@@ -1,32 +1,24 @@
 -- The rows that are told of a walk.
 use Rattle.std.proofs.Common.{◌≡◌, ℕ, zero, suc, Bool, true, List, [], ◌∷◌, ◌++◌, length, take}
 use Rattle.std.proofs.Common.{refl, sym, ap, subst, ◌∙◌, append_assoc, arith}
+use Rattle.std.proofs.lemmas.{Grind.flat_map-append, List.{append-nil, length-append, length-map}}
+use Rattle.std.proofs.lemmas.List.{take_all}
 use Rattle.std.specs.List.{flat_map}
-use Rattle.std.proofs.lemmas.Grind.{flat_map-append}
-use Rattle.std.proofs.lemmas.List.{append-nil, length-append, length-map, take_all}
 use Rattle.csv.specs.Writing.{default_writer, row_text}
 use Rattle.room_import.specs.Exports.{rows_text}
 use Rattle.room_entry.specs.Bytes.{slash}
-use Rattle.room_rows.specs.declared.node.Node.{Node}
-use Rattle.room_rows.specs.Content.{Content, children_of}
-use Rattle.room_rows.specs.Paths.{path_text}
-use Rattle.room_rows.specs.Rows.{AreRows, Rows, numbers_of}
-use Rattle.room_dump.specs.declared.visiting.Below.{Below}
-use Rattle.room_dump.specs.declared.visiting.Visit.{Visit}
-use Rattle.room_dump.specs.Dump.{shown, tree_of}
-use Rattle.room_dump.specs.Visits.{GoesOn, IsFrom, Way, coming, visit_on, visits_from}
-use Rattle.room_dump.specs.Visits.{way_below}
-use Rattle.room_dump.proofs.Reached.{all_there, goes_down}
-use Rattle.room_dump.proofs.Walks.{goes_from, told_below, told_by}
+use Rattle.room_rows.specs.{declared.node.Node.Node, Content.{Content, children_of}}
+use Rattle.room_rows.specs.{Paths.path_text, Rows.{AreRows, Rows, numbers_of}}
+use Rattle.room_dump.specs.{declared.visiting.{Below.Below, Visit.Visit}, Dump.{shown, tree_of}}
+use Rattle.room_dump.specs.Visits.{GoesOn, IsFrom, Way, coming, visit_on, visits_from, way_below}
+use Rattle.room_dump.proofs.{Reached.{all_there, goes_down}, Walks.{goes_from, told_below, told_by}}
 use Rattle.room_machine.specs.Site.{Site}
-use Rattle.room_review.specs.declared.parties.Party.{Party}
-use Rattle.room_review.specs.declared.question.Start.{Start}
-use Rattle.room_review.specs.declared.standing.Standing.{Standing}
-use Rattle.room_review.specs.declared.telling.Audience.{Audience}
-use Rattle.room_review.specs.Standing.{standings}
-use Rattle.room_review.specs.Table.{Place, object_rows, place_below, site_of, table_rows}
-use Rattle.room_review.specs.Telling.{Comes, InOrder, Starts, TellsOne, along, parent_path, place_at}
-use Rattle.room_review.specs.Telling.{rows_of, start_visit, visit_at, visits_at}
+use Rattle.room_review.specs.declared.{parties.Party.Party, question.Start.Start}
+use Rattle.room_review.specs.declared.{standing.Standing.Standing, telling.Audience.Audience}
+use Rattle.room_review.specs.{Standing.standings, Table.{Place, object_rows, place_below, site_of}}
+use Rattle.room_review.specs.{Table.table_rows, Telling.{Comes, InOrder, Starts, TellsOne, along}}
+use Rattle.room_review.specs.Telling.{parent_path, place_at, rows_of, start_visit, visit_at}
+use Rattle.room_review.specs.Telling.{visits_at}
 use Rattle.room_review.proofs.Starting.{starts_reached}
 
 -- ---- objects in order

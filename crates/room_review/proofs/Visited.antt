@@ -1,18 +1,16 @@
 -- In sound rows, each object of a table stands at the end of its path.
 use Rattle.std.proofs.Common.{◌≡◌, ℕ, zero, suc, List, [], ◌∷◌, ◌++◌, filter, length, take, Option}
 use Rattle.std.proofs.Common.{Some, None, refl, sym, ap, subst, ◌∙◌, append_assoc, arith}
-use Rattle.std.specs.List.{flat_map, AllByRecursion as Each}
-use Rattle.std.proofs.lemmas.List.{append-nil}
-use Rattle.std.specs.Option.{option_map_or}
-use Rattle.room_rows.specs.declared.node.Node.{Node}
-use Rattle.room_rows.specs.Content.{Content, child_of, children_of, has_parent, root_of}
-use Rattle.room_machine.specs.Site.{Site, site_at}
-use Rattle.room_machine.specs.Stored.{stored_along, stored_from, stored_site}
+use Rattle.std.proofs.lemmas.{List.append-nil, Bool.Decides.nat_tests}
+use Rattle.std.specs.{List.{flat_map, AllByRecursion as Each}, Option.option_map_or}
+use Rattle.room_rows.specs.{declared.node.Node.Node, Content.{Content, child_of, children_of}}
+use Rattle.room_rows.specs.Content.{has_parent, root_of}
+use Rattle.room_machine.specs.{Site.{Site, site_at}, Stored.{stored_along, stored_from}}
+use Rattle.room_machine.specs.Stored.{stored_site}
 use Rattle.room_dump.specs.Dump.{tree_of}
 use Rattle.room_entry.proofs.Facts.Members.{each_append, each_weaker}
 use Rattle.room_rows.proofs.Lookups.{each-sorted}
 use Rattle.room_review.specs.Table.{Place, place_below, site_of}
-use Rattle.std.proofs.lemmas.Bool.Decides.{nat_tests}
 
 pub some_same : {A : Type 0} (x y : A) → Some x ≡ Some y → x ≡ y
 some_same x y same = ap (λ o. option_map_or (λ z. z) o x) same

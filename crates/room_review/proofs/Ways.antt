@@ -1,39 +1,29 @@
 -- Ways that a caller comes along, and what the replies at their ends say.
 use Rattle.std.proofs.Common.{ℕ, ◌≡◌, ◌&&◌, Bool, true, false, cond, not, List, [], ◌∷◌, ◌++◌, map}
 use Rattle.std.proofs.Common.{filter, length, take, Option, Some, None, refl, sym, ap, subst, ◌∙◌}
-use Rattle.std.proofs.Common.{arith}
-use Rattle.std.specs.Prelude.{is_none, IsTrue}
-use Rattle.std.specs.List.{list_all}
-use Rattle.std.specs.Option.{option_map_or}
-use Rattle.std.proofs.lemmas.Bool.{false≢true, true≢false, and_parts}
-use Rattle.room_entry.specs.Bits.{all_bits}
-use Rattle.room_entry.specs.Rights.{execute}
-use Rattle.room_entry.specs.declared.object.Which.TheVariants.{Dacl}
+use Rattle.std.proofs.{Common.arith, lemmas.Bool.{false≢true, true≢false, and_parts}}
+use Rattle.std.proofs.lemmas.Bool.Decides.{nat_tests}
+use Rattle.std.specs.{Prelude.{is_none, IsTrue}, List.list_all, Option.option_map_or}
+use Rattle.room_entry.specs.{Bits.all_bits, Rights.execute, declared.object.Which.TheVariants.Dacl}
 use Rattle.room_entry.specs.declared.parties.Caller.{Caller}
-use Rattle.room_eval.specs.declared.outcome.Ruling.{Ruling}
-use Rattle.room_eval.specs.declared.outcome.Verdict.TheVariants.{Granted}
+use Rattle.room_eval.specs.declared.outcome.{Ruling.Ruling, Verdict.TheVariants.Granted}
 use Rattle.room_eval.specs.declared.deletion.DeleteVerdict.{DeleteVerdict}
 use Rattle.room_eval.specs.declared.deletion.DeleteVerdict.TheVariants.{Granted as MayDelete}
 use Rattle.room_eval.specs.declared.deletion.DeleteVerdict.TheVariants.{AtTarget, AtParent}
-use Rattle.room_eval.specs.Deletion.{deletion}
-use Rattle.room_eval.specs.Verdict.{denial, least_denied, ruling_of}
+use Rattle.room_eval.specs.{Deletion.deletion, Verdict.{denial, least_denied, ruling_of}}
 use Rattle.room_rows.specs.Content.{Content, children_of, is_empty, is_folder, without_node}
-use Rattle.room_machine.specs.declared.reply.Reply.{Reply}
-use Rattle.room_machine.specs.declared.reply.Reply.TheVariants.{Done, Refused, Rulings}
+use Rattle.room_machine.specs.declared.reply.Reply.{Reply, TheVariants.{Done, Refused, Rulings}}
 use Rattle.room_machine.specs.declared.reply.Reason.TheVariants.{NotFolder, NoSuch, NotEmpty, Root}
-use Rattle.room_machine.specs.declared.request.Request.TheVariants.{Can, Remove}
-use Rattle.room_machine.specs.Site.{Site, front, full_at, parent_at, site_at, sites_along}
+use Rattle.room_machine.specs.{declared.request.Request.TheVariants.{Can, Remove}, Site.Site}
+use Rattle.room_machine.specs.Site.{front, full_at, parent_at, site_at, sites_along}
 use Rattle.room_machine.specs.Plan.{Deletion, Item, Refusal, plan_of, way, where_found}
 use Rattle.room_machine.specs.Judge.{failure, first_failure, of_deletion, of_verdict, or_else}
-use Rattle.room_machine.specs.Effect.{effect, rulings}
-use Rattle.room_machine.specs.Step.{caller_in}
-use Rattle.room_machine.proofs.Rights.{folder_is_last}
-use Rattle.room_machine.proofs.Replies.{or_reply, reply_of}
-use Rattle.room_machine.specs.Rights.{grants, last_of, lets_through, may_remove, may_remove_at}
-use Rattle.room_machine.specs.Rights.{reaches, rights, rights_at, sites_above}
+use Rattle.room_machine.specs.{Effect.{effect, rulings}, Step.caller_in, Rights.{grants, last_of}}
+use Rattle.room_machine.specs.Rights.{lets_through, may_remove, may_remove_at, reaches, rights}
+use Rattle.room_machine.specs.Rights.{rights_at, sites_above}
+use Rattle.room_machine.proofs.{Rights.folder_is_last, Replies.{or_reply, reply_of}}
 use Rattle.room_review.specs.Laws.{SaysCan, SaysRemove, allowed_in, is_denial, is_rulings}
 use Rattle.room_review.specs.Laws.{passed_rights}
-use Rattle.std.proofs.lemmas.Bool.Decides.{nat_tests}
 
 -- ---- a way
 

@@ -1,56 +1,41 @@
 -- A table of a review is the room: what is looked up in it of each caller is what the room allows.
 use Rattle.std.proofs.Common.{◌≡◌, ℕ, Bool, true, false, List, [], ◌∷◌, ◌++◌, length, map, take}
 use Rattle.std.proofs.Common.{Option, Some, None, refl, sym, ap, subst, ◌∙◌, codes, inl, inr, arith}
-use Rattle.std.specs.List.{list_any, AllByRecursion as Each}
-use Rattle.std.specs.Option.{option_map, option_map_or, option_or}
-use Rattle.std.proofs.lemmas.Bool.{cond-false, cond-true, or_from, or_left}
+use Rattle.std.proofs.lemmas.Bool.{cond-false, cond-true, or_from, or_left, Decides.nat_tests}
 use Rattle.std.proofs.lemmas.List.Folds.{list_any-append}
+use Rattle.std.specs.{List.{list_any, AllByRecursion as Each}, Option.{option_map, option_map_or}}
+use Rattle.std.specs.Option.{option_or}
 use Rattle.csv.specs.Reading.{default_config, records}
-use Rattle.room_entry.specs.Letters.{mask_text}
-use Rattle.room_entry.specs.Names.{is_name}
-use Rattle.room_entry.specs.Pieces.{same_text}
-use Rattle.room_entry.proofs.Alike.{text_itself}
-use Rattle.room_entry.proofs.Facts.Members.{any_map, each_append, each_back, each_map, each_weaker}
+use Rattle.room_entry.specs.{Letters.mask_text, Names.is_name, Pieces.same_text}
+use Rattle.room_entry.proofs.{Alike.text_itself, Facts.Members.{any_map, each_append, each_back}}
+use Rattle.room_entry.proofs.Facts.Members.{each_map, each_weaker}
 use Rattle.room_import.specs.Exports.{rows_text}
-use Rattle.room_rows.specs.declared.node.Node.{Node}
-use Rattle.room_rows.specs.Content.{Content, child_of, children_of}
-use Rattle.room_rows.specs.Meaning.{meaning}
-use Rattle.room_rows.specs.Paths.{path_text}
-use Rattle.room_rows.specs.Rows.{AreRows, Rows, numbers_of}
+use Rattle.room_rows.specs.{declared.node.Node.Node, Content.{Content, child_of, children_of}}
+use Rattle.room_rows.specs.{Meaning.meaning, Paths.path_text, Rows.{AreRows, Rows, numbers_of}}
 use Rattle.room_rows.specs.Sound.{AreSound}
-use Rattle.room_sound.proofs.Filled.{site_filled, target_there}
-use Rattle.room_sound.proofs.Sites.{fill, sites_filled}
+use Rattle.room_sound.proofs.{Filled.{site_filled, target_there}, Sites.{fill, sites_filled}}
 use Rattle.room_sound.proofs.SoundParts.{sound_parts}
-use Rattle.room_dump.proofs.Counting.{each_always, each_both, each_filter}
+use Rattle.room_dump.proofs.{Counting.{each_always, each_both, each_filter}, Reached.all_there}
+use Rattle.room_dump.proofs.Reached.{goes_down}
 use Rattle.room_dump.specs.Visits.{Reached}
-use Rattle.room_dump.proofs.Reached.{all_there, goes_down}
-use Rattle.room_machine.specs.Rights.{may_remove_at, rights_at}
-use Rattle.room_machine.specs.Site.{Site, site_at, sites_along}
-use Rattle.room_machine.specs.Step.{caller_in}
-use Rattle.room_machine.specs.Stored.{stored_along, stored_from, stored_site}
-use Rattle.room_review.specs.declared.parties.Party.{Party}
-use Rattle.room_review.specs.declared.question.Scope.{Scope}
-use Rattle.room_review.specs.declared.question.Reviewed.TheVariants.{Table}
-use Rattle.room_review.specs.Laws.{SaysAlike, SaysAt, stored_above, told_at, told_there, users_on}
+use Rattle.room_machine.specs.{Rights.{may_remove_at, rights_at}, Site.{Site, site_at, sites_along}}
+use Rattle.room_machine.specs.{Step.caller_in, Stored.{stored_along, stored_from, stored_site}}
+use Rattle.room_review.specs.declared.{parties.Party.Party, question.Scope.Scope}
+use Rattle.room_review.specs.{declared.question.Reviewed.TheVariants.Table, Laws.SaysAlike}
+use Rattle.room_review.specs.Laws.{SaysAt, stored_above, told_at, told_there, users_on}
 use Rattle.room_review.specs.LookedUp.{is_row_of, label_in, looked_up, nearest, IsAskedFor, IsLabel}
 use Rattle.room_review.specs.LookedUp.{IsRow, SaysTheRoom, StandsAt, TableIsTheRoom, is_caller}
 use Rattle.room_review.specs.Table.{AreAll, AreAsked, IsReviewAt, Place, header, kind_word, named}
 use Rattle.room_review.specs.Table.{nameless, other_name, place_below, place_of, row, object_rows}
-use Rattle.room_review.specs.Table.{site_of, table_rows, yes_or_no}
-use Rattle.room_review.specs.Users.{is_listed}
-use Rattle.room_review.proofs.Below as below
+use Rattle.room_review.specs.{Table.{site_of, table_rows, yes_or_no}, Users.is_listed}
 use Rattle.room_review.proofs.Labels.{IsParty, each_of, no_label, nobody_party, star_party}
-use Rattle.room_review.proofs.Labels.{user_party}
-use Rattle.room_review.proofs.Lookups.{any_flat, found_from, has_none, has_row, or_none, printed}
-use Rattle.room_review.proofs.Lookups.{said_elsewhere, said_here}
-use Rattle.room_review.proofs.Named.{all_kids, all_named}
-use Rattle.room_review.proofs.Others.{GoesOn, all_go_on}
-use Rattle.room_review.proofs.ReadAs.{all_columns, read_as_rows}
-use Rattle.room_review.proofs.Said.{table_says_rights}
-use Rattle.room_review.proofs.Starred.{star_speaks_for_others}
-use Rattle.room_review.proofs.Starting.{starts_reached}
+use Rattle.room_review.proofs.{Labels.user_party, Lookups.{any_flat, found_from, has_none, has_row}}
+use Rattle.room_review.proofs.Lookups.{or_none, printed, said_elsewhere, said_here}
+use Rattle.room_review.proofs.{Named.{all_kids, all_named}, Others.{GoesOn, all_go_on}}
+use Rattle.room_review.proofs.{ReadAs.{all_columns, read_as_rows}, Said.table_says_rights}
+use Rattle.room_review.proofs.{Starred.star_speaks_for_others, Starting.starts_reached}
 use Rattle.room_review.proofs.Visited.{Stands, each_stands, ends_along, some_same}
-use Rattle.std.proofs.lemmas.Bool.Decides.{nat_tests}
+use Rattle.room_review.proofs.Below as below
 
 -- ---- a walk that goes on from an object
 

@@ -1,18 +1,14 @@
 -- Worked examples of what the law of a table says of whom: of a user with rows, of a name without,
 -- of a caller without a name, and of one that is asked for alone.
 use Rattle.std.proofs.Common.{◌≡◌, ℕ, Bool, true, false, List, [], ◌∷◌, ◌++◌, drop, Option, Some}
-use Rattle.std.proofs.Common.{None, refl, sym, ap, ◌∙◌, codes}
+use Rattle.std.proofs.{Common.{None, refl, sym, ap, ◌∙◌, codes}, lemmas.Bool.cond-false}
+use Rattle.std.proofs.lemmas.Bool.{cond-true}
 use Rattle.std.specs.List.{list_any}
-use Rattle.std.proofs.lemmas.Bool.{cond-false, cond-true}
-use Rattle.room_entry.specs.Letters.{mask_text}
-use Rattle.room_entry.specs.Names.{is_name}
+use Rattle.room_entry.specs.{Letters.mask_text, Names.is_name}
 use Rattle.room_rows.specs.Content.{Content}
-use Rattle.room_machine.specs.Rights.{may_remove_at, rights_at}
-use Rattle.room_machine.specs.Site.{Site}
-use Rattle.room_review.specs.declared.question.Scope.{Scope}
-use Rattle.room_review.specs.LookedUp.{IsRow, SaysTheRoom, StandsAt, is_row_of, label_in}
-use Rattle.room_review.specs.LookedUp.{looked_up}
-use Rattle.room_review.specs.Table.{yes_or_no}
+use Rattle.room_machine.specs.{Rights.{may_remove_at, rights_at}, Site.Site}
+use Rattle.room_review.specs.{declared.question.Scope.Scope, LookedUp.{IsRow, SaysTheRoom}}
+use Rattle.room_review.specs.{LookedUp.{StandsAt, is_row_of, label_in, looked_up}, Table.yes_or_no}
 
 module _ (room : Content) (table : List (List (List ℕ))) (path : List (List ℕ)) (all : Bool) where
   abbrev of_all : Scope

@@ -1,20 +1,17 @@
 -- Texts cut into names, and paths.
 use Rattle.std.proofs.Common.{◌≡◌, ◌≢◌, ℕ, zero, suc, ◌<◌, ◌≤◌, true, false, List, [], ◌∷◌, ◌++◌}
 use Rattle.std.proofs.Common.{length, take, Ok, Err, codes, refl, ap, ◌∙◌, arith, length-append}
-use Rattle.std.specs.Prelude.{IsTrue, if◌then◌else◌}
-use Rattle.std.specs.List.{list_all, flat_map, onto_first}
-use Rattle.std.specs.Str.{IsUtf8, IsValidUpTo}
 use Rattle.std.proofs.lemmas.Bool.{and_parts, and_from, le-ltb, cond-true, cond-false}
-use Rattle.std.proofs.lemmas.List.Splits.{slice_split-cons_yes, slice_split-cons_no}
-use Rattle.std.proofs.lemmas.List.Splits.{length-slice_split}
-use Rattle.room_entry.specs.Utf8.{is_utf8}
-use Rattle.room_entry.specs.Pieces.{pieces, same_text}
+use Rattle.std.proofs.lemmas.{Bool.Decides.nat_tests, List.Splits.slice_split-cons_yes}
+use Rattle.std.proofs.lemmas.List.Splits.{slice_split-cons_no, length-slice_split}
+use Rattle.std.specs.{Prelude.{IsTrue, if◌then◌else◌}, List.{list_all, flat_map, onto_first}}
+use Rattle.std.specs.Str.{IsUtf8, IsValidUpTo}
+use Rattle.room_entry.specs.{Utf8.is_utf8, Pieces.{pieces, same_text}}
 use Rattle.room_rows.specs.declared.fault.PathFault.TheVariants.{BadName, NotUtf8}
 use Rattle.room_rows.specs.Paths.{is_object_name, is_path, is_name_byte, names_in, object_names}
 use Rattle.room_rows.specs.Paths.{path_of, path_text}
 use Rattle.room_rows.proofs.Utf8.{fails_as_utf8}
 use Rattle.room_entry.proofs.Texts.{passes_as_utf8}
-use Rattle.std.proofs.lemmas.Bool.Decides.{nat_tests}
 
 -- ---- names by their bytes
 

@@ -1,20 +1,15 @@
 -- What a change of a content leaves, and what is found in it.
 use Rattle.std.proofs.Common.{◌≡◌, ℕ, ◌==◌, ◌&&◌, true, false, List, ◌∷◌, map, Option, Some, None}
-use Rattle.std.proofs.Common.{refl, sym, ap, ◌∙◌, arith}
-use Rattle.std.specs.Prelude.{IsTrue, is_none, not}
-use Rattle.std.specs.Option.{option_map_or}
-use Rattle.std.proofs.lemmas.Bool.{and_parts, eqb-true, ne_eqb, false≢true, not_from_true}
-use Rattle.std.proofs.lemmas.Bool.{not_from_false}
-use Rattle.std.proofs.lemmas.Slice.Eq.{bytes_eq-Decides}
+use Rattle.std.proofs.{Common.{refl, sym, ap, ◌∙◌, arith}, lemmas.Bool.{and_parts, eqb-true}}
+use Rattle.std.proofs.lemmas.Bool.{ne_eqb, false≢true, not_from_true, not_from_false}
+use Rattle.std.proofs.lemmas.{Bool.Decides.nat_tests, Slice.Eq.bytes_eq-Decides}
+use Rattle.std.specs.{Prelude.{IsTrue, is_none, not}, Option.option_map_or}
 use Rattle.room_entry.specs.Pieces.{same_text}
-use Rattle.room_rows.specs.declared.node.Node.{Node}
-use Rattle.room_rows.specs.Content.{Content, node_at, has_parent, root_of, child_of, without_node}
-use Rattle.room_rows.specs.Content.{is_rising}
-use Rattle.room_rows.specs.Rows.{Rows, AreRows}
+use Rattle.room_rows.specs.{declared.node.Node.Node, Content.{Content, node_at, has_parent}}
+use Rattle.room_rows.specs.{Content.{root_of, child_of, without_node, is_rising}, Rows.Rows}
+use Rattle.room_rows.specs.Rows.{AreRows}
+use Rattle.room_rows.proofs.{Lookups.Stands, SamePlace.IsSamePlace}
 use Rattle.room_rows.proofs.Lookups as lookups
-use Rattle.room_rows.proofs.Lookups.{Stands}
-use Rattle.room_rows.proofs.SamePlace.{IsSamePlace}
-use Rattle.std.proofs.lemmas.Bool.Decides.{nat_tests}
 
 -- the numbers of the objects rise from 1, as those of rows do
 abbrev pub Rises : Content → Type 0

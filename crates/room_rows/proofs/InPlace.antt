@@ -1,31 +1,23 @@
 -- What a change leaves of objects that stay in their places.
 use Rattle.std.proofs.Common.{◌≡◌, ℕ, ◌<◌, ◌==◌, nat_lt, ◌&&◌, true, false, List, [], ◌∷◌, map}
 use Rattle.std.proofs.Common.{filter, Option, Some, None, refl, sym, ap, subst, ◌∙◌, inl, inr}
-use Rattle.std.proofs.Common.{arith}
-use Rattle.std.specs.Prelude.{IsTrue, is_none}
-use Rattle.std.specs.List.{AllByRecursion}
-use Rattle.std.specs.Option.{option_map, option_and_then}
-use Rattle.std.proofs.lemmas.Bool.{and_parts, cases_Bool, cases_order, cond-true, cond-false}
-use Rattle.std.proofs.lemmas.Bool.{eqb-true, eq-eqb, ne_eqb, lt-ltb, ltb-true, le-ltb}
-use Rattle.std.proofs.lemmas.Option.{same_Some, none-some}
-use Rattle.room_entry.specs.Ace.{Ace}
-use Rattle.room_entry.specs.Pieces.{same_text}
-use Rattle.room_entry.specs.declared.object.Which.{Which}
-use Rattle.room_entry.specs.declared.object.Which.TheVariants.{Dacl, Sacl}
-use Rattle.room_entry.specs.declared.parties.Owners.{Owners}
-use Rattle.room_rows.specs.HeldList.{Held}
-use Rattle.room_rows.specs.declared.node.Node.{Node}
-use Rattle.room_rows.specs.Content.{Content, node_at, has_parent, root_of, child_of, children_of}
-use Rattle.room_rows.specs.Content.{parent_of, body_at, body_of, put_body, with_node, with_body}
-use Rattle.room_rows.specs.Content.{with_each, is_rising, sorted_by_name}
-use Rattle.room_rows.specs.Held.{held_of, with_held}
-use Rattle.room_rows.specs.Keep.{with_inh, with_owners, with_content}
-use Rattle.room_rows.specs.Rows.{Rows, AreRows, numbers_of, put_numbers, unread_numbers}
+use Rattle.std.proofs.{Common.arith, lemmas.Bool.{and_parts, cases_Bool, cases_order, cond-true}}
+use Rattle.std.proofs.lemmas.Bool.{cond-false, eqb-true, eq-eqb, ne_eqb, lt-ltb, ltb-true, le-ltb}
+use Rattle.std.proofs.lemmas.{Bool.Decides.nat_tests, Option.{same_Some, none-some}}
+use Rattle.std.specs.{Prelude.{IsTrue, is_none}, List.AllByRecursion, Option.option_map}
+use Rattle.std.specs.Option.{option_and_then}
+use Rattle.room_entry.specs.{Ace.Ace, Pieces.same_text, declared.object.Which.Which}
+use Rattle.room_entry.specs.declared.{object.Which.TheVariants.{Dacl, Sacl}, parties.Owners.Owners}
+use Rattle.room_rows.specs.{HeldList.Held, declared.node.Node.Node, Content.{Content, node_at}}
+use Rattle.room_rows.specs.Content.{has_parent, root_of, child_of, children_of, parent_of, body_at}
+use Rattle.room_rows.specs.Content.{body_of, put_body, with_node, with_body, with_each, is_rising}
+use Rattle.room_rows.specs.{Content.sorted_by_name, Held.{held_of, with_held}, Keep.with_inh}
+use Rattle.room_rows.specs.{Keep.{with_owners, with_content}, Rows.{Rows, AreRows, numbers_of}}
+use Rattle.room_rows.specs.Rows.{put_numbers, unread_numbers}
+use Rattle.room_rows.proofs.{SamePlace.{IsSamePlace, put_there, replaced}, Frames.Rises}
+use Rattle.room_rows.proofs.Frames.{has_parent-of_place, is_child-of_place, node_at-number}
 use Rattle.room_rows.proofs.Lookups as lookups
 use Rattle.room_rows.proofs.SamePlace as same_place
-use Rattle.room_rows.proofs.SamePlace.{IsSamePlace, put_there, replaced}
-use Rattle.room_rows.proofs.Frames.{Rises, has_parent-of_place, is_child-of_place, node_at-number}
-use Rattle.std.proofs.lemmas.Bool.Decides.{nat_tests}
 
 -- ---- objects that stay in their places
 

@@ -1,18 +1,14 @@
 -- Objects looked up in a list of them: what a change of the list leaves.
 use Rattle.std.proofs.Common.{◌≡◌, ℕ, suc, ◌<◌, ◌==◌, ◌⊎◌, Bool, true, false, List, [], ◌∷◌, map}
 use Rattle.std.proofs.Common.{filter, Some, None, nat_lt, refl, sym, ap, subst, ◌∙◌, arith, inl}
-use Rattle.std.proofs.Common.{inr, ◌+◌, ◌≤◌, length}
+use Rattle.std.proofs.{Common.{inr, ◌+◌, ◌≤◌, length}, lemmas.Bool.{cases_Bool, cases_order}}
+use Rattle.std.proofs.lemmas.Bool.{and_parts, eqb-true, eq-eqb, ne_eqb, ltb-true, lt-ltb, cond-true}
+use Rattle.std.proofs.lemmas.{Bool.{cond-false, Decides.nat_tests}, Option.{same_Some, none-some}}
 use Rattle.std.specs.List.{find, AllByRecursion}
-use Rattle.std.proofs.lemmas.Bool.{cases_Bool, cases_order, and_parts, eqb-true, eq-eqb, ne_eqb}
-use Rattle.std.proofs.lemmas.Bool.{ltb-true, lt-ltb, cond-true, cond-false}
-use Rattle.std.proofs.lemmas.Option.{same_Some, none-some}
-use Rattle.room_rows.specs.declared.node.Node.{Node}
-use Rattle.room_rows.specs.Content.{is_before, put_by_name, sorted_by_name, put_node, is_rising}
-use Rattle.room_rows.specs.Content.{is_empty}
-use Rattle.room_rows.specs.Finding.{find_id}
-use Rattle.room_rows.specs.Rows.{put_number, put_numbers}
+use Rattle.room_rows.specs.{declared.node.Node.Node, Content.{is_before, put_by_name}}
+use Rattle.room_rows.specs.Content.{sorted_by_name, put_node, is_rising, is_empty}
+use Rattle.room_rows.specs.{Finding.find_id, Rows.{put_number, put_numbers}}
 use Rattle.room_entry.proofs.Facts.Members.{one_if, count}
-use Rattle.std.proofs.lemmas.Bool.Decides.{nat_tests}
 
 -- ---- the first that passes a test
 

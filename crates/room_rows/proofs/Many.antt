@@ -1,31 +1,21 @@
 -- Objects that are changed, all in the same way.
 use Rattle.std.proofs.Common.{◌≡◌, ℕ, ◌==◌, ◌&&◌, ◌||◌, ◌++◌, Bool, true, false, List, [], ◌∷◌, map}
 use Rattle.std.proofs.Common.{Option, None, Some, refl, sym, ap, ◌∙◌, inl, inr, arith}
-use Rattle.std.specs.Prelude.{is_some, if◌then◌else◌}
-use Rattle.std.specs.List.{AllByRecursion, list_any}
-use Rattle.std.specs.List.Sorted.{IsPermutation}
-use Rattle.std.specs.Option.{option_map}
 use Rattle.std.proofs.lemmas.Bool.{and_parts, cases_Bool, cond-false, cond-true, eq-eqb, eqb-true}
-use Rattle.std.proofs.lemmas.List.{map-id}
-use Rattle.std.proofs.lemmas.List.Folds.{list_all-append, list_any-append}
-use Rattle.std.proofs.lemmas.List.Sorted.{All-permutation, list_any-IsPermutation}
-use Rattle.std.proofs.lemmas.List.Sums.{AllPass-from_list_all, list_all-from_AllPass}
-use Rattle.std.proofs.lemmas.Option.{same_Some}
-use Rattle.room_entry.specs.Ace.{Ace}
-use Rattle.room_entry.specs.declared.object.Which.{Which}
-use Rattle.room_entry.specs.declared.object.Which.TheVariants.{Dacl, Sacl}
-use Rattle.room_rows.specs.declared.node.Node.{Node}
-use Rattle.room_rows.specs.Content.{Content, node_at}
-use Rattle.room_rows.specs.Keep.{Changes, ChangesAll, are_there, with_changed, with_content}
-use Rattle.room_rows.specs.Keep.{with_inh}
+use Rattle.std.proofs.lemmas.{Bool.Decides.nat_tests, List.{map-id, Folds.list_all-append}}
+use Rattle.std.proofs.lemmas.List.{Folds.list_any-append, Sorted.All-permutation}
+use Rattle.std.proofs.lemmas.List.{Sorted.list_any-IsPermutation, Sums.AllPass-from_list_all}
+use Rattle.std.proofs.lemmas.{List.Sums.list_all-from_AllPass, Option.same_Some}
+use Rattle.std.specs.{Prelude.{is_some, if◌then◌else◌}, List.{AllByRecursion, list_any}}
+use Rattle.std.specs.{List.Sorted.IsPermutation, Option.option_map}
+use Rattle.room_entry.specs.{Ace.Ace, declared.object.Which.{Which, TheVariants.{Dacl, Sacl}}}
+use Rattle.room_rows.specs.{declared.node.Node.Node, Content.{Content, node_at}, Keep.Changes}
+use Rattle.room_rows.specs.Keep.{ChangesAll, are_there, with_changed, with_content, with_inh}
 use Rattle.room_rows.specs.Rows.{AreRows, Rows}
-use Rattle.room_rows.proofs.Frames.{node_at-number, rows-rise}
-use Rattle.room_rows.proofs.InPlace.{node_at-with_each, keeps_places, with_each-with_each}
-use Rattle.room_rows.proofs.InPlace.{with_node-replaces}
-use Rattle.room_rows.proofs.Lookups.{each-weaker, each_found}
-use Rattle.room_rows.proofs.SamePlace.{IsSamePlace, replaced, replaced_here, replaced_elsewhere}
-use Rattle.room_rows.proofs.SamePlace.{same_place}
-use Rattle.std.proofs.lemmas.Bool.Decides.{nat_tests}
+use Rattle.room_rows.proofs.{Frames.{node_at-number, rows-rise}, InPlace.node_at-with_each}
+use Rattle.room_rows.proofs.InPlace.{keeps_places, with_each-with_each, with_node-replaces}
+use Rattle.room_rows.proofs.{Lookups.{each-weaker, each_found}, SamePlace.{IsSamePlace, replaced}}
+use Rattle.room_rows.proofs.SamePlace.{replaced_here, replaced_elsewhere, same_place}
 
 -- the object, changed if it is one of these
 abbrev pub changed_among : List ℕ → (Node → Node) → Node → Node

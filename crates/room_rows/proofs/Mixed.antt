@@ -1,12 +1,10 @@
 -- Lists with others in between, as the names under a parent are told.
 use Rattle.std.proofs.Common.{◌≡◌, ℕ, List, [], ◌∷◌, map, refl, sym, ap₂, subst, inl, inr, arith}
+use Rattle.std.proofs.lemmas.Bool.Decides.{nat_tests}
 use Rattle.std.specs.List.{Contains}
 use Rattle.room_entry.specs.declared.object.ObjKind.{ObjKind}
-use Rattle.room_rows.specs.declared.node.Node.{Node}
-use Rattle.room_rows.specs.Content.{children_of}
-use Rattle.room_rows.specs.Keep.{AreNamedUnder, IsMixed}
-use Rattle.room_rows.specs.Rows.{Rows}
-use Rattle.std.proofs.lemmas.Bool.Decides.{nat_tests}
+use Rattle.room_rows.specs.{declared.node.Node.Node, Content.children_of, Keep.AreNamedUnder}
+use Rattle.room_rows.specs.{Keep.IsMixed, Rows.Rows}
 
 nothing_stands : {X : Type 0} (x : X) → Contains [] x → ⊥
 nothing_stands x stands = absurd (let below = stands.1 in omega (arith, below))

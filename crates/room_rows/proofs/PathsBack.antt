@@ -1,20 +1,16 @@
 -- The text of a path is read as that path.
 use Rattle.std.proofs.Common.{◌≡◌, ℕ, ◌<◌, ◌==◌, ◌&&◌, true, false, List, [], ◌∷◌, ◌++◌, length}
 use Rattle.std.proofs.Common.{refl, ap, ◌∙◌, arith, nat_lt, nat_le, length-append}
-use Rattle.std.specs.List.{list_all, onto_first}
-use Rattle.std.specs.Str.{IsUtf8}
-use Rattle.std.proofs.lemmas.Bool.{and_parts, leb-true, cond-true}
-use Rattle.std.proofs.lemmas.List.{append-nil}
-use Rattle.std.proofs.lemmas.List.Splits.{slice_split-cons_yes, slice_split-cons_no}
+use Rattle.std.proofs.lemmas.Bool.{and_parts, leb-true, cond-true, Decides.nat_tests}
+use Rattle.std.proofs.lemmas.List.{append-nil, Splits.{slice_split-cons_yes, slice_split-cons_no}}
 use Rattle.std.proofs.lemmas.Str.{IsUtf8-append, IsUtf8-from_ascii, IsUtf8-nil}
-use Rattle.room_entry.specs.Utf8.{is_utf8}
-use Rattle.room_entry.specs.Pieces.{pieces}
-use Rattle.room_rows.specs.Laws.{PathReadsBack}
-use Rattle.room_rows.specs.Paths.{is_object_name, is_name_byte, object_names, path_text}
-use Rattle.room_rows.proofs.Cutting.{good_names, joined, slash_first, within}
-use Rattle.room_rows.proofs.Utf8.{ascii_at, text_from}
+use Rattle.std.specs.{List.{list_all, onto_first}, Str.IsUtf8}
+use Rattle.room_entry.specs.{Utf8.is_utf8, Pieces.pieces}
+use Rattle.room_rows.specs.{Laws.PathReadsBack, Paths.{is_object_name, is_name_byte, object_names}}
+use Rattle.room_rows.specs.Paths.{path_text}
+use Rattle.room_rows.proofs.{Cutting.{good_names, joined, slash_first, within}, Utf8.ascii_at}
+use Rattle.room_rows.proofs.Utf8.{text_from}
 use Rattle.room_entry.proofs.Texts.{passes_as_utf8}
-use Rattle.std.proofs.lemmas.Bool.Decides.{nat_tests}
 
 -- ---- one name
 

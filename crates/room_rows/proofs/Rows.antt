@@ -1,14 +1,10 @@
 -- Worked rows: what the definitions say at written examples.
 use Rattle.std.proofs.Common.{ℕ, ◌≡◌, List, [], ◌∷◌, Option, Some, None, Ok, Err, refl, true, false}
 use Rattle.std.proofs.Common.{codes, replicate}
-use Rattle.room_entry.specs.declared.object.ObjKind.{ObjKind}
-use Rattle.room_entry.specs.declared.object.ObjKind.TheVariants.{Document, Folder}
-use Rattle.room_rows.specs.HeldList.{Held}
-use Rattle.room_rows.specs.declared.node.Node.{Node}
-use Rattle.room_rows.specs.declared.fault.PathFault.TheVariants.{BadName}
-use Rattle.room_rows.specs.Paths.{path_of}
-use Rattle.room_rows.specs.Content.{Content, IsContent, set_of}
-use Rattle.room_rows.specs.Walk.{walk_of}
+use Rattle.room_entry.specs.declared.object.ObjKind.{ObjKind, TheVariants.{Document, Folder}}
+use Rattle.room_rows.specs.{HeldList.Held, declared.node.Node.Node}
+use Rattle.room_rows.specs.{declared.fault.PathFault.TheVariants.BadName, Paths.path_of}
+use Rattle.room_rows.specs.{Content.{Content, IsContent, set_of}, Walk.walk_of}
 
 no_path : path_of [] ≡ Err BadName
 no_path = refl

@@ -1,19 +1,14 @@
 -- Objects that change, and keep their numbers, parents and names.
 use Rattle.std.proofs.Common.{◌≡◌, ℕ, ◌<◌, ◌≤◌, ◌==◌, Bool, true, List, [], ◌∷◌, map, filter, Some}
-use Rattle.std.proofs.Common.{nat_lt, refl, sym, ap, ◌∙◌, arith, inl, inr}
-use Rattle.std.specs.Prelude.{if◌then◌else◌}
-use Rattle.std.specs.List.{find, AllByRecursion}
-use Rattle.std.specs.Option.{option_map}
-use Rattle.std.proofs.lemmas.Bool.{cases_Bool, and_parts, eqb-true, eq-eqb, ne_eqb, ltb-true}
-use Rattle.std.proofs.lemmas.Bool.{cond-true, cond-false}
-use Rattle.std.proofs.lemmas.Option.{same_Some, none-some}
-use Rattle.room_rows.specs.declared.node.Node.{Node}
-use Rattle.room_rows.specs.Content.{put_by_name, sorted_by_name, put_node, is_rising}
-use Rattle.room_rows.specs.Finding.{find_id}
+use Rattle.std.proofs.{Common.{nat_lt, refl, sym, ap, ◌∙◌, arith, inl, inr}, lemmas.Bool.cases_Bool}
+use Rattle.std.proofs.lemmas.Bool.{and_parts, eqb-true, eq-eqb, ne_eqb, ltb-true, cond-true}
+use Rattle.std.proofs.lemmas.{Bool.{cond-false, Decides.nat_tests}, Option.{same_Some, none-some}}
+use Rattle.std.specs.{Prelude.if◌then◌else◌, List.{find, AllByRecursion}, Option.option_map}
+use Rattle.room_rows.specs.{declared.node.Node.Node, Content.{put_by_name, sorted_by_name}}
+use Rattle.room_rows.specs.{Content.{put_node, is_rising}, Finding.find_id}
 use Rattle.room_rows.proofs.Lookups.{each-sorted, find_no, find_yes, found_above, found_number}
 use Rattle.room_rows.proofs.Lookups.{keep_no, keep_yes, name_behind, name_here, put_behind}
 use Rattle.room_rows.proofs.Lookups.{put_same}
-use Rattle.std.proofs.lemmas.Bool.Decides.{nat_tests}
 
 -- ---- an object put in the place of the one of its number
 

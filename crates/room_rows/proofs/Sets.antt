@@ -1,19 +1,15 @@
 -- A set of pairs is in order, and none is lost or added.
 use Rattle.std.proofs.Common.{◌≡◌, ℕ, ◌||◌, ◌&&◌, Bool, true, false, List, [], ◌∷◌, refl, sym, ap}
-use Rattle.std.proofs.Common.{◌∙◌, inl, inr, arith}
-use Rattle.std.specs.List.{list_any}
-use Rattle.std.specs.Ordering.{nat_cmp, ordering_reverse, is_lt, is_eq}
-use Rattle.std.specs.Cmp.Lexicographic.{slice_cmp, bytes_decides}
-use Rattle.std.specs.declared.cmp.Ordering.{Ordering}
-use Rattle.std.specs.declared.cmp.Ordering.TheVariants.{Less, Equal, Greater}
-use Rattle.std.proofs.lemmas.Bool.{cases_Bool, and_parts, and_from, or_parts, cond-true, cond-false}
-use Rattle.std.proofs.lemmas.Bool.{false≢true, true≢false}
-use Rattle.std.proofs.lemmas.Cmp.{nat_list_cmp_total}
+use Rattle.std.proofs.{Common.{◌∙◌, inl, inr, arith}, lemmas.Bool.{cases_Bool, and_parts, and_from}}
+use Rattle.std.proofs.lemmas.Bool.{or_parts, cond-true, cond-false, false≢true, true≢false}
+use Rattle.std.proofs.lemmas.{Bool.Decides.nat_tests, Cmp.nat_list_cmp_total}
 use Rattle.std.proofs.lemmas.Map.Text.{is_eq-slice_cmp}
+use Rattle.std.specs.{List.list_any, Ordering.{nat_cmp, ordering_reverse, is_lt, is_eq}}
+use Rattle.std.specs.{Cmp.Lexicographic.{slice_cmp, bytes_decides}, declared.cmp.Ordering.Ordering}
+use Rattle.std.specs.declared.cmp.Ordering.TheVariants.{Less, Equal, Greater}
 use Rattle.room_entry.specs.Pieces.{same_text}
-use Rattle.room_rows.specs.Content.{is_before, is_pair_before, put_pair, set_of}
-use Rattle.room_rows.specs.Laws.{SetOfPairs, are_rising}
-use Rattle.std.proofs.lemmas.Bool.Decides.{nat_tests}
+use Rattle.room_rows.specs.{Content.{is_before, is_pair_before, put_pair, set_of}, Laws.SetOfPairs}
+use Rattle.room_rows.specs.Laws.{are_rising}
 
 abbrev Pair : Type 0
 Pair = List ℕ × List ℕ

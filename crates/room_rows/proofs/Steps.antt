@@ -1,11 +1,8 @@
 -- Calls of a keeper one after the other.
 use Rattle.std.proofs.Common.{◌≡◌, ℕ, ◌≤◌, Result, Ok, Err, refl, ap, ◌∙◌, inl, inr, arith}
-use Rattle.std.proofs.lemmas.Bool.{cases_lt}
-use Rattle.room_rows.specs.declared.keep.KeepFault.{KeepFault}
-use Rattle.room_rows.specs.declared.keep.KeepFault.TheVariants.{Memory, Store, Damaged}
-use Rattle.room_rows.specs.Rows.{Rows}
-use Rattle.room_rows.specs.Keep.{HasCause, IfSeen, IsRead, KeepLaws}
-use Rattle.std.proofs.lemmas.Bool.Decides.{nat_tests}
+use Rattle.std.proofs.lemmas.Bool.{cases_lt, Decides.nat_tests}
+use Rattle.room_rows.specs.declared.keep.KeepFault.{KeepFault, TheVariants.{Memory, Store, Damaged}}
+use Rattle.room_rows.specs.{Rows.Rows, Keep.{HasCause, IfSeen, IsRead, KeepLaws}}
 
 -- an error that `?` hands on
 pub handed_on : {X E : Type 0} (r : Result X E) (e : E)

@@ -1,14 +1,12 @@
 -- The test of UTF-8, and texts.
 use Rattle.std.proofs.Common.{◌≡◌, ℕ, zero, suc, ◌<◌, ◌≤◌, ◌==◌, true, false, List, [], ◌∷◌, length}
 use Rattle.std.proofs.Common.{take, sym, subst, ◌∙◌, arith, inl, inr, get_or, nat_lt}
-use Rattle.std.specs.List.{list_all}
-use Rattle.std.specs.Str.{IsUtf8, IsValidUpTo, is_utf8 as is_text}
-use Rattle.std.specs.Str.Lossy.{utf8_valid_len}
 use Rattle.std.proofs.lemmas.Bool.{cases_Bool, and_parts, or_from, ltb-true, ne_eqb, false≢true}
-use Rattle.std.proofs.lemmas.Bool.{false_from_ne_true}
-use Rattle.std.proofs.lemmas.List.{take_all}
-use Rattle.std.proofs.lemmas.Str.{IsUtf8-from_ascii, IsUtf8-from_is_utf8, IsUtf8-nil}
-use Rattle.std.proofs.lemmas.Str.{is_utf8-from_IsUtf8, utf8_valid_len-IsValidUpTo}
+use Rattle.std.proofs.lemmas.{Bool.false_from_ne_true, List.take_all, Str.IsUtf8-from_ascii}
+use Rattle.std.proofs.lemmas.Str.{IsUtf8-from_is_utf8, IsUtf8-nil, is_utf8-from_IsUtf8}
+use Rattle.std.proofs.lemmas.Str.{utf8_valid_len-IsValidUpTo}
+use Rattle.std.specs.{List.list_all, Str.{IsUtf8, IsValidUpTo, is_utf8 as is_text}}
+use Rattle.std.specs.Str.Lossy.{utf8_valid_len}
 use Rattle.room_entry.specs.Utf8.{is_utf8}
 
 -- where all bytes are below 128, the byte at any place is, and so is the 0 past the end

@@ -2,9 +2,7 @@
 use Rattle.std.proofs.Common.{◌≡◌, ℕ, ◌<◌, ◌-◌, ◌+◌, suc, List, [], ◌∷◌, ◌++◌, length, Some, None}
 use Rattle.std.proofs.Common.{drop, get_or, refl, sym, ap, ◌∙◌, append_assoc, drop-cons, add-one}
 use Rattle.std.proofs.Common.{length-drop}
-use Rattle.room_rows.specs.declared.node.Node.{Node}
-use Rattle.room_rows.specs.Content.{Content, child_of}
-use Rattle.room_rows.specs.Along.{after_chain}
+use Rattle.room_rows.specs.{declared.node.Node.Node, Content.{Content, child_of}, Along.after_chain}
 use Rattle.room_rows.specs.Walk.{walk_from, behind}
 
 pub next_name : (names : List (List ℕ)) (i : ℕ) (name : List ℕ) → i < length names

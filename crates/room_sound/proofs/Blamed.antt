@@ -1,15 +1,10 @@
 -- What is blamed for a fault, and that sound rows have none of it.
 use Rattle.std.proofs.Common.{◌≡◌, ℕ, Bool, true, false, cond, List, Option, Some, None, ap, subst}
-use Rattle.std.proofs.Common.{◌∙◌, inl, inr}
-use Rattle.std.specs.Prelude.{is_none, nat_le, length, ◌==◌}
-use Rattle.std.specs.Option.{option_map_or}
-use Rattle.std.proofs.lemmas.Bool.{false≢true}
+use Rattle.std.proofs.{Common.{◌∙◌, inl, inr}, lemmas.Bool.false≢true}
+use Rattle.std.specs.{Prelude.{is_none, nat_le, length, ◌==◌}, Option.option_map_or}
 use Rattle.room_entry.specs.Valid.{is_document}
-use Rattle.room_rows.specs.declared.node.Node.{Node}
-use Rattle.room_rows.specs.declared.node.AuditRow.{AuditRow}
-use Rattle.room_rows.specs.Content.{body_of, node_at}
-use Rattle.room_rows.specs.Keep.{HasNoRoot, IsDamaged, IsUnreadable}
-use Rattle.room_rows.specs.Rows.{Rows}
+use Rattle.room_rows.specs.{declared.node.{Node.Node, AuditRow.AuditRow}, Content.body_of}
+use Rattle.room_rows.specs.{Content.node_at, Keep.{HasNoRoot, IsDamaged, IsUnreadable}, Rows.Rows}
 use Rattle.room_rows.specs.Sound.{AreSound, has_sound_body}
 use Rattle.room_judge.specs.Judged.{with_notes}
 use Rattle.room_sound.proofs.SoundParts.{passes_test, rootless_unsound, sound_parts}

@@ -1,24 +1,17 @@
 -- Items judged at objects with their stored lists are those of the plan.
-use Rattle.std.proofs.Common.{◌≡◌, ℕ, ℤ, Bool, false, List, [], ◌∷◌, ◌++◌, map}
-use Rattle.std.proofs.Common.{Option, Some, None, refl, sym, ap, ◌∙◌}
+use Rattle.std.proofs.Common.{◌≡◌, ℕ, ℤ, Bool, false, List, [], ◌∷◌, ◌++◌, map, Option, Some, None}
+use Rattle.std.proofs.{Common.{refl, sym, ap, ◌∙◌, arith}, lemmas.List.map-append}
 use Rattle.std.specs.Option.{option_map}
-use Rattle.std.proofs.lemmas.List.{map-append}
 use Rattle.room_entry.specs.declared.parties.Caller.{Caller}
-use Rattle.room_rows.specs.Content.{Content, is_empty}
-use Rattle.room_rows.specs.Meaning.{kept_node, meaning}
-use Rattle.room_rows.specs.Rows.{Rows, AreRows}
-use Rattle.room_judge.specs.declared.asker.Asker.{Asker}
-use Rattle.room_machine.specs.declared.reply.Reply.{Reply}
-use Rattle.room_machine.specs.Site.{Site, sites_along, site_at}
+use Rattle.room_rows.specs.{Content.{Content, is_empty}, Meaning.{kept_node, meaning}, Rows.Rows}
+use Rattle.room_rows.specs.Rows.{AreRows}
+use Rattle.room_judge.specs.{declared.asker.Asker.Asker, Judged.{IsJudged, with_notes}}
+use Rattle.room_machine.specs.{declared.reply.Reply.Reply, Site.{Site, sites_along, site_at}}
 use Rattle.room_machine.specs.Plan.{Item, Check, Deletion, Refusal, way, where_found, to_target}
-use Rattle.room_machine.specs.Judge.{failure, passes, first_failure, checks_of}
-use Rattle.room_machine.specs.Judge.{records_of_checks, records_of_plan}
-use Rattle.room_machine.specs.Stored.{stored_along, to_stored}
-use Rattle.room_judge.specs.Judged.{IsJudged, with_notes}
-use Rattle.room_sound.proofs.SoundParts.{SoundParts}
-use Rattle.room_sound.proofs.Sites.{fill, sites_filled}
+use Rattle.room_machine.specs.Judge.{failure, passes, first_failure, checks_of, records_of_checks}
+use Rattle.room_machine.specs.{Judge.records_of_plan, Stored.{stored_along, to_stored}}
+use Rattle.room_sound.proofs.{SoundParts.SoundParts, Sites.{fill, sites_filled}}
 use Rattle.room_sound.proofs.Targets.{target_kept}
-use Rattle.std.proofs.Common.{arith}
 
 abbrev pub fill_item : Item → Item
 fill_item (Check site bits) = Check (fill site) bits

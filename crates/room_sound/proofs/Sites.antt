@@ -1,36 +1,22 @@
 -- On sound rows, the objects that a walk finds have the lists that are stored.
-use Rattle.std.proofs.Common.{◌≡◌, ℕ, Bool, true, false, cond, List, [], ◌∷◌, ◌++◌, map}
-use Rattle.std.proofs.Common.{Option, Some, None, refl, sym, ap, ◌∙◌}
-use Rattle.std.specs.Prelude.{length}
-use Rattle.std.specs.Option.{option_map, option_map_or}
-use Rattle.std.proofs.lemmas.Bool.{and_parts}
-use Rattle.room_entry.specs.Ace.{Ace}
-use Rattle.room_entry.specs.declared.object.Which.{Which}
-use Rattle.room_entry.specs.declared.object.Which.TheVariants.{Dacl, Sacl}
-use Rattle.room_entry.proofs.Same.{entries_equal}
-use Rattle.room_rows.specs.HeldList.{Held}
-use Rattle.room_rows.specs.declared.node.Node.{Node}
-use Rattle.room_rows.specs.Held.{held_of, full_of, is_linked}
-use Rattle.room_rows.specs.Content.{Content, node_at, root_of, child_of, parent_of}
-use Rattle.room_rows.specs.Content.{is_linked_in}
-use Rattle.room_rows.specs.Meaning.{kept_held, kept_node, meaning}
-use Rattle.room_rows.specs.Rows.{Rows, AreRows}
-use Rattle.room_rows.specs.Walk.{walk_from, behind}
+use Rattle.std.proofs.Common.{◌≡◌, ℕ, Bool, true, false, cond, List, [], ◌∷◌, ◌++◌, map, Option}
+use Rattle.std.proofs.{Common.{Some, None, refl, sym, ap, ◌∙◌, arith}, lemmas.Bool.and_parts}
+use Rattle.std.proofs.lemmas.Bool.Decides.{nat_tests}
+use Rattle.std.specs.{Prelude.length, Option.{option_map, option_map_or}}
+use Rattle.room_entry.specs.{Ace.Ace, declared.object.Which.{Which, TheVariants.{Dacl, Sacl}}}
+use Rattle.room_entry.proofs.{Same.entries_equal, Facts.Booleans.implied}
+use Rattle.room_rows.specs.{HeldList.Held, declared.node.Node.Node, Held.{held_of, full_of}}
+use Rattle.room_rows.specs.{Held.is_linked, Content.{Content, node_at, root_of, child_of}}
+use Rattle.room_rows.specs.{Content.{parent_of, is_linked_in}, Meaning.{kept_held, kept_node}}
+use Rattle.room_rows.specs.{Meaning.meaning, Rows.{Rows, AreRows}, Walk.{walk_from, behind}}
+use Rattle.room_rows.specs.{Pass.pass, Law.{agrees_with, agrees}, Sound.keeps_law}
 use Rattle.room_rows.proofs.Frames.{Rises, root_of-is_there, root_of-parent, child_of-is_there}
-use Rattle.room_rows.proofs.Frames.{child_of-parent, child_of-name}
-use Rattle.room_rows.proofs.InPlace.{KeepsPlaces, keeps_places, root_of-with_each}
-use Rattle.room_rows.proofs.InPlace.{child_of-with_each}
-use Rattle.room_rows.specs.Pass.{pass}
-use Rattle.room_rows.specs.Law.{agrees_with, agrees}
-use Rattle.room_rows.specs.Sound.{keeps_law}
+use Rattle.room_rows.proofs.{Frames.{child_of-parent, child_of-name}, InPlace.KeepsPlaces}
+use Rattle.room_rows.proofs.InPlace.{keeps_places, root_of-with_each, child_of-with_each}
 use Rattle.room_machine.specs.Site.{Site, full_at, root_site, site_below, sites_below, sites_of}
-use Rattle.room_machine.specs.Site.{sites_along}
-use Rattle.room_machine.specs.Stored.{stored_site, stored_from, stored_along}
+use Rattle.room_machine.specs.{Site.sites_along, Stored.{stored_site, stored_from, stored_along}}
 use Rattle.room_sound.proofs.SoundParts.{SoundParts, passes_test}
 use Rattle.room_inherit.proofs.Stored.{linked_kept}
-use Rattle.room_entry.proofs.Facts.Booleans.{implied}
-use Rattle.std.proofs.Common.{arith}
-use Rattle.std.proofs.lemmas.Bool.Decides.{nat_tests}
 
 -- the object with the inherited entries of its lists
 abbrev pub fill : Site → Site

@@ -1,25 +1,17 @@
 -- Sound rows, test by test.
 use Rattle.std.proofs.Common.{◌≡◌, ℕ, zero, suc, Bool, true, false, cond, not, List, [], ◌∷◌, map}
-use Rattle.std.proofs.Common.{filter, length, Option, Some, None, refl, sym, ap, ◌∙◌, inl}
-use Rattle.std.proofs.Common.{inr}
-use Rattle.std.specs.Prelude.{is_none}
-use Rattle.std.specs.List.{AllByRecursion, find}
-use Rattle.std.specs.Option.{option_map_or}
-use Rattle.std.proofs.lemmas.Bool.{eq-eqb, or_left}
+use Rattle.std.proofs.Common.{filter, length, Option, Some, None, refl, sym, ap, ◌∙◌, inl, inr}
+use Rattle.std.proofs.{Common.arith, lemmas.Bool.{eq-eqb, or_left, Decides.nat_tests}}
+use Rattle.std.specs.{Prelude.is_none, List.{AllByRecursion, find}, Option.option_map_or}
 use Rattle.room_entry.specs.Pieces.{is_among}
-use Rattle.room_rows.specs.declared.node.AuditRow.{AuditRow}
-use Rattle.room_rows.specs.declared.node.Node.{Node}
-use Rattle.room_rows.specs.Content.{Content, node_at, is_root, has_folder_above, reaches_root}
-use Rattle.room_rows.specs.Content.{with_records}
-use Rattle.room_rows.specs.Keep.{HasNoRoot, IsUnreadable}
-use Rattle.room_rows.specs.Rows.{Rows, Unread, put_number, unread_numbers}
-use Rattle.room_rows.specs.Sound.{AreSound, first_bad_list, bad_root, first_failing}
-use Rattle.room_rows.specs.Sound.{reaches, has_sound_name, has_sound_body, keeps_law}
+use Rattle.room_rows.specs.{declared.node.{AuditRow.AuditRow, Node.Node}, Content.Content}
+use Rattle.room_rows.specs.Content.{node_at, is_root, has_folder_above, reaches_root, with_records}
+use Rattle.room_rows.specs.{Keep.{HasNoRoot, IsUnreadable}, Rows.{Rows, Unread, put_number}}
+use Rattle.room_rows.specs.{Rows.unread_numbers, Sound.{AreSound, first_bad_list, bad_root}}
+use Rattle.room_rows.specs.Sound.{first_failing, reaches, has_sound_name, has_sound_body, keeps_law}
 use Rattle.room_judge.specs.Judged.{NotSound, with_notes}
 use Rattle.room_inherit.proofs.NoFault.{all_pass, no_fault, none_bad, none_fails, sound, unbad}
 use Rattle.room_inherit.proofs.Whole.{all_read}
-use Rattle.std.proofs.Common.{arith}
-use Rattle.std.proofs.lemmas.Bool.Decides.{nat_tests}
 
 -- No test finds a fault.
 pub record SoundParts (rows : Rows) : Type 0 where

@@ -1,19 +1,13 @@
 -- The object of a plan's site is the stored one, with the inherited entries that it keeps.
 use Rattle.std.proofs.Common.{◌≡◌, ℕ, List, [], ◌∷◌, ◌++◌, map, Option, Some, None, refl, sym, ap}
-use Rattle.std.proofs.Common.{◌∙◌}
-use Rattle.std.specs.Prelude.{length}
-use Rattle.std.specs.Option.{option_map, option_map_or}
-use Rattle.room_rows.specs.declared.node.Node.{Node}
-use Rattle.room_rows.specs.Content.{Content, child_of}
-use Rattle.room_rows.specs.Meaning.{kept_node, meaning}
-use Rattle.room_rows.specs.Walk.{walk_of, walk_from, behind}
+use Rattle.std.proofs.{Common.{◌∙◌, arith}, lemmas.Bool.Decides.nat_tests}
+use Rattle.std.specs.{Prelude.length, Option.{option_map, option_map_or}}
+use Rattle.room_rows.specs.{declared.node.Node.Node, Content.{Content, child_of}, Meaning.kept_node}
+use Rattle.room_rows.specs.{Meaning.meaning, Walk.{walk_of, walk_from, behind}}
 use Rattle.room_rows.proofs.InPlace.{KeepsPlaces, keeps_places, root_of-with_each}
 use Rattle.room_rows.proofs.InPlace.{child_of-with_each}
 use Rattle.room_machine.specs.Site.{Site, root_site, site_below, sites_below, sites_of, sites_along}
-use Rattle.room_machine.specs.Site.{site_at}
-use Rattle.room_machine.specs.Stored.{stored_from, stored_along}
-use Rattle.std.proofs.Common.{arith}
-use Rattle.std.proofs.lemmas.Bool.Decides.{nat_tests}
+use Rattle.room_machine.specs.{Site.site_at, Stored.{stored_from, stored_along}}
 
 -- ---- what stands after n names
 

@@ -1,18 +1,13 @@
 -- Requests on rows that needn't be sound.
-use Rattle.std.proofs.Common.{ℕ, ℤ, List, Option, Result, Ok, Err, refl, ap}
-use Rattle.std.proofs.Common.{subst, ◌∙◌}
+use Rattle.std.proofs.Common.{ℕ, ℤ, List, Option, Result, Ok, Err, refl, ap, subst, ◌∙◌}
 use Rattle.sqlite.specs.State.{State, HasCleanDisk}
 use Rattle.room_rows.specs.Rows.{Rows}
-use Rattle.room_machine.specs.declared.reply.Reply.{Reply}
-use Rattle.room_machine.specs.declared.request.Request.{Request}
-use Rattle.room_machine.specs.Closed.{FailsClosed}
-use Rattle.room_machine.specs.Desk.{Closes}
+use Rattle.room_machine.specs.declared.{reply.Reply.Reply, request.Request.Request}
+use Rattle.room_machine.specs.{Closed.FailsClosed, Desk.Closes}
 use Rattle.room_judge.specs.Closed.{Performs}
 use Rattle.store_tables.specs.Meaning.{rows_of}
-use Rattle.room_store.specs.declared.fault.StoreFault.{StoreFault}
-use Rattle.room_store.specs.Kept.{Stores}
-use Rattle.room_store.specs.Premise.{StorePremise}
-use Rattle.room_store.specs.Ran.{HasDamage, Ran}
+use Rattle.room_store.specs.{declared.fault.StoreFault.StoreFault, Kept.Stores}
+use Rattle.room_store.specs.{Premise.StorePremise, Ran.{HasDamage, Ran}}
 
 pub closes : (user : Option (List ℕ)) (moment : ℤ) (request : Request) (old new : State)
     (result : Result Reply StoreFault)

@@ -3,15 +3,12 @@ use Rattle.std.proofs.Common.{◌≡◌, ◌≤◌, Result, Ok, Err, refl, sym, 
 use Rattle.sqlite_trees.specs.View.{doubt}
 use Rattle.sqlite.specs.State.{State, HasCleanDisk}
 use Rattle.room_rows.specs.declared.keep.KeepFault.{KeepFault}
-use Rattle.room_rows.specs.declared.keep.KeepFault.TheVariants as keep
-use Rattle.store_tables.specs.Shown.{Stays}
-use Rattle.store_tables.specs.Failing.{FailsInside}
+use Rattle.store_tables.specs.{Shown.Stays, Failing.FailsInside}
 use Rattle.store_tables.proofs.Failing.{Counts, around}
-use Rattle.room_store.specs.declared.fault.StoreFault.{StoreFault}
-use Rattle.room_store.specs.declared.fault.StoreFault.TheVariants.{Db}
-use Rattle.room_store.specs.Failing.{FailsByDb}
-use Rattle.room_store.specs.Turn.{Begins, GivesUp, fault_as}
+use Rattle.room_store.specs.declared.fault.StoreFault.{StoreFault, TheVariants.Db}
+use Rattle.room_store.specs.{Failing.FailsByDb, Turn.{Begins, GivesUp, fault_as}}
 use Rattle.room_store.proofs.Transact.{made, same_fault}
+use Rattle.room_rows.specs.declared.keep.KeepFault.TheVariants as keep
 
 store_of : (why : KeepFault) → fault_as why ≡ Db → why ≡ keep.Store
 store_of keep.Memory is = absurd (let e = is in cc)

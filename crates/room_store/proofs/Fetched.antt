@@ -1,15 +1,10 @@
 -- What fetching a document over any keeper is, in terms of a transaction.
 use Rattle.std.proofs.Common.{ℕ, List, Result, IfOk, IfErr, subst}
 use Rattle.sqlite.specs.State.{State}
-use Rattle.room_rows.specs.declared.keep.KeepFault.{KeepFault}
-use Rattle.room_rows.specs.Keep.{HasCause, IsDamaged}
-use Rattle.room_dump.specs.Fetching.{IsFetched}
-use Rattle.room_dump.specs.declared.fetching.Fetched.{Fetched}
-use Rattle.store_tables.specs.Meaning.{rows_of}
-use Rattle.store_tables.specs.Shown.{Stays}
-use Rattle.store_tables.specs.Trust.{IsTrusted}
-use Rattle.store_admin.specs.Carries.{CallsInside, Reading}
-use Rattle.store_admin.specs.Dump.{HasDamagedRow}
+use Rattle.room_rows.specs.{declared.keep.KeepFault.KeepFault, Keep.{HasCause, IsDamaged}}
+use Rattle.room_dump.specs.{Fetching.IsFetched, declared.fetching.Fetched.Fetched}
+use Rattle.store_tables.specs.{Meaning.rows_of, Shown.Stays, Trust.IsTrusted}
+use Rattle.store_admin.specs.{Carries.{CallsInside, Reading}, Dump.HasDamagedRow}
 
 -- a document by the keeper
 pub fetched_by : (path : List (List ℕ)) (result : Result Fetched KeepFault) (begun mid : State)

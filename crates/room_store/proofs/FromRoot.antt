@@ -1,35 +1,21 @@
 -- What a sound room stores is what is computed from the root.
-use Rattle.std.proofs.Common.{◌≡◌, ℕ, Bool, true, List, [], ◌∷◌, map, Some, refl, sym, subst}
-use Rattle.std.proofs.Common.{◌∙◌, not, inl, inr}
-use Rattle.std.specs.Prelude.{◌==◌}
-use Rattle.std.specs.List.{AllByRecursion, list_all}
-use Rattle.sqlite.specs.Tree.{Trees}
-use Rattle.std.proofs.lemmas.Bool.{and_parts, and_from}
-use Rattle.sqlite.specs.State.{State}
-use Rattle.room_entry.specs.declared.object.Which.{Which}
-use Rattle.room_entry.specs.declared.object.Which.TheVariants.{Dacl, Sacl}
-use Rattle.room_rows.specs.declared.node.Node.{Node}
-use Rattle.room_rows.specs.Content.{Content, node_at}
-use Rattle.room_rows.specs.Full.{full_in}
-use Rattle.room_rows.specs.Held.{held_of, full_of}
-use Rattle.room_rows.specs.Law.{AllAgree, agrees}
-use Rattle.room_rows.specs.Meaning.{kept_node, meaning}
-use Rattle.room_rows.specs.Rows.{AreRows, Rows, numbers_of}
-use Rattle.room_rows.specs.Sound.{has_bad_list, keeps_law, reaches}
+use Rattle.std.proofs.Common.{◌≡◌, ℕ, Bool, true, List, [], ◌∷◌, map, Some, refl, sym, subst, ◌∙◌}
+use Rattle.std.proofs.{Common.{not, inl, inr}, lemmas.Bool.{and_parts, and_from}}
+use Rattle.std.specs.{Prelude.◌==◌, List.{AllByRecursion, list_all}}
+use Rattle.sqlite.specs.{Tree.Trees, State.State}
+use Rattle.room_entry.specs.declared.object.Which.{Which, TheVariants.{Dacl, Sacl}}
+use Rattle.room_rows.specs.{declared.node.Node.Node, Content.{Content, node_at}, Full.full_in}
+use Rattle.room_rows.specs.{Held.{held_of, full_of}, Law.{AllAgree, agrees}, Meaning.kept_node}
+use Rattle.room_rows.specs.{Meaning.meaning, Rows.{AreRows, Rows, numbers_of}, Sound.has_bad_list}
+use Rattle.room_rows.specs.Sound.{keeps_law, reaches}
 use Rattle.room_rows.proofs.Lookups.{each_found}
-use Rattle.room_inherit.specs.Ancestry.{RootedIsNoLoop}
-use Rattle.room_inherit.specs.Laws.{HasNoFault, SoundIsContent, SoundIsNoFault, StoredIsFull}
-use Rattle.room_inherit.specs.Spread.{IsOwnAncestor}
-use Rattle.room_inherit.proofs.NoFault.{none_fails, unbad}
-use Rattle.room_inherit.proofs.Stored.{all_found}
+use Rattle.room_inherit.specs.{Ancestry.RootedIsNoLoop, Laws.{HasNoFault, SoundIsContent}}
+use Rattle.room_inherit.specs.{Laws.{SoundIsNoFault, StoredIsFull}, Spread.IsOwnAncestor}
+use Rattle.room_inherit.proofs.{NoFault.{none_fails, unbad}, Stored.all_found}
 use Rattle.room_inherit.proofs.Whole.{none_unreadable}
 use Rattle.room_machine.specs.Run.{Asking, Event}
-use Rattle.store_tables.specs.Meaning.{rows_of}
-use Rattle.store_tables.specs.RoomRows.{room_rows}
-use Rattle.store_tables.specs.Shown.{room_of}
-use Rattle.store_tables.specs.Within.{TreesOf}
-use Rattle.room_store.specs.Crash.{Lasts, HoldsRoom, LeavesWhole}
-use Rattle.room_store.specs.Leads.{Leads}
+use Rattle.store_tables.specs.{Meaning.rows_of, RoomRows.room_rows, Shown.room_of, Within.TreesOf}
+use Rattle.room_store.specs.{Crash.{Lasts, HoldsRoom, LeavesWhole}, Leads.Leads}
 use Rattle.room_store.specs.FromRoot.{CrashLeavesFromRoot, RoomsAreFromRoot, StaysFromRoot}
 use Rattle.room_store.specs.FromRoot.{AreFromRoot, computed_lists, stored_lists}
 

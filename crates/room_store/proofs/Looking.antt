@@ -1,21 +1,13 @@
 -- A call of a store that only reads, from its beginning to its end.
 use Rattle.std.proofs.Common.{◌≡◌, ◌≤◌, [], Result, Ok, Err, OnOk, IsTrue, false}
 use Rattle.sqlite_trees.specs.View.{doubt}
-use Rattle.sqlite.specs.Effect.{Database}
-use Rattle.sqlite.specs.State.{State, HasCleanDisk}
+use Rattle.sqlite.specs.{Effect.Database, State.{State, HasCleanDisk}}
 use Rattle.room_rows.specs.declared.keep.KeepFault.{KeepFault}
-use Rattle.store_tables.specs.Shown.{Stays}
-use Rattle.store_tables.specs.Within.{LeavesAsBefore}
+use Rattle.store_tables.specs.{Shown.Stays, Within.LeavesAsBefore}
 use Rattle.store_admin.specs.Carries.{AnswersOpen, CallsInside, Reading}
-use Rattle.room_store.specs.declared.fault.StoreFault.{StoreFault}
-use Rattle.room_store.specs.Crash.{Outlasts}
-use Rattle.room_store.specs.Leads.{Leads}
-use Rattle.room_store.specs.Ran.{Looked}
-use Rattle.room_store.specs.Turn.{Begins, GivesUp, StandsIfOpen}
-use Rattle.room_store.proofs.Leading.{nothing}
-use Rattle.room_store.proofs.Outlasting.{idle}
-use Rattle.room_store.proofs.Transact.{looked}
-use Rattle.room_store.proofs.Turning.{stands}
+use Rattle.room_store.specs.{declared.fault.StoreFault.StoreFault, Crash.Outlasts, Leads.Leads}
+use Rattle.room_store.specs.{Ran.Looked, Turn.{Begins, GivesUp, StandsIfOpen}}
+use Rattle.room_store.proofs.{Leading.nothing, Outlasting.idle, Transact.looked, Turning.stands}
 
 -- what it promises
 pub record Looks {X : Type 0} (old new : State) (result : Result X StoreFault)

@@ -1,35 +1,22 @@
 -- What a crash leaves after some calls.
-use Rattle.std.proofs.Common.{◌≡◌, ◌⊎◌, List, [], ◌∷◌, Result, Ok, Err}
-use Rattle.std.proofs.Common.{Bool, Option, None, Some, IfSome, IsTrue, inl, inr, refl, sym}
-use Rattle.std.proofs.Common.{subst, ◌∙◌}
+use Rattle.std.proofs.Common.{◌≡◌, ◌⊎◌, List, [], ◌∷◌, Result, Ok, Err, Bool, Option, None, Some}
+use Rattle.std.proofs.Common.{IfSome, IsTrue, inl, inr, refl, sym, subst, ◌∙◌}
 use Rattle.std.proofs.lemmas.Bool.{cases_Bool}
 use Rattle.sqlite_rules.specs.Lists.{Has}
-use Rattle.sqlite.specs.Effect.{Database}
-use Rattle.sqlite.specs.Held.{Held}
-use Rattle.sqlite.specs.Schema.{Schema}
-use Rattle.sqlite.specs.State.{State, HasCleanDisk}
+use Rattle.sqlite.specs.{Effect.Database, Held.Held, Schema.Schema, State.{State, HasCleanDisk}}
 use Rattle.sqlite.specs.Tree.{Trees}
-use Rattle.room_rows.specs.Content.{Content}
-use Rattle.room_rows.specs.Meaning.{meaning}
-use Rattle.room_rows.specs.Rows.{Rows}
-use Rattle.room_rows.specs.Sound.{AreSound}
-use Rattle.room_machine.specs.declared.reply.Reply.{Reply}
-use Rattle.room_machine.specs.Run.{Asking, Event, Happens, RunsMeet, event_of, unanswered}
-use Rattle.store_tables.specs.Meaning.{rows_of}
-use Rattle.store_tables.specs.Shown.{IsRoom, room_of}
-use Rattle.store_tables.specs.Within.{LeavesAsBefore}
-use Rattle.room_store.specs.Asks.{Asks}
-use Rattle.room_store.specs.Crash.{HoldsRoom, HoldsRoomAfter, IsOneMore, Lasts, LeavesAtMost}
-use Rattle.room_store.specs.Crash.{LeavesWhole, LosesNothing, Outlasts, OutlastsOn, Try, all_asked}
-use Rattle.room_store.specs.Crash.{all_happened, left_by}
-use Rattle.room_store.specs.Kept.{IsShut, IsSound, Keeps}
-use Rattle.room_store.specs.Leads.{Leads}
-use Rattle.room_store.specs.Ran.{CommitsAnswer, Ran}
-use Rattle.room_store.specs.declared.fault.StoreFault.{StoreFault}
-use Rattle.room_store.specs.Lasting.{nothing_tried, together}
-use Rattle.room_store.proofs.Leading.{IsEvent, leading}
-use Rattle.room_store.proofs.Shutting.{asked_keeps, asked_sound, not_shut}
-use Rattle.room_store.proofs.Versions.{same_version}
+use Rattle.room_rows.specs.{Content.Content, Meaning.meaning, Rows.Rows, Sound.AreSound}
+use Rattle.room_machine.specs.{declared.reply.Reply.Reply, Run.{Asking, Event, Happens, RunsMeet}}
+use Rattle.room_machine.specs.Run.{event_of, unanswered}
+use Rattle.store_tables.specs.{Meaning.rows_of, Shown.{IsRoom, room_of}, Within.LeavesAsBefore}
+use Rattle.room_store.specs.{Asks.Asks, Crash.{HoldsRoom, HoldsRoomAfter, IsOneMore, Lasts}}
+use Rattle.room_store.specs.Crash.{LeavesAtMost, LeavesWhole, LosesNothing, Outlasts, OutlastsOn}
+use Rattle.room_store.specs.{Crash.{Try, all_asked, all_happened, left_by}, Kept.{IsShut, IsSound}}
+use Rattle.room_store.specs.{Kept.Keeps, Leads.Leads, Ran.{CommitsAnswer, Ran}}
+use Rattle.room_store.specs.{declared.fault.StoreFault.StoreFault, Lasting.nothing_tried}
+use Rattle.room_store.specs.Lasting.{together}
+use Rattle.room_store.proofs.{Leading.{IsEvent, leading}, Shutting.{asked_keeps, asked_sound}}
+use Rattle.room_store.proofs.{Shutting.not_shut, Versions.same_version}
 
 -- what is seen over an open connection, where a crash leaves that and nothing else
 pub seen_is_left : (s : State) → IsSound s → IsTrue s.is_open → Lasts s → (room : Content)

@@ -1,23 +1,17 @@
 -- What is remembered from one transaction to the next.
 use Rattle.std.proofs.Common.{◌≡◌, ◌≤◌, Result, Ok, Err, Option, None, Some, IsTrue, IsOk, IfSome}
 use Rattle.std.proofs.Common.{OnErr, inl, false, sym, ap, subst, ◌∙◌, arith}
-use Rattle.sqlite.specs.Effect.{Database}
+use Rattle.sqlite.specs.{Effect.Database, State.{State, HasCleanDisk, IsRolledBack}}
 use Rattle.sqlite_trees.specs.View.{doubt}
-use Rattle.sqlite.specs.State.{State, HasCleanDisk, IsRolledBack}
-use Rattle.room_remember.specs.declared.memory.Memory.{Memory}
-use Rattle.room_remember.specs.Agrees.{AgreesWithRows}
-use Rattle.room_rows.specs.declared.keep.KeepFault.{KeepFault}
-use Rattle.room_rows.specs.Rows.{Rows}
-use Rattle.store_tables.specs.Meaning.{rows_of}
-use Rattle.store_tables.specs.Shown.{HasTables, Stays, tables_of}
-use Rattle.store_tables.specs.Trust.{IsTrusted}
-use Rattle.store_tables.specs.Within.{IsSettled, LeavesAsBefore, LeavesOnly}
+use Rattle.room_remember.specs.{declared.memory.Memory.Memory, Agrees.AgreesWithRows}
+use Rattle.room_rows.specs.{declared.keep.KeepFault.KeepFault, Rows.Rows}
+use Rattle.store_tables.specs.{Meaning.rows_of, Shown.{HasTables, Stays, tables_of}}
+use Rattle.store_tables.specs.{Trust.IsTrusted, Within.{IsSettled, LeavesAsBefore, LeavesOnly}}
 use Rattle.store_tables.proofs.Calls.{retains_same}
 use Rattle.store_admin.specs.Carries.{ByRows, CallsInside, OnRows}
-use Rattle.room_store.specs.declared.fault.StoreFault.{StoreFault}
-use Rattle.room_store.specs.Ran.{LeavesOpen, Ran}
-use Rattle.room_store.specs.Remembers.{EndsLook, IsKept, Remembers, Settled}
-use Rattle.room_store.specs.Turn.{Begins, GivesUp}
+use Rattle.room_store.specs.{declared.fault.StoreFault.StoreFault, Ran.{LeavesOpen, Ran}}
+use Rattle.room_store.specs.{Remembers.{EndsLook, IsKept, Remembers, Settled}, Turn.Begins}
+use Rattle.room_store.specs.Turn.{GivesUp}
 use Rattle.room_store.proofs.Transact.{before, made, never_damage, old_clean, old_open, same_fault}
 use Rattle.room_store.proofs.Transact.{undone_at}
 

@@ -1,25 +1,18 @@
 -- A sound room can be opened again, and so can whatever a crash leaves of one.
-use Rattle.std.proofs.Common.{◌≡◌, ℤ, List, Option, Some, None, Result, Ok, Err, IfErr, pos}
-use Rattle.std.proofs.Common.{inl, inr, refl, sym, subst, ap, ◌∙◌}
+use Rattle.std.proofs.Common.{◌≡◌, ℤ, List, Option, Some, None, Result, Ok, Err, IfErr, pos, inl}
+use Rattle.std.proofs.Common.{inr, refl, sym, subst, ap, ◌∙◌}
 use Rattle.std.specs.Prelude.{◌<ℤ◌}
-use lib.Signed.{<ℤ_irrefl}
-use Rattle.sqlite.specs.Effect.{Database}
-use Rattle.sqlite.specs.Held.{Held}
-use Rattle.sqlite.specs.State.{State}
-use Rattle.sqlite.specs.Tree.{Trees}
-use Rattle.room_rows.specs.Content.{Content}
-use Rattle.room_rows.specs.Meaning.{meaning}
+use Rattle.sqlite.specs.{Effect.Database, Held.Held, State.State, Tree.Trees}
+use Rattle.room_rows.specs.{Content.Content, Meaning.meaning}
 use Rattle.room_machine.specs.Run.{Asking, Event}
-use Rattle.store_schema.specs.NewRoom.{meta_of}
-use Rattle.store_schema.specs.Opening.{IsFailure, Says}
-use Rattle.store_schema.specs.declared.fault.OpenFault.{OpenFault}
-use Rattle.store_schema.specs.declared.fault.OpenFault.TheVariants.{NotRooms, OldVersion}
-use Rattle.store_schema.specs.declared.fault.OpenFault.TheVariants.{NewVersion}
-use Rattle.store_schema.specs.declared.fault.OpenFault.TheVariants.{Db, Memory}
-use Rattle.store_tables.specs.Meaning.{rows_of}
-use Rattle.store_tables.specs.Within.{TreesOf}
-use Rattle.room_store.specs.Crash.{HoldsRoom, IsRoomOf, Lasts, LeavesWhole}
-use Rattle.room_store.specs.Opens.{CanBeOpened, CrashLeavesARoom, RoomsCanBeOpened}
+use Rattle.store_schema.specs.{NewRoom.meta_of, Opening.{IsFailure, Says}}
+use Rattle.store_schema.specs.declared.fault.OpenFault.{OpenFault, TheVariants.NotRooms}
+use Rattle.store_schema.specs.declared.fault.OpenFault.TheVariants.{OldVersion, NewVersion, Db}
+use Rattle.store_schema.specs.declared.fault.OpenFault.TheVariants.{Memory}
+use Rattle.store_tables.specs.{Meaning.rows_of, Within.TreesOf}
+use Rattle.room_store.specs.{Crash.{HoldsRoom, IsRoomOf, Lasts, LeavesWhole}, Opens.CanBeOpened}
+use Rattle.room_store.specs.Opens.{CrashLeavesARoom, RoomsCanBeOpened}
+use lib.Signed.{<ℤ_irrefl}
 
 -- the same number stands there
 same_number : (version : Option ℤ) (n wanted : ℤ) → version ≡ Some wanted → version ≡ Some n

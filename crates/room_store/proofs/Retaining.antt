@@ -1,14 +1,10 @@
 -- What calls retain.
 use Rattle.std.proofs.Common.{Bool, Result, inl, inr, subst, sym}
-use Rattle.sqlite.specs.Effect.{Database}
-use Rattle.sqlite.specs.State.{State}
+use Rattle.sqlite.specs.{Effect.Database, State.State}
 use Rattle.room_rows.specs.Rows.{Rows}
 use Rattle.store_tables.specs.Shown.{HasTables, Retains}
 use Rattle.store_tables.proofs.Calls.{retains_on}
-use Rattle.room_store.specs.Asks.{Asks}
-use Rattle.room_store.specs.Premise.{StorePremise}
-use Rattle.room_store.specs.Ran.{Ran}
-use Rattle.room_store.specs.Retained.{StillHolds}
+use Rattle.room_store.specs.{Asks.Asks, Premise.StorePremise, Ran.Ran, Retained.StillHolds}
 use Rattle.room_store.specs.declared.fault.StoreFault.{StoreFault}
 
 -- a call that writes

@@ -2,16 +2,11 @@
 use Rattle.std.proofs.Common.{◌≡◌, ℕ, List, Result, Ok, IfOk, IfErr, Vec, inl, subst, subst₂}
 use Rattle.std.specs.Global.{Global}
 use Rattle.sqlite.specs.State.{State}
-use Rattle.room_rows.specs.declared.keep.KeepFault.{KeepFault}
-use Rattle.room_rows.specs.Keep.{HasCause, HasNoRoot}
-use Rattle.room_review.specs.Table.{IsReview}
-use Rattle.room_review.specs.declared.question.Scope.{Scope}
-use Rattle.room_review.specs.declared.question.Reviewed.{Reviewed}
-use Rattle.store_tables.specs.Meaning.{rows_of}
-use Rattle.store_tables.specs.Shown.{Stays}
-use Rattle.store_tables.specs.Trust.{IsTrusted, stays_on, trusted_first, trusted_last}
-use Rattle.store_admin.specs.Carries.{CallsInside, NoTables, Reading}
-use Rattle.store_admin.specs.Dump.{HasDamagedRow}
+use Rattle.room_rows.specs.{declared.keep.KeepFault.KeepFault, Keep.{HasCause, HasNoRoot}}
+use Rattle.room_review.specs.{Table.IsReview, declared.question.{Scope.Scope, Reviewed.Reviewed}}
+use Rattle.store_tables.specs.{Meaning.rows_of, Shown.Stays, Trust.{IsTrusted, stays_on}}
+use Rattle.store_tables.specs.Trust.{trusted_first, trusted_last}
+use Rattle.store_admin.specs.{Carries.{CallsInside, NoTables, Reading}, Dump.HasDamagedRow}
 use Rattle.store_admin.specs.Operating.{AreMembers}
 use Rattle.room_store.specs.Reviews.{IsReviewBy, IsReviewOf}
 

@@ -1,27 +1,19 @@
 -- What a test says of a connection that a fault may have shut.
-use Rattle.std.proofs.Common.{◌≡◌, ◌⊎◌, ℕ, Bool, true, false, List, [], Result, Ok, IfOk}
-use Rattle.std.proofs.Common.{IsTrue, inl, inr, refl, sym, ap, subst, ◌∙◌, true≢false, arith}
-use Rattle.sqlite.specs.Order.{Row}
-use Rattle.sqlite_trees.specs.View.{doubt}
-use Rattle.sqlite_trees.specs.declared.error.StoreError.{StoreError}
+use Rattle.std.proofs.Common.{◌≡◌, ◌⊎◌, ℕ, Bool, true, false, List, [], Result, Ok, IfOk, IsTrue}
+use Rattle.std.proofs.Common.{inl, inr, refl, sym, ap, subst, ◌∙◌, true≢false, arith}
+use Rattle.sqlite.specs.{Order.Row, declared.error.Error.Error, State.{State, HasCleanDisk}}
+use Rattle.sqlite.specs.State.{HasCause, IsNoStatement, IsNotRun, IsRolledBack, IsUnchanged}
+use Rattle.sqlite.specs.{State.store_error, Effect.Database}
+use Rattle.sqlite_trees.specs.{View.doubt, declared.error.StoreError.StoreError}
 use Rattle.sqlite_trees.specs.declared.error.StoreError.TheVariants.{OutOfMemory, Io, Corrupt, Full}
 use Rattle.sqlite_trees.specs.declared.error.StoreError.TheVariants.{Broken, Unstorable}
-use Rattle.sqlite.specs.declared.error.Error.{Error}
-use Rattle.sqlite.specs.State.{State, HasCleanDisk, HasCause, IsNoStatement, IsNotRun, IsRolledBack}
-use Rattle.sqlite.specs.State.{IsUnchanged, store_error}
 use Rattle.room_machine.specs.Desk.{Agrees}
-use Rattle.room_store.specs.Asks.{Asks, says_shut, told_by, told_if}
-use Rattle.sqlite.specs.Effect.{Database}
-use Rattle.room_rows.specs.Content.{Content}
-use Rattle.room_rows.specs.Meaning.{meaning}
-use Rattle.room_rows.specs.Rows.{Rows}
-use Rattle.room_rows.specs.Sound.{AreSound}
-use Rattle.store_tables.specs.Meaning.{rows_of}
-use Rattle.store_tables.specs.Shown.{HasTables}
-use Rattle.store_tables.proofs.Within.{CommitsNothing, as_before}
-use Rattle.room_store.specs.Kept.{IsOfThisVersion, IsShut, IsSound, Keeps, Stores}
-use Rattle.room_store.specs.Ran.{Ran}
+use Rattle.room_store.specs.{Asks.{Asks, says_shut, told_by, told_if}, Kept.IsOfThisVersion}
+use Rattle.room_store.specs.{Kept.{IsShut, IsSound, Keeps, Stores}, Ran.Ran}
 use Rattle.room_store.specs.declared.fault.StoreFault.{StoreFault}
+use Rattle.room_rows.specs.{Content.Content, Meaning.meaning, Rows.Rows, Sound.AreSound}
+use Rattle.store_tables.specs.{Meaning.rows_of, Shown.HasTables}
+use Rattle.store_tables.proofs.Within.{CommitsNothing, as_before}
 
 -- what holds of a clean disk holds of any, where a disk that isn't clean shows as shut
 clean_or_not : (clean is_open : Bool) → (clean ≡ false → is_open ≡ false)

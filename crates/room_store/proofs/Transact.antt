@@ -1,29 +1,20 @@
 -- Calls in a transaction that is committed or rolled back.
-use Rattle.std.proofs.Common.{◌≡◌, ◌≤◌, ℕ, Result, Ok, Err, IsTrue, IfOk, OnOk, inl, inr, refl}
-use Rattle.std.proofs.Common.{sym}
-use Rattle.std.proofs.Common.{ap, subst, subst₂, ◌∙◌, false, arith}
+use Rattle.std.proofs.Common.{◌≡◌, ◌≤◌, ℕ, Result, Ok, Err, IsTrue, IfOk, OnOk, inl, inr, refl, sym}
+use Rattle.std.proofs.{Common.{ap, subst, subst₂, ◌∙◌, false, arith}, lemmas.Bool.cases_Bool}
 use Rattle.sqlite_trees.specs.View.{doubt}
-use Rattle.sqlite.specs.Effect.{Database}
-use Rattle.sqlite.specs.Tree.{Trees}
-use Rattle.sqlite.specs.declared.error.Error.{Error}
-use Rattle.sqlite.specs.State.{State, HasCleanDisk, Shows, IsRolledBack}
-use Rattle.sqlite.specs.Steps.{FailsToCommit}
-use Rattle.room_rows.specs.declared.keep.KeepFault.{KeepFault}
-use Rattle.room_rows.specs.declared.keep.KeepFault.TheVariants as keep
-use Rattle.room_rows.specs.Rows.{Rows}
-use Rattle.store_tables.specs.Meaning.{rows_of}
-use Rattle.store_tables.specs.Shown.{HasTables, IsRoom, Retains, Stays, room_of, tables_of}
-use Rattle.store_tables.specs.Trust.{IsTrusted}
-use Rattle.store_tables.specs.Within.{IsSettled, LeavesAsBefore, LeavesOnly, LeavesOrCommits}
-use Rattle.store_tables.specs.Seeing.{wants_memory}
+use Rattle.sqlite.specs.{Effect.Database, Tree.Trees, declared.error.Error.Error, State.State}
+use Rattle.sqlite.specs.{State.{HasCleanDisk, Shows, IsRolledBack}, Steps.FailsToCommit}
+use Rattle.room_rows.specs.{declared.keep.KeepFault.KeepFault, Rows.Rows}
+use Rattle.store_tables.specs.{Meaning.rows_of, Shown.{HasTables, IsRoom, Retains, Stays, room_of}}
+use Rattle.store_tables.specs.{Shown.tables_of, Trust.IsTrusted, Within.{IsSettled, LeavesAsBefore}}
+use Rattle.store_tables.specs.{Within.{LeavesOnly, LeavesOrCommits}, Seeing.wants_memory}
 use Rattle.store_tables.proofs.Calls.{retains_same}
-use Rattle.std.proofs.lemmas.Bool.{cases_Bool}
-use Rattle.room_store.specs.declared.fault.StoreFault.{StoreFault}
-use Rattle.room_store.specs.declared.fault.StoreFault.TheVariants.{Memory, Db, Damaged}
-use Rattle.room_store.specs.Premise.{StorePremise}
-use Rattle.room_store.specs.Ran.{CommitsAnswer, IsAnswered, LeavesOpen, Looked, Ran}
+use Rattle.room_store.specs.declared.fault.StoreFault.{StoreFault, TheVariants.{Memory, Db}}
+use Rattle.room_store.specs.{declared.fault.StoreFault.TheVariants.Damaged, Premise.StorePremise}
+use Rattle.room_store.specs.{Ran.{CommitsAnswer, IsAnswered, LeavesOpen, Looked, Ran}, Turn.Begins}
+use Rattle.room_store.specs.Turn.{CommitsSeen, Finishes, GivesUp, commit_fault, fault_as}
 use Rattle.store_admin.specs.Carries.{AnswersOpen, ByRows, CallsInside, OnRows, Reading}
-use Rattle.room_store.specs.Turn.{Begins, CommitsSeen, Finishes, GivesUp, commit_fault, fault_as}
+use Rattle.room_rows.specs.declared.keep.KeepFault.TheVariants as keep
 
 -- a commit that fails is no damage
 pub never_damage : (why : Error) → commit_fault why ≡ Damaged → ⊥

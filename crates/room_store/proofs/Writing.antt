@@ -2,21 +2,13 @@
 use Rattle.std.proofs.Common.{◌≡◌, ◌≤◌, Result, OnOk, IsTrue, false}
 use Rattle.sqlite_trees.specs.View.{doubt}
 use Rattle.sqlite.specs.State.{State, HasCleanDisk}
-use Rattle.room_rows.specs.declared.keep.KeepFault.{KeepFault}
-use Rattle.room_rows.specs.Rows.{Rows}
-use Rattle.room_rows.specs.Sound.{AreSound}
-use Rattle.room_machine.specs.declared.reply.Reply.{Reply}
-use Rattle.room_machine.specs.Run.{Asking, event_of, unanswered}
+use Rattle.room_rows.specs.{declared.keep.KeepFault.KeepFault, Rows.Rows, Sound.AreSound}
+use Rattle.room_machine.specs.{declared.reply.Reply.Reply, Run.{Asking, event_of, unanswered}}
 use Rattle.store_tables.specs.Within.{IsSettled, LeavesOrCommits}
 use Rattle.store_admin.specs.Carries.{ByRows, CallsInside, OnRows}
-use Rattle.room_store.specs.declared.fault.StoreFault.{StoreFault}
-use Rattle.room_store.specs.Crash.{Outlasts}
-use Rattle.room_store.specs.Leads.{Leads}
-use Rattle.room_store.specs.Ran.{Ran}
-use Rattle.room_store.specs.Turn.{Begins, CommitsSeen, Finishes}
-use Rattle.room_store.proofs.Leading.{IsEvent, leading}
-use Rattle.room_store.proofs.Outlasting.{outlasting}
-use Rattle.room_store.proofs.Transact.{ran}
+use Rattle.room_store.specs.{declared.fault.StoreFault.StoreFault, Crash.Outlasts, Leads.Leads}
+use Rattle.room_store.specs.{Ran.Ran, Turn.{Begins, CommitsSeen, Finishes}}
+use Rattle.room_store.proofs.{Leading.{IsEvent, leading}, Outlasting.outlasting, Transact.ran}
 
 module _ {X : Type 0} (Blames : Rows → Type 0) (Becomes : Rows → X → Rows → Type 0)
     (asking : Asking) (reply : X → Reply) where

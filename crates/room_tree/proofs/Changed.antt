@@ -1,33 +1,20 @@
 -- What a keeper in memory holds after a call.
 use Rattle.std.proofs.Common.{◌≡◌, ℕ, ◌<◌, ◌==◌, true, false, not, List, ◌∷◌, map, filter, Option}
 use Rattle.std.proofs.Common.{Some, None, Result, Err, IfOk, IfErr, refl, sym, ap, subst, ◌∙◌}
-use Rattle.std.proofs.Common.{arith, inl, inr, if◌then◌else◌}
-use Rattle.std.specs.Prelude.{is_some}
-use Rattle.std.specs.Option.{option_map_or}
-use Rattle.std.proofs.lemmas.Bool.{cases_Bool, false≢true, eq-eqb, cond-true, cond-false}
-use Rattle.room_entry.specs.Valid.{is_document}
-use Rattle.room_entry.specs.declared.object.Which.{Which}
-use Rattle.room_entry.specs.declared.object.Which.TheVariants.{Dacl, Sacl}
-use Rattle.room_entry.specs.declared.parties.Owners.{Owners}
-use Rattle.room_rows.specs.declared.keep.KeepFault.{KeepFault}
-use Rattle.room_rows.specs.declared.keep.KeepFault.TheVariants.{Memory}
-use Rattle.room_rows.specs.declared.node.AuditRow.{AuditRow}
-use Rattle.room_rows.specs.HeldList.{Held}
-use Rattle.room_rows.specs.declared.node.NewNode.{NewNode}
-use Rattle.room_rows.specs.declared.node.Node.{Node}
-use Rattle.room_rows.specs.Content.{put_body, put_node, is_rising, without_node}
-use Rattle.room_rows.specs.Finding.{find_id}
-use Rattle.room_rows.specs.Held.{with_held}
-use Rattle.room_rows.specs.Keep.{Changes, HasCause, node_of, with_content, with_new, with_owners}
-use Rattle.room_rows.specs.Keep.{writes_after}
-use Rattle.room_tree.specs.Memory.{memory_rows}
-use Rattle.room_tree.specs.Objects.{StandsAsBefore, greatest}
-use Rattle.room_rows.specs.Rows.{AreRows}
-use Rattle.room_tree.proofs.Found.{found_put, found_above}
-use Rattle.room_tree.proofs.Kept.{put_rows, body_rows, removed_rows}
-use Rattle.room_tree.proofs.Tying.{no_less}
+use Rattle.std.proofs.{Common.{arith, inl, inr, if◌then◌else◌}, lemmas.Bool.cases_Bool}
+use Rattle.std.proofs.lemmas.Bool.{false≢true, eq-eqb, cond-true, cond-false, Decides.nat_tests}
+use Rattle.std.specs.{Prelude.is_some, Option.option_map_or}
+use Rattle.room_entry.specs.{Valid.is_document, declared.object.Which.{Which, TheVariants.Dacl}}
+use Rattle.room_entry.specs.declared.{object.Which.TheVariants.Sacl, parties.Owners.Owners}
+use Rattle.room_rows.specs.declared.keep.KeepFault.{KeepFault, TheVariants.Memory}
+use Rattle.room_rows.specs.declared.node.{AuditRow.AuditRow, NewNode.NewNode, Node.Node}
+use Rattle.room_rows.specs.{HeldList.Held, Content.{put_body, put_node, is_rising, without_node}}
+use Rattle.room_rows.specs.{Finding.find_id, Held.with_held, Keep.{Changes, HasCause, node_of}}
+use Rattle.room_rows.specs.{Keep.{with_content, with_new, with_owners, writes_after}, Rows.AreRows}
+use Rattle.room_tree.specs.{Memory.memory_rows, Objects.{StandsAsBefore, greatest}}
+use Rattle.room_tree.proofs.{Found.{found_put, found_above}, Kept.{put_rows, body_rows}}
+use Rattle.room_tree.proofs.{Kept.removed_rows, Tying.no_less}
 use Rattle.room_rows.proofs.Lookups.{found_number}
-use Rattle.std.proofs.lemmas.Bool.Decides.{nat_tests}
 
 -- ---- a call that memory ended
 

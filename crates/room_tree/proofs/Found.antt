@@ -1,17 +1,12 @@
 -- Objects that are found, after changes too.
 use Rattle.std.proofs.Common.{◌≡◌, ℕ, ◌<◌, ◌≤◌, ◌==◌, ◌&&◌, Bool, true, false, not, List, [], ◌∷◌}
 use Rattle.std.proofs.Common.{map, filter, Some, None, nat_lt, refl, sym, ap, subst, ◌∙◌, arith}
-use Rattle.std.proofs.Common.{inl, inr, if◌then◌else◌}
-use Rattle.std.specs.Prelude.{is_none}
-use Rattle.std.specs.List.{find}
-use Rattle.std.proofs.lemmas.Bool.{cases_Bool, cases_order, false≢true, and_parts, and_from}
-use Rattle.std.proofs.lemmas.Bool.{and_left, and_right, eqb-true, ne_eqb, eq-eqb, ltb-true, lt-ltb}
-use Rattle.std.proofs.lemmas.Bool.{le-ltb, cond-true, cond-false}
-use Rattle.std.proofs.lemmas.Option.{same_Some}
-use Rattle.room_rows.specs.declared.node.Node.{Node}
-use Rattle.room_rows.specs.Content.{put_node, is_rising}
-use Rattle.room_rows.specs.Finding.{find_id}
-use Rattle.std.proofs.lemmas.Bool.Decides.{nat_tests}
+use Rattle.std.proofs.{Common.{inl, inr, if◌then◌else◌}, lemmas.Bool.{cases_Bool, cases_order}}
+use Rattle.std.proofs.lemmas.Bool.{false≢true, and_parts, and_from, and_left, and_right, eqb-true}
+use Rattle.std.proofs.lemmas.Bool.{ne_eqb, eq-eqb, ltb-true, lt-ltb, le-ltb, cond-true, cond-false}
+use Rattle.std.proofs.lemmas.{Bool.Decides.nat_tests, Option.same_Some}
+use Rattle.std.specs.{Prelude.is_none, List.find}
+use Rattle.room_rows.specs.{declared.node.Node.Node, Content.{put_node, is_rising}, Finding.find_id}
 
 abbrev ids_of : List Node → List ℕ
 ids_of nodes = map (λ (n : Node). n.id) nodes

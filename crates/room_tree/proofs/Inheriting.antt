@@ -1,19 +1,15 @@
 -- Objects in memory that inherit the same, one after the other.
 use Rattle.std.proofs.Common.{◌≡◌, ℕ, ◌&&◌, ◌++◌, Bool, true, false, List, [], ◌∷◌, Ok, Some, refl}
-use Rattle.std.proofs.Common.{sym, ◌∙◌, arith}
+use Rattle.std.proofs.{Common.{sym, ◌∙◌, arith}, lemmas.List.Folds.list_all-append}
+use Rattle.std.proofs.lemmas.Bool.Decides.{nat_tests}
 use Rattle.std.specs.Prelude.{is_some}
-use Rattle.std.proofs.lemmas.List.Folds.{list_all-append}
-use Rattle.room_entry.specs.Ace.{Ace}
-use Rattle.room_entry.specs.declared.object.Which.{Which}
-use Rattle.room_rows.specs.declared.node.Node.{Node}
-use Rattle.room_rows.specs.Content.{put_node}
-use Rattle.room_rows.specs.Finding.{find_id}
+use Rattle.room_entry.specs.{Ace.Ace, declared.object.Which.Which}
+use Rattle.room_rows.specs.{declared.node.Node.Node, Content.put_node, Finding.find_id}
 use Rattle.room_rows.specs.Keep.{with_inh}
-use Rattle.room_rows.proofs.InPlace.{place-with_inh}
-use Rattle.room_rows.proofs.Many.{none_changed, then_changed, with_inh-once}
+use Rattle.room_rows.proofs.{InPlace.place-with_inh, Many.{none_changed, then_changed}}
+use Rattle.room_rows.proofs.Many.{with_inh-once}
 use Rattle.room_tree.specs.Memory.{Inherits, StayRows, are_found, memory_rows}
 use Rattle.room_tree.proofs.Found.{found_put}
-use Rattle.std.proofs.lemmas.Bool.Decides.{nat_tests}
 
 -- an object that is put in the place of one that is there is no new one
 pub same_put : (nodes : List Node) (new node : Node) (id : ℕ) → find_id id nodes ≡ Some node

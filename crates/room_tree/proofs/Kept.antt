@@ -1,27 +1,19 @@
 -- Rows of a keeper in memory that stay rows.
 use Rattle.std.proofs.Common.{◌≡◌, ℕ, ◌<◌, ◌==◌, ◌||◌, Bool, true, false, not, List, [], ◌∷◌, map}
 use Rattle.std.proofs.Common.{filter, Some, nat_lt, refl, sym, ap, subst, ◌∙◌, arith, inl, inr}
-use Rattle.std.specs.Prelude.{is_some}
-use Rattle.std.specs.BTreeMap.{insert_entry}
-use Rattle.std.specs.List.{list_all, AllByRecursion}
-use Rattle.std.specs.List.Sorted.{IsStrictlySortedBy}
-use Rattle.std.specs.Map.{lookup, remove_entry, keys_of}
-use Rattle.std.specs.Ordering.{nat_cmp, is_eq}
-use Rattle.std.specs.declared.cmp.Ordering.TheVariants.{Less}
 use Rattle.std.proofs.lemmas.Bool.{cases_Bool, cases_order, false≢true, not-true, and_parts}
 use Rattle.std.proofs.lemmas.Bool.{and_from, or_cases, or_left, or_right, eqb-true, eqb-false}
 use Rattle.std.proofs.lemmas.Bool.{ne_eqb, eq-eqb, ltb-true, lt-ltb, le-ltb, cond-true, cond-false}
-use Rattle.std.proofs.lemmas.Map.Keys.{sorted_head, sorted_tail}
+use Rattle.std.proofs.lemmas.{Bool.Decides.nat_tests, Map.Keys.{sorted_head, sorted_tail}}
+use Rattle.std.specs.{Prelude.is_some, BTreeMap.insert_entry, List.{list_all, AllByRecursion}}
+use Rattle.std.specs.{List.Sorted.IsStrictlySortedBy, Map.{lookup, remove_entry, keys_of}}
+use Rattle.std.specs.{Ordering.{nat_cmp, is_eq}, declared.cmp.Ordering.TheVariants.Less}
 use Rattle.room_entry.specs.Pieces.{is_among}
-use Rattle.room_rows.specs.declared.node.Node.{Node}
-use Rattle.room_rows.specs.declared.node.AuditRow.{AuditRow}
-use Rattle.room_rows.specs.Content.{body_at, is_rising, put_body, put_node}
-use Rattle.room_rows.specs.Finding.{find_id}
+use Rattle.room_rows.specs.{declared.node.{Node.Node, AuditRow.AuditRow}, Content.body_at}
+use Rattle.room_rows.specs.{Content.{is_rising, put_body, put_node}, Finding.find_id, Rows.AreRows}
 use Rattle.room_tree.specs.Memory.{memory_rows}
-use Rattle.room_rows.specs.Rows.{AreRows}
-use Rattle.room_tree.proofs.Found.{put_rises, filter_rises, lower}
-use Rattle.room_tree.proofs.Numbered.{is_key, cmp_less, cmp_equal, cmp_greater, less_below}
-use Rattle.std.proofs.lemmas.Bool.Decides.{nat_tests}
+use Rattle.room_tree.proofs.{Found.{put_rises, filter_rises, lower}, Numbered.{is_key, cmp_less}}
+use Rattle.room_tree.proofs.Numbered.{cmp_equal, cmp_greater, less_below}
 
 -- ---- bytes at numbers
 

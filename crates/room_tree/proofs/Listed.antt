@@ -1,34 +1,24 @@
 -- Objects and the places where they are listed.
 use Rattle.std.proofs.Common.{◌≡◌, ℕ, ◌==◌, ◌&&◌, true, false, List, [], ◌∷◌, map, filter, Option}
 use Rattle.std.proofs.Common.{Some, None, nat_lt, refl, sym, ap, subst, ◌∙◌, arith, inl, inr}
-use Rattle.std.proofs.Common.{String, string_bytes}
-use Rattle.std.specs.Prelude.{is_none}
-use Rattle.std.specs.List.{cons_option, AllByRecursion}
-use Rattle.std.specs.List.Sorted.{IsStrictlySortedBy}
-use Rattle.std.specs.Map.{keys_of}
-use Rattle.std.specs.Ordering.{nat_cmp, ordering_then, ordering_reverse, is_lt, is_eq}
-use Rattle.std.specs.Cmp.Lexicographic.{slice_cmp}
-use Rattle.std.specs.String.{string_cmp}
-use Rattle.std.specs.declared.cmp.Ordering.{Ordering}
-use Rattle.std.specs.declared.cmp.Ordering.TheVariants.{Less}
-use Rattle.std.proofs.lemmas.Bool.{cases_Bool, false≢true, true≢false, and_parts, and_from}
-use Rattle.std.proofs.lemmas.Bool.{and_right, eqb-true, ne_eqb, eq-eqb, cond-true, cond-false}
-use Rattle.std.proofs.lemmas.Bool.{false_from_ne_true}
-use Rattle.std.proofs.lemmas.Cmp.{nat_list_cmp_total, tied_itself}
+use Rattle.std.proofs.{Common.{String, string_bytes}, lemmas.Bool.{cases_Bool, false≢true}}
+use Rattle.std.proofs.lemmas.Bool.{true≢false, and_parts, and_from, and_right, eqb-true, ne_eqb}
+use Rattle.std.proofs.lemmas.Bool.{eq-eqb, cond-true, cond-false, false_from_ne_true}
+use Rattle.std.proofs.lemmas.{Bool.Decides.nat_tests, Cmp.{nat_list_cmp_total, tied_itself}}
 use Rattle.std.proofs.lemmas.Map.Keys.{sorted_head, sorted_tail}
+use Rattle.std.specs.{Prelude.is_none, List.{cons_option, AllByRecursion}}
+use Rattle.std.specs.{List.Sorted.IsStrictlySortedBy, Map.keys_of, Ordering.nat_cmp}
+use Rattle.std.specs.Ordering.{ordering_then, ordering_reverse, is_lt, is_eq}
+use Rattle.std.specs.{Cmp.Lexicographic.slice_cmp, String.string_cmp}
+use Rattle.std.specs.declared.cmp.Ordering.{Ordering, TheVariants.Less}
 use Rattle.room_entry.specs.Pieces.{same_text}
-use Rattle.room_rows.specs.declared.node.Node.{Node}
-use Rattle.room_rows.specs.Content.{is_rising, has_parent, is_before, put_by_name, sorted_by_name}
-use Rattle.room_rows.specs.Finding.{find_id, find_named}
+use Rattle.room_rows.specs.{declared.node.Node.Node, Content.{is_rising, has_parent, is_before}}
+use Rattle.room_rows.specs.{Content.{put_by_name, sorted_by_name}, Finding.{find_id, find_named}}
 use Rattle.room_tree.specs.Places.{is_standing, standing, standing_all, standing_under, is_place}
 use Rattle.room_tree.specs.Places.{id_at, places_under}
-use Rattle.room_tree.proofs.Found.{found_above, none_above}
-use Rattle.room_tree.proofs.Numbered.{cmp_equal}
-use Rattle.room_rows.proofs.Lookups.{found_number, found_passes}
-use Rattle.room_entry.proofs.Texts.{same_text-true}
-use Rattle.room_entry.proofs.Alike.{text_itself}
-use Rattle.room_rows.proofs.Frames.{parent_is}
-use Rattle.std.proofs.lemmas.Bool.Decides.{nat_tests}
+use Rattle.room_tree.proofs.{Found.{found_above, none_above}, Numbered.cmp_equal}
+use Rattle.room_rows.proofs.{Lookups.{found_number, found_passes}, Frames.parent_is}
+use Rattle.room_entry.proofs.{Texts.same_text-true, Alike.text_itself}
 
 pub same_back : (a b : List ℕ) → same_text a b ≡ false → same_text b a ≡ false
 same_back a b apart =

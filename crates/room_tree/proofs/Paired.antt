@@ -1,24 +1,19 @@
 -- Pairs in order.
 use Rattle.std.proofs.Common.{◌≡◌, ℕ, suc, ◌<◌, ◌≤◌, ◌&&◌, ◌||◌, Bool, true, false, List, [], ◌∷◌}
 use Rattle.std.proofs.Common.{◌++◌, filter, refl, sym, ap, subst, ◌∙◌, inl, inr, length, take, drop}
-use Rattle.std.proofs.Common.{get_or, drop-cons, arith}
-use Rattle.std.specs.Cmp.{IsTotalOrder}
-use Rattle.std.specs.Cmp.Lexicographic.{slice_cmp}
-use Rattle.std.specs.List.{AllByRecursion, insert}
-use Rattle.std.specs.List.Sorted.{IsStrictlySortedBy}
-use Rattle.std.specs.Ordering.{nat_cmp, ordering_then, ordering_reverse, is_lt, is_eq}
-use Rattle.std.specs.declared.cmp.Ordering.{Ordering}
+use Rattle.std.proofs.{Common.{get_or, drop-cons, arith}, lemmas.Bool.{cases_Bool, false≢true}}
+use Rattle.std.proofs.lemmas.Bool.{true≢false, and_parts, and_from, cond-true, cond-false}
+use Rattle.std.proofs.lemmas.{Bool.Decides.nat_tests, Cmp.{nat_list_cmp_total, on_total}}
+use Rattle.std.proofs.lemmas.{Cmp.then_total, Map.Text.is_eq-slice_cmp, List.take-append-drop}
+use Rattle.std.proofs.lemmas.List.{drop_all, get_or_default}
+use Rattle.std.specs.{Cmp.{IsTotalOrder, Lexicographic.slice_cmp}, List.{AllByRecursion, insert}}
+use Rattle.std.specs.{List.Sorted.IsStrictlySortedBy, Ordering.{nat_cmp, ordering_then}}
+use Rattle.std.specs.{Ordering.{ordering_reverse, is_lt, is_eq}, declared.cmp.Ordering.Ordering}
 use Rattle.std.specs.declared.cmp.Ordering.TheVariants.{Less, Equal, Greater}
-use Rattle.std.proofs.lemmas.Bool.{cases_Bool, false≢true, true≢false, and_parts, and_from}
-use Rattle.std.proofs.lemmas.Bool.{cond-true, cond-false}
-use Rattle.std.proofs.lemmas.Cmp.{nat_list_cmp_total, on_total, then_total}
-use Rattle.std.proofs.lemmas.Map.Text.{is_eq-slice_cmp}
-use Rattle.std.proofs.lemmas.List.{take-append-drop, drop_all, get_or_default}
 use Rattle.room_entry.specs.Pieces.{same_text}
 use Rattle.room_rows.specs.Content.{is_before, is_pair_before, put_pair, set_of}
 use Rattle.room_tree.specs.Pairs.{pair_cmp, is_same_pair}
 use Rattle.room_entry.proofs.Texts.{same_text-true}
-use Rattle.std.proofs.lemmas.Bool.Decides.{nat_tests}
 
 abbrev Pair : Type 0
 Pair = List ℕ × List ℕ

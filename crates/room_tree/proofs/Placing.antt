@@ -1,27 +1,18 @@
 -- Places listed, removed and looked up.
 use Rattle.std.proofs.Common.{◌≡◌, ℕ, ◌≤◌, ◌==◌, ◌+◌, Bool, true, false, List, [], ◌∷◌, filter}
 use Rattle.std.proofs.Common.{Some, refl, sym, ap, subst, ◌∙◌, arith, if◌then◌else◌, String}
-use Rattle.std.proofs.Common.{string_bytes}
-use Rattle.std.specs.BTreeMap.{insert_entry}
-use Rattle.std.specs.BTreeMap.Range.{range_contains}
-use Rattle.std.specs.Map.{lookup, remove_entry}
-use Rattle.std.specs.Ordering.{nat_cmp, ordering_then, is_eq, is_le}
-use Rattle.std.specs.Cmp.Lexicographic.{slice_cmp}
-use Rattle.std.specs.String.{string_cmp}
-use Rattle.std.specs.declared.cmp.Ordering.TheVariants.{Greater}
+use Rattle.std.proofs.{Common.string_bytes, lemmas.Bool.{false≢true, and_parts, and_from, eqb-true}}
+use Rattle.std.proofs.lemmas.Bool.{eq-eqb, false_from_ne_true, Decides.nat_tests}
+use Rattle.std.proofs.lemmas.{Cmp.nat_list_eq_equiv, Map.Text.is_eq-slice_cmp}
+use Rattle.std.specs.{BTreeMap.{insert_entry, Range.range_contains}, Map.{lookup, remove_entry}}
+use Rattle.std.specs.{Ordering.{nat_cmp, ordering_then, is_eq, is_le}, Cmp.Lexicographic.slice_cmp}
+use Rattle.std.specs.{String.string_cmp, declared.cmp.Ordering.TheVariants.Greater}
 use Rattle.std.specs.declared.ops.Bound.TheVariants.{Included, Excluded, Unbounded}
-use Rattle.std.proofs.lemmas.Bool.{false≢true, and_parts, and_from, eqb-true, eq-eqb}
-use Rattle.std.proofs.lemmas.Bool.{false_from_ne_true}
-use Rattle.std.proofs.lemmas.Cmp.{nat_list_eq_equiv}
-use Rattle.std.proofs.lemmas.Map.Text.{is_eq-slice_cmp}
 use Rattle.room_entry.specs.Pieces.{same_text}
 use Rattle.room_tree.specs.Places.{text_place, is_place, id_at, places_under, Lists}
 use Rattle.room_tree.specs.Places.{KeepsOtherPlaces}
-use Rattle.room_tree.proofs.Numbered.{cmp_less, cmp_equal, cmp_greater}
-use Rattle.room_tree.proofs.Listed.{place_cmp}
-use Rattle.room_entry.proofs.Facts.Lists.{filter_weaker}
-use Rattle.room_entry.proofs.Texts.{same_text-true}
-use Rattle.std.proofs.lemmas.Bool.Decides.{nat_tests}
+use Rattle.room_tree.proofs.{Numbered.{cmp_less, cmp_equal, cmp_greater}, Listed.place_cmp}
+use Rattle.room_entry.proofs.{Facts.Lists.filter_weaker, Texts.same_text-true}
 
 lookup_same : {K X : Type 0} (t u : K → Bool) → ((k : K) → t k ≡ u k) → (es : List (K × X))
     → lookup t es ≡ lookup u es

@@ -2,37 +2,26 @@
 use Rattle.std.proofs.Common.{◌≡◌, ℕ, ◌<◌, ◌≤◌, ◌+◌, ◌==◌, ◌&&◌, true, false, not, List, [], ◌∷◌}
 use Rattle.std.proofs.Common.{◌++◌, append_assoc, map, filter, Option, Some, None, Result, Ok, Err}
 use Rattle.std.proofs.Common.{OnOk, OnErr, refl, sym, ap, subst, ◌∙◌, arith, inl, inr}
-use Rattle.std.proofs.Common.{if◌then◌else◌, String, string_bytes}
-use Rattle.std.specs.Prelude.{is_none, is_some, option_and_then}
-use Rattle.std.specs.BTreeMap.{insert_entry}
-use Rattle.std.specs.List.{list_all}
-use Rattle.std.specs.List.Sorted.{IsStrictlySortedBy}
-use Rattle.std.specs.Map.{lookup, remove_entry, keys_of, values_of}
-use Rattle.std.specs.Option.{IsSome, SomeIff, MatchOption, option_map, option_map_or}
-use Rattle.std.specs.Option.{option_to_list}
-use Rattle.std.specs.Ordering.{nat_cmp, is_eq, is_lt}
-use Rattle.std.proofs.lemmas.Bool.{cases_Bool, false≢true, and_parts, and_from, eqb-true, eqb-false}
-use Rattle.std.proofs.lemmas.Bool.{eq-eqb, cond-true, cond-false, false_from_ne_true}
+use Rattle.std.proofs.{Common.{if◌then◌else◌, String, string_bytes}, lemmas.Bool.cases_Bool}
+use Rattle.std.proofs.lemmas.Bool.{false≢true, and_parts, and_from, eqb-true, eqb-false, eq-eqb}
+use Rattle.std.proofs.lemmas.Bool.{cond-true, cond-false, false_from_ne_true, Decides.nat_tests}
 use Rattle.std.proofs.lemmas.Map.Keys.{ge_from_not_lt}
-use Rattle.room_entry.specs.Pieces.{same_text}
-use Rattle.room_entry.specs.declared.object.ObjKind.{ObjKind}
-use Rattle.room_rows.specs.declared.node.Node.{Node}
-use Rattle.room_rows.specs.Content.{put_node, is_rising, has_parent, sorted_by_name}
-use Rattle.room_rows.specs.Finding.{find_id, find_named}
+use Rattle.std.specs.{Prelude.{is_none, is_some, option_and_then}, BTreeMap.insert_entry}
+use Rattle.std.specs.{List.{list_all, Sorted.IsStrictlySortedBy}, Map.{lookup, remove_entry}}
+use Rattle.std.specs.{Map.{keys_of, values_of}, Option.{IsSome, SomeIff, MatchOption, option_map}}
+use Rattle.std.specs.{Option.{option_map_or, option_to_list}, Ordering.{nat_cmp, is_eq, is_lt}}
+use Rattle.room_entry.specs.{Pieces.same_text, declared.object.ObjKind.ObjKind}
+use Rattle.room_rows.specs.{declared.node.Node.Node, Content.{put_node, is_rising, has_parent}}
+use Rattle.room_rows.specs.{Content.sorted_by_name, Finding.{find_id, find_named}}
 use Rattle.room_tree.specs.Objects.{AreTied, StandsAsBefore, greatest, has_object, named_kind}
-use Rattle.room_tree.specs.Objects.{place_of}
-use Rattle.room_tree.specs.Places.{text_place, standing, standing_under, is_same_place, id_at}
-use Rattle.room_tree.specs.Places.{places_under, Lists, KeepsOtherPlaces}
+use Rattle.room_tree.specs.{Objects.place_of, Places.{text_place, standing, standing_under}}
+use Rattle.room_tree.specs.Places.{is_same_place, id_at, places_under, Lists, KeepsOtherPlaces}
 use Rattle.room_tree.proofs.Found.{found_above, found_put, found_without, some_passes, put_rises}
-use Rattle.room_tree.proofs.Found.{filter_rises, failing}
-use Rattle.room_tree.proofs.Listed.{all_listed, named_none, named_some, children_are, place_cmp}
-use Rattle.room_tree.proofs.Numbered.{is_keyed, lookup_at, inserted, inserted_keyed, removed}
-use Rattle.room_tree.proofs.Numbered.{removed_keyed}
-use Rattle.room_rows.proofs.Lookups.{found_number}
-use Rattle.room_entry.proofs.Texts.{same_text-true}
-use Rattle.room_entry.proofs.Alike.{text_itself}
-use Rattle.room_rows.proofs.Frames.{has_its_parent}
-use Rattle.std.proofs.lemmas.Bool.Decides.{nat_tests}
+use Rattle.room_tree.proofs.{Found.{filter_rises, failing}, Listed.{all_listed, named_none}}
+use Rattle.room_tree.proofs.{Listed.{named_some, children_are, place_cmp}, Numbered.is_keyed}
+use Rattle.room_tree.proofs.Numbered.{lookup_at, inserted, inserted_keyed, removed, removed_keyed}
+use Rattle.room_rows.proofs.{Lookups.found_number, Frames.has_its_parent}
+use Rattle.room_entry.proofs.{Texts.same_text-true, Alike.text_itself}
 
 -- what holds after a call, whether it was refused or not
 pub settled : {X E P Q : Type 0} (r : Result X E) → OnOk r P → OnErr r Q → (Q → P) → P

@@ -1,9 +1,8 @@
 -- What is answered was asked of an open connection.
 use Rattle.std.proofs.Common.{ℕ, List, Result, Ok, Err, Some, None, Option, IsTrue, IfOk, Vec}
 use Rattle.std.proofs.Common.{Global}
-use Rattle.sqlite.specs.Order.{Row}
-use Rattle.sqlite.specs.declared.error.Error.{Error}
-use Rattle.sqlite.specs.State.{State, HasCleanDisk, Shown, ShowsRows}
+use Rattle.sqlite.specs.{Order.Row, declared.error.Error.Error, State.{State, HasCleanDisk, Shown}}
+use Rattle.sqlite.specs.State.{ShowsRows}
 use Rattle.sqlite_resolve.specs.declared.compiled.Compiled.{Compiled}
 use Rattle.sqlite_schema.specs.declared.command.Returning.{Returning}
 use Rattle.store_admin.specs.Carries.{AnswersOpen}

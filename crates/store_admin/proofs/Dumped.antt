@@ -1,16 +1,12 @@
 -- What reading all objects over any keeper is, in terms of a transaction.
 use Rattle.std.proofs.Common.{◌≡◌, ℕ, Result, Ok, Err, IfOk, IfErr, String, string_bytes, arith}
+use Rattle.std.proofs.lemmas.Bool.Decides.{nat_tests}
 use Rattle.std.specs.Global.{Global}
 use Rattle.sqlite.specs.State.{State}
-use Rattle.room_rows.specs.declared.keep.KeepFault.{KeepFault}
-use Rattle.room_rows.specs.Keep.{HasCause, IfSeen, IsDamaged}
+use Rattle.room_rows.specs.{declared.keep.KeepFault.KeepFault, Keep.{HasCause, IfSeen, IsDamaged}}
 use Rattle.room_dump.specs.Dump.{IsDumpText}
-use Rattle.store_tables.specs.Meaning.{rows_of}
-use Rattle.store_tables.specs.Shown.{Stays}
-use Rattle.store_tables.specs.Trust.{IsTrusted}
-use Rattle.store_admin.specs.Carries.{CallsInside}
-use Rattle.store_admin.specs.Dump.{HasDamagedRow, TellsObjects}
-use Rattle.std.proofs.lemmas.Bool.Decides.{nat_tests}
+use Rattle.store_tables.specs.{Meaning.rows_of, Shown.Stays, Trust.IsTrusted}
+use Rattle.store_admin.specs.{Carries.CallsInside, Dump.{HasDamagedRow, TellsObjects}}
 
 -- the text of all objects, by the keeper
 pub told_objects : (begun mid : State) (result : Result (String Global) KeepFault)

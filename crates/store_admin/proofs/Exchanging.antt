@@ -1,50 +1,31 @@
 -- What is left of the rows of members once all are taken out, and once one is put in.
 use Rattle.std.proofs.Common.{◌≡◌, ◌||◌, ℕ, ℤ, List, [], ◌∷◌, map, codes, Ok, None, IsTrue, inl}
 use Rattle.std.proofs.Common.{inr, refl, sym, ap, subst, ◌∙◌, true, false, Bool, if◌then◌else◌}
-use Rattle.std.proofs.Common.{arith, IsPermutation}
+use Rattle.std.proofs.{Common.{arith, IsPermutation}, lemmas.List.Sorted.list_any-IsPermutation}
+use Rattle.std.proofs.lemmas.Bool.Decides.{nat_tests}
 use Rattle.std.specs.List.{AllByRecursion, list_any}
-use Rattle.std.proofs.lemmas.List.Sorted.{list_any-IsPermutation}
-use Rattle.sqlite.specs.declared.types.Value.TheVariants.{Null, Text}
-use Rattle.sqlite.specs.Cast.{cast_row}
-use Rattle.sqlite.specs.Command.TheVariants.{Insert, Delete}
-use Rattle.sqlite.specs.Does.{Tally, Does}
-use Rattle.sqlite.specs.Edit.{Edit, are_fresh, edit_of, is_taken, next_rowid, numbered, put_all}
-use Rattle.sqlite.specs.Edit.{taken_by, without_all}
-use Rattle.sqlite.specs.Effect.{Database, IsDatabase}
-use Rattle.sqlite.specs.Listing.{understood}
-use Rattle.sqlite.specs.Order.{Row}
-use Rattle.sqlite.specs.Program.{overlay}
-use Rattle.sqlite.specs.Rowids.TheVariants.{Chosen, Given}
-use Rattle.sqlite.specs.Rows.{Written}
-use Rattle.sqlite.specs.Source.TheVariants.{Values}
-use Rattle.sqlite.specs.State.{State, mode_of, Executes, Shows}
-use Rattle.sqlite.specs.Term.{Term, col, lit}
-use Rattle.sqlite.specs.Tree.{Trees, rowid, has_rowid, put_row, without_rowid}
+use Rattle.sqlite.specs.{declared.types.Value.TheVariants.{Null, Text}, Cast.cast_row}
+use Rattle.sqlite.specs.{Command.TheVariants.{Insert, Delete}, Does.{Tally, Does}, Edit.Edit}
+use Rattle.sqlite.specs.Edit.{are_fresh, edit_of, is_taken, next_rowid, numbered, put_all, taken_by}
+use Rattle.sqlite.specs.{Edit.without_all, Effect.{Database, IsDatabase}, Listing.understood}
+use Rattle.sqlite.specs.{Order.Row, Program.overlay, Rowids.TheVariants.{Chosen, Given}}
+use Rattle.sqlite.specs.{Rows.Written, Source.TheVariants.Values, State.{State, mode_of, Executes}}
+use Rattle.sqlite.specs.{State.Shows, Term.{Term, col, lit}, Tree.{Trees, rowid, has_rowid}}
+use Rattle.sqlite.specs.Tree.{put_row, without_rowid}
 use Rattle.sqlite.proofs.Callers.{IsPlain, command_of, one_step, runs_as, statement_of}
-use Rattle.sqlite_rules.specs.Action.{works}
-use Rattle.sqlite_rules.specs.Calls.{ids_of}
-use Rattle.sqlite_rules.specs.Edit.{id_in}
-use Rattle.sqlite_rules.specs.Lists.{Has}
-use Rattle.sqlite_schema.specs.declared.schema.Keys.TheVariants.{Enforced}
-use Rattle.sqlite_schema.specs.declared.schema.Table.{Table}
+use Rattle.sqlite_rules.specs.{Action.works, Calls.ids_of, Edit.id_in, Lists.Has}
+use Rattle.sqlite_schema.specs.declared.schema.{Keys.TheVariants.Enforced, Table.Table}
 use Rattle.sqlite_tied.specs.Compute.{everything}
 use Rattle.sqlite_trees.specs.View.{IsShaped, is_int}
-use Rattle.sqlite_trees.specs.declared.store.Shape.TheVariants as Shape
 use Rattle.sqlite_trees.proofs.TreeLemmas.{IsShaped-put_row}
 use Rattle.store_admin.specs.Operating.{Exchanges, stored_pair}
-use Rattle.store_tables.specs.Shown.{IsRoom}
-use Rattle.store_tables.specs.Tables.{members, room_schema}
-use Rattle.store_tables.proofs.Answers.{shows, selected}
-use Rattle.store_tables.proofs.Calls.{retains_by}
-use Rattle.store_tables.proofs.Printed.{keeps_same}
-use Rattle.store_tables.proofs.Executed.{WritesRoom}
-use Rattle.store_tables.proofs.Inserts.{fresh_alone}
-use Rattle.store_tables.proofs.Rowids.{each_of, has_itself, of_each}
-use Rattle.store_tables.proofs.Texts.{query_of}
-use Rattle.store_tables.proofs.Updates.{cast_null}
+use Rattle.store_tables.specs.{Shown.IsRoom, Tables.{members, room_schema}}
+use Rattle.store_tables.proofs.{Answers.{shows, selected}, Calls.retains_by, Printed.keeps_same}
+use Rattle.store_tables.proofs.{Executed.WritesRoom, Inserts.fresh_alone, Rowids.each_of}
+use Rattle.store_tables.proofs.{Rowids.{has_itself, of_each}, Texts.query_of, Updates.cast_null}
 use Rattle.store_tables.proofs.Writes.{same_value, went}
 use Rattle.room_entry.proofs.Facts.Lists.{filter_all}
-use Rattle.std.proofs.lemmas.Bool.Decides.{nat_tests}
+use Rattle.sqlite_trees.specs.declared.store.Shape.TheVariants as Shape
 
 abbrev members_table : Table
 members_table = record members { tree = 3 }

@@ -2,12 +2,10 @@
 use Rattle.std.proofs.Common.{ℕ, List, [], Result, Ok, Err, ap, IsPermutation}
 use Rattle.sqlite.specs.State.{State}
 use Rattle.room_rows.specs.declared.keep.KeepFault.{KeepFault}
-use Rattle.store_tables.specs.Meaning.{pairs_of}
-use Rattle.store_tables.specs.Paired.{Pair}
-use Rattle.store_tables.specs.Statements.{OfAny, ExecutesSql}
+use Rattle.store_tables.specs.{Meaning.pairs_of, Paired.Pair, Statements.{OfAny, ExecutesSql}}
 use Rattle.store_tables.specs.Trust.{stays_on, trusted_first, trusted_last}
-use Rattle.store_admin.specs.Carries.{CallsInside, NoTables}
-use Rattle.store_admin.specs.Operating.{Exchanges, ExchangesMembers, Gathers}
+use Rattle.store_admin.specs.{Carries.{CallsInside, NoTables}, Operating.Exchanges}
+use Rattle.store_admin.specs.Operating.{ExchangesMembers, Gathers}
 use Rattle.store_admin.proofs.Gathering.{replaced}
 
 pub exchanged : (pairs order : List Pair) (a b c : State) (count : ℕ)

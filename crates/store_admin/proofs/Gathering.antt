@@ -1,34 +1,22 @@
 -- What one more pair makes of the pairs that are there.
 use Rattle.std.proofs.Common.{◌≡◌, ◌||◌, ◌&&◌, is_some, ◌<◌, ◌+◌, ◌-◌, ℕ, ℤ, suc, List, [], ◌∷◌}
-use Rattle.std.proofs.Common.{◌++◌, ◌↔◌, get_or, length}
-use Rattle.std.proofs.Common.{take, map, Bor, arith}
-use Rattle.std.proofs.Common.{Some, None, Option, refl, sym, ap, subst, ◌∙◌, true, false, Bool}
-use Rattle.std.proofs.Common.{Ordering, Less, Equal, Greater, is_eq, IsPermutation}
-use Rattle.std.specs.List.{cons_option, filter_map}
-use Rattle.std.specs.Ordering.{match_ordering}
-use Rattle.std.proofs.Math.Seq.{take-suc}
-use Rattle.std.proofs.lemmas.Bool.{or_right}
-use Rattle.std.proofs.lemmas.Cmp.{tied_itself}
-use Rattle.std.proofs.lemmas.List.{get_or-map}
+use Rattle.std.proofs.Common.{◌++◌, ◌↔◌, get_or, length, take, map, Bor, arith, Some, None, Option}
+use Rattle.std.proofs.Common.{refl, sym, ap, subst, ◌∙◌, true, false, Bool, Ordering, Less, Equal}
+use Rattle.std.proofs.{Common.{Greater, is_eq, IsPermutation}, Math.Seq.take-suc}
+use Rattle.std.proofs.lemmas.{Bool.or_right, Cmp.tied_itself, List.get_or-map}
 use Rattle.std.proofs.lemmas.List.Folds.{list_any-append}
-use Rattle.sqlite.specs.declared.types.Value.TheVariants.{Text}
-use Rattle.sqlite.specs.Effect.{Database}
-use Rattle.sqlite.specs.Order.{Row, value_cmp}
-use Rattle.sqlite.specs.Tree.{put_row, rowid}
-use Rattle.sqlite.specs.Edit.{is_taken}
+use Rattle.std.specs.{List.{cons_option, filter_map}, Ordering.match_ordering}
+use Rattle.sqlite.specs.{declared.types.Value.TheVariants.Text, Effect.Database, Order.Row}
+use Rattle.sqlite.specs.{Order.value_cmp, Tree.{put_row, rowid}, Edit.is_taken}
 use Rattle.room_rows.specs.Content.{set_of}
-use Rattle.store_tables.specs.Meaning.{audit_in, bodies_of, nodes_of, pair_in, pairs_of}
-use Rattle.store_tables.specs.Meaning.{name_in, unread_of}
-use Rattle.store_tables.specs.Paired.{Pair, pair_cmp, total}
+use Rattle.store_tables.specs.Meaning.{audit_in, bodies_of, nodes_of, pair_in, pairs_of, name_in}
+use Rattle.store_tables.specs.{Meaning.unread_of, Paired.{Pair, pair_cmp, total}}
 use Rattle.store_tables.specs.RoomRows.{set_sorted}
-use Rattle.store_tables.proofs.Removed.{same_rows}
-use Rattle.store_tables.proofs.Rowids.{is_equal}
-use Rattle.store_admin.specs.Operating.{Exchanges, ExchangesMembers, HoldsPairs, IsAgain}
-use Rattle.store_admin.specs.Operating.{are_pairs, stored_pair}
-use Rattle.store_admin.proofs.Members.{reads}
-use Rattle.store_admin.proofs.Sets.{has, has_first, has_set, is_at, or_swap, same_sets}
-use Rattle.store_admin.proofs.Sets.{set_moved}
-use Rattle.store_tables.proofs.Grouped.{equal_pairs}
+use Rattle.store_tables.proofs.{Removed.same_rows, Rowids.is_equal, Grouped.equal_pairs}
+use Rattle.store_admin.specs.Operating.{Exchanges, ExchangesMembers, HoldsPairs, IsAgain, are_pairs}
+use Rattle.store_admin.specs.Operating.{stored_pair}
+use Rattle.store_admin.proofs.{Members.reads, Sets.{has, has_first, has_set, is_at, or_swap}}
+use Rattle.store_admin.proofs.Sets.{same_sets, set_moved}
 
 has_cons : (x : Pair) (o : Option Pair) (l : List Pair)
     → has x (cons_option o l) ≡ reads x o || has x l

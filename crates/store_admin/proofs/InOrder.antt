@@ -2,21 +2,14 @@
 use Rattle.std.proofs.Common.{◌≡◌, ℕ, List, [], ◌∷◌, map, filter, None, Some, Option, refl, sym, ap}
 use Rattle.std.proofs.Common.{subst, ◌∙◌, true, false, Bool, ◌&&◌, inl, inr, Ordering, Less, Equal}
 use Rattle.std.proofs.Common.{Greater, is_eq, nat_cmp, true≢false, IsPermutation, arith}
-use Rattle.std.specs.Prelude.{option_map, option_and_then}
-use Rattle.std.specs.Cmp.{IsTotalOrder}
-use Rattle.std.specs.Cmp.Lexicographic.{slice_cmp}
-use Rattle.std.specs.List.{AllByRecursion, filter_map, cons_option}
-use Rattle.std.specs.List.Sorted.{IsStrictlySortedBy}
-use Rattle.std.specs.Ordering.{ordering_then}
-use Rattle.std.proofs.lemmas.Bool.{and_from, and_parts, false≢true, not-true}
+use Rattle.std.proofs.lemmas.Bool.{and_from, and_parts, false≢true, not-true, Decides.nat_tests}
 use Rattle.std.proofs.lemmas.Cmp.{on_total, then_total}
-use Rattle.sqlite.specs.declared.types.Value.{Value}
-use Rattle.sqlite.specs.declared.types.Value.TheVariants.{Null, Text}
-use Rattle.sqlite.specs.Effect.{Database}
-use Rattle.sqlite.specs.Ops.{binary, is_true}
-use Rattle.sqlite.specs.Order.{Row, column, value_cmp}
-use Rattle.sqlite.specs.Query.{Query, Output, output, output_cmp, page, IsAnswerAs}
-use Rattle.sqlite.specs.Term.{Term}
+use Rattle.std.specs.{Prelude.{option_map, option_and_then}, Cmp.IsTotalOrder}
+use Rattle.std.specs.{Cmp.Lexicographic.slice_cmp, List.{AllByRecursion, filter_map, cons_option}}
+use Rattle.std.specs.{List.Sorted.IsStrictlySortedBy, Ordering.ordering_then}
+use Rattle.sqlite.specs.{declared.types.Value.{Value, TheVariants.{Null, Text}}, Effect.Database}
+use Rattle.sqlite.specs.{Ops.{binary, is_true}, Order.{Row, column, value_cmp}, Query.Query}
+use Rattle.sqlite.specs.{Query.{Output, output, output_cmp, page, IsAnswerAs}, Term.Term}
 use Rattle.sqlite.specs.Tree.{Trees, rowid, IsTable}
 use Rattle.sqlite_catalog.proofs.AlterLemmas.{keys_are_unique}
 use Rattle.sqlite_catalog.specs.Listing.{IsSound}
@@ -25,30 +18,22 @@ use Rattle.sqlite_keyed.proofs.ListLemmas.{map-map, ascending-map, ascending_wea
 use Rattle.sqlite_keyed.proofs.SortLemmas.{sorted_is-sort_by, sort_by-map}
 use Rattle.sqlite_rules.specs.Lists.{Has}
 use Rattle.sqlite_rules.proofs.RuleLemmas.{keeps_at}
-use Rattle.sqlite_schema.specs.declared.schema.Constraint.TheVariants.{NotNull}
-use Rattle.sqlite_schema.specs.declared.schema.Table.{Table}
+use Rattle.sqlite_schema.specs.declared.schema.{Constraint.TheVariants.NotNull, Table.Table}
 use Rattle.sqlite_schema.specs.Rules.{agree, differ, passes}
 use Rattle.sqlite_sql.proofs.QueryLemmas.{output_cmp_total}
-use Rattle.sqlite_sql.specs.Ops.{is_null}
-use Rattle.sqlite_sql.specs.declared.ops.BinaryOp.TheVariants.{Compare}
+use Rattle.sqlite_sql.specs.{Ops.is_null, declared.ops.BinaryOp.TheVariants.Compare}
 use Rattle.sqlite_sql.specs.declared.ops.CompareOp.TheVariants.{Eq}
 use Rattle.sqlite_tied.specs.Compute.{everything}
 use Rattle.sqlite_trees.specs.Tree.{IsAscending}
-use Rattle.sqlite_value.specs.Keys.{first_key, plain}
-use Rattle.sqlite_value.specs.declared.keys.Collation.TheVariants.{Binary}
+use Rattle.sqlite_value.specs.{Keys.{first_key, plain}, declared.keys.Collation.TheVariants.Binary}
 use Rattle.sqlite_value.proofs.OrderLemmas.{then-Equal, value_cmp-Text, value_cmp_total}
-use Rattle.store_tables.specs.Meaning.{pair_in}
-use Rattle.store_tables.specs.Paired.{Pair, pair_cmp}
-use Rattle.store_tables.specs.Shown.{IsRoom}
+use Rattle.store_tables.specs.{Meaning.pair_in, Paired.{Pair, pair_cmp}, Shown.IsRoom}
 use Rattle.store_tables.specs.Tables.{members, room_schema}
 use Rattle.store_tables.proofs.Answers.{each_way, passes as passes_tests, shows, way}
-use Rattle.store_tables.proofs.Ordered.{HasNoTies}
-use Rattle.store_tables.proofs.Rowids.{each_of, of_each}
-use Rattle.store_tables.proofs.Texts.{ascending_by, query_of}
+use Rattle.store_tables.proofs.{Ordered.HasNoTies, Rowids.{each_of, of_each}, Texts.ascending_by}
+use Rattle.store_tables.proofs.{Texts.query_of, Grouped.name_text, Apart.{any_none, equal_from}}
+use Rattle.store_tables.proofs.Apart.{differ_from, int_is_some}
 use Rattle.store_admin.specs.Operating.{by_pair}
-use Rattle.store_tables.proofs.Grouped.{name_text}
-use Rattle.store_tables.proofs.Apart.{any_none, equal_from, differ_from, int_is_some}
-use Rattle.std.proofs.lemmas.Bool.Decides.{nat_tests}
 
 -- ---- no two rows have one pair
 

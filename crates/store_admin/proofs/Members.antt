@@ -1,41 +1,27 @@
 -- What the query of all pairs shows, and what it is read as.
 use Rattle.std.proofs.Common.{◌≡◌, ℕ, List, [], ◌∷◌, map, codes, None, Some, Option, refl, sym, ap}
 use Rattle.std.proofs.Common.{subst, ◌∙◌, true, false, Bool, ◌⊎◌, inl, inr, lit≤, Result, IfErr}
-use Rattle.std.proofs.Common.{IsSome, Vec, Global}
-use Rattle.std.specs.Prelude.{◌||◌}
-use Rattle.std.specs.List.{cons_option, filter_map, list_any}
-use Rattle.std.specs.Option.{option_map_or}
-use Rattle.std.specs.List.Sorted.{IsStrictlySortedBy}
-use Rattle.std.proofs.lemmas.List.Sorted.{IsPermutation-map, IsPermutation-sym}
-use Rattle.std.proofs.lemmas.List.Sorted.{list_any-IsPermutation}
-use Rattle.sqlite.specs.declared.types.Value.TheVariants.{Null}
-use Rattle.sqlite.specs.declared.error.Error.{Error}
-use Rattle.sqlite.specs.Effect.{Database, RefusesToRead}
-use Rattle.sqlite.specs.Order.{Row}
-use Rattle.sqlite.specs.Listing.{understood, reads_listing}
-use Rattle.sqlite.specs.Program.{overlay}
-use Rattle.sqlite.specs.Query.{Query}
-use Rattle.sqlite.specs.State.{State, FailsToQuery, HasCleanDisk, IsTooLate, Shown}
-use Rattle.sqlite.specs.Term.{Term, col}
+use Rattle.std.proofs.{Common.{IsSome, Vec, Global}, lemmas.List.Sorted.IsPermutation-map}
+use Rattle.std.proofs.lemmas.List.Sorted.{IsPermutation-sym, list_any-IsPermutation}
+use Rattle.std.specs.{Prelude.◌||◌, List.{cons_option, filter_map, list_any}}
+use Rattle.std.specs.{List.Sorted.IsStrictlySortedBy, Option.option_map_or}
+use Rattle.sqlite.specs.declared.{types.Value.TheVariants.Null, error.Error.Error}
+use Rattle.sqlite.specs.{Effect.{Database, RefusesToRead}, Order.Row, Listing.understood}
+use Rattle.sqlite.specs.{Listing.reads_listing, Program.overlay, Query.Query, State.State}
+use Rattle.sqlite.specs.{State.{FailsToQuery, HasCleanDisk, IsTooLate, Shown}, Term.{Term, col}}
 use Rattle.sqlite.proofs.Callers.{IsPlain, command_of, reads_as}
 use Rattle.sqlite_resolve.specs.Compile.{first, returning}
-use Rattle.store_tables.proofs.Bare.{LacksReturning}
+use Rattle.store_tables.proofs.{Bare.LacksReturning, Ordered.HasNoTies, Failing.IsAsked}
+use Rattle.store_tables.proofs.{Failing.fails_sql, Texts.{ascending_by, query_of, selects}}
 use Rattle.sqlite_keyed.specs.Lists.{sort_by}
 use Rattle.sqlite_keyed.proofs.SortLemmas.{IsPermutation-sort_by}
 use Rattle.sqlite_tied.specs.Compute.{everything}
 use Rattle.room_rows.specs.Content.{set_of}
-use Rattle.store_tables.specs.Meaning.{pair_in}
-use Rattle.store_tables.specs.Failing.{FailsSql}
+use Rattle.store_tables.specs.{Meaning.pair_in, Failing.FailsSql, Paired.{Pair, pair_cmp}}
+use Rattle.store_tables.specs.{RoomRows.set_sorted, Shown.IsRoom, Tables.room_schema}
 use Rattle.store_admin.specs.Operating.{ShowsMembers, by_pair, pair_seen, pairs_seen, shown_pair}
-use Rattle.store_tables.specs.Paired.{Pair, pair_cmp}
-use Rattle.store_tables.specs.RoomRows.{set_sorted}
-use Rattle.store_tables.specs.Shown.{IsRoom}
-use Rattle.store_tables.specs.Tables.{room_schema}
-use Rattle.store_tables.proofs.Ordered.{HasNoTies}
-use Rattle.store_tables.proofs.Failing.{IsAsked, fails_sql}
 use Rattle.store_admin.proofs.InOrder.{in_pairs, pair_total, pairs_apart, pairs_in_order}
 use Rattle.store_admin.proofs.Sets.{has, has_set, is_at, same_sets}
-use Rattle.store_tables.proofs.Texts.{ascending_by, query_of, selects}
 use Rattle.room_entry.proofs.Facts.Lists.{filter_all}
 
 abbrev pub members_text : List ℕ

@@ -1,37 +1,25 @@
 -- What the query of all records shows, and what it is read as.
 use Rattle.std.proofs.Common.{◌≡◌, ◌&&◌, ℕ, negsuc, List, [], ◌∷◌, map, codes, Bool, Option, Some}
 use Rattle.std.proofs.Common.{None, Vec, Global, refl, ap, ◌∙◌, true, false, Less, ◌⊎◌, inl, inr}
-use Rattle.std.proofs.Common.{lit≤, Result, IfErr, IsSome, arith}
-use Rattle.std.specs.Prelude.{MatchOption, is_some}
-use Rattle.std.specs.List.{cons_option, filter_map, list_all}
-use Rattle.sqlite.specs.declared.types.Value.TheVariants.{Null, Int}
-use Rattle.sqlite.specs.declared.error.Error.{Error}
-use Rattle.sqlite.specs.Effect.{Database, RefusesToRead}
-use Rattle.sqlite.specs.Listing.{understood, reads_listing}
-use Rattle.sqlite.specs.Order.{Row, value_cmp}
-use Rattle.sqlite.specs.Program.{overlay}
-use Rattle.sqlite.specs.Query.{Query}
-use Rattle.sqlite.specs.State.{State, FailsToQuery, HasCleanDisk, IsTooLate, Shown}
-use Rattle.sqlite.specs.Term.{Term, col, lit}
-use Rattle.sqlite.specs.Tree.{rowid}
+use Rattle.std.proofs.{Common.{lit≤, Result, IfErr, IsSome, arith}, lemmas.Bool.Decides.nat_tests}
+use Rattle.std.specs.{Prelude.{MatchOption, is_some}, List.{cons_option, filter_map, list_all}}
+use Rattle.sqlite.specs.declared.{types.Value.TheVariants.{Null, Int}, error.Error.Error}
+use Rattle.sqlite.specs.{Effect.{Database, RefusesToRead}, Listing.{understood, reads_listing}}
+use Rattle.sqlite.specs.{Order.{Row, value_cmp}, Program.overlay, Query.Query, State.State}
+use Rattle.sqlite.specs.{State.{FailsToQuery, HasCleanDisk, IsTooLate, Shown}, Term.{Term, col}}
+use Rattle.sqlite.specs.{Term.lit, Tree.rowid}
 use Rattle.sqlite.proofs.Callers.{IsPlain, command_of, reads_as}
 use Rattle.sqlite_resolve.specs.Compile.{first, returning}
-use Rattle.store_tables.proofs.Bare.{LacksReturning}
+use Rattle.store_tables.proofs.{Bare.LacksReturning, Answers.passes, Ordered.as_stored}
+use Rattle.store_tables.proofs.{Texts.{ascending_by, query_of, selects}, Failing.IsAsked}
+use Rattle.store_tables.proofs.Failing.{fails_sql}
 use Rattle.sqlite_tied.specs.Compute.{everything}
 use Rattle.sqlite_keyed.proofs.ListLemmas.{ascending-filter}
 use Rattle.room_rows.specs.declared.node.AuditRow.{AuditRow}
-use Rattle.store_tables.specs.Meaning.{audit_in}
-use Rattle.store_tables.specs.Shown.{IsRoom}
-use Rattle.store_tables.specs.Tables.{room_schema}
-use Rattle.store_tables.proofs.Answers.{passes}
-use Rattle.store_tables.proofs.Ordered.{as_stored}
-use Rattle.store_tables.proofs.Texts.{ascending_by, query_of, selects}
-use Rattle.store_tables.specs.Failing.{FailsSql}
+use Rattle.store_tables.specs.{Meaning.audit_in, Shown.IsRoom, Tables.room_schema, Failing.FailsSql}
 use Rattle.store_admin.specs.Operating.{AreRecords, HasRecords, HasUnreadRecord, record_seen}
 use Rattle.store_admin.specs.Operating.{shown_record}
-use Rattle.store_tables.proofs.Failing.{IsAsked, fails_sql}
 use Rattle.room_entry.proofs.Facts.Lists.{filter_all}
-use Rattle.std.proofs.lemmas.Bool.Decides.{nat_tests}
 
 abbrev pub records_text : List ℕ
 records_text = codes "SELECT at, user, path, bits, granted, entry FROM audits ORDER BY seq"

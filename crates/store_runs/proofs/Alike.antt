@@ -1,16 +1,13 @@
 -- Two stores in which the same is asked have runs that are alike.
 use Rattle.std.proofs.Common.{ℕ, List, [], ◌∷◌, refl, subst}
-use Rattle.sqlite.specs.Held.{Held}
-use Rattle.sqlite.specs.State.{State, HasCleanDisk}
+use Rattle.sqlite.specs.{Held.Held, State.{State, HasCleanDisk}}
 use Rattle.room_rows.specs.Content.{Content}
 use Rattle.room_inherit.specs.Laws.{SoundIsContent}
 use Rattle.room_machine.specs.Run.{Asked, Replaced, Run, WasReset}
-use Rattle.room_laws.specs.Laws.{front_after}
-use Rattle.room_laws.specs.Tidy.{ContentIsTidy}
-use Rattle.room_laws.specs.Twins.{AreAlike, InBoth, InBothReplaced, InBothReset, InFirst}
-use Rattle.room_laws.specs.Twins.{InSecond, Turn, Unseen, first_events, front_by, second_events}
-use Rattle.room_store.specs.Kept.{IsSound, Keeps}
-use Rattle.room_store.specs.Leads.{Leads}
+use Rattle.room_laws.specs.{Laws.front_after, Tidy.ContentIsTidy, Twins.{AreAlike, InBoth}}
+use Rattle.room_laws.specs.Twins.{InBothReplaced, InBothReset, InFirst, InSecond, Turn, Unseen}
+use Rattle.room_laws.specs.Twins.{first_events, front_by, second_events}
+use Rattle.room_store.specs.{Kept.{IsSound, Keeps}, Leads.Leads}
 use Rattle.room_store.proofs.Leading.{one_step}
 use Rattle.store_runs.specs.Alike.{AnswerAlike, Beside, LiveAlike, first_at_end, second_at_end}
 use Rattle.store_runs.specs.Alike.{turns_of}

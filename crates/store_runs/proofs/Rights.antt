@@ -1,17 +1,15 @@
 -- Who may do what in a store's room, over lists of calls.
-use Rattle.std.proofs.Common.{◌≡◌, ℕ, List, [], ◌∷◌, ◌++◌, Option, Some, IfSome, inl, inr}
-use Rattle.std.proofs.Common.{refl, sym, subst}
+use Rattle.std.proofs.Common.{◌≡◌, ℕ, List, [], ◌∷◌, ◌++◌, Option, Some, IfSome, inl, inr, refl}
+use Rattle.std.proofs.Common.{sym, subst}
 use Rattle.std.specs.List.{AllByRecursion}
 use Rattle.sqlite_rules.specs.Lists.{Has}
 use Rattle.sqlite.specs.State.{State}
 use Rattle.room_rows.specs.Content.{Content}
 use Rattle.room_inherit.specs.Laws.{SoundIsContent}
 use Rattle.room_machine.specs.Run.{Asking, Event, Run, RunsMeet}
-use Rattle.room_laws.specs.Tidy.{ContentIsTidy}
-use Rattle.room_laws.specs.WhoChanged.{IsHarmless, IsThere, NothingGained, RightsChangedInRun}
-use Rattle.room_laws.specs.WhoChanged.{SameRights}
-use Rattle.room_store.specs.Crash.{HoldsRoom, HoldsRoomAfter, IsRoomOf, LeavesWhole}
-use Rattle.room_store.specs.Leads.{Leads}
+use Rattle.room_laws.specs.{Tidy.ContentIsTidy, WhoChanged.{IsHarmless, IsThere, NothingGained}}
+use Rattle.room_laws.specs.WhoChanged.{RightsChangedInRun, SameRights}
+use Rattle.room_store.specs.{Crash.{HoldsRoom, HoldsRoomAfter, IsRoomOf, LeavesWhole}, Leads.Leads}
 use Rattle.store_runs.specs.Rights.{CrashGainsNothing, GainsNothing, GrantsChanges}
 use Rattle.store_runs.specs.Rights.{IsHarmlessAsking}
 use Rattle.store_runs.proofs.Rooms.{keeps, numbered, sound, tidy}

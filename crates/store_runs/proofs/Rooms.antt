@@ -1,17 +1,12 @@
 -- What the laws over runs ask of a content holds of the room in the tables of a store.
 use Rattle.std.proofs.Common.{refl, subst}
-use Rattle.sqlite.specs.Effect.{Database}
-use Rattle.sqlite.specs.State.{State}
-use Rattle.room_rows.specs.Content.{Content, IsContent}
-use Rattle.room_rows.specs.Meaning.{kept_node}
+use Rattle.sqlite.specs.{Effect.Database, State.State}
+use Rattle.room_rows.specs.{Content.{Content, IsContent}, Meaning.kept_node}
 use Rattle.room_rows.proofs.InPlace.{keeps_places, rises-with_each}
 use Rattle.room_inherit.specs.Laws.{SoundIsContent}
 use Rattle.room_laws.specs.Tidy.{ContentIsTidy, IsNumbered, IsTidy}
-use Rattle.store_tables.specs.Meaning.{rows_of}
-use Rattle.store_tables.specs.RoomRows.{room_rows}
-use Rattle.store_tables.specs.Shown.{tables_of}
-use Rattle.room_store.specs.Crash.{IsRoomOf}
-use Rattle.room_store.specs.Kept.{IsSound, Keeps}
+use Rattle.store_tables.specs.{Meaning.rows_of, RoomRows.room_rows, Shown.tables_of}
+use Rattle.room_store.specs.{Crash.IsRoomOf, Kept.{IsSound, Keeps}}
 
 pub numbered : (room : Content) (it : Database) → IsRoomOf room it → IsNumbered room
 numbered room it is =

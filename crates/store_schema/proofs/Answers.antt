@@ -1,14 +1,11 @@
 -- What an answer of a query over one table has, and in which order.
 use Rattle.std.proofs.Common.{◌≡◌, ℕ, List, [], ◌∷◌, ◌++◌, map, filter, flat_map, Bool, true, false}
 use Rattle.std.proofs.Common.{cond, refl, sym, ap, subst, ◌∙◌}
-use Rattle.std.specs.List.{list_all}
-use Rattle.std.specs.List.Sorted.{IsPermutation}
 use Rattle.std.proofs.lemmas.List.Sorted.{IsPermutation-map}
-use Rattle.sqlite.specs.declared.types.Value.{Value}
-use Rattle.sqlite.specs.Order.{Row}
-use Rattle.sqlite.specs.Tree.{Trees}
-use Rattle.sqlite.specs.Query.{Query, Output, output, matches_as, end, IsAnswerAs}
-use Rattle.sqlite.specs.Term.{Term, Env, holds, eval_all}
+use Rattle.std.specs.List.{list_all, Sorted.IsPermutation}
+use Rattle.sqlite.specs.{declared.types.Value.Value, Order.Row, Tree.Trees, Query.{Query, Output}}
+use Rattle.sqlite.specs.{Query.{output, matches_as, end, IsAnswerAs}, Term.{Term, Env, holds}}
+use Rattle.sqlite.specs.Term.{eval_all}
 use Rattle.sqlite_value.specs.declared.keys.Key.{Key}
 use Rattle.store_schema.proofs.Texts.{query_of}
 

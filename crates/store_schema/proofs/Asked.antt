@@ -2,45 +2,34 @@
 use Rattle.std.proofs.Common.{◌≡◌, ℕ, ℤ, List, [], ◌∷◌, length, map, Result, Ok, Err, Option, None}
 use Rattle.std.proofs.Common.{Some, IsTrue, inl, inr, ◌⊎◌, refl, sym, ap, subst, ◌∙◌, true, false}
 use Rattle.std.proofs.Common.{Bool, if◌then◌else◌, arith, IsPermutation, Vec, Global, IfOk, IfErr}
-use Rattle.std.proofs.lemmas.List.Sorted.{length_permutation}
-use Rattle.sqlite.specs.declared.types.Value.TheVariants.{Null}
-use Rattle.sqlite.specs.Order.{Row, column}
-use Rattle.sqlite.specs.Ops.{is_true, from_truth}
+use Rattle.std.proofs.lemmas.{List.Sorted.length_permutation, Bool.Decides.nat_tests}
 use Rattle.std.proofs.Math.Bool.{and-true}
-use Rattle.sqlite.specs.Program.{overlay}
-use Rattle.sqlite.specs.Effect.{Database, RefusesToRead}
-use Rattle.sqlite.specs.declared.error.Error.{Error}
-use Rattle.sqlite.specs.declared.error.Error.TheVariants.{SqlInputError}
+use Rattle.sqlite.specs.declared.{types.Value.TheVariants.Null, error.Error.Error}
+use Rattle.sqlite.specs.{declared.error.Error.TheVariants.SqlInputError, Order.{Row, column}}
+use Rattle.sqlite.specs.{Ops.{is_true, from_truth}, Program.overlay, Effect.Database}
+use Rattle.sqlite.specs.{Effect.RefusesToRead, Command.{Command, TheVariants.{Rows, Select}}}
+use Rattle.sqlite.specs.{Clock.timed, Listing.understood, State.{State, HasCleanDisk, Shown}}
+use Rattle.sqlite.specs.State.{ShowsRows, FailsToQuery, FailsToShow, IsNotRun, IsTooLate}
+use Rattle.sqlite.specs.State.{store_error}
 use Rattle.sqlite_resolve.specs.declared.compiled.Compiled.{Compiled}
 use Rattle.sqlite_resolve.specs.declared.error.CompileError.{CompileError}
-use Rattle.sqlite_trees.specs.declared.error.StoreError.{StoreError}
-use Rattle.sqlite_trees.specs.declared.error.StoreError.TheVariants.{OutOfMemory, Io, Corrupt, Full}
-use Rattle.sqlite_trees.specs.declared.error.StoreError.TheVariants.{Broken, Unstorable}
-use Rattle.sqlite.specs.Command.{Command}
-use Rattle.sqlite.specs.Command.TheVariants.{Rows, Select}
+use Rattle.sqlite_trees.specs.declared.error.StoreError.{StoreError, TheVariants.{OutOfMemory, Io}}
+use Rattle.sqlite_trees.specs.declared.error.StoreError.TheVariants.{Corrupt, Full, Broken}
+use Rattle.sqlite_trees.specs.declared.error.StoreError.TheVariants.{Unstorable}
 use Rattle.sqlite_schema.specs.declared.command.Returning.{Returning}
-use Rattle.sqlite.specs.Clock.{timed}
-use Rattle.sqlite.specs.Listing.{understood}
-use Rattle.sqlite.specs.State.{State, HasCleanDisk, Shown, ShowsRows, FailsToQuery, FailsToShow}
-use Rattle.sqlite.specs.State.{IsNotRun, IsTooLate, store_error}
 use Rattle.sqlite.proofs.Callers.{IsPlain, one_permutation, reads_as}
-use Rattle.store_tables.specs.Tables.{no_schema, room_schema}
-use Rattle.store_schema.specs.NewRoom.{is_version, meta_of, number_shown}
-use Rattle.store_schema.specs.Opening.{AsksVersion, CantBeAsked, IsCalled, IsFailure, IsRefusal}
-use Rattle.store_schema.specs.Opening.{IsUnread, ReadsAs, ShowsVersion, number_text}
-use Rattle.store_tables.specs.Within.{IsWithin}
-use Rattle.store_schema.specs.declared.fault.OpenFault.{OpenFault}
-use Rattle.store_schema.specs.declared.fault.OpenFault.TheVariants.{NotRooms, OldVersion}
-use Rattle.store_schema.specs.declared.fault.OpenFault.TheVariants.{NewVersion, Db, Memory}
-use Rattle.store_schema.proofs.Answers.{passes, selected}
-use Rattle.store_schema.proofs.Texts.{asked_bare, asked_is, asked_nowhere, asked_plain, asks_value}
-use Rattle.store_schema.proofs.Texts.{is_rooms}
-use Rattle.store_tables.proofs.Bare.{reads_by}
-use Rattle.store_tables.proofs.Within.{CommitsNothing, as_before, unchanged_within, undone_within}
-use Rattle.store_tables.proofs.Within.{wrote_within}
+use Rattle.store_tables.specs.{Tables.{no_schema, room_schema}, Within.IsWithin}
+use Rattle.store_schema.specs.{NewRoom.{is_version, meta_of, number_shown}, Opening.AsksVersion}
+use Rattle.store_schema.specs.Opening.{CantBeAsked, IsCalled, IsFailure, IsRefusal, IsUnread}
+use Rattle.store_schema.specs.Opening.{ReadsAs, ShowsVersion, number_text}
+use Rattle.store_schema.specs.declared.fault.OpenFault.{OpenFault, TheVariants.NotRooms}
+use Rattle.store_schema.specs.declared.fault.OpenFault.TheVariants.{OldVersion, NewVersion, Db}
+use Rattle.store_schema.specs.declared.fault.OpenFault.TheVariants.{Memory}
+use Rattle.store_schema.proofs.{Answers.{passes, selected}, Texts.{asked_bare, asked_is}}
+use Rattle.store_schema.proofs.Texts.{asked_nowhere, asked_plain, asks_value, is_rooms}
+use Rattle.store_tables.proofs.{Bare.reads_by, Within.{CommitsNothing, as_before, unchanged_within}}
+use Rattle.store_tables.proofs.{Within.{undone_within, wrote_within}, Tests.equals_text}
 use Rattle.room_entry.proofs.Facts.Lists.{filter_same}
-use Rattle.store_tables.proofs.Tests.{equals_text}
-use Rattle.std.proofs.lemmas.Bool.Decides.{nat_tests}
 
 -- ---- the rows that are shown
 

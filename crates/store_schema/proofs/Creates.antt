@@ -1,12 +1,8 @@
 -- What making the tables leaves.
 use Rattle.std.proofs.Common.{◌≡◌, ℕ, List, [], ◌∷◌, Ok, None, sym, ap, subst, ◌∙◌, true, false}
-use Rattle.sqlite.specs.Command.TheVariants.{CreateTable}
-use Rattle.sqlite.specs.Table.{Table}
-use Rattle.sqlite.specs.Schema.{Schema}
-use Rattle.sqlite.specs.Change.{created, next_tree, KeepsRows}
-use Rattle.sqlite.specs.Does.{Tally, lacks_sequence}
-use Rattle.sqlite.specs.Effect.{Database}
-use Rattle.sqlite.specs.State.{State, Writes, Executes}
+use Rattle.sqlite.specs.{Command.TheVariants.CreateTable, Table.Table, Schema.Schema}
+use Rattle.sqlite.specs.{Change.{created, next_tree, KeepsRows}, Does.{Tally, lacks_sequence}}
+use Rattle.sqlite.specs.{Effect.Database, State.{State, Writes, Executes}}
 use Rattle.sqlite.proofs.Callers.{runs_as}
 use Rattle.store_tables.specs.Tables.{nodes, bodies, members, meta, audits, counters, no_schema}
 use Rattle.store_tables.specs.Tables.{after_nodes, after_bodies, after_members, after_meta}

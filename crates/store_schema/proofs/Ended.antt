@@ -1,18 +1,13 @@
 -- A transaction begins, and its commit fails.
-use Rattle.std.proofs.Common.{◌≡◌, ◌≤◌, ◌∙◌, IsTrue, sym, ap, true, false, arith, inl, inr}
-use Rattle.std.proofs.Common.{Result}
-use Rattle.sqlite_trees.specs.View.{doubt}
-use Rattle.sqlite_trees.specs.declared.store.Store.{Ghosts}
-use Rattle.sqlite.specs.Held.{Held, state}
-use Rattle.sqlite.specs.State.{State, HasCleanDisk, IsRolledBack, IsUnchanged}
-use Rattle.sqlite.specs.Steps.{FailsToCommit}
-use Rattle.sqlite.specs.Tree.{Trees}
-use Rattle.sqlite.specs.declared.error.Error.{Error}
+use Rattle.std.proofs.Common.{◌≡◌, ◌≤◌, ◌∙◌, IsTrue, sym, ap, true, false, arith, inl, inr, Result}
+use Rattle.std.proofs.lemmas.Bool.Decides.{nat_tests}
+use Rattle.sqlite_trees.specs.{View.doubt, declared.store.Store.Ghosts}
+use Rattle.sqlite.specs.{Held.{Held, state}, State.{State, HasCleanDisk, IsRolledBack, IsUnchanged}}
+use Rattle.sqlite.specs.{Steps.FailsToCommit, Tree.Trees, declared.error.Error.Error}
 use Rattle.store_schema.specs.Opening.{FailsByDisk, FailsToRead}
 use Rattle.store_schema.specs.declared.fault.OpenFault.{OpenFault}
 use Rattle.store_tables.specs.Within.{IsWithin}
 use Rattle.store_tables.proofs.Failing.{Counts, around}
-use Rattle.std.proofs.lemmas.Bool.Decides.{nat_tests}
 
 -- a transaction begins
 pub record Begins (old begun : State) : Type 0 where

@@ -1,39 +1,27 @@
 -- What the first rows leave.
 use Rattle.std.proofs.Common.{◌≡◌, ◌≢◌, ℕ, ℤ, pos, List, [], ◌∷◌, codes, map, filter, Option, Ok}
 use Rattle.std.proofs.Common.{None, Some, IsTrue, refl, sym, ap, subst, ◌∙◌, arith}
-use Rattle.sqlite.specs.declared.types.Value.TheVariants.{Null, Int, Text}
-use Rattle.sqlite.specs.Order.{Row, column, value_cmp}
-use Rattle.sqlite.specs.Cast.{cast_row}
-use Rattle.sqlite.specs.Tree.{Trees, put_row}
-use Rattle.sqlite.specs.Command.TheVariants.{Insert}
-use Rattle.sqlite.specs.Source.TheVariants.{Values}
-use Rattle.sqlite.specs.Edit.{Edit, edit_of, next_rowid, put_all}
-use Rattle.sqlite.specs.Rowids.TheVariants.{Chosen}
-use Rattle.sqlite_schema.specs.declared.schema.Keys.TheVariants.{Enforced}
-use Rattle.sqlite_schema.specs.declared.schema.Table.{Table}
-use Rattle.sqlite.specs.Does.{Tally, Does}
-use Rattle.sqlite.specs.Rows.{Written}
-use Rattle.sqlite.specs.Effect.{Database, IsDatabase}
-use Rattle.sqlite.specs.Listing.{understood}
+use Rattle.sqlite.specs.{declared.types.Value.TheVariants.{Null, Int, Text}, Order.{Row, column}}
+use Rattle.sqlite.specs.{Order.value_cmp, Cast.cast_row, Tree.{Trees, put_row}}
+use Rattle.sqlite.specs.{Command.TheVariants.Insert, Source.TheVariants.Values, Edit.Edit}
+use Rattle.sqlite.specs.{Edit.{edit_of, next_rowid, put_all}, Rowids.TheVariants.Chosen, Does.Tally}
+use Rattle.sqlite.specs.{Does.Does, Rows.Written, Effect.{Database, IsDatabase}, Listing.understood}
 use Rattle.sqlite.specs.State.{State, mode_of, Executes}
+use Rattle.sqlite_schema.specs.declared.schema.{Keys.TheVariants.Enforced, Table.Table}
 use Rattle.sqlite.proofs.Callers.{runs_as, statement_of, one_step}
 use Rattle.sqlite_rules.specs.Action.{works}
 use Rattle.sqlite_tied.specs.Compute.{everything}
 use Rattle.sqlite_trees.specs.View.{IsShaped}
-use Rattle.sqlite_trees.specs.declared.store.Shape.TheVariants as Shape
-use Rattle.room_entry.specs.Names.{is_name}
-use Rattle.room_entry.specs.Utf8.{is_utf8}
-use Rattle.room_entry.specs.declared.parties.Owners.{Owners}
-use Rattle.store_tables.specs.Tables.{meta, nodes, room_schema}
-use Rattle.store_schema.specs.Making.{HasEmpty, IsBare}
-use Rattle.store_schema.specs.NewRoom.{IsNewRoom, is_version, number_shown}
-use Rattle.store_tables.specs.Printed.{ArePrinted}
+use Rattle.room_entry.specs.{Names.is_name, Utf8.is_utf8, declared.parties.Owners.Owners}
+use Rattle.store_tables.specs.{Tables.{meta, nodes, room_schema}, Printed.ArePrinted}
+use Rattle.store_schema.specs.{Making.{HasEmpty, IsBare}, NewRoom.{IsNewRoom, is_version}}
+use Rattle.store_schema.specs.NewRoom.{number_shown}
 use Rattle.store_schema.proofs.Meant.{owner_line, room_read, root_printed, root_row}
 use Rattle.store_schema.proofs.Texts.{version_text, version_terms, version_is, version_plain}
 use Rattle.store_schema.proofs.Texts.{folder_text, folder_terms, folder_is, folder_plain}
-use Rattle.store_tables.proofs.Inserts.{new_sets_off_nothing}
-use Rattle.store_tables.proofs.Updates.{cast_null, cast_int}
+use Rattle.store_tables.proofs.{Inserts.new_sets_off_nothing, Updates.{cast_null, cast_int}}
 use Rattle.store_tables.proofs.Writes.{went, same_value}
+use Rattle.sqlite_trees.specs.declared.store.Shape.TheVariants as Shape
 
 -- ---- the schema's number
 

@@ -1,28 +1,19 @@
 -- What the row of a new root is read as.
 use Rattle.std.proofs.Common.{◌≡◌, ℕ, pos, List, [], ◌∷◌, ◌++◌, codes, Some, None, inl, inr, refl}
-use Rattle.std.proofs.Common.{sym, ap, subst, ◌∙◌, true, arith}
-use Rattle.std.specs.Prelude.{IsTrue, false, Option, option_map, option_and_then}
-use Rattle.std.specs.Prelude.{if◌then◌else◌}
-use Rattle.room_entry.specs.Ace.{Ace}
-use Rattle.room_entry.specs.declared.object.ObjKind.TheVariants.{Folder}
-use Rattle.room_rows.specs.HeldList.{Held}
-use Rattle.room_rows.specs.declared.node.Node.{Node}
-use Rattle.sqlite.specs.Effect.{Database}
-use Rattle.room_entry.specs.Bits.{all_bits}
-use Rattle.room_ace.specs.Column.{entries_of}
-use Rattle.room_entry.specs.Names.{is_name}
+use Rattle.std.proofs.{Common.{sym, ap, subst, ◌∙◌, true, arith}, lemmas.Bool.Decides.nat_tests}
+use Rattle.std.specs.Prelude.{IsTrue, false, Option, option_map, option_and_then, if◌then◌else◌}
+use Rattle.room_entry.specs.{Ace.Ace, declared.object.ObjKind.TheVariants.Folder}
+use Rattle.room_entry.specs.{declared.parties.Owners.Owners, Bits.all_bits, Names.is_name}
 use Rattle.room_entry.specs.Utf8.{is_utf8}
-use Rattle.room_entry.specs.declared.parties.Owners.{Owners}
-use Rattle.sqlite.specs.declared.types.Value.TheVariants.{Null, Int, Text}
+use Rattle.room_rows.specs.{HeldList.Held, declared.node.Node.Node}
+use Rattle.sqlite.specs.{Effect.Database, declared.types.Value.TheVariants.{Null, Int, Text}}
 use Rattle.sqlite.specs.Order.{Row, column}
+use Rattle.room_ace.specs.Column.{entries_of}
 use Rattle.sqlite_rules.specs.Lists.{Has}
-use Rattle.store_tables.specs.Meaning.{name_in, node_in}
-use Rattle.store_tables.specs.Meaning.{rows_of}
-use Rattle.store_tables.specs.Shown.{shown_node}
+use Rattle.store_tables.specs.{Meaning.{name_in, node_in, rows_of}, Shown.shown_node}
 use Rattle.store_tables.specs.Printed.{ArePrinted, HoldsPrinted, IsPrinted}
 use Rattle.store_tables.proofs.Printed.{by_cell}
 use Rattle.store_schema.specs.NewRoom.{owner_entry, rows_of_root, new_root}
-use Rattle.std.proofs.lemmas.Bool.Decides.{nat_tests}
 
 abbrev pub owner_line : List ℕ
 owner_line = codes "A:fd:OWNER@:rwanNxDtThHdcCoy" ++ 10 ∷ []

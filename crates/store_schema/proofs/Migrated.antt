@@ -1,27 +1,21 @@
 -- A transaction that upgrades a room is committed, or its commit fails.
 use Rattle.std.proofs.Common.{◌≡◌, ◌≤◌, [], pos, Result, Ok, Err, IsErrAnd, IsTrue, sym, ap, subst}
-use Rattle.std.proofs.Common.{◌∙◌, false, inl, inr, arith}
+use Rattle.std.proofs.{Common.{◌∙◌, false, inl, inr, arith}, lemmas.Bool.Decides.nat_tests}
 use Rattle.sqlite_trees.specs.View.{doubt}
-use Rattle.sqlite.specs.Effect.{Database, IsDatabase}
-use Rattle.sqlite.specs.State.{State, HasCleanDisk, KeepsCounts, Shows, Survives}
-use Rattle.sqlite.specs.Steps.{FailsToCommit}
-use Rattle.sqlite.specs.declared.error.Error.{Error}
-use Rattle.store_tables.specs.Tables.{no_schema}
-use Rattle.store_tables.specs.Shown.{HasTables, IsRoom, room_of}
+use Rattle.sqlite.specs.{Effect.{Database, IsDatabase}, State.{State, HasCleanDisk, KeepsCounts}}
+use Rattle.sqlite.specs.{State.{Shows, Survives}, Steps.FailsToCommit, declared.error.Error.Error}
+use Rattle.store_tables.specs.{Tables.no_schema, Shown.{HasTables, IsRoom, room_of}}
 use Rattle.store_tables.specs.Within.{IsSettled, LeavesOrCommits}
-use Rattle.store_schema.specs.NewRoom.{meta_of}
-use Rattle.store_schema.specs.Opening.{AnswersVersion, IsFailure, IsRefusal, Says}
-use Rattle.store_schema.specs.Migrating.{AnswersMigration, CommitsMigration, IsInside}
-use Rattle.store_schema.specs.Migrating.{IsMigratedRoom, IsNoRoom, Migrates, MigratesTables}
-use Rattle.store_schema.specs.Migrating.{RetainsOthers}
-use Rattle.store_schema.specs.declared.fault.MigrateFault.{MigrateFault}
-use Rattle.store_schema.specs.declared.fault.MigrateFault.TheVariants.{Opening}
-use Rattle.store_schema.specs.declared.fault.OpenFault.{OpenFault}
-use Rattle.store_schema.specs.declared.fault.OpenFault.TheVariants.{NotRooms, OldVersion}
-use Rattle.store_schema.specs.declared.fault.OpenFault.TheVariants.{NewVersion, Db, Memory}
+use Rattle.store_schema.specs.{NewRoom.meta_of, Opening.{AnswersVersion, IsFailure, IsRefusal}}
+use Rattle.store_schema.specs.{Opening.Says, Migrating.{AnswersMigration, CommitsMigration}}
+use Rattle.store_schema.specs.Migrating.{IsInside, IsMigratedRoom, IsNoRoom, Migrates}
+use Rattle.store_schema.specs.Migrating.{MigratesTables, RetainsOthers}
+use Rattle.store_schema.specs.declared.fault.MigrateFault.{MigrateFault, TheVariants.Opening}
+use Rattle.store_schema.specs.declared.fault.OpenFault.{OpenFault, TheVariants.NotRooms}
+use Rattle.store_schema.specs.declared.fault.OpenFault.TheVariants.{OldVersion, NewVersion, Db}
+use Rattle.store_schema.specs.declared.fault.OpenFault.TheVariants.{Memory}
 use Rattle.store_schema.proofs.Ended.{Begins, clean_mid, failed_back, left_first, open_first}
 use Rattle.store_schema.proofs.Ended.{open_mid, since}
-use Rattle.std.proofs.lemmas.Bool.Decides.{nat_tests}
 
 -- the failure of a database says nothing of its tables
 says : (db : Database) (fault : OpenFault) → IsFailure fault

@@ -1,33 +1,22 @@
 -- The steps of upgrading a room, one after the other.
 use Rattle.std.proofs.Common.{◌≡◌, ◌≤◌, ℕ, ℤ, pos, List, [], ◌∷◌, ◌++◌, map, filter, Option, Some}
 use Rattle.std.proofs.Common.{Result, Ok, IfOk, OnOk, IsErrAnd, IsTrue, refl, sym, ap, subst}
-use Rattle.std.proofs.Common.{subst₂, ◌∙◌, arith}
-use Rattle.std.proofs.lemmas.List.{append_assoc}
-use Rattle.std.proofs.lemmas.List.Elements.{All-append}
-use Rattle.sqlite_trees.specs.View.{IsShaped, doubt}
-use Rattle.sqlite_trees.specs.declared.store.Shape.TheVariants as Shape
-use Rattle.sqlite.specs.Order.{Row, column}
-use Rattle.sqlite.specs.Tree.{Trees}
-use Rattle.sqlite.specs.Effect.{Database}
-use Rattle.sqlite.specs.State.{State, HasCleanDisk}
-use Rattle.room_rows.specs.declared.keep.KeepFault.{KeepFault}
-use Rattle.room_rows.specs.declared.report.Report.TheVariants.{Sound}
-use Rattle.store_tables.specs.Meaning.{IsRecord, rows_of}
-use Rattle.store_tables.specs.Tables.{no_schema}
-use Rattle.store_tables.specs.RoomRows.{room_rows}
-use Rattle.store_tables.specs.Shown.{IsRoom, Retains, Stays}
-use Rattle.store_tables.specs.Trust.{IsTrusted}
-use Rattle.store_tables.proofs.Calls.{retains_same}
-use Rattle.store_tables.proofs.Printed.{keeps_on}
-use Rattle.store_schema.specs.NewRoom.{is_version, meta_of, number_shown}
-use Rattle.store_schema.specs.Opening.{Expects, ShowsVersion}
-use Rattle.store_schema.specs.Migrating.{AnswersMigration, AreMigrated, IsInside, IsNoRoom}
-use Rattle.store_schema.specs.Migrating.{IsMigrated, RetainsOthers, MigratesTables}
-use Rattle.store_schema.specs.Migrating.{SpreadIsMigrated, Stamps, other_rows}
-use Rattle.store_tables.specs.Within.{IsWithin, within_on}
-use Rattle.store_schema.specs.declared.fault.MigrateFault.{MigrateFault}
-use Rattle.store_schema.specs.declared.fault.OpenFault.{OpenFault}
+use Rattle.std.proofs.{Common.{subst₂, ◌∙◌, arith}, lemmas.List.{append_assoc, Elements.All-append}}
 use Rattle.std.proofs.lemmas.Bool.Decides.{nat_tests}
+use Rattle.sqlite_trees.specs.View.{IsShaped, doubt}
+use Rattle.sqlite.specs.{Order.{Row, column}, Tree.Trees, Effect.Database, State.State}
+use Rattle.sqlite.specs.State.{HasCleanDisk}
+use Rattle.room_rows.specs.declared.{keep.KeepFault.KeepFault, report.Report.TheVariants.Sound}
+use Rattle.store_tables.specs.{Meaning.{IsRecord, rows_of}, Tables.no_schema, RoomRows.room_rows}
+use Rattle.store_tables.specs.{Shown.{IsRoom, Retains, Stays}, Trust.IsTrusted, Within.IsWithin}
+use Rattle.store_tables.specs.Within.{within_on}
+use Rattle.store_tables.proofs.{Calls.retains_same, Printed.keeps_on}
+use Rattle.store_schema.specs.{NewRoom.{is_version, meta_of, number_shown}, Opening.Expects}
+use Rattle.store_schema.specs.{Opening.ShowsVersion, Migrating.{AnswersMigration, AreMigrated}}
+use Rattle.store_schema.specs.Migrating.{IsInside, IsNoRoom, IsMigrated, RetainsOthers}
+use Rattle.store_schema.specs.Migrating.{MigratesTables, SpreadIsMigrated, Stamps, other_rows}
+use Rattle.store_schema.specs.declared.fault.{MigrateFault.MigrateFault, OpenFault.OpenFault}
+use Rattle.sqlite_trees.specs.declared.store.Shape.TheVariants as Shape
 
 -- the number that these rows of `meta` tell
 abbrev number_in_meta : List Row → Option ℤ

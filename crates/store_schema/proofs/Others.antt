@@ -1,28 +1,21 @@
 -- The rows of `meta` but that of the schema's number, where that is written anew.
 use Rattle.std.proofs.Common.{◌≡◌, ℕ, ℤ, pos, List, [], ◌∷◌, map, filter, Bool, true, false, not}
 use Rattle.std.proofs.Common.{cond, IsTrue, Some, inl, inr, ◌⊎◌, refl, sym, ap, subst, ◌∙◌, codes}
-use Rattle.std.proofs.Common.{arith}
-use Rattle.std.specs.Ordering.{is_eq, match_ordering}
-use Rattle.std.specs.declared.cmp.Ordering.{Ordering}
+use Rattle.std.proofs.{Common.arith, lemmas.Bool.{not-true, Decides.nat_tests}}
+use Rattle.std.specs.{Ordering.{is_eq, match_ordering}, declared.cmp.Ordering.Ordering}
 use Rattle.std.specs.declared.cmp.Ordering.TheVariants.{Less, Equal, Greater}
-use Rattle.std.proofs.lemmas.Bool.{not-true}
-use Rattle.sqlite.specs.declared.types.Value.{Value}
-use Rattle.sqlite.specs.declared.types.Value.TheVariants.{Null, Int, Real, Text, Blob}
-use Rattle.sqlite.specs.Cast.{cast, cast_row}
-use Rattle.sqlite.specs.Kind.TheVariants as kind
-use Rattle.sqlite.specs.Order.{Row, column, value_cmp}
-use Rattle.sqlite.specs.Tree.{IsTable, rowid, has_rowid, put_row, without_rowid}
+use Rattle.sqlite.specs.declared.types.Value.{Value, TheVariants.{Null, Int, Real, Text, Blob}}
+use Rattle.sqlite.specs.{Cast.{cast, cast_row}, Order.{Row, column, value_cmp}, Tree.IsTable}
+use Rattle.sqlite.specs.Tree.{rowid, has_rowid, put_row, without_rowid}
 use Rattle.sqlite_rules.specs.Lists.{Has}
 use Rattle.sqlite_rules.proofs.ListLemmas.{has_filtered, has_kept}
 use Rattle.sqlite_schema.specs.declared.schema.Table.{Table}
 use Rattle.sqlite_trees.specs.View.{IsShaped, is_int}
-use Rattle.sqlite_trees.specs.declared.store.Shape.TheVariants as Shape
 use Rattle.store_tables.specs.Tables.{meta}
-use Rattle.store_tables.proofs.Rowids.{at_most_one, has_itself}
-use Rattle.store_schema.specs.NewRoom.{is_version, number_shown}
-use Rattle.store_schema.specs.Migrating.{other_rows}
-use Rattle.store_tables.proofs.Updates.{cast_int}
-use Rattle.std.proofs.lemmas.Bool.Decides.{nat_tests}
+use Rattle.store_tables.proofs.{Rowids.{at_most_one, has_itself}, Updates.cast_int}
+use Rattle.store_schema.specs.{NewRoom.{is_version, number_shown}, Migrating.other_rows}
+use Rattle.sqlite.specs.Kind.TheVariants as kind
+use Rattle.sqlite_trees.specs.declared.store.Shape.TheVariants as Shape
 
 -- where a number is told, one row has it
 pub one_version : (rows : List Row) (n : ℤ)

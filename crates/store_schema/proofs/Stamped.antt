@@ -1,52 +1,32 @@
 -- What writing the schema's number anew leaves.
 use Rattle.std.proofs.Common.{◌≡◌, ◌≢◌, ℕ, ℤ, pos, suc, List, [], ◌∷◌, length, map, filter, inl}
-use Rattle.std.proofs.Common.{Result, Some, Ok, Err, None, IsTrue, OnOk, refl, sym, ap, subst}
-use Rattle.std.proofs.Common.{◌∙◌, true, false, Bool, arith}
-use Rattle.std.specs.Prelude.{◌==◌}
-use Rattle.std.specs.List.{AllByRecursion}
-use Rattle.sqlite.specs.Order.{Row, column}
-use Rattle.sqlite.specs.Tree.{Trees, rowid}
-use Rattle.sqlite.specs.Command.TheVariants.{Update}
-use Rattle.sqlite.specs.Does.{Tally, Does}
-use Rattle.sqlite.specs.Edit.{Edit, edit_of, taken_by, edited}
-use Rattle.sqlite.specs.Effect.{Database, IsDatabase}
-use Rattle.sqlite.specs.Listing.{understood}
-use Rattle.sqlite.specs.Rowids.TheVariants.{Given}
-use Rattle.sqlite.specs.Rows.{Written}
-use Rattle.sqlite.specs.declared.error.Error.{Error}
-use Rattle.sqlite.specs.State.{State, HasCleanDisk, mode_of, Executes, ExecutesInside}
+use Rattle.std.proofs.Common.{Result, Some, Ok, Err, None, IsTrue, OnOk, refl, sym, ap, subst, ◌∙◌}
+use Rattle.std.proofs.{Common.{true, false, Bool, arith}, lemmas.List.append-nil}
+use Rattle.std.proofs.lemmas.{List.Elements.All-nil, Bool.Decides.nat_tests}
+use Rattle.std.specs.{Prelude.◌==◌, List.{AllByRecursion, Sorted.IsPermutation}}
+use Rattle.sqlite.specs.{Order.{Row, column}, Tree.{Trees, rowid}, Command.TheVariants.Update}
+use Rattle.sqlite.specs.{Does.{Tally, Does}, Edit.{Edit, edit_of, taken_by, edited}}
+use Rattle.sqlite.specs.{Effect.{Database, IsDatabase}, Listing.understood}
+use Rattle.sqlite.specs.{Rowids.TheVariants.Given, Rows.Written, declared.error.Error.Error}
+use Rattle.sqlite.specs.{declared.types.Value.TheVariants.{Int, Null}, State.{State, HasCleanDisk}}
+use Rattle.sqlite.specs.{State.{mode_of, Executes, ExecutesInside}, Program.overlay}
 use Rattle.sqlite.proofs.Callers.{runs_as, statement_of, one_step, one_permutation}
-use Rattle.sqlite_rules.specs.Action.{works}
-use Rattle.sqlite_rules.specs.Calls.{ids_of}
-use Rattle.sqlite_schema.specs.declared.schema.Keys.TheVariants.{Enforced}
-use Rattle.sqlite_schema.specs.declared.schema.Table.{Table}
+use Rattle.sqlite_rules.specs.{Action.works, Calls.ids_of, Lists.Has}
+use Rattle.sqlite_schema.specs.declared.schema.{Keys.TheVariants.Enforced, Table.Table}
 use Rattle.sqlite_tied.specs.Compute.{everything}
-use Rattle.sqlite_trees.specs.declared.store.Shape.TheVariants as Shape
-use Rattle.store_tables.specs.Meaning.{IsRecord, rows_of}
-use Rattle.store_tables.specs.Shown.{IsRoom}
-use Rattle.store_tables.specs.Tables.{meta, room_schema}
-use Rattle.sqlite.specs.Program.{overlay}
-use Rattle.sqlite.specs.declared.types.Value.TheVariants.{Int, Null}
-use Rattle.std.specs.List.Sorted.{IsPermutation}
-use Rattle.std.proofs.lemmas.List.{append-nil}
-use Rattle.std.proofs.lemmas.List.Elements.{All-nil}
-use Rattle.store_tables.proofs.Printed.{keeps_same}
-use Rattle.store_schema.specs.NewRoom.{meta_of, is_version}
-use Rattle.store_schema.specs.Migrating.{RetainsOthers, Stamps, other_rows}
-use Rattle.store_schema.proofs.Answers.{passes, selected, shows}
-use Rattle.store_schema.proofs.Asked.{passes_rooms}
-use Rattle.store_schema.proofs.Others.{int_of, one_version, others_stay}
-use Rattle.sqlite_rules.specs.Lists.{Has}
-use Rattle.sqlite_rules.proofs.ListLemmas.{has_filtered}
-use Rattle.store_tables.proofs.Rowids.{of_each}
-use Rattle.store_tables.specs.Within.{IsWithin}
-use Rattle.store_tables.proofs.Within.{CommitsNothing}
-use Rattle.store_schema.proofs.Texts.{is_rooms, query_of, stamp_is, stamp_plain, stamp_terms}
-use Rattle.store_schema.proofs.Texts.{stamp_text}
-use Rattle.store_schema.proofs.Within.{within_inside}
-use Rattle.room_entry.proofs.Facts.Lists.{filter_same}
+use Rattle.store_tables.specs.{Meaning.{IsRecord, rows_of}, Shown.IsRoom, Tables.meta}
+use Rattle.store_tables.specs.{Tables.room_schema, Within.IsWithin}
+use Rattle.store_tables.proofs.{Printed.keeps_same, Rowids.of_each, Within.CommitsNothing}
 use Rattle.store_tables.proofs.Writes.{went, same_value}
-use Rattle.std.proofs.lemmas.Bool.Decides.{nat_tests}
+use Rattle.store_schema.specs.{NewRoom.{meta_of, is_version}, Migrating.{RetainsOthers, Stamps}}
+use Rattle.store_schema.specs.Migrating.{other_rows}
+use Rattle.store_schema.proofs.{Answers.{passes, selected, shows}, Asked.passes_rooms}
+use Rattle.store_schema.proofs.{Others.{int_of, one_version, others_stay}, Texts.is_rooms}
+use Rattle.store_schema.proofs.Texts.{query_of, stamp_is, stamp_plain, stamp_terms, stamp_text}
+use Rattle.store_schema.proofs.Within.{within_inside}
+use Rattle.sqlite_rules.proofs.ListLemmas.{has_filtered}
+use Rattle.room_entry.proofs.Facts.Lists.{filter_same}
+use Rattle.sqlite_trees.specs.declared.store.Shape.TheVariants as Shape
 
 abbrev meta_table : Table
 meta_table = record meta { tree = 5 }

@@ -1,24 +1,16 @@
 -- The texts that make the tables, and what they are understood as.
 use Rattle.std.proofs.Common.{◌≡◌, ℕ, List, [], ◌∷◌, codes, Ok, Err, None, pos, negsuc, refl, false}
 use Rattle.std.proofs.Common.{true}
-use Rattle.sqlite.specs.Command.{Command}
-use Rattle.sqlite.specs.Command.TheVariants.{CreateTable, Insert, Select, Update}
-use Rattle.sqlite.specs.Query.{Query, inner, end}
-use Rattle.sqlite_value.specs.declared.keys.Key.{Key}
-use Rattle.sqlite_sql.specs.declared.ops.BinaryOp.TheVariants.{Compare}
-use Rattle.sqlite_sql.specs.declared.ops.CompareOp.TheVariants.{Eq}
-use Rattle.sqlite_value.specs.declared.keys.Collation.TheVariants.{Binary}
-use Rattle.sqlite.specs.Source.TheVariants.{Values}
-use Rattle.sqlite.specs.Term.{Term, lit, col, op2}
-use Rattle.sqlite.specs.declared.types.Value.TheVariants.{Null, Int, Text}
-use Rattle.sqlite.specs.Compile.{table_defined_by}
+use Rattle.sqlite.specs.Command.{Command, TheVariants.{CreateTable, Insert, Select, Update}}
+use Rattle.sqlite.specs.{Query.{Query, inner, end}, Source.TheVariants.Values, Term.{Term, lit}}
+use Rattle.sqlite.specs.{Term.{col, op2}, declared.types.Value.TheVariants.{Null, Int, Text}}
+use Rattle.sqlite.specs.{Compile.table_defined_by, Does.lacks_sequence, Listing.understood}
+use Rattle.sqlite.specs.{Listing.{reads_listing, listing_schema}, Schema.Schema, Table.Table}
+use Rattle.sqlite_value.specs.declared.keys.{Key.Key, Collation.TheVariants.Binary}
+use Rattle.sqlite_sql.specs.declared.ops.{BinaryOp.TheVariants.Compare, CompareOp.TheVariants.Eq}
 use Rattle.sqlite_tied.specs.Compute.{everything}
-use Rattle.sqlite.specs.Does.{lacks_sequence}
-use Rattle.sqlite_resolve.specs.declared.error.CompileError.TheVariants.{NoSuchTable}
-use Rattle.sqlite.specs.Listing.{understood, reads_listing, listing_schema}
-use Rattle.sqlite_resolve.specs.Compile.{first, returning}
-use Rattle.sqlite.specs.Schema.{Schema}
-use Rattle.sqlite.specs.Table.{Table}
+use Rattle.sqlite_resolve.specs.{declared.error.CompileError.TheVariants.NoSuchTable, Compile.first}
+use Rattle.sqlite_resolve.specs.Compile.{returning}
 use Rattle.sqlite.proofs.Callers.{IsPlain, command_of, statement_of}
 use Rattle.store_tables.specs.Tables.{nodes, bodies, members, meta, audits, counters, no_schema}
 use Rattle.store_tables.specs.Tables.{after_nodes, after_bodies, after_members, after_meta}

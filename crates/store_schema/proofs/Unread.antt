@@ -1,19 +1,15 @@
 -- Why the schema's number isn't read in a room's tables.
 use Rattle.std.proofs.Common.{◌≡◌, ℕ, ℤ, [], Result, Err, Option, IsSome, inl, inr, ◌⊎◌, refl, sym}
 use Rattle.std.proofs.Common.{◌∙◌, true, false, lit≤}
-use Rattle.sqlite.specs.declared.error.Error.{Error}
-use Rattle.sqlite.specs.declared.error.Error.TheVariants.{SqliteFailure}
-use Rattle.sqlite.specs.declared.error.ErrorCode.TheVariants.{OutOfMemory}
-use Rattle.sqlite.specs.Effect.{Database, RefusesToRead}
-use Rattle.sqlite.specs.Listing.{understood}
-use Rattle.sqlite.specs.State.{State, FailsToQuery, HasCleanDisk, IsTooLate}
+use Rattle.sqlite.specs.declared.error.Error.{Error, TheVariants.SqliteFailure}
+use Rattle.sqlite.specs.{declared.error.ErrorCode.TheVariants.OutOfMemory, Effect.Database}
+use Rattle.sqlite.specs.{Effect.RefusesToRead, Listing.understood, State.{State, FailsToQuery}}
+use Rattle.sqlite.specs.State.{HasCleanDisk, IsTooLate}
 use Rattle.sqlite_tied.specs.Compute.{everything}
-use Rattle.store_tables.specs.Seeing.{wants_memory}
-use Rattle.store_tables.specs.Tables.{room_schema}
+use Rattle.store_tables.specs.{Seeing.wants_memory, Tables.room_schema}
 use Rattle.store_tables.proofs.Failing.{IsAsked, why_failed}
 use Rattle.store_schema.specs.Opening.{FailsToRead, number_text, open_fault_of}
-use Rattle.store_schema.specs.declared.fault.OpenFault.{OpenFault}
-use Rattle.store_schema.specs.declared.fault.OpenFault.TheVariants.{Db, Memory}
+use Rattle.store_schema.specs.declared.fault.OpenFault.{OpenFault, TheVariants.{Db, Memory}}
 use Rattle.store_schema.proofs.Texts.{asked_is, asks_value}
 
 asked_number : IsAsked number_text 0 (understood room_schema number_text)

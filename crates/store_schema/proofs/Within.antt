@@ -1,15 +1,12 @@
 -- What a statement inside a transaction leaves.
-use Rattle.std.proofs.Common.{◌≡◌, ℕ, List, Result, Ok, Err, IsTrue, inl, inr}
-use Rattle.std.proofs.Common.{false, arith}
-use Rattle.sqlite.specs.Order.{Row}
-use Rattle.sqlite.specs.Effect.{Database}
-use Rattle.sqlite.specs.declared.error.Error.{Error}
-use Rattle.sqlite.specs.State.{State, HasCleanDisk, Executes, ExecutesInside}
+use Rattle.std.proofs.Common.{◌≡◌, ℕ, List, Result, Ok, Err, IsTrue, inl, inr, false, arith}
+use Rattle.std.proofs.lemmas.Bool.Decides.{nat_tests}
+use Rattle.sqlite.specs.{Order.Row, Effect.Database, declared.error.Error.Error, State.State}
+use Rattle.sqlite.specs.State.{HasCleanDisk, Executes, ExecutesInside}
 use Rattle.store_schema.specs.Making.{Makes}
 use Rattle.store_tables.specs.Within.{IsWithin}
 use Rattle.store_tables.proofs.Within.{CommitsNothing, as_before, unchanged_within, undone_within}
 use Rattle.store_tables.proofs.Within.{wrote_within}
-use Rattle.std.proofs.lemmas.Bool.Decides.{nat_tests}
 
 module _ (old new : State) (quiet : CommitsNothing old new) where
   inside : (sql : List ℕ) (params : Row) (r : Result ℕ Error)

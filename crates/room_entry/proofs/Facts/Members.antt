@@ -2,11 +2,9 @@
 -- `Each P xs` is the standard library's `AllByRecursion`.
 use Rattle.std.proofs.Common.{◌≡◌, ℕ, ◌+◌, ◌≤◌, Bool, true, false, cond, ◌&&◌, ◌||◌, List, [], ◌∷◌}
 use Rattle.std.proofs.Common.{◌++◌, map, filter, length, refl, ap, ◌∙◌, arith}
-use Rattle.std.specs.Prelude.{count_by}
-use Rattle.std.specs.List.{AllByRecursion as Each, list_any, list_all}
-use Rattle.std.proofs.lemmas.List.Sums.{sum_by-cons}
-use Rattle.std.proofs.lemmas.Bool.{and_from, or_parts, or_from}
+use Rattle.std.proofs.lemmas.{List.Sums.sum_by-cons, Bool.{and_from, or_parts, or_from}}
 use Rattle.std.proofs.lemmas.Bool.Decides.{nat_tests}
+use Rattle.std.specs.{Prelude.count_by, List.{AllByRecursion as Each, list_any, list_all}}
 
 -- what holds of each member of two lists holds of each of the two joined
 pub each_append : {A : Type 0} (P : A → Type 0) (xs ys : List A) → Each P xs → Each P ys

@@ -1,21 +1,14 @@
 -- Worked listings: what may be shown of a folder with a row that can't be read.
-use Rattle.std.proofs.Common.{◌≡◌, ℕ, zero, suc, List, [], ◌∷◌, Some, refl, sym, ap, subst}
-use Rattle.std.proofs.Common.{inl, inr, codes, arith}
+use Rattle.std.proofs.Common.{◌≡◌, ℕ, zero, suc, List, [], ◌∷◌, Some, refl, sym, ap, subst, inl}
+use Rattle.std.proofs.{Common.{inr, codes, arith}, lemmas.{Bool.false≢true, Option.same_Some}}
 use Rattle.std.specs.List.{Contains}
-use Rattle.std.proofs.lemmas.Bool.{false≢true}
-use Rattle.std.proofs.lemmas.Option.{same_Some}
-use Rattle.room_entry.specs.Valid.{is_document}
-use Rattle.room_entry.specs.declared.object.ObjKind.{ObjKind}
+use Rattle.room_entry.specs.{Valid.is_document, declared.object.ObjKind.ObjKind}
 use Rattle.room_entry.specs.declared.object.ObjKind.TheVariants.{Document, Folder}
 use Rattle.room_entry.specs.declared.parties.Caller.{Caller}
-use Rattle.room_rows.specs.declared.node.Node.{Node}
-use Rattle.room_rows.specs.Keep.{AreNamedUnder}
-use Rattle.room_rows.specs.Rows.{Rows, Unread}
+use Rattle.room_rows.specs.{declared.node.Node.Node, Keep.AreNamedUnder, Rows.{Rows, Unread}}
 use Rattle.room_machine.specs.declared.reply.Reply.TheVariants.{Names}
 use Rattle.room_machine.specs.declared.request.Request.TheVariants.{List as ListFolder}
-use Rattle.room_machine.specs.Closed.{IsShown}
-use Rattle.room_machine.specs.Site.{Site}
-use Rattle.room_machine.specs.Stored.{stored_site}
+use Rattle.room_machine.specs.{Closed.IsShown, Site.Site, Stored.stored_site}
 use Rattle.room_machine.proofs.Worked.Worlds.{object, plain, world}
 
 abbrev f : List ℕ × ObjKind

@@ -2,22 +2,19 @@
 use Rattle.std.proofs.Common.{ℕ, ◌≡◌, List, [], ◌∷◌, ◌++◌, Some, None, refl, true, false, Bool}
 use Rattle.std.proofs.Common.{codes}
 use Rattle.std.specs.Prelude.{pos, if◌then◌else◌}
-use Rattle.room_entry.specs.Ace.{Ace}
-use Rattle.room_entry.specs.declared.entry.EntryKind.TheVariants.{Allow, Deny, Audit, Alarm}
-use Rattle.room_entry.specs.declared.entry.Who.TheVariants.{Everyone, Anonymous, Authenticated}
-use Rattle.room_entry.specs.declared.entry.Who.TheVariants.{User}
+use Rattle.room_entry.specs.{Ace.Ace, declared.entry.EntryKind.TheVariants.{Allow, Deny, Audit}}
+use Rattle.room_entry.specs.declared.entry.{EntryKind.TheVariants.Alarm, Who.TheVariants.Everyone}
+use Rattle.room_entry.specs.declared.entry.Who.TheVariants.{Anonymous, Authenticated, User}
 use Rattle.room_entry.specs.declared.object.ObjKind.TheVariants.{Document}
-use Rattle.room_rows.specs.declared.node.Node.{Node}
+use Rattle.room_rows.specs.declared.node.{Node.Node, AuditRow.AuditRow}
+use Rattle.room_rows.specs.declared.node.RecordKind.TheVariants.{Audit as AuditRecord}
+use Rattle.room_rows.specs.declared.node.RecordKind.TheVariants.{Alarm as AlarmRecord}
 use Rattle.room_rows.specs.Content.{Content}
 use Rattle.room_machine.specs.declared.request.Request.TheVariants.{Read, Put, Remove, ReadAttr}
 use Rattle.room_machine.specs.declared.reply.Reply.TheVariants.{Bytes, Attr, Made, Done, Denied}
-use Rattle.room_rows.specs.declared.node.AuditRow.{AuditRow}
-use Rattle.room_rows.specs.declared.node.RecordKind.TheVariants.{Audit as AuditRecord}
-use Rattle.room_rows.specs.declared.node.RecordKind.TheVariants.{Alarm as AlarmRecord}
 use Rattle.room_machine.specs.Step.{step}
 use Rattle.room_machine.proofs.Worked.Worlds.{none, fd, entry, root, alice, by_root, root_may_all}
-use Rattle.room_machine.proofs.Worked.Worlds.{held, plain, object, root_folder}
-use Rattle.room_machine.proofs.Worked.Rows.{own}
+use Rattle.room_machine.proofs.Worked.{Worlds.{held, plain, object, root_folder}, Rows.own}
 
 -- ---- records
 

@@ -1,15 +1,13 @@
 -- Worked rows: what the room machine does at written examples.
 use Rattle.std.proofs.Common.{ℕ, ◌≡◌, List, [], ◌∷◌, Some, None, refl, true, false, Bool, codes}
 use Rattle.std.specs.Prelude.{pos}
-use Rattle.room_entry.specs.declared.parties.Owners.{Owners}
-use Rattle.room_entry.specs.Ace.{Ace}
-use Rattle.room_entry.specs.declared.entry.EntryKind.TheVariants.{Allow, Deny}
-use Rattle.room_entry.specs.declared.entry.Who.TheVariants.{Owner, Everyone, User}
-use Rattle.room_entry.specs.declared.object.Which.TheVariants.{Dacl}
-use Rattle.room_entry.specs.declared.object.ObjKind.TheVariants.{Document, Folder}
-use Rattle.room_rows.specs.HeldList.{Held}
-use Rattle.room_rows.specs.declared.node.Node.{Node}
-use Rattle.room_rows.specs.Content.{Content}
+use Rattle.room_entry.specs.declared.{parties.Owners.Owners, entry.EntryKind.TheVariants.Allow}
+use Rattle.room_entry.specs.declared.entry.{EntryKind.TheVariants.Deny, Who.TheVariants.Owner}
+use Rattle.room_entry.specs.declared.entry.Who.TheVariants.{Everyone, User}
+use Rattle.room_entry.specs.declared.object.{Which.TheVariants.Dacl, ObjKind.TheVariants.Document}
+use Rattle.room_entry.specs.declared.object.ObjKind.TheVariants.{Folder}
+use Rattle.room_entry.specs.{declared.fault.ListFault.TheVariants.InheritOnlyAlone, Ace.Ace}
+use Rattle.room_rows.specs.{HeldList.Held, declared.node.Node.Node, Content.Content}
 use Rattle.room_machine.specs.declared.request.Request.TheVariants.{Read, Put, Append, MakeFolder}
 use Rattle.room_machine.specs.declared.request.Request.TheVariants.{Remove, Move, ReadList, SetList}
 use Rattle.room_machine.specs.declared.request.Request.TheVariants.{ReadAttr, SetOwners, Can}
@@ -17,11 +15,9 @@ use Rattle.room_machine.specs.declared.reply.Reply.TheVariants.{Bytes, Lists, Ru
 use Rattle.room_machine.specs.declared.reply.Reply.TheVariants.{Denied, Refused}
 use Rattle.room_machine.specs.declared.reply.Reason.TheVariants.{NoSuch, NotFolder, WrongKind}
 use Rattle.room_machine.specs.declared.reply.Reason.TheVariants.{Exists, NotEmpty, Root, Loop}
-use Rattle.room_machine.specs.declared.reply.Reason.TheVariants.{BadList}
+use Rattle.room_machine.specs.{declared.reply.Reason.TheVariants.BadList, Step.{step, reset}}
 use Rattle.room_ace.specs.Sent.{Sent}
-use Rattle.room_entry.specs.declared.fault.ListFault.TheVariants.{InheritOnlyAlone}
 use Rattle.room_eval.specs.declared.outcome.Ruling.TheVariants.{Allowed, Denied as DeniedAt, Silent}
-use Rattle.room_machine.specs.Step.{step, reset}
 use Rattle.room_machine.proofs.Worked.Worlds.{none, fd, entry, inherited, root, alice, by_root}
 use Rattle.room_machine.proofs.Worked.Worlds.{everything, root_may_all, held, plain, object}
 use Rattle.room_machine.proofs.Worked.Worlds.{root_folder, world}

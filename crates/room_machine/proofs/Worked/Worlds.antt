@@ -1,17 +1,11 @@
 -- Small contents for the worked rows.
 use Rattle.std.proofs.Common.{ℕ, List, [], ◌∷◌, Some, None, true, false, Bool, codes}
-use Rattle.room_entry.specs.Ace.{Ace}
-use Rattle.room_entry.specs.declared.flags.EntryFlags.{EntryFlags}
-use Rattle.room_entry.specs.declared.entry.EntryKind.{EntryKind}
-use Rattle.room_entry.specs.declared.entry.EntryKind.TheVariants.{Allow}
-use Rattle.room_entry.specs.declared.entry.Who.{Who}
+use Rattle.room_entry.specs.{Ace.Ace, declared.flags.EntryFlags.EntryFlags}
+use Rattle.room_entry.specs.declared.entry.{EntryKind.{EntryKind, TheVariants.Allow}, Who.Who}
 use Rattle.room_entry.specs.declared.entry.Who.TheVariants.{Everyone, User}
-use Rattle.room_entry.specs.declared.object.ObjKind.{ObjKind}
-use Rattle.room_entry.specs.declared.object.ObjKind.TheVariants.{Folder}
+use Rattle.room_entry.specs.declared.object.ObjKind.{ObjKind, TheVariants.Folder}
 use Rattle.room_entry.specs.declared.parties.Owners.{Owners}
-use Rattle.room_rows.specs.HeldList.{Held}
-use Rattle.room_rows.specs.declared.node.Node.{Node}
-use Rattle.room_rows.specs.Content.{Content}
+use Rattle.room_rows.specs.{HeldList.Held, declared.node.Node.Node, Content.Content}
 
 abbrev pub none : EntryFlags
 none =

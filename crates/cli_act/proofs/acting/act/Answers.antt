@@ -1,6 +1,5 @@
 use Rattle.sqlite.specs.Held.{state}
-use Rattle.cli_act.proofs.Ended.{does_ended}
-use Rattle.cli_act.proofs.Outlasting.{does_outlast}
+use Rattle.cli_act.proofs.{Ended.does_ended, Outlasting.does_outlast}
 use Rattle.cli_act.proofs.acting.act.Goals as goal
 
 pub returns-clause-acts : goal.returns-clause-acts

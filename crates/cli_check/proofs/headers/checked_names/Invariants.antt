@@ -1,7 +1,6 @@
 use Rattle.std.proofs.Common.{◌≡◌, ◌++◌, length, true}
 use Rattle.std.specs.List.{list_all}
-use Rattle.room_entry.specs.Names.{is_name}
-use Rattle.room_entry.specs.Pieces.{pieces}
+use Rattle.room_entry.specs.{Names.is_name, Pieces.pieces}
 use Rattle.cli_check.proofs.headers.checked_names.Given as goal
 
 -- the names so far, and what is left to read

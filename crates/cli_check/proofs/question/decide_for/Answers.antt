@@ -1,7 +1,6 @@
 use Rattle.std.proofs.Common.{List, ℕ, ◌≡◌, ◌∙◌, ◌&&◌, refl, sym, ap, is_some}
 use Rattle.std.proofs.lemmas.List.Sorted.{list_any-IsPermutation}
-use Rattle.room_entry.specs.Matching.{is_member}
-use Rattle.room_entry.specs.Pieces.{same_text}
+use Rattle.room_entry.specs.{Matching.is_member, Pieces.same_text}
 use Rattle.cli_check.proofs.question.decide_for.Goals as goal
 
 pub returns : goal.returns

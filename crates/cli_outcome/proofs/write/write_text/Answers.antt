@@ -1,8 +1,7 @@
-use Rattle.std.proofs.Common.{◌-◌, length, drop, arith}
-use Rattle.std.proofs.lemmas.List.{length-take, length-drop}
+use Rattle.std.proofs.{Common.{◌-◌, length, drop, arith}, lemmas.List.{length-take, length-drop}}
 use Rattle.cli_outcome.proofs.KnownBytes.{WritesSome-at}
-use Rattle.cli_outcome.proofs.write.write_text.Goals as goal
 use Rattle.room_entry.proofs.Facts.KnownBytes.{Appends-at, Keeps-zero}
+use Rattle.cli_outcome.proofs.write.write_text.Goals as goal
 
 pub returns-then-count-eq0-clause-err : goal.returns-then-count-eq0-clause-err
 returns-then-count-eq0-clause-err g c =

@@ -1,7 +1,6 @@
 use Rattle.std.proofs.Common.{[], ◌∷◌, Err, refl, subst, rules, w64, ℤ, SFits}
 use Rattle.std.proofs.lemmas.Int.{to_z-of_z}
-use Rattle.cli_serve.specs.Peers.{Act, wire}
-use Rattle.cli_serve.specs.Visits.{Attends, Meeting, sources, until}
+use Rattle.cli_serve.specs.{Peers.{Act, wire}, Visits.{Attends, Meeting, sources, until}}
 use Rattle.cli_serve.specs.declared.fault.ServingFault.{ServingFault}
 use Rattle.cli_serve.proofs.Receiving.{lost, met_fault, met_lost, met_peer, nobody, no_more, one}
 use Rattle.cli_serve.proofs.Receiving.{told_on}

@@ -1,8 +1,6 @@
 use Rattle.std.proofs.Common.{inl, inr, refl}
-use Rattle.cli_serve.specs.Visits.{sources}
-use Rattle.cli_serve.specs.declared.fault.ServingFault.{ServingFault}
-use Rattle.cli_serve.proofs.Receiving.{no_more}
-use Rattle.cli_serve.proofs.Staying.{first_told, unserved}
+use Rattle.cli_serve.specs.{Visits.sources, declared.fault.ServingFault.ServingFault}
+use Rattle.cli_serve.proofs.{Receiving.no_more, Staying.{first_told, unserved}}
 use Rattle.cli_serve.proofs.serving.serve_on.Goals as goal
 
 pub returns-in_default-clause-served : goal.returns-in_default-clause-served

@@ -1,7 +1,5 @@
-use Rattle.std.proofs.Common.{subst, w64, ℤ}
-use Rattle.std.proofs.lemmas.Int.{to_z-of_z}
-use Rattle.cli_serve.specs.Peers.{wire}
-use Rattle.cli_serve.specs.Visits.{Attends, Meeting}
+use Rattle.std.proofs.{Common.{subst, w64, ℤ}, lemmas.Int.to_z-of_z}
+use Rattle.cli_serve.specs.{Peers.wire, Visits.{Attends, Meeting}}
 use Rattle.cli_serve.proofs.serving.serve_peer.Goals as goal
 
 pub returns : goal.returns

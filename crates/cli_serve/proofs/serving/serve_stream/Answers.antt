@@ -1,5 +1,4 @@
-use Rattle.std.proofs.Common.{w64}
-use Rattle.std.proofs.lemmas.Int.{to_z-of_z}
+use Rattle.std.proofs.{Common.w64, lemmas.Int.to_z-of_z}
 use Rattle.cli_serve.proofs.Receiving.{ended, stopped}
 use Rattle.cli_serve.proofs.serving.serve_stream.Goals as goal
 

@@ -1,6 +1,5 @@
 use Rattle.std.proofs.Common.{inl, inr, refl, ◌∙◌}
-use Rattle.cli_outcome.specs.declared.fault.Fault.{Fault}
-use Rattle.cli_outcome.specs.declared.status.Status.{Status}
+use Rattle.cli_outcome.specs.declared.{fault.Fault.Fault, status.Status.Status}
 use Rattle.cli_outcome.proofs.KnownBytes.{writes_none}
 use Rattle.cli_serve.proofs.Texts.{told_as}
 use Rattle.cli_serve.proofs.telling.refuse.Goals as goal

@@ -2,8 +2,7 @@ use Rattle.std.proofs.Common.{◌∙◌, ap, subst, codes, is_some, List, ℕ, O
 use Rattle.std.proofs.lemmas.Bool.{false≢true}
 use Rattle.std.specs.Str.Parse.{ExplainsUnsignedError, HasUnsignedDigitsIfOk, ParsesUnsigned}
 use Rattle.clap.specs.Words.{found_of}
-use Rattle.clap.proofs.CallerReads.{signed_reads}
-use Rattle.clap.proofs.WalkLemmas.{one_text-rows}
+use Rattle.clap.proofs.{CallerReads.signed_reads, WalkLemmas.one_text-rows}
 use Rattle.cli_words.specs.Command.{IsNumber}
 use Rattle.cli_words.proofs.Numbers.{number_read}
 use Rattle.cli_words.proofs.reading.count.Goals as goal

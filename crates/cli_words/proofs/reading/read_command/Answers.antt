@@ -1,24 +1,19 @@
 use Rattle.std.proofs.Common.{◌≡◌, ◌∙◌, refl, sym, ap, subst, map, true, false, [], List, Option}
-use Rattle.std.proofs.Common.{Result, Ok, Err, IfOk, inl, inr}
-use Rattle.std.specs.Prelude.{IfErr}
-use Rattle.std.proofs.lemmas.Bool.{false_from_ne_true}
-use Rattle.std.specs.Borrow.{Bor}
-use Rattle.clap.specs.Simple.{HasMatchesOf, is_simple}
-use Rattle.clap.specs.Words.{App, HasKind, IsAmong, Row, Text, fault_of, is_simple_and_free}
-use Rattle.clap.specs.Words.{kind_of, subcommand_of, subcommand_rows_of, takes}
-use Rattle.clap.specs.declared.error.Error.{Error}
+use Rattle.std.proofs.{Common.{Result, Ok, Err, IfOk, inl, inr}, lemmas.Bool.false_from_ne_true}
+use Rattle.std.specs.{Prelude.IfErr, Borrow.Bor}
+use Rattle.clap.specs.{Simple.{HasMatchesOf, is_simple}, Words.{App, HasKind, IsAmong, Row, Text}}
+use Rattle.clap.specs.Words.{fault_of, is_simple_and_free, kind_of, subcommand_of}
+use Rattle.clap.specs.{Words.{subcommand_rows_of, takes}, declared.error.Error.Error}
 use Rattle.clap.specs.declared.error.kind.ErrorKind.{ErrorKind}
-use Rattle.clap.specs.declared.error.kind.ErrorKind.TheVariants as kinds
 use Rattle.clap.specs.declared.parser.matches.ArgMatches.{ArgMatches}
 use Rattle.clap.proofs.OnLiterals.{clap_on_literals}
-use Rattle.room_entry.specs.declared.failure.Failure.{Failure}
-use Rattle.room_entry.specs.declared.failure.Failure.TheVariants.{OutOfMemory, Fault}
+use Rattle.room_entry.specs.declared.failure.Failure.{Failure, TheVariants.{OutOfMemory, Fault}}
 use Rattle.cli_words.proofs.Named.{is_whole}
-use Rattle.cli_words.proofs.reading.read_command.Goals as goal
 use Rattle.cli_words.specs.Command.{IsWhole, IsCommand, IsRead, IsRefused, IsTold, names_two}
-use Rattle.cli_words.specs.Line.{AreAttributes, command_line}
-use Rattle.cli_words.specs.declared.command.CliFault.{CliFault}
+use Rattle.cli_words.specs.{Line.{AreAttributes, command_line}, declared.command.CliFault.CliFault}
 use Rattle.cli_words.specs.declared.command.Command.{Command}
+use Rattle.clap.specs.declared.error.kind.ErrorKind.TheVariants as kinds
+use Rattle.cli_words.proofs.reading.read_command.Goals as goal
 
 is_exact : (names : Bor (List (Bor Text))) → is_simple_and_free (command_line names) ≡ true
 unfolding clap_on_literals

@@ -1,5 +1,4 @@
-use Rattle.std.proofs.Common.{◌∙◌, sym}
-use Rattle.std.proofs.lemmas.Bool.{true≢false}
+use Rattle.std.proofs.{Common.{◌∙◌, sym}, lemmas.Bool.true≢false}
 use Rattle.http_message.proofs.InJson.{no-text, of-text}
 use Rattle.http_message.proofs.body.json_in.Goals as goal
 

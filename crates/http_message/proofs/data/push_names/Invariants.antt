@@ -1,9 +1,7 @@
 use Rattle.std.proofs.Common.{◌≡◌, ◌++◌, drop, map}
 use Rattle.json.specs.Tree.{items_tokens}
-use Rattle.serde_json.specs.View.{items_of}
-use Rattle.serde_json.specs.Written.{items_outline}
-use Rattle.http_message.specs.Bodies.{child_data, names_data}
-use Rattle.http_message.specs.Form.{data_tokens}
+use Rattle.serde_json.specs.{View.items_of, Written.items_outline}
+use Rattle.http_message.specs.{Bodies.{child_data, names_data}, Form.data_tokens}
 use Rattle.http_message.proofs.data.push_names.Given as goal
 
 abbrev pub invariant-loop-child : goal.invariant-loop-child

@@ -1,7 +1,6 @@
 use Rattle.std.proofs.Common.{◌≡◌, ◌∙◌, ◌++◌, List, ℕ, codes, subst}
 use Rattle.std.specs.Prelude.{OnOk}
-use Rattle.http_message.specs.Bodies.{at_data}
-use Rattle.http_message.specs.Form.{data_tokens}
+use Rattle.http_message.specs.{Bodies.at_data, Form.data_tokens}
 use Rattle.http_message.proofs.data.push_refused.Goals as goal
 
 pub returns-in-NotFolder-clause-tokens : goal.returns-in-NotFolder-clause-tokens

@@ -1,6 +1,5 @@
 use Rattle.std.proofs.Common.{◌≡◌, drop}
-use Rattle.serde_json.specs.Data.{no_members}
-use Rattle.serde_json.specs.View.{members_view}
+use Rattle.serde_json.specs.{Data.no_members, View.members_view}
 use Rattle.http_message.specs.Bodies.{with_rulings}
 use Rattle.http_message.proofs.data.rulings_value.Given as goal
 

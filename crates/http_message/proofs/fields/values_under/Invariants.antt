@@ -1,6 +1,5 @@
 use Rattle.std.proofs.Common.{take}
-use Rattle.http_message.specs.Fields.{field_values}
-use Rattle.http_message.specs.Values.{AreValues}
+use Rattle.http_message.specs.{Fields.field_values, Values.AreValues}
 use Rattle.http_message.proofs.fields.values_under.Given as goal
 
 abbrev pub invariant-loop-field : goal.invariant-loop-field

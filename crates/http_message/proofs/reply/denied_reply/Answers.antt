@@ -1,7 +1,6 @@
 use Rattle.std.proofs.Common.{◌≡◌, List, ℕ, subst}
 use Rattle.std.specs.Prelude.{IfOk, option_map}
-use Rattle.http_message.specs.Bodies.{denied_data}
-use Rattle.http_message.specs.Form.{json_text_form}
+use Rattle.http_message.specs.{Bodies.denied_data, Form.json_text_form}
 use Rattle.http_message.proofs.Printed.{printed}
 use Rattle.http_message.proofs.reply.denied_reply.Goals as goal
 

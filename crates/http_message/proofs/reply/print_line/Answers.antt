@@ -1,8 +1,7 @@
 use Rattle.std.proofs.Common.{◌≡◌, ◌∙◌, List, ℕ, ap, subst}
 use Rattle.std.specs.Prelude.{IfOk}
 use Rattle.serde_json.specs.Written.{compact_text}
-use Rattle.http_message.specs.Bodies.{line_data}
-use Rattle.http_message.specs.Form.{json_text_form}
+use Rattle.http_message.specs.{Bodies.line_data, Form.json_text_form}
 use Rattle.http_message.proofs.Printed.{printed}
 use Rattle.http_message.proofs.reply.print_line.Goals as goal
 

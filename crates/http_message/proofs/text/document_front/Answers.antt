@@ -1,6 +1,5 @@
 use Rattle.std.proofs.Common.{Some, None}
-use Rattle.http_message.specs.Form.{head_form, reply_form}
-use Rattle.http_message.specs.Reply.{octets}
+use Rattle.http_message.specs.{Form.{head_form, reply_form}, Reply.octets}
 use Rattle.http_message.proofs.Fronts.{head-and-body, then-body}
 use Rattle.http_message.proofs.text.document_front.Goals as goal
 

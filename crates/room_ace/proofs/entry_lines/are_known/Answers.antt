@@ -1,5 +1,4 @@
-use Rattle.std.proofs.Common.{◌≡◌, get_or, inl, inr, sym, subst, ◌∙◌, arith}
-use Rattle.std.proofs.lemmas.Bool.{cases_lt}
+use Rattle.std.proofs.{Common.{◌≡◌, get_or, inl, inr, sym, subst, ◌∙◌, arith}, lemmas.Bool.cases_lt}
 use Rattle.std.proofs.lemmas.List.{get_or_default}
 use Rattle.room_entry.specs.Laws.{IsEntry}
 use Rattle.room_ace.proofs.entry_lines.are_known.Goals as goal

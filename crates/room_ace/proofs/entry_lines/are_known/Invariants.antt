@@ -1,6 +1,5 @@
 use Rattle.std.proofs.Common.{ℕ, ◌<◌, length, get_or}
-use Rattle.room_entry.specs.Ace.{Ace}
-use Rattle.room_entry.specs.Laws.{IsEntry}
+use Rattle.room_entry.specs.{Ace.Ace, Laws.IsEntry}
 use Rattle.room_ace.proofs.entry_lines.are_known.Given as goal
 
 abbrev pub invariant-loop-entry : goal.invariant-loop-entry

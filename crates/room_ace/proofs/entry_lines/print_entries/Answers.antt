@@ -1,7 +1,5 @@
-use Rattle.std.proofs.Common.{◌≡◌, ap, ◌∙◌, string_bytes, rules, arith}
-use Rattle.std.proofs.lemmas.Grind.{common_steps}
-use Rattle.room_ace.specs.Column.{entries_of}
-use Rattle.room_ace.specs.Lists.{entry_lines}
+use Rattle.std.proofs.{Common.{◌≡◌, ap, ◌∙◌, string_bytes, rules, arith}, lemmas.Grind.common_steps}
+use Rattle.room_ace.specs.{Column.entries_of, Lists.entry_lines}
 use Rattle.room_ace.proofs.ListsBack.{entries_read_back}
 use Rattle.room_ace.proofs.entry_lines.print_entries.Goals as goal
 

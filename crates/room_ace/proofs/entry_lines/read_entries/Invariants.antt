@@ -1,6 +1,5 @@
 use Rattle.std.proofs.Common.{◌≡◌, length}
-use Rattle.room_ace.specs.Lists.{lines_of}
-use Rattle.room_ace.specs.Column.{entries_behind, entries_of}
+use Rattle.room_ace.specs.{Lists.lines_of, Column.{entries_behind, entries_of}}
 use Rattle.room_ace.proofs.entry_lines.read_entries.Given as goal
 
 -- the entries so far and the lines that are left give what all of them give

@@ -1,5 +1,4 @@
-use Rattle.std.proofs.Common.{◌-◌, ◌+◌, ap, sym, length, arith, drop}
-use Rattle.std.proofs.lemmas.Bool.{eqb-false}
+use Rattle.std.proofs.{Common.{◌-◌, ◌+◌, ap, sym, length, arith, drop}, lemmas.Bool.eqb-false}
 use Rattle.std.proofs.lemmas.List.{take_all, length-drop}
 use Rattle.room_ace.proofs.FirstLine.{lines_of-cut, lines_of-uncut}
 use Rattle.room_ace.proofs.lines.split_line.Goals as goal

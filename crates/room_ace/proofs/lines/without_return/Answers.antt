@@ -1,5 +1,4 @@
-use Rattle.std.proofs.Common.{ap, sym, ◌∙◌, eq-eqb}
-use Rattle.std.proofs.lemmas.Bool.{cond-true, cond-false, ne_eqb}
+use Rattle.std.proofs.{Common.{ap, sym, ◌∙◌, eq-eqb}, lemmas.Bool.{cond-true, cond-false, ne_eqb}}
 use Rattle.room_ace.specs.Lists.{without_return}
 use Rattle.room_ace.proofs.FirstLine.{without_return-push}
 use Rattle.room_ace.proofs.lines.without_return.Goals as goal

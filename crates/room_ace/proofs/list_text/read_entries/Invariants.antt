@@ -1,6 +1,5 @@
 use Rattle.std.proofs.Common.{◌≡◌, ◌+◌, ◌<◌, ◌^◌, [], length}
-use Rattle.room_ace.specs.Lists.{entries_after}
-use Rattle.room_ace.specs.Reading.{lines_after}
+use Rattle.room_ace.specs.{Lists.entries_after, Reading.lines_after}
 use Rattle.room_ace.proofs.list_text.read_entries.Given as goal
 
 -- the entries so far and the lines that are left give what all the lines give

@@ -1,11 +1,7 @@
 use Rattle.std.proofs.Common.{◌≡◌, Some, length, ap, subst, string_bytes, ◌∙◌}
-use Rattle.room_rows.specs.Content.{root_of}
-use Rattle.room_rows.specs.Rows.{numbers_of}
-use Rattle.room_dump.specs.Dump.{IsDumpText}
-use Rattle.room_dump.specs.declared.visiting.Visit.{Visit}
-use Rattle.room_dump.specs.Visits.{GoesOn, IsFrom}
-use Rattle.room_dump.proofs.Dumped.{dumped, goes}
-use Rattle.room_dump.proofs.Reading.{Knows, answered, fails, knows, learns}
+use Rattle.room_rows.specs.{Content.root_of, Rows.numbers_of}
+use Rattle.room_dump.specs.{Dump.IsDumpText, declared.visiting.Visit.Visit, Visits.{GoesOn, IsFrom}}
+use Rattle.room_dump.proofs.{Dumped.{dumped, goes}, Reading.{Knows, answered, fails, knows, learns}}
 use Rattle.room_dump.proofs.dumping.dump.Goals as goal
 
 pub returns-in_err-push_all : goal.returns-in_err-push_all

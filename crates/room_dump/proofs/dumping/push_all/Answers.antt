@@ -1,7 +1,6 @@
 use Rattle.std.proofs.Common.{refl, string_bytes}
 use Rattle.room_dump.specs.Visits.{GoesOn, IsThere}
-use Rattle.room_dump.proofs.Dumped.{Came, blamed, tells_on}
-use Rattle.room_dump.proofs.Reading.{Knows, fails, knows, learns}
+use Rattle.room_dump.proofs.{Dumped.{Came, blamed, tells_on}, Reading.{Knows, fails, knows, learns}}
 use Rattle.room_dump.proofs.Walks.{comes_first}
 use Rattle.room_dump.proofs.dumping.push_all.Goals as goal
 

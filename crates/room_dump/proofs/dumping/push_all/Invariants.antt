@@ -1,7 +1,6 @@
 use Rattle.std.proofs.Common.{string_bytes}
 use Rattle.room_dump.specs.Visits.{GoesOn}
-use Rattle.room_dump.proofs.Dumped.{Telling}
-use Rattle.room_dump.proofs.Reading.{Knows}
+use Rattle.room_dump.proofs.{Dumped.Telling, Reading.Knows}
 use Rattle.room_dump.proofs.dumping.push_all.Given as goal
 
 -- what the walk came to is told

@@ -1,8 +1,6 @@
 use Rattle.std.proofs.Common.{List, sym, ap, ◌∙◌}
-use Rattle.room_rows.specs.declared.node.Node.{Node}
-use Rattle.room_rows.specs.declared.node.Walk.{Walk}
-use Rattle.room_dump.proofs.Ends.{blamed_at_end}
-use Rattle.room_dump.proofs.Reading.{Knows, knows, learns, tail}
+use Rattle.room_rows.specs.declared.node.{Node.Node, Walk.Walk}
+use Rattle.room_dump.proofs.{Ends.blamed_at_end, Reading.{Knows, knows, learns, tail}}
 use Rattle.room_dump.specs.Fetching.{EndsAt}
 use Rattle.room_dump.proofs.fetching.fetch.Goals as goal
 

@@ -1,10 +1,8 @@
 use Rattle.std.proofs.Common.{◌≡◌, Bool, true, false, ◌&&◌, refl, sym, ap, ◌∙◌}
 use Rattle.std.proofs.lemmas.Bool.{and_from, and_parts, false≢true}
+use Rattle.room_entry.specs.{declared.flags.EntryFlags.EntryFlags, Letters.flags_text}
+use Rattle.room_entry.proofs.{Alike.by_texts, Same.flags_equal}
 use mathlib.Core.Bool.{beq}
-use Rattle.room_entry.specs.declared.flags.EntryFlags.{EntryFlags}
-use Rattle.room_entry.specs.Letters.{flags_text}
-use Rattle.room_entry.proofs.Alike.{by_texts}
-use Rattle.room_entry.proofs.Same.{flags_equal}
 use Rattle.room_entry.proofs.comparing.is_same_flags.Goals as goal
 
 beq_equal : (s t : Bool) → beq s t ≡ true → s ≡ t

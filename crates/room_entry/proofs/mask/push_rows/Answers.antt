@@ -1,8 +1,7 @@
-use Rattle.std.proofs.Common.{ℕ, ◌++◌, List, ap, sym, ◌∙◌, string_bytes}
-use Rattle.std.proofs.lemmas.List.{append-nil}
+use Rattle.std.proofs.{Common.{ℕ, ◌++◌, List, ap, sym, ◌∙◌, string_bytes}, lemmas.List.append-nil}
 use Rattle.room_entry.proofs.Letters.{row_at, table_text_pushed, table_text_passed, table_text_all}
-use Rattle.room_entry.proofs.mask.push_rows.Goals as goal
 use Rattle.room_entry.proofs.mask.push_rows.Goals.{then-is_set+in_ok-push, else-is_set}
+use Rattle.room_entry.proofs.mask.push_rows.Goals as goal
 
 pub is_set-requires : goal.is_set-requires
 is_set-requires c = (row_at c.args.rows.now c.loop-bit.bit-index c.loop-bit-test.true c.requires).0

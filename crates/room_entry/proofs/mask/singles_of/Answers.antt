@@ -1,8 +1,7 @@
-use Rattle.std.proofs.Common.{ℕ, [], ◌∷◌, ◌++◌, List, ap, ◌∙◌, eq-eqb}
-use Rattle.std.proofs.lemmas.Bool.{ne_eqb}
+use Rattle.std.proofs.{Common.{ℕ, [], ◌∷◌, ◌++◌, List, ap, ◌∙◌, eq-eqb}, lemmas.Bool.ne_eqb}
 use Rattle.room_entry.proofs.Singles.{single_at, singles_passed, singles_pushed}
-use Rattle.room_entry.proofs.mask.singles_of.Goals as goal
 use Rattle.room_entry.proofs.mask.singles_of.Goals.{then-bits-bit-eq1+in_ok-push, else-bits-bit-eq1}
+use Rattle.room_entry.proofs.mask.singles_of.Goals as goal
 
 pub loop-bit-preserved : goal.loop-bit-preserved
 loop-bit-preserved c =

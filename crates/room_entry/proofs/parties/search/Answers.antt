@@ -1,6 +1,5 @@
-use Rattle.std.proofs.Common.{◌≡◌, rules, nat_cmp, ◌∙◌}
+use Rattle.std.proofs.{Common.{◌≡◌, rules, nat_cmp, ◌∙◌}, lemmas.Fn.always_returns_same}
 use Rattle.std.specs.Cmp.Lexicographic.{slice_cmp}
-use Rattle.std.proofs.lemmas.Fn.{always_returns_same}
 use Rattle.room_entry.proofs.Rising.{searched}
 use Rattle.room_entry.proofs.parties.search.Goals as goal
 

@@ -1,7 +1,6 @@
-use Rattle.std.proofs.Common.{◌≡◌, rules, is_lt, nat_cmp}
-use Rattle.std.specs.Cmp.Lexicographic.{slice_cmp, nat_list_cmp_total}
-use Rattle.std.proofs.lemmas.Fn.{always_returns_same}
+use Rattle.std.proofs.{Common.{◌≡◌, rules, is_lt, nat_cmp}, lemmas.Fn.always_returns_same}
 use Rattle.std.proofs.lemmas.List.Sorted.{ranks_by}
+use Rattle.std.specs.Cmp.Lexicographic.{slice_cmp, nat_list_cmp_total}
 use Rattle.room_entry.proofs.parties.sort_names.Goals as goal
 
 pub returns-clause-sorted : goal.returns-clause-sorted

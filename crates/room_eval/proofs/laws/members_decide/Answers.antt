@@ -1,19 +1,13 @@
 use Rattle.std.proofs.Common.{ℕ, ◌≡◌, ◌+◌, ◌&&◌, Bool, false, List, [], ◌∷◌, refl, ap}
 use Rattle.std.proofs.Common.{if◌then◌else◌, is_some, is_none}
 use Rattle.std.specs.Option.{option_map_or}
-use Rattle.room_entry.specs.Ace.{Ace}
-use Rattle.room_entry.specs.Bits.{has, shares}
-use Rattle.room_entry.specs.Matching.{is_named, is_in_force}
-use Rattle.room_entry.specs.Pieces.{same_text}
-use Rattle.room_entry.specs.Valid.{asks_records}
-use Rattle.room_entry.specs.declared.entry.Who.{Who}
+use Rattle.room_entry.specs.{Ace.Ace, Bits.{has, shares}, Matching.{is_named, is_in_force}}
+use Rattle.room_entry.specs.{Pieces.same_text, Valid.asks_records, declared.entry.Who.Who}
 use Rattle.room_entry.specs.declared.entry.Who.TheVariants.{Owner, Group, Everyone, Anonymous}
 use Rattle.room_entry.specs.declared.entry.Who.TheVariants.{Authenticated, User, Members}
-use Rattle.room_entry.specs.declared.parties.Caller.{Caller}
-use Rattle.room_entry.specs.declared.parties.Owners.{Owners}
-use Rattle.room_eval.specs.Events.{events_from, wants}
-use Rattle.room_eval.specs.Laws.{AreAlike}
-use Rattle.room_eval.specs.Verdict.{counts, ruled_by, ruling_from, verdict_by}
+use Rattle.room_entry.specs.declared.parties.{Caller.Caller, Owners.Owners}
+use Rattle.room_eval.specs.{Events.{events_from, wants}, Laws.AreAlike, Verdict.{counts, ruled_by}}
+use Rattle.room_eval.specs.Verdict.{ruling_from, verdict_by}
 use Rattle.room_eval.proofs.laws.members_decide.Goals as goal
 
 module _ (a b : Caller) (owners : Owners) (alike : AreAlike a b) where

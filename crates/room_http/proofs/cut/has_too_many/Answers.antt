@@ -1,5 +1,4 @@
-use Rattle.std.proofs.Common.{◌≡◌, ◌∙◌, ap, sym, drop, arith}
-use Rattle.std.proofs.lemmas.Bool.{ltb-true, ltb-false}
+use Rattle.std.proofs.{Common.{◌≡◌, ◌∙◌, ap, sym, drop, arith}, lemmas.Bool.{ltb-true, ltb-false}}
 use Rattle.std.proofs.lemmas.List.{take_rest}
 use Rattle.room_http.proofs.FieldLines.{ended-behind, ended-exceeds, ended-nowhere, exceeds-ended}
 use Rattle.room_http.proofs.FieldLines.{feeds}

@@ -1,8 +1,7 @@
 use Rattle.std.proofs.Common.{refl, rules, subst, w64, ℤ, [], ◌∷◌, Ok, SFits}
 use Rattle.std.proofs.lemmas.Int.{to_z-of_z}
 use Rattle.std.specs.Option.{option_copied}
-use Rattle.room_machine.specs.Desk.{Closes, Steps}
-use Rattle.room_machine.specs.Run.{Asked, event_of, unanswered}
+use Rattle.room_machine.specs.{Desk.{Closes, Steps}, Run.{Asked, event_of, unanswered}}
 use Rattle.room_machine.specs.declared.desk.DeskFault.{DeskFault}
 use Rattle.room_machine.proofs.Meeting.{closed_once, closed_still}
 use Rattle.room_http.proofs.Telling.{responds-by, rose}

@@ -1,8 +1,7 @@
 use Rattle.std.proofs.Common.{◌≡◌, ◌∙◌, sym, ap, subst, Ok}
 use Rattle.std.specs.Option.{option_copied}
 use Rattle.http_message.specs.Asked.{request_of}
-use Rattle.room_http.specs.Message.{Parsed}
-use Rattle.room_http.specs.Answer.{Responds}
+use Rattle.room_http.specs.{Message.Parsed, Answer.Responds}
 use Rattle.room_http.proofs.respond.respond.Goals as goal
 
 pub returns-in-Ok : goal.returns-in-Ok

@@ -1,11 +1,8 @@
-use Rattle.std.proofs.Common.{refl, sym, subst, ℤ, w64}
-use Rattle.std.proofs.lemmas.Int.{to_z-of_z}
+use Rattle.std.proofs.{Common.{refl, sym, subst, ℤ, w64}, lemmas.Int.to_z-of_z}
+use Rattle.room_http.specs.{Serve.{Serves, Stops, seen}, Turn.{Turns, Along}}
+use Rattle.room_http.proofs.{Telling.at-value, Serving.{Along-begin, Along-then, Serves-from}}
+use Rattle.room_http.proofs.Serving.{Stops-from, served-connects}
 use mir.Val.{to_z, of_z}
-use Rattle.room_http.specs.Serve.{Serves, Stops, seen}
-use Rattle.room_http.specs.Turn.{Turns, Along}
-use Rattle.room_http.proofs.Telling.{at-value}
-use Rattle.room_http.proofs.Serving.{Along-begin, Along-then, Serves-from, Stops-from}
-use Rattle.room_http.proofs.Serving.{served-connects}
 use Rattle.room_http.proofs.server.serve.Goals as goal
 
 pub returns-in-Ok-Some-clause-serves : goal.returns-in-Ok-Some-clause-serves

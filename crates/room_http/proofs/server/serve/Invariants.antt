@@ -1,7 +1,5 @@
 use Rattle.std.proofs.Common.{◌-◌}
-use Rattle.room_http.specs.Limits.{max_messages}
-use Rattle.room_http.specs.Serve.{seen}
-use Rattle.room_http.specs.Turn.{Along}
+use Rattle.room_http.specs.{Limits.max_messages, Serve.seen, Turn.Along}
 use Rattle.room_http.proofs.server.serve.Given as goal
 
 abbrev pub invariant-turns : goal.invariant-turns

@@ -1,10 +1,7 @@
 use Rattle.std.proofs.Common.{refl, subst}
-use Rattle.room_http.specs.declared.server.Wrote.{Wrote}
-use Rattle.room_http.specs.Serve.{seen}
-use Rattle.room_http.specs.Tell.{Tells}
-use Rattle.room_http.proofs.Telling.{at-value}
-use Rattle.room_http.proofs.Turning.{closes-the-same, responds-to, take-answered, take-failed}
-use Rattle.room_http.proofs.Turning.{take-stop}
+use Rattle.room_http.specs.{declared.server.Wrote.Wrote, Serve.seen, Tell.Tells}
+use Rattle.room_http.proofs.{Telling.at-value, Turning.{closes-the-same, responds-to}}
+use Rattle.room_http.proofs.Turning.{take-answered, take-failed, take-stop}
 use Rattle.room_http.proofs.server.take_message.Goals as goal
 
 pub returns-in-Failed : goal.returns-in-Failed

@@ -1,7 +1,5 @@
 use Rattle.std.proofs.Common.{false}
-use Rattle.room_http.specs.declared.server.Wrote.{Wrote}
-use Rattle.room_http.specs.Text.{store_text}
-use Rattle.room_http.specs.Tell.{Tells}
+use Rattle.room_http.specs.{declared.server.Wrote.Wrote, Text.store_text, Tell.Tells}
 use Rattle.room_http.proofs.Telling.{from-value, told-text}
 use Rattle.room_http.proofs.server.tell.Goals as goal
 

@@ -1,7 +1,5 @@
 use Rattle.std.proofs.Common.{subst}
-use Rattle.room_http.specs.declared.next.Upcoming.{Upcoming}
-use Rattle.room_http.specs.Serve.{seen}
-use Rattle.room_http.specs.Turn.{ComesNear, Coming}
+use Rattle.room_http.specs.{declared.next.Upcoming.Upcoming, Serve.seen, Turn.{ComesNear, Coming}}
 use Rattle.room_http.proofs.Turning.{shift, turn-clean, turn-cut, turn-refused}
 use Rattle.room_http.proofs.server.turn.Goals as goal
 

@@ -1,6 +1,5 @@
 use Rattle.std.proofs.Common.{◌≡◌, ◌≤◌, ◌-◌, []}
-use Rattle.room_import.specs.Groups.{pairs_after}
-use Rattle.room_import.specs.Rows.{ReadsNextRow, rows_left}
+use Rattle.room_import.specs.{Groups.pairs_after, Rows.{ReadsNextRow, rows_left}}
 use Rattle.room_import.proofs.reading.read_pairs.Given as goal
 
 -- the pairs so far, and then those of the rows that are left

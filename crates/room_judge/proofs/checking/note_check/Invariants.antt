@@ -1,8 +1,6 @@
 use Rattle.std.proofs.Common.{◌≤◌, take}
-use Rattle.room_judge.specs.Stored.{found_site}
-use Rattle.room_judge.specs.Extent.{OnlyRecords}
-use Rattle.room_judge.proofs.Calls.{HasDone}
-use Rattle.room_judge.proofs.Noting.{Notes}
+use Rattle.room_judge.specs.{Stored.found_site, Extent.OnlyRecords}
+use Rattle.room_judge.proofs.{Calls.HasDone, Noting.Notes}
 use Rattle.room_judge.proofs.checking.note_check.Given as goal
 
 -- the records of the first places are noted

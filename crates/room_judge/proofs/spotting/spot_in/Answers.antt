@@ -1,10 +1,7 @@
 use Rattle.std.proofs.Common.{◌≡◌, ℕ, List, ◌<◌, ◌+◌, length, ap, ◌∙◌, arith}
 use Rattle.room_rows.specs.Content.{child_of}
-use Rattle.room_judge.proofs.Calls.{done, finish, of_read, then}
-use Rattle.room_judge.proofs.Folders.{spot_found}
-use Rattle.room_judge.proofs.Halts.{faults}
-use Rattle.room_judge.proofs.Judging.{blames_first}
-use Rattle.room_judge.proofs.Ways.{name_read}
+use Rattle.room_judge.proofs.{Calls.{done, finish, of_read, then}, Folders.spot_found, Halts.faults}
+use Rattle.room_judge.proofs.{Judging.blames_first, Ways.name_read}
 use Rattle.room_judge.proofs.spotting.spot_in.Goals as goal
 
 pub returns-in_err-child-clause-done : goal.returns-in_err-child-clause-done

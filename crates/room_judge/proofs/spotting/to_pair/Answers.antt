@@ -1,7 +1,6 @@
 use Rattle.room_judge.specs.Halted.{both_with}
-use Rattle.room_judge.proofs.Calls.{done}
-use Rattle.room_judge.proofs.Folders.{both_found, pair_barred}
-use Rattle.room_judge.proofs.Halts.{comes_to, halts_first}
+use Rattle.room_judge.proofs.{Calls.done, Folders.{both_found, pair_barred}, Halts.comes_to}
+use Rattle.room_judge.proofs.Halts.{halts_first}
 use Rattle.room_judge.proofs.spotting.to_pair.Goals as goal
 
 pub returns-in_err-spot-clause-done : goal.returns-in_err-spot-clause-done

@@ -1,9 +1,7 @@
 use Rattle.std.proofs.Common.{ℕ, ◌≡◌, ◌<◌, ◌+◌, List, [], length, take, Ok, ap, arith, inl}
 use Rattle.std.specs.Prelude.{◌-◌}
-use Rattle.room_judge.proofs.Calls.{done, tail}
-use Rattle.room_judge.proofs.Folders.{spot_barred, spot_follows}
-use Rattle.room_judge.proofs.Halts.{halts_first}
-use Rattle.room_judge.proofs.Ways.{reached_blames}
+use Rattle.room_judge.proofs.{Calls.{done, tail}, Folders.{spot_barred, spot_follows}}
+use Rattle.room_judge.proofs.{Halts.halts_first, Ways.reached_blames}
 use Rattle.room_judge.proofs.spotting.to_spot.Goals as goal
 
 pub returns-in_err-node-clause-done : goal.returns-in_err-node-clause-done

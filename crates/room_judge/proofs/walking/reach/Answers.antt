@@ -1,9 +1,7 @@
 use Rattle.std.proofs.Common.{ℕ, List, [], ◌∷◌, ap, length}
-use Rattle.room_machine.specs.Plan.{Check, Item}
-use Rattle.room_machine.specs.Site.{Site}
+use Rattle.room_machine.specs.{Plan.{Check, Item}, Site.Site}
 use Rattle.room_judge.specs.declared.arrival.Found.{Found}
-use Rattle.room_judge.proofs.Calls.{done, finish, then}
-use Rattle.room_judge.proofs.Halts.{halts, halts_first}
+use Rattle.room_judge.proofs.{Calls.{done, finish, then}, Halts.{halts, halts_first}}
 use Rattle.room_judge.proofs.Ways.{not_reached, target_passed, target_refused}
 use Rattle.room_judge.proofs.walking.reach.Goals as goal
 

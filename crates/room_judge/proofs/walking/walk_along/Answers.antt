@@ -1,9 +1,6 @@
 use Rattle.std.proofs.Common.{take, inl, ap, subst, ◌∙◌}
-use Rattle.room_rows.specs.Content.{root_of}
-use Rattle.room_rows.specs.Keep.{IsUnreadable}
-use Rattle.room_rows.specs.Rows.{Rows}
-use Rattle.room_judge.proofs.Calls.{done, of_read, tail}
-use Rattle.room_judge.proofs.Walked.{reached_from}
+use Rattle.room_rows.specs.{Content.root_of, Keep.IsUnreadable, Rows.Rows}
+use Rattle.room_judge.proofs.{Calls.{done, of_read, tail}, Walked.reached_from}
 use Rattle.room_judge.proofs.walking.walk_along.Goals as goal
 
 pub returns-clause-done : goal.returns-clause-done

@@ -1,9 +1,7 @@
 use Rattle.std.proofs.Common.{◌≡◌, refl, take, arith}
 use Rattle.room_judge.specs.declared.arrival.Found.{Found}
-use Rattle.room_judge.proofs.Calls.{done, finish, none_done, then}
-use Rattle.room_judge.proofs.Halts.{halts}
-use Rattle.room_judge.proofs.Walked.{walk_done, walk_ends, walks_on}
-use Rattle.room_judge.proofs.Ways.{way_begins, way_blames}
+use Rattle.room_judge.proofs.{Calls.{done, finish, none_done, then}, Halts.halts, Walked.walk_done}
+use Rattle.room_judge.proofs.{Walked.{walk_ends, walks_on}, Ways.{way_begins, way_blames}}
 use Rattle.room_judge.proofs.walking.walk_down.Goals as goal
 
 pub names-init : goal.names-init

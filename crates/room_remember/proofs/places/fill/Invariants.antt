@@ -1,5 +1,4 @@
-use Rattle.std.specs.Prelude.{length, ◌≤◌}
-use Rattle.std.specs.List.{All}
+use Rattle.std.specs.{Prelude.{length, ◌≤◌}, List.All}
 use Rattle.room_rows.specs.Rows.{Rows}
 use Rattle.room_remember.specs.Agrees.{IsPlace}
 use Rattle.room_remember.proofs.places.fill.Given as goal

@@ -1,5 +1,4 @@
-use Rattle.room_dump.proofs.Reading.{knows, learns}
-use Rattle.room_dump.proofs.Walks.{comes_first}
+use Rattle.room_dump.proofs.{Reading.{knows, learns}, Walks.comes_first}
 use Rattle.room_review.proofs.Gathered.{gathers_next}
 use Rattle.room_review.proofs.gathering.gather_all.Goals as goal
 

@@ -1,7 +1,6 @@
 use Rattle.std.proofs.Common.{inl, subst}
 use Rattle.room_rows.specs.declared.node.Node.{Node}
-use Rattle.room_dump.specs.declared.visiting.Visit.{Visit}
-use Rattle.room_dump.specs.Visits.{IsFrom, first_visit}
+use Rattle.room_dump.specs.{declared.visiting.Visit.Visit, Visits.{IsFrom, first_visit}}
 use Rattle.room_dump.proofs.Reading.{knows, tail}
 use Rattle.room_review.proofs.Gathered.{gathered_below}
 use Rattle.room_review.proofs.gathering.gather_below.Goals as goal

@@ -1,13 +1,12 @@
 use Rattle.std.proofs.Common.{ℕ, ◌+◌, ◌||◌, List, drop, filter, not, refl, sym, ap, ◌∙◌}
-use Rattle.room_entry.specs.Bits.{all_bits, has}
-use Rattle.room_entry.specs.Valid.{asks_records}
+use Rattle.room_entry.specs.{Bits.{all_bits, has}, Valid.asks_records}
 use Rattle.room_entry.specs.declared.entry.EntryKind.TheVariants.{Allow, Deny}
 use Rattle.room_eval.specs.Verdict.{is_allowed}
 use Rattle.room_eval.proofs.Steps.{bears_none, either_asks}
 use Rattle.room_review.specs.Standing.{is_denied}
 use Rattle.room_review.proofs.Ruled.{found_all, found_more, found_none, found_passed, found_same}
-use Rattle.room_review.proofs.granting.rule_all.Goals as goal
 use Rattle.room_review.proofs.granting.rule_all.Goals.{in-Allow, in-Deny, in-Audit}
+use Rattle.room_review.proofs.granting.rule_all.Goals as goal
 
 pub loop-index-init : goal.loop-index-init
 loop-index-init c =

@@ -1,7 +1,6 @@
 use Rattle.std.proofs.Common.{◌≡◌, ◌∷◌, ◌++◌, [], List, ap, ◌∙◌, append_assoc}
 use Rattle.room_dump.proofs.Reading.{Knows, answered, knows, learns}
-use Rattle.room_review.specs.declared.parties.Party.{Party}
-use Rattle.room_review.specs.Table.{other_name}
+use Rattle.room_review.specs.{declared.parties.Party.Party, Table.other_name}
 use Rattle.room_review.proofs.parties.push_others.Goals as goal
 
 pub returns : goal.returns

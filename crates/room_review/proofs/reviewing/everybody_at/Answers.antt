@@ -1,7 +1,6 @@
 use Rattle.std.proofs.Common.{List, ℕ, ap, ◌∙◌}
 use Rattle.room_dump.proofs.Reading.{Knows, knows, learns, tail}
-use Rattle.room_review.specs.Table.{everybody}
-use Rattle.room_review.specs.Telling.{GathersUsers}
+use Rattle.room_review.specs.{Table.everybody, Telling.GathersUsers}
 use Rattle.room_review.proofs.reviewing.everybody_at.Goals as goal
 
 pub returns : goal.returns

@@ -1,8 +1,6 @@
 use Rattle.std.proofs.Common.{◌≡◌, ◌++◌, ◌∷◌, [], List, sym, ap, ◌∙◌}
 use Rattle.room_entry.proofs.Facts.Members.{no_length}
-use Rattle.room_rows.specs.declared.node.Node.{Node}
-use Rattle.room_rows.specs.declared.node.Walk.{Walk}
-use Rattle.room_rows.specs.Walk.{walk_of}
+use Rattle.room_rows.specs.{declared.node.{Node.Node, Walk.Walk}, Walk.walk_of}
 use Rattle.room_dump.proofs.Reading.{Knows, damaged, knows, learns, tail}
 use Rattle.room_review.proofs.Ending.{rootless}
 use Rattle.room_review.proofs.reviewing.review.Goals as goal

@@ -1,7 +1,6 @@
 use Rattle.std.proofs.Common.{◌≡◌, ◌<◌, ℕ, sym, subst, arith}
 use Rattle.room_dump.proofs.Reading.{answered, fails, knows, learns}
-use Rattle.room_review.specs.declared.question.Reviewed.{Reviewed}
-use Rattle.room_review.specs.declared.question.Reviewed.TheVariants.{Table}
+use Rattle.room_review.specs.declared.question.Reviewed.{Reviewed, TheVariants.Table}
 use Rattle.room_review.specs.Table.{IsReview}
 use Rattle.room_review.proofs.Tabled.{Walked, lost_there, refusal_given, table_given}
 use Rattle.room_review.proofs.reviewing.review_from.Goals as goal

@@ -1,10 +1,9 @@
 use Rattle.std.proofs.Common.{◌≡◌, List, Some, length, ap, ◌∙◌}
 use Rattle.room_rows.specs.Rows.{Rows, numbers_of}
-use Rattle.room_machine.specs.Site.{Site, site_at}
-use Rattle.room_machine.specs.Stored.{stored_along, stored_site}
+use Rattle.room_machine.specs.{Site.{Site, site_at}, Stored.{stored_along, stored_site}}
 use Rattle.room_dump.proofs.Reading.{Knows, knows, learns, tail}
-use Rattle.room_review.specs.declared.question.Reviewed.TheVariants.{Table}
-use Rattle.room_review.specs.Telling.{AreOn, GivesParties, Starts}
+use Rattle.room_review.specs.{declared.question.Reviewed.TheVariants.Table, Telling.AreOn}
+use Rattle.room_review.specs.Telling.{GivesParties, Starts}
 use Rattle.room_review.proofs.reviewing.table_at.Goals as goal
 
 pub returns : goal.returns

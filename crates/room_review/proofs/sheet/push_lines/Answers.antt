@@ -1,15 +1,13 @@
-use Rattle.std.proofs.Common.{◌++◌, drop, length, not, ap, ◌∙◌, rules}
+use Rattle.std.proofs.{Common.{◌++◌, drop, length, not, ap, ◌∙◌, rules}, lemmas.Bool.or_from}
+use Rattle.std.proofs.lemmas.Bool.{or_left, or_right, not_from_false, not_from_true}
+use Rattle.std.proofs.lemmas.{List.length_push, Slice.Zip.{zip_end, zip_turn}}
 use Rattle.std.specs.List.{zip}
-use Rattle.std.proofs.lemmas.Bool.{or_from, or_left, or_right, not_from_false, not_from_true}
-use Rattle.std.proofs.lemmas.List.{length_push}
-use Rattle.std.proofs.lemmas.Slice.Zip.{zip_end, zip_turn}
-use Rattle.room_import.specs.Exports.{rows_text}
-use Rattle.room_import.specs.Written.{written}
+use Rattle.room_import.specs.{Exports.rows_text, Written.written}
 use Rattle.room_review.specs.Lines.{lines}
 use Rattle.room_review.proofs.Printed.{line_hidden, line_shown, lines_all}
-use Rattle.room_review.proofs.sheet.push_lines.Goals as goal
 use Rattle.room_review.proofs.sheet.push_lines.Goals.{then-told-via-then-told}
 use Rattle.room_review.proofs.sheet.push_lines.Goals.{then-told-via-else-told+then-not-standing}
+use Rattle.room_review.proofs.sheet.push_lines.Goals as goal
 
 pub loop-party-preserved-in-loop-party : goal.loop-party-preserved-in-loop-party
 loop-party-preserved-in-loop-party c =

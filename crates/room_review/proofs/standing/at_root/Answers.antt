@@ -1,6 +1,5 @@
 use Rattle.std.proofs.Common.{ℕ, [], List, refl, ap, ◌∙◌, filter}
-use Rattle.room_entry.specs.Ace.{Ace}
-use Rattle.room_entry.specs.Bits.{all_bits, shares}
+use Rattle.room_entry.specs.{Ace.Ace, Bits.{all_bits, shares}}
 use Rattle.room_eval.specs.Verdict.{is_allowed, ruling_of}
 use Rattle.room_review.specs.Standing.{is_denied}
 use Rattle.room_review.proofs.Kept.{root_standing}

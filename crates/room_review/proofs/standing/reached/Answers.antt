@@ -1,9 +1,7 @@
 use Rattle.std.proofs.Common.{ℕ, Bool, List, ap, ◌∙◌, filter}
-use Rattle.room_entry.specs.Ace.{Ace}
-use Rattle.room_entry.specs.Bits.{all_bits, shares}
+use Rattle.room_entry.specs.{Ace.Ace, Bits.{all_bits, shares}}
 use Rattle.room_eval.specs.Verdict.{is_allowed, ruling_of}
-use Rattle.room_review.specs.Standing.{is_denied}
-use Rattle.room_review.specs.declared.standing.Standing.{Standing}
+use Rattle.room_review.specs.{Standing.is_denied, declared.standing.Standing.Standing}
 use Rattle.room_review.proofs.Kept.{open_standing}
 use Rattle.room_review.proofs.standing.reached.Goals as goal
 

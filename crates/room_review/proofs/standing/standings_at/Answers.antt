@@ -1,7 +1,6 @@
 use Rattle.std.proofs.Common.{◌≡◌, List, sym, subst, ap, ◌∙◌, IfOk}
 use Rattle.std.specs.Option.{option_copied}
-use Rattle.room_machine.specs.Site.{Site}
-use Rattle.room_machine.specs.Stored.{stored_site}
+use Rattle.room_machine.specs.{Site.Site, Stored.stored_site}
 use Rattle.room_review.specs.Standing.{before_last, standings}
 use Rattle.room_review.proofs.Kept.{mapped_none, mapped_some, none_last}
 use Rattle.room_review.proofs.standing.standings_at.Goals as goal

@@ -1,9 +1,8 @@
-use Rattle.std.proofs.Common.{length, take, ap, sym, ◌∙◌, rules}
-use Rattle.std.proofs.lemmas.List.{length_push}
+use Rattle.std.proofs.{Common.{length, take, ap, sym, ◌∙◌, rules}, lemmas.List.length_push}
 use Rattle.std.proofs.lemmas.Slice.Zip.{zip_end, zip_turn}
 use Rattle.room_machine.specs.Stored.{stored_site}
-use Rattle.room_review.specs.declared.parties.Party.{Party}
-use Rattle.room_review.specs.Standing.{before_last, standing, standings}
+use Rattle.room_review.specs.{declared.parties.Party.Party, Standing.{before_last, standing}}
+use Rattle.room_review.specs.Standing.{standings}
 use Rattle.room_review.proofs.Kept.{all_mapped, next_mapped}
 use Rattle.room_review.proofs.standing.standings_below.Goals as goal
 

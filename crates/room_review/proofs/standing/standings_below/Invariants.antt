@@ -1,7 +1,5 @@
 use Rattle.std.proofs.Common.{ℕ, ◌≡◌, List, Some, length, take}
-use Rattle.room_machine.specs.Site.{Site}
-use Rattle.room_machine.specs.Stored.{stored_site}
-use Rattle.room_machine.specs.Rights.{last_of}
+use Rattle.room_machine.specs.{Site.Site, Stored.stored_site, Rights.last_of}
 use Rattle.room_review.specs.Standing.{before_last, standings}
 use Rattle.room_review.proofs.standing.standings_below.Given as goal
 

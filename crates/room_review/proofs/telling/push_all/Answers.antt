@@ -1,6 +1,5 @@
 use Rattle.std.proofs.Common.{refl}
-use Rattle.room_dump.proofs.Reading.{fails, knows, learns, out_of_memory}
-use Rattle.room_dump.proofs.Walks.{comes_first}
+use Rattle.room_dump.proofs.{Reading.{fails, knows, learns, out_of_memory}, Walks.comes_first}
 use Rattle.room_review.proofs.Told.{tells_next}
 use Rattle.room_review.proofs.telling.push_all.Goals as goal
 

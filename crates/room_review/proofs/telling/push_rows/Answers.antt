@@ -1,9 +1,7 @@
 use Rattle.std.proofs.Common.{◌≡◌, ◌∷◌, ◌++◌, [], take, sym, ap, ◌∙◌}
 use Rattle.room_dump.specs.declared.visiting.Visit.{Visit}
 use Rattle.room_machine.specs.Stored.{stored_site}
-use Rattle.room_review.specs.Standing.{standings}
-use Rattle.room_review.specs.Table.{site_of}
-use Rattle.room_review.specs.Telling.{along}
+use Rattle.room_review.specs.{Standing.standings, Table.site_of, Telling.along}
 use Rattle.room_review.proofs.Above.{along_on}
 use Rattle.room_review.proofs.telling.push_rows.Goals as goal
 

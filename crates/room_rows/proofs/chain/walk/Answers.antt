@@ -1,13 +1,8 @@
 use Rattle.std.proofs.Common.{◌≡◌, ◌+◌, List, Some, None, sym, ap, subst, ◌∙◌, inl, length, ◌-◌}
 use Rattle.std.proofs.Common.{IfOk, arith, drop, ◌∷◌, ◌++◌, ◌<◌, []}
-use Rattle.room_rows.specs.declared.keep.KeepFault.TheVariants.{Memory}
-use Rattle.room_rows.specs.declared.node.Node.{Node}
-use Rattle.room_rows.specs.declared.node.Walk.{Walk}
-use Rattle.room_rows.specs.Keep.{HasNoRoot, IsRead}
-use Rattle.room_rows.specs.Content.{child_of}
-use Rattle.room_rows.specs.Along.{after_chain}
-use Rattle.room_rows.specs.Rooted.{IsWalkFromRoot}
-use Rattle.room_rows.specs.Walk.{walk_from}
+use Rattle.room_rows.specs.declared.{keep.KeepFault.TheVariants.Memory, node.{Node.Node, Walk.Walk}}
+use Rattle.room_rows.specs.{Keep.{HasNoRoot, IsRead}, Content.child_of, Along.after_chain}
+use Rattle.room_rows.specs.{Rooted.IsWalkFromRoot, Walk.walk_from}
 use Rattle.room_rows.proofs.Steps.{handed_on, seen, read_on, answered, gives_up, no_memory}
 use Rattle.room_rows.proofs.Walking.{walk_ends, walk_goes_on}
 use Rattle.room_rows.proofs.chain.walk.Goals as goal

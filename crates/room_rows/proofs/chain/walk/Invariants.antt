@@ -1,7 +1,5 @@
 use Rattle.std.proofs.Common.{◌≡◌, ◌+◌, ◌≤◌, drop}
-use Rattle.room_rows.specs.Along.{after_chain}
-use Rattle.room_rows.specs.Rooted.{HasRoot}
-use Rattle.room_rows.specs.Walk.{walk_of, walk_from}
+use Rattle.room_rows.specs.{Along.after_chain, Rooted.HasRoot, Walk.{walk_of, walk_from}}
 use Rattle.room_rows.proofs.Steps.{HasRead}
 use Rattle.room_rows.proofs.chain.walk.Given as goal
 

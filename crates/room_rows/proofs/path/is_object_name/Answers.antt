@@ -1,6 +1,5 @@
-use Rattle.std.proofs.Common.{◌≡◌, ◌∙◌, ap, arith, sym, ◌<◌, length}
+use Rattle.std.proofs.{Common.{◌≡◌, ◌∙◌, ap, arith, sym, ◌<◌, length}, lemmas.Bool.eqb-false}
 use Rattle.std.specs.List.{list_all}
-use Rattle.std.proofs.lemmas.Bool.{eqb-false}
 use Rattle.room_rows.specs.Paths.{is_name_byte}
 use Rattle.room_rows.proofs.Cutting.{name_by_bytes}
 use Rattle.room_rows.proofs.path.is_object_name.Goals as goal

@@ -1,8 +1,6 @@
 use Rattle.std.proofs.Common.{◌<◌, ◌∙◌, None, Some, List, ℕ, ap, arith, length, lit<, subst, sym}
-use Rattle.std.proofs.lemmas.Bool.{eqb-false}
-use Rattle.std.proofs.lemmas.Str.Pattern.{strip_prefix_char}
-use Rattle.room_entry.specs.Gives.{Gives}
-use Rattle.room_entry.specs.Pieces.{pieces}
+use Rattle.std.proofs.lemmas.{Bool.eqb-false, Str.Pattern.strip_prefix_char}
+use Rattle.room_entry.specs.{Gives.Gives, Pieces.pieces}
 use Rattle.room_rows.specs.Paths.{names_in}
 use Rattle.room_rows.proofs.Cutting.{no_slash_first, slash_first}
 use Rattle.room_rows.proofs.path.read_names.Goals as goal

@@ -1,6 +1,5 @@
 use Rattle.std.proofs.Common.{◌∙◌, ap, subst, sym, List, ℕ}
-use Rattle.room_entry.specs.Gives.{Gives}
-use Rattle.room_entry.specs.Pieces.{pieces}
+use Rattle.room_entry.specs.{Gives.Gives, Pieces.pieces}
 use Rattle.room_rows.specs.Paths.{names_in}
 use Rattle.room_rows.proofs.Cutting.{read_as_names, not_utf8}
 use Rattle.room_rows.proofs.path.read_path.Goals as goal

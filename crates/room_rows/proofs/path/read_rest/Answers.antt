@@ -1,11 +1,9 @@
 use Rattle.std.proofs.Common.{◌≡◌, ◌∙◌, ◌++◌, ◌∷◌, [], ℕ, List, true, false, ap, arith, length}
-use Rattle.std.proofs.Common.{refl, sym, take, lit<}
-use Rattle.std.specs.List.{list_all}
-use Rattle.std.proofs.lemmas.Bool.{and_from}
+use Rattle.std.proofs.{Common.{refl, sym, take, lit<}, lemmas.Bool.and_from}
 use Rattle.std.proofs.lemmas.Iterator.Consumers.{YieldsList-turn, YieldsList-end}
-use Rattle.std.proofs.lemmas.Iterator.Splits.{YieldsList-from_str_split}
-use Rattle.std.proofs.lemmas.List.{length_push, take_all, take_more}
-use Rattle.std.proofs.lemmas.List.Folds.{list_all-append, list_all_at}
+use Rattle.std.proofs.lemmas.{Iterator.Splits.YieldsList-from_str_split, List.length_push}
+use Rattle.std.proofs.lemmas.List.{take_all, take_more, Folds.{list_all-append, list_all_at}}
+use Rattle.std.specs.List.{list_all}
 use Rattle.room_entry.specs.Pieces.{pieces}
 use Rattle.room_rows.specs.Paths.{is_object_name}
 use Rattle.room_rows.proofs.Cutting.{bad_name, good_names, read_is_path}

@@ -1,6 +1,5 @@
 use Rattle.std.proofs.Common.{subst, sym, ap, ◌∙◌, not}
-use Rattle.sqlite.specs.Effect.{Database}
-use Rattle.sqlite.specs.Held.{state}
+use Rattle.sqlite.specs.{Effect.Database, Held.state}
 use Rattle.store_tables.specs.Within.{LeavesOnly}
 use Rattle.room_store.proofs.laws.what_is_committed_lasts.Goals as goal
 

@@ -1,7 +1,6 @@
 use Rattle.std.proofs.Common.{subst}
 use Rattle.sqlite.specs.Held.{state}
-use Rattle.room_store.specs.Crash.{Lasts}
-use Rattle.room_store.specs.View.{StoreView}
+use Rattle.room_store.specs.{Crash.Lasts, View.StoreView}
 use Rattle.room_store.proofs.laws.what_is_seen_lasts.Goals as goal
 
 pub returns : goal.returns

@@ -1,7 +1,6 @@
 use Rattle.std.proofs.Common.{[], ap, ◌∙◌, not}
 use Rattle.sqlite.specs.Held.{state}
-use Rattle.room_store.proofs.Shutting.{same_rows, was}
-use Rattle.room_store.proofs.Testing.{left_by}
+use Rattle.room_store.proofs.{Shutting.{same_rows, was}, Testing.left_by}
 use Rattle.room_store.proofs.look.still_open.Goals as goal
 
 pub returns-in-Err-clause-ends : goal.returns-in-Err-clause-ends

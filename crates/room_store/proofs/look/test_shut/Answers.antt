@@ -1,7 +1,6 @@
 use Rattle.std.proofs.Common.{[], ap, inl, not, ◌∙◌}
 use Rattle.sqlite.specs.Held.{state}
-use Rattle.room_store.proofs.Shutting.{asks, not_shut, tells_by}
-use Rattle.room_store.proofs.Testing.{left_by}
+use Rattle.room_store.proofs.{Shutting.{asks, not_shut, tells_by}, Testing.left_by}
 use Rattle.room_store.proofs.look.test_shut.Goals as goal
 
 pub returns-in-Ok : goal.returns-in-Ok

@@ -1,5 +1,4 @@
-use Rattle.std.proofs.Common.{subst, w64, to_z, of_z}
-use Rattle.std.proofs.lemmas.Int.{to_z-of_z}
+use Rattle.std.proofs.{Common.{subst, w64, to_z, of_z}, lemmas.Int.to_z-of_z}
 use Rattle.std.specs.Option.{option_copied}
 use Rattle.sqlite.specs.Held.{state}
 use Rattle.room_judge.specs.Closed.{Performs}

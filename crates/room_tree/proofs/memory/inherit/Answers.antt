@@ -1,14 +1,10 @@
 use Rattle.std.proofs.Common.{◌≡◌, ◌&&◌, ◌∙◌, Some, true, sym, ap}
 use Rattle.std.specs.Prelude.{is_some}
-use Rattle.room_rows.specs.Finding.{find_id}
-use Rattle.room_rows.specs.Held.{held_of}
-use Rattle.room_rows.specs.Keep.{with_inh}
-use Rattle.room_rows.proofs.InPlace.{place-with_inh, with_held-id}
-use Rattle.room_rows.proofs.Lookups.{found_number}
+use Rattle.room_rows.specs.{Finding.find_id, Held.held_of, Keep.with_inh}
+use Rattle.room_rows.proofs.{InPlace.{place-with_inh, with_held-id}, Lookups.found_number}
 use Rattle.room_rows.proofs.Many.{one_changed}
 use Rattle.room_tree.specs.Memory.{memory_rows}
-use Rattle.room_tree.proofs.Changed.{stands_held, keeps_rows, changes}
-use Rattle.room_tree.proofs.Inheriting.{same_put}
+use Rattle.room_tree.proofs.{Changed.{stands_held, keeps_rows, changes}, Inheriting.same_put}
 use Rattle.room_tree.proofs.memory.inherit.Goals as goal
 
 pub replace-requires : goal.replace-requires

@@ -2,8 +2,7 @@ use Rattle.std.proofs.Common.{◌≡◌, ap, ◌∙◌}
 use Rattle.sqlite.specs.Held.{state}
 use Rattle.store_admin.specs.Operating.{pairs_seen}
 use Rattle.store_tables.proofs.Failing.{fails_inside}
-use Rattle.store_admin.proofs.InOrder.{pairs_apart}
-use Rattle.store_admin.proofs.Members.{tells_members}
+use Rattle.store_admin.proofs.{InOrder.pairs_apart, Members.tells_members}
 use Rattle.store_admin.proofs.operating.all_members.Goals as goal
 
 pub returns-clause-carries : goal.returns-clause-carries

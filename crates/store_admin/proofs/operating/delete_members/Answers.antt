@@ -1,7 +1,6 @@
 use Rattle.std.proofs.Common.{subst, sym, []}
 use Rattle.sqlite.specs.Held.{state}
-use Rattle.store_tables.specs.Shown.{Stays}
-use Rattle.store_tables.specs.Trust.{stays_itself}
+use Rattle.store_tables.specs.{Shown.Stays, Trust.stays_itself}
 use Rattle.store_tables.proofs.Asked.{writes}
 use Rattle.store_admin.proofs.Exchanging.{empty_room, empty_text, emptied}
 use Rattle.store_admin.proofs.operating.delete_members.Goals as goal

@@ -1,8 +1,6 @@
 use Rattle.std.proofs.Common.{subst, sym, ◌∷◌, []}
-use Rattle.sqlite.specs.declared.types.Value.TheVariants.{Text}
-use Rattle.sqlite.specs.Held.{state}
-use Rattle.store_tables.specs.Shown.{Stays}
-use Rattle.store_tables.specs.Trust.{stays_itself}
+use Rattle.sqlite.specs.{declared.types.Value.TheVariants.Text, Held.state}
+use Rattle.store_tables.specs.{Shown.Stays, Trust.stays_itself}
 use Rattle.store_tables.proofs.Asked.{writes}
 use Rattle.store_admin.proofs.Exchanging.{join_room, join_text, joined}
 use Rattle.store_admin.proofs.operating.insert_member.Goals as goal

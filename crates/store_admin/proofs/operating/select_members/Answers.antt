@@ -1,9 +1,8 @@
 use Rattle.std.proofs.Common.{[]}
 use Rattle.sqlite.specs.Held.{state}
-use Rattle.store_tables.proofs.Asked.{asks}
-use Rattle.store_tables.proofs.Bare.{reads_by}
-use Rattle.store_admin.proofs.Answered.{answered}
-use Rattle.store_admin.proofs.Members.{bare_members, fails_members, members_text, shows_members}
+use Rattle.store_tables.proofs.{Asked.asks, Bare.reads_by}
+use Rattle.store_admin.proofs.{Answered.answered, Members.{bare_members, fails_members}}
+use Rattle.store_admin.proofs.Members.{members_text, shows_members}
 use Rattle.store_admin.proofs.operating.select_members.Goals as goal
 
 pub returns-clause-asks : goal.returns-clause-asks

@@ -1,10 +1,9 @@
 use Rattle.std.proofs.Common.{◌≡◌, ◌≤◌, ◌+◌, ◌++◌, List, [], ◌∷◌, Bool, Bor, ap, sym, ◌∙◌, length}
 use Rattle.std.proofs.Common.{map, rules, subst, IsPermutation, get_or, is_lt, arith}
+use Rattle.std.proofs.{Math.ListN.drop_of_length-le, lemmas.Fn.always_returns_same}
+use Rattle.std.proofs.lemmas.List.{append-nil, get_or-map, length-map, Sorted.IsPermutation-map}
+use Rattle.std.proofs.lemmas.List.Sorted.{ranks_by}
 use Rattle.std.specs.List.Sorted.{IsSortedBy}
-use Rattle.std.proofs.Math.ListN.{drop_of_length-le}
-use Rattle.std.proofs.lemmas.Fn.{always_returns_same}
-use Rattle.std.proofs.lemmas.List.{append-nil, get_or-map, length-map}
-use Rattle.std.proofs.lemmas.List.Sorted.{IsPermutation-map, ranks_by}
 use Rattle.store_tables.specs.Paired.{Pair, pair_cmp, total}
 use Rattle.store_admin.proofs.putting.in_order.Goals as goal
 

@@ -1,8 +1,7 @@
 use Rattle.std.proofs.Common.{◌≡◌, refl, sym, ap, subst, ◌∙◌, take, map, is_some, true}
 use Rattle.sqlite.specs.Held.{state}
 use Rattle.room_rows.specs.Content.{set_of}
-use Rattle.store_tables.specs.Meaning.{pairs_of}
-use Rattle.store_tables.specs.Trust.{stays_itself}
+use Rattle.store_tables.specs.{Meaning.pairs_of, Trust.stays_itself}
 use Rattle.store_admin.specs.Operating.{are_pairs, stored_pair}
 use Rattle.store_admin.proofs.Gathering.{again, one_more, pairs_put, read_pair, so_far}
 use Rattle.store_admin.proofs.putting.insert_at.Goals as goal

@@ -1,11 +1,8 @@
 use Rattle.std.proofs.Common.{◌≡◌, ◌<◌, ◌^◌, ℕ, ℤ, pos, negsuc, None, refl, sym, subst, ◌∙◌, arith}
-use Rattle.std.proofs.Common.{w64, nat_eq}
+use Rattle.std.proofs.{Common.{w64, nat_eq}, lemmas.{Bool.{cond-false, ne_eqb}, Int.to_z-of_z}}
 use Rattle.std.specs.Int.{FitsUnsignedBits}
-use Rattle.std.proofs.lemmas.Bool.{cond-false, ne_eqb}
-use Rattle.std.proofs.lemmas.Int.{to_z-of_z}
 use Rattle.sqlite.specs.declared.types.Value.TheVariants.{Int}
-use Rattle.room_entry.specs.Bits.{bits_of, number_of}
-use Rattle.room_entry.specs.BitLaws.{known_le, number_of-known}
+use Rattle.room_entry.specs.{Bits.{bits_of, number_of}, BitLaws.{known_le, number_of-known}}
 use Rattle.store_tables.specs.Meaning.{mask_in}
 use Rattle.store_admin.proofs.records.mask_with.Goals as goal
 

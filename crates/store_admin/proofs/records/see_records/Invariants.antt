@@ -1,6 +1,5 @@
 use Rattle.std.proofs.Common.{◌≡◌, ◌++◌, drop}
-use Rattle.std.specs.Prelude.{is_some}
-use Rattle.std.specs.List.{filter_map, list_all}
+use Rattle.std.specs.{Prelude.is_some, List.{filter_map, list_all}}
 use Rattle.store_admin.specs.Operating.{record_seen}
 use Rattle.store_admin.proofs.records.see_records.Given as goal
 

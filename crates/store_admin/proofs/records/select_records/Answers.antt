@@ -1,9 +1,8 @@
 use Rattle.std.proofs.Common.{[]}
 use Rattle.sqlite.specs.Held.{state}
-use Rattle.store_tables.proofs.Asked.{asks}
-use Rattle.store_tables.proofs.Bare.{reads_by}
-use Rattle.store_admin.proofs.Answered.{answered}
-use Rattle.store_admin.proofs.Recorded.{bare_records, fails_records, records_text, shows_records}
+use Rattle.store_tables.proofs.{Asked.asks, Bare.reads_by}
+use Rattle.store_admin.proofs.{Answered.answered, Recorded.{bare_records, fails_records}}
+use Rattle.store_admin.proofs.Recorded.{records_text, shows_records}
 use Rattle.store_admin.proofs.records.select_records.Goals as goal
 
 pub returns-clause-asks : goal.returns-clause-asks

@@ -1,7 +1,6 @@
 use Rattle.std.proofs.Common.{ℕ, List, ap₂, subst}
 use Rattle.sqlite_wal.specs.Recovery.{Image}
-use Rattle.sqlite.specs.Files.{file_state}
-use Rattle.sqlite.specs.Start.{FindsIn}
+use Rattle.sqlite.specs.{Files.file_state, Start.FindsIn}
 use Rattle.store_file.proofs.copying.open_copy.Goals as goal
 
 abbrev image : List ℕ → List ℕ → Image

@@ -1,8 +1,7 @@
 use Rattle.std.proofs.Common.{ℕ, Bool, false, cond, List, sym, ap₂, subst}
 use Rattle.sqlite_disk.specs.Events.{Event, replay}
 use Rattle.sqlite_wal.specs.Recovery.{Image}
-use Rattle.sqlite.specs.Files.{file_state, IsBlankAs}
-use Rattle.sqlite.specs.Start.{FindsIn}
+use Rattle.sqlite.specs.{Files.{file_state, IsBlankAs}, Start.FindsIn}
 use Rattle.store_file.proofs.opening.open_with.Goals as goal
 
 abbrev image : List ℕ → List ℕ → Image

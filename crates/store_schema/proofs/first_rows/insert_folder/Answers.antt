@@ -1,10 +1,7 @@
 use Rattle.std.proofs.Common.{◌∷◌, [], subst, sym}
-use Rattle.sqlite.specs.declared.types.Value.TheVariants.{Text}
-use Rattle.sqlite.specs.Held.{state}
+use Rattle.sqlite.specs.{declared.types.Value.TheVariants.Text, Held.state}
 use Rattle.store_tables.specs.Within.{IsWithin, within_itself}
-use Rattle.store_schema.proofs.FirstRows.{makes_root}
-use Rattle.store_schema.proofs.Meant.{owner_line}
-use Rattle.store_schema.proofs.Texts.{folder_text}
+use Rattle.store_schema.proofs.{FirstRows.makes_root, Meant.owner_line, Texts.folder_text}
 use Rattle.store_schema.proofs.Within.{makes_by}
 use Rattle.store_schema.proofs.first_rows.insert_folder.Goals as goal
 

@@ -1,9 +1,7 @@
 use Rattle.std.proofs.Common.{[], subst, sym}
 use Rattle.sqlite.specs.Held.{state}
 use Rattle.store_tables.specs.Within.{IsWithin, within_itself}
-use Rattle.store_schema.proofs.FirstRows.{makes_version}
-use Rattle.store_schema.proofs.Texts.{version_text}
-use Rattle.store_schema.proofs.Within.{makes_by}
+use Rattle.store_schema.proofs.{FirstRows.makes_version, Texts.version_text, Within.makes_by}
 use Rattle.store_schema.proofs.first_rows.insert_version.Goals as goal
 
 pub returns-clause-makes : goal.returns-clause-makes

@@ -1,10 +1,8 @@
 use Rattle.std.proofs.Common.{◌≡◌, Ok, Err, ap, subst, ◌∙◌, not, rules}
 use Rattle.sqlite.specs.Held.{state}
 use Rattle.store_tables.proofs.Within.{settled_by}
-use Rattle.store_schema.specs.Migrating.{Migrates}
-use Rattle.store_schema.specs.declared.fault.MigrateFault.TheVariants.{Opening}
-use Rattle.store_schema.proofs.Ended.{begins_by}
-use Rattle.store_schema.proofs.Migrated.{committed, not_committed}
+use Rattle.store_schema.specs.{Migrating.Migrates, declared.fault.MigrateFault.TheVariants.Opening}
+use Rattle.store_schema.proofs.{Ended.begins_by, Migrated.{committed, not_committed}}
 use Rattle.store_schema.proofs.migrating.migrate.Goals as goal
 
 pub returns-in-Ok-commit : goal.returns-in-Ok-commit

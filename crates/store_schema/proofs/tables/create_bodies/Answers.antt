@@ -1,9 +1,7 @@
 use Rattle.std.proofs.Common.{[], subst, sym}
 use Rattle.sqlite.specs.Held.{state}
 use Rattle.store_tables.specs.Within.{IsWithin, within_itself}
-use Rattle.store_schema.proofs.Creates.{makes_bodies}
-use Rattle.store_schema.proofs.Texts.{bodies_text}
-use Rattle.store_schema.proofs.Within.{makes_by}
+use Rattle.store_schema.proofs.{Creates.makes_bodies, Texts.bodies_text, Within.makes_by}
 use Rattle.store_schema.proofs.tables.create_bodies.Goals as goal
 
 pub returns-clause-makes : goal.returns-clause-makes

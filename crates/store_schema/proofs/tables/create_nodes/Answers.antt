@@ -1,9 +1,7 @@
 use Rattle.std.proofs.Common.{[], subst, sym}
 use Rattle.sqlite.specs.Held.{state}
 use Rattle.store_tables.specs.Within.{IsWithin, within_itself}
-use Rattle.store_schema.proofs.Creates.{makes_nodes}
-use Rattle.store_schema.proofs.Texts.{nodes_text}
-use Rattle.store_schema.proofs.Within.{makes_by}
+use Rattle.store_schema.proofs.{Creates.makes_nodes, Texts.nodes_text, Within.makes_by}
 use Rattle.store_schema.proofs.tables.create_nodes.Goals as goal
 
 pub returns-clause-makes : goal.returns-clause-makes

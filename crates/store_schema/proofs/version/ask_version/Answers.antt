@@ -1,8 +1,7 @@
 use Rattle.std.proofs.Common.{ap, ◌∙◌}
 use Rattle.store_schema.specs.NewRoom.{number_shown}
 use Rattle.sqlite.specs.Held.{state}
-use Rattle.store_schema.proofs.Asked.{asks_err, asks_ok}
-use Rattle.store_schema.proofs.Unread.{asks_fails}
+use Rattle.store_schema.proofs.{Asked.{asks_err, asks_ok}, Unread.asks_fails}
 use Rattle.store_schema.proofs.version.ask_version.Goals as goal
 
 pub returns-in-Ok-clause-asks : goal.returns-in-Ok-clause-asks

@@ -1,6 +1,5 @@
 use Rattle.std.proofs.Common.{◌≡◌, ◌+◌, ◌≤◌, length}
-use Rattle.room_ace.specs.Lists.{lines_of}
-use Rattle.room_ace.specs.Reading.{lines_after}
+use Rattle.room_ace.specs.{Lists.lines_of, Reading.lines_after}
 use Rattle.room_ace.proofs.list_lines.ListLines.next_line.Given as goal
 
 -- the lines that are passed over say nothing, and each is counted

@@ -1,7 +1,6 @@
 use Rattle.std.proofs.Common.{◌==◌, if◌then◌else◌, Some, None, ap, sym, ◌∙◌, bit_and, eq-eqb}
 use Rattle.std.proofs.lemmas.Bool.{ne_eqb}
-use Rattle.room_entry.specs.Bits.{bits_of}
-use Rattle.room_entry.specs.BitLaws.{number_of-known}
+use Rattle.room_entry.specs.{Bits.bits_of, BitLaws.number_of-known}
 use Rattle.room_entry.proofs.mask.Mask.from_number.Goals as goal
 
 pub returns-then-number : goal.returns-then-number

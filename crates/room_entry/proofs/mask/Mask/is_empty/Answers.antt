@@ -1,6 +1,5 @@
 use Rattle.std.proofs.Common.{ap, sym, ◌∙◌, eq-eqb, eqb-true}
-use Rattle.room_entry.specs.Bits.{bits_of, number_of}
-use Rattle.room_entry.specs.BitLaws.{bits_of-zero, number_of-bits_of}
+use Rattle.room_entry.specs.{Bits.{bits_of, number_of}, BitLaws.{bits_of-zero, number_of-bits_of}}
 use Rattle.room_entry.proofs.mask.Mask.is_empty.Goals as goal
 
 pub returns : goal.returns

@@ -1,6 +1,5 @@
 use Rattle.std.proofs.Common.{ap, sym, ◌∙◌, eq-eqb, eqb-true, nat_eq}
-use Rattle.room_entry.specs.Bits.{bits_of, number_of}
-use Rattle.room_entry.specs.BitLaws.{number_of-bits_of}
+use Rattle.room_entry.specs.{Bits.{bits_of, number_of}, BitLaws.number_of-bits_of}
 use Rattle.room_entry.proofs.Alike.{by_texts}
 use Rattle.room_entry.proofs.mask.Mask.is_same.Goals as goal
 

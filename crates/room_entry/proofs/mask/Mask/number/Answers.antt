@@ -1,6 +1,5 @@
 use Rattle.std.proofs.Common.{ap, sym, ◌∙◌}
-use Rattle.room_entry.specs.Bits.{number_of}
-use Rattle.room_entry.specs.BitLaws.{number_of-bits_of}
+use Rattle.room_entry.specs.{Bits.number_of, BitLaws.number_of-bits_of}
 use Rattle.room_entry.proofs.mask.Mask.number.Goals as goal
 
 pub returns-clause-number : goal.returns-clause-number

@@ -1,6 +1,5 @@
 use Rattle.std.proofs.Common.{ap, ◌∙◌, List, ℕ, filter}
-use Rattle.room_entry.specs.Bits.{bits_of, has}
-use Rattle.room_entry.specs.BitLaws.{bits_of-and, known-and}
+use Rattle.room_entry.specs.{Bits.{bits_of, has}, BitLaws.{bits_of-and, known-and}}
 use Rattle.room_entry.proofs.mask.Mask.shared_with.Goals as goal
 
 pub invariant_of-result : goal.invariant_of-result

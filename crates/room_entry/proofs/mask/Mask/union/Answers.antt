@@ -1,6 +1,5 @@
 use Rattle.std.proofs.Common.{ap, ◌∙◌, List, ℕ, filter, ◌||◌}
-use Rattle.room_entry.specs.Bits.{all_bits, bits_of, has}
-use Rattle.room_entry.specs.BitLaws.{bits_of-or, known-or}
+use Rattle.room_entry.specs.{Bits.{all_bits, bits_of, has}, BitLaws.{bits_of-or, known-or}}
 use Rattle.room_entry.proofs.mask.Mask.union.Goals as goal
 
 pub invariant_of-result : goal.invariant_of-result

@@ -1,7 +1,6 @@
 use Rattle.std.proofs.Common.{ap, ◌∙◌, List, ℕ, filter, not, arith}
 use Rattle.std.specs.Int.{bit_not, w32}
-use Rattle.room_entry.specs.Bits.{bits_of, has}
-use Rattle.room_entry.specs.BitLaws.{bits_of-and_not, known-and, known_le}
+use Rattle.room_entry.specs.{Bits.{bits_of, has}, BitLaws.{bits_of-and_not, known-and, known_le}}
 use Rattle.room_entry.proofs.mask.Mask.without.Goals as goal
 
 pub invariant_of-result : goal.invariant_of-result

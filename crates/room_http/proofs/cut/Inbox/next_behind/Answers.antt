@@ -1,6 +1,5 @@
 use Rattle.std.proofs.Common.{◌∙◌, ap, take, Ok, List, ℕ}
-use Rattle.room_http.specs.Message.{body_size}
-use Rattle.room_http.specs.Spans.{head_at}
+use Rattle.room_http.specs.{Message.body_size, Spans.head_at}
 use Rattle.room_http.proofs.Following.{whole-next, part-next, stopped-next}
 use Rattle.room_http.proofs.cut.Inbox.next_behind.Goals as goal
 

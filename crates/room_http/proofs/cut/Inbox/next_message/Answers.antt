@@ -1,6 +1,5 @@
 use Rattle.std.proofs.Common.{subst}
-use Rattle.room_http.specs.Spans.{HeadNear}
-use Rattle.room_http.specs.declared.cut.HeadRead.{HeadRead}
+use Rattle.room_http.specs.{Spans.HeadNear, declared.cut.HeadRead.HeadRead}
 use Rattle.room_http.proofs.KnownBytes.{came-behind, lost-behind}
 use Rattle.room_http.proofs.cut.Inbox.next_message.Goals as goal
 

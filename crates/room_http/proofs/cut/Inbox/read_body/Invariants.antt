@@ -1,6 +1,5 @@
 use Rattle.std.proofs.Common.{◌+◌, ◌-◌, ◌<◌, length}
-use Rattle.room_http.specs.Limits.{read_size}
-use Rattle.room_http.specs.Spans.{Came}
+use Rattle.room_http.specs.{Limits.read_size, Spans.Came}
 use Rattle.room_http.proofs.cut.Inbox.read_body.Given as goal
 
 abbrev pub invariant-reading : goal.invariant-reading

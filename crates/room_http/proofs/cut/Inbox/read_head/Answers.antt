@@ -1,11 +1,8 @@
-use Rattle.std.proofs.Common.{◌≡◌, ◌+◌, ◌≤◌, subst, sym, ap, ◌∙◌, inr, List, ℕ, Ok, length}
-use Rattle.std.proofs.Common.{arith}
+use Rattle.std.proofs.Common.{◌≡◌, ◌+◌, ◌≤◌, subst, sym, ap, ◌∙◌, inr, List, ℕ, Ok, length, arith}
 use Rattle.std.proofs.lemmas.List.{length-append}
-use Rattle.room_http.specs.Limits.{read_size}
-use Rattle.room_http.proofs.KnownBytes.{Came-then}
-use Rattle.room_http.specs.Spans.{Scans, SpansHead}
+use Rattle.room_http.specs.{Limits.read_size, Spans.{Scans, SpansHead}}
 use Rattle.room_http.specs.declared.cut.HeadScan.{HeadScan}
-use Rattle.room_http.proofs.Near.{near-found, none-or-part, stops-reading}
+use Rattle.room_http.proofs.{KnownBytes.Came-then, Near.{near-found, none-or-part, stops-reading}}
 use Rattle.room_http.proofs.cut.Inbox.read_head.Goals as goal
 
 pub returns-in-Whole-clause-near : goal.returns-in-Whole-clause-near

@@ -1,8 +1,7 @@
-use Rattle.std.proofs.Common.{Global, String, sym, ◌∙◌}
-use Rattle.std.proofs.lemmas.Bool.{not-false, not-true}
+use Rattle.std.proofs.{Common.{Global, String, sym, ◌∙◌}, lemmas.Bool.{not-false, not-true}}
 use Rattle.room_import.proofs.SeenFacts.{key_named, seen_more, seen_same, with_new, with_old}
-use Rattle.room_import.proofs.gathered.Gathered.with.Goals as goal
 use Rattle.room_import.proofs.gathered.Gathered.with.Goals.{then-branch+in_ok-push, else-branch}
+use Rattle.room_import.proofs.gathered.Gathered.with.Goals as goal
 
 pub invariant_of-result : goal.invariant_of-result
 invariant_of-result c =

@@ -1,5 +1,4 @@
-use Rattle.room_remember.specs.Agrees.{AgreesWithRows}
-use Rattle.room_remember.specs.declared.known.Known.TheVariants.{Child}
+use Rattle.room_remember.specs.{Agrees.AgreesWithRows, declared.known.Known.TheVariants.Child}
 use Rattle.room_remember.proofs.Recalling.{recalled}
 use Rattle.room_remember.proofs.memory.Memory.child.Goals as goal
 

@@ -1,5 +1,4 @@
-use Rattle.std.proofs.Common.{ℕ, List, [], ◌∷◌, subst}
-use Rattle.std.proofs.lemmas.List.Concat.{flat_map_single}
+use Rattle.std.proofs.{Common.{ℕ, List, [], ◌∷◌, subst}, lemmas.List.Concat.flat_map_single}
 use Rattle.room_review.specs.Users.{Gathers}
 use Rattle.room_review.proofs.Listed.{gathers_all}
 use Rattle.room_review.proofs.users.Users.add_paired.Goals as goal

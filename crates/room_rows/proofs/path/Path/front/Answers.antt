@@ -1,6 +1,5 @@
-use Rattle.std.proofs.Common.{◌≡◌, arith, subst, sym, take, List, ℕ}
+use Rattle.std.proofs.{Common.{◌≡◌, arith, subst, sym, take, List, ℕ}, lemmas.Grind.common_steps}
 use Rattle.std.specs.Prelude.{IsTrue}
-use Rattle.std.proofs.lemmas.Grind.{common_steps}
 use Rattle.room_rows.specs.Paths.{is_path}
 use Rattle.room_rows.proofs.Cutting.{front_is_path}
 use Rattle.room_rows.proofs.path.Path.front.Goals as goal

@@ -1,8 +1,7 @@
 use Rattle.std.proofs.Common.{ap}
 use Rattle.sqlite.specs.Held.{state}
 use Rattle.room_store.specs.View.{StoreView}
-use Rattle.room_store.proofs.Outlasting.{asked_outlasts}
-use Rattle.room_store.proofs.Retaining.{asked_retains}
+use Rattle.room_store.proofs.{Outlasting.asked_outlasts, Retaining.asked_retains}
 use Rattle.room_store.proofs.Shutting.{asked_keeps, asked_sound, asked_stored}
 use Rattle.room_store.proofs.desk.StoreDesk.is_shut.Goals as goal
 

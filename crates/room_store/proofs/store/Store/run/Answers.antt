@@ -1,17 +1,12 @@
-use Rattle.std.proofs.Common.{IfSome, refl, subst, sym, w64}
-use Rattle.std.proofs.lemmas.Int.{to_z-of_z}
+use Rattle.std.proofs.{Common.{IfSome, refl, subst, sym, w64}, lemmas.Int.to_z-of_z}
 use Rattle.std.specs.Option.{option_copied}
 use Rattle.sqlite.specs.Held.{Held, state}
 use Rattle.room_judge.specs.Closed.{Performs}
 use Rattle.room_machine.specs.Run.{Asked}
 use Rattle.store_tables.specs.Within.{IsSettled}
-use Rattle.room_store.specs.Ran.{HasDamage, Ran}
-use Rattle.room_store.specs.Remembers.{Remembers}
-use Rattle.room_store.proofs.Closing.{closes}
-use Rattle.room_store.proofs.Leading.{performed}
-use Rattle.room_store.proofs.Recalled.{agrees_at, begun_with, look_ran, look_remembers}
-use Rattle.room_store.proofs.Transact.{ran}
-use Rattle.room_store.proofs.Turning.{stands}
+use Rattle.room_store.specs.{Ran.{HasDamage, Ran}, Remembers.Remembers}
+use Rattle.room_store.proofs.{Closing.closes, Leading.performed, Recalled.{agrees_at, begun_with}}
+use Rattle.room_store.proofs.{Recalled.{look_ran, look_remembers}, Transact.ran, Turning.stands}
 use Rattle.room_store.proofs.Writing.{written}
 use Rattle.room_store.proofs.store.Store.run.Goals as goal
 

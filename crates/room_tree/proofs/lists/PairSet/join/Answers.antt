@@ -1,7 +1,6 @@
 use Rattle.std.proofs.Common.{◌≡◌, ◌<◌, ◌++◌, ◌∙◌, ℕ, List, false, true, sym, ap, subst, arith}
 use Rattle.std.proofs.Common.{take, drop, length, get_or}
-use Rattle.std.specs.List.{insert}
-use Rattle.std.specs.List.Sorted.{IsStrictlySortedBy}
+use Rattle.std.specs.List.{insert, Sorted.IsStrictlySortedBy}
 use Rattle.room_rows.specs.Content.{is_pair_before, put_pair, set_of}
 use Rattle.room_tree.specs.Pairs.{pair_cmp, is_same_pair}
 use Rattle.room_tree.proofs.Paired.{put_in_place, put_there, put_last, put_sorted, sorted_set}

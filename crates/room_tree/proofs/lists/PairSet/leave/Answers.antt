@@ -1,10 +1,9 @@
-use Rattle.std.proofs.Common.{◌≡◌, ◌∙◌, ℕ, List, not, filter, sym, ap, subst}
-use Rattle.std.specs.List.Sorted.{IsStrictlySortedBy}
+use Rattle.std.proofs.Common.{◌≡◌, ◌∙◌, ℕ, List, not, filter, sym, ap, subst, rules}
 use Rattle.std.proofs.lemmas.Fn.{filter_same}
+use Rattle.std.specs.List.Sorted.{IsStrictlySortedBy}
 use Rattle.room_rows.specs.Content.{set_of}
 use Rattle.room_tree.specs.Pairs.{pair_cmp, is_same_pair}
 use Rattle.room_tree.proofs.Paired.{filter_sorted, sorted_set}
-use Rattle.std.proofs.Common.{rules}
 use Rattle.room_tree.proofs.lists.PairSet.leave.Goals as goal
 
 left : (c : goal.After-retain)

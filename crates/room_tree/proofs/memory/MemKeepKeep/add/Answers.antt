@@ -1,9 +1,7 @@
 use Rattle.std.proofs.Common.{◌≡◌, ◌∙◌, ◌+◌, ap, refl, arith, if◌then◌else◌}
 use Rattle.room_entry.specs.Valid.{is_document}
-use Rattle.room_rows.specs.declared.keep.KeepFault.TheVariants.{Memory}
-use Rattle.room_rows.specs.Content.{put_body, put_node}
-use Rattle.room_rows.specs.Finding.{find_id}
-use Rattle.room_rows.specs.Keep.{node_of}
+use Rattle.room_rows.specs.{declared.keep.KeepFault.TheVariants.Memory, Content.put_body}
+use Rattle.room_rows.specs.{Content.put_node, Finding.find_id, Keep.node_of}
 use Rattle.room_tree.specs.Objects.{greatest}
 use Rattle.room_tree.proofs.Changed.{added, added_rows, node_rows, none_past, err_writes}
 use Rattle.room_tree.proofs.Changed.{err_becomes, err_fault}

@@ -1,6 +1,5 @@
 use Rattle.std.proofs.Common.{◌≡◌, ◌∙◌, Some, sym, ap, refl, arith}
-use Rattle.room_rows.specs.Finding.{find_id}
-use Rattle.room_rows.specs.Keep.{with_owners}
+use Rattle.room_rows.specs.{Finding.find_id, Keep.with_owners}
 use Rattle.room_tree.proofs.Changed.{stands_owned, keeps_rows, changes}
 use Rattle.room_tree.proofs.memory.MemKeepKeep.set_owners.Goals as goal
 

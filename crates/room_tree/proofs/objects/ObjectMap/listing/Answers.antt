@@ -1,8 +1,7 @@
 use Rattle.std.proofs.Common.{◌∙◌, ◌++◌, List, ℕ, map, sym, ap}
 use Rattle.std.specs.Option.{option_copied}
 use Rattle.room_entry.specs.declared.object.ObjKind.{ObjKind}
-use Rattle.room_tree.specs.Objects.{named_kind}
-use Rattle.room_tree.specs.Places.{standing, standing_under}
+use Rattle.room_tree.specs.{Objects.named_kind, Places.{standing, standing_under}}
 use Rattle.room_tree.proofs.Tying.{children_listed, named_more}
 use Rattle.room_tree.proofs.objects.ObjectMap.listing.Goals as goal
 

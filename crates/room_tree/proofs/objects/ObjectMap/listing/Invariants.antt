@@ -1,7 +1,6 @@
 use Rattle.std.proofs.Common.{◌≡◌, ◌++◌, filter, map}
 use Rattle.room_rows.specs.Content.{has_parent, sorted_by_name}
-use Rattle.room_tree.specs.Objects.{named_kind}
-use Rattle.room_tree.specs.Places.{standing_under}
+use Rattle.room_tree.specs.{Objects.named_kind, Places.standing_under}
 use Rattle.room_tree.proofs.objects.ObjectMap.listing.Given as goal
 
 -- the children so far, and those that are listed among the places that are left

@@ -1,5 +1,4 @@
-use Rattle.std.proofs.Common.{◌∙◌, ap, string_bytes}
-use Rattle.std.proofs.lemmas.Result.{IfOk-weaker}
+use Rattle.std.proofs.{Common.{◌∙◌, ap, string_bytes}, lemmas.Result.IfOk-weaker}
 use Rattle.room_rows.specs.Finding.{find_named}
 use Rattle.room_tree.proofs.objects.ObjectMap.named.Goals as goal
 

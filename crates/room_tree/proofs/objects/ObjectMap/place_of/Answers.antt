@@ -1,6 +1,5 @@
 use Rattle.std.proofs.Common.{◌≡◌, ◌∙◌, Some, sym, ap}
-use Rattle.std.specs.Prelude.{option_and_then}
-use Rattle.std.specs.Option.{option_copied, option_map}
+use Rattle.std.specs.{Prelude.option_and_then, Option.{option_copied, option_map}}
 use Rattle.room_rows.specs.Finding.{find_id}
 use Rattle.room_tree.specs.Objects.{place_of}
 use Rattle.room_tree.proofs.Tying.{found_at, place_is}

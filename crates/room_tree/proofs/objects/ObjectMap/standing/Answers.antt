@@ -1,10 +1,8 @@
 use Rattle.std.proofs.Common.{◌∙◌, ◌&&◌, sym, ap}
 use Rattle.std.specs.Option.{option_copied}
 use Rattle.room_entry.specs.Pieces.{same_text}
-use Rattle.room_rows.specs.declared.node.Node.{Node}
-use Rattle.room_rows.specs.Content.{has_parent}
-use Rattle.room_tree.proofs.Found.{missing, passing}
-use Rattle.room_tree.proofs.Tying.{found_at, stands_not}
+use Rattle.room_rows.specs.{declared.node.Node.Node, Content.has_parent}
+use Rattle.room_tree.proofs.{Found.{missing, passing}, Tying.{found_at, stands_not}}
 use Rattle.room_tree.proofs.objects.ObjectMap.standing.Goals as goal
 
 pub returns-in-None : goal.returns-in-None

@@ -1,6 +1,5 @@
 use Rattle.std.proofs.Common.{◌∙◌, ap}
-use Rattle.std.specs.Prelude.{is_some}
-use Rattle.std.specs.Option.{option_map}
+use Rattle.std.specs.{Prelude.is_some, Option.option_map}
 use Rattle.room_tree.specs.Places.{text_place}
 use Rattle.room_tree.proofs.Tying.{found_at, tied_taken, taken_view}
 use Rattle.room_tree.proofs.objects.ObjectMap.take.Goals as goal

@@ -1,8 +1,6 @@
 use Rattle.std.proofs.Common.{◌≡◌, Some, None, Option, ℕ, List, ap, ◌∙◌, String, string_bytes, ◌==◌}
-use Rattle.std.specs.Prelude.{◌&&◌}
-use Rattle.std.specs.List.{AllZip}
-use Rattle.std.specs.Option.{MatchOption, IsSomeAnd}
 use Rattle.std.proofs.lemmas.Map.Entries.{lookup_clone}
+use Rattle.std.specs.{Prelude.◌&&◌, List.AllZip, Option.{MatchOption, IsSomeAnd}}
 use Rattle.room_entry.specs.Pieces.{same_text}
 use Rattle.room_tree.specs.Places.{id_at, is_place}
 use Rattle.room_tree.proofs.places.Places.copy.Goals as goal
