@@ -98,9 +98,8 @@ write_systemctl() {
 step "systemctl $*"
 PATH=${PATH#*:}
 read -r pid <"$STAND/pid"
-alive() {
-  [ -n "$pid" ] && kill -0 "$pid" 2>/dev/null && ! grep -q ') Z ' "/proc/$pid/stat" 2>/dev/null
-}
+# One that has ended may go while it is looked at.
+alive() { [ -n "$pid" ] && grep -q ') [^ZX] ' "/proc/$pid/stat" 2>/dev/null; }
 serve() {
   if [ -e "$STAND/no-answer" ]; then
     setsid sleep 600 </dev/null >/dev/null 2>&1 &
