@@ -1,10 +1,9 @@
 -- Calls of a keeper one after the other, in the form in which a request is carried out.
-use Rattle.std.proofs.Common.{◌≡◌, ℕ, ◌+◌, ◌≤◌, Result, Ok, Err, IfOk, IfErr, length, sym, subst}
-use Rattle.std.proofs.{Common.arith, lemmas.Bool.Decides.nat_tests}
+use Rattle.std.proofs.Common.{◌≡◌, ℕ, ◌+◌, ◌≤◌, Result, Ok, Err, length, arith}
+use Rattle.std.proofs.lemmas.Bool.Decides.{nat_tests}
 use Rattle.std.specs.Result.{IsErrAnd}
-use Rattle.room_rows.specs.declared.keep.KeepFault.{KeepFault, TheVariants.{Memory, Store, Damaged}}
-use Rattle.room_rows.specs.{Keep.{HasCause, IsRead, IsWriteOf, KeepLaws, writes_after}, Rows.Rows}
-use Rattle.room_rows.specs.Rows.{AreRows}
+use Rattle.room_rows.specs.declared.keep.KeepFault.{KeepFault, TheVariants.{Memory, Damaged}}
+use Rattle.room_rows.specs.{Keep.{IsRead, IsWriteOf, KeepLaws}, Rows.{Rows, AreRows}}
 use Rattle.room_rows.proofs.Steps.{later_cause}
 use Rattle.room_judge.specs.Extent.{Extent, OnlyRecords, UpTo, StaysWithin, Unsaid, unrecorded}
 use Rattle.room_judge.specs.Judged.{IsDone}
@@ -41,22 +40,7 @@ module _ {S : Type 0} {rows : S → Rows} {failures writes : S → ℕ}
       → count + length old.read.audits ≤ length new.read.audits + more)
       → IsDone rows failures writes Follows IsTrusted (λ _. UpTo Suffices) a b r Blames Becomes
   of_change {count = count} {X = X} {a = a} {b = b} {r = r} {Suffices = Suffices}
-      {Becomes = Becomes} write suffices =
-      record {
-        follows = write.follows;
-        becomes = write.becomes;
-        few = λ t. kept r write.written (write.becomes t);
-        fault = write.fault;
-      }
-    where
-      kept : (r : Result X KeepFault) → writes b ≡ writes_after count r (writes a)
-          → IfOk r (λ x. Becomes (rows a) x (rows b))
-          → IfOk r (λ _. StaysWithin rows writes (UpTo Suffices) a b)
-      kept (Ok x) written becomes =
-          λ more enough. written_up_to (writes a) (writes b) count (length (rows a).read.audits)
-          (length (rows b).read.audits) more written
-          (suffices (rows a) x (rows b) more becomes enough)
-      kept (Err e) written becomes = tt
+      {Becomes = Becomes} write suffices = grind (arith, nat_tests, written_up_to)
 
   -- the same, and nothing is said of how much is written
   pub of_write : {count : ℕ} {X : Type 0} {a b : S} {r : Result X KeepFault}
@@ -73,33 +57,7 @@ module _ {S : Type 0} {rows : S → Rows} {failures writes : S → ℕ}
       → ((old : Rows) (x : X) (new : Rows) → Becomes old x new → Becomes' old x new)
       → IsDone rows failures writes Follows IsTrusted extent a b r Blames' Becomes'
   as_well {X = X} {a = a} {b = b} {r = r} {Blames = Blames} {Blames' = Blames'} {Becomes = Becomes}
-      {Becomes' = Becomes'} call blames joins =
-      record {
-        follows = call.follows;
-        becomes = λ t. joined r (call.becomes t);
-        few = call.few;
-        fault = cause r call.fault;
-      }
-    where
-      joined : (r : Result X KeepFault) → IfOk r (λ x. Becomes (rows a) x (rows b))
-          → IfOk r (λ x. Becomes' (rows a) x (rows b))
-      joined (Ok x) h = joins (rows a) x (rows b) h
-      joined (Err e) h = tt
-
-      blamed : (e : KeepFault)
-          → HasCause (failures a) (failures b) (λ row. IsTrusted a b → Blames (rows a) row) e
-          → HasCause (failures a) (failures b) (λ row. IsTrusted a b → Blames' (rows a) row) e
-      blamed Memory h = tt
-      blamed Store h = h
-      blamed (Damaged id) h = λ t. blames (rows a) id (h t)
-
-      cause : (r : Result X KeepFault)
-          → IfErr r
-          (HasCause (failures a) (failures b) (λ row. IsTrusted a b → Blames (rows a) row))
-          → IfErr r
-          (HasCause (failures a) (failures b) (λ row. IsTrusted a b → Blames' (rows a) row))
-      cause (Ok x) h = tt
-      cause (Err e) h = blamed e h
+      {Becomes' = Becomes'} call blames joins = grind (arith, nat_tests)
 
   -- calls that answered, as part of others
   pub done : {X : Type 0} {extent : X → Extent} {a b : S} {x : X} {Blames : Rows → ℕ → Type 0}
@@ -162,37 +120,7 @@ module _ {S : Type 0} {rows : S → Rows} {failures writes : S → ℕ}
         → IsDone rows failures writes Follows IsTrusted extent a c r Blames' Becomes
     tail {X = X} {extent = extent} {a = a} {b = b} {c = c} {r = r} {Blames = Blames}
         {Blames' = Blames'} {After = After} {Becomes = Becomes} before after blames joins =
-        record {
-          follows = laws.on a b c before.follows after.follows;
-          becomes =
-              λ t. joined r (λ x. joins (rows a) (rows b) x (rows c)
-              (before.becomes (laws.first a b c before.follows after.follows t)))
-              (after.becomes (laws.last a b c before.follows after.follows t));
-          few =
-              λ t. within_later rows writes extent a b c r
-              (before.few (laws.first a b c before.follows after.follows t))
-              (after.few (laws.last a b c before.follows after.follows t));
-          fault = cause r after.fault;
-        }
-      where
-        joined : (r : Result X KeepFault)
-            → ((x : X) → After (rows b) x (rows c) → Becomes (rows a) x (rows c))
-            → IfOk r (λ x. After (rows b) x (rows c)) → IfOk r (λ x. Becomes (rows a) x (rows c))
-        joined (Ok x) on h = on x h
-        joined (Err e) on h = tt
-
-        cause : (r : Result X KeepFault)
-            → IfErr r (HasCause (failures b) (failures c)
-            (λ row. IsTrusted b c → Blames (rows b) row))
-            → IfErr r (HasCause (failures a) (failures c)
-            (λ row. IsTrusted a c → Blames' (rows a) row))
-        cause (Ok x) h = tt
-        cause (Err e) h =
-            later_cause (failures a) (failures b) (failures c) e _ _ (laws.rise a b before.follows)
-            (laws.rise b c after.follows)
-            (λ row damaged t. blames (rows a) (rows b) row
-            (before.becomes (laws.first a b c before.follows after.follows t))
-            (damaged (laws.last a b c before.follows after.follows t))) h
+        grind (arith, nat_tests, later_cause, within_later)
 
     -- the same for rows with their numbers in order
     pub tail_known : {X : Type 0} {extent : X → Extent} {a b c : S} {r : Result X KeepFault}
@@ -206,37 +134,7 @@ module _ {S : Type 0} {rows : S → Rows} {failures writes : S → ℕ}
         → IsDone rows failures writes Follows IsTrusted extent a c r Blames' Becomes
     tail_known {X = X} {extent = extent} {a = a} {b = b} {c = c} {r = r} {Blames = Blames}
         {Blames' = Blames'} {After = After} {Becomes = Becomes} before after blames joins =
-        record {
-          follows = laws.on a b c before.follows after.follows;
-          becomes =
-              λ t. joined r (λ x. joins (rows a) (rows b) x (rows c) (laws.are a c t)
-              (before.becomes (laws.first a b c before.follows after.follows t)))
-              (after.becomes (laws.last a b c before.follows after.follows t));
-          few =
-              λ t. within_later rows writes extent a b c r
-              (before.few (laws.first a b c before.follows after.follows t))
-              (after.few (laws.last a b c before.follows after.follows t));
-          fault = cause r after.fault;
-        }
-      where
-        joined : (r : Result X KeepFault)
-            → ((x : X) → After (rows b) x (rows c) → Becomes (rows a) x (rows c))
-            → IfOk r (λ x. After (rows b) x (rows c)) → IfOk r (λ x. Becomes (rows a) x (rows c))
-        joined (Ok x) on h = on x h
-        joined (Err e) on h = tt
-
-        cause : (r : Result X KeepFault)
-            → IfErr r (HasCause (failures b) (failures c)
-            (λ row. IsTrusted b c → Blames (rows b) row))
-            → IfErr r (HasCause (failures a) (failures c)
-            (λ row. IsTrusted a c → Blames' (rows a) row))
-        cause (Ok x) h = tt
-        cause (Err e) h =
-            later_cause (failures a) (failures b) (failures c) e _ _ (laws.rise a b before.follows)
-            (laws.rise b c after.follows)
-            (λ row damaged t. blames (rows a) (rows b) row (laws.are a c t)
-            (before.becomes (laws.first a b c before.follows after.follows t))
-            (damaged (laws.last a b c before.follows after.follows t))) h
+        grind (arith, nat_tests, later_cause, within_later)
 
     -- a call has a fault, which is handed on
     pub fails : {X Y : Type 0} {first : Extent} {last : X → Extent} {extent : Y → Extent}
@@ -250,22 +148,7 @@ module _ {S : Type 0} {rows : S → Rows} {failures writes : S → ℕ}
         → IsDone rows failures writes Follows IsTrusted extent a c r Blames' Becomes
     fails before after blames (Ok y) is = absurd is
     fails {a = a} {b = b} {c = c} {e = e} {Blames = Blames} {Blames' = Blames'} before after blames
-        (Err f) is =
-        record {
-          follows = laws.on a b c before.follows after.follows;
-          becomes = λ t. tt;
-          few = λ t. tt;
-          fault =
-              subst (HasCause (failures a) (failures c)
-              (λ row. IsTrusted a c → Blames' (rows a) row))
-              (sym is)
-              (later_cause (failures a) (failures b) (failures c) e _ _
-              (laws.rise a b before.follows)
-              (laws.rise b c after.follows)
-              (λ row damaged t. blames (rows a) (rows b) row
-              (before.becomes (laws.first a b c before.follows after.follows t))
-              (damaged (laws.last a b c before.follows after.follows t))) after.fault);
-        }
+        (Err f) is = grind (arith, nat_tests, later_cause)
 
     -- memory ran out after them
     pub memory : {Y : Type 0} {first : Extent} {extent : Y → Extent} {a b : S}

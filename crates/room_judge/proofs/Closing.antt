@@ -6,15 +6,12 @@ use Rattle.room_entry.specs.declared.parties.Caller.{Caller}
 use Rattle.room_eval.specs.declared.outcome.Verdict.{Verdict, TheVariants.Granted}
 use Rattle.room_eval.specs.declared.outcome.Verdict.TheVariants.{Denied as DeniedWith}
 use Rattle.room_eval.specs.declared.deletion.DeleteVerdict.{DeleteVerdict}
-use Rattle.room_eval.specs.declared.deletion.DeleteVerdict.TheVariants.{Granted as MayDelete}
-use Rattle.room_eval.specs.declared.deletion.DeleteVerdict.TheVariants.{AtTarget, AtParent}
 use Rattle.room_rows.specs.{Content.Content, Keep.with_content, Rows.Rows}
 use Rattle.room_machine.specs.declared.reply.{Reply.{Reply, TheVariants.Refused}, Reason.Reason}
 use Rattle.room_machine.specs.declared.{reply.Reason.TheVariants.NotEmpty, request.Request.Request}
 use Rattle.room_machine.specs.{declared.request.Request.TheVariants.Remove, Site.{Site, site_at}}
-use Rattle.room_machine.specs.{Plan.{Item, Check, Deletion, Refusal}, Judge.failure}
-use Rattle.room_machine.specs.Judge.{first_failure, of_deletion, of_verdict, or_else}
-use Rattle.room_machine.specs.{Judge.records_of_plan, Stored.{stored_along, stored_plan}}
+use Rattle.room_machine.specs.{Plan.Item, Judge.{failure, first_failure, of_deletion, of_verdict}}
+use Rattle.room_machine.specs.{Judge.{or_else, records_of_plan}, Stored.{stored_along, stored_plan}}
 use Rattle.room_machine.specs.{Changed.IsChanged, Closed.{IsShown, only_reads, failure_told}}
 use Rattle.room_judge.specs.{declared.asker.Asker.Asker, Judged.{IsJudged, with_notes}}
 use Rattle.room_judge.specs.Closed.{IsClosed}
@@ -29,9 +26,7 @@ verdict_told site Granted = tt
 verdict_told site (DeniedWith bits place) = refl
 
 deletion_told : (target parent : Site) (v : DeleteVerdict) → IsTold (of_deletion target parent v)
-deletion_told target parent (MayDelete by_add) = tt
-deletion_told target parent (AtTarget place) = refl
-deletion_told target parent (AtParent bits place) = refl
+deletion_told target parent v = grind (arith, nat_tests)
 
 refusal_told : (path : List (List ℕ)) (why : Reason) (holds : Bool)
     → IsTold (if holds then Some (Refused path why) else None)
@@ -39,9 +34,7 @@ refusal_told path why true = refl
 refusal_told path why false = tt
 
 item_told : (caller : Caller) (item : Item) → IsTold (failure caller item)
-item_told caller (Check site bits) = verdict_told site _
-item_told caller (Deletion target parent) = deletion_told target parent _
-item_told caller (Refusal at why holds) = refusal_told at why holds
+item_told caller item = grind (arith, nat_tests, deletion_told, refusal_told, verdict_told)
 
 either_told : (a b : Option Reply) → IsTold a → IsTold b → IsTold (or_else a b)
 either_told None b first second = second
@@ -49,8 +42,7 @@ either_told (Some reply) b first second = first
 
 first_told : (caller : Caller) (items : List Item) → IsTold (first_failure caller items)
 first_told caller [] = tt
-first_told caller (item ∷ items) = either_told (failure caller item) (first_failure caller items)
-    (item_told caller item) (first_told caller items)
+first_told caller (item ∷ items) = search (either_told, item_told, first_told caller items)
 
 -- what an item answers is a denial or a refusal
 pub is_told : (caller : Caller) (items : List Item) (reply : Reply)

@@ -8,13 +8,12 @@ use Rattle.room_rows.specs.{declared.node.{AuditRow.AuditRow, Node.Node}, Conten
 use Rattle.room_rows.specs.Rows.{Rows}
 use Rattle.room_judge.specs.declared.arrival.{Both.Both, Found.Found, Under.Under}
 use Rattle.room_judge.specs.{declared.asker.Asker.Asker, Stored.found_site, Halted.both_with}
-use Rattle.room_judge.specs.Judged.{IsJudged, IsReached, child_below, name_after, through}
-use Rattle.room_judge.specs.Spot.{IsPaired, IsSpotted, SpotsUnder, spot_of}
-use Rattle.room_machine.specs.declared.reply.{Reply.{Reply, TheVariants.Refused}, Reason.Reason}
-use Rattle.room_machine.specs.{declared.reply.Reason.TheVariants.NoSuch, Site.{Site, front}}
-use Rattle.room_machine.specs.{Site.last_name, Plan.{Item, Refusal, way, where_found}}
-use Rattle.room_machine.specs.{Judge.{first_failure, or_else, records_of_plan}, Stored.stored_site}
-use Rattle.room_machine.specs.Stored.{stored_along, to_stored}
+use Rattle.room_judge.specs.{Judged.{IsJudged, IsReached, child_below, through}, Spot.IsPaired}
+use Rattle.room_judge.specs.Spot.{IsSpotted, SpotsUnder, spot_of}
+use Rattle.room_machine.specs.declared.reply.{Reply.Reply, Reason.{Reason, TheVariants.NoSuch}}
+use Rattle.room_machine.specs.{Site.{Site, front, last_name}, Plan.{Item, Refusal, way}}
+use Rattle.room_machine.specs.{Plan.where_found, Judge.{first_failure, or_else, records_of_plan}}
+use Rattle.room_machine.specs.Stored.{stored_site, stored_along, to_stored}
 use Rattle.room_judge.proofs.Judging.{failure_of_parts, records_of_parts, fails_first, passes_first}
 use Rattle.room_judge.proofs.{Judging.{refuses, passes_on, judged_none}, Ways.plain_way}
 use Rattle.room_judge.proofs.Spots.{below_of, missing, last_look, stem, way_along, folder_along}
@@ -44,9 +43,7 @@ or_none (Some reply) = refl
 module _ (asker : Asker) (items : List Item) (path : List (List ℕ)) (why : Reason) where
   same_failure : first_failure asker.caller (items ++ Refusal path why false ∷ [])
       ≡ first_failure asker.caller items
-  same_failure =
-      failure_of_parts asker.caller asker.moment items (Refusal path why false ∷ [])
-      ∙ or_none (first_failure asker.caller items)
+  same_failure = search (failure_of_parts, or_none)
 
   same_records : records_of_plan asker.caller asker.moment (items ++ Refusal path why false ∷ [])
       ≡ records_of_plan asker.caller asker.moment items
@@ -115,45 +112,20 @@ module _ (asker : Asker) (path : List (List ℕ)) (some : 0 < length path) where
     -- a walk that came to the folder has the spot that is found there, barred or not
     pub spot_on : (new : Rows) (outcome : Result Under Reply)
         → SpotsUnder asker path from mid outcome new → IsSpotted asker path old outcome new
-    spot_on new (Err reply) under = record {
-      judged =
-          subst (λ items. IsJudged asker items old (Some reply) new)
-          (sym (way_along old.read true path some))
-          (fails_first asker (stem old.read path) (last_look old.read true path) old new reply
-          (stem_judged new (Some reply) under.judged));
-      folder = tt;
-      child = tt;
-    }
+    spot_on new (Err reply) under = search (fails_first, last_look, stem, stem_judged, way_along)
     spot_on new (Ok spot) under = record {
-      judged =
-          subst (λ items. IsJudged asker items old None new)
-          (sym (way_along old.read true path some
-          ∙ ap (λ items. stem old.read path ++ items) look_is))
-          (passes_first asker (stem old.read path)
-          (Refusal ((found_site path from).path ++ last_name path ∷ []) NoSuch false ∷ []) old new
-          new None (stem_judged new None under.judged)
-          (passes_on asker ((found_site path from).path ++ last_name path ∷ []) NoSuch false
-          [] new new None refl (judged_none asker new new refl)));
-      folder =
-          folder_found old.read path some ∙ at_folder
-          ∙ ap (λ (f : Found). Some (found_site path f)) (sym under.folder);
-      child =
-          target_found old.read path some ∙ reached_child
-          ∙ ap (option_map (stored_site path)) (sym child_is);
+      judged = search (judged_none, look_is, passes_first, passes_on, stem, stem_judged, way_along);
+      folder = grind (arith, nat_tests, at_folder, folder_found);
+      child = search (child_is, reached_child, target_found);
     }
       where
         child_is : spot.child ≡ child_of old.read node.id (last_name path)
-        child_is =
-            under.child ∙ ap (λ (r : Rows). child_of r.read node.id (name_after path depth))
-            reached.judged.notes ∙ ap (child_of old.read node.id) (name_is_last path depth deep)
+        child_is = grind (arith, nat_tests, name_is_last)
 
         reached_child : option_and_then (below_of old.read (last_name path))
             (folder_along old.read path)
             ≡ option_map (stored_site path) (child_of old.read node.id (last_name path))
-        reached_child =
-            ap (option_and_then (below_of old.read (last_name path))) reached.found
-            ∙ ap (λ p. option_map (stored_site p) (child_of old.read node.id (last_name path)))
-            (path_parts path some)
+        reached_child = grind (arith, nat_tests, below_of, path_parts)
 
   -- ---- an object that has to be there
 
@@ -162,22 +134,11 @@ module _ (asker : Asker) (path : List (List ℕ)) (some : 0 < length path) where
       (judged : IsJudged asker (way true (stored_along old.read path) path) old answer new) where
     on_stem : (o : Option Site) → folder_along old.read path ≡ o
         → IsJudged asker (stem old.read path) old answer new
-    on_stem None is =
-        subst (λ items. IsJudged asker items old answer new)
-        (way_along old.read true path some
-        ∙ ap (λ o. stem old.read path ++ where_found o
-        (λ site. missing old.read true (last_name path) site ∷ [])) is
-        ∙ append-nil (stem old.read path)) judged
+    on_stem None is = grind (arith, nat_tests, append-nil, missing, stem, way_along)
     on_stem (Some site) is =
         without_last asker (stem old.read path)
         (site.path ++ last_name path ∷ []) NoSuch old new answer
-        (subst (λ items. IsJudged asker items old answer new)
-        (way_along old.read true path some
-        ∙ ap (λ o. stem old.read path ++ where_found o
-        (λ s. missing old.read true (last_name path) s ∷ [])) is
-        ∙ ap (λ t. stem old.read path ++ Refusal (site.path ++ last_name path ∷ []) NoSuch t ∷ [])
-        (and-false (is_none (child_of old.read site.node.id (last_name path)))))
-        judged)
+        (grind (arith, nat_tests, and-false, missing, stem, way_along))
 
     -- where the last name may be absent, only the way to the folder and through it was judged
     pub stem_of : IsJudged asker (stem old.read path) old answer new
@@ -186,16 +147,7 @@ module _ (asker : Asker) (path : List (List ℕ)) (some : 0 < length path) where
   -- where the spot is barred, the walk to the object and its folder halts with the same reply
   pub pair_barred : (old new : Rows) (reply : Reply) → IsSpotted asker path old (Err reply) new
       → IsPaired asker path old (Err reply) new
-  pair_barred old new reply spotted = record {
-    judged =
-        subst (λ items. IsJudged asker items old (Some reply) new)
-        (sym (way_along old.read false path some))
-        (fails_first asker (stem old.read path) (last_look old.read false path) old new reply
-        (stem_of old new (Some reply) spotted.judged));
-    folder = tt;
-    target = tt;
-    depth = tt;
-  }
+  pair_barred old new reply spotted = search (fails_first, last_look, stem, stem_of, way_along)
 
   module _ (old new : Rows) (folder : Found) (child : Option Node)
       (spotted : IsSpotted asker path old (spot_of folder child) new) where
@@ -207,9 +159,7 @@ module _ (asker : Asker) (path : List (List ℕ)) (some : 0 < length path) where
     folder_is = sym (folder_found old.read path some) ∙ spotted.folder
 
     whole : (found_site path folder).path ++ last_name path ∷ [] ≡ path
-    whole =
-        ap (λ (p : List (List ℕ)). p ++ last_name path ∷ [])
-        (folder_path old.read path (found_site path folder) folder_is) ∙ path_parts path some
+    whole = cc (folder_path old.read path (found_site path folder) folder_is, path_parts path some)
 
     missing_is : (o : Option Node)
         → option_map (stored_site path) (child_of old.read folder.node.id (last_name path))
@@ -219,10 +169,7 @@ module _ (asker : Asker) (path : List (List ℕ)) (some : 0 < length path) where
       where
         on : (a b : Option Node) → option_map (stored_site path) a ≡ option_map (stored_site path) b
             → is_none a ≡ is_none b
-        on None None same = refl
-        on None (Some y) same = absurd (let wrong : ⊥ = cc in wrong)
-        on (Some x) None same = absurd (let wrong : ⊥ = cc in wrong)
-        on (Some x) (Some y) same = refl
+        on a b same = grind (arith, nat_tests)
 
     -- nothing in that folder has the last name exactly if the spot has no child
     pub lacks : is_none (child_of old.read folder.node.id (last_name path)) ≡ is_none child
@@ -235,33 +182,14 @@ module _ (asker : Asker) (path : List (List ℕ)) (some : 0 < length path) where
     pub way_looks : (answer : Option Reply)
         → IsJudged asker (Refusal path NoSuch (is_none child && true) ∷ []) new answer new
         → IsJudged asker (way false (stored_along old.read path) path) old answer new
-    way_looks answer judged =
-        subst (λ items. IsJudged asker items old answer new)
-        (sym (way_along old.read false path some
-        ∙ ap (λ items. stem old.read path ++ items) look_says))
-        (passes_first asker (stem old.read path)
-        (Refusal path NoSuch (is_none child && true) ∷ []) old new new answer
-        (stem_of old new None spotted.judged) judged)
+    way_looks answer judged = search (look_says, passes_first, stem, stem_of, way_along)
 
   -- what has to be there is found, or the walk is refused
   pub both_found : (old new : Rows) (folder : Found) (child : Option Node)
       → IsSpotted asker path old (spot_of folder child) new
       → IsPaired asker path old (both_with path folder child) new
-  both_found old new folder (Some node) spotted = record {
-    judged =
-        way_looks old new folder (Some node) spotted None
-        (passes_on asker path NoSuch false [] new new None refl (judged_none asker new new refl));
-    folder = spotted.folder;
-    target = spotted.child;
-    depth = refl;
-  }
-  both_found old new folder None spotted = record {
-    judged = way_looks old new folder None spotted (Some (Refused path NoSuch))
-        (refuses asker path NoSuch true [] new new (Refused path NoSuch) refl refl refl);
-    folder = tt;
-    target = tt;
-    depth = tt;
-  }
+  both_found old new folder (Some node) spotted = search (judged_none, passes_on, way_looks)
+  both_found old new folder None spotted = search (refuses, way_looks)
 
 -- ---- in terms of the calls
 
@@ -286,17 +214,14 @@ module _ (asker : Asker) (path : List (List ℕ)) (depth : ℕ) (deep : length p
   pub spot_barred : (old new : Rows) (reply : Reply)
       → IsReached asker (take depth path) (λ _. []) old (Err reply) new
       → IsSpotted asker path old (Err reply) new
-  spot_barred old new reply reached =
-      spot_ends asker path some old new reply (walked_front (Err reply) old new reached)
+  spot_barred old new reply reached = search (some, spot_ends, walked_front)
 
   -- a walk to the folder, and what follows it
   pub spot_follows : (node : Node) (old mid new : Rows) (outcome : Result Under Reply)
       → IsReached asker (take depth path) (λ _. []) old (Ok node) mid
       → SpotsUnder asker path (record { node = node; depth = depth }) mid outcome new
       → IsSpotted asker path old outcome new
-  spot_follows node old mid new outcome reached spots =
-      spot_on asker path some node depth deep old mid (walked_front (Ok node) old mid reached) new
-      outcome spots
+  spot_follows node old mid new outcome reached spots = search (some, spot_on, walked_front)
 
 -- the walk to the object alone
 abbrev pub target_in : Result Both Reply → Result Node Reply
@@ -307,15 +232,5 @@ target_in (Err reply) = Err reply
 pub pair_reached : (asker : Asker) (path : List (List ℕ)) (outcome : Result Both Reply)
     (old new : Rows) → IsPaired asker path old outcome new
     → IsReached asker path (λ _. []) old (target_in outcome) new
-pair_reached asker path (Ok pair) old new paired =
-    record {
-      judged = subst (λ items. IsJudged asker items old None new)
-          (sym (plain_way asker path old)) paired.judged;
-      found = paired.target;
-    }
-pair_reached asker path (Err reply) old new paired =
-    record {
-      judged = subst (λ items. IsJudged asker items old (Some reply) new)
-          (sym (plain_way asker path old)) paired.judged;
-      found = tt;
-    }
+pair_reached asker path (Ok pair) old new paired = search (plain_way)
+pair_reached asker path (Err reply) old new paired = search (plain_way)

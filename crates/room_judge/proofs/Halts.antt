@@ -1,6 +1,5 @@
 -- Calls that may be refused, one after the other.
-use Rattle.std.proofs.Common.{◌≡◌, ℕ, Some, Result, Ok, Err, refl, sym, subst, arith}
-use Rattle.std.proofs.lemmas.Bool.Decides.{nat_tests}
+use Rattle.std.proofs.{Common.{◌≡◌, ℕ, Some, Result, Ok, Err, arith}, lemmas.Bool.Decides.nat_tests}
 use Rattle.std.specs.Result.{IsErrAnd}
 use Rattle.room_rows.specs.{declared.keep.KeepFault.{KeepFault, TheVariants.Memory}, Keep.KeepLaws}
 use Rattle.room_rows.specs.Rows.{AreRows, Rows}
@@ -38,25 +37,7 @@ module _ {S : Type 0} {rows : S → Rows} {failures writes : S → ℕ}
   halts {X = X} {Y = Y} {extent = extent} {a = a} {b = b} {c = c} e {Before = Before}
       {Blames = Blames}
       {Blames' = Blames'} {After = After} {Becomes = Becomes} before after blames refuses (Err f)
-      is =
-      subst
-      (λ h. IsDone rows failures writes Follows IsTrusted extent a c (settled {X = Y} (Err h))
-      Blames' Becomes)
-      (sym is) (on e after)
-    where
-      on : (h : Halt)
-          → IsDone rows failures writes Follows IsTrusted (λ _. OnlyRecords) b c
-          (settled {X = X} (Err h))
-          Blames After
-          → IsDone rows failures writes Follows IsTrusted extent a c (settled {X = Y} (Err h))
-          Blames' Becomes
-      on (Refused reply) after =
-          finish laws (Err reply) (then laws (known before) (done after)
-          (λ old mid new b a. refuses old mid new reply b.0 b.1 a)) (λ old new are h. h)
-      on (Fault fault) after =
-          fails laws (known before) after
-          (λ old mid row b h. blames old mid row b.0 b.1 h) (Err fault)
-          refl
+      is = grind (arith, nat_tests, done, fails, finish, known, then)
 
   -- the same at the first call
   pub halts_first : {X Y : Type 0} {extent : Result Y Reply → Extent} {a c : S} (e : Halt)
@@ -88,13 +69,7 @@ module _ {S : Type 0} {rows : S → Rows} {failures writes : S → ℕ}
   faults before after blames (Ok y) is = absurd is
   faults {Y = Y} {extent = extent} {a = a} {c = c} {e = e} {Blames' = Blames'} {Becomes = Becomes}
       before after
-      blames (Err f) is =
-      subst
-      (λ h. IsDone rows failures writes Follows IsTrusted extent a c (settled {X = Y} (Err h))
-      Blames' Becomes)
-      (sym is)
-      (fails laws (known before) after
-      (λ old mid row b h. blames old mid row b.0 b.1 h) (Err e) refl)
+      blames (Err f) is = grind (arith, nat_tests, fails, known)
 
   -- the calls end with this refusal, or memory ran out as it was made
   pub refused_as : {Y : Type 0} {extent : Result Y Reply → Extent} {a b : S}
@@ -118,11 +93,7 @@ module _ {S : Type 0} {rows : S → Rows} {failures writes : S → ℕ}
       → IsDone rows failures writes Follows IsTrusted extent a b (settled r) Blames Becomes
   memory_out before (Ok y) is = absurd is
   memory_out {Y = Y} {extent = extent} {a = a} {b = b} {Blames = Blames} {Becomes = Becomes} before
-      (Err f) is =
-      subst
-      (λ h. IsDone rows failures writes Follows IsTrusted extent a b (settled {X = Y} (Err h))
-      Blames Becomes)
-      (sym is) (memory laws before (Err Memory) refl)
+      (Err f) is = grind (arith, nat_tests, memory)
 
   -- the calls end with this outcome, or memory ran out as it was made
   pub comes_to : {X : Type 0} {extent : Result X Reply → Extent} {a b : S}
@@ -148,19 +119,4 @@ module _ {S : Type 0} {rows : S → Rows} {failures writes : S → ℕ}
       → (r : Result Reply KeepFault) → r ≡ reply_of outcome
       → IsDone rows failures writes Follows IsTrusted extent a b r Blames Becomes
   replies {extent = extent} {a = a} {b = b} outcome {Blames = Blames} {Becomes = Becomes} done r
-      is =
-      subst (λ x. IsDone rows failures writes Follows IsTrusted extent a b x Blames Becomes)
-      (sym is)
-      (on outcome done)
-    where
-      on : (o : Result Reply Halt)
-          → IsDone rows failures writes Follows IsTrusted (λ out. extent (replied out)) a b
-          (settled o) Blames
-          (λ old out new. Becomes old (replied out) new)
-          → IsDone rows failures writes Follows IsTrusted extent a b (reply_of o) Blames Becomes
-      on (Ok reply) done =
-          record { follows = done.follows; becomes = done.becomes; few = done.few; fault = tt }
-      on (Err (Refused reply)) done =
-          record { follows = done.follows; becomes = done.becomes; few = done.few; fault = tt }
-      on (Err (Fault fault)) done =
-          record { follows = done.follows; becomes = λ _. tt; few = λ _. tt; fault = done.fault }
+      is = grind (arith, nat_tests)

@@ -8,7 +8,7 @@ use Rattle.room_rows.specs.{declared.node.AuditRow.AuditRow, Keep.{IsUnreadable,
 use Rattle.room_rows.specs.Rows.{Rows}
 use Rattle.room_judge.specs.{declared.asker.Asker.Asker, Judged.{IsJudged, with_notes}}
 use Rattle.room_machine.specs.declared.reply.{Reply.{Reply, TheVariants.Refused}, Reason.Reason}
-use Rattle.room_machine.specs.{Plan.{Item, Refusal}, Judge.{failure, passes, or_else}}
+use Rattle.room_machine.specs.{Plan.{Item, Refusal}, Judge.{passes, or_else}}
 use Rattle.room_machine.specs.Judge.{first_failure, records_of_checks, checks_of, records_of_plan}
 
 -- ---- records after records
@@ -37,17 +37,14 @@ module _ (caller : Caller) (moment : ℤ) where
       → first_failure caller (items ++ others)
       ≡ or_else (first_failure caller items) (first_failure caller others)
   failure_of_parts [] others = refl
-  failure_of_parts (item ∷ items) others =
-      grind (arith, nat_tests, or_else_group, failure_of_parts items others)
+  failure_of_parts (item ∷ items) others = search (or_else_group, failure_of_parts items others)
 
   -- the records of a second part are added where the first passes
   pub records_of_parts : (items others : List Item)
       → records_of_plan caller moment (items ++ others) ≡ records_of_plan caller moment items
       ++ cond (is_none (first_failure caller items)) (records_of_plan caller moment others) []
   records_of_parts [] others = refl
-  records_of_parts (item ∷ items) others =
-      ap (λ rest. here ++ cond (passes caller item) rest []) (records_of_parts items others)
-      ∙ on (failure caller item) here
+  records_of_parts (item ∷ items) others = search (here, on, records_of_parts items others)
     where
       here : List AuditRow
       here = records_of_checks caller moment (passes caller item) (checks_of caller item)
@@ -72,8 +69,7 @@ module _ (asker : Asker) where
   -- what can't be read afterwards couldn't be read before
   pub blames_first : (items : List Item) (answer : Option Reply) (old new : Rows) (row : ℕ)
       → IsJudged asker items old answer new → IsUnreadable new row → IsUnreadable old row
-  blames_first items answer old new row judged h =
-      subst (λ (r : Rows). IsUnreadable r row) judged.notes h
+  blames_first items answer old new row judged h = grind (arith, nat_tests)
 
   -- a refusal that comes first
   pub refuses : (path : List (List ℕ)) (why : Reason) (holds : Bool) (items : List Item)
@@ -92,15 +88,8 @@ module _ (asker : Asker) where
       → IsJudged asker items old (Some reply) new
       → IsJudged asker (items ++ others) old (Some reply) new
   fails_first items others old new reply judged = record {
-    answers =
-        sym (failure_of_parts asker.caller asker.moment items others
-        ∙ ap (λ o. or_else o (first_failure asker.caller others)) (sym judged.answers));
-    notes = judged.notes
-        ∙ ap (with_notes old) (sym (records_of_parts asker.caller asker.moment items others
-        ∙ ap (λ o. records_of_plan asker.caller asker.moment items
-        ++ cond (is_none o) (records_of_plan asker.caller asker.moment others) [])
-        (sym judged.answers)
-        ∙ append-nil _));
+    answers = cc (judged.answers, failure_of_parts asker.caller asker.moment items others);
+    notes = grind (arith, nat_tests, append-nil, records_of_parts);
   }
 
   -- where a first part passes, the second, judged from the rows it left, gives the answer to both
@@ -109,17 +98,9 @@ module _ (asker : Asker) where
       → IsJudged asker (items ++ others) old answer new
   passes_first items others old mid new answer first second = record {
     answers =
-        second.answers ∙ sym (failure_of_parts asker.caller asker.moment items others
-        ∙ ap (λ o. or_else o (first_failure asker.caller others)) (sym first.answers));
-    notes =
-        second.notes
-        ∙ ap (λ r. with_notes r (records_of_plan asker.caller asker.moment others)) first.notes
-        ∙ noted_more old (records_of_plan asker.caller asker.moment items)
-        (records_of_plan asker.caller asker.moment others)
-        ∙ ap (with_notes old) (sym (records_of_parts asker.caller asker.moment items others
-        ∙ ap (λ o. records_of_plan asker.caller asker.moment items
-        ++ cond (is_none o) (records_of_plan asker.caller asker.moment others) [])
-        (sym first.answers)));
+        second.answers ∙ sym (
+        cc (failure_of_parts asker.caller asker.moment items others, first.answers));
+    notes = grind (arith, nat_tests, noted_more, records_of_parts);
   }
 
 -- ---- a part of a list is judged, and passes

@@ -1,6 +1,6 @@
 -- The records of a check, noted one after the other.
-use Rattle.std.proofs.Common.{◌≡◌, ℕ, zero, suc, ◌<◌, ◌≤◌, ◌+◌, Bool, true, false, cond, List, []}
-use Rattle.std.proofs.Common.{◌∷◌, ◌++◌, map, length, take, get_or, sym, ap, ◌∙◌, arith, Result, Ok}
+use Rattle.std.proofs.Common.{◌≡◌, ℕ, ◌<◌, ◌≤◌, ◌+◌, Bool, cond, List, []}
+use Rattle.std.proofs.Common.{◌∷◌, map, length, take, get_or, sym, ap, ◌∙◌, arith, Result, Ok}
 use Rattle.std.proofs.{Common.{Err, IfOk, length-append}, lemmas.List.{take_more, map-append}}
 use Rattle.std.proofs.{lemmas.Bool.Decides.nat_tests, Math.Seq.take-length}
 use Rattle.room_entry.specs.{Ace.Ace, declared.object.Which.TheVariants.Sacl}
@@ -9,7 +9,7 @@ use Rattle.room_eval.specs.Events.{events_from, events_of, is_event_of}
 use Rattle.room_rows.specs.declared.{keep.KeepFault.KeepFault, node.AuditRow.AuditRow}
 use Rattle.room_rows.specs.{Keep.{IsWriteOf, Leaves, Notes as Noted, writes_after}, Rows.Rows}
 use Rattle.room_judge.specs.{declared.asker.Asker.Asker, Extent.{OnlyRecords, StaysWithin}}
-use Rattle.room_judge.specs.{Extent.unrecorded, Judged.{IsDone, with_notes}}
+use Rattle.room_judge.specs.{Judged.{IsDone, with_notes}}
 use Rattle.room_machine.specs.{Site.{Site, full_at}, Judge.{record_at, records_of}}
 use Rattle.room_judge.proofs.{Judging.{noted_none, noted_more}, Within.written_up_to}
 
@@ -18,9 +18,7 @@ use Rattle.room_judge.proofs.{Judging.{noted_none, noted_more}, Within.written_u
 later : (t : Bool) (place : ℕ) (rest : List ℕ)
     → ((i : ℕ) → i < length rest → place < get_or rest i 0) → (i : ℕ)
     → i < length (cond t (place ∷ rest) rest) → place ≤ get_or (cond t (place ∷ rest) rest) i 0
-later true place rest on zero below = omega arith
-later true place rest on (suc i) below = omega (arith, on i (omega arith))
-later false place rest on i below = omega (arith, on i below)
+later t place rest on i below = grind (arith, nat_tests)
 
 from_place : (place : ℕ) (entries : List Ace) (caller : Caller) (owners : Owners) (asked : List ℕ)
     (granted : Bool) (i : ℕ)
@@ -70,14 +68,14 @@ pub notes_one : (asker : Asker) (granted : Bool) (site : Site) (bits : List ℕ)
     → next ≡ with_notes now (row ∷ [])
     → Notes asker granted site bits (take (i + 1) places) old next
 notes_one asker granted site bits places i row old now next below is sofar more =
-    more
-    ∙ ap (λ r. with_notes r (row ∷ [])) sofar
-    ∙ noted_more old (map (record_for asker granted site bits) (take i places)) (row ∷ [])
-    ∙ ap (λ r. with_notes old
-    (map (record_for asker granted site bits) (take i places) ++ r ∷ [])) is
-    ∙ ap (with_notes old)
-    (sym (map-append (record_for asker granted site bits) (take i places) (get_or places i 0 ∷ []))
-    ∙ ap (map (record_for asker granted site bits)) (sym (take_more places i 0 below)))
+    cc (
+      more,
+      sofar,
+      noted_more old (map (record_for asker granted site bits) (take i places)) (row ∷ []),
+      is,
+      map-append (record_for asker granted site bits) (take i places) (get_or places i 0 ∷ []),
+      take_more places i 0 below,
+    )
 
 pub notes_all : (asker : Asker) (granted : Bool) (site : Site) (bits : List ℕ) (places : List ℕ)
     (i : ℕ) (old now : Rows) → i ≡ length places
@@ -85,8 +83,7 @@ pub notes_all : (asker : Asker) (granted : Bool) (site : Site) (bits : List ℕ)
     → Notes asker granted site bits (take i places) old now
     → now ≡ with_notes old (records_of asker.caller asker.moment granted (site, bits))
 notes_all asker granted site bits places i old now full are all =
-    all ∙ ap (λ l. with_notes old (map (record_for asker granted site bits) l))
-    (ap (λ (n : ℕ). take n places) full ∙ take-length places ∙ are)
+    grind (arith, nat_tests, take-length)
 
 -- ---- the call that notes one
 
@@ -98,13 +95,7 @@ pub of_note : {S : Type 0} {rows : S → Rows} {failures writes : S → ℕ}
     → IsDone rows failures writes Follows IsTrusted (λ _. OnlyRecords) a b r Blames
     (λ old _ new. new ≡ with_notes old (row ∷ []))
 of_note {S = S} {rows = rows} {failures = failures} {writes = writes} {a = a} {b = b} {r = r} row
-    placed write =
-    record {
-      follows = write.follows;
-      becomes = λ t. noted r (write.becomes t);
-      few = λ t. kept r write.written (noted r (write.becomes t));
-      fault = write.fault;
-    }
+    placed write = grind (arith, nat_tests, kept, noted)
   where
     noted : (r : Result (Unit {0}) KeepFault)
         → IfOk r (λ _. 0 < row.place → rows b ≡ with_notes (rows a) (row ∷ []))
@@ -118,9 +109,5 @@ of_note {S = S} {rows = rows} {failures = failures} {writes = writes} {a = a} {b
     kept (Ok x) written is =
         let more : length (rows b).read.audits ≡ length (rows a).read.audits + 1 =
         ap (λ (w : Rows). length w.read.audits) is ∙ length-append (rows a).read.audits (row ∷ [])
-        in (
-          ap unrecorded is,
-          written_up_to (writes a) (writes b) 1 (length (rows a).read.audits)
-              (length (rows b).read.audits) 0 written (omega arith),
-        )
+        in grind (arith, nat_tests, written_up_to)
     kept (Err e) written is = tt

@@ -1,9 +1,8 @@
 -- The way to the folder of a path's last name, and what has that name in it.
-use Rattle.std.proofs.Common.{◌≡◌, ℕ, ◌<◌, ◌+◌, Bool, true, false, not, ◌&&◌, List, [], ◌∷◌, ◌++◌}
-use Rattle.std.proofs.Common.{length, take, Option, Some, None, refl, sym, ap, ◌∙◌, append_assoc}
-use Rattle.std.proofs.{Common.{arith, length-append}, lemmas.List.append-nil}
-use Rattle.std.proofs.{lemmas.Bool.Decides.nat_tests, Math.Seq.take-append_seam}
-use Rattle.std.proofs.Math.Seq.{get_or-append_seam}
+use Rattle.std.proofs.Common.{◌≡◌, ℕ, ◌<◌, ◌+◌, Bool, false, not, ◌&&◌, List, [], ◌∷◌, ◌++◌, length}
+use Rattle.std.proofs.Common.{take, Option, Some, None, refl, sym, ap, ◌∙◌, append_assoc, arith}
+use Rattle.std.proofs.{Common.length-append, lemmas.{List.append-nil, Bool.Decides.nat_tests}}
+use Rattle.std.proofs.Math.Seq.{take-append_seam, get_or-append_seam}
 use Rattle.std.specs.{Prelude.is_none, Option.{option_map, option_map_or, option_and_then}}
 use Rattle.room_rows.specs.{declared.node.Node.Node, Content.{Content, child_of, root_of, is_empty}}
 use Rattle.room_machine.specs.{declared.reply.Reason.TheVariants.NoSuch, Site.{Site, site_at}}
@@ -94,13 +93,7 @@ module _ (rows : Content) where
       → site_at (stored_from rows path node (name ∷ names)) (name ∷ names)
       ≡ option_and_then (below_of (last_name (name ∷ names)))
       (site_at (stored_from rows path node (front (name ∷ names))) (front (name ∷ names)))
-  target_from [] path name node = on (child_of rows node.id name)
-    where
-      on : (o : Option Node)
-          → site_at (option_map_or (λ child. stored_from rows (path ++ name ∷ []) child []) o []) []
-          ≡ option_map (stored_site (path ++ name ∷ [])) o
-      on None = refl
-      on (Some child) = refl
+  target_from [] path name node = grind (arith, nat_tests)
   target_from (next ∷ names) path name node =
       on (child_of rows node.id name) (λ child. target_from names (path ++ name ∷ []) next child)
     where
@@ -122,8 +115,7 @@ module _ (rows : Content) where
   -- an object is found at its path
   site_path_from : (names path : List (List ℕ)) (node : Node) (site : Site)
       → site_at (stored_from rows path node names) names ≡ Some site → site.path ≡ path ++ names
-  site_path_from [] path node site is = let same : stored_site path node ≡ site = cc in
-      ap (λ (s : Site). s.path) (sym same) ∙ sym (append-nil path)
+  site_path_from [] path node site is = grind (arith, nat_tests, append-nil)
   site_path_from (name ∷ names) path node site is =
       on (child_of rows node.id name)
       (λ child found. site_path_from names (path ++ name ∷ []) child site found) is
@@ -144,17 +136,7 @@ module _ (rows : Content) where
       ≡ way false (stored_from rows path node (front (name ∷ names))) (front (name ∷ names))
       ++ where_found (site_at (stored_from rows path node (front (name ∷ names)))
       (front (name ∷ names))) (last_items lack (last_name (name ∷ names)))
-  way_from lack [] path name node = on lack (child_of rows node.id name)
-    where
-      on : (lack : Bool) (o : Option Node)
-          → way lack (stored_site path node ∷ option_map_or
-          (λ child. stored_from rows (path ++ name ∷ []) child []) o []) (name ∷ [])
-          ≡ through (stored_site path node)
-          ++ Refusal (path ++ name ∷ []) NoSuch (is_none o && not lack) ∷ []
-      on true None = refl
-      on true (Some child) = refl
-      on false None = refl
-      on false (Some child) = refl
+  way_from lack [] path name node = grind (arith, nat_tests)
   way_from lack (next ∷ names) path name node =
       on lack (child_of rows node.id name)
       (λ child. way_from lack names (path ++ name ∷ []) next child)
@@ -168,14 +150,6 @@ module _ (rows : Content) where
           ++ where_found (site_at (stored_from rows (path ++ name ∷ []) child below) below)
           (last_items lack (last_name (next ∷ names)))
 
-      passing : (t : Bool) (items : List Item) (child : Node) → t ≡ false
-          → through (stored_site path node) ++ Refusal (path ++ name ∷ []) NoSuch false ∷ items
-          ≡ through (stored_site path node) ++ Refusal (path ++ name ∷ []) NoSuch (t && true)
-          ∷ items
-      passing t items child is =
-          ap (λ u. through (stored_site path node) ++ Refusal (path ++ name ∷ []) NoSuch (u && true)
-          ∷ items) (sym is)
-
       on : (lack : Bool) (o : Option Node)
           → ((child : Node) → way lack (stored_from rows (path ++ name ∷ []) child (next ∷ names))
           (next ∷ names) ≡ after lack child)
@@ -187,18 +161,7 @@ module _ (rows : Content) where
           ++ where_found
           (site_at (option_map_or (λ child. stored_from rows (path ++ name ∷ []) child below) o [])
           below) (last_items lack (last_name (next ∷ names)))
-      on true None rest = refl
-      on true (Some child) rest =
-          ap (λ items. through (stored_site path node) ++ Refusal (path ++ name ∷ []) NoSuch false
-          ∷ items) (rest child)
-          ∙ passing (is_empty (stored_from rows (path ++ name ∷ []) child below))
-          (after true child) child (not_empty (path ++ name ∷ []) child below)
-      on false None rest = refl
-      on false (Some child) rest =
-          ap (λ items. through (stored_site path node) ++ Refusal (path ++ name ∷ []) NoSuch false
-          ∷ items) (rest child)
-          ∙ passing (is_empty (stored_from rows (path ++ name ∷ []) child below))
-          (after false child) child (not_empty (path ++ name ∷ []) child below)
+      on lack o rest = grind (arith, nat_tests, not_empty)
 
   -- ---- from the root
 
@@ -257,8 +220,7 @@ module _ (rows : Content) where
           ≡ (begin ++ where_found o through)
           ++ where_found o (λ site. missing lack (last_name path) site ∷ [])
       more begin None = sym (append-nil (begin ++ []))
-      more begin (Some site) =
-          sym (append_assoc begin (through site) (missing lack (last_name path) site ∷ []))
+      more begin (Some site) = search (append_assoc, path)
 
       along : Option Node → List Site
       along o = option_map_or (λ root. stored_from rows [] root (front path)) o []
@@ -270,7 +232,4 @@ module _ (rows : Content) where
           ++ where_found (site_at (along o) (front path))
           (λ site. missing lack (last_name path) site ∷ [])
       on None = refl
-      on (Some root) =
-          way_from lack names [] name root
-          ∙ more (way false (along (Some root)) (front path))
-          (site_at (along (Some root)) (front path))
+      on (Some root) = search (along, more, path, way_from)

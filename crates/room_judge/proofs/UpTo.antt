@@ -1,5 +1,5 @@
 -- Calls that write more than records, one after the other.
-use Rattle.std.proofs.Common.{Option, Some, None, ℕ, ◌+◌, ◌≤◌, Result, Ok, Err, IfOk, refl, arith}
+use Rattle.std.proofs.Common.{Option, ℕ, ◌+◌, ◌≤◌, Result, Ok, Err, IfOk, arith}
 use Rattle.std.proofs.lemmas.Bool.Decides.{nat_tests}
 use Rattle.room_rows.specs.{declared.keep.KeepFault.KeepFault, Keep.KeepLaws, Rows.{Rows, AreRows}}
 use Rattle.room_machine.specs.declared.reply.Reply.{Reply}
@@ -47,9 +47,7 @@ module _ {S : Type 0} {rows : S → Rows} {failures writes : S → ℕ}
       → Enough (unrecorded (rows a)) (unrecorded (rows c)) more)
       → StaysWithin rows writes (Unless told Enough) a c
       → StaysWithin rows writes (Unless told Suffices) a c
-  served_within None Enough Suffices a c suffices few =
-      λ more enough. few more (suffices more enough)
-  served_within (Some failure) Enough Suffices a c suffices few = few
+  served_within told Enough Suffices a c suffices few = grind (arith, nat_tests)
 
   -- calls that write only records, and others to which this suffices where the rows were so before
   pub then_provided : {told : Option Reply} {a b c : S}
@@ -64,15 +62,7 @@ module _ {S : Type 0} {rows : S → Rows} {failures writes : S → ℕ}
   then_provided {told = told} {a = a} {b = b} {c = c} {Enough = Enough} {Suffices = Suffices} before
       after joins suffices =
       let whole = then_known laws before after joins in
-      record {
-        follows = whole.follows;
-        becomes = whole.becomes;
-        few =
-            λ t. served_within told Enough Suffices a c
-            (λ more enough. suffices (rows a) (rows b) (rows c) more (laws.are a c t)
-            (before.becomes (laws.first a b c before.follows after.follows t)) enough)
-            (whole.few t);
-      }
+      grind (arith, nat_tests, served_within)
 
   -- the same where the last call gives the answer, or the fault
   pub tail_provided : {X : Type 0} {told : X → Option Reply} {a b c : S} {r : Result X KeepFault}
@@ -92,23 +82,12 @@ module _ {S : Type 0} {rows : S → Rows} {failures writes : S → ℕ}
       Blames' Becomes
   tail_provided {X = X} {told = told} {a = a} {b = b} {c = c} {r = r} {Enough = Enough}
       {Suffices = Suffices} {Before = Before} before after blames joins suffices =
-      let whole = tail_known laws before after blames joins in
-      record {
-        follows = whole.follows;
-        becomes = whole.becomes;
-        few =
-            λ t. on r (laws.are a c t)
-            (before.becomes (laws.first a b c before.follows after.follows t)) (whole.few t);
-        fault = whole.fault;
-      }
+      grind (arith, nat_tests, on, tail_known)
     where
       on : (r : Result X KeepFault) → AreRows (rows a) → Before (rows a) (rows b)
           → IfOk r (λ x. StaysWithin rows writes (Unless (told x) Enough) a c)
           → IfOk r (λ x. StaysWithin rows writes (Unless (told x) Suffices) a c)
-      on (Ok x) are is few =
-          served_within (told x) Enough Suffices a c
-          (λ more enough. suffices (rows a) (rows b) (rows c) more are is enough) few
-      on (Err e) are is few = tt
+      on r are is few = grind (arith, nat_tests, served_within)
 
   -- calls that write only records, as part of others
   pub widened : {X : Type 0} {extent : X → Extent} {a b : S} {r : Result X KeepFault}
@@ -131,17 +110,12 @@ module _ {S : Type 0} {rows : S → Rows} {failures writes : S → ℕ}
       before after joins shares =
       record {
         follows = laws.on a b c before.follows after.follows;
-        becomes =
-            λ t. joins (rows a) (rows b) (rows c)
-            (before.becomes (laws.first a b c before.follows after.follows t))
-            (after.becomes (laws.last a b c before.follows after.follows t));
+        becomes = grind (arith, nat_tests);
         few =
             λ t. both_within First Second Suffices a b c
             (before.few (laws.first a b c before.follows after.follows t))
             (after.few (laws.last a b c before.follows after.follows t))
-            (λ more enough. shares (rows a) (rows b) (rows c) more (laws.are a c t)
-            (before.becomes (laws.first a b c before.follows after.follows t))
-            (after.becomes (laws.last a b c before.follows after.follows t)) enough);
+            (grind (arith, nat_tests));
       }
 
   -- the same where the last call gives the answer, or the fault
@@ -162,8 +136,7 @@ module _ {S : Type 0} {rows : S → Rows} {failures writes : S → ℕ}
       (then_share before (done after) (λ old mid new b a. joins old mid x new b a)
       (λ old mid new more are b a enough. shares old mid x new more are b a enough))
       (λ old new are h. h)
-  tail_share (Err e) before after blames joins shares =
-      fails laws before after blames (Err e) refl
+  tail_share (Err e) before after blames joins shares = search (fails)
 
   -- nothing is said any more of how much is written
   pub then_unsaid : {first last : Extent} {a b c : S} {Before After Becomes : Rows → Rows → Type 0}

@@ -29,18 +29,13 @@ module _ (asker : Asker) (path : List (List ℕ)) (n : ℕ) (within : n ≤ leng
     pub walks_on : (next : Node) (old now new : Rows) → depth < n
         → IsOnWay asker (take n path) from old now → IsStepDown asker path from now (Ok next) new
         → IsOnWay asker (take n path) (record { node = next; depth = depth + 1 }) old new
-    walks_on next old now new below walking step =
-        way_goes_on asker (take n path) from (omega (arith, size)) old now new
-        (record { node = next; depth = depth + 1 }) refl walking
-        (step_of_front asker path n from now new (Ok next) below step)
+    walks_on next old now new below walking step = search (size, step_of_front, way_goes_on)
 
     -- one more step of a walk is refused
     pub walk_ends : (old now new : Rows) (reply : Reply) → depth < n
         → IsOnWay asker (take n path) from old now → IsStepDown asker path from now (Err reply) new
         → IsReached asker (take n path) (λ _. []) old (Err reply) new
-    walk_ends old now new reply below walking step =
-        way_ends asker (take n path) from (omega (arith, size)) old now new reply walking
-        (step_of_front asker path n from now new (Err reply) below step)
+    walk_ends old now new reply below walking step = search (size, step_of_front, way_ends)
 
     -- a walk past all n names has reached the object there
     pub walk_done : (old now : Rows) → depth ≡ n → IsOnWay asker (take n path) from old now

@@ -24,15 +24,13 @@ one_name_more path depth below = take_more path depth [] below
 -- the name that is read off the path
 pub name_read : (path names : List (List ℕ)) (i : ℕ) (name text : List ℕ) → names ≡ path
     → i < length path → name ≡ get_or names i name → text ≡ name → text ≡ name_after path i
-name_read path names i name text are below is same =
-    same ∙ get_or_read path i name below (is ∙ ap (λ (l : List (List ℕ)). get_or l i name) are) []
+name_read path names i name text are below is same = grind (arith, nat_tests, get_or_read)
 
 -- a row that can't be read after a walk to an object couldn't be read before it
 pub reached_blames : (asker : Asker) (path : List (List ℕ)) (items : Site → List Item)
     (outcome : Result Node Reply) (old now : Rows) (row : ℕ)
     → IsReached asker path items old outcome now → IsUnreadable now row → IsUnreadable old row
-reached_blames asker path items outcome old now row reached h =
-    subst (λ (r : Rows). IsUnreadable r row) reached.judged.notes h
+reached_blames asker path items outcome old now row reached h = grind (arith, nat_tests)
 
 -- the object, or the refusal where there is one
 abbrev pub unless : Node → Option Reply → Result Node Reply
@@ -70,8 +68,7 @@ pub record IsOnWay (asker : Asker) (path : List (List ℕ)) (from : Found)
 -- what can't be read on the way couldn't be read before
 pub way_blames : (asker : Asker) (path : List (List ℕ)) (from : Found) (old now : Rows) (row : ℕ)
     → IsOnWay asker path from old now → IsUnreadable now row → IsUnreadable old row
-way_blames asker path from old now row on_way h =
-    subst (λ (r : Rows). IsUnreadable r row) on_way.so_far.judged.notes h
+way_blames asker path from old now row on_way h = grind (arith, nat_tests)
 
 nothing_there : {X : Type 0} (o : Option X)
     → option_map_or {T = X} {U = List Item} (λ _. []) o [] ≡ []
@@ -143,22 +140,13 @@ module _ (asker : Asker) (path : List (List ℕ)) where
         → IsOnWay asker path next old new
     way_goes_on old now new next deeper on_way step =
         let child : child_of old.read from.node.id next_name ≡ Some next.node =
-        sym (ap (λ (r : Rows). child_of r.read from.node.id next_name)
-        on_way.so_far.judged.notes) ∙ step.found in
+        cc (on_way.so_far.judged.notes, step.found) in
         let path_then : take from.depth path ++ next_name ∷ [] ≡ take next.depth path =
         sym (one_name_more path from.depth below) ∙ ap (λ (d : ℕ). take d path) (sym deeper) in
-        let names_then : names_left ≡ drop next.depth path = ap (λ (d : ℕ). drop d path)
-        (sym deeper) in
+        let names_then : names_left ≡ drop next.depth path = cc (deeper) in
         let below_here : items_below old
         ≡ way false (stored_from old.read (take next.depth path) next.node
-        (drop next.depth path)) (drop next.depth path) =
-        ap (λ o. option_map_or
-        (λ c. way false (stored_from old.read (take from.depth path ++ next_name ∷ []) c names_left)
-        names_left) o []) child
-        ∙ ap (λ p. way false (stored_from old.read p next.node names_left) names_left) path_then
-        ∙ ap
-        (λ names. way false (stored_from old.read (take next.depth path) next.node names) names)
-        names_then in
+        (drop next.depth path)) (drop next.depth path) = grind (arith, nat_tests) in
         record {
           so_far = so_far_as asker (all_of old) (items_below old) _ old new below_here
               (so_far_on asker (all_of old) (step_items old) (items_below old) old now new
@@ -166,42 +154,21 @@ module _ (asker : Asker) (path : List (List ℕ)) where
               (way_here old) on_way.so_far)
               (subst (λ items. IsJudged asker items now None new)
               (at_first old now on_way) step.judged));
-          found =
-              on_way.found
-              ∙ ap
-              (λ names. site_at (stored_from old.read (take from.depth path) from.node names) names)
-              here
-              ∙ ap
-              (λ o. site_at
-              (option_map_or (λ c. stored_from old.read
-              (take from.depth path ++ next_name ∷ []) c names_left) o []) names_left) child
-              ∙ ap (λ p. site_at (stored_from old.read p next.node names_left) names_left) path_then
-              ∙ ap
-              (λ names. site_at (stored_from old.read (take next.depth path) next.node names) names)
-              names_then;
+          found = search (here);
         }
 
   -- all steps are done
   pub way_done : (from : Found) (old now : Rows) → from.depth ≡ length path
       → IsOnWay asker path from old now → IsReached asker path (λ _. []) old (Ok from.node) now
   way_done from old now full on_way =
-      let none_left : drop from.depth path ≡ [] = ap (λ (d : ℕ). drop d path) full
-      ∙ drop-length path in
-      let whole : take from.depth path ≡ path = ap (λ (d : ℕ). take d path) full
-      ∙ take-length path in
+      let none_left : drop from.depth path ≡ [] = cc (full, drop-length path) in
+      let whole : take from.depth path ≡ path = cc (full, take-length path) in
       record {
         judged = subst (λ items. IsJudged asker items old None now) (sym (plain_way old))
             (so_far_last asker (all_of old) [] old now now None
-            (so_far_as asker (all_of old) _ [] old now
-            (ap
-            (λ names. way false (stored_from old.read (take from.depth path) from.node names) names)
-            none_left) on_way.so_far)
+            (grind (arith, nat_tests, so_far_as))
             (judged_none asker now now refl));
-        found =
-            on_way.found
-            ∙ ap
-            (λ names. site_at (stored_from old.read (take from.depth path) from.node names) names)
-            none_left ∙ ap (λ p. Some (stored_site p from.node)) whole;
+        found = grind (arith, nat_tests);
       }
 
   -- ---- items at the target
@@ -225,8 +192,7 @@ module _ (asker : Asker) (path : List (List ℕ)) where
         → IsJudged asker (to_stored old.read path items) old answer new
     at_target old mid new target answer deep reached judged =
         let site : site_at (stored_along old.read path) path ≡ Some (found_site path target) =
-        reached.found ∙ ap (λ p. Some (stored_site p target.node))
-        (sym (ap (λ (d : ℕ). take d path) deep ∙ take-length path)) in
+        cc (reached.found, take-length path, deep) in
         passes_first asker (all_of old)
         (where_found (site_at (stored_along old.read path) path) items) old mid new answer
         (subst (λ list. IsJudged asker list old None mid) (plain_way old) reached.judged)
@@ -238,22 +204,14 @@ module _ (asker : Asker) (path : List (List ℕ)) where
         → target.depth ≡ length path → IsReached asker path (λ _. []) old (Ok target.node) mid
         → IsJudged asker (items (found_site path target)) mid (Some reply) new
         → IsReached asker path items old (Err reply) new
-    target_refused old mid new target reply deep reached judged =
-        record {
-          judged = at_target old mid new target (Some reply) deep reached judged;
-          found = tt;
-        }
+    target_refused old mid new target reply deep reached judged = search (at_target)
 
     -- a walk that came to its target has reached it where all items there pass
     pub target_passed : (old mid new : Rows) (target : Found) → target.depth ≡ length path
         → IsReached asker path (λ _. []) old (Ok target.node) mid
         → IsJudged asker (items (found_site path target)) mid None new
         → IsReached asker path items old (Ok target.node) new
-    target_passed old mid new target deep reached judged =
-        record {
-          judged = at_target old mid new target None deep reached judged;
-          found = reached.found;
-        }
+    target_passed old mid new target deep reached judged = search (at_target)
 
     -- the walk comes to the object, or ends with the reply of its items
     pub reaches_with : (old mid new : Rows) (node : Node) (target : Found) (refusal : Option Reply)

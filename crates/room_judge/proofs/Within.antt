@@ -1,8 +1,8 @@
 -- How much calls write beside records, one after the other.
-use Rattle.std.proofs.Common.{◌≡◌, ℕ, Some, None, ◌+◌, ◌≤◌, Result, Ok, Err, IfOk, arith}
+use Rattle.std.proofs.Common.{◌≡◌, ℕ, ◌+◌, ◌≤◌, Result, Ok, Err, IfOk, arith}
 use Rattle.std.proofs.lemmas.Bool.Decides.{nat_tests}
 use Rattle.room_rows.specs.{declared.keep.KeepFault.KeepFault, Keep.capped, Rows.Rows}
-use Rattle.room_judge.specs.Extent.{Extent, OnlyRecords, Unless, StaysWithin, WritesRecords}
+use Rattle.room_judge.specs.Extent.{Extent, OnlyRecords, StaysWithin, WritesRecords}
 
 capped_below : (n : ℕ) → capped n ≤ n
 capped_below n = omega arith
@@ -20,10 +20,7 @@ module _ {S : Type 0} (rows : S → Rows) (writes : S → ℕ) where
   -- calls that write only records write no more than suffices
   pub within_any : (extent : Extent) (a b : S) → StaysWithin rows writes OnlyRecords a b
       → StaysWithin rows writes extent a b
-  within_any OnlyRecords a b within = within
-  within_any (Unless (Some failure) Suffices) a b within = within
-  within_any (Unless None Suffices) a b within =
-      λ more enough. let few = within.1 in omega arith
+  within_any extent a b within = grind (arith, nat_tests)
 
   records_after : (a b c : S) → WritesRecords rows writes a b → WritesRecords rows writes b c
       → WritesRecords rows writes a c
@@ -32,10 +29,7 @@ module _ {S : Type 0} (rows : S → Rows) (writes : S → ℕ) where
   -- calls after some that write only records
   pub within_after : (extent : Extent) (a b c : S) → StaysWithin rows writes OnlyRecords a b
       → StaysWithin rows writes extent b c → StaysWithin rows writes extent a c
-  within_after OnlyRecords a b c before after = records_after a b c before after
-  within_after (Unless (Some failure) Suffices) a b c before after =
-      grind (arith, nat_tests, records_after)
-  within_after (Unless None Suffices) a b c before after = grind (arith, nat_tests)
+  within_after extent a b c before after = grind (arith, nat_tests, records_after)
 
   -- the same where the last of them may have a fault
   pub within_later : {X : Type 0} (extent : X → Extent) (a b c : S) (r : Result X KeepFault)

@@ -1,44 +1,30 @@
 -- A request that gives a document other bytes is a step.
 use Rattle.std.proofs.Common.{◌≡◌, ℕ, ◌+◌, ◌==◌, Bool, true, false, cond, List, [], ◌∷◌, ◌++◌}
 use Rattle.std.proofs.Common.{length, Option, Some, None, Result, Ok, Err, refl, sym, ap, subst}
-use Rattle.std.proofs.Common.{◌∙◌, append_assoc, length-append, arith}
+use Rattle.std.proofs.{Common.{◌∙◌, append_assoc, length-append, arith}, lemmas.Bool.ltb-false}
+use Rattle.std.proofs.lemmas.{Bool.{le-leb, Decides.nat_tests}, List.append-nil}
 use Rattle.std.specs.Prelude.{IfOk, unwrap_or, nat_lt, nat_le}
-use Rattle.std.proofs.lemmas.Bool.{ltb-false, le-leb}
-use Rattle.std.proofs.lemmas.List.{append-nil}
-use Rattle.room_entry.specs.Rights.{append_data}
-use Rattle.room_entry.specs.Valid.{is_document}
-use Rattle.room_rows.specs.declared.node.Node.{Node}
-use Rattle.room_rows.specs.Content.{node_at, body_of, with_body}
-use Rattle.room_rows.specs.Keep.{IsDamaged, KeepLaws, SetsBody, with_content}
-use Rattle.room_rows.specs.Meaning.{meaning}
-use Rattle.room_rows.specs.Rows.{Rows, AreRows}
+use Rattle.room_entry.specs.{Rights.append_data, Valid.is_document}
+use Rattle.room_rows.specs.{declared.node.Node.Node, Content.{node_at, body_of, with_body}}
+use Rattle.room_rows.specs.{Keep.{IsDamaged, KeepLaws, SetsBody, with_content}, Meaning.meaning}
+use Rattle.room_rows.specs.{Rows.{Rows, AreRows}, Sound.AreSound}
 use Rattle.room_rows.proofs.InPlace.{with_body-there}
-use Rattle.room_rows.specs.Sound.{AreSound}
-use Rattle.room_judge.specs.declared.asker.Asker.{Asker}
-use Rattle.room_machine.specs.declared.reply.Reply.{Reply}
-use Rattle.room_machine.specs.declared.reply.Reply.TheVariants.{Done, Refused}
+use Rattle.room_judge.specs.{declared.{asker.Asker.Asker, halt.Halt.Halt}, Closed.IsClosed}
+use Rattle.room_judge.specs.{Closed.IsServed, Extent.{Extent, OnlyRecords}, Halted.replied}
+use Rattle.room_judge.specs.{Halted.settled, Judged.{IsDone, IsJudged, IsReached, CarriesOut}}
+use Rattle.room_machine.specs.declared.reply.Reply.{Reply, TheVariants.{Done, Refused}}
 use Rattle.room_machine.specs.declared.reply.Reason.TheVariants.{TooLarge}
-use Rattle.room_machine.specs.declared.request.Request.TheVariants.{Append}
-use Rattle.room_machine.specs.Site.{Site, site_at}
-use Rattle.room_machine.specs.Plan.{Item, plan_of, not_over, way, where_found}
-use Rattle.room_machine.specs.Effect.{with_site}
-use Rattle.room_judge.specs.Closed.{IsClosed, IsServed}
-use Rattle.room_machine.specs.Stored.{stored_site, stored_along, stored_plan, to_stored}
-use Rattle.room_judge.specs.declared.halt.Halt.{Halt}
-use Rattle.room_judge.specs.declared.halt.Halt.TheVariants.{Refused as Halted, Fault}
-use Rattle.room_judge.specs.Extent.{Extent, OnlyRecords}
-use Rattle.room_judge.specs.Halted.{replied, settled}
-use Rattle.room_judge.specs.Judged.{IsDone, IsJudged, IsReached, CarriesOut}
-use Rattle.room_judge.proofs.Calls.{HasDone, finish, memory}
-use Rattle.room_desk.specs.Written.{Answers, HasNoBytes, IsAppended, IsPut, TakesBytes, sized_reply}
-use Rattle.room_judge.proofs.Closing.{closed_done, closed_failed}
+use Rattle.room_machine.specs.{declared.request.Request.TheVariants.Append, Site.{Site, site_at}}
+use Rattle.room_machine.specs.{Plan.{Item, plan_of, not_over, way, where_found}, Stored.stored_site}
+use Rattle.room_machine.specs.Stored.{stored_along, stored_plan, to_stored}
+use Rattle.room_judge.proofs.{Calls.{HasDone, finish, memory}, Closing.{closed_done, closed_failed}}
 use Rattle.room_judge.proofs.Judging.{fails_first, passes_first, refuses, passes_on, judged_none}
-use Rattle.room_sound.proofs.SoundParts.{sound_parts, sound_noted}
-use Rattle.room_desk.proofs.Bytes.SoundBytes.{sound_bytes}
-use Rattle.room_sound.proofs.Filled.{plan_judged, target_there}
-use Rattle.room_desk.proofs.Steps.Stepping.{refused_step, changed_step}
-use Rattle.room_desk.proofs.Steps.Serving.{DocumentAt, document_there, no_bytes}
-use Rattle.std.proofs.lemmas.Bool.Decides.{nat_tests}
+use Rattle.room_desk.specs.Written.{Answers, HasNoBytes, IsAppended, IsPut, TakesBytes, sized_reply}
+use Rattle.room_sound.proofs.{SoundParts.{sound_parts, sound_noted}, Filled.plan_judged}
+use Rattle.room_sound.proofs.Filled.{target_there}
+use Rattle.room_desk.proofs.{Bytes.SoundBytes.sound_bytes, Steps.Stepping.refused_step}
+use Rattle.room_desk.proofs.Steps.{Stepping.changed_step, Serving.{DocumentAt, document_there}}
+use Rattle.room_desk.proofs.Steps.Serving.{no_bytes}
 
 pub put_refused : (path : List (List ℕ)) (id : ℕ) (bytes : List ℕ) (old new : Rows) (reply : Reply)
     → nat_lt 1048576 (length bytes) ≡ true → reply ≡ Refused path TooLarge → new ≡ old
@@ -83,9 +69,7 @@ module _ {S : Type 0} {rows : S → Rows} {failures writes : S → ℕ}
       → ((old new : Rows) → AreRows old → Before old new → Becomes old wanted new)
       → IsDone rows failures writes Follows IsTrusted extent a b (settled r) Blames
       (λ old outcome new. Becomes old (replied outcome) new)
-  answers Becomes before (Ok reply) wanted is becomes = grind (arith, nat_tests, finish)
-  answers Becomes before (Err (Halted reply)) wanted is becomes = grind (arith, nat_tests, finish)
-  answers Becomes before (Err (Fault fault)) wanted is becomes = memory laws before (Err fault) is
+  answers Becomes before r wanted is becomes = grind (arith, nat_tests, finish, memory)
 
 -- ---- items after others at the target
 
@@ -118,29 +102,18 @@ module _ (asker : Asker) (path : List (List ℕ)) (bytes : List ℕ) where
   planned : (old new : Rows) (answer : Option Reply) → AreRows old → AreSound old
       → IsJudged asker (stored_plan old.read (Append path bytes)) old answer new
       → IsJudged asker (plan_of (meaning old.read) (Append path bytes)) old answer new
-  planned old new answer are sound judged =
-      plan_judged asker path (items old) old new answer are (sound_parts old sound) (λ site. refl)
-      judged
+  planned old new answer are sound judged = search (plan_judged, sound_parts)
 
   -- an item fails
   not_appended : (old new : Rows) (reply : Reply) → AreRows old
       → IsJudged asker (stored_plan old.read (Append path bytes)) old (Some reply) new
       → IsServed asker (Append path bytes) old reply new
-  not_appended old new reply are judged = (
-    λ known sound. refused_step asker (Append path bytes) old known sound new reply
-        (planned old new (Some reply) are sound judged),
-    closed_failed asker (Append path bytes) old reply new judged,
-  )
+  not_appended old new reply are judged = search (closed_failed, planned, refused_step)
 
   pub append_ended : (old new : Rows) (reply : Reply) → AreRows old
       → IsReached asker path (DocumentAt (append_data ∷ [])) old (Err reply) new
       → IsServed asker (Append path bytes) old reply new
-  append_ended old new reply are reached =
-      not_appended old new reply are
-      (as_stored old new (Some reply)
-      (fails_first asker (to_stored old.read path (DocumentAt (append_data ∷ [])))
-      (where_found (site_at (stored_along old.read path) path) (sized old)) old new reply
-      reached.judged))
+  append_ended old new reply are reached = search (as_stored, fails_first, not_appended)
 
   module _ (old mid : Rows) (node : Node) (are : AreRows old)
       (reached : IsReached asker path (DocumentAt (append_data ∷ [])) old (Ok node) mid) where
@@ -158,18 +131,13 @@ module _ (asker : Asker) (path : List (List ℕ)) (bytes : List ℕ) where
         (where_found (site_at (stored_along old.read path) path) (sized old)) old mid new answer
         reached.judged
         (subst (λ list. IsJudged asker list mid answer new)
-        (ap (λ n. limit n ∷ []) (length-append before bytes)
-        ∙ ap (λ (o : Option (List ℕ)). limit (length (unwrap_or o []) + length bytes) ∷ [])
-        (sym were) ∙ ap (λ o. where_found o (sized old)) (sym reached.found))
+        (cc (length-append before bytes, were, reached.found))
         judged))
 
     few_judged : (before : List ℕ) → body_of old.read node.id ≡ Some before
         → nat_lt 1048576 (length (before ++ bytes)) ≡ false
         → IsJudged asker (stored_plan old.read (Append path bytes)) old None mid
-    few_judged before were few =
-        sized_judged before mid None were
-        (passes_on asker path TooLarge (nat_lt 1048576 (length (before ++ bytes)))
-        [] mid mid None few (judged_none asker mid mid refl))
+    few_judged before were few = search (judged_none, passes_on, sized_judged)
 
     there : (node_at old.read node.id ≡ Some node) × (is_document node.kind ≡ true)
     there = document_there asker path (append_data ∷ []) old mid node are reached
@@ -191,21 +159,7 @@ module _ (asker : Asker) (path : List (List ℕ)) (bytes : List ℕ) where
         (stored_site path node) reached.found in
         changed_step asker (Append path bytes) old known sound mid new Done
         (with_body (meaning old.read) node.id (before ++ bytes)) judged
-        (λ id. ap (λ o. with_site (meaning old.read) o
-        (λ t. (
-          Done,
-          with_body (meaning old.read) t.node.id
-              (unwrap_or (body_of old.read t.node.id) [] ++ bytes),
-        ))) target.at
-        ∙ ap
-        (λ (s : Site). (
-          Done,
-          with_body (meaning old.read) s.node.id
-              (unwrap_or (body_of old.read s.node.id) [] ++ bytes),
-        )) target.filled
-        ∙ ap
-        (λ (o : Option (List ℕ)).
-        (Done, with_body (meaning old.read) node.id (unwrap_or o [] ++ bytes))) were)
+        (grind (arith, nat_tests))
         (ap (λ (r : Rows). meaning r.read) new_is
         ∙ ap (λ (r : Rows). meaning
         (with_content r (with_body r.read node.id (before ++ bytes))).read)
@@ -225,9 +179,7 @@ module _ (asker : Asker) (path : List (List ℕ)) (bytes : List ℕ) where
         let judged = few_judged before were few in
         closed_done asker (Append path bytes) old Done mid new judged refl refl
         (with_body old.read node.id (before ++ bytes)) refl
-        (bytes_set (before ++ bytes) new sets
-        ∙ ap (λ (r : Rows). with_content r (with_body r.read node.id (before ++ bytes)))
-        judged.notes)
+        (cc (bytes_set (before ++ bytes) new sets, judged.notes))
         (stored_site path node, reached.found, refl)
         (stored_site path node, reached.found, (before, were, refl))
 
@@ -237,10 +189,7 @@ module _ (asker : Asker) (path : List (List ℕ)) (bytes : List ℕ) where
         → TakesBytes t node.id (before ++ bytes) mid new
         → IsServed asker (Append path bytes) old reply new
     on_size before true new reply were many replies takes =
-        not_appended old new reply are
-        (sized_judged before new (Some reply) were
-        (refuses asker path TooLarge (nat_lt 1048576 (length (before ++ bytes)))
-        [] mid new reply replies many takes))
+        search (not_appended, refuses, sized_judged)
     on_size before false new reply were few replies takes =
         subst (λ (r : Reply). IsServed asker (Append path bytes) old r new) (sym replies)
         (append_set before new were few takes, append_closed before new were few takes)

@@ -1,23 +1,15 @@
 -- Rows stay sound where a document gets other bytes.
-use Rattle.std.proofs.Common.{◌≡◌, ℕ, zero, suc, ◌==◌, Bool, true, false, cond, not, List, [], ◌∷◌}
-use Rattle.std.proofs.Common.{length, Option, Some, None, refl, sym, ap, ◌∙◌, inl, inr}
-use Rattle.std.specs.Prelude.{nat_le}
-use Rattle.std.specs.List.{find, AllByRecursion}
-use Rattle.std.specs.Option.{option_map_or}
-use Rattle.std.proofs.lemmas.Bool.{cases_Bool, false≢true, eqb-true, eq-eqb}
-use Rattle.room_entry.specs.Valid.{is_document}
-use Rattle.room_entry.specs.declared.object.ObjKind.{ObjKind}
-use Rattle.room_rows.specs.declared.node.Node.{Node}
-use Rattle.room_rows.specs.Content.{Content, node_at, body_of, reaches_root, with_body}
-use Rattle.room_rows.specs.Finding.{find_id}
-use Rattle.room_rows.specs.Keep.{with_content}
-use Rattle.room_rows.specs.Rows.{Rows, AreRows}
+use Rattle.std.proofs.Common.{◌≡◌, ℕ, zero, suc, Bool, true, false, cond, not, List, [], ◌∷◌}
+use Rattle.std.proofs.Common.{length, Option, Some, None, refl, ap, ◌∙◌, arith}
+use Rattle.std.proofs.lemmas.Bool.Decides.{nat_tests}
+use Rattle.std.specs.{Prelude.nat_le, List.{find, AllByRecursion}, Option.option_map_or}
+use Rattle.room_entry.specs.{Valid.is_document, declared.object.ObjKind.ObjKind}
+use Rattle.room_rows.specs.{declared.node.Node.Node, Content.{Content, node_at, reaches_root}}
+use Rattle.room_rows.specs.{Content.with_body, Finding.find_id, Keep.with_content, Rows.Rows}
+use Rattle.room_rows.specs.{Rows.AreRows, Sound.{AreSound, fits_kind, has_sound_body}}
 use Rattle.room_rows.proofs.InPlace.{body_of-with_body, body_of-with_body-other}
 use Rattle.room_rows.proofs.Lookups.{each_found}
-use Rattle.room_rows.specs.Sound.{AreSound, fits_kind, has_sound_body, reaches}
 use Rattle.room_sound.proofs.SoundParts.{sound_parts, parts_sound, find_same}
-use Rattle.std.proofs.Common.{arith}
-use Rattle.std.proofs.lemmas.Bool.Decides.{nat_tests}
 
 -- what passes one test passes another
 none_fails : (test other : Node → Bool) (P : Node → Type 0)
@@ -58,33 +50,13 @@ sound_bytes rows id node bytes are sound there document few =
       lists = parts.lists;
       root = parts.root;
       parents = parts.parents;
-      reached =
-          find_same (λ n. not (reaches (with_body rows.read id bytes) n))
-          (λ n. not (reaches rows.read n))
-          (λ (n : Node). ap not (reaches_bytes rows.read id bytes
-          (length rows.read.nodes) n.parent)) rows.read.nodes ∙ parts.reached;
+      reached = search (find_same, reaches_bytes);
       names = parts.names;
-      bodies =
-          none_fails (has_sound_body rows.read) (has_sound_body (with_body rows.read id bytes))
-          (λ n. find_id n.id rows.read.nodes ≡ Some n) one rows.read.nodes
-          (each_found 0 rows.read.nodes are.numbers) parts.bodies;
+      bodies = grind (arith, nat_tests, each_found, none_fails, one);
       law = parts.law;
     })
   where
     one : (n : Node) → find_id n.id rows.read.nodes ≡ Some n → has_sound_body rows.read n ≡ true
         → has_sound_body (with_body rows.read id bytes) n ≡ true
-    one n found fits = elim (cases_Bool (n.id == id)) [
-      | inl same ↦
-          let at : n.id ≡ id = eqb-true n.id id same in
-          let it : Some n ≡ Some node = sym found ∙ ap (λ (i : ℕ). find_id i rows.read.nodes) at
-          ∙ there in
-          let here : n ≡ node = cc in
-          ap (fits_kind n.kind)
-          (ap (λ (i : ℕ). body_of (with_body rows.read id bytes) i) at
-          ∙ body_of-with_body rows.read id bytes)
-          ∙ document_fits n.kind bytes (ap (λ (m : Node). is_document m.kind) here ∙ document) few
-      | inr other ↦
-          ap (fits_kind n.kind)
-          (body_of-with_body-other rows.read id bytes n.id
-          (λ same. false≢true (sym other ∙ eq-eqb n.id id same))) ∙ fits
-    ]
+    one n found fits =
+        grind (arith, nat_tests, body_of-with_body, body_of-with_body-other, document_fits)

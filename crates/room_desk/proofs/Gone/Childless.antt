@@ -1,16 +1,11 @@
 -- Objects without children, and lists of objects without one of them.
-use Rattle.std.proofs.Common.{◌≡◌, ℕ, ◌==◌, Bool, true, false, not, List, [], ◌∷◌, map}
-use Rattle.std.proofs.Common.{filter, Some, None, refl}
-use Rattle.std.specs.List.{find, AllByRecursion}
-use Rattle.std.specs.Option.{option_map_or}
-use Rattle.room_rows.specs.declared.node.Node.{Node}
-use Rattle.room_rows.specs.Content.{Content, body_at, children_of, has_parent}
-use Rattle.room_rows.specs.Content.{sorted_by_name}
-use Rattle.room_rows.specs.Finding.{find_id}
+use Rattle.std.proofs.Common.{◌≡◌, ℕ, ◌==◌, Bool, true, false, not, List, [], ◌∷◌, map, filter}
+use Rattle.std.proofs.{Common.{Some, None, refl, arith}, lemmas.Bool.Decides.nat_tests}
+use Rattle.std.specs.{List.{find, AllByRecursion}, Option.option_map_or}
+use Rattle.room_rows.specs.{declared.node.Node.Node, Content.{Content, body_at, children_of}}
+use Rattle.room_rows.specs.{Content.{has_parent, sorted_by_name}, Finding.find_id}
 use Rattle.room_rows.specs.Sound.{has_sound_lists}
 use Rattle.room_rows.proofs.Lookups.{put_is_some}
-use Rattle.std.proofs.Common.{arith}
-use Rattle.std.proofs.lemmas.Bool.Decides.{nat_tests}
 
 -- ---- objects without children
 

@@ -1,49 +1,31 @@
 -- A request that removes an object is a step.
-use Rattle.std.proofs.Common.{◌≡◌, ℕ, Bool, true, false, not, List, [], ◌∷◌, ◌++◌, map}
-use Rattle.std.proofs.Common.{Option, Some, None, refl, sym, ap, subst, ◌∙◌}
-use Rattle.std.proofs.Common.{arith}
-use Rattle.std.proofs.Common.{Err}
-use Rattle.std.proofs.Math.Seq.{take-length}
-use Rattle.std.proofs.lemmas.Bool.{false≢true}
-use Rattle.std.specs.Option.{option_map, option_map_or}
-use Rattle.std.proofs.lemmas.List.{map-append}
-use Rattle.room_rows.specs.declared.node.Node.{Node}
-use Rattle.room_rows.specs.Content.{Content, children_of, is_empty, node_at, root_of, with_records}
-use Rattle.room_rows.specs.Content.{without_node}
-use Rattle.room_rows.specs.Keep.{CanRemove, HasChildren, Removes, with_content}
-use Rattle.room_rows.specs.Meaning.{kept_node, meaning}
-use Rattle.room_rows.specs.Rows.{Rows, AreRows}
+use Rattle.std.proofs.Common.{◌≡◌, ℕ, Bool, true, false, not, List, [], ◌∷◌, ◌++◌, map, Option}
+use Rattle.std.proofs.{Common.{Some, None, refl, ap, subst, arith, Err}, Math.Seq.take-length}
+use Rattle.std.proofs.lemmas.{List.map-append, Bool.Decides.nat_tests}
+use Rattle.room_rows.specs.{declared.node.Node.Node, Content.{Content, children_of, is_empty}}
+use Rattle.room_rows.specs.{Content.{node_at, root_of, with_records, without_node}, Keep.CanRemove}
+use Rattle.room_rows.specs.{Keep.{HasChildren, Removes, with_content}, Meaning.{kept_node, meaning}}
+use Rattle.room_rows.specs.{Rows.{Rows, AreRows}, Sound.AreSound}
 use Rattle.room_rows.proofs.InPlace.{children_of-with_each, keeps_places}
-use Rattle.room_rows.specs.Sound.{AreSound}
-use Rattle.room_judge.specs.declared.arrival.Found.{Found}
-use Rattle.room_judge.specs.declared.asker.Asker.{Asker}
-use Rattle.room_machine.specs.declared.reply.Reply.{Reply}
-use Rattle.room_machine.specs.declared.reply.Reply.TheVariants.{Done, Refused}
-use Rattle.room_machine.specs.declared.reply.Reason.TheVariants.{NotEmpty, Root}
-use Rattle.room_machine.specs.declared.request.Request.TheVariants.{Remove}
-use Rattle.room_machine.specs.Site.{Site, site_at, parent_at}
-use Rattle.room_machine.specs.Plan.{Item, Deletion, Refusal, plan_of, way, where_found}
-use Rattle.room_machine.specs.Judge.{records_of_plan}
-use Rattle.room_judge.specs.Closed.{IsClosed, IsServed}
-use Rattle.room_machine.specs.Stored.{stored_along, stored_from, stored_plan, stored_site}
-use Rattle.room_judge.specs.Stored.{found_site}
-use Rattle.room_judge.specs.Judged.{CarriesOut, IsJudged}
+use Rattle.room_judge.specs.{declared.{arrival.Found.Found, asker.Asker.Asker}, Closed.IsClosed}
+use Rattle.room_judge.specs.{Closed.IsServed, Stored.found_site, Judged.{CarriesOut, IsJudged}}
 use Rattle.room_judge.specs.Spot.{IsPaired, pair_of}
-use Rattle.room_desk.specs.Made.{Ends}
-use Rattle.room_desk.specs.Removed.{RemovesFrom, RemovesIfGranted, refused_where}
+use Rattle.room_machine.specs.declared.reply.Reply.{Reply, TheVariants.{Done, Refused}}
+use Rattle.room_machine.specs.declared.reply.Reason.TheVariants.{NotEmpty, Root}
+use Rattle.room_machine.specs.{declared.request.Request.TheVariants.Remove, Site.{Site, site_at}}
+use Rattle.room_machine.specs.{Site.parent_at, Plan.{Item, Deletion, Refusal, plan_of, way}}
+use Rattle.room_machine.specs.{Plan.where_found, Judge.records_of_plan, Stored.stored_along}
+use Rattle.room_machine.specs.Stored.{stored_from, stored_plan, stored_site}
+use Rattle.room_desk.specs.{Made.Ends, Removed.{RemovesFrom, RemovesIfGranted, refused_where}}
 use Rattle.room_judge.proofs.Closing.{closed_done, closed_failed, closed_more}
 use Rattle.room_judge.proofs.Judging.{fails_first, judged_none, passes_first, passes_on, refuses}
-use Rattle.room_sound.proofs.SoundParts.{none_unreadable, sound_noted, sound_parts}
+use Rattle.room_sound.proofs.{SoundParts.{none_unreadable, sound_noted, sound_parts}, Sites.fill}
+use Rattle.room_sound.proofs.{Sites.sites_filled, Filled.{fill_item, judged_filled, site_filled}}
+use Rattle.room_sound.proofs.Filled.{target_there, way_filled}
 use Rattle.room_desk.proofs.Gone.SoundRemoved.{CanGo, removed_means, sound_removed}
-use Rattle.room_desk.proofs.Gone.Childless.{childless}
-use Rattle.room_desk.proofs.Made.Pairs.{parent_along}
-use Rattle.room_desk.proofs.Made.ServedItems.{judged_refused}
-use Rattle.room_sound.proofs.Sites.{fill, sites_filled}
-use Rattle.room_sound.proofs.Filled.{fill_item, judged_filled, site_filled, target_there}
-use Rattle.room_sound.proofs.Filled.{way_filled}
-use Rattle.room_desk.proofs.Steps.Stepping.{changed_step, refused_step}
-use Rattle.room_desk.proofs.Steps.Serving.{along_there}
-use Rattle.room_desk.proofs.Made.FolderPlans.{parent_filled}
+use Rattle.room_desk.proofs.{Gone.Childless.childless, Made.Pairs.parent_along}
+use Rattle.room_desk.proofs.Made.{ServedItems.judged_refused, FolderPlans.parent_filled}
+use Rattle.room_desk.proofs.Steps.{Stepping.{changed_step, refused_step}, Serving.along_there}
 
 -- what is stored and what is meant agree on whether there are children
 empty_kept : (content : Content) (id : ℕ)
@@ -72,18 +54,17 @@ module _ (asker : Asker) (path : List (List ℕ)) where
   items_filled : (content : Content) (sites : List Site)
       → items_along content (map fill sites) ≡ map fill_item (items_along (meaning content) sites)
   items_filled content sites =
-      rw (
-        way_filled false sites path,
-        site_filled sites path,
-        parent_filled sites path,
-        on (site_at sites path) (parent_at sites path),
+      grind (
+        arith,
+        nat_tests,
+        empty_kept,
+        fill,
+        fill_item,
         map-append,
+        parent_filled,
+        site_filled,
+        way_filled,
       )
-    where
-      on : (o p : Option Site)
-          → where_found (option_map fill o) (items_at content (option_map fill p))
-          ≡ map fill_item (where_found o (items_at (meaning content) p))
-      on = grind (arith, empty_kept content)
 
   -- what is judged at the stored lists is judged by the plan
   planned : (old new : Rows) (answer : Option Reply) → AreRows old → AreSound old
@@ -97,16 +78,11 @@ module _ (asker : Asker) (path : List (List ℕ)) where
   not_removed : (old new : Rows) (reply : Reply) → AreRows old
       → IsJudged asker (stored_plan old.read (Remove path)) old (Some reply) new
       → IsServed asker (Remove path) old reply new
-  not_removed old new reply are judged = (
-    λ known sound. refused_step asker (Remove path) old known sound new reply
-        (planned old new (Some reply) are sound judged),
-    closed_failed asker (Remove path) old reply new judged,
-  )
+  not_removed old new reply are judged = search (closed_failed, planned, refused_step)
 
   pub remove_halted : (old new : Rows) (reply : Reply) → AreRows old
       → IsPaired asker path old (Err reply) new → IsServed asker (Remove path) old reply new
-  remove_halted old new reply are paired =
-      not_removed old new reply are (fails_first asker _ _ old new reply paired.judged)
+  remove_halted old new reply are paired = search (fails_first, not_removed)
 
   module _ (old mid : Rows) (folder target : Found) (are : AreRows old)
       (named : is_empty path ≡ false)
@@ -141,9 +117,7 @@ module _ (asker : Asker) (path : List (List ℕ)) where
     there = along_there old.read are.numbers path (stored_site path target.node) paired.target
 
     below : target.node.parent ≡ Some folder.node.id
-    below =
-        parent_along old.read path (found_site path folder)
-        (stored_site path target.node) paired.folder paired.target
+    below = grind (arith, nat_tests, parent_along)
 
     -- the deletion may be refused
     denied : (last new : Rows) (refusal reply : Reply)
@@ -174,8 +148,7 @@ module _ (asker : Asker) (path : List (List ℕ)) where
           (ap not none) (judged_none asker last new same))
 
       childless_then : children_of last.read id ≡ [] → is_empty (children_of mid.read id) ≡ true
-      childless_then none =
-          let same = rw granted.notes at none in rw same
+      childless_then none = grind (arith, nat_tests)
 
       module _ (none : children_of last.read id ≡ []) where
         all : IsJudged asker (stored_plan old.read (Remove path)) old None last
@@ -197,14 +170,7 @@ module _ (asker : Asker) (path : List (List ℕ)) where
             (plan_of (meaning old.read) (Remove path)) in
             let site = target_there old are (sound_parts old sound) path
             (stored_site path target.node) paired.target in
-            let can : CanGo old.read id = record {
-              rises = are.numbers;
-              node = target.node;
-              there = there;
-              parent = folder.node.id;
-              below = below;
-              none = childless old.read id (rw all.notes at none);
-            } in
+            let can : CanGo old.read id = grind (arith, nat_tests, all, below, childless, there) in
             changed_step asker (Remove path) old known sound last new Done
             (without_node (meaning old.read) id) plan
             (λ number. rw (site.at, site.kept))
@@ -228,10 +194,7 @@ module _ (asker : Asker) (path : List (List ℕ)) where
           → is_empty (children_of mid.read id) ≡ true → reply ≡ Refused path NotEmpty → new ≡ last
           → IsServed asker (Remove path) old reply new
       unread new reply answer none replies same =
-          let hidden : old.unreadable ≡ [] → ⊥ = λ all_read. false≢true (sym (answer.1
-          (rw (granted.notes, paired.judged.notes) all_read)
-          ∙ ap (λ (r : Rows). not (is_empty (children_of r.read id))) granted.notes
-          ∙ ap not none)) in (
+          let hidden : old.unreadable ≡ [] → ⊥ = grind (arith, nat_tests) in (
             λ known sound. absurd (hidden (none_unreadable old (sound_parts old sound))),
             closed_more asker (Remove path) old reply new path (stored_site path target.node)
                 (none_fails new same none) refl paired.target replies hidden,
@@ -258,16 +221,13 @@ module _ (asker : Asker) (path : List (List ℕ)) where
         → IsJudged asker (Deletion (found_site path target) (found_site path folder) ∷ []) mid
         answer last → RemovesIfGranted answer path id last reply new
         → IsServed asker (Remove path) old reply new
-    removed_if (Some refusal) last new reply judged ends =
-        denied last new refusal reply judged ends.0 ends.1
-    removed_if None last new reply judged ends =
-        on_children last judged ends.has_some ends.answer new reply ends.ends
+    removed_if (Some refusal) last new reply judged ends = search (denied)
+    removed_if None last new reply judged ends = search (on_children)
 
     pub remove_done : (new : Rows) (reply : Reply)
         → RemovesFrom asker path (found_site path target) (found_site path folder) mid reply new
         → IsServed asker (Remove path) old reply new
-    remove_done new reply removes =
-        removed_if removes.answer removes.mid new reply removes.judged removes.ends
+    remove_done new reply removes = search (removed_if)
 
 -- ---- the root
 
@@ -281,6 +241,4 @@ root_kept asker root old new reply are is replies same =
   where
     plan_is : items_along asker [] old.read (stored_from old.read [] root [])
         ≡ stored_plan old.read (Remove [])
-    plan_is =
-        sym (ap (λ o. items_along asker [] old.read
-        (option_map_or (λ root. stored_from old.read [] root []) o [])) is)
+    plan_is = cc (is)

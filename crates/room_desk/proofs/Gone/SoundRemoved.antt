@@ -1,35 +1,25 @@
 -- Rows stay sound where an object without children is removed, and what they mean changes likewise.
-use Rattle.std.proofs.Common.{◌≡◌, ℕ, zero, suc, ◌==◌, Bool, true, false, not, ◌&&◌, ◌||◌, List, []}
-use Rattle.std.proofs.Common.{map, filter, length, Option, Some, None, nat_lt, refl, sym, ap, ◌∙◌}
-use Rattle.std.specs.Prelude.{option_and_then}
-use Rattle.std.specs.List.{find, AllByRecursion}
-use Rattle.std.specs.Option.{option_map_or}
-use Rattle.std.proofs.lemmas.Bool.{true≢false, eqb-false}
-use Rattle.room_entry.specs.Pieces.{is_among}
-use Rattle.room_entry.specs.declared.object.Which.{Which}
-use Rattle.room_entry.specs.declared.object.Which.TheVariants.{Dacl, Sacl}
-use Rattle.room_rows.specs.declared.node.Node.{Node}
-use Rattle.room_rows.specs.Content.{Content, has_parent, is_linked_in, is_root}
-use Rattle.room_rows.specs.Content.{has_folder_above, node_at, parent_of, reaches_root}
-use Rattle.room_rows.specs.Content.{without_node}
-use Rattle.room_rows.specs.Finding.{find_id}
-use Rattle.room_rows.specs.Keep.{with_content}
-use Rattle.room_rows.specs.Meaning.{kept_node, meaning}
-use Rattle.room_rows.specs.Rows.{Rows, put_numbers, unread_numbers}
+use Rattle.std.proofs.Common.{◌≡◌, ℕ, zero, suc, ◌==◌, Bool, true, false, not, ◌||◌, List, [], map}
+use Rattle.std.proofs.Common.{filter, length, Option, Some, None, refl, sym, ap, ◌∙◌, arith}
+use Rattle.std.proofs.lemmas.Bool.{true≢false, Decides.nat_tests}
+use Rattle.std.specs.{Prelude.option_and_then, List.{find, AllByRecursion}, Option.option_map_or}
+use Rattle.room_entry.specs.{Pieces.is_among, declared.object.Which.{Which, TheVariants.Dacl}}
+use Rattle.room_entry.specs.declared.object.Which.TheVariants.{Sacl}
+use Rattle.room_rows.specs.{declared.node.Node.Node, Content.{Content, has_parent, is_linked_in}}
+use Rattle.room_rows.specs.Content.{is_root, has_folder_above, node_at, parent_of, reaches_root}
+use Rattle.room_rows.specs.{Content.without_node, Finding.find_id, Keep.with_content}
+use Rattle.room_rows.specs.{Meaning.{kept_node, meaning}, Rows.{Rows, put_numbers, unread_numbers}}
+use Rattle.room_rows.specs.Sound.{AreSound, first_failing, has_sound_name, has_sound_body}
+use Rattle.room_rows.specs.Sound.{keeps_law, reaches}
 use Rattle.room_rows.proofs.Frames.{Rises, node_at-without_node-other, has_its_parent}
 use Rattle.room_rows.proofs.Lookups.{each-kept, each-weaker, each_found, find-kept, find-kept_none}
 use Rattle.room_rows.proofs.Lookups.{stands-each, stands-found}
-use Rattle.room_rows.specs.Sound.{AreSound, first_failing}
-use Rattle.room_rows.specs.Sound.{has_sound_name, has_sound_body, keeps_law, reaches, same_place}
 use Rattle.room_inherit.proofs.Enough.{enough_steps}
 use Rattle.room_entry.proofs.Facts.Members.{none_filter}
 use Rattle.room_desk.proofs.Gone.Childless.{bad_at, body_kept, by_objects, chosen_kept, each_both}
 use Rattle.room_desk.proofs.Gone.Childless.{map_kept, of_objects, still_pass}
 use Rattle.room_sound.proofs.SoundParts.{SoundParts, map_same, sound_parts, parts_sound}
 use Rattle.room_sound.proofs.SoundParts.{none_numbered, none_unreadable}
-use Rattle.std.proofs.Common.{arith}
-use Rattle.std.proofs.lemmas.Bool.{not-true}
-use Rattle.std.proofs.lemmas.Bool.Decides.{nat_tests}
 
 -- ---- the content without the object
 
@@ -58,11 +48,7 @@ module _ (content : Content) (id : ℕ) (can : CanGo content id) where
   all_stay : AllByRecursion Stays after.nodes
   all_stay =
       each-weaker _ Stays
-      (λ n h. record {
-        found = h.0.0;
-        apart = h.0.1;
-        other = eqb-false n.id id (not-true _ h.1);
-      }) after.nodes
+      (grind (arith, nat_tests)) after.nodes
       (each-kept _ keep content.nodes
       (each_both _ _ content.nodes (each_found 0 content.nodes can.rises) can.none))
 
@@ -106,9 +92,7 @@ module _ (content : Content) (id : ℕ) (can : CanGo content id) where
       (λ is. true≢false (sym (has_its_parent id n is) ∙ stays.apart))) passes)
 
   names : (n : Node) → Stays n → has_sound_name content n ≡ true → has_sound_name after n ≡ true
-  names n stays passes =
-      let others = none_filter (λ other. nat_lt other.id n.id && same_place other n) keep
-      content.nodes in grind arith
+  names n stays passes = grind (arith, nat_tests, none_filter)
 
   bodies : (n : Node) → Stays n → has_sound_body content n ≡ true → has_sound_body after n ≡ true
   bodies n stays passes = rw (body_kept id n.id stays.other content.bodies) passes
@@ -117,10 +101,7 @@ module _ (content : Content) (id : ℕ) (can : CanGo content id) where
   laws n stays passes = rw (above_stays n stays.apart) passes
 
   roots : filter is_root after.nodes ≡ filter is_root content.nodes
-  roots =
-      chosen_kept is_root keep content.nodes
-      (each-weaker _ _ (λ n found is. root_stays n found is) content.nodes
-      (each_found 0 content.nodes can.rises))
+  roots = search (chosen_kept, each-weaker, each_found, root_stays)
     where
       root_stays : (n : Node) → find_id n.id content.nodes ≡ Some n → is_root n ≡ true
           → keep n ≡ true
@@ -141,10 +122,7 @@ module _ (content : Content) (id : ℕ) (can : CanGo content id) where
   kept n apart = rw (links Dacl n apart, links Sacl n apart)
 
   pub removed_means : meaning after ≡ without_node (meaning content) id
-  removed_means =
-      ap (λ (nodes : List Node). record after { nodes = nodes })
-      (map_same _ _ Stays (λ n stays. kept n stays.apart) after.nodes all_stay
-      ∙ sym (map_kept _ keep (λ n. refl) content.nodes))
+  removed_means = grind (arith, nat_tests, all_stay, kept, map_kept, map_same)
 
 -- ---- the rows
 
@@ -182,6 +160,4 @@ sound_removed rows id sound can =
 
     still_found : AllByRecursion (λ n. find_id n.id (without_node rows.read id).nodes ≡ Some n)
         (without_node rows.read id).nodes
-    still_found =
-        each-weaker _ _ (λ n h. find-kept _ (λ m. not (m.id == id)) rows.read.nodes n h.0 h.1) _
-        (each-kept _ (λ n. not (n.id == id)) rows.read.nodes found)
+    still_found = grind (arith, nat_tests, each-kept, each-weaker, find-kept, found)

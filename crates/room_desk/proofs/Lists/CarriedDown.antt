@@ -1,24 +1,17 @@
 -- What carrying down answers, as a call of a request.
-use Rattle.std.proofs.Common.{◌≡◌, ℕ, ◌+◌, ◌≤◌, Ok, Err, length, ap}
-use Rattle.std.proofs.Common.{arith}
+use Rattle.std.proofs.Common.{◌≡◌, ℕ, ◌+◌, ◌≤◌, Ok, Err, length, ap, arith}
+use Rattle.std.proofs.lemmas.Bool.Decides.{nat_tests}
 use Rattle.room_entry.specs.declared.object.Which.{Which}
-use Rattle.room_rows.specs.declared.keep.KeepFault.{KeepFault}
-use Rattle.room_rows.specs.declared.node.Node.{Node}
-use Rattle.room_rows.specs.Keep.{KeepLaws, capped}
-use Rattle.room_rows.specs.Rows.{AreRows, Rows}
+use Rattle.room_rows.specs.{declared.{keep.KeepFault.KeepFault, node.Node.Node}, Keep.KeepLaws}
+use Rattle.room_rows.specs.{Keep.capped, Rows.{AreRows, Rows}}
 use Rattle.room_inherit.specs.Spread.{Holds, IsCarried, IsOwnAncestor, IsSpread}
-use Rattle.room_inherit.specs.declared.outcome.Spread.{Spread}
-use Rattle.room_inherit.specs.declared.outcome.SpreadFault.{SpreadFault}
+use Rattle.room_inherit.specs.declared.outcome.{Spread.Spread, SpreadFault.SpreadFault}
 use Rattle.room_inherit.specs.declared.outcome.SpreadFault.TheVariants.{Keeper, Loop}
 use Rattle.room_desk.specs.Carrying.{HasLoop, HasLoopFrom, IsCarriedDown, IsCarriedFrom}
-use Rattle.room_desk.specs.Carrying.{keeper_fault}
-use Rattle.room_desk.specs.Counted.{EachList, Provided, changed_lists}
-use Rattle.room_judge.specs.Extent.{UpTo}
-use Rattle.room_judge.specs.Judged.{IsDone}
-use Rattle.room_judge.proofs.Calls.{as_well}
-use Rattle.room_judge.proofs.Within.{written_up_to}
+use Rattle.room_desk.specs.{Carrying.keeper_fault, Counted.{EachList, Provided, changed_lists}}
+use Rattle.room_judge.specs.{Extent.UpTo, Judged.IsDone}
+use Rattle.room_judge.proofs.{Calls.as_well, Within.written_up_to}
 use Rattle.room_desk.proofs.Writes.ChangedLists.{spread_changes}
-use Rattle.std.proofs.lemmas.Bool.Decides.{nat_tests}
 
 -- as many writes as lists are other now
 carried_writes : (which : Which) (id changed before after more : ℕ) (old new : Rows) → AreRows old

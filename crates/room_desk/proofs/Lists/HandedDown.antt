@@ -1,42 +1,26 @@
 -- Lists that are handed down on rows that needn't be sound.
-use Rattle.std.proofs.Common.{◌≡◌, ℕ, zero, suc, ◌==◌, ◌||◌, ◌++◌, Bool, true, false, cond}
-use Rattle.std.proofs.Common.{List, not, Option, Some, None, refl, sym, ap, ◌∙◌, ◌⊎◌, inl, inr}
-use Rattle.std.specs.Prelude.{IsTrue}
-use Rattle.std.specs.Option.{option_map, option_map_or}
-use Rattle.std.proofs.lemmas.Bool.{and_parts, cases_Bool, cond-false, cond-true}
-use Rattle.std.proofs.lemmas.Bool.{false≢true}
-use Rattle.std.proofs.lemmas.List.{map-id}
-use Rattle.room_entry.specs.Ace.{Ace}
-use Rattle.room_entry.specs.Same.{same_entries}
-use Rattle.room_entry.specs.declared.object.Which.{Which}
+use Rattle.std.proofs.Common.{◌≡◌, ℕ, zero, suc, ◌==◌, ◌||◌, ◌++◌, Bool, true, false, cond, List}
+use Rattle.std.proofs.Common.{Option, Some, None, refl, sym, ap, ◌∙◌, ◌⊎◌, inl, arith}
+use Rattle.std.proofs.lemmas.{Bool.{and_parts, false≢true, Decides.nat_tests}, List.map-id}
+use Rattle.std.specs.{Prelude.IsTrue, Option.option_map_or}
+use Rattle.room_entry.specs.{Ace.Ace, Same.same_entries, declared.object.Which.Which}
 use Rattle.room_entry.specs.declared.object.Which.TheVariants.{Dacl, Sacl}
 use Rattle.room_entry.proofs.Same.{entries_equal}
-use Rattle.room_rows.specs.HeldList.{Held}
-use Rattle.room_rows.specs.declared.node.AuditRow.{AuditRow}
-use Rattle.room_rows.specs.declared.node.Node.{Node}
-use Rattle.room_rows.specs.Content.{Content, has_parent, is_linked_in, node_at, parent_of, with_each}
-use Rattle.room_rows.specs.Content.{with_node}
-use Rattle.room_rows.specs.Held.{held_of, with_held}
-use Rattle.room_rows.specs.Keep.{with_content, with_inh, with_place}
-use Rattle.room_rows.specs.Law.{agrees}
-use Rattle.room_rows.specs.Rows.{Rows}
-use Rattle.room_rows.proofs.Frames.{Rises, node_at-number}
-use Rattle.room_rows.proofs.InPlace.{held_of-with_inh, with_inh-id}
-use Rattle.room_rows.proofs.SamePlace.{replaced}
-use Rattle.room_inherit.specs.Spread.{IsLinkedBelow, IsSpread, is_linked_within, stores_as_before}
+use Rattle.room_rows.specs.{declared.node.{AuditRow.AuditRow, Node.Node}, Content.Content}
+use Rattle.room_rows.specs.Content.{has_parent, is_linked_in, node_at, parent_of, with_each}
+use Rattle.room_rows.specs.{Content.with_node, Held.held_of, Keep.{with_content, with_inh}}
+use Rattle.room_rows.specs.{Keep.with_place, Law.agrees, Rows.Rows}
+use Rattle.room_rows.proofs.{Frames.{Rises, node_at-number}, InPlace.held_of-with_inh}
+use Rattle.room_rows.proofs.{InPlace.with_inh-id, SamePlace.replaced}
+use Rattle.room_inherit.specs.Spread.{IsSpread, is_linked_within, stores_as_before}
 use Rattle.room_inherit.proofs.Kinship.{with_own}
 use Rattle.room_ace.specs.Sent.{Sent}
 use Rattle.room_machine.specs.Changed.{Child, Further, HandsDown, IsLinkedUnder, MovesTo, SetsList}
-use Rattle.room_machine.specs.Changed.{inh_in, stored_held, with_one}
+use Rattle.room_machine.specs.Changed.{inh_in, with_one}
 use Rattle.room_judge.specs.Judged.{with_notes}
-use Rattle.room_desk.specs.Moving.{IsMovedOnly}
-use Rattle.room_desk.specs.Setting.{IsSetOnly}
-use Rattle.room_desk.proofs.Lists.SetHeld.{each_same}
-use Rattle.room_desk.proofs.Lists.ValidDown.{all_found}
-use Rattle.room_desk.proofs.Placed.Climbing.{node_at-changed}
-use Rattle.room_desk.proofs.Sound.Anchored.{after_is}
-use Rattle.std.proofs.Common.{arith}
-use Rattle.std.proofs.lemmas.Bool.Decides.{nat_tests}
+use Rattle.room_desk.specs.{Moving.IsMovedOnly, Setting.IsSetOnly}
+use Rattle.room_desk.proofs.Lists.{SetHeld.each_same, ValidDown.all_found}
+use Rattle.room_desk.proofs.{Placed.Climbing.node_at-changed, Sound.Anchored.after_is}
 
 -- ---- nothing is handed down
 
@@ -52,9 +36,7 @@ nothing_handed which id content = record {
     stay n = (held_of which n).inh
 
     unmoved : with_each content (λ n. with_inh which (stay n) n) ≡ content
-    unmoved =
-        (λ i. with_each content (λ n. with_own which n i))
-        ∙ ap (λ (nodes : List Node). record content { nodes = nodes }) (map-id content.nodes)
+    unmoved = search (map-id, with_own)
 
 -- ---- what was carried down
 
@@ -81,12 +63,7 @@ linked_under (suc n) rows which id node is =
 
 pub spread_handed : (which : Which) (id changed : ℕ) (old new : Rows)
     → IsSpread which id old new changed → HandsDown which id old.read new.read
-spread_handed which id changed old new spread = record {
-  lists = spread.lists;
-  becomes = read_is;
-  each = λ node there. one node there (same_entries (spread.lists node) (held_of which node).inh)
-      refl;
-}
+spread_handed which id changed old new spread = grind (arith, nat_tests, one, read_is)
   where
     change : Node → Node
     change n = with_inh which (spread.lists n) n
@@ -101,13 +78,7 @@ spread_handed which id changed old new spread = record {
     stores_other : (node : Node) → node_at old.read node.id ≡ Some node
         → same_entries (spread.lists node) (held_of which node).inh ≡ false
         → stores_as_before old.read which (change node) ≡ false
-    stores_other node there isnt =
-        ap (λ o. option_map_or
-        (λ (before : Node). same_entries (held_of which (change node)).inh (held_of which before).inh)
-        o false)
-        (ap (node_at old.read) (number node) ∙ there)
-        ∙ ap (λ (h : Held). same_entries h.inh (held_of which node).inh)
-        (held_of-with_inh which (spread.lists node) node) ∙ isnt
+    stores_other node there isnt = grind (arith, nat_tests, change, held_of-with_inh, number)
 
     now_agrees : (node : Node) → node_at old.read node.id ≡ Some node
         → stores_as_before old.read which (change node) ≡ false
@@ -116,21 +87,14 @@ spread_handed which id changed old new spread = record {
         ap (λ t. t || agrees new.read which (change node)) (sym isnt)
         ∙ all_found (λ n. stores_as_before old.read which n || agrees new.read which n) new.read
         node.id (change node) spread.agree
-        (ap (λ (c : Content). node_at c node.id) read_is
-        ∙ node_at-changed old.read change number node.id ∙ ap (option_map change) there)
+        (cc (read_is, node_at-changed old.read change number node.id, there))
 
     one : (node : Node) → node_at old.read node.id ≡ Some node → (t : Bool)
         → same_entries (spread.lists node) (held_of which node).inh ≡ t
         → (spread.lists node ≡ (held_of which node).inh)
         ⊎ (IsLinkedUnder old.read which id node × IsTrue (agrees new.read which (change node)))
-    one node there true same =
-        inl (entries_equal (spread.lists node) (held_of which node).inh same)
-    one node there false isnt =
-        let below : IsLinkedBelow old.read which id node = spread.below node there (ap not isnt) in
-        inr (
-          linked_under below.0 old.read which id node below.1,
-          now_agrees node there (stores_other node there isnt),
-        )
+    one node there true same = grind (arith, nat_tests, entries_equal)
+    one node there false isnt = grind (arith, nat_tests, linked_under, now_agrees, stores_other)
 
 -- ---- beside records
 
@@ -159,22 +123,14 @@ noted_becomes : (old new : Rows) (records : List AuditRow)
     → new ≡ with_content (with_notes old records) new.read
     → new.read.audits ≡ old.read.audits ++ records
     → new ≡ with_notes (with_content old (beside old new)) records
-noted_becomes old new records is same = is
-    ∙ (λ i. record { read = record new.read { audits = same i }; unreadable = old.unreadable })
+noted_becomes old new records is same = grind (arith, nat_tests)
 
 -- A list is set after records were added.
 pub set_noted : (which : Which) (sent : Sent) (node : Node) (old new : Rows)
     (records : List AuditRow) → IsSetOnly which sent node (with_notes old records) new
     → SetsList old.read which sent node (beside old new)
     × (new ≡ with_notes (with_content old (beside old new)) records)
-set_noted which sent node old new records set =
-    let held = stored_held which sent node.kind (parent_of old.read node) in
-    let listed = with_node old.read (with_held which held node) in (
-      handed_noted which node.id listed new.read (old.read.audits ++ records) set.0,
-      noted_becomes old new records set.1
-          (handed_audits which node.id (record listed { audits = old.read.audits ++ records })
-          new.read set.0),
-    )
+set_noted which sent node old new records set = search (handed_audits, handed_noted, noted_becomes)
 
 -- An object gets another place after records were added.
 pub moved_noted : (target folder : Node) (name : List ℕ) (old new : Rows)
@@ -195,9 +151,7 @@ moved_noted target folder name old new records moved =
         handed_noted Dacl target.id (dacl placed) mid audits moved.0.1,
         handed_noted Sacl target.id (sacl still) new.read mid.audits moved.0.2,
       ),
-      noted_becomes old new records moved.1
-          (handed_audits Sacl target.id (sacl mid) new.read moved.0.2
-          ∙ handed_audits Dacl target.id (dacl (record placed { audits = audits })) mid moved.0.1),
+      grind (arith, nat_tests, handed_audits, noted_becomes),
     )
 
 -- ---- one object changed
@@ -226,12 +180,7 @@ module _ (content : Content) (rises : Rises content) (id : ℕ) (node : Node)
       ∙ ap (λ (nodes : List Node). record content { nodes = nodes }) (map-id content.nodes)
     where
       one : (n : Node) → node_at content n.id ≡ Some n → cond (n.id == id) (change n) n ≡ n
-      one n is = elim (cases_Bool (n.id == id)) [
-        | inl here ↦
-            cond-true (n.id == id) (change n) n here
-            ∙ ap change (same_node n is here) ∙ same ∙ sym (same_node n is here)
-        | inr isnt ↦ cond-false (n.id == id) (change n) n isnt
-      ]
+      one n is = grind (arith, nat_tests, same_node)
 
 -- ---- rows that can't be read
 

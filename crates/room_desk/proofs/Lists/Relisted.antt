@@ -1,29 +1,18 @@
 -- Rows in which the objects have other lists of one attribute, and else are as they were.
-use Rattle.std.proofs.Common.{◌≡◌, ℕ, Bool, true, List, [], ◌∷◌, map, Some}
-use Rattle.std.proofs.Common.{refl, ap, ◌∙◌}
-use Rattle.std.specs.List.{list_all}
-use Rattle.std.specs.Option.{option_map}
-use Rattle.std.proofs.lemmas.Bool.{and_parts, and_from}
-use Rattle.room_entry.specs.declared.object.Which.{Which}
-use Rattle.room_entry.specs.declared.object.Which.TheVariants.{Dacl, Sacl}
-use Rattle.room_rows.specs.HeldList.{Held}
-use Rattle.room_rows.specs.declared.node.Node.{Node}
-use Rattle.room_rows.specs.Content.{Content, node_at, parent_of, has_folder_above, is_linked_in}
-use Rattle.room_rows.specs.Content.{with_each}
-use Rattle.room_rows.specs.Held.{held_of, with_held, is_linked}
-use Rattle.room_rows.specs.Keep.{with_content}
-use Rattle.room_rows.specs.Meaning.{kept_held, kept_node}
-use Rattle.room_rows.specs.Rows.{Rows}
-use Rattle.room_rows.proofs.InPlace.{place-with_held, node_at-with_each}
-use Rattle.room_rows.proofs.SamePlace.{IsSamePlace}
-use Rattle.room_rows.specs.Law.{AllAgree, agrees, agrees_with}
-use Rattle.room_rows.specs.Sound.{AreSound, has_sound_lists, is_sound_held, keeps_law, reaches}
-use Rattle.room_inherit.proofs.NoFault.{no_fault, sound_checked}
-use Rattle.room_inherit.proofs.Unmoved.{above, all_kept, folder_above, places, reach_all}
-use Rattle.room_inherit.proofs.Unmoved.{still_sound}
+use Rattle.std.proofs.Common.{◌≡◌, ℕ, Bool, true, List, [], ◌∷◌, map, Some, refl, arith}
+use Rattle.std.proofs.lemmas.Bool.{and_parts, and_from, Decides.nat_tests}
+use Rattle.std.specs.{List.list_all, Option.option_map}
+use Rattle.room_entry.specs.declared.object.Which.{Which, TheVariants.{Dacl, Sacl}}
+use Rattle.room_rows.specs.{HeldList.Held, declared.node.Node.Node, Content.{Content, node_at}}
+use Rattle.room_rows.specs.Content.{parent_of, has_folder_above, is_linked_in, with_each}
+use Rattle.room_rows.specs.{Held.{held_of, with_held, is_linked}, Keep.with_content}
+use Rattle.room_rows.specs.{Meaning.{kept_held, kept_node}, Rows.Rows, Law.{AllAgree, agrees}}
+use Rattle.room_rows.specs.{Law.agrees_with, Sound.{AreSound, has_sound_lists, is_sound_held}}
+use Rattle.room_rows.specs.Sound.{keeps_law, reaches}
+use Rattle.room_rows.proofs.{InPlace.{place-with_held, node_at-with_each}, SamePlace.IsSamePlace}
+use Rattle.room_inherit.proofs.{NoFault.{no_fault, sound_checked}, Unmoved.{above, all_kept}}
+use Rattle.room_inherit.proofs.Unmoved.{folder_above, places, reach_all, still_sound}
 use Rattle.room_entry.proofs.Facts.Lists.{all_implied}
-use Rattle.std.proofs.Common.{arith}
-use Rattle.std.proofs.lemmas.Bool.Decides.{nat_tests}
 
 -- ---- both attributes
 
@@ -137,26 +126,14 @@ module _ (which : Which) (lists : Node → Held) where
         ≡ with_held which
         (kept_held (is_linked (lists node) (option_map lists (parent_of rows node))) (lists node))
         (kept_node rows node)
-    kept_relisted node =
-        of_which which relisted (lists node)
-        (is_linked (lists node) (option_map lists (parent_of rows node))) (linked_relisted node)
-        (other_linked_in node)
+    kept_relisted node = search (linked_relisted, of_which, other_linked_in)
       where
         of_which : (w : Which) (c : Content) (held : Held) (linked : Bool)
             → is_linked_in c w (with_held w held node) ≡ linked
             → is_linked_in c (other w) (with_held w held node) ≡ is_linked_in rows (other w) node
             → kept_node c (with_held w held node)
             ≡ with_held w (kept_held linked held) (kept_node rows node)
-        of_which Dacl c held linked here there =
-            λ i. record node {
-              dacl = kept_held (here i) held;
-              sacl = kept_held (there i) node.sacl;
-            }
-        of_which Sacl c held linked here there =
-            λ i. record node {
-              dacl = kept_held (there i) node.dacl;
-              sacl = kept_held (here i) held;
-            }
+        of_which w c held linked here there = grind (arith, nat_tests)
 
   -- ---- rows that stay sound
 
@@ -168,15 +145,13 @@ module _ (which : Which) (lists : Node → Held) where
   relisted_sound old are_sound fits law =
       still_sound old relist place_kept kind_kept (sound_checked old are_sound)
       (λ node there before. both_lists which (relist node)
-      (ap (is_sound_held which (relist node).kind) (held_relisted node)
-      ∙ ap (λ k. is_sound_held which k (lists node)) (kind_kept node) ∙ fits node there)
-      (ap (is_sound_held (other which) (relist node).kind) (other_kept node)
-      ∙ ap (λ k. is_sound_held (other which) k (held_of (other which) node)) (kind_kept node)
-      ∙ one_list (other which) node before))
-      (all_both (agrees (relisted old.read) which) (agrees (relisted old.read) (other which))
+      (cc (held_relisted node, kind_kept node, fits node there))
+      (search (kind_kept, one_list, other_kept)))
+      (
+      cc (all_both (agrees (relisted old.read) which) (agrees (relisted old.read) (other which))
       (keeps_law (relisted old.read)) (both_agree which (relisted old.read))
       (map relist old.read.nodes) law
-      (all_kept relist (agrees (relisted old.read) (other which)) (agrees old.read (other which))
-      (other_agrees old.read) old.read.nodes
+      (all_kept relist (agrees (relisted old.read) (other which))
+      (agrees old.read (other which)) (other_agrees old.read) old.read.nodes
       (all_implied (keeps_law old.read) (agrees old.read (other which))
-      (one_agrees (other which) old.read) old.read.nodes (no_fault old are_sound).law)))
+      (one_agrees (other which) old.read) old.read.nodes (no_fault old are_sound).law))))

@@ -1,31 +1,21 @@
 -- The operator's reset of a list on rows that needn't be sound.
 use Rattle.std.proofs.Common.{◌≡◌, ℕ, zero, suc, List, [], ◌∷◌, ◌++◌, length, Option, Some, None}
-use Rattle.std.proofs.Common.{refl, sym, ap, subst, ◌∙◌, ◌⊎◌, inl, inr, append_assoc}
-use Rattle.std.specs.Prelude.{◌-◌, slice_get}
-use Rattle.std.specs.Option.{option_map_or}
-use Rattle.std.proofs.lemmas.List.{append-nil}
+use Rattle.std.proofs.Common.{refl, sym, ap, subst, ◌⊎◌, inl, inr, append_assoc, arith}
+use Rattle.std.proofs.lemmas.{List.append-nil, Bool.Decides.nat_tests}
+use Rattle.std.specs.{Prelude.{◌-◌, slice_get}, Option.option_map_or}
 use Rattle.room_ace.specs.Sent.{Sent}
-use Rattle.room_entry.specs.declared.fault.EntryFault.{EntryFault}
-use Rattle.room_entry.specs.declared.object.ObjKind.{ObjKind}
-use Rattle.room_entry.specs.declared.object.ObjKind.TheVariants.{Document, Folder}
-use Rattle.room_entry.specs.declared.object.Which.{Which}
-use Rattle.room_rows.specs.declared.node.Node.{Node}
-use Rattle.room_rows.specs.declared.node.Walk.{Walk}
-use Rattle.room_rows.specs.Content.{Content, child_of, node_at, parent_of, root_of}
-use Rattle.room_rows.specs.Rows.{Rows, AreRows}
-use Rattle.room_rows.specs.Walk.{behind, walk_from, walk_of}
+use Rattle.room_entry.specs.declared.{fault.EntryFault.EntryFault, object.ObjKind.ObjKind}
+use Rattle.room_entry.specs.declared.object.{ObjKind.TheVariants.{Document, Folder}, Which.Which}
+use Rattle.room_rows.specs.{declared.node.{Node.Node, Walk.Walk}, Content.{Content, child_of}}
+use Rattle.room_rows.specs.{Content.node_at, Rows.{Rows, AreRows}, Walk.{behind, walk_from}}
+use Rattle.room_rows.specs.Walk.{walk_of}
 use Rattle.room_machine.specs.Closed.{IsResetClosed, failure_told, listed_reply}
-use Rattle.room_machine.specs.declared.reply.Reply.{Reply}
-use Rattle.room_machine.specs.declared.reply.Reply.TheVariants.{Done, Refused}
-use Rattle.room_machine.specs.Site.{Site, site_at}
-use Rattle.room_machine.specs.Stored.{stored_along, stored_from, stored_site}
+use Rattle.room_machine.specs.{declared.reply.Reply.{Reply, TheVariants.{Done, Refused}}, Site.Site}
+use Rattle.room_machine.specs.{Site.site_at, Stored.{stored_along, stored_from, stored_site}}
 use Rattle.room_judge.specs.Judged.{RefusesEnd, Resets, ended_at}
 use Rattle.room_desk.specs.Setting.{Beneath, IsResetAtEnd, IsSetOrRefused, reason_of}
 use Rattle.room_sound.proofs.Ends.{same_last}
-use Rattle.room_desk.proofs.Lists.SetReset.{reset_done}
-use Rattle.room_desk.proofs.Sound.RootedWays.{above_end, stands_last}
-use Rattle.std.proofs.Common.{arith}
-use Rattle.std.proofs.lemmas.Bool.Decides.{nat_tests}
+use Rattle.room_desk.proofs.{Lists.SetReset.reset_done, Sound.RootedWays.{above_end, stands_last}}
 
 -- ---- where a walk ends
 
@@ -57,8 +47,7 @@ ends_from rows path (name ∷ names) node =
         → EndsAt path (name ∷ names) (stored_site path node ∷ sites) last rest
     deeper child sites last rest (inl here) = inl (
       here.0,
-      here.1 ∙ ap (λ (p : List (List ℕ)). Some (stored_site p last))
-          (append_assoc path (name ∷ []) names),
+      cc (here.1, append_assoc path (name ∷ []) names),
     )
     deeper child sites last rest (inr over) = inr over
 
@@ -87,10 +76,7 @@ ends_from rows path (name ∷ names) node =
 ends_along : (rows : Content) (path : List (List ℕ)) (walk : Walk) (front : List Node)
     (last : Node) → walk ≡ walk_of rows path → walk.chain ≡ front ++ last ∷ []
     → EndsAt [] path (stored_along rows path) last walk.rest
-ends_along rows path walk front last is chain =
-    subst (λ (n : ℕ). EndsAt [] path (stored_along rows path) last n)
-    (sym (ap (λ (w : Walk). w.rest) is))
-    (on (root_of rows) (sym (ap (λ (w : Walk). w.chain) is) ∙ chain))
+ends_along rows path walk front last is chain = grind (arith, nat_tests, on)
   where
     on : (o : Option Node)
         → (option_map_or (λ root. walk_from rows root path) o
@@ -105,9 +91,7 @@ ends_along rows path walk front last is chain =
         no_last (x ∷ xs) e = cc
     on (Some root) same =
         let end = ends_from rows [] path root in
-        subst (λ (n : Node). EndsAt [] path (stored_from rows [] root path) n
-        (walk_from rows root path).rest)
-        (sym (same_last front end.front last end.last (sym same ∙ end.chain))) end.ends
+        grind (arith, nat_tests, same_last)
 
 -- ---- what is answered there
 
@@ -120,8 +104,7 @@ module _ (path : List (List ℕ)) (which : Which) (sent : Sent) (last : Node) (o
 
   none_some : (r failed : Reply) {A : Type 0} → failure_told r ≡ Some failed
       → failure_told r ≡ None → A
-  none_some r failed some none =
-      absurd (let wrong : ⊥ = (let e = sym some ∙ none in cc) in wrong)
+  none_some r failed some none = grind (arith, nat_tests)
 
   listed : (faults : Option EntryFault)
       → option_map_or (λ why. Refused path why) (reason_of faults) Done ≡ listed_reply path faults
@@ -138,10 +121,7 @@ module _ (path : List (List ℕ)) (which : Which) (sent : Sent) (last : Node) (o
       → EndsAt [] path (stored_along old.read path) last rest
       → IsResetAtEnd path which sent last rest old reply new
       → IsResetClosed path which sent old reply new
-  at_end zero there (inl here) said = at_object there here.1 said
-  at_end zero there (inr over) said = absurd (let wrong : ⊥ = (let e = over.1 in cc) in wrong)
-  at_end (suc rest) there (inl here) said = grind (arith, nat_tests)
-  at_end (suc rest) there (inr over) said = grind (arith, nat_tests, ended_told, none_some)
+  at_end rest there given said = grind (arith, nat_tests, at_object, ended_told, none_some)
 
 -- ---- in terms of the calls
 
@@ -151,11 +131,7 @@ told_end : (path : List (List ℕ)) (which : Which) (sent : Sent) (old new : Row
     → walk.chain ≡ front ++ last ∷ []
     → IsResetAtEnd path which sent last walk.rest old reply new → RefusesEnd path old reply
 told_end path which sent old new walk front last reply is chain said front' last' rest ends =
-    let same : last ≡ last' = same_last front front' last last'
-    (sym chain ∙ ap (λ (w : Walk). w.chain) (is ∙ ends)) in
-    let left : walk.rest ≡ suc rest = ap (λ (w : Walk). w.rest) (is ∙ ends) in
-    let told = subst (λ n. IsResetAtEnd path which sent last n old reply new) left said in
-    told.0 ∙ ap (λ (n : Node). ended_at path n.kind (suc rest)) same
+    grind (arith, nat_tests, same_last)
 
 pub reset_told : (path : List (List ℕ)) (which : Which) (sent : Sent) (old mid : Rows)
     (walk : Walk) (front : List Node) (last : Node) → walk ≡ walk_of old.read path → mid ≡ old
@@ -164,8 +140,8 @@ pub reset_told : (path : List (List ℕ)) (which : Which) (sent : Sent) (old mid
     → Beneath above last (IsResetAtEnd path which sent last walk.rest) mid reply new
     → Resets path which sent old reply new
 reset_told path which sent old mid walk front last is same chain above read new reply are beneath =
-    let said = beneath (ap (λ (r : Rows). parent_of r.read last) same
-    ∙ above_end old are.numbers path walk front last above is chain read) in
+    let said = beneath (
+    cc (same, above_end old are.numbers path walk front last above is chain read)) in
     let at = IsResetAtEnd path which sent last walk.rest in
     let here = subst (λ (r : Rows). at r reply new) same said in
     record {

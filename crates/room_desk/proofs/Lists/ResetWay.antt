@@ -1,29 +1,19 @@
 -- The way of a reset: what is refused, by where the walk comes to.
-use Rattle.std.proofs.Common.{◌≡◌, ℕ, zero, suc, ◌-◌, ◌&&◌, true, false, cond, not, List, [], ◌∷◌}
-use Rattle.std.proofs.Common.{◌++◌, filter, length, take, Option, Some, None, refl, sym, ap, ◌∙◌}
-use Rattle.std.proofs.Common.{append_assoc, arith, length-append}
+use Rattle.std.proofs.Common.{◌≡◌, ℕ, zero, suc, ◌-◌, true, false, cond, not, List, [], ◌∷◌, ◌++◌}
+use Rattle.std.proofs.Common.{filter, length, take, Option, Some, None, refl, sym, ap, ◌∙◌}
+use Rattle.std.proofs.{Common.{append_assoc, arith, length-append}, Math.Seq.take-append_seam}
+use Rattle.std.proofs.lemmas.{List.append-nil, Bool.Decides.nat_tests}
 use Rattle.std.specs.Option.{option_map_or}
-use Rattle.room_entry.specs.declared.parties.Caller.{Caller}
-use Rattle.room_rows.specs.declared.node.Node.{Node}
-use Rattle.room_rows.specs.declared.node.Walk.{Walk}
-use Rattle.room_rows.specs.Content.{Content, child_of, is_empty, is_folder}
-use Rattle.room_rows.specs.Walk.{behind, walk_from}
-use Rattle.room_machine.specs.declared.reply.Reason.TheVariants.{NoSuch, NotFolder}
-use Rattle.room_machine.specs.declared.reply.Reply.{Reply}
-use Rattle.room_machine.specs.declared.reply.Reply.TheVariants.{Refused}
-use Rattle.room_machine.specs.Judge.{first_failure, or_else}
-use Rattle.room_machine.specs.Plan.{Item, way, where_found}
-use Rattle.room_machine.specs.Site.{Site, site_at}
-use Rattle.room_machine.specs.Step.{is_refusal}
-use Rattle.room_machine.specs.Stored.{stored_from, stored_site}
-use Rattle.std.proofs.Math.Seq.{take-append_seam}
-use Rattle.std.proofs.lemmas.List.{append-nil}
-use Rattle.room_entry.specs.declared.object.ObjKind.{ObjKind}
+use Rattle.room_entry.specs.declared.{parties.Caller.Caller, object.ObjKind.ObjKind}
 use Rattle.room_entry.specs.declared.object.ObjKind.TheVariants.{Document, Folder}
-use Rattle.room_rows.specs.Content.{node_at}
+use Rattle.room_rows.specs.{declared.node.{Node.Node, Walk.Walk}, Content.{Content, child_of}}
+use Rattle.room_rows.specs.{Content.{is_folder, node_at}, Walk.{behind, walk_from}}
+use Rattle.room_machine.specs.declared.reply.{Reason.TheVariants.{NoSuch, NotFolder}, Reply.Reply}
+use Rattle.room_machine.specs.{declared.reply.Reply.TheVariants.Refused, Judge.first_failure}
+use Rattle.room_machine.specs.{Judge.or_else, Plan.{Item, way, where_found}, Site.{Site, site_at}}
+use Rattle.room_machine.specs.{Step.is_refusal, Stored.{stored_from, stored_site}}
 use Rattle.room_rows.proofs.Frames.{Rises, child_of-is_there}
 use Rattle.room_judge.specs.Judged.{ended_at}
-use Rattle.room_judge.proofs.Ways.{not_empty}
 
 -- ---- paths
 
@@ -91,11 +81,7 @@ module _ (rows : Content) (rises : Rises rows) (caller : Caller) (items : Site �
       → Comes path (stored_from rows p node names) names
       (first_failure caller (refusals (stored_from rows p node names) names))
       (end_from node names).0 (end_from node names).1
-  comes [] p path node there is =
-      let same : p ≡ path = sym (append-nil p) ∙ sym is in (
-        ap (λ q. Some (stored_site q node)) same,
-        ap (λ q. first_failure caller (filter is_refusal (items (stored_site q node)))) same,
-      )
+  comes [] p path node there is = grind (arith, nat_tests, append-nil)
   comes (name ∷ names) p path node there is =
       on (child_of rows node.id name) refl
       (λ child found. comes names (p ++ name ∷ []) path child
@@ -106,33 +92,13 @@ module _ (rows : Content) (rises : Rises rows) (caller : Caller) (items : Site �
           → or_else (cond (not (not (Rattle.room_entry.specs.Valid.is_document kind)))
           (Some (Refused p NotFolder)) None) (Some (Refused (p ++ name ∷ []) NoSuch))
           ≡ Some (ended_at path kind (suc (length names)))
-      ends Document =
-          ap (λ q. Some (Refused q NotFolder))
-          (sym (ap (λ whole. take (length whole - suc (length names)) whole) is
-          ∙ front_is p (name ∷ names) (suc (length names)) refl))
+      ends Document = grind (arith, nat_tests, front_is)
       ends Folder =
-          ap (λ q. Some (Refused q NoSuch))
-          (sym (ap (λ whole. take (length whole - (suc (length names) - 1)) whole)
-          (is ∙ sym (append_assoc p (name ∷ []) names))
-          ∙ front_is (p ++ name ∷ []) names (suc (length names) - 1) (omega arith)))
-
-      passed : (child : Node) → is_folder node ≡ true
-          → first_failure caller
-          (refusals (stored_site p node ∷ stored_from rows (p ++ name ∷ []) child names)
-          (name ∷ names))
-          ≡ first_failure caller (refusals (stored_from rows (p ++ name ∷ []) child names) names)
-      passed child folder =
-          ap (λ t. or_else (cond (not t) (Some (Refused p NotFolder)) None)
-          (or_else
-          (cond (is_empty (stored_from rows (p ++ name ∷ []) child names)
-          && not (false && is_empty names)) (Some (Refused (p ++ name ∷ []) NoSuch)) None)
-          (first_failure caller (refusals (stored_from rows (p ++ name ∷ []) child names) names))))
-          folder
-          ∙ ap
-          (λ t. or_else (cond (t && not (false && is_empty names))
-          (Some (Refused (p ++ name ∷ []) NoSuch)) None)
-          (first_failure caller (refusals (stored_from rows (p ++ name ∷ []) child names) names)))
-          (not_empty rows (p ++ name ∷ []) child names)
+          cc (
+            front_is (p ++ name ∷ []) names (suc (length names) - 1) (omega arith),
+            append_assoc p (name ∷ []) names,
+            is,
+          )
 
       on : (o : Option Node) → child_of rows node.id name ≡ o
           → ((child : Node) → o ≡ Some child
@@ -145,23 +111,4 @@ module _ (rows : Content) (rises : Rises rows) (caller : Caller) (items : Site �
           (option_map_or (λ child. end_from child names) o (node, suc (length names))).0
           (option_map_or (λ child. end_from child names) o (node, suc (length names))).1
       on None found next = ends node.kind
-      on (Some child) found next =
-          onward (end_from child names).0 (end_from child names).1
-          (passed child (folders node child name there found)) (next child refl)
-        where
-          onward : (last : Node) (rest : ℕ)
-              → first_failure caller
-              (refusals (stored_site p node ∷ stored_from rows (p ++ name ∷ []) child names)
-              (name ∷ names))
-              ≡ first_failure caller
-              (refusals (stored_from rows (p ++ name ∷ []) child names) names)
-              → Comes path (stored_from rows (p ++ name ∷ []) child names) names
-              (first_failure caller
-              (refusals (stored_from rows (p ++ name ∷ []) child names) names)) last rest
-              → Comes path (stored_site p node ∷ stored_from rows (p ++ name ∷ []) child names)
-              (name ∷ names)
-              (first_failure caller
-              (refusals (stored_site p node ∷ stored_from rows (p ++ name ∷ []) child names)
-              (name ∷ names))) last rest
-          onward last zero same rest = (rest.0, same ∙ rest.1)
-          onward last (suc n) same rest = same ∙ rest
+      on (Some child) found next = grind (arith, nat_tests)

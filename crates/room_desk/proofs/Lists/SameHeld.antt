@@ -1,23 +1,16 @@
 -- Lists that are the same are equal.
-use Rattle.std.proofs.Common.{◌≡◌, ◌&&◌, Bool, true, false, refl, sym, ap, ◌∙◌}
-use Rattle.std.proofs.lemmas.Bool.{and_parts, false≢true}
-use mathlib.Core.Bool.{beq}
-use Rattle.room_entry.specs.Same.{same_entries}
-use Rattle.room_entry.specs.declared.flags.ListFlags.{ListFlags}
-use Rattle.room_entry.proofs.Same.{entries_equal}
-use Rattle.room_rows.specs.HeldList.{Held}
-use Rattle.room_entry.proofs.Alike.{entries_themselves}
-use Rattle.std.proofs.Common.{arith}
+use Rattle.std.proofs.{Common.{◌≡◌, ◌&&◌, Bool, true, false, refl, arith}, lemmas.Bool.and_parts}
 use Rattle.std.proofs.lemmas.Bool.Decides.{nat_tests}
+use Rattle.room_entry.specs.{Same.same_entries, declared.flags.ListFlags.ListFlags}
+use Rattle.room_entry.proofs.{Same.entries_equal, Alike.entries_themselves}
+use Rattle.room_rows.specs.HeldList.{Held}
+use mathlib.Core.Bool.{beq}
 
 abbrev pub flags_same : ListFlags → ListFlags → Bool
 flags_same a b = beq a.auto b.auto && beq a.protect b.protect
 
 beq_equal : (s t : Bool) → beq s t ≡ true → s ≡ t
-beq_equal true true h = refl
-beq_equal true false h = absurd (false≢true h)
-beq_equal false true h = absurd (false≢true h)
-beq_equal false false h = refl
+beq_equal s t h = grind (arith, nat_tests)
 
 beq_itself : (t : Bool) → beq t t ≡ true
 beq_itself true = refl
@@ -42,9 +35,7 @@ pub flags_itself : (held other : Held) → held ≡ other → flags_same held.fl
 flags_itself held other same = grind (arith, nat_tests, beq_itself)
 
 pub own_itself : (held other : Held) → held ≡ other → same_entries held.own other.own ≡ true
-own_itself held other same =
-    ap (λ (h : Held). same_entries held.own h.own) (sym same) ∙ entries_themselves held.own
+own_itself held other same = cc (same, entries_themselves held.own)
 
 pub inh_itself : (held other : Held) → held ≡ other → same_entries held.inh other.inh ≡ true
-inh_itself held other same =
-    ap (λ (h : Held). same_entries held.inh h.inh) (sym same) ∙ entries_themselves held.inh
+inh_itself held other same = cc (same, entries_themselves held.inh)

@@ -1,14 +1,10 @@
 -- Sent entries gone through one by one.
 use Rattle.std.proofs.Common.{◌≡◌, ℕ, ◌+◌, ◌<◌, Bool, true, false, cond, not, List, [], ◌∷◌, ◌++◌}
-use Rattle.std.proofs.Common.{length, drop, get_or, refl, sym, ap, ◌∙◌, append_assoc}
-use Rattle.std.proofs.lemmas.List.{drop_more}
-use Rattle.std.proofs.lemmas.Bool.{false≢true}
-use mathlib.Core.Bool.{beq}
-use Rattle.room_entry.specs.Ace.{Ace}
-use Rattle.room_entry.specs.declared.flags.EntryFlags.{EntryFlags}
+use Rattle.std.proofs.Common.{length, drop, get_or, sym, ap, ◌∙◌, append_assoc, arith}
+use Rattle.std.proofs.lemmas.{List.drop_more, Bool.Decides.nat_tests}
+use Rattle.room_entry.specs.{Ace.Ace, declared.flags.EntryFlags.EntryFlags}
 use Rattle.room_desk.specs.Setting.{entries_marked}
-use Rattle.std.proofs.Common.{arith}
-use Rattle.std.proofs.lemmas.Bool.Decides.{nat_tests}
+use mathlib.Core.Bool.{beq}
 
 module _ (entries : List Ace) (i : ℕ) (entry : Ace) (below : i < length entries)
     (is : entry ≡ get_or entries i entry) where
@@ -24,10 +20,11 @@ module _ (entries : List Ace) (i : ℕ) (entry : Ace) (below : i < length entrie
         → (taken ++ entry ∷ []) ++ entries_marked inherited (drop (i + 1) entries) ≡ taken
         ++ entries_marked inherited (drop i entries)
     takes_entry is_wanted =
-        append_assoc taken (entry ∷ []) (entries_marked inherited (drop (i + 1) entries))
-        ∙ ap (λ t. taken ++ cond t (entry ∷ entries_marked inherited (drop (i + 1) entries))
-        (entries_marked inherited (drop (i + 1) entries))) (sym is_wanted)
-        ∙ ap (λ es. taken ++ entries_marked inherited es) (sym next)
+        cc (
+          append_assoc taken (entry ∷ []) (entries_marked inherited (drop (i + 1) entries)),
+          is_wanted,
+          next,
+        )
 
     pub leaves_entry : wanted entry.flags.inherited ≡ false
         → taken ++ entries_marked inherited (drop (i + 1) entries) ≡ taken
@@ -36,17 +33,11 @@ module _ (entries : List Ace) (i : ℕ) (entry : Ace) (below : i < length entrie
 
 pub same_mark : (inherited mark : Bool) → beq mark inherited ≡ true
     → cond inherited mark (not mark) ≡ true
-same_mark true true same = refl
-same_mark true false same = absurd (false≢true same)
-same_mark false true same = absurd (false≢true same)
-same_mark false false same = refl
+same_mark inherited mark same = grind (arith, nat_tests)
 
 pub other_mark : (inherited mark : Bool) → beq mark inherited ≡ false
     → cond inherited mark (not mark) ≡ false
-other_mark true true isnt = absurd (false≢true (sym isnt))
-other_mark true false isnt = refl
-other_mark false true isnt = refl
-other_mark false false isnt = absurd (false≢true (sym isnt))
+other_mark inherited mark isnt = grind (arith, nat_tests)
 
 -- ---- in terms of the loop
 

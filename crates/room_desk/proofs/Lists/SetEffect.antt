@@ -1,29 +1,21 @@
 -- What a request that sets a list makes of what the rows mean.
-use Rattle.std.proofs.Common.{◌≡◌, ℕ, ◌&&◌, Bool, cond, not, List, [], ◌∷◌, Option}
-use Rattle.std.proofs.Common.{Some, None, refl, sym, ap, ◌∙◌}
+use Rattle.std.proofs.Common.{◌≡◌, ℕ, ◌&&◌, Bool, cond, not, List, [], ◌∷◌, Option, Some, None}
+use Rattle.std.proofs.{Common.{refl, sym, ap, ◌∙◌, arith}, lemmas.Bool.Decides.nat_tests}
 use Rattle.std.specs.Option.{option_map}
 use Rattle.room_ace.specs.Sent.{Sent, inherited_of, own_of}
-use Rattle.room_entry.specs.declared.object.Which.{Which}
-use Rattle.room_entry.specs.declared.object.Which.TheVariants.{Dacl, Sacl}
+use Rattle.room_entry.specs.declared.object.Which.{Which, TheVariants.{Dacl, Sacl}}
 use Rattle.room_entry.specs.declared.parties.Caller.{Caller}
-use Rattle.room_rows.specs.HeldList.{Held}
-use Rattle.room_rows.specs.declared.node.Node.{Node}
-use Rattle.room_rows.specs.Content.{Content, parent_of}
-use Rattle.room_rows.specs.Held.{held_of}
-use Rattle.room_rows.specs.Meaning.{meaning}
-use Rattle.room_rows.specs.Rows.{Rows, AreRows}
+use Rattle.room_rows.specs.{HeldList.Held, declared.node.Node.Node, Content.{Content, parent_of}}
+use Rattle.room_rows.specs.{Held.held_of, Meaning.meaning, Rows.{Rows, AreRows}}
 use Rattle.room_machine.specs.declared.reply.Reply.TheVariants.{Done}
-use Rattle.room_machine.specs.declared.request.Request.TheVariants.{SetList}
-use Rattle.room_machine.specs.Effect.{effect, sent_held, set_list, with_site}
+use Rattle.room_machine.specs.{declared.request.Request.TheVariants.SetList, Effect.effect}
+use Rattle.room_machine.specs.{Effect.{sent_held, set_list, with_site}, Site.{Site, front}}
+use Rattle.room_machine.specs.{Site.{parent_at, site_at, sites_along}, Stored.stored_along}
+use Rattle.room_machine.specs.Stored.{stored_site}
 use Rattle.room_desk.specs.Setting.{kept_site}
-use Rattle.room_machine.specs.Site.{Site, front, parent_at, site_at, sites_along}
-use Rattle.room_machine.specs.Stored.{stored_along, stored_site}
-use Rattle.room_sound.proofs.Filled.{IsTarget, site_filled, target_there}
-use Rattle.room_sound.proofs.Sites.{fill, sites_filled}
-use Rattle.room_sound.proofs.SoundParts.{SoundParts}
+use Rattle.room_sound.proofs.{Filled.{IsTarget, site_filled, target_there}, Sites.fill}
+use Rattle.room_sound.proofs.{Sites.sites_filled, SoundParts.SoundParts}
 use Rattle.room_desk.proofs.Made.Uplink.{IsAbove, root_alone, target_above}
-use Rattle.std.proofs.Common.{arith}
-use Rattle.std.proofs.lemmas.Bool.Decides.{nat_tests}
 
 -- of the parent, only the flag AUTO_INHERIT counts
 abbrev sent_under : Option Bool → Sent → Held
@@ -49,9 +41,7 @@ of_sites which (Some site) = refl
 
 auto_filled : (which : Which) (o : Option Site)
     → option_map (auto_at which) (option_map fill o) ≡ option_map (auto_at which) o
-auto_filled which None = refl
-auto_filled Dacl (Some site) = refl
-auto_filled Sacl (Some site) = refl
+auto_filled which o = grind (arith, nat_tests)
 
 auto_kept : (which : Which) (rows : Content) (o : Option Node)
     → option_map (auto_at which) (option_map (kept_site rows) o)
@@ -81,9 +71,7 @@ module _ (old : Rows) (are : AreRows old) (parts : SoundParts old) (which : Whic
       → site_at (stored_along rows path) path ≡ Some (stored_site path node)
       → option_map (auto_at which) (parent_at (sites_along (meaning rows) path) path)
       ≡ option_map (auto_at which) (option_map (kept_site rows) (parent_of rows node))
-  folder_flag [] found =
-      sym (ap (λ o. option_map (auto_at which) (option_map (kept_site rows) o))
-      (root_alone rows are.numbers [] node found))
+  folder_flag [] found = grind (arith, nat_tests, root_alone)
   folder_flag (name ∷ names) found =
       let above : IsAbove rows are.numbers (stored_along rows (name ∷ names)) (name ∷ names) node =
       target_above rows are.numbers name names (name ∷ names) node found in

@@ -1,39 +1,26 @@
 -- Rows in which one object has another list, and lists below it are renewed.
 use Rattle.std.proofs.Common.{◌≡◌, ℕ, ◌==◌, Bool, true, false, cond, List, length, Option, Some}
-use Rattle.std.proofs.Common.{None, refl, sym, ap, subst, ◌∙◌, inl, inr}
-use Rattle.std.specs.Prelude.{option_and_then}
-use Rattle.std.specs.Option.{option_map, option_map_or}
+use Rattle.std.proofs.Common.{None, refl, sym, ap, subst, ◌∙◌, inl, inr, arith}
 use Rattle.std.proofs.lemmas.Bool.{and_parts, and_from, cases_Bool, cond-true, cond-false, eq-eqb}
-use Rattle.std.proofs.lemmas.Bool.{eqb-true}
-use Rattle.std.proofs.lemmas.Option.{same_Some}
-use Rattle.room_entry.specs.Ace.{Ace}
-use Rattle.room_entry.specs.declared.object.Which.{Which}
-use Rattle.room_entry.specs.declared.object.Which.TheVariants.{Dacl, Sacl}
-use Rattle.room_rows.specs.HeldList.{Held}
-use Rattle.room_rows.specs.declared.node.Node.{Node}
-use Rattle.room_rows.specs.Content.{Content, node_at, parent_of, has_parent, is_linked_in}
-use Rattle.room_rows.specs.Content.{with_each, with_node}
-use Rattle.room_rows.specs.Finding.{find_id}
-use Rattle.room_rows.specs.Held.{held_of, with_held, is_linked}
-use Rattle.room_rows.specs.Keep.{with_inh}
-use Rattle.room_rows.specs.Rows.{Rows, Unread}
-use Rattle.room_rows.proofs.Frames.{Rises, node_at-number}
-use Rattle.room_rows.proofs.InPlace.{place-with_held, with_each-with_each, with_node-replaces}
-use Rattle.room_rows.proofs.Lookups.{each_found}
+use Rattle.std.proofs.lemmas.Bool.Decides.{nat_tests}
+use Rattle.std.specs.{Prelude.option_and_then, Option.{option_map, option_map_or}}
+use Rattle.room_entry.specs.{Ace.Ace, declared.object.Which.{Which, TheVariants.{Dacl, Sacl}}}
+use Rattle.room_rows.specs.{HeldList.Held, declared.node.Node.Node, Content.{Content, node_at}}
+use Rattle.room_rows.specs.Content.{parent_of, has_parent, is_linked_in, with_each, with_node}
+use Rattle.room_rows.specs.{Finding.find_id, Held.{held_of, with_held, is_linked}, Keep.with_inh}
+use Rattle.room_rows.specs.{Rows.{Rows, Unread}, Law.AllAgree, Sound.{AreSound, is_sound_held}}
+use Rattle.room_rows.specs.Sound.{reaches}
+use Rattle.room_rows.proofs.{Frames.{Rises, node_at-number}, InPlace.place-with_held}
+use Rattle.room_rows.proofs.{InPlace.{with_each-with_each, with_node-replaces}, Lookups.each_found}
 use Rattle.room_rows.proofs.SamePlace.{replaced}
-use Rattle.room_rows.specs.Law.{AllAgree}
-use Rattle.room_rows.specs.Sound.{AreSound, is_sound_held, reaches}
 use Rattle.room_inherit.specs.Spread.{with_lists}
 use Rattle.room_inherit.proofs.NoFault.{no_fault}
 use Rattle.room_desk.proofs.Lists.Relisted.{relist, relisted, found_relisted, held_relisted}
 use Rattle.room_desk.proofs.Lists.Relisted.{kind_kept, number_kept, linked_relisted, folders_kept}
 use Rattle.room_desk.proofs.Lists.Relisted.{reach_kept, one_list, relisted_sound}
-use Rattle.room_sound.proofs.SoundParts.{map_same}
 use Rattle.room_desk.proofs.Lists.ValidDown.{are_inherited, are_own, all_found, held_parts}
-use Rattle.room_desk.proofs.Lists.ValidDown.{valid_down}
-use Rattle.room_desk.proofs.Made.SoundAdded.{lists_here}
-use Rattle.std.proofs.Common.{arith}
-use Rattle.std.proofs.lemmas.Bool.Decides.{nat_tests}
+use Rattle.room_desk.proofs.{Lists.ValidDown.valid_down, Made.SoundAdded.lists_here}
+use Rattle.room_sound.proofs.SoundParts.{map_same}
 
 -- two functions that agree on the objects of a content change it alike
 pub each_same : (content : Content) → Rises content → (f g : Node → Node)
@@ -73,8 +60,7 @@ module _ (which : Which) (rows : Content) (node : Node) (held : Held) where
   -- an object of the rows is that one, or has the list that it had
   pub same_object : node_at rows node.id ≡ Some node → (n : Node) → node_at rows n.id ≡ Some n
       → (n.id == node.id) ≡ true → n ≡ node
-  same_object there n found is =
-      same_Some n node (sym found ∙ ap (node_at rows) (eqb-true n.id node.id is) ∙ there)
+  same_object there n found is = grind (arith, nat_tests)
 
   -- whether the list of an object is linked then
   abbrev pub links : Node → Bool
@@ -84,9 +70,7 @@ module _ (which : Which) (rows : Content) (node : Node) (held : Held) where
   pub other_parent : (parent : Option ℕ) (above : Node)
       → option_map_or (λ p. p == node.id) parent false ≡ false
       → option_and_then (node_at rows) parent ≡ Some above → (above.id == node.id) ≡ false
-  other_parent None above isnt is = absurd (let wrong : ⊥ = cc in wrong)
-  other_parent (Some p) above isnt is =
-      ap (λ i. i == node.id) (node_at-number rows p above is) ∙ isnt
+  other_parent parent above isnt is = grind (arith, nat_tests, node_at-number)
 
   pub other_links : (n : Node) → has_parent node.id n ≡ false
       → option_map base (parent_of rows n) ≡ option_map (held_of which) (parent_of rows n)
@@ -198,14 +182,8 @@ module _ (which : Which) (rows : Content) (node : Node) (held : Held) where
               kept_parts n found apart =
                   ap (λ (h : Held). are_inherited which n.kind h.inh) (unlinked_kept n found apart)
                   ∙ elim (cases_Bool (n.id == node.id)) [
-                    | inl is ↦
-                        let same = same_object there n found is in
-                        ap (λ (m : Node). are_inherited which m.kind (base m).inh) same
-                        ∙ ap (λ (h : Held). are_inherited which node.kind h.inh) base_here
-                        ∙ inherited (ap links (sym same) ∙ apart)
-                    | inr isnt ↦
-                        ap (λ (h : Held). are_inherited which n.kind h.inh) (base_elsewhere n isnt)
-                        ∙ (parts_before n found).1
+                    | inl is ↦ grind (arith, nat_tests, are_inherited, base_here, same_object)
+                    | inr isnt ↦ cc (base_elsewhere n isnt, (parts_before n found).1)
                   ]
 
               own_ends : (m : Node) → node_at ends m.id ≡ Some m
@@ -238,26 +216,31 @@ module _ (which : Which) (rows : Content) (node : Node) (held : Held) where
               inherited_parts : (n : Node) → node_at rows n.id ≡ Some n
                   → are_inherited which n.kind (final n).inh ≡ true
               inherited_parts n found =
-                  ap (λ (h : Held). are_inherited which n.kind h.inh)
-                  (sym (held_relisted which final n))
-                  ∙ ap (λ k. are_inherited which k (held_of which (relist which final n)).inh)
-                  (sym (kind_kept which final n))
-                  ∙ valid_down which ends ends_law
-                  (folders_kept which final rows (no_fault old sound).parents) own_ends kept_ends
-                  (length ends.nodes) (relist which final n)
-                  (ap (node_at ends) (number_kept which final n)
-                  ∙ found_relisted which final rows n.id
-                  ∙ ap (option_map (relist which final)) found)
-                  (reach_kept which final rows n
-                  ∙ all_found (reaches rows) rows n.id n (no_fault old sound).reach found)
+                  cc (
+                    held_relisted which final n,
+                    kind_kept which final n,
+                    valid_down which ends ends_law
+                        (folders_kept which final rows (no_fault old sound).parents) own_ends
+                        kept_ends
+                        (length ends.nodes) (relist which final n)
+                        (ap (node_at ends) (number_kept which final n) ∙ found_relisted which final
+                        rows
+                        n.id ∙ ap (option_map (relist which final)) found)
+                        (reach_kept which final rows n ∙ all_found (reaches rows) rows n.id n
+                        (no_fault old sound).reach found),
+                  )
 
               fits : (n : Node) → node_at rows n.id ≡ Some n
                   → is_sound_held which n.kind (final n) ≡ true
               fits n found =
-                  held_parts which n.kind (final n)
-                  ∙ and_from (are_own which n.kind (final n).own)
-                  (are_inherited which n.kind (final n).inh) (own_parts n found)
-                  (inherited_parts n found)
+                  search (
+                    and_from,
+                    are_inherited,
+                    are_own,
+                    held_parts,
+                    inherited_parts,
+                    own_parts,
+                  )
 
               pub set_sound : AreSound (record { read = ends; unreadable = unreadable })
               set_sound = relisted_sound which final old sound fits ends_law

@@ -1,36 +1,26 @@
 -- What rows mean once a list is set and carried down is what setting that list makes of what they
 -- meant.
 use Rattle.std.proofs.Common.{◌≡◌, ◌==◌, ◌&&◌, Bool, true, false, cond, not, List, [], ◌++◌, Option}
-use Rattle.std.proofs.Common.{Some, None, refl, sym, ap, ◌∙◌, inl, inr}
-use Rattle.std.specs.Prelude.{option_and_then}
-use Rattle.std.specs.Option.{option_map}
-use Rattle.std.proofs.lemmas.Bool.{cases_Bool, cond-true, cond-false}
-use Rattle.room_entry.specs.Ace.{Ace}
-use Rattle.room_ace.specs.Sent.{Sent, inherited_of, own_of}
-use Rattle.room_entry.specs.declared.object.ObjKind.{ObjKind}
-use Rattle.room_entry.specs.declared.object.Which.{Which}
+use Rattle.std.proofs.Common.{Some, None, refl, sym, ap, ◌∙◌, inl, inr, arith}
+use Rattle.std.proofs.lemmas.Bool.{cases_Bool, Decides.nat_tests}
+use Rattle.std.specs.{Prelude.option_and_then, Option.option_map}
+use Rattle.room_entry.specs.{Ace.Ace, declared.object.{ObjKind.ObjKind, Which.Which}}
 use Rattle.room_entry.specs.declared.object.Which.TheVariants.{Dacl, Sacl}
-use Rattle.room_rows.specs.HeldList.{Held}
-use Rattle.room_rows.specs.declared.node.Node.{Node}
-use Rattle.room_rows.specs.Content.{Content, node_at, parent_of, has_parent, is_linked_in}
-use Rattle.room_rows.specs.Content.{with_each, with_node}
-use Rattle.room_rows.specs.Held.{held_of, full_of, with_held, is_linked}
-use Rattle.room_rows.specs.Meaning.{kept_held, kept_node, meaning}
-use Rattle.room_rows.proofs.Frames.{Rises, parent_is}
-use Rattle.room_rows.proofs.InPlace.{keeps_places, node_at-with_each, place-with_held}
-use Rattle.room_rows.proofs.InPlace.{rises-with_each, with_each-with_each, with_node-replaces}
-use Rattle.room_rows.proofs.SamePlace.{IsSamePlace, replaced}
-use Rattle.room_rows.specs.Pass.{pass}
-use Rattle.room_machine.specs.Effect.{kept_by_child, sent_held, set_list}
-use Rattle.room_desk.specs.Setting.{kept_site}
-use Rattle.room_machine.specs.Changed.{stored_held}
+use Rattle.room_ace.specs.Sent.{Sent, inherited_of, own_of}
+use Rattle.room_rows.specs.{HeldList.Held, declared.node.Node.Node, Content.{Content, node_at}}
+use Rattle.room_rows.specs.Content.{parent_of, has_parent, is_linked_in, with_each, with_node}
+use Rattle.room_rows.specs.{Held.{held_of, full_of, with_held, is_linked}, Meaning.kept_held}
+use Rattle.room_rows.specs.{Meaning.{kept_node, meaning}, Pass.pass}
+use Rattle.room_rows.proofs.{Frames.{Rises, parent_is}, InPlace.{keeps_places, node_at-with_each}}
+use Rattle.room_rows.proofs.InPlace.{place-with_held, rises-with_each, with_each-with_each}
+use Rattle.room_rows.proofs.{InPlace.with_node-replaces, SamePlace.{IsSamePlace, replaced}}
+use Rattle.room_machine.specs.{Effect.{kept_by_child, sent_held, set_list}, Changed.stored_held}
 use Rattle.room_machine.specs.Site.{full_at}
-use Rattle.room_desk.proofs.Lists.Relisted.{relist, kept_relisted}
-use Rattle.room_desk.proofs.Lists.SetHeld.{base, base_here, base_elsewhere, each_same, ends, final}
-use Rattle.room_desk.proofs.Lists.SetHeld.{links, linked_finally, mid, other_links, own_held}
-use Rattle.room_desk.proofs.Lists.SetHeld.{same_object, unlinked_kept}
-use Rattle.std.proofs.Common.{arith}
-use Rattle.std.proofs.lemmas.Bool.Decides.{nat_tests}
+use Rattle.room_desk.specs.Setting.{kept_site}
+use Rattle.room_desk.proofs.Lists.{Relisted.{relist, kept_relisted}, SetHeld.{base, base_here}}
+use Rattle.room_desk.proofs.Lists.SetHeld.{base_elsewhere, each_same, ends, final, links}
+use Rattle.room_desk.proofs.Lists.SetHeld.{linked_finally, mid, other_links, own_held, same_object}
+use Rattle.room_desk.proofs.Lists.SetHeld.{unlinked_kept}
 
 -- ---- one list
 
@@ -61,18 +51,13 @@ child_parts : (kind : ObjKind) (full : List Ace) (auto protect : Bool) (own inh 
       inh = inh;
     } in kept_held (not protect && after) held
     ≡ kept_by_child before after kind full (kept_held (not protect && before) held))
-child_parts kind full auto true own inh before after law = refl
-child_parts kind full auto false own inh true true law = refl
-child_parts kind full auto false own inh true false law = grind (arith, nat_tests)
-child_parts kind full auto false own inh false true law = refl
-child_parts kind full auto false own inh false false law = refl
+child_parts kind full auto protect own inh before after law = grind (arith, nat_tests)
 
 child_kept : (kind : ObjKind) (full : List Ace) (held : Held) (before after : Bool)
     → ((not held.flags.protect && before) ≡ true → held.inh ≡ pass kind full)
     → kept_held (not held.flags.protect && after) held
     ≡ kept_by_child before after kind full (kept_held (not held.flags.protect && before) held)
-child_kept kind full held before after law =
-    child_parts kind full held.flags.auto held.flags.protect held.own held.inh before after law
+child_kept kind full held before after law = grind (arith, nat_tests, child_parts)
 
 sent_auto : (linked : Bool) (held : Held)
     → (cond linked (record held { inh = [] }) held).flags.auto ≡ held.flags.auto
@@ -129,8 +114,7 @@ module _ (which : Which) (rows : Content) (node : Node) (held : Held) (lists : N
     kept_final : (n : Node) → node_at rows n.id ≡ Some n → (t : Bool)
         → links which rows node held n ≡ t → kept_held t (to n) ≡ kept_held t (with n)
     kept_final n found true is = refl
-    kept_final n found false is =
-        unlinked_kept which rows node held lists rises there kept n found is
+    kept_final n found false is = search (unlinked_kept)
 
     -- the object itself
     here_set : kept_held (links which rows node held node) (to node) ≡ set
@@ -193,33 +177,19 @@ module _ (which : Which) (rows : Content) (node : Node) (held : Held) (lists : N
         ∙ ap (λ t. with_held which (kept_held t (to n)) (keeps n))
         (linked_finally which rows node held lists n)
         ∙ elim (cases_Bool (n.id == node.id)) [
-          | inl is ↦
-              ap (λ m. with_held which (kept_held (links which rows node held m) (to m)) (keeps m))
-              (same_object which rows node held there n found is)
-              ∙ ap (λ h. with_held which h (keeps node)) here_set
-              ∙ sym (cond-true ((changed (keeps n)).id == (with_held which set (keeps node)).id)
-              (with_held which set (keeps node)) (changed (keeps n)) (numbers n ∙ is))
-          | inr isnt ↦
-              rest n found isnt (has_parent node.id n) refl
-              ∙ sym (cond-false ((changed (keeps n)).id == (with_held which set (keeps node)).id)
-              (with_held which set (keeps node)) (changed (keeps n)) (numbers n ∙ isnt))
+          | inl is ↦ grind (arith, nat_tests, here_set, links, numbers, same_object)
+          | inr isnt ↦ grind (arith, nat_tests, numbers, rest)
         ]
       where
         numbers : (n : Node)
             → ((changed (keeps n)).id == (with_held which set (keeps node)).id) ≡ (n.id == node.id)
-        numbers n =
-            ap (λ i. i == (with_held which set (keeps node)).id) (place_changed (keeps n)).number
-            ∙ ap (λ i. n.id == i) (place-with_held which set (keeps node)).number
+        numbers n = grind (arith, nat_tests, place-with_held, place_changed)
 
         rest : (n : Node) → node_at rows n.id ≡ Some n → (n.id == node.id) ≡ false → (t : Bool)
             → has_parent node.id n ≡ t
             → with_held which (kept_held (links which rows node held n) (to n)) (keeps n)
             ≡ cond t (child (keeps n)) (keeps n)
-        rest n found isnt true is =
-            ap (λ h. with_held which h (keeps n)) (child_set n found isnt is)
-        rest n found isnt false far =
-            ap (λ h. with_held which h (keeps n)) (far_kept n found isnt far)
-            ∙ sym (own_held which (keeps n))
+        rest n found isnt t is = grind (arith, nat_tests, child_set, far_kept, own_held)
 
     pub set_means : meaning (ends which rows node held lists)
         ≡ set_list (meaning rows) which sent (option_map (kept_site rows) (parent_of rows node))
@@ -233,8 +203,7 @@ module _ (which : Which) (rows : Content) (node : Node) (held : Held) (lists : N
         (replaced (with_held which set (keeps node))))
         ∙ sym (with_node-replaces (with_each rows (λ n. changed (keeps n))) all_rise node.id
         (changed (keeps node)) (with_held which set (keeps node))
-        (node_at-with_each rows (λ n. changed (keeps n)) places node.id
-        ∙ ap (option_map (λ n. changed (keeps n))) there) target_place)
+        (cc (node_at-with_each rows (λ n. changed (keeps n)) places node.id, there)) target_place)
         ∙ ap (λ (c : Content). with_node c (with_held which set (keeps node)))
         (sym (with_each-with_each rows keeps changed))
       where
@@ -248,11 +217,4 @@ module _ (which : Which) (rows : Content) (node : Node) (held : Held) (lists : N
         all_rise = rises-with_each rows (λ n. changed (keeps n)) places rises
 
         target_place : IsSamePlace (with_held which set (keeps node)) (changed (keeps node))
-        target_place =
-            let p = place-with_held which set (keeps node) in
-            let q = place_changed (keeps node) in
-            record {
-              number = p.number ∙ sym q.number;
-              parent = p.parent ∙ sym q.parent;
-              name = p.name ∙ sym q.name;
-            }
+        target_place = grind (arith, nat_tests, place-with_held, place_changed)

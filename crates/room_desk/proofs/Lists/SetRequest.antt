@@ -1,60 +1,34 @@
 -- A request that sets a list is a step.
-use Rattle.std.proofs.Common.{◌≡◌, ℕ, true, false, List, [], ◌∷◌, ◌++◌, map, Option, Some, None}
-use Rattle.std.proofs.Common.{refl, sym, ap, subst, ◌∙◌}
-use Rattle.std.specs.Prelude.{option_and_then}
-use Rattle.std.proofs.Common.{Ok, Err}
-use Rattle.std.specs.Option.{option_map, option_map_or}
-use Rattle.room_entry.specs.Rights.{write_acl}
+use Rattle.std.proofs.Common.{◌≡◌, ℕ, false, List, [], ◌∷◌, ◌++◌, map, Option, Some, None, refl}
+use Rattle.std.proofs.{Common.{sym, ap, subst, ◌∙◌, Ok, Err, arith}, lemmas.Bool.Decides.nat_tests}
+use Rattle.std.specs.{Prelude.option_and_then, Option.{option_map, option_map_or}}
+use Rattle.room_entry.specs.{Rights.write_acl, Valid.first_bad_entry}
+use Rattle.room_entry.specs.declared.{fault.EntryFault.EntryFault, object.Which.Which}
 use Rattle.room_ace.specs.Sent.{Sent}
-use Rattle.room_entry.specs.Valid.{first_bad_entry}
-use Rattle.room_entry.specs.declared.fault.EntryFault.{EntryFault}
-use Rattle.room_entry.specs.declared.object.Which.{Which}
-use Rattle.room_rows.specs.declared.node.Node.{Node}
-use Rattle.room_rows.specs.Content.{node_at, parent_of, root_of}
+use Rattle.room_rows.specs.{declared.node.{Node.Node, AuditRow.AuditRow}, Content.node_at}
+use Rattle.room_rows.specs.{Content.{parent_of, root_of}, Keep.IsDamaged, Meaning.meaning}
+use Rattle.room_rows.specs.{Rows.{Rows, AreRows}, Sound.AreSound}
 use Rattle.room_rows.proofs.Frames.{root_of-parent}
-use Rattle.room_rows.specs.Keep.{IsDamaged}
-use Rattle.room_rows.specs.Meaning.{meaning}
-use Rattle.room_rows.specs.declared.node.AuditRow.{AuditRow}
-use Rattle.room_machine.specs.Judge.{records_of_plan}
-use Rattle.room_rows.specs.Rows.{Rows, AreRows}
-use Rattle.room_rows.specs.Sound.{AreSound}
-use Rattle.room_judge.specs.declared.asker.Asker.{Asker}
-use Rattle.room_machine.specs.declared.reply.Reason.TheVariants.{BadList}
-use Rattle.room_machine.specs.declared.reply.Reply.{Reply}
+use Rattle.room_machine.specs.{Judge.records_of_plan, declared.reply.Reply.Reply}
 use Rattle.room_machine.specs.declared.reply.Reply.TheVariants.{Done, Refused}
-use Rattle.room_machine.specs.declared.request.Request.TheVariants.{SetList}
-use Rattle.room_machine.specs.Effect.{set_list}
-use Rattle.room_judge.specs.declared.arrival.Found.{Found}
-use Rattle.room_machine.specs.Closed.{failure_told}
-use Rattle.room_judge.specs.Closed.{IsServed}
-use Rattle.room_judge.proofs.Closing.{closed_done, closed_failed}
-use Rattle.room_judge.specs.Judged.{CarriesOut, IsJudged, IsReached, with_notes}
-use Rattle.room_judge.specs.Spot.{IsPaired, pair_of}
-use Rattle.room_judge.proofs.Folders.{pair_reached}
-use Rattle.room_judge.proofs.Ways.{not_reached, reaches_with, unless}
-use Rattle.room_judge.proofs.Walked.{root_reached}
-use Rattle.room_machine.specs.Plan.{Check, Item, bad_list, plan_of, way, where_found}
-use Rattle.room_desk.specs.Carrying.{IsRooted, IsUnreadableIfHeld}
-use Rattle.room_sound.proofs.Blamed.{noted_unread}
-use Rattle.room_desk.proofs.Moves.MovingPlan.{along_noted}
-use Rattle.room_desk.proofs.Sound.RootedWays.{rooted_along}
-use Rattle.room_desk.specs.Setting.{Beneath, IsFoundUnder, IsSetOnly, IsSetOrRefused, IsSetWell}
-use Rattle.room_desk.specs.Setting.{SetUnless, kept_site, reason_of}
-use Rattle.room_machine.specs.Site.{Site, site_at}
-use Rattle.room_machine.specs.Stored.{stored_along, stored_plan, stored_site, to_stored}
-use Rattle.room_judge.specs.Stored.{found_site}
-use Rattle.room_sound.proofs.Filled.{fill_item, plan_judged}
+use Rattle.room_machine.specs.{declared.request.Request.TheVariants.SetList, Effect.set_list}
+use Rattle.room_machine.specs.{Plan.{Check, Item, bad_list, plan_of, way, where_found}, Site.Site}
+use Rattle.room_machine.specs.{Site.site_at, Stored.{stored_along, stored_plan, to_stored}}
+use Rattle.room_judge.specs.{declared.{asker.Asker.Asker, arrival.Found.Found}, Closed.IsServed}
+use Rattle.room_judge.specs.{Judged.{CarriesOut, IsJudged, IsReached, with_notes}, Spot.IsPaired}
+use Rattle.room_judge.specs.{Spot.pair_of, Stored.found_site}
+use Rattle.room_judge.proofs.{Closing.{closed_done, closed_failed}, Folders.pair_reached}
+use Rattle.room_judge.proofs.{Ways.{not_reached, reaches_with, unless}, Walked.root_reached}
 use Rattle.room_judge.proofs.Judging.{fails_first, judged_none, passes_first, refuses}
-use Rattle.room_desk.proofs.Steps.Serving.{CheckAt}
-use Rattle.room_desk.proofs.Lists.HandedDown.{beside, set_noted}
-use Rattle.room_desk.proofs.Lists.SetEffect.{set_effect}
-use Rattle.room_sound.proofs.Sites.{fill}
+use Rattle.room_desk.specs.{Carrying.{IsRooted, IsUnreadableIfHeld}, Setting.Beneath}
+use Rattle.room_desk.specs.Setting.{IsFoundUnder, IsSetOnly, IsSetOrRefused, IsSetWell, SetUnless}
+use Rattle.room_desk.specs.Setting.{kept_site, reason_of}
+use Rattle.room_sound.proofs.{Blamed.noted_unread, Filled.{fill_item, plan_judged}, Sites.fill}
 use Rattle.room_sound.proofs.SoundParts.{sound_noted, sound_parts}
-use Rattle.room_desk.proofs.Steps.Stepping.{changed_step, refused_step}
-use Rattle.room_desk.proofs.Made.Uplink.{parent_paired, target_stands}
-use Rattle.room_desk.proofs.Bytes.Appending.{more_items}
-use Rattle.std.proofs.Common.{arith}
-use Rattle.std.proofs.lemmas.Bool.Decides.{nat_tests}
+use Rattle.room_desk.proofs.{Moves.MovingPlan.along_noted, Sound.RootedWays.rooted_along}
+use Rattle.room_desk.proofs.Steps.{Serving.CheckAt, Stepping.{changed_step, refused_step}}
+use Rattle.room_desk.proofs.Lists.{HandedDown.{beside, set_noted}, SetEffect.set_effect}
+use Rattle.room_desk.proofs.{Made.Uplink.{parent_paired, target_stands}, Bytes.Appending.more_items}
 
 module _ (path : List (List ℕ)) (which : Which) (sent : Sent) where
   -- the refusal of an entry that may not stand there
@@ -97,14 +71,7 @@ module _ (asker : Asker) (path : List (List ℕ)) (which : Which) (sent : Sent) 
       → IsReached asker path (CheckAt (write_acl ∷ [])) old (Err reply) new
       → IsServed asker (SetList path which sent) old reply new
   set_ended old new reply are reached =
-      let judged = fails_first asker (to_stored old.read path (CheckAt (write_acl ∷ [])))
-      (where_found (site_at (stored_along old.read path) path) refusing) old new reply
-      reached.judged in (
-        λ known sound. refused_step asker (SetList path which sent) old known sound new reply
-            (planned old new (Some reply) are sound judged),
-        closed_failed asker (SetList path which sent) old reply new
-            (by_stored old new (Some reply) judged),
-      )
+      search (by_stored, closed_failed, fails_first, planned, refused_step)
 
   module _ (old mid : Rows) (node : Node) (are : AreRows old)
       (reached : IsReached asker path (CheckAt (write_acl ∷ [])) old (Ok node) mid) where
@@ -124,16 +91,13 @@ module _ (asker : Asker) (path : List (List ℕ)) (which : Which) (sent : Sent) 
         passes_first asker (to_stored old.read path (CheckAt (write_acl ∷ [])))
         (where_found (site_at (stored_along old.read path) path) refusing) old mid new answer
         reached.judged
-        (subst (λ list. IsJudged asker list mid answer new)
-        (ap (bad_list path) (sym are_faults) ∙ ap (λ o. where_found o refusing) (sym reached.found))
-        judged)
+        (grind (arith, nat_tests))
 
     behind : (faults : Option EntryFault) (new : Rows) (answer : Option Reply)
         → first_bad_entry 1 which node.kind sent.entries ≡ faults
         → IsJudged asker (bad_list path faults) mid answer new → AreSound old
         → IsJudged asker (plan_of (meaning old.read) (SetList path which sent)) old answer new
-    behind faults new answer are_faults judged sound =
-        planned old new answer are sound (all_items faults new answer are_faults judged)
+    behind faults new answer are_faults judged sound = search (all_items, planned)
 
     set_well : (new : Rows) → first_bad_entry 1 which node.kind sent.entries ≡ None
         → IsSetWell which sent node mid new
@@ -168,32 +132,19 @@ module _ (asker : Asker) (path : List (List ℕ)) (which : Which) (sent : Sent) 
               subst (λ (r : Reply). CarriesOut asker (SetList path which sent) old r new) (sym replies)
               (set_well new none (becomes.1 there_mid (ap reason_of none) said.few
               (subst AreSound (sym reached.judged.notes) (sound_noted old _ sound)))) known sound,
-          closed_done asker (SetList path which sent) old reply mid new judged
-              refl (ap failure_told replies) (beside old new) refl set.1
-              (stored_site path node, reached.found, replies)
-              (stored_site path node, reached.found, set.0),
+          grind (arith, nat_tests, beside, closed_done),
         )
     on_faults (Some fault) new reply some said replies becomes =
-        let refused = refuses asker path (BadList fault.place fault.why) true [] mid new reply
-        replies refl becomes in (
-          λ known sound. refused_step asker (SetList path which sent) old known sound new reply
-              (behind (Some fault) new (Some reply) some refused sound),
-          closed_failed asker (SetList path which sent) old reply new
-              (by_stored old new (Some reply)
-              (all_items (Some fault) new (Some reply) some refused)),
-        )
+        search (all_items, behind, by_stored, closed_failed, refused_step, refuses)
 
     pub set_done : (new : Rows) (reply : Reply) → IsSetOrRefused path which sent node mid reply new
         → IsServed asker (SetList path which sent) old reply new
-    set_done new reply said =
-        on_faults (first_bad_entry 1 which node.kind sent.entries) new reply refl said said.replies
-        said.becomes
+    set_done new reply said = search (on_faults)
 
     pub set_blames : (row : ℕ) → IsUnreadableIfHeld node mid row → IsDamaged old row
     set_blames row fails =
-        let rooted : IsRooted node.id (with_notes old records) = rooted_along
-        (with_notes old records) are.numbers path path node
-        (ap (λ sites. site_at sites path) (along_noted old.read records path) ∙ reached.found)
+        let rooted : IsRooted node.id (with_notes old records) =
+        search (along_noted, records, rooted_along)
         in
         noted_unread old mid records row reached.judged.notes
         (fails there_mid (subst (IsRooted node.id) (sym reached.judged.notes) rooted))
@@ -245,9 +196,7 @@ pub set_halted : (asker : Asker) (path : List (List ℕ)) (which : Which) (sent 
     (old new : Rows) (reply : Reply) → AreRows old → IsPaired asker path old (Err reply) new
     → IsServed asker (SetList path which sent) old reply new
 set_halted asker path which sent old new reply are paired =
-    set_ended asker path which sent old new reply are
-    (not_reached asker path (CheckAt (write_acl ∷ [])) old new reply
-    (pair_reached asker path (Err reply) old new paired))
+    search (not_reached, pair_reached, set_ended)
 
 -- an object and its folder
 pub found_pair : (asker : Asker) (path : List (List ℕ)) (folder target : Found) (old mid : Rows)
@@ -257,9 +206,7 @@ found_pair asker path folder target old mid are paired = record {
   are = are;
   reached = pair_reached asker path (pair_of folder target) old mid paired;
   depth = paired.depth;
-  parent =
-      parent_paired old.read are.numbers path
-      (found_site path folder) target.node paired.folder paired.target;
+  parent = grind (arith, nat_tests, parent_paired);
 }
 
 -- the root, which nothing is above

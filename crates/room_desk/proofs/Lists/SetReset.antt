@@ -1,49 +1,33 @@
 -- The operator's reset of a list is its step.
-use Rattle.std.proofs.Common.{◌≡◌, ◌||◌, ℕ, zero, suc, true, false, cond, List, [], ◌∷◌, ◌++◌}
-use Rattle.std.proofs.Common.{filter, length, map, Option, Some, None, refl, sym, ap, subst, ◌∙◌}
-use Rattle.std.specs.Prelude.{◌-◌, is_none, option_and_then, slice_get}
-use Rattle.std.specs.Option.{option_map_or}
-use Rattle.room_ace.specs.Sent.{Sent}
-use Rattle.room_entry.specs.Valid.{first_bad_entry}
-use Rattle.room_entry.specs.declared.fault.EntryFault.{EntryFault}
-use Rattle.room_entry.specs.declared.object.Which.{Which}
-use Rattle.room_entry.specs.declared.parties.Caller.{Caller}
-use Rattle.room_rows.specs.declared.node.Node.{Node}
-use Rattle.room_rows.specs.declared.node.Walk.{Walk}
-use Rattle.room_rows.specs.Content.{Content, child_of, has_folder_above, is_folder, node_at}
-use Rattle.room_rows.specs.Content.{parent_of}
-use Rattle.room_rows.specs.Keep.{IsDamaged}
-use Rattle.room_rows.specs.Meaning.{meaning}
-use Rattle.room_rows.specs.Rows.{Rows, AreRows}
-use Rattle.room_rows.specs.Walk.{walk_of, walk_from}
-use Rattle.room_rows.proofs.Frames.{child_of-is_there, child_of-parent, root_of-is_there}
-use Rattle.room_rows.specs.Sound.{AreSound}
-use Rattle.room_inherit.proofs.NoFault.{no_fault}
-use Rattle.room_machine.specs.declared.reply.Reply.{Reply}
-use Rattle.room_machine.specs.declared.reply.Reply.TheVariants.{Done, Refused}
-use Rattle.room_machine.specs.declared.request.Request.TheVariants.{SetList}
-use Rattle.room_machine.specs.Effect.{effect}
-use Rattle.room_machine.specs.Judge.{first_failure, or_else}
-use Rattle.room_judge.specs.Judged.{ResetsSound}
-use Rattle.room_machine.specs.Plan.{Item, Check, Deletion, Refusal, bad_list, plan_of, way}
-use Rattle.room_machine.specs.Plan.{where_found}
-use Rattle.room_desk.specs.Carrying.{IsRooted, IsUnreadableIfHeld}
-use Rattle.room_sound.proofs.Blamed.{unread_damaged}
-use Rattle.room_desk.proofs.Sound.RootedWays.{above_end, rooted_last, stands_last}
-use Rattle.room_desk.specs.Setting.{Beneath, IsResetAtEnd, IsSetOrRefused, SetUnless, reason_of}
-use Rattle.room_machine.specs.Site.{Site, site_at, sites_along}
-use Rattle.room_machine.specs.Step.{failure_or, is_refusal, reset}
-use Rattle.room_machine.specs.Stored.{stored_along, stored_from, stored_site}
-use Rattle.room_sound.proofs.Filled.{fill_item, target_filled}
-use Rattle.room_desk.proofs.Lists.ResetWay.{Comes, comes, end_from, refusals, walk_end}
-use Rattle.room_sound.proofs.Ends.{same_last}
-use Rattle.room_desk.proofs.Lists.SetEffect.{set_effect}
-use Rattle.room_desk.proofs.Lists.SetRequest.{items, items_filled}
-use Rattle.room_sound.proofs.Sites.{sites_filled}
-use Rattle.room_sound.proofs.SoundParts.{root_there, sound_parts}
-use Rattle.room_desk.proofs.Lists.ValidDown.{all_found}
-use Rattle.std.proofs.Common.{arith}
+use Rattle.std.proofs.Common.{◌≡◌, ℕ, zero, suc, true, false, List, [], ◌∷◌, ◌++◌, filter, length}
+use Rattle.std.proofs.Common.{map, Option, Some, None, refl, sym, ap, subst, ◌∙◌, arith}
 use Rattle.std.proofs.lemmas.Bool.Decides.{nat_tests}
+use Rattle.std.specs.{Prelude.{◌-◌, slice_get}, Option.option_map_or}
+use Rattle.room_ace.specs.Sent.{Sent}
+use Rattle.room_entry.specs.{Valid.first_bad_entry, declared.fault.EntryFault.EntryFault}
+use Rattle.room_entry.specs.declared.{object.Which.Which, parties.Caller.Caller}
+use Rattle.room_rows.specs.{declared.node.{Node.Node, Walk.Walk}, Content.{Content, child_of}}
+use Rattle.room_rows.specs.Content.{has_folder_above, is_folder, node_at, parent_of}
+use Rattle.room_rows.specs.{Keep.IsDamaged, Meaning.meaning, Rows.{Rows, AreRows}, Walk.walk_of}
+use Rattle.room_rows.specs.{Walk.walk_from, Sound.AreSound}
+use Rattle.room_rows.proofs.Frames.{child_of-is_there, child_of-parent, root_of-is_there}
+use Rattle.room_inherit.proofs.NoFault.{no_fault}
+use Rattle.room_machine.specs.declared.reply.Reply.{Reply, TheVariants.{Done, Refused}}
+use Rattle.room_machine.specs.{declared.request.Request.TheVariants.SetList, Effect.effect}
+use Rattle.room_machine.specs.{Judge.first_failure, Plan.{Item, Check, Deletion, Refusal, bad_list}}
+use Rattle.room_machine.specs.{Plan.{plan_of, way, where_found}, Site.{site_at, sites_along}}
+use Rattle.room_machine.specs.{Step.{failure_or, is_refusal, reset}, Stored.stored_along}
+use Rattle.room_machine.specs.Stored.{stored_from, stored_site}
+use Rattle.room_judge.specs.Judged.{ResetsSound}
+use Rattle.room_desk.specs.{Carrying.{IsRooted, IsUnreadableIfHeld}, Setting.Beneath}
+use Rattle.room_desk.specs.Setting.{IsResetAtEnd, IsSetOrRefused, SetUnless, reason_of}
+use Rattle.room_sound.proofs.{Blamed.unread_damaged, Filled.{fill_item, target_filled}}
+use Rattle.room_sound.proofs.{Ends.same_last, Sites.sites_filled, SoundParts.root_there}
+use Rattle.room_sound.proofs.SoundParts.{sound_parts}
+use Rattle.room_desk.proofs.Sound.RootedWays.{above_end, rooted_last, stands_last}
+use Rattle.room_desk.proofs.Lists.ResetWay.{Comes, comes, end_from, refusals, walk_end}
+use Rattle.room_desk.proofs.Lists.{SetEffect.set_effect, SetRequest.{items, items_filled}}
+use Rattle.room_desk.proofs.Lists.ValidDown.{all_found}
 
 -- who asks a reset
 abbrev operator : Caller
@@ -56,8 +40,7 @@ refusals_filled : (list : List Item)
 refusals_filled [] = refl
 refusals_filled (Check site bits ∷ list) = refusals_filled list
 refusals_filled (Deletion target parent ∷ list) = refusals_filled list
-refusals_filled (Refusal path why holds ∷ list) =
-    ap (or_else (cond holds (Some (Refused path why)) None)) (refusals_filled list)
+refusals_filled (Refusal path why holds ∷ list) = cc (refusals_filled list)
 
 module _ (old : Rows) (are : AreRows old) (sound : AreSound old) (path : List (List ℕ))
     (which : Which) (sent : Sent) where
@@ -69,12 +52,13 @@ module _ (old : Rows) (are : AreRows old) (sound : AreSound old) (path : List (L
       → child_of rows n.id name ≡ Some child → is_folder n ≡ true
   folders n child name there found =
       let parent = child_of-parent rows n.id name child found in
-      let above : parent_of rows child ≡ Some n = ap (option_and_then (node_at rows)) parent
-      ∙ there in
-      sym (ap (λ o. option_map_or is_folder o false) above)
-      ∙ sym (ap (λ o. is_none o || option_map_or is_folder (parent_of rows child) false) parent)
-      ∙ all_found (has_folder_above rows) rows child.id child (no_fault old sound).parents
-      (child_of-is_there rows are.numbers n.id name child found)
+      let above : parent_of rows child ≡ Some n = cc (parent, there) in
+      cc (
+        above,
+        parent,
+        all_found (has_folder_above rows) rows child.id child (no_fault old sound).parents
+            (child_of-is_there rows are.numbers n.id name child found),
+      )
 
   -- what the plan refuses is what is refused at the stored lists
   abbrev answer : Option Reply
@@ -86,17 +70,14 @@ module _ (old : Rows) (are : AreRows old) (sound : AreSound old) (path : List (L
   plan_refuses : first_failure operator
       (filter is_refusal (plan_of (meaning rows) (SetList path which sent))) ≡ answer
   plan_refuses =
-      sym (refusals_filled
-      (way false (sites_along (meaning rows) path) path
-      ++ where_found (site_at (sites_along (meaning rows) path) path) (items path which sent)))
-      ∙ ap (λ list. first_failure operator (filter is_refusal list))
-      (sym (target_filled path (items path which sent) (items_filled path which sent)
-      (sites_along (meaning rows) path)))
-      ∙ ap
-      (λ sites. first_failure operator
-      (filter is_refusal (way false sites path
-      ++ where_found (site_at sites path) (items path which sent))))
-      (sites_filled old are (sound_parts old sound) path)
+      cc (
+        refusals_filled
+            (way false (sites_along (meaning rows) path) path ++ where_found
+            (site_at (sites_along (meaning rows) path) path) (items path which sent)),
+        target_filled path (items path which sent) (items_filled path which sent)
+            (sites_along (meaning rows) path),
+        sites_filled old are (sound_parts old sound) path,
+      )
 
   -- the walk comes to this object, with n names left over
   pub record CameTo (last : Node) (rest : ℕ) : Type 0 where
@@ -111,9 +92,7 @@ module _ (old : Rows) (are : AreRows old) (sound : AreSound old) (path : List (L
       let there = root_of-is_there rows are.numbers root.0 root.1 in
       let end = walk_end rows are.numbers operator
       (items path which sent) folders path root.0 there in
-      let from : walk_of rows path ≡ walk_from rows root.0 path = ap
-      (λ o. option_map_or (λ r. walk_from rows r path) o
-      (record { chain = []; rest = length path })) root.1 in
+      let from : walk_of rows path ≡ walk_from rows root.0 path = grind (arith, nat_tests) in
       let along : stored_along rows path ≡ stored_from rows [] root.0 path = ap
       (λ o. option_map_or (λ r. stored_from rows [] r path) o []) root.1 in
       let reached = end_from rows are.numbers operator
@@ -121,8 +100,7 @@ module _ (old : Rows) (are : AreRows old) (sound : AreSound old) (path : List (L
       let same : last ≡ reached.0 = same_last front end.front last reached.0
       (sym chain ∙ ap (λ (w : Walk). w.chain) (is ∙ from) ∙ end.chain) in
       let rest : walk.rest ≡ reached.1 = ap (λ (w : Walk). w.rest) (is ∙ from) ∙ end.rest in
-      let stands : node_at rows last.id ≡ Some last = ap (λ (n : Node). node_at rows n.id) same
-      ∙ end.stands ∙ ap (λ n. Some n) (sym same) in
+      let stands : node_at rows last.id ≡ Some last = cc (same, end.stands, same) in
       let here : Comes rows are.numbers operator (items path which sent) folders path
       (stored_from rows [] root.0 path) path
       (first_failure operator
@@ -130,25 +108,7 @@ module _ (old : Rows) (are : AreRows old) (sound : AreSound old) (path : List (L
       (stored_from rows [] root.0 path) path)) reached.0 reached.1 =
       comes rows are.numbers operator (items path which sent) folders path
       [] path root.0 there refl in
-      record {
-        stands = stands;
-        comes =
-            subst (λ (sites : List Site). Comes rows are.numbers operator
-            (items path which sent) folders path sites path
-            (first_failure operator
-            (refusals rows are.numbers operator (items path which sent) folders sites path)) last
-            walk.rest) (sym along)
-            (subst (λ (n : ℕ). Comes rows are.numbers operator (items path which sent) folders path
-            (stored_from rows [] root.0 path) path
-            (first_failure operator
-            (refusals rows are.numbers operator (items path which sent) folders
-            (stored_from rows [] root.0 path) path)) last n) (sym rest)
-            (subst (λ (m : Node). Comes rows are.numbers operator
-            (items path which sent) folders path (stored_from rows [] root.0 path) path
-            (first_failure operator
-            (refusals rows are.numbers operator (items path which sent) folders
-            (stored_from rows [] root.0 path) path)) m reached.1) (sym same) here));
-      }
+      grind (arith, nat_tests, comes, folders, items, refusals)
 
   -- the reply and the content after, by what is refused
   reset_is : (o : Option Reply) → answer ≡ o
@@ -160,8 +120,7 @@ module _ (old : Rows) (are : AreRows old) (sound : AreSound old) (path : List (L
     refused_so : answer ≡ Some reply → new ≡ old → ResetsSound path which sent old reply new
     refused_so is same _ =
         record {
-          reset = reset_is (Some reply) is
-              ∙ ap (λ (r : Rows). (reply, meaning r.read)) (sym same);
+          reset = cc (reset_is (Some reply) is, same);
           sound =
               subst AreSound (sym same) sound;
         }
@@ -178,10 +137,12 @@ module _ (old : Rows) (are : AreRows old) (sound : AreSound old) (path : List (L
         let well = becomes.1 there (ap reason_of none) said.few sound in
         record {
           reset =
-              reset_is None is ∙ set_effect old are (sound_parts old sound) which sent last path
-              found operator 0
-              ∙ ap (λ (c : Content). (Done, c)) (sym well.means)
-              ∙ ap (λ (r : Reply). (r, meaning new.read)) (sym replies);
+              cc (
+                reset_is None is,
+                set_effect old are (sound_parts old sound) which sent last path found operator 0,
+                well.means,
+                replies,
+              );
           sound = well.sound;
         }
     at_target (Some fault) some there found is said replies becomes known =
@@ -205,8 +166,8 @@ module _ (path : List (List ℕ)) (which : Which) (sent : Sent) (old mid : Rows)
       → Beneath above last (IsResetAtEnd path which sent last walk.rest) mid reply new
       → ResetsSound path which sent old reply new
   reset_done above read new reply are beneath sound =
-      let said = beneath (ap (λ (r : Rows). parent_of r.read last) same
-      ∙ above_end old are.numbers path walk front last above is chain read) in
+      let said = beneath (
+      cc (same, above_end old are.numbers path walk front last above is chain read)) in
       let came = came_to old are sound path which sent walk front last is chain in
       at_end old are sound path which sent last new reply walk.rest came.stands came.comes
       (subst (λ (r : Rows). IsResetAtEnd path which sent last walk.rest r reply new) same said)
@@ -215,7 +176,6 @@ module _ (path : List (List ℕ)) (which : Which) (sent : Sent) (old mid : Rows)
   pub reset_blames : (row : ℕ) → AreRows old → IsUnreadableIfHeld last mid row → IsDamaged old row
   reset_blames row are fails =
       unread_damaged old mid row same
-      (fails (ap (λ (r : Rows). node_at r.read last.id) same
-      ∙ stands_last old are.numbers path walk front last is chain)
+      (fails (cc (same, stands_last old are.numbers path walk front last is chain))
       (subst (IsRooted last.id) (sym same)
       (rooted_last old are.numbers path walk front last is chain)))

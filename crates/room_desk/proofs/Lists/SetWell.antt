@@ -1,46 +1,29 @@
 -- Where a list is set and carried down, what the rows mean changes likewise, and they stay sound.
-use Rattle.std.proofs.Common.{◌≡◌, ℕ, ◌+◌, Bool, true, false, not, List, [], ◌∷◌}
-use Rattle.std.proofs.Common.{filter, length, Option, Some, None, refl, sym, ap, subst, ◌∙◌, inl}
-use Rattle.std.proofs.Common.{inr}
-use Rattle.std.specs.Prelude.{nat_le}
-use Rattle.std.specs.List.{list_all}
-use Rattle.std.specs.Option.{option_map}
-use Rattle.std.proofs.lemmas.List.{map-id}
-use Rattle.std.proofs.lemmas.Option.{same_Some}
-use Rattle.room_entry.specs.Ace.{Ace}
+use Rattle.std.proofs.Common.{◌≡◌, ℕ, ◌+◌, Bool, true, false, List, [], ◌∷◌, filter, length, Option}
+use Rattle.std.proofs.Common.{Some, None, refl, sym, ap, subst, ◌∙◌, inl, inr, arith}
+use Rattle.std.proofs.lemmas.{List.map-id, Option.same_Some, Bool.Decides.nat_tests}
+use Rattle.std.specs.{Prelude.nat_le, List.list_all, Option.option_map}
+use Rattle.room_entry.specs.{Ace.Ace, declared.object.{ObjKind.ObjKind, Which.Which}}
 use Rattle.room_ace.specs.Sent.{Sent, inherited_of, limit_fault, own_of}
-use Rattle.room_entry.specs.declared.object.ObjKind.{ObjKind}
-use Rattle.room_entry.specs.declared.object.Which.{Which}
-use Rattle.room_rows.specs.HeldList.{Held}
-use Rattle.room_rows.specs.declared.node.Node.{Node}
-use Rattle.room_rows.specs.Content.{Content, node_at, parent_of, has_parent, is_linked_in}
-use Rattle.room_rows.specs.Content.{with_each, with_node}
-use Rattle.room_rows.specs.Held.{held_of, full_of, is_linked, with_held}
-use Rattle.room_rows.specs.Keep.{with_content}
-use Rattle.room_rows.specs.Rows.{Rows, AreRows}
+use Rattle.room_rows.specs.{HeldList.Held, declared.node.Node.Node, Content.{Content, node_at}}
+use Rattle.room_rows.specs.Content.{parent_of, has_parent, is_linked_in, with_each, with_node}
+use Rattle.room_rows.specs.{Held.{held_of, full_of, is_linked, with_held}, Keep.with_content}
+use Rattle.room_rows.specs.{Rows.{Rows, AreRows}, Law.{AllAgree, agrees}, Pass.pass, Sound.AreSound}
+use Rattle.room_rows.specs.Sound.{keeps_law, reaches}
 use Rattle.room_rows.proofs.InPlace.{with_node-there}
-use Rattle.room_rows.specs.Law.{AllAgree, agrees}
-use Rattle.room_inherit.specs.Laws.{are_valid}
-use Rattle.room_rows.specs.Pass.{pass}
-use Rattle.room_rows.specs.Sound.{AreSound, keeps_law, reaches}
-use Rattle.room_inherit.specs.Spread.{IsSpread, with_lists}
-use Rattle.room_inherit.proofs.Kinship.{with_own}
-use Rattle.room_inherit.proofs.NoFault.{no_fault}
+use Rattle.room_inherit.specs.{Laws.are_valid, Spread.{IsSpread, with_lists}}
+use Rattle.room_inherit.proofs.{Kinship.with_own, NoFault.no_fault}
 use Rattle.room_desk.specs.Setting.{IsNewInh, IsSet, IsSetOnly, IsSetWell, Stores, fault_in}
-use Rattle.room_desk.specs.Setting.{held_with}
+use Rattle.room_desk.specs.{Setting.held_with, Carrying.GoesDown}
 use Rattle.room_machine.specs.Changed.{HandsDown, stored_held}
-use Rattle.room_desk.specs.Carrying.{GoesDown}
 use Rattle.room_desk.proofs.Lists.HandedDown.{nothing_handed, only_read, spread_handed}
-use Rattle.room_desk.proofs.Lists.Relisted.{held_relisted, one_agrees, relist}
-use Rattle.room_desk.proofs.Lists.SetHeld.{base, base_here, each_same, ends, ends_is, final, links}
-use Rattle.room_desk.proofs.Lists.SetHeld.{mid, other_links, own_held, set_sound}
-use Rattle.room_desk.proofs.Lists.SetMeaning.{set_means}
+use Rattle.room_desk.proofs.Lists.{Relisted.{held_relisted, one_agrees, relist}, SetHeld.base}
+use Rattle.room_desk.proofs.Lists.SetHeld.{base_here, each_same, ends, ends_is, final, links, mid}
+use Rattle.room_desk.proofs.Lists.{SetHeld.{other_links, own_held, set_sound}, SetMeaning.set_means}
 use Rattle.room_desk.proofs.Lists.SetSpread.{agree_all, agree_but, not_own_parent}
-use Rattle.room_desk.proofs.Lists.SetSpread.{unlinked_unchanged}
-use Rattle.room_desk.proofs.Lists.ValidDown.{all_found, are_inherited, are_own, linked_above}
+use Rattle.room_desk.proofs.Lists.{SetSpread.unlinked_unchanged, ValidDown.all_found}
+use Rattle.room_desk.proofs.Lists.ValidDown.{are_inherited, are_own, linked_above}
 use Rattle.room_entry.proofs.Facts.Lists.{all_implied}
-use Rattle.std.proofs.Common.{arith}
-use Rattle.std.proofs.lemmas.Bool.Decides.{nat_tests}
 
 -- ---- the sent entries
 
@@ -67,14 +50,11 @@ own_sound : (which : Which) (kind : ObjKind) (entries : List Ace)
     → fault_in 1 which kind entries ≡ None → limit_fault entries ≡ None
     → are_own which kind (own_of entries) ≡ true
 own_sound which kind entries valid few =
-    rw (few_own entries few, each_filtered (λ entry. not entry.flags.inherited) entries)
-    (all_filtered _ _ entries (valid_entries which kind 1 entries valid))
+    search (all_filtered, each_filtered, few_own, valid_entries)
 
 inherited_sound : (which : Which) (kind : ObjKind) (entries : List Ace)
     → fault_in 1 which kind entries ≡ None → are_inherited which kind (inherited_of entries) ≡ true
-inherited_sound which kind entries valid =
-    rw (each_filtered (λ entry. entry.flags.inherited) entries)
-    (all_filtered _ _ entries (valid_entries which kind 1 entries valid))
+inherited_sound which kind entries valid = search (all_filtered, each_filtered, valid_entries)
 
 -- what isn't linked keeps the sent entries
 unlinked_sent : (which : Which) (sent : Sent) (kind : ObjKind) (o : Option Node)
@@ -121,9 +101,7 @@ module _ (which : Which) (sent : Sent) (node : Node) (old : Rows) (are : AreRows
 
     inherited : links which rows node held node ≡ false
         → are_inherited which node.kind held.inh ≡ true
-    inherited isnt =
-        rw (stored, unlinked_sent which sent node.kind (parent_of rows node) (sym linked_stored ∙ isnt))
-        (inherited_sound which node.kind sent.entries valid)
+    inherited isnt = grind (arith, nat_tests, inherited_sound, linked_stored, unlinked_sent)
 
     -- with lists below that agree, and that are what they were where nothing is inherited
     set_ends : (lists : Node → List Ace)
@@ -131,22 +109,13 @@ module _ (which : Which) (sent : Sent) (node : Node) (old : Rows) (are : AreRows
         → is_linked_in (mid which rows node held) which x ≡ false → lists x ≡ (held_of which x).inh)
         → AllAgree (with_lists which lists (mid which rows node held)) which
         → IsSetWell which sent node old (with_content old (ends which rows node held lists))
-    set_ends lists kept law = record {
-      means =
-          set_means which rows node held lists are.numbers there kept sent stored apart child_law;
-      sound =
-          set_sound which rows node held lists are.numbers there kept law own inherited
-          old.unreadable sound;
-    }
+    set_ends lists kept law = search (apart, child_law, inherited, own, set_means, set_sound)
 
     -- nothing is written where the list is what it was
     pub set_same : (new : Rows) → held ≡ held_of which node → new ≡ old
         → IsSetWell which sent node old new
     set_same new same unwritten =
-        subst (IsSetWell which sent node old) (ap (with_content old) as_before ∙ sym unwritten)
-        (set_ends stay (λ x found isnt. refl)
-        (subst (λ (c : Content). AllAgree c which)
-        (sym (ends_is which rows node held stay are.numbers there ∙ as_before)) law_before))
+        grind (arith, nat_tests, as_before, ends_is, law_before, set_ends, stay)
       where
         stay : Node → List Ace
         stay x = (held_of which x).inh
@@ -157,11 +126,7 @@ module _ (which : Which) (sent : Sent) (node : Node) (old : Rows) (are : AreRows
 
         one : (n : Node) → node_at rows n.id ≡ Some n
             → relist which (final which rows node held stay) n ≡ n
-        one n found =
-            ap (λ entries. relist which
-            (λ m. record (base which rows node held m) { inh = entries }) n)
-            (ap (λ (h : Held). h.inh) (held_relisted which (base which rows node held) n))
-            ∙ ap (λ h. relist which (λ m. h) n) (with_before n found) ∙ sym (own_held which n)
+        one n found = grind (arith, nat_tests, base, held_relisted, own_held, relist, with_before)
 
         as_before : ends which rows node held stay ≡ rows
         as_before = each_same rows are.numbers _ (λ n. n) one ∙ simp map-id
@@ -171,8 +136,7 @@ module _ (which : Which) (sent : Sent) (node : Node) (old : Rows) (are : AreRows
         → new ≡ with_content old (mid which rows node held) → IsSetWell which sent node old new
     set_still new stops written =
         subst (IsSetWell which sent node old)
-        (ap (with_content old) (sym (ends_is which rows node held stay are.numbers there) ∙ unmoved)
-        ∙ sym written)
+        (cc (ends_is which rows node held stay are.numbers there, unmoved, written))
         (set_ends stay (λ x found isnt. refl)
         (subst (λ (c : Content). AllAgree c which) (sym unmoved)
         (agree_all which rows node held are.numbers there sent stored law_before stops)))
@@ -192,8 +156,7 @@ module _ (which : Which) (sent : Sent) (node : Node) (old : Rows) (are : AreRows
         let law = rw spread.becomes at
         (spread.law (agree_but which rows node held are.numbers there sent stored law_before)) in
         subst (IsSetWell which sent node old)
-        (ap (with_content old) (sym (ends_is which rows node held spread.lists are.numbers there))
-        ∙ sym spread.becomes)
+        (cc (ends_is which rows node held spread.lists are.numbers there, spread.becomes))
         (set_ends spread.lists
         (unlinked_unchanged which (mid which rows node held) node.id spread.lists spread.below) law)
 
@@ -216,8 +179,7 @@ module _ (which : Which) (sent : Sent) (node : Node) (inh : List Ace) (old new :
       → HandsDown which node.id (listed list) new.read
   hands_down list same half is true goes =
       rw (← same, ← is) (spread_handed which node.id goes.0 half new goes.1)
-  hands_down list same half is false goes =
-      rw (← same, ← is, ← goes) (nothing_handed which node.id new.read)
+  hands_down list same half is false goes = grind (arith, nat_tests, nothing_handed)
 
   still_unread : (half : Rows) (t : Bool) → GoesDown t which node.id half new
       → new.unreadable ≡ half.unreadable
@@ -228,26 +190,19 @@ module _ (which : Which) (sent : Sent) (node : Node) (inh : List Ace) (old new :
       → IsSetOnly which sent node old new
   only (inl stays) there = (
     hands_down (stored_held which sent node.kind (parent_of old.read node)) stored old
-        (sym (ap (with_node old.read) (ap (λ (h : Held). with_held which h node) stays.0
-        ∙ sym (own_held which node)) ∙ with_node-there old.read are.numbers node there))
+        (cc (with_node-there old.read are.numbers node there, own_held which node, stays.0))
         false stays.1,
     only_read old new (ap (λ (r : Rows). r.unreadable) stays.1),
   )
   only (inr written) there =
       let writes = written.writes node there in
-      let goes = written.goes there in (
-        hands_down (stored_held which sent node.kind (parent_of old.read node)) stored written.mid
-            (ap (λ (r : Rows). r.read) writes) sent.flags.auto goes,
-        only_read old new
-            (still_unread written.mid sent.flags.auto goes
-            ∙ ap (λ (r : Rows). r.unreadable) writes),
-      )
+      let goes = written.goes there in
+      grind (arith, nat_tests, hands_down, only_read, still_unread, stored)
 
   well : Stores which node held old tt new → node_at old.read node.id ≡ Some node
       → fault_in 1 which node.kind sent.entries ≡ None → limit_fault sent.entries ≡ None
       → AreSound old → IsSetWell which sent node old new
-  well (inl stays) there valid few sound =
-      set_same which sent node old are there sound held stored valid few new stays.0 stays.1
+  well (inl stays) there valid few sound = search (set_same, stored)
   well (inr written) there valid few sound = on sent.flags.auto refl (written.goes there)
     where
       on : (t : Bool) → sent.flags.auto ≡ t → GoesDown t which node.id written.mid new

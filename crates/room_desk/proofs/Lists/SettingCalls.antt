@@ -1,43 +1,31 @@
 -- The calls that set a list.
-use Rattle.std.proofs.Common.{◌≡◌, ℕ, Bool, true, false, List, Option, refl}
-use Rattle.std.proofs.Common.{◌+◌, ◌≤◌, sym, ap, subst, ◌∙◌, arith}
-use Rattle.room_entry.specs.Ace.{Ace}
+use Rattle.std.proofs.Common.{◌≡◌, ℕ, Bool, true, false, List, Option, ◌+◌, ◌≤◌, sym, ap, subst}
+use Rattle.std.proofs.{Common.{◌∙◌, arith}, lemmas.Bool.Decides.nat_tests}
+use Rattle.room_entry.specs.{Ace.Ace, declared.{flags.ListFlags.ListFlags, object.Which.Which}}
 use Rattle.room_ace.specs.Sent.{Sent}
-use Rattle.room_entry.specs.declared.flags.ListFlags.{ListFlags}
-use Rattle.room_entry.specs.declared.object.Which.{Which}
-use Rattle.room_rows.specs.HeldList.{Held}
-use Rattle.room_rows.specs.declared.node.Node.{Node}
-use Rattle.room_rows.specs.Content.{node_at}
-use Rattle.room_rows.specs.Held.{with_held}
-use Rattle.room_rows.specs.Keep.{Changes, IsUnreadable}
-use Rattle.room_rows.specs.Rows.{Rows, AreRows}
-use Rattle.room_rows.proofs.InPlace.{place-with_held}
-use Rattle.room_rows.proofs.Lookups.{find-put_same}
+use Rattle.room_rows.specs.{HeldList.Held, declared.node.Node.Node, Held.with_held, Keep.Changes}
+use Rattle.room_rows.specs.{Keep.IsUnreadable, Rows.{Rows, AreRows}}
+use Rattle.room_rows.proofs.{InPlace.place-with_held, Lookups.find-put_same}
 use Rattle.room_inherit.specs.Spread.{Holds}
-use Rattle.room_desk.specs.Carrying.{GoesDown, HasLoop, HasLoopFrom, IsCarriedDown, IsCarriedFrom}
-use Rattle.room_desk.specs.Carrying.{IsRooted, IsUnreadableIfHeld, StandsRooted}
-use Rattle.room_desk.specs.Setting.{Beneath, IsNewInh, IsSet, IsWrittenDown, Stores, list_of}
-use Rattle.room_desk.specs.Setting.{entries_marked, held_with}
+use Rattle.room_desk.specs.Carrying.{HasLoop, HasLoopFrom, IsCarriedDown, IsCarriedFrom, IsRooted}
+use Rattle.room_desk.specs.{Carrying.{IsUnreadableIfHeld, StandsRooted}, Setting.Beneath}
+use Rattle.room_desk.specs.Setting.{IsNewInh, IsSet, IsWrittenDown, Stores, list_of, entries_marked}
+use Rattle.room_desk.specs.{Setting.held_with, Counted.{EachList, OneAndEach, OneWrite, Provided}}
+use Rattle.room_desk.specs.Counted.{changed_lists}
 use Rattle.room_machine.specs.Changed.{passing_parent, stored_inh}
 use Rattle.room_judge.specs.Extent.{unrecorded}
 use Rattle.room_judge.proofs.UpTo.{Share}
-use Rattle.room_desk.specs.Counted.{EachList, OneAndEach, OneWrite, Provided, changed_lists}
-use Rattle.room_desk.proofs.Writes.ChangedLists.{fewer}
-use Rattle.room_desk.proofs.Writes.Sufficing.{rooted_recorded}
-use Rattle.room_desk.proofs.Sound.Anchored.{changed_unread}
-use Rattle.room_desk.proofs.Lists.SetWell.{well_stored}
-use Rattle.std.proofs.lemmas.Bool.Decides.{nat_tests}
+use Rattle.room_desk.proofs.Writes.{ChangedLists.fewer, Sufficing.rooted_recorded}
+use Rattle.room_desk.proofs.{Sound.Anchored.changed_unread, Lists.SetWell.well_stored}
 
 -- a row that can't be read, before anything is written
 pub unread_before : (node : Node) (old mid : Rows) (row : ℕ) → mid ≡ old → IsUnreadable mid row
     → IsUnreadableIfHeld node old row
-unread_before node old mid row same unread there rooted =
-    subst (λ (r : Rows). IsUnreadable r row) same unread
+unread_before node old mid row same unread there rooted = grind (arith, nat_tests)
 
 pub fails_before : (node : Node) (old mid : Rows) (row : ℕ) → mid ≡ old
     → IsUnreadableIfHeld node mid row → IsUnreadableIfHeld node old row
-fails_before node old mid row same fails =
-    subst (λ (r : Rows). IsUnreadableIfHeld node r row) same fails
+fails_before node old mid row same fails = grind (arith, nat_tests)
 
 -- ---- the list is written, and carried down from there
 
@@ -48,8 +36,7 @@ module _ (which : Which) (node : Node) (held : Held) (old mid : Rows)
 
   holds_now : Holds node old → Holds (with_held which held node) mid
   holds_now there =
-      ap (λ (r : Rows). node_at r.read (with_held which held node).id) (changes node there)
-      ∙ find-put_same (with_held which held node) old.read.nodes
+      cc (changes node there, find-put_same (with_held which held node) old.read.nodes)
 
   pub carried_fails : (row : ℕ) → HasLoopFrom (with_held which held node) mid row
       → IsUnreadableIfHeld node old row
@@ -65,9 +52,7 @@ module _ (which : Which) (node : Node) (held : Held) (old mid : Rows)
   written_down auto new is same down = record {
     mid = mid;
     writes = changes;
-    goes =
-        λ there. subst (λ (t : Bool). GoesDown t which node.id mid new) (sym (same ∙ is))
-        (subst (λ (i : ℕ). IsCarriedDown which i mid tt new) number (down (holds_now there)));
+    goes = grind (arith, nat_tests, holds_now, number);
   }
 
   -- what suffices for it
@@ -76,13 +61,7 @@ module _ (which : Which) (node : Node) (held : Held) (old mid : Rows)
       → Provided (StandsRooted node) (OneAndEach which) (unrecorded old) (unrecorded new) more
       → Share (Provided (Holds node) OneWrite)
       (Provided (Holds (with_held which held node)) (EachList which)) old mid new more
-  set_shares new more down enough = record {
-    first = 1;
-    second = changed_lists which mid new;
-    suffices_first = (enough.0.0, omega arith);
-    suffices_second = (holds_now enough.0.0, omega arith);
-    fits = fits;
-  }
+  set_shares new more down enough = grind (arith, nat_tests, fits, holds_now)
     where
       rooted : IsRooted node.id old
       rooted = rooted_recorded node.id old enough.0.1
@@ -103,9 +82,7 @@ module _ (which : Which) (node : Node) (held : Held) (old mid : Rows)
       record {
         mid = mid;
         writes = changes;
-        goes =
-            λ there. subst (λ (t : Bool). GoesDown t which node.id mid mid)
-            (sym (same ∙ isnt)) refl;
+        goes = grind (arith, nat_tests);
       }
 
 -- the same from an equal object
@@ -120,8 +97,7 @@ carried_as which start node old mid new same unread down = grind (arith, nat_tes
 -- the list of the parts that are sent
 pub list_sent : (sent : Sent) (flags : ListFlags) (own inh : List Ace) → flags ≡ sent.flags
     → own ≡ entries_marked false sent.entries → list_of flags own inh ≡ held_with sent inh
-list_sent sent flags own inh flags_are own_are =
-    ap (λ f. list_of f own inh) flags_are ∙ ap (λ o. list_of sent.flags o inh) own_are
+list_sent sent flags own inh flags_are own_are = cc (flags_are, own_are)
 
 pub written_as : (which : Which) (node : Node) (held other : Held) (old mid new : Rows)
     → held ≡ other → mid ≡ old → IsWrittenDown which node held mid tt new

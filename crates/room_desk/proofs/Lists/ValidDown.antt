@@ -1,32 +1,21 @@
 -- What is passed down from valid lists is valid, as far down as the law holds.
 use Rattle.std.proofs.Common.{◌≡◌, ℕ, zero, suc, ◌==◌, ◌&&◌, ◌||◌, Bool, true, false, cond, not}
 use Rattle.std.proofs.Common.{List, [], ◌∷◌, ◌++◌, length, Option, Some, None, refl, sym, ap, ◌∙◌}
-use Rattle.std.proofs.Common.{inl, inr}
-use Rattle.std.specs.Prelude.{is_none, nat_le, option_and_then}
-use Rattle.std.specs.List.{list_all, cons_option}
-use Rattle.std.specs.Option.{option_map, option_map_or}
-use Rattle.std.proofs.lemmas.Bool.{and_parts, cases_Bool, false≢true}
-use Rattle.room_entry.specs.Ace.{Ace}
-use Rattle.room_entry.specs.declared.object.ObjKind.{ObjKind}
-use Rattle.room_entry.specs.declared.object.ObjKind.TheVariants.{Folder}
-use Rattle.room_entry.specs.declared.object.Which.{Which}
-use Rattle.room_entry.proofs.Same.{entries_equal}
-use Rattle.room_rows.specs.HeldList.{Held}
-use Rattle.room_rows.specs.declared.node.Node.{Node}
-use Rattle.room_rows.specs.Content.{Content, node_at, parent_of, is_folder, has_folder_above}
-use Rattle.room_rows.specs.Content.{reaches_root, is_linked_in}
-use Rattle.room_rows.specs.Held.{held_of, full_of}
-use Rattle.room_rows.proofs.Frames.{node_at-number}
-use Rattle.room_rows.specs.Law.{AllAgree}
-use Rattle.room_inherit.proofs.Stored.{parent_reaches}
-use Rattle.room_inherit.specs.Laws.{are_valid}
-use Rattle.room_rows.specs.Pass.{pass}
-use Rattle.room_rows.specs.Sound.{is_sound_held}
-use Rattle.room_inherit.proofs.Valid.{pass_is_valid}
-use Rattle.room_inherit.proofs.Migrated.{folder_is, marked_flags}
-use Rattle.room_entry.proofs.Facts.Booleans.{implied}
-use Rattle.std.proofs.Common.{arith}
+use Rattle.std.proofs.{Common.{inl, inr, arith}, lemmas.Bool.{and_parts, cases_Bool, false≢true}}
 use Rattle.std.proofs.lemmas.Bool.Decides.{nat_tests}
+use Rattle.std.specs.{Prelude.{is_none, nat_le, option_and_then}, List.{list_all, cons_option}}
+use Rattle.std.specs.Option.{option_map, option_map_or}
+use Rattle.room_entry.specs.{Ace.Ace, declared.object.ObjKind.{ObjKind, TheVariants.Folder}}
+use Rattle.room_entry.specs.declared.object.Which.{Which}
+use Rattle.room_entry.proofs.{Same.entries_equal, Facts.Booleans.implied}
+use Rattle.room_rows.specs.{HeldList.Held, declared.node.Node.Node, Content.{Content, node_at}}
+use Rattle.room_rows.specs.Content.{parent_of, is_folder, has_folder_above, reaches_root}
+use Rattle.room_rows.specs.{Content.is_linked_in, Held.{held_of, full_of}, Law.AllAgree, Pass.pass}
+use Rattle.room_rows.specs.Sound.{is_sound_held}
+use Rattle.room_rows.proofs.Frames.{node_at-number}
+use Rattle.room_inherit.proofs.{Stored.parent_reaches, Valid.pass_is_valid, Migrated.folder_is}
+use Rattle.room_inherit.proofs.Migrated.{marked_flags}
+use Rattle.room_inherit.specs.Laws.{are_valid}
 
 -- ---- own and inherited entries apart
 
@@ -45,11 +34,7 @@ all_append p [] ys = refl
 all_append p (x ∷ xs) ys = grind (arith, nat_tests, all_append p xs ys)
 
 regroup : (a b c d e : Bool) → (((a && b) && c) && (d && e)) ≡ ((a && (b && d)) && (c && e))
-regroup true true true d e = refl
-regroup true true false true e = refl
-regroup true true false false e = refl
-regroup true false c d e = refl
-regroup false b c d e = refl
+regroup a b c d e = grind (arith, nat_tests)
 
 -- a list is sound where both of its parts are
 pub held_parts : (which : Which) (kind : ObjKind) (held : Held)
@@ -130,22 +115,19 @@ module _ (which : Which) (content : Content) (law : AllAgree content which)
       pub valid_down : (n : ℕ) (node : Node) → node_at content node.id ≡ Some node
           → reaches_root n content node.parent ≡ true
           → are_inherited which node.kind (held_of which node).inh ≡ true
-      valid_down zero node there reaches = elim (cases_Bool (is_linked_in content which node)) [
-        | inl linked ↦
-            (let found = linked_above node there linked in
-            absurd (top node.parent found.0 reaches found.1))
-        | inr apart ↦ kept node there apart
-      ]
+      valid_down zero node there reaches = grind (arith, nat_tests, linked_above, top)
       valid_down (suc m) node there reaches = elim (cases_Bool (is_linked_in content which node)) [
         | inl linked ↦
             let found = linked_above node there linked in
             let above_there = parent_there node.parent found.0 found.1 in
             let folder = parent_folder node.parent found.0
             (all_found (has_folder_above content) content node.id node folders there) found.1 in
-            ap (are_inherited which node.kind) found.2
-            ∙ pass_inherited which node.kind (full_of (held_of which found.0))
-            (full_valid found.0 above_there folder
-            (valid_down m found.0 above_there
-            (parent_reaches content m node.parent found.0 reaches found.1)))
+            cc (
+              found.2,
+              pass_inherited which node.kind (full_of (held_of which found.0))
+                  (full_valid found.0 above_there folder
+                  (valid_down m found.0 above_there
+                  (parent_reaches content m node.parent found.0 reaches found.1))),
+            )
         | inr apart ↦ kept node there apart
       ]

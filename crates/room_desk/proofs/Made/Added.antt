@@ -1,20 +1,15 @@
 -- Rows to which an object is added whose number wasn't in use.
-use Rattle.std.proofs.Common.{◌≡◌, ℕ, zero, suc, ◌+◌, ◌==◌, Bool, true, false, cond, List, []}
-use Rattle.std.proofs.Common.{◌∷◌, ◌++◌, filter, length, Option, Some, None, nat_lt, refl, sym, ap}
-use Rattle.std.proofs.Common.{subst, ◌∙◌, arith, length-append}
-use Rattle.std.specs.List.{list_all, AllByRecursion as Each}
-use Rattle.std.specs.Option.{option_map_or}
-use Rattle.std.proofs.lemmas.Bool.{false≢true}
-use Rattle.std.proofs.lemmas.List.Elements.{filter-append}
-use Rattle.room_rows.specs.declared.node.Node.{Node}
-use Rattle.room_rows.specs.Content.{Content, node_at, parent_of, put_node, has_folder_above}
-use Rattle.room_rows.specs.Content.{reaches_root}
-use Rattle.room_rows.specs.Finding.{find_id}
+use Rattle.std.proofs.Common.{◌≡◌, ℕ, zero, suc, ◌+◌, ◌==◌, Bool, true, false, cond, List, [], ◌∷◌}
+use Rattle.std.proofs.Common.{◌++◌, filter, length, Option, Some, None, nat_lt, refl, ap, subst}
+use Rattle.std.proofs.{Common.{◌∙◌, arith, length-append}, lemmas.Bool.false≢true}
+use Rattle.std.proofs.lemmas.{Bool.Decides.nat_tests, List.Elements.filter-append}
+use Rattle.std.specs.{List.{list_all, AllByRecursion as Each}, Option.option_map_or}
+use Rattle.room_rows.specs.{declared.node.Node.Node, Content.{Content, node_at, parent_of}}
+use Rattle.room_rows.specs.{Content.{put_node, has_folder_above, reaches_root}, Finding.find_id}
 use Rattle.room_rows.specs.Rows.{Rows, AreRows}
 use Rattle.room_rows.proofs.Lookups.{find-put_same, find-put_other}
 use Rattle.room_entry.proofs.Facts.Members.{each_append, each_front, each_back, all_each}
 use Rattle.room_inherit.proofs.Children.{each_there, apart_rising}
-use Rattle.std.proofs.lemmas.Bool.Decides.{nat_tests}
 
 -- ---- where it is put
 
@@ -40,27 +35,16 @@ between new (x ∷ xs) unused =
           front = x ∷ below.front;
           back = below.back;
           before = ap (λ l. x ∷ l) below.before;
-          after =
-              ap (λ t. cond t (x ∷ put_node new xs)
-              (cond (x.id == new.id) (new ∷ xs) (new ∷ x ∷ xs))) less ∙ ap (λ l. x ∷ l) below.after;
+          after = cc (less, below.after);
         }
-    on false false less same rest none = record {
-      front = [];
-      back = x ∷ xs;
-      before = refl;
-      after =
-          ap (λ t. cond t (x ∷ put_node new xs) (cond (x.id == new.id) (new ∷ xs) (new ∷ x ∷ xs)))
-          less ∙ ap (λ t. cond t (new ∷ xs) (new ∷ x ∷ xs)) same;
-    }
+    on false false less same rest none = grind (arith, nat_tests)
 
 pub each_put : (P : Node → Type 0) (new : Node) (nodes : List Node) → find_id new.id nodes ≡ None
     → Each P nodes → P new → Each P (put_node new nodes)
 each_put P new nodes unused all here =
     let b = between new nodes unused in
     let parts : Each P (b.front ++ b.back) = subst (Each P) b.before all in
-    subst (Each P) (sym b.after)
-    (each_append P b.front (new ∷ b.back) (each_front P b.front b.back parts)
-    (here, each_back P b.front b.back parts))
+    grind (arith, nat_tests, each_append, each_back, each_front)
 
 pub length_put : (new : Node) (nodes : List Node) → find_id new.id nodes ≡ None
     → length (put_node new nodes) ≡ suc (length nodes)
@@ -68,17 +52,15 @@ length_put new nodes unused =
     let b = between new nodes unused in
     let then : length (put_node new nodes) ≡ length b.front + length (new ∷ b.back) =
     ap length b.after ∙ length-append b.front (new ∷ b.back) in
-    let first : length nodes ≡ length b.front + length b.back = ap length b.before
-    ∙ length-append b.front b.back in
+    let first : length nodes ≡ length b.front + length b.back =
+    cc (b.before, length-append b.front b.back) in
     omega arith
 
 pub filter_put : (p : Node → Bool) (new : Node) (nodes : List Node) → find_id new.id nodes ≡ None
     → p new ≡ false → filter p (put_node new nodes) ≡ filter p nodes
 filter_put p new nodes unused fails =
     let b = between new nodes unused in
-    ap (filter p) b.after ∙ filter-append p b.front (new ∷ b.back)
-    ∙ ap (λ t. filter p b.front ++ cond t (new ∷ filter p b.back) (filter p b.back)) fails
-    ∙ sym (filter-append p b.front b.back) ∙ ap (filter p) (sym b.before)
+    grind (arith, nat_tests, filter-append)
 
 -- ---- what is found then
 
@@ -97,9 +79,7 @@ module _ (old : Rows) (are : AreRows old) (new : Node) (bodies : List (ℕ × Li
   -- what holds of each object that was there, and of the new one, holds of all
   pub each_after : (P : Node → Type 0) → ((n : Node) → node_at old.read n.id ≡ Some n → P n) → P new
       → Each P after.nodes
-  each_after P all here =
-      each_put P new old.read.nodes unused
-      (each_there P old.read.nodes (apart_rising 0 old.read.nodes are.numbers) all) here
+  each_after P all here = search (apart_rising, each_put, each_there)
 
   pub all_after : (test : Node → Bool)
       → ((n : Node) → node_at old.read n.id ≡ Some n → test n ≡ true) → test new ≡ true
@@ -124,10 +104,7 @@ module _ (old : Rows) (are : AreRows old) (new : Node) (bodies : List (ℕ × Li
           → reaches_root k after q.parent ≡ true)
           → option_map_or (λ q. reaches_root k old.read q.parent) o false ≡ true
           → option_map_or (λ q. reaches_root k after q.parent) (node_at after id) false ≡ true
-      on None found rest is = absurd (false≢true is)
-      on (Some q) found rest is =
-          ap (λ o. option_map_or (λ p. reaches_root k after p.parent) o false) (stays id q found)
-          ∙ rest q is
+      on o found rest is = grind (arith, nat_tests, stays)
 
 -- in one step more, too
 pub reaches_more : (content : Content) (k : ℕ) (parent : Option ℕ)

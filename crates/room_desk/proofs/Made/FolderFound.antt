@@ -1,26 +1,19 @@
 -- The folder that a walk came to is there, and is one, and what isn't found under it isn't there.
 use Rattle.std.proofs.Common.{◌≡◌, ℕ, ◌<◌, Bool, true, false, cond, not, List, [], ◌∷◌, ◌++◌}
-use Rattle.std.proofs.Common.{length, Option, Some, None, refl, ap, ◌∙◌}
+use Rattle.std.proofs.Common.{length, Option, Some, None, refl, ◌∙◌}
 use Rattle.std.specs.Prelude.{is_none}
 use Rattle.room_entry.specs.Rights.{execute}
-use Rattle.room_rows.specs.declared.node.Node.{Node}
-use Rattle.room_rows.specs.Content.{node_at, child_of, is_folder}
+use Rattle.room_rows.specs.{declared.node.Node.Node, Content.{node_at, child_of, is_folder}}
 use Rattle.room_rows.specs.Rows.{Rows, AreRows}
-use Rattle.room_judge.specs.declared.arrival.Found.{Found}
-use Rattle.room_judge.specs.declared.asker.Asker.{Asker}
+use Rattle.room_judge.specs.{declared.{arrival.Found.Found, asker.Asker.Asker}, Stored.found_site}
+use Rattle.room_judge.specs.{Judged.through, Spot.{IsSpotted, spot_of}}
 use Rattle.room_machine.specs.declared.reply.Reply.TheVariants.{Refused}
-use Rattle.room_machine.specs.declared.reply.Reason.TheVariants.{NotFolder}
-use Rattle.room_machine.specs.Site.{Site, front, last_name}
-use Rattle.room_machine.specs.Plan.{Item, Check, Refusal, way, where_found}
-use Rattle.room_machine.specs.Judge.{failure, first_failure}
-use Rattle.room_machine.specs.Stored.{stored_along}
-use Rattle.room_judge.specs.Stored.{found_site}
-use Rattle.room_judge.specs.Judged.{through}
-use Rattle.room_judge.specs.Spot.{IsSpotted, spot_of}
-use Rattle.room_judge.proofs.Judging.{failure_of_parts}
+use Rattle.room_machine.specs.{declared.reply.Reason.TheVariants.NotFolder, Site.{Site, front}}
+use Rattle.room_machine.specs.{Site.last_name, Plan.{Item, Check, Refusal, way}, Judge.failure}
+use Rattle.room_machine.specs.{Judge.first_failure, Stored.stored_along}
+use Rattle.room_judge.proofs.{Judging.failure_of_parts, Spots.folder_along, Folders.stem_of}
+use Rattle.room_judge.proofs.Folders.{folder_is, lacks}
 use Rattle.room_desk.proofs.Steps.Serving.{none_both, along_there}
-use Rattle.room_judge.proofs.Spots.{folder_along}
-use Rattle.room_judge.proofs.Folders.{stem_of, folder_is, lacks}
 
 pub record IsFoundFolder (old : Rows) (path : List (List ℕ)) (folder : Node)
     (child : Option Node) : Type 0 where
@@ -44,10 +37,7 @@ found_folder asker path some old mid folder child are spotted =
     let passes : None ≡ first_failure asker.caller
     (way false (stored_along old.read (front path)) (front path)
     ++ through (found_site path folder)) =
-    (stem_of asker path some old mid None spotted.judged).answers
-    ∙ ap
-    (λ o. first_failure asker.caller
-    (way false (stored_along old.read (front path)) (front path) ++ where_found o through)) at in
+    cc ((stem_of asker path some old mid None spotted.judged).answers, at) in
     let passing = none_both
     (first_failure asker.caller (way false (stored_along old.read (front path)) (front path)))
     (first_failure asker.caller (through (found_site path folder)))

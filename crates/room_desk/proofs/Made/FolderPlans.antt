@@ -1,26 +1,19 @@
 -- Plans that ask for the folder of a path's last name, over stored sites and over sites computed
 -- from the root.
 use Rattle.std.proofs.Common.{◌≡◌, ℕ, ◌<◌, Bool, true, List, [], ◌∷◌, ◌++◌, map, length, Option}
-use Rattle.std.proofs.Common.{Some, None, refl, arith}
-use Rattle.std.specs.Prelude.{is_some}
-use Rattle.std.specs.Option.{option_map}
-use Rattle.std.proofs.lemmas.List.{map-append}
+use Rattle.std.proofs.{Common.{Some, None, refl, arith}, lemmas.List.map-append}
+use Rattle.std.proofs.lemmas.Bool.Decides.{nat_tests}
+use Rattle.std.specs.{Prelude.is_some, Option.option_map}
 use Rattle.room_entry.specs.Rights.{append_data}
-use Rattle.room_rows.specs.Content.{Content}
-use Rattle.room_rows.specs.Meaning.{meaning}
-use Rattle.room_rows.specs.Rows.{Rows, AreRows}
-use Rattle.room_judge.specs.declared.asker.Asker.{Asker}
-use Rattle.room_machine.specs.declared.reply.Reply.{Reply}
-use Rattle.room_machine.specs.declared.reply.Reason.TheVariants.{Exists}
-use Rattle.room_machine.specs.declared.request.Request.TheVariants.{Put, MakeFolder}
-use Rattle.room_machine.specs.Site.{Site, sites_along, site_at, parent_at, front}
-use Rattle.room_machine.specs.Plan.{Along, Item, Check, Refusal, plan_by, plan_of, put_items, way}
-use Rattle.room_machine.specs.Plan.{where_found}
+use Rattle.room_rows.specs.{Content.Content, Meaning.meaning, Rows.{Rows, AreRows}}
+use Rattle.room_judge.specs.{declared.asker.Asker.Asker, Judged.IsJudged}
+use Rattle.room_machine.specs.declared.reply.{Reply.Reply, Reason.TheVariants.Exists}
+use Rattle.room_machine.specs.{declared.request.Request.TheVariants.{Put, MakeFolder}, Site.Site}
+use Rattle.room_machine.specs.{Site.{sites_along, site_at, parent_at, front}, Plan.{Along, Item}}
+use Rattle.room_machine.specs.Plan.{Check, Refusal, plan_by, plan_of, put_items, way, where_found}
 use Rattle.room_machine.specs.Stored.{stored_along}
-use Rattle.room_judge.specs.Judged.{IsJudged}
-use Rattle.room_sound.proofs.SoundParts.{SoundParts}
-use Rattle.room_sound.proofs.Sites.{fill, sites_filled}
-use Rattle.room_sound.proofs.Filled.{fill_item, judged_filled, site_filled, way_filled}
+use Rattle.room_sound.proofs.{SoundParts.SoundParts, Sites.{fill, sites_filled}, Filled.fill_item}
+use Rattle.room_sound.proofs.Filled.{judged_filled, site_filled, way_filled}
 
 -- ---- the sites of the plan
 
@@ -32,9 +25,7 @@ pub record IsPlanned (found : Option Site) (site : Site) : Type 0 where
 
 pub planned_of : (found : Option Site) (site : Site) → option_map fill found ≡ Some site
     → IsPlanned found site
-planned_of None site is = absurd (let wrong : ⊥ = cc in wrong)
-planned_of (Some planned) site is =
-    record { planned = planned; at = refl; filled = (let e : fill planned ≡ site = cc in e) }
+planned_of found site is = grind (arith, nat_tests, fill)
 
 pub none_planned : (found : Option Site) → option_map fill found ≡ None → found ≡ None
 none_planned = grind arith

@@ -1,44 +1,27 @@
 -- What a new object stores is sound, and what the rows mean that it is added to.
-use Rattle.std.proofs.Common.{◌≡◌, ℕ, ◌==◌, Bool, true, false, cond, not, List, [], ◌∷◌}
-use Rattle.std.proofs.Common.{map, length, Option, Some, None, refl, sym, ap, ◌∙◌}
-use Rattle.std.specs.Prelude.{nat_le}
-use Rattle.std.specs.List.{list_all}
-use Rattle.std.specs.Option.{option_map}
-use Rattle.std.proofs.lemmas.Bool.{false≢true, and_parts, or_right, eqb-true}
+use Rattle.std.proofs.Common.{◌≡◌, ℕ, ◌==◌, Bool, true, false, cond, not, List, [], ◌∷◌, map}
+use Rattle.std.proofs.Common.{length, Option, Some, None, refl, sym, ap, ◌∙◌, arith}
+use Rattle.std.proofs.lemmas.Bool.{false≢true, and_parts, or_right, eqb-true, Decides.nat_tests}
 use Rattle.std.proofs.lemmas.Option.{none-some}
-use Rattle.room_entry.specs.Pieces.{is_among}
-use Rattle.room_entry.specs.Valid.{is_document}
-use Rattle.room_entry.specs.declared.object.ObjKind.{ObjKind}
-use Rattle.room_entry.specs.declared.object.ObjKind.TheVariants.{Document, Folder}
-use Rattle.room_entry.specs.declared.object.Which.{Which}
-use Rattle.room_entry.specs.declared.object.Which.TheVariants.{Dacl, Sacl}
-use Rattle.room_entry.specs.declared.parties.Caller.{Caller}
+use Rattle.std.specs.{Prelude.nat_le, List.list_all, Option.option_map}
+use Rattle.room_entry.specs.{Pieces.is_among, Valid.is_document, declared.object.ObjKind.ObjKind}
+use Rattle.room_entry.specs.declared.object.{ObjKind.TheVariants.{Document, Folder}, Which.Which}
+use Rattle.room_entry.specs.declared.{object.Which.TheVariants.{Dacl, Sacl}, parties.Caller.Caller}
 use Rattle.room_entry.proofs.Alike.{entries_themselves}
-use Rattle.room_rows.specs.HeldList.{Held}
-use Rattle.room_rows.specs.declared.node.Node.{Node}
-use Rattle.room_rows.specs.Held.{held_of, full_of, is_linked}
-use Rattle.room_rows.specs.Content.{Content, node_at, child_of, is_folder, put_node, put_body}
-use Rattle.room_rows.specs.Content.{body_at}
-use Rattle.room_rows.specs.Finding.{find_id}
-use Rattle.room_rows.specs.Keep.{node_of, with_content}
-use Rattle.room_rows.specs.Meaning.{kept_held, kept_node, meaning}
-use Rattle.room_rows.specs.Paths.{is_object_name}
-use Rattle.room_rows.specs.Rows.{Rows, AreRows, numbers_of, put_numbers}
-use Rattle.room_rows.proofs.InPlace.{body_of-with_body, body_of-with_body-other}
-use Rattle.room_rows.specs.Pass.{pass}
+use Rattle.room_rows.specs.{HeldList.Held, declared.node.Node.Node, Held.{held_of, full_of}}
+use Rattle.room_rows.specs.{Held.is_linked, Content.{Content, node_at, child_of, is_folder}}
+use Rattle.room_rows.specs.{Content.{put_node, put_body, body_at}, Finding.find_id, Keep.node_of}
+use Rattle.room_rows.specs.{Keep.with_content, Meaning.{kept_held, kept_node, meaning}}
+use Rattle.room_rows.specs.{Paths.is_object_name, Rows.{Rows, AreRows, numbers_of}, Pass.pass}
 use Rattle.room_rows.specs.Sound.{AreSound, fits_kind, has_sound_lists, is_sound_held}
-use Rattle.room_inherit.proofs.Children.{ids_of, each_there, apart_rising}
-use Rattle.room_inherit.proofs.Renewing.{map_agree}
-use Rattle.room_inherit.proofs.Valid.{pass_is_valid}
-use Rattle.room_machine.specs.Effect.{new_node}
-use Rattle.room_machine.specs.Changed.{new_child, passed_held}
+use Rattle.room_rows.proofs.InPlace.{body_of-with_body, body_of-with_body-other}
+use Rattle.room_inherit.proofs.{Children.{ids_of, each_there, apart_rising}, Renewing.map_agree}
+use Rattle.room_inherit.proofs.{Valid.pass_is_valid, Migrated.folder_is}
+use Rattle.room_machine.specs.{Effect.new_node, Changed.{new_child, passed_held}}
 use Rattle.room_machine.specs.Stored.{stored_site}
 use Rattle.room_desk.proofs.Made.SoundAdded.{above_new, above_old, lists_here, sound_added}
-use Rattle.room_sound.proofs.SoundParts.{none_numbered, none_unreadable, sound_parts}
 use Rattle.room_desk.proofs.Lists.ValidDown.{passed_marked}
-use Rattle.room_inherit.proofs.Migrated.{folder_is}
-use Rattle.std.proofs.Common.{arith}
-use Rattle.std.proofs.lemmas.Bool.Decides.{nat_tests}
+use Rattle.room_sound.proofs.SoundParts.{none_numbered, none_unreadable, sound_parts}
 
 -- ---- its lists
 
@@ -82,9 +65,11 @@ no_bytes_unused : (rows : Rows) → AreRows rows → AreSound rows → (id : ℕ
     → node_at rows.read id ≡ None → body_at rows.read.bodies id ≡ None
 no_bytes_unused rows are sound id unused =
     no_bytes_in (numbers_of rows) rows.read.bodies id
-    (ap (λ l. is_among (put_numbers l (ids_of rows.read.nodes)) id)
-    (none_numbered rows (none_unreadable rows (sound_parts rows sound)))
-    ∙ not_listed rows.read.nodes id unused)
+    (
+    cc (
+      none_numbered rows (none_unreadable rows (sound_parts rows sound)),
+      not_listed rows.read.nodes id unused,
+    ))
     are.bodies
 
 -- ---- the bytes of a new object
@@ -96,9 +81,7 @@ new_fits : (kind : ObjKind) (id : ℕ) (bytes : List ℕ) (content : Content)
     → body_at content.bodies id ≡ None
     → (is_document kind ≡ true → nat_le (length bytes) 1048576 ≡ true)
     → fits_kind kind (body_at (bodies_then kind id bytes content.bodies) id) ≡ true
-new_fits Document id bytes content none few =
-    ap (fits_kind Document) (body_of-with_body content id bytes) ∙ few refl
-new_fits Folder id bytes content none few = ap (fits_kind Folder) none
+new_fits kind id bytes content none few = grind (arith, nat_tests, body_of-with_body)
 
 same_bytes : (kind : ObjKind) (id : ℕ) (bytes : List ℕ) (content : Content)
     (row : ℕ) → (row ≡ id → ⊥)
@@ -187,9 +170,9 @@ module _ (old : Rows) (are : AreRows old) (were : AreSound old) (caller : Caller
   others_mean = map_agree (kept_node added) (kept_node old.read) old.read.nodes
       (each_there (λ n. kept_node added n ≡ kept_node old.read n) old.read.nodes
       (apart_rising 0 old.read.nodes are.numbers)
-      (λ n found. ap (λ o. kept_under o n)
-      (above_old old are were new folder
-      (bodies_then kind id bytes old.read.bodies) unused there is_above refl free n found)))
+      (λ n found.
+      cc (above_old old are were new folder (bodies_then kind id bytes old.read.bodies) unused
+      there is_above refl free n found)))
 
   pub added_means : (q : List (List ℕ))
       → meaning added
@@ -199,9 +182,4 @@ module _ (old : Rows) (are : AreRows old) (were : AreSound old) (caller : Caller
         bodies =
             bodies_then kind id bytes old.read.bodies;
       }
-  added_means q =
-      ap (λ (nodes : List Node).
-      record old.read { nodes = nodes; bodies = bodies_then kind id bytes old.read.bodies })
-      (map_put added new old.read.nodes
-      ∙ ap (λ n. put_node n (map (kept_node added) old.read.nodes)) (new_means q)
-      ∙ ap (λ l. put_node (new_node id caller kind (stored_site q folder) name) l) others_mean)
+  added_means q = search (map_put, new_means, others_mean)

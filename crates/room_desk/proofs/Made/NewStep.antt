@@ -1,33 +1,21 @@
 -- What becomes of the rows where an object is made.
-use Rattle.std.proofs.Common.{◌≡◌, ℕ, true, List, length, Option, Some, None}
-use Rattle.std.proofs.Common.{refl, sym, ap, subst, ◌∙◌}
-use Rattle.std.specs.Prelude.{is_none, nat_le}
-use Rattle.std.specs.Option.{option_map}
-use Rattle.room_entry.specs.Valid.{is_document}
-use Rattle.room_entry.specs.declared.object.ObjKind.{ObjKind}
+use Rattle.std.proofs.Common.{◌≡◌, ℕ, true, List, length, Option, Some, None, sym, ap, subst, ◌∙◌}
+use Rattle.std.proofs.{Common.arith, lemmas.Bool.Decides.nat_tests}
+use Rattle.std.specs.{Prelude.{is_none, nat_le}, Option.option_map}
+use Rattle.room_entry.specs.{Valid.is_document, declared.object.ObjKind.ObjKind}
 use Rattle.room_entry.specs.declared.object.ObjKind.TheVariants.{Document, Folder}
 use Rattle.room_entry.specs.declared.parties.Caller.{Caller}
-use Rattle.room_rows.specs.declared.node.AuditRow.{AuditRow}
-use Rattle.room_rows.specs.declared.node.NewNode.{NewNode}
-use Rattle.room_rows.specs.declared.node.Node.{Node}
-use Rattle.room_rows.specs.Content.{Content, node_at, child_of, is_folder, put_node}
-use Rattle.room_rows.specs.Content.{with_records}
-use Rattle.room_rows.specs.Keep.{CanAdd, IsAdded, node_of, with_content, with_new}
-use Rattle.room_rows.specs.Meaning.{kept_node, meaning}
-use Rattle.room_rows.specs.Paths.{is_object_name}
-use Rattle.room_rows.specs.Rows.{Rows, AreRows}
+use Rattle.room_rows.specs.declared.node.{AuditRow.AuditRow, NewNode.NewNode, Node.Node}
+use Rattle.room_rows.specs.Content.{Content, node_at, child_of, is_folder, put_node, with_records}
+use Rattle.room_rows.specs.{Keep.{IsAdded, node_of, with_content, with_new}, Meaning.meaning}
+use Rattle.room_rows.specs.{Paths.is_object_name, Rows.{Rows, AreRows}, Sound.AreSound}
 use Rattle.room_rows.proofs.InPlace.{keeps_places, node_at-with_each}
-use Rattle.room_rows.specs.Sound.{AreSound}
-use Rattle.room_machine.specs.Effect.{new_node}
+use Rattle.room_machine.specs.{Effect.new_node, Changed.{AddsNew, new_child}, Step.IsFree}
+use Rattle.room_machine.specs.Stored.{stored_site}
 use Rattle.room_judge.specs.Judged.{with_notes}
 use Rattle.room_desk.specs.Made.{IsMade}
-use Rattle.room_machine.specs.Changed.{AddsNew, new_child}
-use Rattle.room_machine.specs.Step.{IsFree}
-use Rattle.room_machine.specs.Stored.{stored_site}
 use Rattle.room_desk.proofs.Made.NewObject.{added, added_means, added_sound, bodies_then}
 use Rattle.room_sound.proofs.SoundParts.{sound_noted}
-use Rattle.std.proofs.Common.{arith}
-use Rattle.std.proofs.lemmas.Bool.Decides.{nat_tests}
 
 new_rows : (content : Content) (id : ℕ) (kind : ObjKind) (new : NewNode) → new.kind ≡ kind
     → with_new content id new
@@ -67,18 +55,7 @@ pub made_adds : (caller : Caller) (kind : ObjKind) (folder : Node) (name last by
     → IsMade (new_child caller kind folder name bytes) mid new
     → AddsNoted (new_child caller kind folder last bytes) old records new
 made_adds caller kind folder name last bytes old mid new records there is_above absent same notes
-    made =
-    let node : NewNode = new_child caller kind folder name bytes in
-    let can : CanAdd node (with_notes old records) = record {
-      parent = folder.id;
-      parent_is = refl;
-      folder = (folder, there, is_above);
-      name_is_free = absent;
-    } in
-    let here : IsMade node (with_notes old records) new =
-    subst (λ (r : Rows). IsMade node r new) notes made in
-    subst (λ (n : List ℕ). AddsNoted (new_child caller kind folder n bytes) old records new) same
-    (noted_adds node old new records here.0 (here.1 can))
+    made = grind (arith, nat_tests, noted_adds)
 
 none_mapped : (o : Option Node) (f : Node → Node) → o ≡ None → is_none (option_map f o) ≡ true
 none_mapped o f is = ap (λ p. is_none (option_map f p)) is
@@ -111,31 +88,17 @@ module _ (old : Rows) (are : AreRows old) (were : AreSound old) (caller : Caller
       ≡ with_notes
       (with_content old
       (added old are were caller kind folder name bytes id adds.is_new there is_above absent))
-      records =
-      adds.becomes ∙ ap (λ (c : Content). with_content (with_notes old records) c)
-      (new_rows (with_notes old records).read id kind
-      (new_child caller kind folder name bytes) refl) in
+      records = grind (arith, nat_tests, new_rows) in
       record {
         id = id;
-        free = (
-          adds.from_one,
-          ap is_none (node_at-with_each old.read (kept_node old.read)
-              (keeps_places old.read (kept_node old.read)
-              (λ n. record { number = refl; parent = refl; name = refl })) id)
-              ∙ none_mapped (node_at old.read id) (kept_node old.read) adds.is_new,
-        );
+        free = search (keeps_places, node_at-with_each, none_mapped);
         means =
             ap (λ (r : Rows). meaning r.read) becomes
             ∙ ap (λ (c : Content). with_records c records)
             (added_means old are were caller kind folder name bytes id adds.is_new there is_above
             absent q);
         sound = subst AreSound (sym becomes)
-            (sound_noted
-            (with_content old
-            (added old are were caller kind folder name bytes id adds.is_new there is_above absent))
-            records
-            (added_sound old are were caller kind folder name bytes id adds.is_new there is_above
-            absent named few));
+            (search (added, added_sound, sound_noted));
       }
 
   pub made_new : (records : List AuditRow) (q : List (List ℕ)) (mid new : Rows)

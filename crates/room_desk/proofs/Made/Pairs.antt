@@ -1,11 +1,9 @@
 -- The object at a path, and the folder of the path's last name.
-use Rattle.std.proofs.Common.{◌≡◌, ℕ, List, [], ◌∷◌, ◌++◌, Some}
-use Rattle.room_rows.specs.declared.node.Node.{Node}
-use Rattle.room_rows.specs.Content.{Content, child_of}
+use Rattle.std.proofs.Common.{◌≡◌, ℕ, List, [], ◌∷◌, ◌++◌, Some, arith}
+use Rattle.room_rows.specs.{declared.node.Node.Node, Content.{Content, child_of}}
 use Rattle.room_rows.proofs.Frames.{child_of-parent}
-use Rattle.room_machine.specs.Site.{Site, site_at, parent_at, last_name}
-use Rattle.room_machine.specs.Stored.{stored_from, stored_along}
-use Rattle.std.proofs.Common.{arith}
+use Rattle.room_machine.specs.{Site.{Site, site_at, parent_at, last_name}, Stored.stored_from}
+use Rattle.room_machine.specs.Stored.{stored_along}
 
 -- The object at the end of the names stands in the folder by the last name.
 child_from : (content : Content) (names path : List (List ℕ)) (node : Node) (folder target : Site)

@@ -1,48 +1,31 @@
 -- A request that puts a document is a step.
-use Rattle.std.proofs.Common.{◌≡◌, ℕ, Bool, true, false, cond, List, [], ◌∷◌, ◌++◌, length, take}
-use Rattle.std.proofs.Common.{Option, Some, None, nat_lt, refl, sym, ap, ◌∙◌, inl, inr}
+use Rattle.std.proofs.Common.{◌≡◌, ℕ, Bool, true, false, cond, List, [], ◌∷◌, length, take, Option}
+use Rattle.std.proofs.Common.{Some, None, nat_lt, refl, ap, inl, inr, Ok, Err, arith}
+use Rattle.std.proofs.{Math.Seq.take-length, lemmas.Bool.Decides.nat_tests}
 use Rattle.std.specs.Prelude.{is_none, nat_le}
-use Rattle.std.proofs.Common.{Ok, Err}
-use Rattle.std.proofs.Math.Seq.{take-length}
-use Rattle.room_entry.specs.Rights.{write_data}
-use Rattle.room_entry.specs.Valid.{is_document}
+use Rattle.room_entry.specs.{Rights.write_data, Valid.is_document}
 use Rattle.room_entry.specs.declared.object.ObjKind.TheVariants.{Document}
-use Rattle.room_rows.specs.declared.node.Node.{Node}
-use Rattle.room_rows.specs.Content.{node_at, child_of, with_body, with_node}
-use Rattle.room_rows.specs.Keep.{SetsBody, with_content}
-use Rattle.room_rows.specs.Meaning.{meaning}
-use Rattle.room_rows.specs.Rows.{Rows, AreRows}
-use Rattle.room_judge.specs.declared.arrival.Found.{Found}
-use Rattle.room_judge.specs.declared.asker.Asker.{Asker}
-use Rattle.room_machine.specs.declared.reply.Reply.{Reply}
-use Rattle.room_machine.specs.declared.reply.Reply.TheVariants.{Done, Made, Refused}
+use Rattle.room_rows.specs.{declared.node.Node.Node, Content.{node_at, child_of, with_body}}
+use Rattle.room_rows.specs.{Keep.{SetsBody, with_content}, Meaning.meaning, Rows.{Rows, AreRows}}
+use Rattle.room_judge.specs.{declared.{arrival.Found.Found, asker.Asker.Asker}, Closed.IsClosed}
+use Rattle.room_judge.specs.{Closed.IsServed, Stored.found_site, Judged.{IsJudged, IsReached}}
+use Rattle.room_judge.specs.{Judged.CarriesOut, Spot.{IsSpotted, spot_of}}
+use Rattle.room_machine.specs.declared.reply.Reply.{Reply, TheVariants.{Done, Made, Refused}}
 use Rattle.room_machine.specs.declared.reply.Reason.TheVariants.{TooLarge}
-use Rattle.room_machine.specs.declared.request.Request.TheVariants.{Put}
-use Rattle.room_machine.specs.Site.{Site, last_name, parent_at, site_at, sites_along}
-use Rattle.room_machine.specs.Plan.{Item, Check, no_folder, not_over, plan_of, put_items, way}
-use Rattle.room_machine.specs.Plan.{where_found}
-use Rattle.room_machine.specs.Effect.{new_node, put_bytes}
-use Rattle.room_machine.specs.Judge.{records_of_plan}
-use Rattle.room_judge.specs.Closed.{IsClosed, IsServed}
-use Rattle.room_machine.specs.Stored.{stored_site, stored_along, to_stored}
-use Rattle.room_judge.specs.Stored.{found_site}
-use Rattle.room_judge.specs.Judged.{IsJudged, IsReached, CarriesOut}
+use Rattle.room_machine.specs.{declared.request.Request.TheVariants.Put, Site.{Site, last_name}}
+use Rattle.room_machine.specs.{Site.{parent_at, site_at}, Plan.{Item, Check, no_folder, not_over}}
+use Rattle.room_machine.specs.{Plan.{plan_of, put_items, way}, Judge.records_of_plan}
+use Rattle.room_machine.specs.{Stored.{stored_site, stored_along, to_stored}, Changed.new_child}
 use Rattle.room_desk.specs.Made.{Ends, IsMade, IsNameOf, IsJudgedAndDone}
-use Rattle.room_machine.specs.Changed.{new_child}
-use Rattle.room_judge.specs.Spot.{IsSpotted, spot_of}
-use Rattle.room_judge.proofs.Closing.{closed_done, closed_failed}
-use Rattle.room_judge.proofs.Judging.{fails_first, passes_first}
+use Rattle.room_judge.proofs.{Closing.{closed_done, closed_failed}, Judging.fails_first}
+use Rattle.room_judge.proofs.Judging.{passes_first}
 use Rattle.room_desk.proofs.Steps.Serving.{none_both, along_there, folder_fails}
-use Rattle.room_desk.proofs.Bytes.SoundBytes.{sound_bytes}
-use Rattle.room_sound.proofs.SoundParts.{sound_parts, sound_noted}
-use Rattle.room_sound.proofs.Filled.{target_there}
-use Rattle.room_desk.proofs.Made.FolderFound.{IsFoundFolder, found_folder}
-use Rattle.room_desk.proofs.Made.FolderPlans.{planned_none, planned_parent, put_at, put_judged}
-use Rattle.room_desk.proofs.Made.NewStep.{made_adds, made_new}
-use Rattle.room_desk.proofs.Made.ServedItems.{judged_refused}
 use Rattle.room_desk.proofs.Steps.Stepping.{changed_step, made_step, refused_step}
-use Rattle.std.proofs.Common.{arith}
-use Rattle.std.proofs.lemmas.Bool.Decides.{nat_tests}
+use Rattle.room_desk.proofs.{Bytes.SoundBytes.sound_bytes, Made.FolderFound.IsFoundFolder}
+use Rattle.room_desk.proofs.Made.{FolderFound.found_folder, FolderPlans.planned_none}
+use Rattle.room_desk.proofs.Made.FolderPlans.{planned_parent, put_at, put_judged}
+use Rattle.room_desk.proofs.Made.{NewStep.{made_adds, made_new}, ServedItems.judged_refused}
+use Rattle.room_sound.proofs.{SoundParts.{sound_parts, sound_noted}, Filled.target_there}
 
 -- ---- what passes
 
@@ -65,20 +48,12 @@ module _ (asker : Asker) (path : List (List ℕ)) (bytes : List ℕ) where
   not_put : (old new : Rows) (reply : Reply) → AreRows old
       → IsJudged asker (put_at path size (stored_along old.read path)) old (Some reply) new
       → IsServed asker (Put path bytes) old reply new
-  not_put old new reply are judged = (
-    λ known sound. refused_step asker (Put path bytes) old known sound new reply
-        (put_judged asker old new (Some reply) are (sound_parts old sound) path bytes judged),
-    closed_failed asker (Put path bytes) old reply new judged,
-  )
+  not_put old new reply are judged = search (closed_failed, put_judged, refused_step, sound_parts)
 
   not_reached : (old new : Rows) (reply : Reply) → AreRows old
       → IsJudged asker (way true (stored_along old.read path) path) old (Some reply) new
       → IsServed asker (Put path bytes) old reply new
-  not_reached old new reply are judged =
-      not_put old new reply are
-      (fails_first asker (way true (stored_along old.read path) path)
-      (put_items path size (site_at (stored_along old.read path) path)
-      (parent_at (stored_along old.read path) path)) old new reply judged)
+  not_reached old new reply are judged = search (fails_first, not_put)
 
   pub put_barred : (old new : Rows) (reply : Reply) → AreRows old
       → IsSpotted asker path old (Err reply) new → IsServed asker (Put path bytes) old reply new
@@ -115,30 +90,18 @@ module _ (asker : Asker) (path : List (List ℕ)) (bytes : List ℕ) where
     -- what is known of items that pass
     passed : (last : Rows) → IsJudged asker (there_items (stored_site path node)) mid None last
         → (is_document node.kind ≡ true) × (nat_lt 1048576 (length bytes) ≡ false)
-    passed last judged =
-        let first = none_both _ _ judged.answers in let second = none_both _ _ first.1 in
-        let third = none_both _ _ second.1 in (
-          folder_fails asker.caller (stored_site path node) first.0,
-          not_too_large path (nat_lt 1048576 size) third.0,
-        )
+    passed last judged = grind (arith, nat_tests, folder_fails, none_both, not_too_large)
 
     all_judged : (last : Rows) (answer : Option Reply)
         → IsJudged asker (there_items (stored_site path node)) mid answer last
         → IsJudged asker (put_at path size (stored_along old.read path)) old answer last
-    all_judged last answer judged =
-        at_stored old mid last (there_items (stored_site path node)) answer before items_there
-        judged
+    all_judged last answer judged = search (at_stored, items_there)
 
     bytes_set : (last new : Rows)
         → IsJudged asker (there_items (stored_site path node)) mid None last
         → SetsBody node.id bytes last new
         → new ≡ with_content last (with_body last.read node.id bytes)
-    bytes_set last new judged sets =
-        sets (
-          node,
-          rw (all_judged last None judged).notes there,
-          (passed last judged).0,
-        )
+    bytes_set last new judged sets = grind (arith, nat_tests, all_judged, passed, there)
 
     put_set : (last new : Rows) → IsJudged asker (there_items (stored_site path node)) mid None last
         → SetsBody node.id bytes last new → CarriesOut asker (Put path bytes) old Done new
@@ -174,26 +137,20 @@ module _ (asker : Asker) (path : List (List ℕ)) (bytes : List ℕ) where
     on_answer None last new reply judged ends =
         rw ends.0 (put_set last new judged ends.1, set_closed last new judged ends.1)
     on_answer (Some refusal) last new reply judged ends =
-        not_put old new reply are
-        (all_judged new (Some reply)
-        (judged_refused asker (there_items (stored_site path node)) mid last new refusal reply
-        judged ends.0 ends.1))
+        search (all_judged, judged_refused, not_put)
 
     put_over : (depth : ℕ) → depth ≡ length path → (new : Rows) (reply : Reply)
         → IsJudgedAndDone asker
         (there_items (found_site path (record { node = node; depth = depth }))) Done
         (SetsBody node.id bytes) mid reply new → IsServed asker (Put path bytes) old reply new
-    put_over depth deep new reply served =
-        on_answer served.answer served.mid new reply (rw (deep, take-length) at served.judged)
-        served.ends
+    put_over depth deep new reply served = grind (arith, nat_tests, on_answer, take-length)
 
   pub put_on : (old mid : Rows) (folder : Found) (node : Node) → AreRows old
       → IsSpotted asker path old (spot_of folder (Some node)) mid → (depth : ℕ)
       → depth ≡ length path → (new : Rows) (reply : Reply) → IsJudgedAndDone asker
       (there_items (found_site path (record { node = node; depth = depth }))) Done
       (SetsBody node.id bytes) mid reply new → IsServed asker (Put path bytes) old reply new
-  put_on old mid folder node are spotted =
-      put_over old mid node are spotted.judged spotted.child
+  put_on old mid folder node are spotted = search (put_over)
 
   -- ---- the root
 
@@ -201,19 +158,12 @@ module _ (asker : Asker) (path : List (List ℕ)) (bytes : List ℕ) where
   module _ (root : path ≡ []) where
     no_way : (old : Rows) → to_stored old.read path (λ _. [])
         ≡ way true (stored_along old.read path) path
-    no_way old = rw root (on (stored_along old.read []))
-      where
-        on : (sites : List Site)
-            → way false sites [] ++ where_found (site_at sites []) (λ _. []) ≡ way true sites []
-        on [] = refl
-        on (site ∷ sites) = refl
+    no_way old = grind (arith, nat_tests)
 
     pub root_barred : (old new : Rows) (reply : Reply) → AreRows old
         → IsReached asker path (λ _. []) old (Err reply) new
         → IsServed asker (Put path bytes) old reply new
-    root_barred old new reply are reached =
-        not_reached old new reply are
-        (rw no_way at reached.judged)
+    root_barred old new reply are reached = grind (arith, nat_tests, no_way, not_reached)
 
     -- where the root is a document, it is put as any that is there
     pub put_root : (old mid : Rows) (node : Node) → AreRows old
@@ -238,22 +188,17 @@ module _ (asker : Asker) (path : List (List ℕ)) (bytes : List ℕ) where
     new_judged : (last : Rows) (answer : Option Reply)
         → IsJudged asker (new_items (found_site path folder)) mid answer last
         → IsJudged asker (put_at path size (stored_along old.read path)) old answer last
-    new_judged last answer judged =
-        at_stored old mid last (new_items (found_site path folder)) answer spotted.judged items_new
-        judged
+    new_judged last answer judged = search (at_stored, items_new)
 
     found : IsFoundFolder old path folder.node None
     found = found_folder asker path named.some old mid folder None are spotted
 
     absent : child_of old.read folder.node.id name ≡ None
-    absent =
-        rw named.last (is_none_none _ found.lacks)
+    absent = grind (arith, nat_tests, found, is_none_none)
 
     few_new : (last : Rows) → IsJudged asker (new_items (found_site path folder)) mid None last
         → nat_le size 1048576 ≡ true
-    few_new last judged =
-        let first = none_both _ _ judged.answers in let second = none_both _ _ first.1 in
-        few_bytes bytes (not_too_large path (nat_lt 1048576 size) second.0)
+    few_new last judged = grind (arith, nat_tests, few_bytes, none_both, not_too_large)
 
     put_made : (last new : Rows) → IsJudged asker (new_items (found_site path folder)) mid None last
         → IsMade (new_child asker.caller Document folder.node name bytes) last new
@@ -269,32 +214,7 @@ module _ (asker : Asker) (path : List (List ℕ)) (bytes : List ℕ) where
         (take folder.depth path) last new plan.notes named.sound (λ _. few) made in
         let place = planned_parent old are (sound_parts old sound) path
         (found_site path folder) spotted.folder in
-        made_step asker (Put path bytes) old known sound new_step.id new_step.free last new Made
-        (with_body (with_node (meaning old.read)
-        (new_node new_step.id asker.caller Document (found_site path folder) name)) new_step.id
-        bytes) plan
-        (ap (λ o. put_bytes (meaning old.read) asker.caller new_step.id path bytes o
-        (parent_at (sites_along (meaning old.read) path) path))
-        (planned_none old are (sound_parts old sound) path spotted.child)
-        ∙ ap (λ o. put_bytes (meaning old.read) asker.caller new_step.id path bytes None o) place.at
-        ∙ ap
-        (λ (s : Site). (
-          Made,
-          with_body
-              (with_node (meaning old.read)
-              (new_node new_step.id asker.caller Document s (last_name path))) new_step.id bytes,
-        ))
-        place.filled
-        ∙ ap
-        (λ n. (
-          Made,
-          with_body
-              (with_node (meaning old.read)
-              (new_node new_step.id asker.caller Document (found_site path folder) n)) new_step.id
-              bytes,
-        ))
-        (sym named.last))
-        new_step.means new_step.sound
+        grind (arith, nat_tests, made_step, planned_none, sound_parts)
 
     made_closed : (last new : Rows)
         → IsJudged asker (new_items (found_site path folder)) mid None last
@@ -315,11 +235,7 @@ module _ (asker : Asker) (path : List (List ℕ)) (bytes : List ℕ) where
         → IsServed asker (Put path bytes) old reply new
     new_on None last new reply judged ends =
         rw ends.0 (put_made last new judged ends.1, made_closed last new judged ends.1)
-    new_on (Some refusal) last new reply judged ends =
-        not_put old new reply are
-        (new_judged new (Some reply)
-        (judged_refused asker (new_items (found_site path folder)) mid last new refusal reply judged
-        ends.0 ends.1))
+    new_on (Some refusal) last new reply judged ends = search (judged_refused, new_judged, not_put)
 
     pub put_in : (new : Rows) (reply : Reply)
         → IsJudgedAndDone asker (new_items (found_site path folder)) Made

@@ -1,46 +1,32 @@
 -- What is judged before an object is changed or made, in terms of the calls.
-use Rattle.std.proofs.Common.{◌≡◌, ℕ, ◌+◌, Bool, true, false, List, [], ◌∷◌, ◌++◌, length}
-use Rattle.std.proofs.Common.{Option, Some, None, refl, sym, ap, subst, ◌∙◌, inl, arith}
-use Rattle.std.proofs.Common.{length-append}
-use Rattle.std.proofs.Common.{Result}
+use Rattle.std.proofs.Common.{◌≡◌, ℕ, ◌+◌, Bool, true, false, List, [], ◌∷◌, ◌++◌, length, Option}
+use Rattle.std.proofs.Common.{Some, None, arith, length-append, Result}
+use Rattle.std.proofs.lemmas.Bool.Decides.{nat_tests}
 use Rattle.room_entry.specs.Rights.{write_data}
-use Rattle.room_rows.specs.declared.node.NewNode.{NewNode}
-use Rattle.room_rows.specs.Keep.{IsDamaged, IsUnreadable, SetsBody}
-use Rattle.room_rows.specs.Paths.{is_object_name}
-use Rattle.room_rows.specs.Rows.{Rows}
-use Rattle.room_judge.specs.declared.asker.Asker.{Asker}
-use Rattle.room_machine.specs.declared.reply.Reply.{Reply}
-use Rattle.room_machine.specs.declared.reply.Reply.TheVariants.{Done, Made}
-use Rattle.room_machine.specs.declared.reply.Reason.{Reason}
-use Rattle.room_machine.specs.Site.{Site, last_name}
-use Rattle.room_machine.specs.Plan.{Check, Item, Refusal, no_folder, not_over}
-use Rattle.room_judge.specs.Judged.{IsJudged}
-use Rattle.room_desk.specs.Made.{IsMade, IsNameOf, IsJudgedAndDone}
+use Rattle.room_rows.specs.{declared.node.NewNode.NewNode, Keep.{IsDamaged, IsUnreadable, SetsBody}}
+use Rattle.room_rows.specs.{Paths.is_object_name, Rows.Rows}
+use Rattle.room_judge.specs.{declared.{asker.Asker.Asker, arrival.Under.Under}, Judged.IsJudged}
 use Rattle.room_judge.specs.Spot.{IsSpotted}
-use Rattle.room_desk.specs.Written.{IsPut}
+use Rattle.room_machine.specs.declared.reply.Reply.{Reply, TheVariants.{Done, Made}}
+use Rattle.room_machine.specs.{declared.reply.Reason.Reason, Site.Site, Plan.{Check, Item, Refusal}}
+use Rattle.room_machine.specs.Plan.{no_folder, not_over}
+use Rattle.room_desk.specs.{Made.{IsMade, IsNameOf, IsJudgedAndDone}, Written.IsPut}
 use Rattle.room_judge.proofs.Judging.{blames_first, judged_none, passes_first, passes_on, refuses}
 use Rattle.room_judge.proofs.Spots.{last_of}
-use Rattle.room_judge.specs.declared.arrival.Under.{Under}
-use Rattle.std.proofs.lemmas.Bool.Decides.{nat_tests}
 
 -- the last part of a path that was split
 pub name_of_parts : (path names : List (List ℕ)) (name : List ℕ) → path ≡ names ++ name ∷ []
     → is_object_name name ≡ true → IsNameOf path name
 name_of_parts path names name parts sound =
-    let size : length path ≡ length names + length (name ∷ []) = ap length parts
-    ∙ length-append names (name ∷ []) in
-    record {
-      some = omega arith;
-      last = sym (ap last_name parts ∙ last_of names name);
-      sound = sound;
-    }
+    let size : length path ≡ length names + length (name ∷ []) =
+    cc (parts, length-append names (name ∷ [])) in
+    grind (arith, nat_tests, last_of)
 
 -- a row that can't be read after the way
 pub spotted_blames : (asker : Asker) (path : List (List ℕ)) (spot : Result Under Reply)
     (old mid : Rows) (row : ℕ) → IsSpotted asker path old spot mid → IsUnreadable mid row
     → IsDamaged old row
-spotted_blames asker path spot old mid row spotted h =
-    inl (inl (blames_first asker _ _ old mid row spotted.judged h))
+spotted_blames asker path spot old mid row spotted h = grind (arith, nat_tests, blames_first)
 
 module _ (asker : Asker) where
   -- a refusal that is handed on
@@ -57,18 +43,7 @@ module _ (asker : Asker) where
       → IsJudgedAndDone asker (Check site bits ∷ Refusal path why holds ∷ []) Made
       (IsMade node) old reply new
   added_behind site mask bits path why holds node old mid new answer reply same passes isnt judged
-      made =
-      record {
-        answer = None;
-        mid = mid;
-        judged =
-            passes_first asker (Check site bits ∷ []) (Refusal path why holds ∷ []) old mid mid None
-            (subst (λ (b : List ℕ). IsJudged asker (Check site b ∷ []) old None mid) same
-            (subst (λ (o : Option Reply). IsJudged asker (Check site mask ∷ []) old o mid) passes
-            judged))
-            (passes_on asker path why holds [] mid mid None isnt (judged_none asker mid mid refl));
-        ends = made;
-      }
+      made = grind (arith, nat_tests, judged_none, passes_first, passes_on)
 
   -- a document that is there passed, and gets the bytes if there aren't too many
   pub put_behind : (site : Site) (mask : List ℕ) (path : List (List ℕ)) (id : ℕ)

@@ -1,39 +1,29 @@
 -- Rows stay sound where an object is added.
-use Rattle.std.proofs.Common.{◌≡◌, ℕ, suc, Bool, true, false, not, ◌&&◌, ◌||◌, List, [], ◌∷◌}
-use Rattle.std.proofs.Common.{filter, length, Option, Some, None, nat_lt, refl, sym, ap, ◌∙◌}
-use Rattle.std.proofs.Common.{arith}
-use Rattle.std.specs.Prelude.{is_none}
-use Rattle.std.specs.List.{find, list_all, list_any, AllByRecursion as Each}
-use Rattle.std.specs.Option.{option_map_or}
-use Rattle.std.proofs.lemmas.Bool.{false≢true, and_from, or_right, eqb-true}
-use Rattle.std.proofs.lemmas.Bool.{le-ltb}
-use Rattle.std.proofs.lemmas.List.Folds.{list_all-map}
-use Rattle.std.proofs.lemmas.Slice.Eq.{bytes_eq-Decides}
+use Rattle.std.proofs.Common.{◌≡◌, ℕ, Bool, true, false, not, ◌&&◌, ◌||◌, List, [], ◌∷◌, filter}
+use Rattle.std.proofs.Common.{length, Option, Some, None, nat_lt, refl, sym, ap, ◌∙◌, arith}
+use Rattle.std.proofs.lemmas.Bool.{false≢true, and_from, or_right, le-ltb, Decides.nat_tests}
+use Rattle.std.proofs.lemmas.{List.Folds.list_all-map, Slice.Eq.bytes_eq-Decides}
 use Rattle.std.proofs.Math.Bool.{not-not}
-use Rattle.room_entry.specs.Pieces.{is_among, same_text}
-use Rattle.room_entry.specs.declared.object.Which.TheVariants.{Dacl, Sacl}
-use Rattle.room_rows.specs.declared.node.Node.{Node}
-use Rattle.room_rows.specs.Content.{Content, node_at, child_of, parent_of, has_parent}
-use Rattle.room_rows.specs.Content.{has_folder_above, is_folder, is_root, same_parent, put_node}
-use Rattle.room_rows.specs.Content.{reaches_root, body_at}
-use Rattle.room_rows.specs.Finding.{find_id}
-use Rattle.room_rows.specs.Keep.{with_content}
-use Rattle.room_rows.specs.Paths.{is_object_name}
-use Rattle.room_rows.specs.Rows.{Rows, AreRows, put_numbers, unread_numbers}
-use Rattle.room_rows.proofs.Frames.{has_its_parent}
-use Rattle.room_rows.specs.Law.{agrees_with}
-use Rattle.room_inherit.specs.Laws.{HasNoFault}
-use Rattle.room_rows.specs.Sound.{AreSound, bad_root, fits_kind, has_sound_body, has_sound_lists}
+use Rattle.std.specs.{Prelude.is_none, List.{find, list_all, AllByRecursion as Each}}
+use Rattle.std.specs.Option.{option_map_or}
+use Rattle.room_entry.specs.{Pieces.{is_among, same_text}, declared.object.Which.TheVariants.Dacl}
+use Rattle.room_entry.specs.declared.object.Which.TheVariants.{Sacl}
+use Rattle.room_rows.specs.{declared.node.Node.Node, Content.{Content, node_at, child_of}}
+use Rattle.room_rows.specs.Content.{parent_of, has_parent, has_folder_above, is_folder, is_root}
+use Rattle.room_rows.specs.{Content.{same_parent, put_node, body_at}, Finding.find_id}
+use Rattle.room_rows.specs.{Keep.with_content, Paths.is_object_name, Rows.{Rows, AreRows}}
+use Rattle.room_rows.specs.{Rows.{put_numbers, unread_numbers}, Law.agrees_with, Sound.AreSound}
+use Rattle.room_rows.specs.Sound.{bad_root, fits_kind, has_sound_body, has_sound_lists}
 use Rattle.room_rows.specs.Sound.{has_sound_name, keeps_law, reaches, same_place}
-use Rattle.room_inherit.proofs.Children.{ids_of, each_found}
-use Rattle.room_inherit.proofs.Ends.{each_all}
+use Rattle.room_rows.proofs.Frames.{has_its_parent}
+use Rattle.room_inherit.specs.Laws.{HasNoFault}
+use Rattle.room_inherit.proofs.{Children.{ids_of, each_found}, Ends.each_all, NoFault.no_fault}
+use Rattle.room_inherit.proofs.NoFault.{sound}
 use Rattle.room_entry.proofs.Facts.Members.{each_fails, any_none}
-use Rattle.room_inherit.proofs.NoFault.{no_fault, sound}
 use Rattle.room_desk.proofs.Made.Added.{after, stays, comes, each_after, all_after, same_above}
 use Rattle.room_desk.proofs.Made.Added.{reaches_still, reaches_more, length_put, filter_put}
 use Rattle.room_desk.proofs.Made.Added.{each_put}
 use Rattle.room_sound.proofs.SoundParts.{none_numbered, none_unreadable, sound_parts}
-use Rattle.std.proofs.lemmas.Bool.Decides.{nat_tests}
 
 -- each object that is found passes a test that all pass
 pub found_passes : (test : Node → Bool) (nodes : List Node) (id : ℕ) (node : Node)
@@ -71,9 +61,12 @@ pub lists_here : (rows : Rows) → AreSound rows → (node : Node)
 lists_here rows were node found =
     sym (bad_found rows.read node found)
     ∙ found_passes (λ m. not (bad_at rows.read [] m.id)) rows.read.nodes node.id node
-    (sym (lists_of rows.read (unread_numbers rows)
-    (none_numbered rows (none_unreadable rows (sound_parts rows were))))
-    ∙ (no_fault rows were).lists) found
+    (
+    cc (
+      lists_of rows.read (unread_numbers rows)
+          (none_numbered rows (none_unreadable rows (sound_parts rows were))),
+      (no_fault rows were).lists,
+    )) found
 
 module _ (old : Rows) (are : AreRows old) (were : AreSound old) (new folder : Node)
     (bodies : List (ℕ × List ℕ)) (unused : node_at old.read new.id ≡ None)
@@ -89,10 +82,7 @@ module _ (old : Rows) (are : AreRows old) (were : AreSound old) (new folder : No
   -- ---- its place
 
   pub above_new : parent_of (after old are new bodies unused) new ≡ Some folder
-  above_new =
-      ap (λ o. Rattle.std.specs.Prelude.option_and_then
-      (node_at (after old are new bodies unused)) o) below
-      ∙ stays old are new bodies unused folder.id folder there
+  above_new = cc (below, stays old are new bodies unused folder.id folder there)
 
   pub above_old : (n : Node) → node_at old.read n.id ≡ Some n
       → parent_of (after old are new bodies unused) n ≡ parent_of old.read n
@@ -114,21 +104,21 @@ module _ (old : Rows) (are : AreRows old) (were : AreSound old) (new folder : No
   reach : list_all (reaches (after old are new bodies unused))
       (after old are new bodies unused).nodes ≡ true
   reach = all_after old are new bodies unused (reaches (after old are new bodies unused))
-      (λ n found. ap (λ k. reaches_root k (after old are new bodies unused) n.parent)
-      (length_put new old.read.nodes unused)
-      ∙ reaches_more (after old are new bodies unused) (length old.read.nodes) n.parent
-      (reaches_still old are new bodies unused (length old.read.nodes) n.parent
-      (found_passes (reaches old.read) old.read.nodes n.id n whole.reach found)))
-      (ap (λ k. reaches_root k (after old are new bodies unused) new.parent)
-      (length_put new old.read.nodes unused)
-      ∙ ap (λ p. reaches_root (suc (length old.read.nodes)) (after old are new bodies unused) p)
-      below
-      ∙ ap
-      (λ o. option_map_or (λ p. reaches_root (length old.read.nodes)
-      (after old are new bodies unused) p.parent) o false)
-      (stays old are new bodies unused folder.id folder there)
-      ∙ reaches_still old are new bodies unused (length old.read.nodes) folder.parent
-      (found_passes (reaches old.read) old.read.nodes folder.id folder whole.reach there))
+      (λ n found.
+      cc (
+        length_put new old.read.nodes unused,
+        reaches_more (after old are new bodies unused) (length old.read.nodes) n.parent
+            (reaches_still old are new bodies unused (length old.read.nodes) n.parent
+            (found_passes (reaches old.read) old.read.nodes n.id n whole.reach found)),
+      ))
+      (
+      cc (
+        length_put new old.read.nodes unused,
+        below,
+        stays old are new bodies unused folder.id folder there,
+        reaches_still old are new bodies unused (length old.read.nodes) folder.parent
+            (found_passes (reaches old.read) old.read.nodes folder.id folder whole.reach there),
+      ))
 
   -- ---- its name
 
@@ -141,23 +131,20 @@ module _ (old : Rows) (are : AreRows old) (were : AreSound old) (new folder : No
       found
 
   same_number : (a b : Option ℕ) (id : ℕ) → same_parent a b ≡ true → a ≡ Some id → b ≡ Some id
-  same_number None None id same is = is
-  same_number None (Some y) id same is = absurd (false≢true same)
-  same_number (Some x) None id same is = absurd (false≢true same)
-  same_number (Some x) (Some y) id same is = ap (λ i. Some i) (sym (eqb-true x y same)) ∙ is
+  same_number a b id same is = grind (arith, nat_tests)
 
   other_number : (a b : Option ℕ) (id : ℕ) → same_parent a b ≡ true → b ≡ Some id → a ≡ Some id
-  other_number None None id same is = is
-  other_number None (Some y) id same is = absurd (false≢true same)
-  other_number (Some x) None id same is = absurd (false≢true same)
-  other_number (Some x) (Some y) id same is = ap (λ i. Some i) (eqb-true x y same) ∙ is
+  other_number a b id same is = grind (arith, nat_tests)
 
   not_placed : (n : Node) → node_at old.read n.id ≡ Some n → n.parent ≡ Some folder.id
       → n.name ≡ new.name → ⊥
   not_placed n found parent named =
-      false≢true (sym (apart n found) ∙ and_from (has_parent folder.id n)
-      (same_text n.name new.name) (has_its_parent folder.id n parent)
-      ((bytes_eq-Decides n.name new.name).1 named))
+      false≢true (
+      cc (
+        apart n found,
+        and_from (has_parent folder.id n) (same_text n.name new.name)
+            (has_its_parent folder.id n parent) ((bytes_eq-Decides n.name new.name).1 named),
+      ))
 
   placed_before : (n : Node) → node_at old.read n.id ≡ Some n → same_place n new ≡ false
   placed_before n found = grind (arith, nat_tests, bytes_eq-Decides, not_placed, other_number)
@@ -222,10 +209,10 @@ module _ (old : Rows) (are : AreRows old) (were : AreSound old) (new folder : No
               ∙ found_passes (has_sound_body old.read) old.read.nodes n.id n whole.bodies found)
               fits;
           law = all_after old are new bodies unused (keeps_law (after old are new bodies unused))
-              (λ n found. ap (λ o. option_map_or (agrees_with Dacl n) o true
-              && option_map_or (agrees_with Sacl n) o true) (above_old n found)
-              ∙ found_passes (keeps_law old.read) old.read.nodes n.id n whole.law found)
-              (ap (λ o. option_map_or (agrees_with Dacl new) o true
-              && option_map_or (agrees_with Sacl new) o true) above_new
-              ∙ and_from (agrees_with Dacl new folder) (agrees_with Sacl new folder) dacl sacl);
+              (λ n found.
+              cc (
+                above_old n found,
+                found_passes (keeps_law old.read) old.read.nodes n.id n whole.law found,
+              ))
+              (search (above_new, and_from));
         })

@@ -1,15 +1,13 @@
 -- The object at the end of a path, and the one above it.
 use Rattle.std.proofs.Common.{◌≡◌, ℕ, List, [], ◌∷◌, ◌++◌, Option, Some, None, refl, sym, ap, ◌∙◌}
-use Rattle.std.specs.Prelude.{option_and_then}
+use Rattle.std.proofs.{Common.arith, lemmas.Bool.Decides.nat_tests}
 use Rattle.std.specs.Option.{option_map, option_map_or}
-use Rattle.room_rows.specs.declared.node.Node.{Node}
-use Rattle.room_rows.specs.Content.{Content, child_of, node_at, parent_of}
+use Rattle.room_rows.specs.{declared.node.Node.Node, Content.{Content, child_of, node_at}}
+use Rattle.room_rows.specs.Content.{parent_of}
 use Rattle.room_rows.proofs.Frames.{Rises, child_of-is_there, child_of-parent, root_of-is_there}
 use Rattle.room_rows.proofs.Frames.{root_of-parent}
-use Rattle.room_machine.specs.Site.{Site, front, parent_at, site_at}
-use Rattle.room_machine.specs.Stored.{stored_along, stored_from, stored_site}
-use Rattle.std.proofs.Common.{arith}
-use Rattle.std.proofs.lemmas.Bool.Decides.{nat_tests}
+use Rattle.room_machine.specs.{Site.{Site, front, parent_at, site_at}, Stored.stored_along}
+use Rattle.room_machine.specs.Stored.{stored_from, stored_site}
 
 -- an object that is there
 abbrev pub Stands : Content → Node → Type 0
@@ -17,16 +15,14 @@ Stands rows node = node_at rows node.id ≡ Some node
 
 same_target : (p q : List (List ℕ)) (x y : Node) → Some (stored_site p x) ≡ Some (stored_site q y)
     → x ≡ y
-same_target p q x y same = let sites : stored_site p x ≡ stored_site q y = cc in
-    ap (λ (s : Site). s.node) sites
+same_target p q x y same = grind (arith, nat_tests)
 
 module _ (rows : Content) (rises : Rises rows) where
   -- along the names from an object
   end_stands : (names p q : List (List ℕ)) (from target : Node) → Stands rows from
       → site_at (stored_from rows p from names) names ≡ Some (stored_site q target)
       → Stands rows target
-  end_stands [] p q from target there is = let same = same_target p q from target is in
-      ap (λ (n : Node). node_at rows n.id) (sym same) ∙ there ∙ ap (λ n. Some n) same
+  end_stands [] p q from target there is = grind (arith, nat_tests, same_target)
   end_stands (name ∷ names) p q from target there is =
       on (child_of rows from.id name)
       (λ child found rest. end_stands names (p ++ name ∷ []) q child target
@@ -52,9 +48,7 @@ module _ (rows : Content) (rises : Rises rows) where
       → site_at (stored_from rows p from (name ∷ names)) (name ∷ names)
       ≡ Some (stored_site q target)
       → IsAbove (stored_from rows p from (name ∷ names)) (name ∷ names) target
-  end_above name [] p q from target there is =
-      on (child_of rows from.id name)
-      (λ child found. child_of-parent rows from.id name child found) is
+  end_above name [] p q from target there is = search (child_of-parent, on)
     where
       on : (o : Option Node) → ((child : Node) → o ≡ Some child → child.parent ≡ Some from.id)
           → site_at (option_map_or (λ child. stored_from rows (p ++ name ∷ []) child []) o []) []
@@ -68,9 +62,7 @@ module _ (rows : Content) (rises : Rises rows) where
             above = from;
             path = p;
             at = refl;
-            parent =
-                ap (λ (n : Node). option_and_then (node_at rows) n.parent) (sym same)
-                ∙ ap (option_and_then (node_at rows)) (known child refl) ∙ there;
+            parent = grind (arith, nat_tests);
           }
   end_above name (next ∷ names) p q from target there is =
       on (child_of rows from.id name)
@@ -88,9 +80,7 @@ module _ (rows : Content) (rises : Rises rows) where
           → IsAbove (stored_site p from ∷ option_map_or
           (λ child. stored_from rows (p ++ name ∷ []) child (next ∷ names)) o [])
           (name ∷ next ∷ names) target
-      on None known is = absurd (let wrong : ⊥ = cc in wrong)
-      on (Some child) known is = let up = known child refl is in
-          record { above = up.above; path = up.path; at = up.at; parent = up.parent }
+      on o known is = grind (arith, nat_tests)
 
   -- along a path from the root
   pub target_stands : (path q : List (List ℕ)) (target : Node)

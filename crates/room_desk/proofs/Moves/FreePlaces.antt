@@ -1,24 +1,16 @@
 -- What is judged of a new name in a folder.
 use Rattle.std.proofs.Common.{◌≡◌, ℕ, ◌+◌, Bool, true, false, List, [], ◌∷◌, ◌++◌, take, length}
-use Rattle.std.proofs.Common.{Option, Some, None, sym, ap, subst, ◌∙◌}
+use Rattle.std.proofs.{Common.{Option, Some, None, ap, subst, ◌∙◌, arith}, Math.Seq.take-length}
+use Rattle.std.proofs.lemmas.Bool.Decides.{nat_tests}
 use Rattle.std.specs.Prelude.{is_some}
-use Rattle.std.proofs.Math.Seq.{take-length}
-use Rattle.room_rows.specs.declared.node.Node.{Node}
-use Rattle.room_rows.specs.Content.{child_of}
-use Rattle.room_rows.specs.Rows.{Rows}
-use Rattle.room_judge.specs.declared.asker.Asker.{Asker}
-use Rattle.room_machine.specs.declared.reply.Reply.{Reply}
-use Rattle.room_machine.specs.declared.reply.Reply.TheVariants.{Refused}
-use Rattle.room_machine.specs.declared.reply.Reason.{Reason}
-use Rattle.room_machine.specs.declared.reply.Reason.TheVariants.{Exists, Loop}
-use Rattle.room_machine.specs.Site.{front, last_name}
-use Rattle.room_machine.specs.Plan.{Item, Refusal}
-use Rattle.room_judge.specs.Judged.{IsJudged, name_after}
+use Rattle.room_rows.specs.{declared.node.Node.Node, Content.child_of, Rows.Rows}
+use Rattle.room_judge.specs.{declared.asker.Asker.Asker, Judged.{IsJudged, name_after}}
+use Rattle.room_machine.specs.declared.reply.{Reply.{Reply, TheVariants.Refused}, Reason.Reason}
+use Rattle.room_machine.specs.{declared.reply.Reason.TheVariants.{Exists, Loop}, Site.front}
+use Rattle.room_machine.specs.{Site.last_name, Plan.{Item, Refusal}}
 use Rattle.room_desk.specs.Moving.{IsTaken, JudgesAll, begins, free_place}
 use Rattle.room_judge.proofs.Judging.{judged_none, passes_first, passes_on, refuses}
 use Rattle.room_judge.proofs.Spots.{name_is_last, take_front}
-use Rattle.std.proofs.Common.{arith}
-use Rattle.std.proofs.lemmas.Bool.Decides.{nat_tests}
 
 -- ---- in terms of the calls
 
@@ -62,17 +54,13 @@ module _ (to : List (List ℕ)) (is_below : Bool) (folder : Node) where
       → is_below ≡ true → names ≡ to → reply ≡ Refused (take (length names) to) Loop → new ≡ old
       → JudgesAll items old (Some reply) new
   loop_refused old new reply taken names depth name deep named is absent below are replies same =
-      free old new (Some reply) taken depth name deep named is absent
-      (λ asker. refuses asker to Loop is_below [] old new reply
-      (whole Loop reply names are replies) below same)
+      search (free, refuses, whole)
 
   pub all_free : (old new : Rows) (taken : Bool) (depth : ℕ) (name : List ℕ) → length to ≡ depth + 1
       → name ≡ name_after to depth → IsTaken folder.id name old taken → taken ≡ false
       → is_below ≡ false → new ≡ old → JudgesAll items old None new
   all_free old new taken depth name deep named is absent apart same =
-      free old new None taken depth name deep named is absent
-      (λ asker. passes_on asker to Loop is_below [] old new None apart
-      (judged_none asker old new same))
+      search (free, judged_none, passes_on)
 
   -- after items that passed
   pub free_after : (asker : Asker) (first : List Item) (old mid new : Rows) (answer : Option Reply)
@@ -88,5 +76,4 @@ pub begun_as : (path to names others : List (List ℕ)) (depth : ℕ) (answer : 
     → length to ≡ depth + 1 → names ≡ path → others ≡ take depth to → answer ≡ begins names others
     → begins path (front to) ≡ answer
 begun_as path to names others depth answer deep are is compared =
-    sym (compared ∙ ap (λ l. begins l others) are
-    ∙ ap (begins path) (is ∙ take_front to depth deep))
+    grind (arith, nat_tests, take_front)

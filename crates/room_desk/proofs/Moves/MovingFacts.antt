@@ -1,33 +1,23 @@
 -- What is known of a new folder once all that is judged there has passed.
-use Rattle.std.proofs.Common.{◌≡◌, ℕ, suc, ◌<◌, ◌==◌, Bool, true, false, cond, List, [], ◌∷◌}
-use Rattle.std.proofs.Common.{◌++◌, length, Option, Some, None, refl, sym, ap, ◌∙◌}
-use Rattle.std.specs.Prelude.{is_some}
-use Rattle.std.specs.List.{list_any}
-use Rattle.std.specs.Option.{option_map, option_map_or, option_and_then}
-use Rattle.std.proofs.lemmas.Bool.{or_parts, false≢true}
-use Rattle.std.proofs.lemmas.Option.{same_Some}
+use Rattle.std.proofs.Common.{◌≡◌, ℕ, suc, ◌<◌, ◌==◌, Bool, true, false, cond, List, [], ◌∷◌, ◌++◌}
+use Rattle.std.proofs.Common.{length, Option, Some, None, refl, sym, ap, ◌∙◌, arith}
+use Rattle.std.proofs.lemmas.Bool.{or_parts, false≢true, Decides.nat_tests}
+use Rattle.std.specs.{Prelude.is_some, List.list_any, Option.{option_map, option_map_or}}
 use Rattle.room_entry.specs.declared.parties.Caller.{Caller}
-use Rattle.room_rows.specs.declared.node.Node.{Node}
-use Rattle.room_rows.specs.declared.node.AuditRow.{AuditRow}
-use Rattle.room_rows.specs.Content.{Content, child_of, is_folder, node_at, root_of}
-use Rattle.room_rows.specs.Paths.{is_object_name}
-use Rattle.room_rows.specs.Rows.{Rows, AreRows}
+use Rattle.room_rows.specs.{declared.node.{Node.Node, AuditRow.AuditRow}, Content.Content}
+use Rattle.room_rows.specs.{Content.{child_of, is_folder, node_at, root_of}, Paths.is_object_name}
+use Rattle.room_rows.specs.{Rows.{Rows, AreRows}, Sound.AreSound}
 use Rattle.room_rows.proofs.Frames.{Rises, child_of-is_there, child_of-parent, root_of-is_there}
 use Rattle.room_rows.proofs.Frames.{root_of-parent}
-use Rattle.room_rows.specs.Sound.{AreSound}
-use Rattle.room_machine.specs.declared.reply.Reply.{Reply}
-use Rattle.room_machine.specs.Judge.{first_failure}
-use Rattle.room_machine.specs.Site.{Site, site_at, parent_at, front, last_name}
-use Rattle.room_machine.specs.Stored.{stored_site, stored_from, stored_along}
+use Rattle.room_machine.specs.{declared.reply.Reply.Reply, Judge.first_failure, Site.Site}
+use Rattle.room_machine.specs.{Site.{site_at, parent_at, front, last_name}, Stored.stored_site}
+use Rattle.room_machine.specs.Stored.{stored_from, stored_along}
 use Rattle.room_judge.specs.Judged.{with_notes}
 use Rattle.room_desk.specs.Moving.{CanGo, CanPlace, at_place, begins, goes_past}
-use Rattle.room_desk.proofs.Moves.MovingPlan.{along_noted}
-use Rattle.room_desk.proofs.Moves.OnePath.{met_by_names}
+use Rattle.room_desk.proofs.Moves.{MovingPlan.along_noted, OnePath.met_by_names}
 use Rattle.room_desk.proofs.Steps.Serving.{along_there, none_both}
 use Rattle.room_sound.proofs.SoundParts.{sound_noted}
 use Rattle.room_judge.proofs.Spots.{below_of, folder_found, target_found}
-use Rattle.std.proofs.Common.{arith}
-use Rattle.std.proofs.lemmas.Bool.Decides.{nat_tests}
 
 -- ---- nothing failed
 
@@ -68,9 +58,7 @@ module _ (rows : Content) (rises : Rises rows) (t : ℕ) where
       × (goes_past k rows t (Some site.node.id) ≡ true)
   past_from [] path node n site past there none is = (
     suc n,
-    ap (λ (s : Site). goes_past (suc n) rows t (Some s.node.id))
-        (sym (same_Some (stored_site path node) site is))
-        ∙ one_up node n there (or_parts (node.id == t) false none).0 past,
+    grind (arith, nat_tests, one_up),
   )
   past_from (name ∷ names) path node n site past there none is =
       let parts = or_parts (node.id == t)
@@ -124,19 +112,12 @@ pub below_parent : (rows : Content) (path : List (List ℕ)) (from target : Site
     → parent_at (stored_along rows path) path ≡ Some from
     → site_at (stored_along rows path) path ≡ Some target → target.node.parent ≡ Some from.node.id
 below_parent rows path from target some above is =
-    on (child_of rows from.node.id (last_name path)) refl
-    (sym (target_found rows path some
-    ∙ ap (option_and_then (below_of rows (last_name path)))
-    (sym (folder_found rows path some) ∙ above)) ∙ is)
+    grind (arith, nat_tests, below_of, folder_found, on, target_found)
   where
     on : (o : Option Node) → child_of rows from.node.id (last_name path) ≡ o
         → option_map (stored_site (from.path ++ last_name path ∷ [])) o ≡ Some target
         → target.node.parent ≡ Some from.node.id
-    on None found same = absurd (let wrong : ⊥ = cc in wrong)
-    on (Some child) found same =
-        ap (λ (s : Site). s.node.parent)
-        (sym (same_Some (stored_site (from.path ++ last_name path ∷ []) child) target same))
-        ∙ child_of-parent rows from.node.id (last_name path) child found
+    on o found same = grind (arith, nat_tests, child_of-parent)
 
 -- ---- so it can be placed
 
@@ -154,15 +135,7 @@ goable old records path to target folder are found reached free =
     (along_there old.read are.numbers path (stored_site path target) found) found ∙ free.none_above)
     (ap (λ sites. site_at sites (front to)) (along_noted old.read records (front to)) ∙ reached) in
     record {
-      are =
-          record {
-            numbers = are.numbers;
-            unreadable = are.unreadable;
-            apart = are.apart;
-            body_numbers = are.body_numbers;
-            bodies = are.bodies;
-            members = are.members;
-          };
+      are = grind (arith, nat_tests);
       target_there = along_there old.read are.numbers path (stored_site path target) found;
       folder_there =
           along_there old.read are.numbers (front to) (stored_site (front to) folder) reached;

@@ -1,35 +1,25 @@
 -- The plan of a move, with the lists as rows store them.
 use Rattle.std.proofs.Common.{◌≡◌, ℕ, ◌==◌, Bool, true, false, List, [], ◌∷◌, ◌++◌, map, Option}
-use Rattle.std.proofs.Common.{Some, None, refl, sym, ap, ◌∙◌}
-use Rattle.std.specs.Prelude.{is_some}
-use Rattle.std.specs.List.{list_any}
-use Rattle.std.specs.Option.{option_map}
-use Rattle.std.proofs.lemmas.List.{map-append}
-use Rattle.room_rows.specs.declared.node.Node.{Node}
-use Rattle.room_rows.specs.declared.node.AuditRow.{AuditRow}
-use Rattle.room_rows.specs.Content.{Content, child_of, is_empty, with_records}
-use Rattle.room_rows.specs.Meaning.{kept_node, meaning}
-use Rattle.room_rows.specs.Rows.{Rows, AreRows}
+use Rattle.std.proofs.{Common.{Some, None, refl, sym, ap, ◌∙◌, arith}, lemmas.List.map-append}
+use Rattle.std.proofs.lemmas.Bool.Decides.{nat_tests}
+use Rattle.std.specs.{Prelude.is_some, List.list_any, Option.option_map}
+use Rattle.room_rows.specs.{declared.node.{Node.Node, AuditRow.AuditRow}, Content.Content}
+use Rattle.room_rows.specs.{Content.{child_of, is_empty, with_records}, Meaning.kept_node}
+use Rattle.room_rows.specs.{Meaning.meaning, Rows.{Rows, AreRows}}
 use Rattle.room_rows.proofs.InPlace.{child_of-with_each, keeps_places}
 use Rattle.room_entry.proofs.Facts.Members.{any_map}
-use Rattle.room_judge.specs.declared.asker.Asker.{Asker}
-use Rattle.room_machine.specs.declared.reply.Reply.{Reply}
-use Rattle.room_machine.specs.declared.reply.Reason.TheVariants.{Exists, Loop, Root}
-use Rattle.room_machine.specs.declared.request.Request.TheVariants.{Move}
-use Rattle.room_machine.specs.Site.{Site, site_at, sites_along, parent_at, front, last_name}
-use Rattle.room_machine.specs.Plan.{Item, Deletion, Refusal, plan_of, move_items, way, where_found}
-use Rattle.room_machine.specs.Plan.{to_target}
-use Rattle.room_machine.specs.Stored.{stored_from, stored_along, to_stored}
+use Rattle.room_judge.specs.{declared.asker.Asker.Asker, Judged.{IsJudged, through, with_notes}}
+use Rattle.room_machine.specs.declared.reply.{Reply.Reply, Reason.TheVariants.{Exists, Loop, Root}}
+use Rattle.room_machine.specs.{declared.request.Request.TheVariants.Move, Site.{Site, site_at}}
+use Rattle.room_machine.specs.{Site.{sites_along, parent_at, front, last_name}, Plan.Item}
+use Rattle.room_machine.specs.Plan.{Deletion, Refusal, plan_of, move_items, way, where_found}
+use Rattle.room_machine.specs.{Plan.to_target, Stored.{stored_from, stored_along, to_stored}}
 use Rattle.room_machine.specs.Stored.{stored_plan}
-use Rattle.room_judge.specs.Judged.{IsJudged, through, with_notes}
 use Rattle.room_desk.specs.Moving.{at_place, begins, rights_to_move}
 use Rattle.room_sound.proofs.Filled.{fill_item, judged_filled, site_filled, way_filled}
-use Rattle.room_desk.proofs.Moves.OnePath.{met_by_names}
-use Rattle.room_desk.proofs.Steps.Serving.{along_there}
-use Rattle.room_sound.proofs.Sites.{fill, sites_filled}
-use Rattle.room_sound.proofs.SoundParts.{SoundParts}
+use Rattle.room_sound.proofs.{Sites.{fill, sites_filled}, SoundParts.SoundParts}
+use Rattle.room_desk.proofs.{Moves.OnePath.met_by_names, Steps.Serving.along_there}
 use Rattle.room_desk.proofs.Made.FolderPlans.{parent_filled}
-use Rattle.std.proofs.Common.{arith}
 
 -- ---- items over stored sites
 
@@ -76,29 +66,19 @@ module _ (old : Rows) (are : AreRows old) where
       → stored_move old.read path to ≡ stored_plan old.read (Move path to)
   move_stored_is path to =
       ap (λ rest. way false (along path) path ++ rest)
-      (same_where (site_at (along path) path) (at_found old.read path to)
-      (λ target. Refusal path Root (is_empty path)
-      ∷ where_found (parent_at (along path) path) (move_items along old.read to target))
-      (λ target found. ap (λ rest. Refusal path Root (is_empty path) ∷ rest)
-      (same_where (parent_at (along path) path)
-      (stored_items old.read to (begins path (front to)) target)
-      (move_items along old.read to target)
-      (λ from known. items_stored path to target from found))))
+      (search (items_stored, same_where))
 
   pub move_stored : (asker : Asker) (path to : List (List ℕ)) (new : Rows) (answer : Option Reply)
       → IsJudged asker (stored_move old.read path to) old answer new
       → IsJudged asker (stored_plan old.read (Move path to)) old answer new
-  move_stored asker path to new answer judged =
-      rw move_stored_is at judged
+  move_stored asker path to new answer judged = grind (arith, nat_tests, move_stored_is)
 
 -- ---- records don't matter
 
 from_noted : (content : Content) (records : List AuditRow) (names path : List (List ℕ))
     (node : Node) → stored_from (with_records content records) path node names
     ≡ stored_from content path node names
-from_noted content records [] path node = refl
-from_noted content records (name ∷ names) path node =
-    let next = from_noted content records names (path ++ name ∷ []) in grind arith
+from_noted content records names path node = grind (arith, nat_tests)
 
 pub along_noted : (content : Content) (records : List AuditRow) (path : List (List ℕ))
     → stored_along (with_records content records) path ≡ stored_along content path
@@ -109,8 +89,7 @@ pub way_noted : (old : Rows) (records : List AuditRow) (to : List (List ℕ)) (i
     → to_stored (with_notes old records).read (front to)
     (at_place (with_notes old records).read to is_below target from)
     ≡ to_stored old.read (front to) (at_place old.read to is_below target from)
-way_noted old records to is_below target from =
-    rw along_noted
+way_noted old records to is_below target from = search (along_noted)
 
 -- ---- the plan
 
@@ -168,8 +147,7 @@ module _ (old : Rows) (are : AreRows old) (parts : SoundParts old) where
       (sites_along means (front to))
       → at_place old.read to is_below (fill target) (fill from) (fill folder)
       ≡ map fill_item (planned_place to target from folder)
-  place_filled to is_below target from folder below =
-      rw (child_kept folder.node.id (last_name to), below)
+  place_filled to is_below target from folder below = grind (arith, nat_tests, child_kept)
 
   items_filled : (to : List (List ℕ)) (is_below : Bool) (target from : Site)
       → is_below ≡ list_any (λ (site : Site). site.node.id == target.node.id)
@@ -177,11 +155,7 @@ module _ (old : Rows) (are : AreRows old) (parts : SoundParts old) where
       → stored_items old.read to is_below (fill target) (fill from)
       ≡ map fill_item (move_items (sites_along means) means to target from)
   items_filled [] is_below target from below = refl
-  items_filled (name ∷ names) is_below target from below =
-      filled_with (front (name ∷ names))
-      (at_place old.read (name ∷ names) is_below (fill target) (fill from))
-      (planned_place (name ∷ names) target from)
-      (λ folder found. place_filled (name ∷ names) is_below target from folder below)
+  items_filled (name ∷ names) is_below target from below = search (fill, filled_with, place_filled)
 
   found_here : (path to : List (List ℕ)) (target : Site)
       → site_at (sites_along means path) path ≡ Some target

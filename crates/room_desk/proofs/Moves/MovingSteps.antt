@@ -1,51 +1,34 @@
 -- A move is a step.
 use Rattle.std.proofs.Common.{◌≡◌, ℕ, ◌<◌, ◌==◌, Bool, true, false, List, [], ◌∷◌, ◌++◌, length}
-use Rattle.std.proofs.Common.{take, Option, Some, None, refl, sym, ap, subst, ◌∙◌, arith}
-use Rattle.std.proofs.Common.{Result, Ok, Err}
+use Rattle.std.proofs.Common.{take, Option, Some, None, refl, sym, ap, subst, ◌∙◌, arith, Result}
+use Rattle.std.proofs.{Common.{Ok, Err}, Math.Seq.take-length, lemmas.Bool.Decides.nat_tests}
 use Rattle.std.specs.Option.{option_map_or}
-use Rattle.std.proofs.Math.Seq.{take-length}
-use Rattle.room_rows.specs.declared.node.Node.{Node}
-use Rattle.room_rows.specs.declared.node.AuditRow.{AuditRow}
-use Rattle.room_rows.specs.Content.{Content, is_empty, root_of, with_node, with_records}
-use Rattle.room_rows.specs.Keep.{IsDamaged, IsUnreadable}
-use Rattle.room_rows.specs.Meaning.{meaning}
-use Rattle.room_rows.specs.Paths.{is_object_name}
-use Rattle.room_rows.specs.Rows.{Rows, AreRows}
-use Rattle.room_rows.specs.Sound.{AreSound}
-use Rattle.room_judge.specs.declared.arrival.Found.{Found}
-use Rattle.room_judge.specs.declared.asker.Asker.{Asker}
-use Rattle.room_machine.specs.declared.reply.Reply.{Reply}
-use Rattle.room_machine.specs.declared.reply.Reply.TheVariants.{Done, Refused}
-use Rattle.room_machine.specs.declared.reply.Reason.TheVariants.{Exists, Root}
-use Rattle.room_machine.specs.declared.request.Request.TheVariants.{Move}
-use Rattle.room_machine.specs.Site.{Site, site_at, sites_along, parent_at, front, last_name}
-use Rattle.room_machine.specs.Plan.{Item, Deletion, Refusal, plan_of, way, where_found}
-use Rattle.room_machine.specs.Judge.{first_failure, records_of_plan}
-use Rattle.room_machine.specs.Effect.{moved_node, with_site}
-use Rattle.room_machine.specs.Stored.{stored_site, stored_from, stored_along, stored_plan}
-use Rattle.room_machine.specs.Stored.{to_stored}
-use Rattle.room_judge.specs.Stored.{found_site}
-use Rattle.room_judge.specs.Spot.{IsPaired, pair_of}
-use Rattle.room_judge.specs.Closed.{IsServed}
-use Rattle.room_judge.proofs.Closing.{closed_done, closed_failed}
+use Rattle.room_rows.specs.{declared.node.{Node.Node, AuditRow.AuditRow}, Content.Content}
+use Rattle.room_rows.specs.{Content.{is_empty, root_of, with_node, with_records}, Keep.IsDamaged}
+use Rattle.room_rows.specs.{Keep.IsUnreadable, Meaning.meaning, Paths.is_object_name, Rows.Rows}
+use Rattle.room_rows.specs.{Rows.AreRows, Sound.AreSound}
+use Rattle.room_judge.specs.declared.{arrival.{Found.Found, Both.Both}, asker.Asker.Asker}
+use Rattle.room_judge.specs.{Stored.found_site, Spot.{IsPaired, pair_of}, Closed.IsServed}
 use Rattle.room_judge.specs.Judged.{CarriesOut, FromRoot, IsJudged, IsReached, with_notes}
+use Rattle.room_machine.specs.declared.reply.Reply.{Reply, TheVariants.{Done, Refused}}
+use Rattle.room_machine.specs.declared.reply.Reason.TheVariants.{Exists, Root}
+use Rattle.room_machine.specs.{declared.request.Request.TheVariants.Move, Site.{Site, site_at}}
+use Rattle.room_machine.specs.{Site.{parent_at, front, last_name}, Plan.{Item, Deletion, Refusal}}
+use Rattle.room_machine.specs.{Plan.{plan_of, way, where_found}, Judge.first_failure}
+use Rattle.room_machine.specs.{Judge.records_of_plan, Effect.moved_node, Stored.stored_site}
+use Rattle.room_machine.specs.Stored.{stored_from, stored_along, stored_plan, to_stored}
+use Rattle.room_judge.proofs.{Closing.{closed_done, closed_failed}, Judging.failure_of_parts}
+use Rattle.room_judge.proofs.Judging.{fails_first, passes_first, passes_on, refuses}
+use Rattle.room_judge.proofs.Spots.{last_of}
 use Rattle.room_desk.specs.Moving.{CanGo, CanPlace, FailsToPlace, IsMovedOnly, IsPlaced, at_place}
 use Rattle.room_desk.specs.Moving.{begins}
-use Rattle.room_desk.proofs.Lists.HandedDown.{beside, moved_noted}
-use Rattle.room_sound.proofs.Filled.{IsTarget, target_there}
-use Rattle.room_judge.proofs.Judging.{failure_of_parts, fails_first, passes_first, passes_on}
-use Rattle.room_judge.proofs.Judging.{refuses}
-use Rattle.room_desk.proofs.Moves.MovingFacts.{IsFree, all_passed, goable, placeable}
+use Rattle.room_desk.proofs.{Lists.HandedDown.{beside, moved_noted}, Moves.MovingFacts.IsFree}
+use Rattle.room_desk.proofs.Moves.MovingFacts.{all_passed, goable, placeable}
 use Rattle.room_desk.proofs.Moves.MovingPlan.{along_noted, at_found, move_judged, move_stored}
 use Rattle.room_desk.proofs.Moves.MovingPlan.{stored_items, stored_move, way_noted}
-use Rattle.room_sound.proofs.Blamed.{noted_unread}
-use Rattle.room_desk.proofs.Steps.Serving.{none_both}
-use Rattle.room_sound.proofs.Sites.{fill}
+use Rattle.room_desk.proofs.Steps.{Serving.none_both, Stepping.{changed_step, refused_step}}
+use Rattle.room_sound.proofs.{Filled.{IsTarget, target_there}, Blamed.noted_unread, Sites.fill}
 use Rattle.room_sound.proofs.SoundParts.{sound_parts}
-use Rattle.room_desk.proofs.Steps.Stepping.{changed_step, refused_step}
-use Rattle.room_judge.proofs.Spots.{last_of}
-use Rattle.room_judge.specs.declared.arrival.Both.{Both}
-use Rattle.std.proofs.lemmas.Bool.Decides.{nat_tests}
 
 -- ---- at the root, and where the way ends
 
@@ -53,12 +36,8 @@ module _ (asker : Asker) (path to : List (List ℕ)) where
   pub root_stays : (root : Node) (old new : Rows) (reply : Reply) → AreRows old → path ≡ []
       → root_of old.read ≡ Some root → reply ≡ Refused (take 0 path) Root → new ≡ old
       → IsServed asker (Move path to) old reply new
-  root_stays root old new reply are is is_root replies same = (
-    λ known sound. refused_step asker (Move path to) old known sound new reply
-        (move_judged old are (sound_parts old sound) asker path to new (Some reply) judged),
-    closed_failed asker (Move path to) old reply new
-        (move_stored old are asker path to new (Some reply) judged),
-  )
+  root_stays root old new reply are is is_root replies same =
+      search (closed_failed, judged, move_judged, move_stored, refused_step, sound_parts)
     where
       at_root : IsJudged asker (stored_move old.read [] to) old (Some reply) new
       at_root =
@@ -71,20 +50,19 @@ module _ (asker : Asker) (path to : List (List ℕ)) where
           (replies ∙ ap (λ p. Refused (take 0 p) Root) is) refl same)
 
       judged : IsJudged asker (stored_move old.read path to) old (Some reply) new
-      judged =
-          subst (λ p. IsJudged asker (stored_move old.read p to) old (Some reply) new) (sym is)
-          at_root
+      judged = search (at_root, stored_move)
 
   pub way_halted : (old new : Rows) (reply : Reply) → AreRows old
       → IsPaired asker path old (Err reply) new → IsServed asker (Move path to) old reply new
   way_halted old new reply are paired =
-      let judged = fails_first asker (way false (stored_along old.read path) path)
-      (where_found (site_at (stored_along old.read path) path) (at_found old.read path to)) old new
-      reply paired.judged in (
-        λ known sound. refused_step asker (Move path to) old known sound new reply
-            (move_judged old are (sound_parts old sound) asker path to new (Some reply) judged),
-        closed_failed asker (Move path to) old reply new
-            (move_stored old are asker path to new (Some reply) judged),
+      search (
+        at_found,
+        closed_failed,
+        fails_first,
+        move_judged,
+        move_stored,
+        refused_step,
+        sound_parts,
       )
 
 -- ---- once the object was found
@@ -135,26 +113,13 @@ module _ (asker : Asker) (path to : List (List ℕ)) (from target : Found) (old 
       passes_first asker (way false (stored_along old.read path) path)
       (where_found (site_at (stored_along old.read path) path) (at_found old.read path to)) old mid
       new answer paired.judged
-      (subst (λ o. IsJudged asker (where_found o (at_found old.read path to)) mid answer new)
-      (sym target_is)
-      (passes_on asker path Root (is_empty path)
-      (where_found (parent_at (stored_along old.read path) path)
-      (stored_items old.read to is_below target_site)) mid new answer not_root
-      (subst
-      (λ o. IsJudged asker
-      (where_found o (stored_items old.read to is_below target_site)) mid answer new)
-      (sym paired.folder) judged)))
+      (grind (arith, nat_tests, at_found, not_root, passes_on, stored_items, target_is))
 
   ended : (new : Rows) (reply : Reply)
       → IsJudged asker (stored_items old.read to is_below target_site from_site) mid
       (Some reply) new → IsServed asker (Move path to) old reply new
-  ended new reply judged = (
-    λ known sound. refused_step asker (Move path to) old known sound new reply
-        (move_judged old are (sound_parts old sound) asker path to new (Some reply)
-        (with_items new (Some reply) judged)),
-    closed_failed asker (Move path to) old reply new
-        (move_stored old are asker path to new (Some reply) (with_items new (Some reply) judged)),
-  )
+  ended new reply judged =
+      search (closed_failed, move_judged, move_stored, refused_step, sound_parts, with_items)
 
   pub root_refused : (new : Rows) (reply : Reply) → to ≡ []
       → IsJudged asker (Deletion target_site from_site ∷ Refusal [] Exists true ∷ []) mid
@@ -176,9 +141,7 @@ module _ (asker : Asker) (path to : List (List ℕ)) (from target : Found) (old 
         → IsReached asker (front to) (at_place mid.read to is_below target_site from_site) mid
         (Err reply) new → IsServed asker (Move path to) old reply new
     place_ended new reply reached =
-        ended new reply (subst (λ items. IsJudged asker items mid (Some reply) new)
-        (at_first ∙ sym (items_there old.read to is_below target_site from_site some_to))
-        reached.judged)
+        ended new reply (grind (arith, nat_tests, at_first, items_there))
 
     -- ---- once the new folder was reached
 
@@ -198,21 +161,14 @@ module _ (asker : Asker) (path to : List (List ℕ)) (from target : Found) (old 
       judged_here = subst (λ items. IsJudged asker items mid None last) at_first reached.judged
 
       judged_all : IsJudged asker (stored_move old.read path to) old None last
-      judged_all =
-          with_items last None
-          (subst (λ items. IsJudged asker items mid None last)
-          (sym (items_there old.read to is_below target_site from_site some_to)) judged_here)
+      judged_all = search (items_there, judged_here, with_items)
 
       free : IsFree old.read to is_below folder
       free =
           let front_way : List Item = way false (stored_along old.read (front to)) (front to) in
           let none : None ≡ first_failure asker.caller
           (front_way ++ at_place old.read to is_below target_site from_site folder_site) =
-          judged_here.answers
-          ∙ ap
-          (λ o. first_failure asker.caller
-          (way false (stored_along old.read (front to)) (front to)
-          ++ where_found o (at_place old.read to is_below target_site from_site))) folder_is in
+          cc (judged_here.answers, folder_is) in
           all_passed asker.caller old.read to is_below target_site from_site folder_site
           (none_both (first_failure asker.caller front_way)
           (first_failure asker.caller
@@ -246,13 +202,7 @@ module _ (asker : Asker) (path to : List (List ℕ)) (from target : Found) (old 
       moves_on new places known sound =
           changed_step asker (Move path to) old known sound last new Done
           (with_node means (moved_node t.planned f.planned (last_name to))) planned
-          (λ id. ap
-          (λ o. with_site means o
-          (λ s. with_site means (site_at (sites_along means (front to)) (front to))
-          (λ u. (Done, with_node means (moved_node s u (last_name to)))))) t.at
-          ∙ ap
-          (λ o. with_site means o
-          (λ u. (Done, with_node means (moved_node t.planned u (last_name to))))) f.at)
+          (grind (arith, nat_tests, f, means, t))
           (placed.means
           ∙ ap (λ (r : Rows). with_node (meaning r.read)
           (moved_node (stored_site [] target.node) (stored_site [] folder) name)) planned.notes
@@ -264,9 +214,7 @@ module _ (asker : Asker) (path to : List (List ℕ)) (from target : Found) (old 
           means = meaning old.read
 
           t : IsTarget old.read path (stored_site path target.node)
-          t =
-              target_there old are (sound_parts old sound) path
-              (stored_site path target.node) paired.target
+          t = search (sound_parts, target_there)
 
           f : IsTarget old.read (front to) folder_site
           f = target_there old are (sound_parts old sound) (front to) folder_site folder_is
@@ -279,11 +227,7 @@ module _ (asker : Asker) (path to : List (List ℕ)) (from target : Found) (old 
 
           moved_as : moved_node (stored_site [] target.node) (stored_site [] folder) name
               ≡ moved_node t.planned f.planned (last_name to)
-          moved_as =
-              ap (moved_node (stored_site [] target.node) (stored_site [] folder)) is_last
-              ∙ ap (λ (s : Site). moved_node s (stored_site [] folder) (last_name to))
-              (sym t.filled)
-              ∙ ap (λ (s : Site). moved_node (fill t.planned) s (last_name to)) (sym f.filled)
+          moved_as = grind (arith, nat_tests, f, fill, t)
 
       pub moves : (new : Rows)
           → (CanPlace target.node folder name last → IsPlaced target.node folder name last new)
@@ -294,16 +238,7 @@ module _ (asker : Asker) (path to : List (List ℕ)) (from target : Found) (old 
           let records = records_of_plan asker.caller asker.moment
           (stored_plan old.read (Move path to)) in
           let moved = moved_noted target.node folder (last_name to) old new records
-          (subst (λ (n : List ℕ). IsMovedOnly target.node folder n (with_notes old records) new)
-          is_last
-          (subst (λ (r : Rows). IsMovedOnly target.node folder name r new) judged.notes
-          (goes go_on))) in (
-            moves_on new places,
-            closed_done asker (Move path to) old Done last new judged refl refl (beside old new)
-                refl moved.1
-                (stored_site path target.node, paired.target, (folder_site, folder_is, refl))
-                (stored_site path target.node, paired.target, (folder_site, folder_is, moved.0)),
-          )
+          (grind (arith, nat_tests, go_on)) in search (beside, closed_done, folder_is, moves_on)
 
 -- ---- in terms of the calls
 
@@ -333,5 +268,4 @@ rooted_pair asker path root pair old mid new is same paired = grind (arith, nat_
 pub root_after : (asker : Asker) (path : List (List ℕ)) (root : Node) (pair : Result Both Reply)
     (old mid : Rows) → root_of old.read ≡ Some root → IsPaired asker path old pair mid
     → root_of mid.read ≡ Some root
-root_after asker path root pair old mid is paired =
-    ap (λ (r : Rows). root_of r.read) paired.judged.notes ∙ is
+root_after asker path root pair old mid is paired = grind (arith, nat_tests)

@@ -1,21 +1,12 @@
 -- The way to the new folder of a move, and what is judged there.
-use Rattle.std.proofs.Common.{◌≡◌, ℕ, ◌+◌, Bool, List, [], length, take, Option, refl, sym, ap}
-use Rattle.std.proofs.Common.{subst, ◌∙◌}
-use Rattle.std.proofs.Common.{Result, Ok}
-use Rattle.std.proofs.Math.Seq.{take-length}
-use Rattle.room_rows.specs.declared.node.Node.{Node}
-use Rattle.room_rows.specs.Rows.{Rows}
-use Rattle.room_judge.specs.declared.asker.Asker.{Asker}
-use Rattle.room_machine.specs.declared.reply.Reply.{Reply}
-use Rattle.room_machine.specs.Site.{Site, front}
-use Rattle.room_machine.specs.Stored.{stored_site}
-use Rattle.room_judge.specs.Stored.{found_site}
-use Rattle.room_judge.specs.Judged.{IsJudged, IsReached}
+use Rattle.std.proofs.Common.{◌≡◌, ℕ, ◌+◌, Bool, List, [], length, take, Option, refl, Result, Ok}
+use Rattle.std.proofs.{Common.arith, Math.Seq.take-length, lemmas.Bool.Decides.nat_tests}
+use Rattle.room_rows.specs.{declared.node.Node.Node, Rows.Rows}
+use Rattle.room_judge.specs.{declared.asker.Asker.Asker, Stored.found_site, Judged.IsJudged}
+use Rattle.room_judge.specs.Judged.{IsReached}
+use Rattle.room_machine.specs.{declared.reply.Reply.Reply, Site.{Site, front}}
 use Rattle.room_desk.specs.Moving.{at_place}
-use Rattle.room_judge.proofs.Spots.{take_front}
-use Rattle.room_judge.proofs.Ways.{reaches_with, unless}
-use Rattle.std.proofs.Common.{arith}
-use Rattle.std.proofs.lemmas.Bool.Decides.{nat_tests}
+use Rattle.room_judge.proofs.{Spots.take_front, Ways.{reaches_with, unless}}
 
 -- the way without the last name
 pub front_reached : (asker : Asker) (to : List (List ℕ)) (depth : ℕ) (outcome : Result Node Reply)
@@ -35,9 +26,4 @@ pub place_reached : (asker : Asker) (to : List (List ℕ)) (is_below : Bool) (ta
 place_reached asker to is_below target from old mid new node depth refusal deep reached judged =
     reaches_with asker (front to) (at_place old.read to is_below target from) old mid new node
     (record { node = node; depth = length (front to) }) refusal refl reached
-    (subst (λ items. IsJudged asker items mid refusal new)
-    (ap (λ p. at_place mid.read to is_below target from (stored_site p node))
-    (take_front to depth deep ∙ sym (take-length (front to)))
-    ∙ ap (λ (r : Rows). at_place r.read to is_below target from
-    (stored_site (take (length (front to)) (front to)) node)) reached.judged.notes)
-    judged)
+    (grind (arith, nat_tests, take-length, take_front))

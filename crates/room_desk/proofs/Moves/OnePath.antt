@@ -1,28 +1,19 @@
 -- An object stands at one path, so names alone say what a way meets.
-use Rattle.std.proofs.Common.{◌≡◌, ℕ, zero, suc, ◌+◌, ◌==◌, Bool, true, false, ◌&&◌, List, [], ◌∷◌}
-use Rattle.std.proofs.Common.{◌++◌, ◌<◌, ◌≤◌, length, get_or, drop, Option, Some, None, refl, sym}
-use Rattle.std.proofs.Common.{ap, subst, ◌∙◌, inl, inr, append_assoc, arith}
-use Rattle.std.specs.Prelude.{option_and_then}
-use Rattle.std.specs.List.{list_any}
-use Rattle.std.specs.Option.{option_map_or}
-use Rattle.std.proofs.lemmas.Bool.{and_parts, eq-eqb, eqb-true, false≢true, and_right}
-use Rattle.std.proofs.lemmas.Bool.{or_cases, or_left, or_right}
-use Rattle.std.proofs.lemmas.List.{append-nil, drop_more, get_or_read}
-use Rattle.std.proofs.Math.Seq.{drop-length}
-use Rattle.std.proofs.lemmas.Option.{same_Some}
+use Rattle.std.proofs.Common.{◌≡◌, ℕ, suc, ◌+◌, ◌==◌, Bool, true, false, ◌&&◌, List, [], ◌∷◌, ◌++◌}
+use Rattle.std.proofs.Common.{◌<◌, ◌≤◌, length, get_or, drop, Option, Some, None, refl, sym, ap}
+use Rattle.std.proofs.{Common.{subst, ◌∙◌, inl, inr, append_assoc, arith}, lemmas.Bool.and_parts}
+use Rattle.std.proofs.lemmas.Bool.{eqb-true, false≢true, and_right, or_cases, or_right}
+use Rattle.std.proofs.lemmas.{Bool.Decides.nat_tests, List.{append-nil, drop_more, get_or_read}}
+use Rattle.std.proofs.{lemmas.Option.same_Some, Math.Seq.drop-length}
+use Rattle.std.specs.{List.list_any, Option.option_map_or}
 use Rattle.room_entry.specs.Pieces.{same_text}
-use Rattle.room_entry.proofs.Alike.{text_itself}
-use Rattle.room_entry.proofs.Texts.{same_text-true}
-use Rattle.room_rows.specs.declared.node.Node.{Node}
-use Rattle.room_rows.specs.Content.{Content, child_of, node_at, root_of}
+use Rattle.room_entry.proofs.{Alike.text_itself, Texts.same_text-true, Facts.Booleans.same_truth}
+use Rattle.room_rows.specs.{declared.node.Node.Node, Content.{Content, child_of, node_at, root_of}}
+use Rattle.room_rows.specs.Sound.{names_up}
 use Rattle.room_rows.proofs.Frames.{Rises, child_of-is_there, child_of-name, child_of-parent}
 use Rattle.room_rows.proofs.Frames.{root_of-is_there, root_of-parent}
-use Rattle.room_rows.specs.Sound.{names_up}
-use Rattle.room_machine.specs.Site.{Site, site_at}
-use Rattle.room_machine.specs.Stored.{stored_site, stored_from, stored_along}
+use Rattle.room_machine.specs.{Site.{Site, site_at}, Stored.{stored_from, stored_along}}
 use Rattle.room_desk.specs.Moving.{begins}
-use Rattle.room_entry.proofs.Facts.Booleans.{same_truth}
-use Rattle.std.proofs.lemmas.Bool.Decides.{nat_tests}
 
 begins_more : (names rest : List (List ℕ)) → begins names (names ++ rest) ≡ true
 begins_more [] rest = refl
@@ -71,17 +62,13 @@ module _ (rows : Content) (rises : Rises rows) where
       → path ≡ other
   one_path node path other first second =
       let turned : first.steps + second.steps ≡ second.steps + first.steps = omega arith in
-      sym (first.names second.steps) ∙ ap (λ (n : ℕ). names_up n rows node) turned
-      ∙ second.names first.steps
+      cc (first.names second.steps, turned, second.names first.steps)
 
   up_root : (root : Node) → root.parent ≡ None → IsUp root []
   up_root root none = record { steps = 0; names = λ more. on (0 + more) }
     where
       on : (n : ℕ) → names_up n rows root ≡ []
-      on zero = refl
-      on (suc n) =
-          ap (λ (p : Option ℕ). option_map_or (λ parent. names_up n rows parent ++ root.name ∷ [])
-          (option_and_then (node_at rows) p) []) none
+      on n = grind (arith, nat_tests)
 
   up_child : (node child : Node) (path : List (List ℕ)) (name : List ℕ) → IsUp node path
       → node_at rows node.id ≡ Some node → child_of rows node.id name ≡ Some child
@@ -90,13 +77,7 @@ module _ (rows : Content) (rises : Rises rows) where
     steps = suc up.steps;
     names = λ more.
         let further : suc up.steps + more ≡ suc (up.steps + more) = omega arith in
-        ap (λ (n : ℕ). names_up n rows child) further
-        ∙ ap
-        (λ o. option_map_or (λ parent. names_up (up.steps + more) rows parent ++ child.name ∷ []) o
-        []) (ap (option_and_then (node_at rows)) (child_of-parent rows node.id name child is)
-        ∙ there)
-        ∙ ap (λ l. l ++ child.name ∷ []) (up.names more)
-        ∙ ap (λ n. path ++ n ∷ []) (child_of-name rows node.id name child is);
+        grind (arith, nat_tests, child_of-name, child_of-parent);
   }
 
   -- ---- what a way meets
@@ -117,8 +98,7 @@ module _ (rows : Content) (rises : Rises rows) where
         → IsUp node path → meets (stored_from rows path node names) ≡ true
         → begins front (path ++ names) ≡ true
     met_from [] path node found up_node met = elim (or_cases (node.id == target.id) false met) [
-      | inl is ↦ ap (λ l. begins l (path ++ [])) (same_path node path found up_node is)
-          ∙ begins_more path []
+      | inl is ↦ cc (same_path node path found up_node is, begins_more path [])
       | inr wrong ↦ absurd (false≢true wrong)
     ]
     met_from (name ∷ names) path node found up_node met =
@@ -126,9 +106,7 @@ module _ (rows : Content) (rises : Rises rows) where
         (or_cases (node.id == target.id)
         (meets (option_map_or (λ child. stored_from rows (path ++ name ∷ []) child names)
         (child_of rows node.id name) [])) met) [
-          | inl is ↦
-              ap (λ l. begins l (path ++ name ∷ names)) (same_path node path found up_node is)
-              ∙ begins_more path (name ∷ names)
+          | inl is ↦ cc (same_path node path found up_node is, begins_more path (name ∷ names))
           | inr below ↦
               on (child_of rows node.id name)
               (λ child is. met_from names (path ++ name ∷ []) child
@@ -143,8 +121,7 @@ module _ (rows : Content) (rises : Rises rows) where
             → meets (option_map_or (λ child. stored_from rows (path ++ name ∷ []) child names) o [])
             ≡ true → begins front (path ++ name ∷ names) ≡ true
         on None known met = absurd (false≢true met)
-        on (Some child) known met =
-            ap (begins front) (sym (append_assoc path (name ∷ []) names)) ∙ known child refl met
+        on (Some child) known met = cc (append_assoc path (name ∷ []) names, known child refl met)
 
     -- what is met on a way stands at a beginning of it
     pub met_along : (path : List (List ℕ)) → meets (stored_along rows path) ≡ true
@@ -158,9 +135,7 @@ module _ (rows : Content) (rises : Rises rows) where
       → node_at rows node.id ≡ Some node → IsUp node path
       → site_at (stored_from rows path node names) names ≡ Some site
       → IsUp site.node (path ++ names)
-  up_from [] path node site found up is =
-      subst (λ (s : Site). IsUp s.node (path ++ [])) (same_Some (stored_site path node) site is)
-      (subst (IsUp node) (sym (append-nil path)) up)
+  up_from [] path node site found up is = grind (arith, nat_tests, append-nil)
   up_from (name ∷ names) path node site found up is =
       on (child_of rows node.id name)
       (λ child known. up_from names (path ++ name ∷ []) child site
@@ -197,14 +172,8 @@ module _ (rows : Content) (rises : Rises rows) where
       → site_at (stored_from rows path node names) names ≡ Some site → begins names others ≡ true
       → list_any (λ (s : Site). s.node.id == site.node.id) (stored_from rows path node others)
       ≡ true
-  begun_from [] [] path node site is begun =
-      or_left (node.id == site.node.id) false
-      (eq-eqb node.id site.node.id
-      (ap (λ (s : Site). s.node.id) (same_Some (stored_site path node) site is)))
-  begun_from [] (other ∷ others) path node site is begun =
-      or_left (node.id == site.node.id) _
-      (eq-eqb node.id site.node.id
-      (ap (λ (s : Site). s.node.id) (same_Some (stored_site path node) site is)))
+  begun_from [] [] path node site is begun = grind (arith, nat_tests)
+  begun_from [] (other ∷ others) path node site is begun = grind (arith, nat_tests)
   begun_from (name ∷ names) [] path node site is begun = absurd (false≢true begun)
   begun_from (name ∷ names) (other ∷ others) path node site is begun =
       let parts = and_parts (same_text name other) (begins names others) begun in

@@ -1,36 +1,22 @@
 -- A request that gives an object other owners is a step.
 use Rattle.std.proofs.Common.{◌≡◌, ℕ, ◌⊎◌, ◌&&◌, true, List, [], ◌∷◌, Some, None, refl, sym, ap}
-use Rattle.std.proofs.Common.{subst, ◌∙◌, inl, inr}
-use Rattle.std.proofs.Common.{Ok}
-use Rattle.std.proofs.lemmas.Slice.Eq.{bytes_eq-Decides}
-use Rattle.std.specs.Option.{option_map}
-use Rattle.room_entry.specs.Pieces.{same_text}
-use Rattle.room_entry.specs.Rights.{write_owner}
-use Rattle.room_entry.specs.declared.parties.Owners.{Owners}
-use Rattle.room_rows.specs.declared.node.Node.{Node}
-use Rattle.room_rows.specs.Content.{node_at, with_each, with_node}
-use Rattle.room_rows.specs.Keep.{Changes, with_content, with_owners}
-use Rattle.room_rows.specs.Meaning.{kept_node, meaning}
-use Rattle.room_rows.specs.Rows.{Rows, AreRows}
-use Rattle.room_rows.proofs.Frames.{Rises}
-use Rattle.room_rows.proofs.InPlace.{keeps_places, node_at-with_each, rises-with_each}
-use Rattle.room_rows.proofs.InPlace.{with_node-there}
-use Rattle.room_rows.specs.Sound.{AreSound}
-use Rattle.room_judge.specs.declared.asker.Asker.{Asker}
-use Rattle.room_machine.specs.declared.reply.Reply.TheVariants.{Done}
-use Rattle.room_machine.specs.declared.request.Request.TheVariants.{SetOwners}
-use Rattle.room_machine.specs.Effect.{with_site}
-use Rattle.room_machine.specs.Stored.{stored_site}
-use Rattle.room_judge.specs.Judged.{IsReached, CarriesOut}
-use Rattle.room_judge.specs.Closed.{IsServed}
-use Rattle.room_judge.proofs.Closing.{closed_done}
-use Rattle.room_sound.proofs.SoundParts.{sound_parts, sound_noted}
-use Rattle.room_desk.proofs.Owned.SoundOwners.{owned, owned_means, put_owned, sound_owned}
-use Rattle.room_sound.proofs.Filled.{plan_judged, target_there}
-use Rattle.room_desk.proofs.Steps.Stepping.{changed_step}
-use Rattle.room_desk.proofs.Steps.Serving.{CheckAt, along_there}
-use Rattle.std.proofs.Common.{arith}
+use Rattle.std.proofs.{Common.{subst, ◌∙◌, inl, inr, Ok, arith}, lemmas.Slice.Eq.bytes_eq-Decides}
 use Rattle.std.proofs.lemmas.Bool.Decides.{nat_tests}
+use Rattle.room_entry.specs.{Pieces.same_text, Rights.write_owner, declared.parties.Owners.Owners}
+use Rattle.room_rows.specs.{declared.node.Node.Node, Content.{node_at, with_each, with_node}}
+use Rattle.room_rows.specs.{Keep.{Changes, with_content, with_owners}, Meaning.{kept_node, meaning}}
+use Rattle.room_rows.specs.Rows.{Rows, AreRows}
+use Rattle.room_rows.proofs.{Frames.Rises, InPlace.{keeps_places, node_at-with_each}}
+use Rattle.room_rows.proofs.InPlace.{rises-with_each, with_node-there}
+use Rattle.room_judge.specs.{declared.asker.Asker.Asker, Judged.{IsReached, CarriesOut}}
+use Rattle.room_judge.specs.Closed.{IsServed}
+use Rattle.room_machine.specs.declared.reply.Reply.TheVariants.{Done}
+use Rattle.room_machine.specs.{declared.request.Request.TheVariants.SetOwners, Stored.stored_site}
+use Rattle.room_judge.proofs.Closing.{closed_done}
+use Rattle.room_sound.proofs.{SoundParts.{sound_parts, sound_noted}, Filled.plan_judged}
+use Rattle.room_sound.proofs.Filled.{target_there}
+use Rattle.room_desk.proofs.Owned.SoundOwners.{owned, owned_means, put_owned, sound_owned}
+use Rattle.room_desk.proofs.Steps.{Stepping.changed_step, Serving.{CheckAt, along_there}}
 
 -- ---- owners that are the same
 
@@ -60,9 +46,7 @@ owners_changed asker path owners old mid new node are reached changes = (
   carried,
   closed_done asker (SetOwners path owners) old Done mid new reached.judged refl refl
       (with_node old.read (with_owners owners node)) refl
-      (changes node there_mid
-      ∙ ap (λ (r : Rows). with_content r (with_node r.read (with_owners owners node)))
-      reached.judged.notes)
+      (grind (arith, nat_tests, there_mid))
       (stored_site path node, reached.found, refl) (stored_site path node, reached.found, refl),
 )
   where
@@ -81,14 +65,7 @@ owners_changed asker path owners old mid new node are reached changes = (
 
     means_owned : with_node (meaning old.read) (with_owners owners (kept_node old.read node))
         ≡ with_each (meaning old.read) (owned node.id owners)
-    means_owned =
-        let places = keeps_places old.read (kept_node old.read)
-        (λ n. record { number = refl; parent = refl; name = refl }) in
-        put_owned (meaning old.read)
-        (rises-with_each old.read (kept_node old.read) places are.numbers) node.id owners
-        (kept_node old.read node)
-        (node_at-with_each old.read (kept_node old.read) places node.id
-        ∙ ap (option_map (kept_node old.read)) there)
+    means_owned = search (keeps_places, node_at-with_each, put_owned, rises-with_each, there)
 
     carried : CarriesOut asker (SetOwners path owners) old Done new
     carried known sound =
@@ -98,17 +75,10 @@ owners_changed asker path owners old mid new node are reached changes = (
         (sound_parts old sound) (λ site. refl) reached.judged in
         changed_step asker (SetOwners path owners) old known sound mid new Done
         (with_each (meaning old.read) (owned node.id owners)) judged
-        (λ id. ap (λ o. with_site (meaning old.read) o
-        (λ t. (Done, with_node (meaning old.read) (with_owners owners t.node)))) target.at
-        ∙ ap (λ (n : Node). (Done, with_node (meaning old.read) (with_owners owners n))) target.kept
-        ∙ ap (λ c. (Done, c)) means_owned)
+        (grind (arith, nat_tests, means_owned))
         (ap (λ (r : Rows). meaning r.read) new_is ∙ owned_means mid.read node.id owners
         ∙ ap (λ (r : Rows). with_each (meaning r.read) (owned node.id owners)) judged.notes)
-        (subst AreSound
-        (sym (new_is ∙ ap (λ (r : Rows). with_content r (with_each r.read (owned node.id owners)))
-        reached.judged.notes))
-        (sound_noted (with_content old (with_each old.read (owned node.id owners))) _
-        (sound_owned old node.id owners sound)))
+        (grind (arith, nat_tests, new_is, owned, sound_noted, sound_owned))
 
 pub owners_set : (asker : Asker) (path : List (List ℕ)) (owners : Owners) (old mid new : Rows)
     (node : Node) → AreRows old
@@ -121,5 +91,4 @@ owners_set asker path owners old mid new node are reached (inl same) =
     let rises = subst (λ (r : Rows). Rises r.read) (sym reached.judged.notes) are.numbers in
     owners_changed asker path owners old mid new node are reached
     (unchanged mid new owners node rises there same.0 same.1)
-owners_set asker path owners old mid new node are reached (inr changes) =
-    owners_changed asker path owners old mid new node are reached changes
+owners_set asker path owners old mid new node are reached (inr changes) = search (owners_changed)

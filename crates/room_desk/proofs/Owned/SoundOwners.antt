@@ -1,29 +1,19 @@
 -- Rows stay sound where an object gets other owners, and what they mean changes likewise.
-use Rattle.std.proofs.Common.{◌≡◌, ℕ, ◌==◌, Bool, cond, List, [], ◌∷◌, map}
-use Rattle.std.proofs.Common.{Option, Some, None, refl, sym, ap, ◌∙◌, inl, inr}
-use Rattle.std.specs.Prelude.{if◌then◌else◌}
-use Rattle.std.specs.Option.{option_map, option_map_or}
-use Rattle.std.proofs.lemmas.Bool.{cases_Bool, eqb-true, eqb-false}
-use Rattle.room_entry.specs.declared.object.Which.{Which}
-use Rattle.room_entry.specs.declared.object.Which.TheVariants.{Dacl, Sacl}
+use Rattle.std.proofs.Common.{◌≡◌, ℕ, ◌==◌, Bool, cond, List, [], ◌∷◌, map, Option, Some, None}
+use Rattle.std.proofs.{Common.{refl, ap, ◌∙◌, arith}, lemmas.Bool.Decides.nat_tests}
+use Rattle.std.specs.{Prelude.if◌then◌else◌, Option.{option_map, option_map_or}}
+use Rattle.room_entry.specs.declared.object.Which.{Which, TheVariants.{Dacl, Sacl}}
 use Rattle.room_entry.specs.declared.parties.Owners.{Owners}
-use Rattle.room_rows.specs.declared.node.Node.{Node}
-use Rattle.room_rows.specs.Content.{Content, node_at, parent_of, is_linked_in, with_each, with_node}
-use Rattle.room_rows.specs.Finding.{find_id}
-use Rattle.room_rows.specs.Keep.{with_content, with_owners}
-use Rattle.room_rows.specs.Meaning.{kept_held, kept_node, meaning}
-use Rattle.room_rows.specs.Rows.{Rows}
-use Rattle.room_rows.proofs.Frames.{Rises, node_at-number}
-use Rattle.room_rows.proofs.InPlace.{with_node-replaces, place-with_owners}
-use Rattle.room_rows.proofs.Lookups.{each_found}
-use Rattle.room_rows.proofs.SamePlace.{IsSamePlace, replaced, replaced_here}
-use Rattle.room_rows.proofs.SamePlace.{replaced_elsewhere}
-use Rattle.room_rows.specs.Sound.{AreSound, keeps_law}
-use Rattle.room_inherit.proofs.NoFault.{no_fault, sound_checked}
-use Rattle.room_inherit.proofs.Unmoved.{above, all_kept, still_sound}
+use Rattle.room_rows.specs.{declared.node.Node.Node, Content.{Content, node_at, parent_of}}
+use Rattle.room_rows.specs.{Content.{is_linked_in, with_each, with_node}, Finding.find_id}
+use Rattle.room_rows.specs.{Keep.{with_content, with_owners}, Meaning.{kept_node, meaning}}
+use Rattle.room_rows.specs.{Rows.Rows, Sound.{AreSound, keeps_law}}
+use Rattle.room_rows.proofs.{Frames.{Rises, node_at-number}, InPlace.with_node-replaces}
+use Rattle.room_rows.proofs.{InPlace.place-with_owners, Lookups.each_found, SamePlace.IsSamePlace}
+use Rattle.room_rows.proofs.SamePlace.{replaced, replaced_here, replaced_elsewhere}
+use Rattle.room_inherit.proofs.{NoFault.{no_fault, sound_checked}, Unmoved.{above, all_kept}}
+use Rattle.room_inherit.proofs.Unmoved.{still_sound}
 use Rattle.room_sound.proofs.SoundParts.{map_same}
-use Rattle.std.proofs.Common.{arith}
-use Rattle.std.proofs.lemmas.Bool.Decides.{nat_tests}
 
 -- the object, with these owners where it has the number
 abbrev pub owned : ℕ → Owners → Node → Node
@@ -44,9 +34,7 @@ put_owned content rises id owners node there =
     with_node-replaces content rises id node (with_owners owners node) there
     (place-with_owners owners node)
     ∙ ap (λ (nodes : List Node). record content { nodes = nodes })
-    (map_same (replaced (with_owners owners node)) (owned id owners)
-    (λ n. find_id n.id content.nodes ≡ Some n) one content.nodes
-    (each_found 0 content.nodes rises))
+    (search (each_found, map_same, one, replaced))
   where
     number : node.id ≡ id
     number = node_at-number content id node there
@@ -56,18 +44,7 @@ put_owned content rises id owners node there =
 
     one : (n : Node) → find_id n.id content.nodes ≡ Some n
         → replaced (with_owners owners node) n ≡ owned id owners n
-    one n found = elim (cases_Bool (n.id == id)) [
-      | inl same ↦
-          let at : n.id ≡ id = eqb-true n.id id same in
-          let it : Some n ≡ Some node = sym found ∙ ap (λ (i : ℕ). find_id i content.nodes) at
-          ∙ there in
-          let here : n ≡ node = cc in
-          replaced_here (with_owners owners node) n (at ∙ sym number)
-          ∙ ap (λ (m : Node). with_owners owners m) (sym here) ∙ sym (ap (with_test n) same)
-      | inr other ↦
-          replaced_elsewhere (with_owners owners node) n
-          (λ same. eqb-false n.id id other (same ∙ number)) ∙ sym (ap (with_test n) other)
-    ]
+    one n found = grind (arith, nat_tests, number, replaced_elsewhere, replaced_here, with_test)
 
 module _ (content : Content) (id : ℕ) (owners : Owners) where
   abbrev change : Node → Node
@@ -101,16 +78,7 @@ module _ (content : Content) (id : ℕ) (owners : Owners) where
   links Sacl n = grind (arith, nat_tests, above_changed)
 
   kept : (n : Node) → kept_node after (change n) ≡ change (kept_node content n)
-  kept n =
-      ap (λ t. record (change n) {
-        dacl = kept_held t n.dacl;
-        sacl = kept_held (is_linked_in after Sacl (change n)) n.sacl;
-      }) (links Dacl n)
-      ∙ ap
-      (λ t. record (change n) {
-        dacl = kept_held (is_linked_in content Dacl n) n.dacl;
-        sacl = kept_held t n.sacl;
-      }) (links Sacl n)
+  kept n = search (links)
 
   pub owned_means : meaning after ≡ with_each (meaning content) change
   owned_means = ap (λ (nodes : List Node). record content { nodes = nodes }) (all content.nodes)
@@ -118,9 +86,7 @@ module _ (content : Content) (id : ℕ) (owners : Owners) where
       all : (nodes : List Node)
           → map (kept_node after) (map change nodes) ≡ map change (map (kept_node content) nodes)
       all [] = refl
-      all (x ∷ xs) =
-          ap (λ (n : Node). n ∷ map (kept_node after) (map change xs)) (kept x)
-          ∙ ap (λ (l : List Node). change (kept_node content x) ∷ l) (all xs)
+      all (x ∷ xs) = cc (kept x, all xs)
 
 -- ---- the rows
 

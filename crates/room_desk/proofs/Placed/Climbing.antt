@@ -1,15 +1,12 @@
 -- Ways up to the root, where one object gets another parent.
-use Rattle.std.proofs.Common.{◌≡◌, ℕ, zero, suc, ◌==◌, Bool, true, false, not, List, [], ◌∷◌}
-use Rattle.std.proofs.Common.{map, Option, Some, None, refl, ap, ◌∙◌, inl, inr}
-use Rattle.std.specs.List.{find}
-use Rattle.std.specs.Option.{option_map, option_map_or}
-use Rattle.std.proofs.lemmas.Bool.{cases_Bool, and_parts, false≢true}
-use Rattle.room_rows.specs.declared.node.Node.{Node}
-use Rattle.room_rows.specs.Content.{Content, node_at, reaches_root, with_each}
+use Rattle.std.proofs.Common.{◌≡◌, ℕ, zero, suc, ◌==◌, Bool, true, false, not, List, [], ◌∷◌, map}
+use Rattle.std.proofs.Common.{Option, Some, None, refl, ap, ◌∙◌, inl, inr, arith}
+use Rattle.std.proofs.lemmas.Bool.{cases_Bool, and_parts, false≢true, Decides.nat_tests}
+use Rattle.std.specs.{List.find, Option.{option_map, option_map_or}}
+use Rattle.room_rows.specs.{declared.node.Node.Node, Content.{Content, node_at, reaches_root}}
+use Rattle.room_rows.specs.Content.{with_each}
 use Rattle.room_rows.proofs.Frames.{node_at-number}
 use Rattle.room_desk.specs.Moving.{goes_past}
-use Rattle.std.proofs.Common.{arith}
-use Rattle.std.proofs.lemmas.Bool.Decides.{nat_tests}
 
 -- an object of this number, and the rest of the way
 pub step_up : (p : Node → Bool) (o : Option Node) → option_map_or p o false ≡ true → (node : Node)
@@ -36,9 +33,7 @@ module _ (content : Content) (change : Node → Node)
   reaches-changed same n None = refl
   reaches-changed same zero (Some id) = refl
   reaches-changed same (suc n) (Some id) =
-      ap (λ o. option_map_or
-      (λ (above : Node). reaches_root n (with_each content change) above.parent) o false)
-      (node_at-changed id) ∙ on (node_at content id) (λ parent. reaches-changed same n parent)
+      cc (node_at-changed id, on (node_at content id) (λ parent. reaches-changed same n parent))
     where
       on : (o : Option Node)
           → ((parent : Option ℕ)
@@ -88,22 +83,15 @@ module _ (content : Content) (change : Node → Node)
         let above = step_up (λ (node : Node). reaches_root n content node.parent)
         (node_at content id) up in
         let same : above.0.id ≡ id = found_number id above.0 above.1 in
-        let found : node_at after id ≡ Some (change above.0) = node_at-changed id
-        ∙ ap (option_map change) above.1 in
+        let found : node_at after id ≡ Some (change above.0) = cc (node_at-changed id, above.1) in
         elim (cases_Bool (id == t)) [
           | inl is ↦ (
             suc steps,
-            ap (λ o. option_map_or (λ (a : Node). reaches_root steps after a.parent) o false)
-                found ∙ ap (reaches_root steps after) (here above.0 (ap (λ i. i == t) same ∙ is))
-                ∙ past_reaches steps (Some k) past,
+            cc (found, here above.0 (ap (λ i. i == t) same ∙ is), past_reaches steps (Some k) past),
           )
           | inr isnt ↦
               let rest = reaches_again steps past n above.0.parent above.2 in (
                 suc rest.0,
-                ap (λ o. option_map_or (λ (a : Node). reaches_root rest.0 after a.parent) o false)
-                    found
-                    ∙ ap (reaches_root rest.0 after)
-                    (elsewhere above.0 (ap (λ i. i == t) same ∙ isnt))
-                    ∙ rest.1,
+                grind (arith, nat_tests),
               )
         ]

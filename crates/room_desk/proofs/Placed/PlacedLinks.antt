@@ -1,14 +1,9 @@
 -- Which lists are linked where an object gets another place.
 use Rattle.std.proofs.Common.{◌≡◌, ℕ, ◌==◌, true, false, List, Some, sym, ap, ◌∙◌, inl, inr}
-use Rattle.std.specs.Option.{option_map}
 use Rattle.std.proofs.lemmas.Bool.{cases_Bool}
-use Rattle.room_entry.specs.Ace.{Ace}
-use Rattle.room_entry.specs.declared.object.Which.{Which}
-use Rattle.room_rows.specs.HeldList.{Held}
-use Rattle.room_rows.specs.declared.node.Node.{Node}
-use Rattle.room_rows.specs.Content.{Content, parent_of, is_linked_in}
-use Rattle.room_rows.specs.Held.{held_of, is_linked}
-use Rattle.room_rows.specs.Rows.{Rows}
+use Rattle.room_entry.specs.{Ace.Ace, declared.object.Which.Which}
+use Rattle.room_rows.specs.{HeldList.Held, declared.node.Node.Node, Content.{Content, is_linked_in}}
+use Rattle.room_rows.specs.{Held.{held_of, is_linked}, Rows.Rows}
 use Rattle.room_desk.specs.Moving.{CanPlace}
 use Rattle.room_desk.proofs.Placed.PlacedParts.{linked_above, linked_flags, placed_held}
 use Rattle.room_desk.proofs.Placed.PlacedTree.{above_elsewhere, above_here, after, change}
@@ -29,21 +24,11 @@ module _ (old : Rows) (target folder : Node) (name : List ℕ) (can : CanPlace t
 
   pub linked_elsewhere : (which : Which) (n : Node) → (n.id == target.id) ≡ false
       → is_linked_in now which (moved n) ≡ is_linked_in before which n
-  linked_elsewhere which n isnt =
-      ap (λ o. is_linked (held_of which (moved n)) (option_map (held_of which) o))
-      (above_elsewhere old target folder name can d s n isnt)
-      ∙ linked_above (held_of which (moved n)) which (parent_of before n) moved (flags_now which)
-      ∙ linked_flags (held_of which (moved n)) (held_of which n)
-      (option_map (held_of which) (parent_of before n)) (flags_now which n)
+  linked_elsewhere which n isnt = search (above_elsewhere, flags_now, linked_above, linked_flags)
 
   pub linked_here : (which : Which) (n : Node) → (n.id == target.id) ≡ true
       → is_linked_in now which (moved n) ≡ is_linked (held_of which n) (Some (held_of which folder))
-  linked_here which n is =
-      ap (λ o. is_linked (held_of which (moved n)) (option_map (held_of which) o))
-      (above_here old target folder name can d s n is)
-      ∙ linked_above (held_of which (moved n)) which (Some folder) moved (flags_now which)
-      ∙ linked_flags (held_of which (moved n)) (held_of which n) (Some (held_of which folder))
-      (flags_now which n)
+  linked_here which n is = search (above_here, flags_now, linked_above, linked_flags)
 
 -- whatever entries are stored
 pub linked_any : (old : Rows) (target folder : Node) (name : List ℕ)

@@ -1,30 +1,18 @@
 -- What rows mean where an object gets another place, and lists that aren't linked are as before.
 use Rattle.std.proofs.Common.{◌≡◌, ℕ, ◌==◌, Bool, true, false, cond, List, [], map, Some, refl, sym}
-use Rattle.std.proofs.Common.{ap, ◌∙◌}
-use Rattle.std.specs.Option.{option_map}
-use Rattle.room_entry.specs.Ace.{Ace}
-use Rattle.room_entry.specs.declared.object.Which.{Which}
-use Rattle.room_entry.specs.declared.object.Which.TheVariants.{Dacl, Sacl}
-use Rattle.room_rows.specs.HeldList.{Held}
-use Rattle.room_rows.specs.declared.node.Node.{Node}
-use Rattle.room_rows.specs.Content.{Content, node_at, is_linked_in, with_node}
-use Rattle.room_rows.specs.Held.{held_of, is_linked}
-use Rattle.room_rows.specs.Keep.{with_place}
-use Rattle.room_rows.specs.Meaning.{kept_held, kept_node, meaning}
-use Rattle.room_rows.specs.Rows.{Rows}
+use Rattle.std.proofs.{Common.{ap, ◌∙◌, arith}, lemmas.Bool.Decides.nat_tests}
+use Rattle.room_entry.specs.{Ace.Ace, declared.object.Which.{Which, TheVariants.{Dacl, Sacl}}}
+use Rattle.room_rows.specs.{HeldList.Held, declared.node.Node.Node, Content.{Content, node_at}}
+use Rattle.room_rows.specs.{Content.{is_linked_in, with_node}, Held.{held_of, is_linked}}
+use Rattle.room_rows.specs.{Meaning.{kept_held, kept_node, meaning}, Rows.Rows}
 use Rattle.room_rows.proofs.InPlace.{KeepsPlaces, keeps_places, rises-with_each}
 use Rattle.room_rows.proofs.SamePlace.{put-replaces, replaced, replaced_here, replaced_elsewhere}
-use Rattle.room_inherit.proofs.Children.{each_there}
-use Rattle.room_inherit.proofs.Renewing.{map_agree, map_map}
-use Rattle.room_machine.specs.Effect.{moved_held, moved_node}
+use Rattle.room_inherit.proofs.{Children.each_there, Renewing.{map_agree, map_map}}
+use Rattle.room_machine.specs.{Effect.{moved_held, moved_node}, Stored.stored_site}
 use Rattle.room_desk.specs.Moving.{CanPlace}
-use Rattle.room_machine.specs.Stored.{stored_site}
-use Rattle.room_desk.proofs.Placed.Climbing.{node_at-changed}
-use Rattle.room_desk.proofs.Placed.PlacedLinks.{linked_elsewhere, linked_here}
-use Rattle.room_desk.proofs.Placed.PlacedParts.{apart, lists}
+use Rattle.room_desk.proofs.Placed.{Climbing.node_at-changed, PlacedLinks.linked_elsewhere}
+use Rattle.room_desk.proofs.Placed.{PlacedLinks.linked_here, PlacedParts.{apart, lists}}
 use Rattle.room_desk.proofs.Placed.PlacedTree.{after, change, is_target}
-use Rattle.std.proofs.Common.{arith}
-use Rattle.std.proofs.lemmas.Bool.Decides.{nat_tests}
 
 -- ---- the entries that one list keeps
 
@@ -85,23 +73,7 @@ module _ (old : Rows) (target folder : Node) (name : List ℕ) (can : CanPlace t
   kept_elsewhere : (n : Node) → is_there n → (n.id == target.id) ≡ false
       → kept_node now (moved n) ≡ kept_node before n
   kept_elsewhere n there isnt =
-      ap (λ b. record (cond b (with_place folder.id name n) n) {
-        dacl = kept_held
-            (is_linked_in now Dacl (moved n)) (moved n).dacl;
-        sacl = kept_held
-            (is_linked_in now Sacl (moved n)) (moved n).sacl;
-      }) isnt
-      ∙ ap
-      (λ (h : Held). record n {
-        dacl = h;
-        sacl = kept_held (is_linked_in now Sacl (moved n))
-            (moved n).sacl;
-      }) (held_elsewhere Dacl n there isnt)
-      ∙ ap
-      (λ (h : Held). record n {
-        dacl = kept_held (is_linked_in before Dacl n) n.dacl;
-        sacl = h;
-      }) (held_elsewhere Sacl n there isnt)
+      cc (isnt, held_elsewhere Dacl n there isnt, held_elsewhere Sacl n there isnt)
 
   abbrev placed_as : Node → Node
   placed_as n =
@@ -115,25 +87,7 @@ module _ (old : Rows) (target folder : Node) (name : List ℕ) (can : CanPlace t
 
   kept_here : (n : Node) → is_there n → (n.id == target.id) ≡ true
       → kept_node now (moved n) ≡ placed_as n
-  kept_here n there is =
-      ap (λ b. record (cond b (with_place folder.id name n) n) {
-        dacl = kept_held
-            (is_linked_in now Dacl (moved n)) (moved n).dacl;
-        sacl = kept_held
-            (is_linked_in now Sacl (moved n)) (moved n).sacl;
-      }) is
-      ∙ ap
-      (λ (h : Held). record (with_place folder.id name n) {
-        dacl = h;
-        sacl = kept_held (is_linked_in now Sacl (moved n)) (moved n).sacl;
-      })
-      (held_here Dacl n there is)
-      ∙ ap
-      (λ (h : Held). record (with_place folder.id name n) {
-        dacl = moved_held Dacl
-            (stored_site [] n) (stored_site [] folder);
-        sacl = h;
-      }) (held_here Sacl n there is)
+  kept_here n there is = cc (is, held_here Dacl n there is, held_here Sacl n there is)
 
   each_kept : (n : Node) → is_there n
       → kept_node now (moved n) ≡ replaced placed_node (kept_node before n)
@@ -152,8 +106,7 @@ module _ (old : Rows) (target folder : Node) (name : List ℕ) (can : CanPlace t
   kept_before n = kept_node before n
 
   same_places : KeepsPlaces before kept_before
-  same_places =
-      keeps_places before kept_before (λ n. record { number = refl; parent = refl; name = refl })
+  same_places = search (keeps_places)
 
   pub means_placed : meaning now ≡ with_node (meaning before) placed_node
   means_placed =
@@ -167,5 +120,4 @@ module _ (old : Rows) (target folder : Node) (name : List ℕ) (can : CanPlace t
       ∙ sym (put-replaces 0 (map kept_before before.nodes) target.id
       (kept_before target) placed_node
       (rises-with_each before kept_before same_places can.are.numbers)
-      (node_at-changed before kept_before (λ n. refl) target.id
-      ∙ ap (option_map kept_before) can.target_there) refl))
+      (cc (node_at-changed before kept_before (λ n. refl) target.id, can.target_there)) refl))

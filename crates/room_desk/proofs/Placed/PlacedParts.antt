@@ -1,25 +1,17 @@
 -- The objects of rows in which one has another parent and name, and each perhaps other inherited
 -- entries.
-use Rattle.std.proofs.Common.{◌≡◌, ℕ, ◌==◌, Bool, true, cond, List, Option, Some}
-use Rattle.std.proofs.Common.{None, refl}
-use Rattle.std.specs.Prelude.{option_and_then}
-use Rattle.std.specs.List.{list_all}
-use Rattle.std.specs.Option.{option_map}
-use Rattle.std.proofs.lemmas.List.Folds.{list_all-map}
-use Rattle.room_entry.specs.Ace.{Ace}
-use Rattle.room_entry.specs.declared.object.Which.{Which}
-use Rattle.room_entry.specs.declared.object.Which.TheVariants.{Dacl, Sacl}
-use Rattle.room_rows.specs.HeldList.{Held}
-use Rattle.room_rows.specs.declared.node.Node.{Node}
-use Rattle.room_rows.specs.Content.{Content, node_at, parent_of, with_each}
-use Rattle.room_rows.specs.Held.{held_of, is_linked}
+use Rattle.std.proofs.Common.{◌≡◌, ℕ, ◌==◌, Bool, true, cond, List, Option, Some, None, refl, arith}
+use Rattle.std.proofs.lemmas.{List.Folds.list_all-map, Bool.Decides.nat_tests}
+use Rattle.std.specs.{List.list_all, Option.option_map}
+use Rattle.room_entry.specs.{Ace.Ace, declared.object.Which.{Which, TheVariants.{Dacl, Sacl}}}
+use Rattle.room_rows.specs.{HeldList.Held, declared.node.Node.Node, Content.{Content, node_at}}
+use Rattle.room_rows.specs.{Content.{parent_of, with_each}, Held.{held_of, is_linked}}
 use Rattle.room_rows.specs.Keep.{with_place}
 use Rattle.room_rows.proofs.Frames.{Rises, node_at-number}
 use Rattle.room_inherit.proofs.Children.{Apart, apart_rising, each_there, each_found}
 use Rattle.room_inherit.proofs.Ends.{each_all}
 use Rattle.room_entry.proofs.Facts.Members.{all_each}
 use Rattle.room_desk.proofs.Placed.Climbing.{node_at-changed}
-use Rattle.std.proofs.Common.{arith}
 
 -- ---- the change of one object
 
@@ -70,34 +62,24 @@ module _ (content : Content) (rises : Rises content) where
     -- the objects afterwards pass a test if what each becomes does
     pub all_after : (test : Node → Bool) → ((n : Node) → There n → test (change n) ≡ true)
         → list_all test after.nodes ≡ true
-    all_after test each =
-        rw list_all-map (all_each _ content.nodes (each_there _ content.nodes apart each))
+    all_after test each = search (all_each, apart, each_there, list_all-map)
 
     -- what an object was before
     pub base : (id : ℕ) (m : Node) → node_at after id ≡ Some m → (n : Node) × There n
         × (m ≡ change n)
-    base id m found =
-        let at = node_at-changed content change number id in
-        let again = there_again id in grind arith
+    base id m found = grind (arith, nat_tests, node_at-changed, there_again)
 
     pub change_there : (n : Node) → There n → node_at after (change n).id ≡ Some (change n)
-    change_there n there =
-        let at = node_at-changed content change number n.id in grind (arith, number n)
+    change_there n there = grind (arith, nat_tests, node_at-changed)
 
     -- where the parent is the same, it is what the old one became
     pub parent_after : (n : Node) → (change n).parent ≡ n.parent
         → parent_of after (change n) ≡ option_map change (parent_of content n)
-    parent_after n same = rw same (on n.parent)
-      where
-        on : (parent : Option ℕ) → option_and_then (node_at after) parent
-            ≡ option_map change (option_and_then (node_at content) parent)
-        on None = refl
-        on (Some id) = node_at-changed content change number id
+    parent_after n same = grind (arith, nat_tests, node_at-changed)
 
     pub parent_found : (n above : Node) (id : ℕ) → (change n).parent ≡ Some id
         → node_at content id ≡ Some above → parent_of after (change n) ≡ Some (change above)
-    parent_found n above id is found =
-        rw (is, node_at-changed content change number id, found)
+    parent_found n above id is found = grind (arith, nat_tests, node_at-changed)
 
 -- ---- what links a list
 

@@ -1,42 +1,27 @@
 -- The rows while an object gets another place: placed, and then with one attribute after the other
 -- handed down.
-use Rattle.std.proofs.Common.{◌≡◌, ℕ, ◌==◌, true, false, not, ◌||◌, List, ◌∷◌, map}
-use Rattle.std.proofs.Common.{Option, Some, None, refl, sym, ap, subst, ◌∙◌, inl, inr}
-use Rattle.std.specs.Option.{option_map, option_map_or}
-use Rattle.std.specs.Prelude.{IsTrue}
-use Rattle.std.proofs.lemmas.Bool.{cases_Bool, and_parts, eqb-true, eq-eqb}
-use Rattle.std.proofs.lemmas.Bool.{false_from_ne_true}
-use Rattle.room_entry.specs.Ace.{Ace}
-use Rattle.room_entry.specs.declared.object.Which.{Which}
-use Rattle.room_entry.specs.declared.object.Which.TheVariants.{Dacl, Sacl}
-use Rattle.room_rows.specs.declared.node.Node.{Node}
-use Rattle.room_rows.specs.Content.{Content, node_at, parent_of, is_linked_in, is_rising}
-use Rattle.room_rows.specs.Held.{held_of, full_of, is_linked}
-use Rattle.room_rows.specs.Keep.{Places, with_content, with_inh, with_place}
-use Rattle.room_rows.specs.Rows.{Rows}
-use Rattle.room_rows.proofs.InPlace.{with_each-with_each}
-use Rattle.room_rows.proofs.SamePlace.{put-replaces, replaced, replaced_here, replaced_elsewhere}
-use Rattle.room_rows.specs.Law.{agrees, agrees_with, AllAgree}
-use Rattle.room_rows.specs.Pass.{pass}
-use Rattle.room_entry.specs.Same.{same_entries}
-use Rattle.room_rows.specs.Sound.{keeps_law}
+use Rattle.std.proofs.Common.{◌≡◌, ℕ, ◌==◌, true, false, List, ◌∷◌, map, Option, Some, None, refl}
+use Rattle.std.proofs.{Common.{sym, ap, subst, ◌∙◌, inl, inr, arith}, lemmas.Bool.cases_Bool}
+use Rattle.std.proofs.lemmas.Bool.{and_parts, eq-eqb, Decides.nat_tests}
+use Rattle.std.specs.{Option.{option_map, option_map_or}, Prelude.IsTrue}
+use Rattle.room_entry.specs.{Ace.Ace, declared.object.Which.{Which, TheVariants.{Dacl, Sacl}}}
+use Rattle.room_rows.specs.{declared.node.Node.Node, Content.{Content, node_at, parent_of}}
+use Rattle.room_rows.specs.{Content.{is_linked_in, is_rising}, Held.held_of, Keep.Places}
+use Rattle.room_rows.specs.{Keep.{with_content, with_place}, Rows.Rows, Law.{agrees, agrees_with}}
+use Rattle.room_rows.specs.{Law.AllAgree, Sound.keeps_law}
+use Rattle.room_rows.proofs.{InPlace.with_each-with_each, SamePlace.{put-replaces, replaced}}
+use Rattle.room_rows.proofs.SamePlace.{replaced_here, replaced_elsewhere}
 use Rattle.room_inherit.specs.Spread.{with_lists}
-use Rattle.room_inherit.proofs.Children.{each_found, each_there}
-use Rattle.room_inherit.proofs.Ends.{each_all}
+use Rattle.room_inherit.proofs.{Children.{each_found, each_there}, Ends.each_all}
 use Rattle.room_inherit.proofs.Renewing.{map_agree, map_map}
 use Rattle.room_desk.specs.Moving.{CanPlace, CanRenew, IsPlaced, HasRenewedLists}
-use Rattle.room_desk.proofs.Placed.Climbing.{past_reaches}
-use Rattle.room_desk.proofs.Placed.PlacedLinks.{linked_any}
-use Rattle.room_desk.proofs.Placed.PlacedMeaning.{means_placed}
-use Rattle.room_desk.proofs.Placed.PlacedParts.{apart as all_apart, base, change_there, lists}
-use Rattle.room_desk.proofs.Placed.PlacedParts.{placed_held}
+use Rattle.room_desk.proofs.Placed.{Climbing.past_reaches, PlacedLinks.linked_any}
+use Rattle.room_desk.proofs.Placed.{PlacedMeaning.means_placed, PlacedParts.apart as all_apart}
+use Rattle.room_desk.proofs.Placed.PlacedParts.{base, change_there, lists, placed_held}
 use Rattle.room_desk.proofs.Placed.PlacedTree.{above_elsewhere, above_here, change, elsewhere}
 use Rattle.room_desk.proofs.Placed.PlacedTree.{faultless, here, is_target, kind, new, number}
-use Rattle.room_desk.proofs.Placed.PlacedTree.{passes_new, passes_old}
+use Rattle.room_desk.proofs.Placed.{PlacedTree.{passes_new, passes_old}, SoundPlaced.sound_placed}
 use Rattle.room_sound.proofs.SoundParts.{none_unreadable, sound_parts}
-use Rattle.room_desk.proofs.Placed.SoundPlaced.{sound_placed}
-use Rattle.std.proofs.Common.{arith}
-use Rattle.std.proofs.lemmas.Bool.Decides.{nat_tests}
 
 module _ (old : Rows) (target folder : Node) (name : List ℕ)
     (can : CanPlace target folder name old) where
@@ -102,10 +87,7 @@ module _ (old : Rows) (target folder : Node) (name : List ℕ)
 
     agrees_moved : (n : Node) → node_at before n.id ≡ Some n → (n.id == target.id) ≡ false
         → agrees (state d s).read which (moved d s n) ≡ true
-    agrees_moved n there isnt =
-        ap (λ o. option_map_or (agrees_with which (moved d s n)) o true)
-        (above_elsewhere old target folder name can d s n isnt) ∙ on (parent_of before n)
-        ∙ agreed n there
+    agrees_moved n there isnt = search (above_elsewhere, agreed, on)
       where
         on : (o : Option Node)
             → option_map_or (agrees_with which (moved d s n)) (option_map (moved d s) o) true
@@ -123,17 +105,21 @@ module _ (old : Rows) (target folder : Node) (name : List ℕ)
       readable = none_unreadable old (sound_parts old can.sound);
       there = moved d s target;
       there_is =
-          ap (node_at (state d s).read) (sym (number old target folder name can d s target))
-          ∙ change_there before can.are.numbers (moved d s)
-          (number old target folder name can d s) target can.target_there;
+          cc (
+            number old target folder name can d s target,
+            change_there before can.are.numbers (moved d s) (number old target folder name can d s)
+                target can.target_there,
+          );
       there_held = held_same target;
       there_kind = kind old target folder name can d s target;
       there_parent = here old target folder name can d s target (eq-eqb target.id target.id refl);
       above = moved d s folder;
       above_is =
-          ap (node_at (state d s).read) (sym (number old target folder name can d s folder))
-          ∙ change_there before can.are.numbers (moved d s)
-          (number old target folder name can d s) folder can.folder_there;
+          cc (
+            number old target folder name can d s folder,
+            change_there before can.are.numbers (moved d s) (number old target folder name can d s)
+                folder can.folder_there,
+          );
       above_held = held_same folder;
       apart = apart;
       steps = can.steps;
@@ -145,12 +131,7 @@ module _ (old : Rows) (target folder : Node) (name : List ℕ)
       others = λ m found isnt.
           let was = base before can.are.numbers (moved d s)
           (number old target folder name can d s) m.id m found in
-          ap (agrees (state d s).read which) was.2
-          ∙ agrees_moved was.0 was.1
-          (false_from_ne_true (was.0.id == target.id)
-          (λ is. absurd
-          (isnt (ap (λ (x : Node). x.id) was.2 ∙ number old target folder name can d s was.0
-          ∙ eqb-true was.0.id target.id is))));
+          grind (arith, nat_tests, agrees_moved, number);
     }
 
   -- ---- one attribute after the other
@@ -158,14 +139,12 @@ module _ (old : Rows) (target folder : Node) (name : List ℕ)
   pub second_dacl : (l : Node → List Ace) (d s : Node → List Ace)
       → with_content (state d s) (with_lists Dacl l (state d s).read)
       ≡ state (λ n. l (moved d s n)) s
-  second_dacl l d s =
-      ap (with_content old) (with_each-with_each before (moved d s) (λ n. with_inh Dacl (l n) n))
+  second_dacl l d s = search (with_each-with_each)
 
   pub second_sacl : (l : Node → List Ace) (d s : Node → List Ace)
       → with_content (state d s) (with_lists Sacl l (state d s).read)
       ≡ state d (λ n. l (moved d s n))
-  second_sacl l d s =
-      ap (with_content old) (with_each-with_each before (moved d s) (λ n. with_inh Sacl (l n) n))
+  second_sacl l d s = search (with_each-with_each)
 
   module _ (mid last : Rows) (first : HasRenewedLists Dacl (state own_dacl own_sacl) mid) where
     abbrev new_dacl : Node → List Ace
@@ -175,9 +154,7 @@ module _ (old : Rows) (target folder : Node) (name : List ℕ)
     mid_is = first.becomes ∙ second_dacl first.lists own_dacl own_sacl
 
     pub can_renew_sacl : CanRenew Sacl target folder mid
-    can_renew_sacl =
-        subst (λ (r : Rows). CanRenew Sacl target folder r) (sym mid_is)
-        (can_renew Sacl new_dacl own_sacl (λ n. refl))
+    can_renew_sacl = search (can_renew, mid_is)
 
     module _ (second : HasRenewedLists Sacl (state new_dacl own_sacl) last) where
       abbrev new_sacl : Node → List Ace
@@ -196,13 +173,13 @@ module _ (old : Rows) (target folder : Node) (name : List ℕ)
           → is_linked_in (state new_dacl new_sacl).read which (moved new_dacl new_sacl n) ≡ false
           → lists target.id folder.id name new_dacl new_sacl which n ≡ (held_of which n).inh
       kept Dacl n there unlinked =
-          first.kept (moved own_dacl own_sacl n) (there_at own_dacl own_sacl n there)
-          (linked_any old target folder name can own_dacl own_sacl new_dacl new_sacl Dacl n
-          ∙ unlinked)
+          cc (first.kept (moved own_dacl own_sacl n) (there_at own_dacl own_sacl n there)
+          (linked_any old target folder name can own_dacl own_sacl new_dacl new_sacl Dacl n ∙
+          unlinked))
       kept Sacl n there unlinked =
-          second.kept (moved new_dacl own_sacl n) (there_at new_dacl own_sacl n there)
-          (linked_any old target folder name can new_dacl own_sacl new_dacl new_sacl Sacl n
-          ∙ unlinked)
+          cc (second.kept (moved new_dacl own_sacl n) (there_at new_dacl own_sacl n there)
+          (linked_any old target folder name can new_dacl own_sacl new_dacl new_sacl Sacl n ∙
+          unlinked))
 
       -- the other attribute doesn't matter to the law
       agrees_dacl : (n : Node)
@@ -216,22 +193,18 @@ module _ (old : Rows) (target folder : Node) (name : List ℕ)
             ∙ sym (ap (λ o. option_map_or (agrees_with Dacl (moved new_dacl own_sacl n)) o true)
             (above_here old target folder name can new_dacl own_sacl n is)) ∙ holds
         | inr isnt ↦
-            ap (λ o. option_map_or (agrees_with Dacl (moved new_dacl new_sacl n)) o true)
-            (above_elsewhere old target folder name can new_dacl new_sacl n isnt)
-            ∙ on (parent_of before n)
-            ∙ sym (ap (λ o. option_map_or (agrees_with Dacl (moved new_dacl own_sacl n)) o true)
-            (above_elsewhere old target folder name can new_dacl own_sacl n isnt)) ∙ holds
+            cc (
+              above_elsewhere old target folder name can new_dacl new_sacl n isnt,
+              on (parent_of before n),
+              above_elsewhere old target folder name can new_dacl own_sacl n isnt,
+              holds,
+            )
       ]
         where
           either : (n p : Node)
               → agrees_with Dacl (moved new_dacl new_sacl n) (moved new_dacl new_sacl p)
               ≡ agrees_with Dacl (moved new_dacl own_sacl n) (moved new_dacl own_sacl p)
-          either n p =
-              ap (λ k. not (is_linked (moved new_dacl own_sacl n).dacl
-              (Some (moved new_dacl own_sacl p).dacl))
-              || same_entries (new_dacl n) (pass k (full_of (moved new_dacl own_sacl p).dacl)))
-              (kind old target folder name can new_dacl new_sacl n
-              ∙ sym (kind old target folder name can new_dacl own_sacl n))
+          either n p = search (kind)
 
           on : (o : Option Node)
               → option_map_or (agrees_with Dacl (moved new_dacl new_sacl n))
@@ -242,10 +215,7 @@ module _ (old : Rows) (target folder : Node) (name : List ℕ)
           on (Some p) = either n p
 
       law : (which : Which) → AllAgree (state new_dacl new_sacl).read which
-      law Dacl =
-          passes_new old target folder name can new_dacl new_sacl
-          (agrees (state new_dacl new_sacl).read Dacl)
-          (λ n there. agrees_dacl n (agreed_at n there))
+      law Dacl = search (agreed_at, agrees_dacl, passes_new)
         where
           agreed_at : (n : Node) → node_at before n.id ≡ Some n
               → agrees (state new_dacl own_sacl).read Dacl (moved new_dacl own_sacl n) ≡ true
@@ -260,7 +230,4 @@ module _ (old : Rows) (target folder : Node) (name : List ℕ)
       law Sacl = subst (λ (r : Rows). AllAgree r.read Sacl) last_is second.law
 
       pub is_placed : IsPlaced target folder name old last
-      is_placed = subst (λ (r : Rows). IsPlaced target folder name old r) (sym last_is) (record {
-        means = means_placed old target folder name can new_dacl new_sacl kept;
-        sound = sound_placed old target folder name can new_dacl new_sacl kept law;
-      })
+      is_placed = search (kept, last_is, law, means_placed, sound_placed)

@@ -1,36 +1,25 @@
 -- The tree of rows stays sound where an object gets another place.
-use Rattle.std.proofs.Common.{◌≡◌, ℕ, ◌==◌, Bool, true, false, not, ◌&&◌, List, [], ◌∷◌}
-use Rattle.std.proofs.Common.{map, filter, length, Some, None, refl, sym, ◌∙◌, inl, inr}
-use Rattle.std.proofs.Common.{arith}
-use Rattle.std.specs.Prelude.{nat_lt}
-use Rattle.std.specs.List.{find, list_all, list_any, AllByRecursion as Each}
+use Rattle.std.proofs.Common.{◌≡◌, ℕ, ◌==◌, Bool, true, false, not, ◌&&◌, List, [], ◌∷◌, map}
+use Rattle.std.proofs.Common.{filter, length, Some, None, refl, sym, ◌∙◌, inl, inr, arith}
+use Rattle.std.proofs.lemmas.{Bool.{cases_Bool, Decides.nat_tests}, List.Folds.list_all-map}
+use Rattle.std.specs.{Prelude.nat_lt, List.{find, list_all, list_any, AllByRecursion as Each}}
 use Rattle.std.specs.Option.{option_map}
-use Rattle.std.proofs.lemmas.Bool.{cases_Bool}
-use Rattle.std.proofs.lemmas.List.Folds.{list_all-map}
-use Rattle.room_entry.specs.Ace.{Ace}
-use Rattle.room_entry.specs.Pieces.{same_text}
-use Rattle.room_entry.proofs.Alike.{text_itself}
-use Rattle.room_entry.proofs.Texts.{same_text-true}
-use Rattle.room_rows.specs.declared.node.Node.{Node}
-use Rattle.room_rows.specs.Content.{Content, node_at, parent_of, has_parent, is_root}
-use Rattle.room_rows.specs.Content.{has_folder_above, with_each}
-use Rattle.room_rows.specs.Keep.{with_content}
-use Rattle.room_rows.specs.Rows.{Rows, AreRows, numbers_of}
+use Rattle.room_entry.specs.{Ace.Ace, Pieces.same_text}
+use Rattle.room_entry.proofs.{Alike.text_itself, Texts.same_text-true, Facts.Members.any_map}
+use Rattle.room_entry.proofs.Facts.Members.{any_none, each_fails}
+use Rattle.room_rows.specs.{declared.node.Node.Node, Content.{Content, node_at, parent_of}}
+use Rattle.room_rows.specs.Content.{has_parent, is_root, has_folder_above, with_each}
+use Rattle.room_rows.specs.{Keep.with_content, Rows.{Rows, AreRows, numbers_of}, Sound.has_bad_list}
+use Rattle.room_rows.specs.Sound.{has_sound_body, has_sound_lists, has_sound_name, reaches}
+use Rattle.room_rows.specs.Sound.{same_place}
 use Rattle.room_inherit.specs.Laws.{HasNoFault}
-use Rattle.room_rows.specs.Sound.{has_bad_list, has_sound_body, has_sound_lists}
-use Rattle.room_rows.specs.Sound.{has_sound_name, reaches, same_place}
-use Rattle.room_inherit.proofs.Children.{each_found, each_there}
-use Rattle.room_inherit.proofs.Enough.{enough_steps}
-use Rattle.room_entry.proofs.Facts.Members.{any_map, any_none, each_fails}
+use Rattle.room_inherit.proofs.{Children.{each_found, each_there}, Enough.enough_steps}
 use Rattle.room_inherit.proofs.NoFault.{no_fault}
 use Rattle.room_desk.specs.Moving.{CanPlace}
-use Rattle.room_desk.proofs.Placed.Climbing.{past_reaches, reaches_again}
-use Rattle.room_desk.proofs.Placed.PlacedParts.{all_after, apart}
-use Rattle.room_desk.proofs.Placed.PlacedParts.{parent_after, parent_found, passes}
-use Rattle.room_desk.proofs.Placed.PlacedParts.{placed, placed_kind}
-use Rattle.room_desk.proofs.Placed.PlacedParts.{placed_number}
+use Rattle.room_desk.proofs.Placed.{Climbing.{past_reaches, reaches_again}, PlacedParts.all_after}
+use Rattle.room_desk.proofs.Placed.PlacedParts.{apart, parent_after, parent_found, passes, placed}
+use Rattle.room_desk.proofs.Placed.PlacedParts.{placed_kind, placed_number}
 use Rattle.room_sound.proofs.SoundParts.{none_numbered}
-use Rattle.std.proofs.lemmas.Bool.Decides.{nat_tests}
 
 -- ---- rows whose numbers are all readable
 
@@ -182,9 +171,7 @@ module _ (old : Rows) (target folder : Node) (name : List ℕ) (can : CanPlace t
 
   none_earlier : (n : Node) → ((x : Node) → IsThere x → earlier_after n (change x) ≡ false)
       → list_any (earlier_after n) after.nodes ≡ false
-  none_earlier n each =
-      any_map _ change content.nodes
-      ∙ any_none _ content.nodes (each_there _ content.nodes (apart content can.are.numbers) each)
+  none_earlier n each = search (any_map, any_none, apart, each_there)
 
   not_before : (x n : Node) → (x.id == target.id) ≡ true → (n.id == target.id) ≡ true
       → nat_lt (change x).id (change n).id ≡ false
@@ -196,12 +183,7 @@ module _ (old : Rows) (target folder : Node) (name : List ℕ) (can : CanPlace t
   not_earlier : (n x : Node) → IsThere n → IsThere x
       → ((n.id == target.id) ≡ false → earlier n x ≡ false) → earlier_after n (change x) ≡ false
   not_earlier n x there x_there was =
-      let first = not_before x n in
-      let second = target_apart x n x_there in
-      let third = apart_from_target x n there in
-      let fourth = same_places x n in
-      let ids : ((change x).id ≡ x.id) × ((change n).id ≡ n.id) = (number x, number n) in
-      grind (arith, first, second, third, fourth, was)
+      grind (arith, nat_tests, apart_from_target, not_before, number, same_places, target_apart)
 
   named : (n : Node) → IsThere n → has_sound_name content n ≡ true
       → has_sound_name after (change n) ≡ true
@@ -213,12 +195,9 @@ module _ (old : Rows) (target folder : Node) (name : List ℕ) (can : CanPlace t
       grind (arith, none, can.is_name)
 
   pub names_after : list_all (has_sound_name after) after.nodes ≡ true
-  names_after = passes_new _ (λ n there.
-      named n there (passes_old (has_sound_name content) faultless.names n there))
+  names_after = grind (arith, nat_tests, faultless, named, passes_new, passes_old)
 
   -- ---- bytes
 
   pub bodies_after : list_all (has_sound_body after) after.nodes ≡ true
-  bodies_after = passes_new _ (λ n there.
-      let was = passes_old (has_sound_body content) faultless.bodies n there in
-      rw (number n) (rw (kind n) was))
+  bodies_after = grind (arith, nat_tests, faultless, kind, number, passes_new, passes_old)

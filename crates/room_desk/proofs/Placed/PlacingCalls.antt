@@ -1,36 +1,26 @@
 -- The calls that give an object another place.
-use Rattle.std.proofs.Common.{◌≡◌, ℕ, ◌==◌, Bool, true, false, cond, List, Some, refl, sym, ap}
-use Rattle.std.proofs.Common.{subst, ◌∙◌, inl, inr}
-use Rattle.std.specs.Option.{option_map}
-use Rattle.room_entry.specs.Ace.{Ace}
-use Rattle.room_entry.specs.declared.object.Which.{Which}
-use Rattle.room_entry.specs.declared.object.Which.TheVariants.{Dacl, Sacl}
-use Rattle.room_rows.specs.declared.node.Node.{Node}
-use Rattle.room_rows.specs.Content.{Content, node_at, with_node}
-use Rattle.room_rows.specs.Held.{held_of, full_of, is_linked}
-use Rattle.room_rows.specs.Keep.{Changes, IsUnreadable, Places, with_content, with_inh, with_place}
-use Rattle.room_rows.specs.Rows.{Rows}
-use Rattle.room_rows.proofs.Frames.{Rises}
-use Rattle.room_rows.proofs.InPlace.{keeps_places, node_at-with_each, place-with_inh}
-use Rattle.room_rows.proofs.InPlace.{rises-with_each, with_inh-id}
+use Rattle.std.proofs.Common.{◌≡◌, ℕ, ◌==◌, true, false, cond, List, Some, refl, sym, ap, subst}
+use Rattle.std.proofs.{Common.{◌∙◌, inl, inr, arith}, lemmas.Bool.Decides.nat_tests}
+use Rattle.room_entry.specs.{Ace.Ace, declared.object.Which.{Which, TheVariants.{Dacl, Sacl}}}
+use Rattle.room_rows.specs.{declared.node.Node.Node, Content.{Content, node_at, with_node}}
+use Rattle.room_rows.specs.{Held.{held_of, full_of, is_linked}, Keep.{Changes, IsUnreadable}}
+use Rattle.room_rows.specs.{Keep.{Places, with_content, with_inh, with_place}, Rows.Rows, Pass.pass}
+use Rattle.room_rows.proofs.{Frames.Rises, InPlace.{keeps_places, node_at-with_each}}
+use Rattle.room_rows.proofs.InPlace.{place-with_inh, rises-with_each, with_inh-id}
 use Rattle.room_rows.proofs.SamePlace.{IsSamePlace, same_place}
 use Rattle.room_inherit.proofs.Kinship.{with_own}
-use Rattle.room_rows.specs.Pass.{pass}
-use Rattle.room_machine.specs.declared.reply.Reply.TheVariants.{Done}
-use Rattle.room_machine.specs.Changed.{HandsDown, Relinks, inh_in, with_one}
-use Rattle.room_desk.specs.Carrying.{HasLoop, IsCarriedDown, IsRooted}
-use Rattle.room_desk.specs.Moving.{CanGo, CanPlace, CanRenew, FailsToPlace, FailsToRenew}
-use Rattle.room_desk.specs.Moving.{HasListOf, HasRenewedLists, KeepsRoot, PlacesAt, Renews}
-use Rattle.room_desk.specs.Moving.{TakesPassed}
+use Rattle.room_machine.specs.{declared.reply.Reply.TheVariants.Done, Changed.{HandsDown, Relinks}}
+use Rattle.room_machine.specs.Changed.{inh_in, with_one}
+use Rattle.room_desk.specs.{Carrying.{HasLoop, IsCarriedDown, IsRooted}, Moving.{CanGo, CanPlace}}
+use Rattle.room_desk.specs.Moving.{CanRenew, FailsToPlace, FailsToRenew, HasListOf, HasRenewedLists}
+use Rattle.room_desk.specs.Moving.{KeepsRoot, PlacesAt, Renews, TakesPassed}
 use Rattle.room_desk.proofs.Lists.HandedDown.{nothing_handed, one_stays, only_read, put_one}
-use Rattle.room_desk.proofs.Lists.HandedDown.{spread_handed}
-use Rattle.room_desk.proofs.Sound.Anchored.{changed_unread, here_after, past_up, rises_after}
-use Rattle.room_desk.proofs.Sound.Anchored.{rooted_changed, rooted_spread, still_unread}
+use Rattle.room_desk.proofs.{Lists.HandedDown.spread_handed, Sound.Anchored.changed_unread}
+use Rattle.room_desk.proofs.Sound.Anchored.{here_after, past_up, rises_after, rooted_changed}
+use Rattle.room_desk.proofs.Sound.Anchored.{rooted_spread, still_unread}
 use Rattle.room_desk.proofs.Placed.PlacedStates.{can_renew, can_renew_sacl, first_state, is_placed}
 use Rattle.room_desk.proofs.Placed.PlacedStates.{mid_is, own_dacl, own_sacl, state}
 use Rattle.room_desk.proofs.Placed.Relinked.{not_linked, renewed, stored_already}
-use Rattle.std.proofs.Common.{arith}
-use Rattle.std.proofs.lemmas.Bool.Decides.{nat_tests}
 
 -- ---- one list
 
@@ -60,8 +50,7 @@ unlinked_renews which target folder old new isnt same = record {
       (not_linked which target folder old can isnt);
   keeps = keeps_all target.id old new same;
   relinks = λ has. relinks_still which target folder old new has same
-      (ap (λ t. cond t (pass target.kind (full_of (held_of which folder)))
-      (held_of which target).inh) isnt);
+      (cc (isnt));
 }
 
 taken : (which : Which) (target folder : Node) (passed : List Ace) (old new : Rows)
@@ -77,26 +66,24 @@ taken which target folder passed old new linked is (inl stays) = record {
       (inh_linked which target folder linked ∙ sym is ∙ stays.0);
 }
 taken which target folder passed old new linked is (inr takes) = record {
-  renewed =
-      λ can. renewed which target folder old can passed is linked takes.0 new takes.2.0 takes.1
-      takes.2.1;
+  renewed = search (renewed);
   keeps = λ rooted.
       let first = rooted_changed target.id old takes.0 (with_inh which passed)
       (λ n. (place-with_inh which passed n).number)
       (λ n. (place-with_inh which passed n).parent) takes.1 rooted in
       let second = rooted_spread which target.id target.id takes.2.0 takes.0 new takes.2.1
       (first.rooted rooted) in
-      record {
-        unreadable = second.unreadable ∙ first.unreadable;
-        rooted = λ _. second.rooted (first.rooted rooted);
-      };
+      grind (arith, nat_tests);
   relinks = λ has.
       subst (λ (c : Content). HandsDown which target.id c new.read)
-      (ap (λ (r : Rows). r.read) (takes.1 has.node has.there)
-      ∙ put_one old.read has.rises target.id has.node has.there (with_inh which passed)
-      (with_inh-id which passed)
-      ∙ ap (λ (l : List Ace). with_one target.id (with_inh which l) old.read)
-      (is ∙ sym (inh_linked which target folder linked)))
+      (
+      cc (
+        takes.1 has.node has.there,
+        put_one old.read has.rises target.id has.node has.there (with_inh which passed)
+            (with_inh-id which passed),
+        is,
+        inh_linked which target folder linked,
+      ))
       (spread_handed which target.id takes.2.0 takes.0 new takes.2.1);
 }
 
@@ -113,8 +100,7 @@ pub taken_renews : (which : Which) (target folder : Node) (passed : List Ace) (o
     → passed ≡ pass target.kind (full_of (held_of which folder))
     → TakesPassed which target passed mid tt new → Renews which target folder old tt new
 taken_renews which target folder passed old mid new same linked is takes =
-    subst (λ (r : Rows). Renews which target folder r tt new) same
-    (taken which target folder passed mid new linked is takes)
+    grind (arith, nat_tests, taken)
 
 pub taken_as : (which : Which) (target : Node) (entries passed : List Ace) (old mid new : Rows)
     → entries ≡ passed → Changes target.id (with_inh which entries) old mid
@@ -124,13 +110,11 @@ taken_as which target entries passed old mid new same changes down = grind (arit
 -- a row that can't be read, before anything is written
 pub unrenewed : (target : Node) (old mid : Rows) (row : ℕ) → mid ≡ old → IsUnreadable mid row
     → FailsToRenew target old row
-unrenewed target old mid row same unread rooted =
-    subst (λ (r : Rows). IsUnreadable r row) same unread
+unrenewed target old mid row same unread rooted = grind (arith, nat_tests)
 
 pub renewing_before : (target : Node) (old mid : Rows) (row : ℕ) → mid ≡ old
     → FailsToRenew target mid row → FailsToRenew target old row
-renewing_before target old mid row same fails =
-    subst (λ (r : Rows). FailsToRenew target r row) same fails
+renewing_before target old mid row same fails = grind (arith, nat_tests)
 
 -- ---- the place, and both lists
 
@@ -145,8 +129,7 @@ module _ (target folder : Node) (name : List ℕ) where
 
   stays_unread : (old mid : Rows) (row : ℕ) → Stays old mid → FailsToRenew target mid row
       → FailsToPlace target folder name old row
-  stays_unread old mid row stays fails can = let rooted = stays can in
-      still_unread old mid row rooted.unreadable (fails rooted.rooted)
+  stays_unread old mid row stays fails can = grind (arith, nat_tests, still_unread)
 
   pub placed_stays : (old mid : Rows) → Places target.id folder.id name old mid → Stays old mid
   placed_stays old mid places can =
@@ -155,18 +138,11 @@ module _ (target folder : Node) (name : List ℕ) where
       record {
         unreadable = ap (λ (r : Rows). r.unreadable) becomes;
         rooted = subst (IsRooted target.id) (sym becomes) (record {
-          rises =
-              rises_after old.read can.are.numbers target
-              (with_place folder.id name target) can.target_there refl;
+          rises = search (rises_after);
           node = with_place folder.id name target;
-          there =
-              here_after old.read can.are.numbers target
-              (with_place folder.id name target) can.target_there refl;
+          there = search (here_after);
           steps = can.steps;
-          reaches =
-              past_up old.read can.are.numbers target
-              (with_place folder.id name target) can.target_there refl can.steps
-              (Some folder.id) can.past;
+          reaches = search (past_up);
         });
       }
 
@@ -178,8 +154,7 @@ module _ (target folder : Node) (name : List ℕ) where
   pub is_at : (old mid : Rows) → Places target.id folder.id name old mid
       → CanGo target folder name old
       → mid ≡ with_content old (with_node old.read (with_place folder.id name target))
-  is_at old mid places can =
-      places (folder, can.folder_there, can.folder_is) can.is_free target can.target_there
+  is_at old mid places can = grind (arith, nat_tests)
 
   -- it has both lists at its new place
   pub placed_has : (which : Which) (old mid : Rows) → Places target.id folder.id name old mid
@@ -208,11 +183,15 @@ module _ (target folder : Node) (name : List ℕ) where
         (rises-with_each old single (keeps_places old single places_single)
         (subst Rises is has.rises)));
     node = down (single has.node);
-    there = ap (λ (c : Content). node_at c target.id) (now ∙ hands.becomes)
-        ∙ node_at-with_each one down (keeps_places one down places_down) target.id
-        ∙ ap (option_map down)
-        (node_at-with_each old single (keeps_places old single places_single) target.id
-        ∙ ap (option_map single) (ap (λ (c : Content). node_at c target.id) (sym is) ∙ has.there));
+    there =
+        cc (
+          now,
+          hands.becomes,
+          node_at-with_each one down (keeps_places one down places_down) target.id,
+          node_at-with_each old single (keeps_places old single places_single) target.id,
+          is,
+          has.there,
+        );
     held = single_sacl has.node ∙ has.held;
   }
     where
@@ -232,18 +211,10 @@ module _ (target folder : Node) (name : List ℕ) where
       places_down n = place-with_inh Dacl (hands.lists n) n
 
       places_single : (n : Node) → IsSamePlace (single n) n
-      places_single n = on (n.id == target.id)
-        where
-          on : (t : Bool) → IsSamePlace (cond t (first n) n) n
-          on true = place-with_inh Dacl (inh_in Dacl folder target) n
-          on false = same_place n
+      places_single n = grind (arith, nat_tests, place-with_inh, same_place)
 
       single_sacl : (n : Node) → (single n).sacl ≡ n.sacl
-      single_sacl n = on (n.id == target.id)
-        where
-          on : (t : Bool) → (cond t (first n) n).sacl ≡ n.sacl
-          on true = refl
-          on false = refl
+      single_sacl n = grind (arith, nat_tests)
 
   pub unplaced : (old mid : Rows) (row : ℕ) → mid ≡ old → IsUnreadable mid row
       → FailsToPlace target folder name old row
@@ -273,8 +244,7 @@ module _ (target folder : Node) (name : List ℕ) where
 
   pub first_fails : (old mid : Rows) (row : ℕ) → Places target.id folder.id name old mid
       → FailsToRenew target mid row → FailsToPlace target folder name old row
-  first_fails old mid row places fails =
-      stays_unread old mid row (placed_stays old mid places) fails
+  first_fails old mid row places fails = search (placed_stays, stays_unread)
 
   pub first_done : (old mid new : Rows) → Places target.id folder.id name old mid
       → Renews Dacl target folder mid tt new → FirstDone old new
@@ -284,9 +254,7 @@ module _ (target folder : Node) (name : List ℕ) where
         (first_state old target folder name can mid places)
         (renews.renewed (renews_dacl old mid places can));
     stays = renewed_stays Dacl old mid new (placed_stays old mid places) renews;
-    relinks = λ can.
-        subst (λ (r : Rows). Relinks Dacl folder target r.read new.read) (is_at old mid places can)
-        (renews.relinks (placed_has Dacl old mid places can));
+    relinks = grind (arith, nat_tests, is_at, placed_has);
     sacl = λ can. sacl_after mid.read new.read mid (placed_has Sacl old mid places can) refl
         (renews.relinks (placed_has Dacl old mid places can)) new refl;
   }
@@ -304,8 +272,5 @@ module _ (target folder : Node) (name : List ℕ) where
         (subst (λ (r : Rows). HasRenewedLists Sacl r new)
         (mid_is old target folder name can mid new (first.renewed can))
         (renews.renewed (can_renew_sacl old target folder name can mid new (first.renewed can)))),
-    λ can. (
-      (mid.read, first.relinks can, renews.relinks (first.sacl can)),
-      only_read old new (renewed_stays Sacl old mid new first.stays renews can).unreadable,
-    ),
+    grind (arith, nat_tests, only_read, renewed_stays),
   )

@@ -1,39 +1,26 @@
 -- Rows stay sound where an object gets another place, if the law holds again and lists that aren't
 -- linked are as before.
 use Rattle.std.proofs.Common.{◌≡◌, ℕ, ◌==◌, Bool, true, false, cond, List, [], filter, length, Some}
-use Rattle.std.proofs.Common.{None, sym, ap, ◌∙◌}
-use Rattle.std.specs.Prelude.{is_none, option_and_then}
+use Rattle.std.proofs.{Common.{None, sym, ap, ◌∙◌, arith}, lemmas.Bool.{and_from, and_parts}}
+use Rattle.std.proofs.lemmas.{Bool.Decides.nat_tests, List.Folds.list_all-map}
 use Rattle.std.specs.List.{list_all}
-use Rattle.std.specs.Option.{option_map}
-use Rattle.std.proofs.lemmas.Bool.{and_from, and_parts, false≢true, false_from_ne_true}
-use Rattle.std.proofs.lemmas.List.Folds.{list_all-map}
-use Rattle.room_entry.specs.Ace.{Ace}
-use Rattle.room_entry.specs.declared.object.Which.{Which}
-use Rattle.room_entry.specs.declared.object.Which.TheVariants.{Dacl, Sacl}
-use Rattle.room_rows.specs.HeldList.{Held}
-use Rattle.room_rows.specs.declared.node.Node.{Node}
-use Rattle.room_rows.specs.Content.{Content, node_at, is_root, is_linked_in}
-use Rattle.room_rows.specs.Held.{held_of, is_linked}
-use Rattle.room_rows.specs.Keep.{with_place}
-use Rattle.room_rows.specs.Rows.{Rows}
+use Rattle.room_entry.specs.{Ace.Ace, declared.object.Which.{Which, TheVariants.{Dacl, Sacl}}}
+use Rattle.room_rows.specs.{declared.node.Node.Node, Content.{Content, node_at, is_root}}
+use Rattle.room_rows.specs.{Content.is_linked_in, Held.held_of, Keep.with_place, Rows.Rows}
+use Rattle.room_rows.specs.{Law.{agrees, AllAgree}, Sound.{AreSound, bad_root, has_sound_lists}}
+use Rattle.room_rows.specs.Sound.{is_sound_held, keeps_law, reaches}
 use Rattle.room_rows.proofs.Frames.{node_at-number, no_parent}
-use Rattle.room_rows.specs.Law.{agrees, AllAgree}
-use Rattle.room_rows.specs.Sound.{AreSound, bad_root, has_sound_lists, is_sound_held, keeps_law}
-use Rattle.room_rows.specs.Sound.{reaches}
-use Rattle.room_inherit.proofs.Children.{each_found, each_there}
-use Rattle.room_inherit.proofs.Ends.{each_all}
-use Rattle.room_entry.proofs.Facts.Members.{all_each, each_weaker}
-use Rattle.room_inherit.proofs.NoFault.{sound}
+use Rattle.room_inherit.proofs.{Children.{each_found, each_there}, Ends.each_all, NoFault.sound}
 use Rattle.room_inherit.proofs.Renewing.{each_both}
+use Rattle.room_entry.proofs.Facts.Members.{all_each, each_weaker}
 use Rattle.room_desk.specs.Moving.{CanPlace}
-use Rattle.room_desk.proofs.Placed.PlacedParts.{apart, base, lists, placed_held}
-use Rattle.room_desk.proofs.Placed.PlacedTree.{after, bodies_after, change, faultless, is_target}
-use Rattle.room_desk.proofs.Placed.PlacedTree.{kind, lists_there, names_after, new, no_bad_list}
-use Rattle.room_desk.proofs.Placed.PlacedTree.{number, parents_after, reach_after, roots_same}
-use Rattle.room_desk.proofs.Placed.PlacedTree.{same_root}
-use Rattle.room_sound.proofs.SoundParts.{none_unreadable, sound_parts}
+use Rattle.room_desk.proofs.Placed.{PlacedParts.{apart, base, lists, placed_held}, PlacedTree.after}
+use Rattle.room_desk.proofs.Placed.PlacedTree.{bodies_after, change, faultless, is_target, kind}
+use Rattle.room_desk.proofs.Placed.PlacedTree.{lists_there, names_after, new, no_bad_list, number}
+use Rattle.room_desk.proofs.Placed.PlacedTree.{parents_after, reach_after, roots_same, same_root}
 use Rattle.room_desk.proofs.Lists.ValidDown.{are_inherited, are_own, held_parts, valid_down}
 use Rattle.room_desk.proofs.Lists.Relisted.{one_list}
+use Rattle.room_sound.proofs.SoundParts.{none_unreadable, sound_parts}
 
 module _ (old : Rows) (target folder : Node) (name : List ℕ) (can : CanPlace target folder name old)
     (d s : Node → List Ace)
@@ -74,9 +61,7 @@ module _ (old : Rows) (target folder : Node) (name : List ℕ) (can : CanPlace t
 
   held_was : (which : Which) (n : Node) → node_at before n.id ≡ Some n
       → is_sound_held which n.kind (held_of which n) ≡ true
-  held_was which n there =
-      one_list which n (lists_there old readable can.are
-      (faultless old target folder name can d s) n there)
+  held_was which n there = search (faultless, lists_there, one_list, readable)
 
   -- ---- lists
 
@@ -90,15 +75,7 @@ module _ (old : Rows) (target folder : Node) (name : List ℕ) (can : CanPlace t
   own_now which m there =
       let earlier = was m.id m there in (
         (held_of which earlier.0).inh,
-        ap (λ (x : Node). is_sound_held which x.kind
-            (record (held_of which x) { inh = (held_of which earlier.0).inh })) earlier.2
-            ∙ ap
-            (λ k. is_sound_held which k
-            (record (held_of which (moved earlier.0)) { inh = (held_of which earlier.0).inh }))
-            (kind old target folder name can d s earlier.0)
-            ∙ ap (λ (h : Held). is_sound_held which earlier.0.kind
-            (record h { inh = (held_of which earlier.0).inh })) (held_now which earlier.0)
-            ∙ held_was which earlier.0 earlier.1,
+        grind (arith, nat_tests, held_now, held_was, kind),
       )
 
   unlinked_now : (which : Which) (m : Node) → node_at now m.id ≡ Some m
@@ -108,32 +85,29 @@ module _ (old : Rows) (target folder : Node) (name : List ℕ) (can : CanPlace t
       let same : lists target.id folder.id name d s which earlier.0
       ≡ (held_of which earlier.0).inh =
       kept which earlier.0 earlier.1 (sym (ap (is_linked_in now which) earlier.2) ∙ isnt) in
-      ap (λ (x : Node). is_sound_held which x.kind (held_of which x)) earlier.2
-      ∙ ap (λ k. is_sound_held which k (held_of which (moved earlier.0)))
-      (kind old target folder name can d s earlier.0)
-      ∙ ap (λ (h : Held). is_sound_held which earlier.0.kind h) (held_now which earlier.0)
-      ∙ ap (λ (l : List Ace). is_sound_held which earlier.0.kind
-      (record (held_of which earlier.0) { inh = l })) same
-      ∙ held_was which earlier.0 earlier.1
+      grind (arith, nat_tests, held_now, held_was, kind)
 
   list_now : (which : Which) (m : Node) → node_at now m.id ≡ Some m
       → is_sound_held which m.kind (held_of which m) ≡ true
   list_now which m there =
-      held_parts which m.kind (held_of which m)
-      ∙ and_from (are_own which m.kind (held_of which m).own)
-      (are_inherited which m.kind (held_of which m).inh) (own_parts m there)
-      (valid_down which now (law which)
-      (parents_after old target folder name can d s) own_parts kept_parts (length now.nodes) m there
-      (passed_now (reaches now) (reach_after old target folder name can d s) m there))
+      cc (
+        held_parts which m.kind (held_of which m),
+        and_from (are_own which m.kind (held_of which m).own)
+            (are_inherited which m.kind (held_of which m).inh) (own_parts m there)
+            (valid_down which now (law which) (parents_after old target folder name can d s)
+            own_parts
+            kept_parts (length now.nodes) m there
+            (passed_now (reaches now) (reach_after old target folder name can d s) m there)),
+      )
     where
       own_parts : (n : Node) → node_at now n.id ≡ Some n
           → are_own which n.kind (held_of which n).own ≡ true
       own_parts n found =
           let with_some = own_now which n found in
-          (and_parts (are_own which n.kind (held_of which n).own)
+          cc ((and_parts (are_own which n.kind (held_of which n).own)
           (are_inherited which n.kind with_some.0)
-          (sym (held_parts which n.kind (record (held_of which n) { inh = with_some.0 }))
-          ∙ with_some.1)).0
+          (sym (held_parts which n.kind (record (held_of which n) { inh = with_some.0 })) ∙
+          with_some.1)).0)
 
       kept_parts : (n : Node) → node_at now n.id ≡ Some n → is_linked_in now which n ≡ false
           → are_inherited which n.kind (held_of which n).inh ≡ true
@@ -144,8 +118,7 @@ module _ (old : Rows) (target folder : Node) (name : List ℕ) (can : CanPlace t
 
   lists_now : (id : ℕ) (m : Node) → node_at now id ≡ Some m → has_sound_lists m ≡ true
   lists_now id m found =
-      let there : node_at now m.id ≡ Some m = ap (node_at now) (node_at-number now id m found)
-      ∙ found in
+      let there : node_at now m.id ≡ Some m = cc (node_at-number now id m found, found) in
       and_from (is_sound_held Dacl m.kind m.dacl) (is_sound_held Sacl m.kind m.sacl)
       (list_now Dacl m there) (list_now Sacl m there)
 
@@ -154,14 +127,11 @@ module _ (old : Rows) (target folder : Node) (name : List ℕ) (can : CanPlace t
   -- it is linked to nothing, so it stays as it is
   root_stays : (n : Node) → node_at before n.id ≡ Some n → is_root n ≡ true → moved n ≡ n
   root_stays n there root =
-      let isnt : (n.id == target.id) ≡ false = false_from_ne_true (n.id == target.id)
-      (λ is. false≢true (sym (ap is_none can.has_parent)
-      ∙ ap is_root (sym (is_target old target folder name can d s n there is)) ∙ root)) in
+      let isnt : (n.id == target.id) ≡ false = grind (arith, nat_tests, is_target) in
       let none : (moved n).parent ≡ None = no_parent (moved n).parent
       (same_root old target folder name can d s n there ∙ root) in
-      let unlinked : (which : Which) → is_linked_in now which (moved n) ≡ false = λ which. ap
-      (λ p. is_linked (held_of which (moved n))
-      (option_map (held_of which) (option_and_then (node_at now) p))) none in
+      let unlinked : (which : Which) → is_linked_in now which (moved n) ≡ false =
+      grind (arith, nat_tests) in
       ap (λ b. with_lists (cond b (with_place folder.id name n) n) (d n) (s n)) isnt
       ∙ ap (λ l. with_lists n l (s n)) (kept Dacl n there (unlinked Dacl))
       ∙ ap (λ l. with_lists n n.dacl.inh l) (kept Sacl n there (unlinked Sacl))
@@ -173,9 +143,7 @@ module _ (old : Rows) (target folder : Node) (name : List ℕ) (can : CanPlace t
   root_now : bad_root (filter is_root now.nodes) ≡ None
   root_now =
       ap bad_root (roots_same moved before.nodes
-      (each_there (λ n. (is_root (moved n) ≡ is_root n)
-      × (is_root n ≡ true → moved n ≡ n)) before.nodes (apart before can.are.numbers)
-      (λ n there. (same_root old target folder name can d s n there, root_stays n there))))
+      (search (apart, each_there, root_stays, same_root)))
       ∙ (faultless old target folder name can d s).root
 
   -- ---- the law
@@ -186,17 +154,20 @@ module _ (old : Rows) (target folder : Node) (name : List ℕ) (can : CanPlace t
       (each_weaker (λ m. (agrees now Dacl m ≡ true) × (agrees now Sacl m ≡ true))
       (λ m. keeps_law now m ≡ true)
       (λ m both. and_from (agrees now Dacl m) (agrees now Sacl m) both.0 both.1) now.nodes
-      (each_both (λ m. agrees now Dacl m ≡ true) (λ m. agrees now Sacl m ≡ true) now.nodes
-      (each_all (agrees now Dacl) now.nodes (law Dacl))
-      (each_all (agrees now Sacl) now.nodes (law Sacl))))
+      (search (each_all, each_both)))
 
   pub sound_placed : AreSound rows
-  sound_placed = sound rows (record {
-    lists = no_bad_list rows readable lists_now;
-    root = root_now;
-    parents = parents_after old target folder name can d s;
-    reach = reach_after old target folder name can d s;
-    names = names_after old target folder name can d s;
-    bodies = bodies_after old target folder name can d s;
-    law = law_now;
-  })
+  sound_placed =
+      search (
+        bodies_after,
+        law_now,
+        lists,
+        lists_now,
+        names_after,
+        no_bad_list,
+        parents_after,
+        reach_after,
+        readable,
+        root_now,
+        sound,
+      )

@@ -1,26 +1,19 @@
 -- Objects whose parents lead to the root, where one object of the rows is put in the place of
 -- another.
-use Rattle.std.proofs.Common.{◌≡◌, ℕ, zero, suc, ◌==◌, Bool, true, false, not, List, [], ◌∷◌}
-use Rattle.std.proofs.Common.{map, Option, Some, None, refl, sym, ap, subst, ◌∙◌, inl, inr}
-use Rattle.std.specs.Prelude.{IsTrue}
-use Rattle.std.specs.Option.{option_map, option_map_or}
-use Rattle.std.proofs.lemmas.Bool.{and_parts, false≢true}
-use Rattle.room_entry.specs.Pieces.{is_among}
+use Rattle.std.proofs.Common.{◌≡◌, ℕ, zero, suc, ◌==◌, Bool, true, false, not, List, [], ◌∷◌, map}
+use Rattle.std.proofs.Common.{Option, Some, None, refl, sym, ap, subst, ◌∙◌, arith}
+use Rattle.std.proofs.lemmas.Bool.{and_parts, false≢true, Decides.nat_tests}
+use Rattle.std.specs.{Prelude.IsTrue, Option.{option_map, option_map_or}}
 use Rattle.room_entry.specs.declared.object.Which.{Which}
-use Rattle.room_rows.specs.declared.node.Node.{Node}
-use Rattle.room_rows.specs.Content.{Content, is_rising, node_at, reaches_root, with_each, with_node}
-use Rattle.room_rows.specs.Keep.{Changes, IsUnreadable, with_content, with_inh}
-use Rattle.room_rows.specs.Rows.{Rows, Unread}
-use Rattle.room_rows.proofs.Frames.{Rises, node_at-number}
-use Rattle.room_rows.proofs.InPlace.{place-with_inh}
+use Rattle.room_rows.specs.{declared.node.Node.Node, Content.{Content, is_rising, node_at}}
+use Rattle.room_rows.specs.{Content.{reaches_root, with_each, with_node}, Keep.Changes}
+use Rattle.room_rows.specs.{Keep.{IsUnreadable, with_content, with_inh}, Rows.Rows}
+use Rattle.room_rows.proofs.{Frames.{Rises, node_at-number}, InPlace.place-with_inh}
 use Rattle.room_rows.proofs.SamePlace.{put-replaces, replaced, replaced_elsewhere, replaced_here}
 use Rattle.room_inherit.specs.Spread.{IsSpread}
 use Rattle.room_inherit.proofs.Rooted.{rooted_no_loop}
-use Rattle.room_desk.specs.Carrying.{HasLoop, IsRooted}
-use Rattle.room_desk.specs.Moving.{KeepsRoot, goes_past}
+use Rattle.room_desk.specs.{Carrying.{HasLoop, IsRooted}, Moving.{KeepsRoot, goes_past}}
 use Rattle.room_desk.proofs.Placed.Climbing.{node_at-changed, reaches-changed, step_up}
-use Rattle.std.proofs.Common.{arith}
-use Rattle.std.proofs.lemmas.Bool.Decides.{nat_tests}
 
 numbers_same : (change : Node → Node) → ((n : Node) → (change n).id ≡ n.id) → (nodes : List Node)
     → map (λ (n : Node). n.id) (map change nodes) ≡ map (λ (n : Node). n.id) nodes
@@ -33,9 +26,7 @@ module _ (content : Content) (rises : Rises content) (node new : Node)
   after = with_node content new
 
   pub after_is : after ≡ with_each content (replaced new)
-  after_is =
-      ap (λ (nodes : List Node). record content { nodes = nodes })
-      (put-replaces 0 content.nodes node.id node new rises there number)
+  after_is = cc (put-replaces 0 content.nodes node.id node new rises there number)
 
   number_kept : (n : Node) → (replaced new n).id ≡ n.id
   number_kept n = grind (arith, nat_tests)
@@ -105,28 +96,17 @@ pub rooted_changed : (id : ℕ) (old mid : Rows) (change : Node → Node)
     → Changes id change old mid → IsRooted id old → KeepsRoot id old mid
 rooted_changed id old mid change number parent changes rooted =
     let named : rooted.node.id ≡ id = node_at-number old.read id rooted.node rooted.there in
-    let found : node_at old.read rooted.node.id ≡ Some rooted.node = ap (node_at old.read) named
-    ∙ rooted.there in
+    let found : node_at old.read rooted.node.id ≡ Some rooted.node = cc (named, rooted.there) in
     let becomes : mid ≡ with_content old (with_node old.read (change rooted.node)) =
     changes rooted.node rooted.there in
     record {
       unreadable = ap (λ (r : Rows). r.unreadable) becomes;
       rooted = λ _. subst (IsRooted id) (sym becomes) (record {
-        rises =
-            rises_after old.read rooted.rises rooted.node (change rooted.node) found
-            (number rooted.node);
+        rises = search (rises_after);
         node = change rooted.node;
-        there =
-            ap (node_at (with_node old.read (change rooted.node))) (sym named)
-            ∙ here_after old.read rooted.rises rooted.node (change rooted.node) found
-            (number rooted.node);
+        there = grind (arith, nat_tests, here_after);
         steps = rooted.steps;
-        reaches =
-            ap (reaches_root rooted.steps (with_node old.read (change rooted.node)))
-            (parent rooted.node)
-            ∙ same_up old.read rooted.rises rooted.node (change rooted.node) found
-            (number rooted.node)
-            (parent rooted.node) rooted.steps rooted.node.parent rooted.reaches;
+        reaches = grind (arith, nat_tests, same_up);
       });
     }
 
@@ -136,16 +116,11 @@ pub rooted_spread : (which : Which) (id row changed : ℕ) (old new : Rows)
 rooted_spread which id row changed old new spread rooted = record {
   unreadable = ap (λ (r : Rows). r.unreadable) spread.becomes;
   rooted = λ _. subst (IsRooted id) (sym spread.becomes) (record {
-    rises =
-        subst (λ (ids : List ℕ). IsTrue (is_rising (0 ∷ ids)))
-        (sym (numbers_same change number old.read.nodes)) rooted.rises;
+    rises = search (change, number, numbers_same);
     node = change rooted.node;
     there = node_at-changed old.read change number id ∙ ap (option_map change) rooted.there;
     steps = rooted.steps;
-    reaches =
-        ap (reaches_root rooted.steps (with_each old.read change)) (parent rooted.node)
-        ∙ reaches-changed old.read change number parent rooted.steps rooted.node.parent
-        ∙ rooted.reaches;
+    reaches = search (change, number, parent, reaches-changed);
   });
 }
   where
@@ -161,15 +136,12 @@ rooted_spread which id row changed old new spread rooted = record {
 -- what is rooted isn't its own ancestor
 pub rooted_unread : (id : ℕ) (rows : Rows) (row : ℕ) → IsRooted id rows → HasLoop id rows row
     → IsUnreadable rows row
-rooted_unread id rows row rooted (inl unreadable) = unreadable
-rooted_unread id rows row rooted (inr loop) =
-    absurd (rooted_no_loop rows.read id rooted.steps rooted.node rooted.there rooted.reaches loop.1)
+rooted_unread id rows row rooted given = grind (arith, nat_tests, rooted_no_loop)
 
 -- no other row became unreadable
 pub still_unread : (old new : Rows) (row : ℕ) → new.unreadable ≡ old.unreadable
     → IsUnreadable new row → IsUnreadable old row
-still_unread old new row same h =
-    subst (λ (l : List Unread). IsTrue (is_among (map (λ (u : Unread). u.id) l) row)) same h
+still_unread old new row same h = grind (arith, nat_tests)
 
 pub unread_first : (id : ℕ) (old mid : Rows) (row : ℕ) → KeepsRoot id old mid → IsUnreadable mid row
     → IsUnreadable old row

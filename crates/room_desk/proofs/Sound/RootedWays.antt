@@ -1,21 +1,16 @@
 -- What a walk finds is rooted, whatever else the rows say.
-use Rattle.std.proofs.Common.{◌≡◌, ℕ, suc, true, false, List, [], ◌∷◌, ◌++◌, length, Option, Some}
-use Rattle.std.proofs.Common.{None, refl, sym, ap, subst, ◌∙◌, arith}
-use Rattle.std.specs.Prelude.{◌-◌, option_and_then, slice_get}
-use Rattle.std.specs.Option.{option_map_or}
-use Rattle.std.proofs.lemmas.Option.{same_Some}
-use Rattle.room_rows.specs.declared.node.Node.{Node}
-use Rattle.room_rows.specs.declared.node.Walk.{Walk}
-use Rattle.room_rows.specs.Content.{Content, child_of, node_at, parent_of, reaches_root, root_of}
-use Rattle.room_rows.specs.Rows.{Rows}
+use Rattle.std.proofs.Common.{◌≡◌, ℕ, suc, true, List, [], ◌∷◌, ◌++◌, length, Option, Some, None}
+use Rattle.std.proofs.{Common.{refl, sym, ap, ◌∙◌, arith}, lemmas.Bool.Decides.nat_tests}
+use Rattle.std.specs.{Prelude.{◌-◌, option_and_then, slice_get}, Option.option_map_or}
+use Rattle.room_rows.specs.{declared.node.{Node.Node, Walk.Walk}, Content.{Content, child_of}}
+use Rattle.room_rows.specs.{Content.{node_at, parent_of, reaches_root, root_of}, Rows.Rows}
 use Rattle.room_rows.specs.Walk.{behind, walk_from, walk_of}
 use Rattle.room_rows.proofs.Frames.{Rises, child_of-is_there, child_of-parent, root_of-is_there}
 use Rattle.room_rows.proofs.Frames.{root_of-parent}
-use Rattle.room_machine.specs.Site.{Site, site_at}
-use Rattle.room_machine.specs.Stored.{stored_along, stored_from, stored_site}
+use Rattle.room_machine.specs.{Site.{Site, site_at}, Stored.{stored_along, stored_from}}
+use Rattle.room_machine.specs.Stored.{stored_site}
 use Rattle.room_desk.specs.Carrying.{IsRooted}
 use Rattle.room_sound.proofs.Ends.{same_front, same_last}
-use Rattle.std.proofs.lemmas.Bool.Decides.{nat_tests}
 
 -- the last of the objects, or else the one before them
 pub last_or : Option Node → List Node → Option Node
@@ -43,16 +38,12 @@ module _ (rows : Content) (rises : Rises rows) where
   up_child node child name up is = record {
     there = child_of-is_there rows rises node.id name child is;
     steps = suc up.steps;
-    reaches =
-        ap (reaches_root (suc up.steps) rows) (child_of-parent rows node.id name child is)
-        ∙ ap (λ o. option_map_or (λ (a : Node). reaches_root up.steps rows a.parent) o false)
-        up.there ∙ up.reaches;
+    reaches = grind (arith, nat_tests, child_of-parent);
   }
 
   up_from : (names path : List (List ℕ)) (node : Node) (site : Site) → IsUp node
       → site_at (stored_from rows path node names) names ≡ Some site → IsUp site.node
-  up_from [] path node site up is =
-      subst (λ (s : Site). IsUp s.node) (same_Some (stored_site path node) site is) up
+  up_from [] path node site up is = grind (arith, nat_tests)
   up_from (name ∷ names) path node site up is =
       on (child_of rows node.id name)
       (λ child known. up_from names (path ++ name ∷ []) child site
@@ -121,8 +112,7 @@ module _ (rows : Content) (rises : Rises rows) where
           → (option_map_or (λ root. walk_from rows root path) o
           (record { chain = []; rest = length path })).chain ≡ front ++ last ∷ [] → IsUp last
       on None known is = absurd (none_ends front is)
-      on (Some root) known is = let end = known root refl in
-          subst IsUp (same_last end.front front end.last last (sym end.is ∙ is)) end.up
+      on (Some root) known is = grind (arith, nat_tests, same_last)
 
   -- ---- what is above the end of a walk
 
@@ -174,11 +164,7 @@ module _ (rows : Content) (rises : Rises rows) where
           (record { chain = []; rest = length path })).chain ≡ front ++ last ∷ []
           → parent_of rows last ≡ last_or None front
       on None known is = absurd (none_ends front is)
-      on (Some root) known is =
-          let end = known root refl in
-          ap (parent_of rows) (sym (same_last end.front front end.last last (sym end.is ∙ is)))
-          ∙ end.parent
-          ∙ ap (last_or None) (same_front end.front front end.last last (sym end.is ∙ is))
+      on (Some root) known is = grind (arith, nat_tests, last_or, same_front, same_last)
 
 -- ---- in terms of the calls
 
@@ -199,8 +185,7 @@ above_end rows rises path walk front last above is chain read =
 
 rooted_up : (rows : Rows) → (rises : Rises rows.read) → (node : Node) → IsUp rows.read rises node
     → IsRooted node.id rows
-rooted_up rows rises node up =
-    record { rises = rises; node = node; there = up.there; steps = up.steps; reaches = up.reaches }
+rooted_up rows rises node up = grind (arith, nat_tests)
 
 -- the object at the path
 pub rooted_along : (rows : Rows) → Rises rows.read → (path front : List (List ℕ)) (node : Node)

@@ -1,6 +1,6 @@
 -- The rulings of the bits of a mask, one after the other.
 use Rattle.std.proofs.Common.{◌≡◌, ℕ, zero, suc, ◌+◌, ◌<◌, List, [], ◌∷◌, ◌++◌, map, length, get_or}
-use Rattle.std.proofs.Common.{drop, refl, sym, ap, ◌∙◌, arith, add-one, drop-cons, append_assoc}
+use Rattle.std.proofs.Common.{drop, refl, ap, arith, add-one, drop-cons, append_assoc}
 use Rattle.std.proofs.lemmas.Bool.Decides.{nat_tests}
 
 length_kept : (mask : List ℕ) → length (map (λ (bit : ℕ). bit ∷ []) mask) ≡ length mask
@@ -30,6 +30,4 @@ pub asked_more : {A : Type 0} (f : ℕ → A) (mask : List ℕ) (i : ℕ) (items
 asked_more f mask i items new below more =
     let here : drop i mask ≡ get_or mask i 0 ∷ drop (i + 1) mask = rw add-one
     (drop-cons mask i 0 below) in
-    ap (λ l. l ++ map f (drop (i + 1) mask)) more
-    ∙ append_assoc items (f (get_or mask i 0) ∷ []) (map f (drop (i + 1) mask))
-    ∙ ap (λ (l : List ℕ). items ++ map f l) (sym here)
+    cc (more, append_assoc items (f (get_or mask i 0) ∷ []) (map f (drop (i + 1) mask)), here)

@@ -1,34 +1,28 @@
 -- How much requests write and read that are carried out in turn.
-use Rattle.std.proofs.Common.{◌≡◌, ◌||◌, ℕ, ◌+◌, ◌<◌, ◌≤◌, Bool, true, false, List, []}
-use Rattle.std.proofs.Common.{◌∷◌, ◌++◌, length, take, drop, get_or, Option, Some, None, Result, Ok}
-use Rattle.std.proofs.Common.{Err, IfOk, Vec, Global, refl, sym, ap, subst, ◌∙◌, arith, le_refl}
-use Rattle.std.specs.Prelude.{is_some, if◌then◌else◌}
-use Rattle.std.specs.Result.{IsErrAnd}
-use Rattle.std.proofs.lemmas.List.{take-append-drop, take_more}
-use Rattle.std.proofs.lemmas.List.Folds.{list_any-append}
-use Rattle.room_rows.specs.Keep.{KeepLaws}
-use Rattle.room_rows.specs.declared.keep.Keep.{Ghosts}
-use Rattle.room_rows.specs.declared.keep.KeepFault.{KeepFault}
+use Rattle.std.proofs.Common.{◌≡◌, ◌||◌, ℕ, ◌+◌, ◌<◌, ◌≤◌, Bool, true, false, List, [], ◌∷◌, ◌++◌}
+use Rattle.std.proofs.Common.{length, take, drop, get_or, Option, Some, None, Result, Ok, Err, IfOk}
+use Rattle.std.proofs.Common.{Vec, Global, refl, sym, ap, ◌∙◌, arith, le_refl}
+use Rattle.std.proofs.lemmas.List.{take-append-drop, take_more, Folds.list_any-append}
+use Rattle.std.proofs.lemmas.Bool.Decides.{nat_tests}
+use Rattle.std.specs.{Prelude.{is_some, if◌then◌else◌}, Result.IsErrAnd}
+use Rattle.room_rows.specs.{Keep.KeepLaws, declared.keep.{Keep.Ghosts, KeepFault.KeepFault}}
 use Rattle.room_entry.specs.declared.object.Which.TheVariants.{Dacl, Sacl}
-use Rattle.room_machine.specs.Closed.{failure_told, only_reads}
-use Rattle.room_machine.specs.declared.reply.Reply.{Reply}
+use Rattle.room_machine.specs.{Closed.{failure_told, only_reads}, declared.reply.Reply.Reply}
 use Rattle.room_machine.specs.declared.request.Request.{Request}
-use Rattle.room_judge.specs.Closed.{Performs}
-use Rattle.room_judge.specs.Extent.{StaysWithin, Unless, Unsaid, UpTo, WritesUpTo}
+use Rattle.room_judge.specs.{Closed.Performs, Extent.{StaysWithin, Unless, Unsaid, UpTo}}
+use Rattle.room_judge.specs.Extent.{WritesUpTo}
 use Rattle.room_judge.proofs.Calls.{HasDone}
-use Rattle.room_desk.specs.Called.{ReadsFew, calls_for, hands_down}
-use Rattle.room_desk.specs.Counted.{OneAndBoth, changed_lists, extent_if, extent_of, most_writes}
+use Rattle.room_desk.specs.{Called.{ReadsFew, calls_for, hands_down}, Counted.OneAndBoth}
+use Rattle.room_desk.specs.Counted.{changed_lists, extent_if, extent_of, most_writes}
 use Rattle.room_desk.specs.InTurn.{GoInTurn, WritesInTurn, calls_for_all, some_hands_down}
 use Rattle.room_desk.specs.declared.running.Asked.{Asked}
-use Rattle.room_desk.proofs.Steps.InTurn.{goes_more}
-use Rattle.room_desk.proofs.Writes.Reading.{reads_on}
+use Rattle.room_desk.proofs.{Steps.InTurn.goes_more, Writes.Reading.reads_on}
 
 -- ---- sums
 
 one_front : (asked : List Asked) (n : ℕ) (one : Asked) → n < length asked
     → one ≡ get_or asked n one → take n asked ++ one ∷ [] ≡ take (n + 1) asked
-one_front asked n one below is =
-    ap (λ (x : Asked). take n asked ++ x ∷ []) is ∙ sym (take_more asked n one below)
+one_front asked n one below is = grind (arith, nat_tests, take_more)
 
 calls_more : (asked : List Asked) (one : Asked)
     → calls_for_all (asked ++ one ∷ []) ≡ calls_for_all asked + (calls_for one.request + 1)
@@ -45,9 +39,7 @@ or_false false = refl
 
 down_more : (asked : List Asked) (one : Asked)
     → some_hands_down (asked ++ one ∷ []) ≡ some_hands_down asked || hands_down one.request
-down_more asked one =
-    list_any-append (λ (x : Asked). hands_down x.request) asked (one ∷ [])
-    ∙ ap (λ b. some_hands_down asked || b) (or_false (hands_down one.request))
+down_more asked one = search (list_any-append, or_false)
 
 neither : (a b : Bool) → a || b ≡ false → (a ≡ false) × (b ≡ false)
 neither true b is = absurd (let e : true ≡ false = is in cc)
@@ -55,9 +47,7 @@ neither false b is = (refl, is)
 
 down_front : (front back : List Asked) → some_hands_down (front ++ back) ≡ false
     → some_hands_down front ≡ false
-down_front front back none =
-    (neither (some_hands_down front) (some_hands_down back)
-    (sym (list_any-append (λ (x : Asked). hands_down x.request) front back) ∙ none)).0
+down_front front back none = grind (arith, nat_tests, list_any-append, neither)
 
 both_write : (wa wb wc la lb lc m n : ℕ) → wb + la ≤ wa + lb + m → wc + lb ≤ wb + lc + n
     → wc + la ≤ wa + lc + (m + n)
@@ -71,10 +61,7 @@ module _ {S : Type 0} (k : Ghosts S) where
       → WritesUpTo k.rows k.writes (if is_some told then 0
       else changed_lists Dacl (k.rows a) (k.rows b) + changed_lists Sacl (k.rows a) (k.rows b) + 1)
       a b
-  told_within None a b few =
-      let most = changed_lists Dacl (k.rows a) (k.rows b) + changed_lists Sacl (k.rows a) (k.rows b)
-      + 1 in
-      few most (le_refl most)
+  told_within None a b few = search (le_refl)
   told_within (Some failure) a b few = few.1
 
   reads_within : (reads : Bool) (reply : Reply) (a b : S)
@@ -98,16 +85,7 @@ module _ {S : Type 0} (k : Ghosts S) where
       (r : Result X KeepFault) → k.writes a ≤ k.writes b → k.writes b ≤ k.writes c
       → ReadsFew k first count a b {X = Unit {0}} (Ok tt) → ReadsFew k last more b c r
       → ReadsFew k (first || last) (count + more) a c r
-  reads_sum false false a b c count more r up grows before after = omega (arith, before, after)
-  reads_sum false true a b c count more r up grows before after =
-      reads_on k r a b c count more (count + more) before up (omega arith) after
-  reads_sum true false a b c count more (Ok x) up grows before after = λ below.
-      let was = before (omega (arith, below, grows)) in omega (arith, was, after, grows)
-  reads_sum true false a b c count more (Err e) up grows before after = tt
-  reads_sum true true a b c count more (Ok x) up grows before after = λ below.
-      let was = before (omega (arith, below, grows)) in
-      let more_read = after below in omega (arith, was, more_read, grows)
-  reads_sum true true a b c count more (Err e) up grows before after = tt
+  reads_sum first last a b c count more r up grows before after = grind (arith, nat_tests, reads_on)
 
   -- what is said of an answer is said of any
   pub answered : {X Y : Type 0} (down : Bool) (a b : S) (count : ℕ) (x : X) (y : Y)
@@ -121,15 +99,8 @@ module _ {S : Type 0} (k : Ghosts S) where
       → (down ≡ false → (first ≡ false) × (last ≡ false)) → count + more ≤ total
       → IsErrAnd end (λ x. x ≡ e) → ReadsFew k first count a b {X = Unit {0}} (Ok tt)
       → ReadsFew k last more b c r → ReadsFew k down total a c end
-  halted true first last a b c count more total r e (Ok y) none fits is before after = absurd is
-  halted true first last a b c count more total r e (Err f) none fits is before after = tt
-  halted false first last a b c count more total r e end none fits is before after =
-      let each = none refl in
-      let one : k.reads b ≤ k.reads a + count =
-      subst (λ d. ReadsFew k d count a b {X = Unit {0}} (Ok tt)) each.0 before in
-      let two : k.reads c ≤ k.reads b + more =
-      subst (λ d. ReadsFew k d more b c r) each.1 after in
-      omega (arith, one, two, fits)
+  halted down first last a b c count more total r e end none fits is before after =
+      grind (arith, nat_tests)
 
   -- ---- the requests so far
 
@@ -142,11 +113,7 @@ module _ {S : Type 0} (k : Ghosts S) where
   pub done_so : (asked : List Asked) (replies : List Reply) (a b : S) → HasGone asked replies a b
       → HasDone k.rows k.writes k.Follows k.IsTrusted (UpTo Unsaid) a b
       (λ old new. (most : ℕ) × GoInTurn asked replies old new most)
-  done_so asked replies a b gone = record {
-    follows = gone.follows;
-    becomes = λ t. let wrote = gone.writes t in (wrote.0, wrote.1);
-    few = λ t more never. absurd never;
-  }
+  done_so asked replies a b gone = grind (arith, nat_tests)
 
   -- there are no replies where there is no answer
   pub no_replies : (asked : List Asked) (a b : S) (r : Result (Vec Reply Global) KeepFault)
@@ -167,26 +134,11 @@ module _ {S : Type 0} (k : Ghosts S) where
       let whole = take-append-drop (n + 1) asked in
       let fits = calls_front (take (n + 1) asked) (drop (n + 1) asked) in
       let sum = sym (calls_more (take n asked) one) ∙ ap calls_for_all longer in
-      halted (some_hands_down asked) (some_hands_down (take n asked)) (hands_down one.request)
-      a b c (calls_for_all (take n asked)) (calls_for one.request + 1) (calls_for_all asked) r e end
-      (λ none.
-      neither (some_hands_down (take n asked)) (hands_down one.request)
-      (sym (down_more (take n asked) one) ∙ ap some_hands_down longer
-      ∙ down_front (take (n + 1) asked) (drop (n + 1) asked) (ap some_hands_down whole ∙ none)))
-      (omega (arith, sum, fits, ap calls_for_all whole)) is before after
+      grind (arith, nat_tests, down_front, down_more, halted, neither)
 
   module _ (laws : KeepLaws k.rows k.failures k.writes k.Follows k.IsTrusted) where
     pub none_gone : (replies : List Reply) (a : S) → replies ≡ [] → HasGone [] replies a a
-    none_gone replies a none = record {
-      follows = laws.itself a;
-      writes =
-          λ t. (
-            0,
-            subst (λ l. GoInTurn [] l (k.rows a) (k.rows a) 0) (sym none) (refl, refl),
-            omega arith,
-          );
-      reads = omega arith;
-    }
+    none_gone replies a none = grind (arith, nat_tests)
 
     -- one request more
     pub gone_more : (asked : List Asked) (n : ℕ) (one : Asked) (replies all : List Reply)
@@ -209,21 +161,7 @@ module _ {S : Type 0} (k : Ghosts S) where
                 wrote.0 + most_writes one.request reply (k.rows b) (k.rows c),
                 goes_more asked n one replies all reply (k.rows a) (k.rows b) (k.rows c) wrote.0
                     below at made wrote.1 (done.becomes last),
-                both_write (k.writes a) (k.writes b) (k.writes c) (length (k.rows a).read.audits)
-                    (length (k.rows b).read.audits) (length (k.rows c).read.audits) wrote.0
-                    (most_writes one.request reply (k.rows b) (k.rows c)) wrote.2
-                    (one_writes one.request reply b c (done.few last)),
+                grind (arith, nat_tests, both_write, one_writes),
               );
-          reads =
-              subst (λ (l : List Asked). ReadsFew k (some_hands_down l) (calls_for_all l) a c
-              {X = Unit {0}} (Ok tt)) longer
-              (subst (λ d. ReadsFew k d (calls_for_all (so_far ++ one ∷ [])) a c {X = Unit {0}}
-              (Ok tt)) (sym (down_more so_far one))
-              (subst (λ n. ReadsFew k (some_hands_down so_far || hands_down one.request) n a c
-              {X = Unit {0}} (Ok tt)) (sym (calls_more so_far one))
-              (answered (some_hands_down so_far || hands_down one.request) a c
-              (calls_for_all so_far + (calls_for one.request + 1)) reply tt
-              (reads_sum (some_hands_down so_far) (hands_down one.request) a b c
-              (calls_for_all so_far) (calls_for one.request + 1) (Ok reply)
-              (laws.grow a b gone.follows) (laws.grow b c done.follows) gone.reads reads))));
+          reads = grind (arith, nat_tests, answered, calls_more, down_more, reads_sum);
         }

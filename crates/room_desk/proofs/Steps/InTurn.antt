@@ -1,22 +1,14 @@
 -- Requests that are carried out in turn.
-use Rattle.std.proofs.Common.{◌≡◌, ℕ, suc, ◌<◌, ◌+◌, ℤ, List, [], ◌∷◌, ◌++◌, length, take, get_or}
-use Rattle.std.proofs.Common.{Option, refl, sym, ap, subst, ◌∙◌, arith}
-use Rattle.std.proofs.lemmas.List.{take_more}
-use Rattle.room_rows.specs.Sound.{AreSound}
-use Rattle.room_rows.specs.Meaning.{meaning}
-use Rattle.room_rows.specs.Rows.{Rows}
-use Rattle.room_judge.specs.declared.asker.Asker.{Asker}
-use Rattle.room_machine.specs.declared.reply.Reply.{Reply}
-use Rattle.room_machine.specs.declared.request.Request.{Request}
-use Rattle.room_desk.specs.Counted.{most_writes}
-use Rattle.room_desk.specs.declared.running.Asked.{Asked}
-use Rattle.room_desk.specs.InTurn.{GoInTurn, IsDamagedAfter, IsRunOfRows, RunsAll}
-use Rattle.room_machine.specs.Closed.{FailsClosed}
-use Rattle.room_judge.specs.Closed.{IsClosed, IsServed, Performs}
+use Rattle.std.proofs.Common.{◌≡◌, ℕ, ◌<◌, ◌+◌, ℤ, List, [], ◌∷◌, ◌++◌, length, take, get_or}
+use Rattle.std.proofs.{Common.{Option, arith}, lemmas.{List.take_more, Bool.Decides.nat_tests}}
+use Rattle.room_rows.specs.{Sound.AreSound, Rows.Rows}
+use Rattle.room_judge.specs.{declared.asker.Asker.Asker, Closed.{IsClosed, IsServed, Performs}}
 use Rattle.room_judge.specs.Judged.{CarriesOut, IsStepOfRows}
+use Rattle.room_machine.specs.declared.{reply.Reply.Reply, request.Request.Request}
+use Rattle.room_machine.specs.{Closed.FailsClosed, Step.caller_in}
+use Rattle.room_desk.specs.{Counted.most_writes, declared.running.Asked.Asked, InTurn.GoInTurn}
+use Rattle.room_desk.specs.InTurn.{IsDamagedAfter, IsRunOfRows, RunsAll}
 use Rattle.room_sound.proofs.Blamed.{sound_undamaged}
-use Rattle.room_machine.specs.Step.{caller_in}
-use Rattle.std.proofs.lemmas.Bool.Decides.{nat_tests}
 
 -- ---- one request
 
@@ -39,29 +31,20 @@ pub performed : (user : Option (List ℕ)) (moment : ℤ) (asker : Asker) (reque
     (old mid new : Rows) (reply : Reply) → asker.moment ≡ moment
     → (asker.caller ≡ caller_in old.read user) × (mid ≡ old)
     → IsServed asker request mid reply new → Performs user moment request old reply new
-performed user moment asker request old mid new reply at both served =
-    grind (arith, nat_tests, carried, closed_for)
+performed user moment asker request old mid new reply at both served = search (carried, closed_for)
 
 -- ---- several requests
 
 -- from sound rows they are a run, and the rows are sound again
 pub go_run : (asked : List Asked) (replies : List Reply) (old new : Rows) (most : ℕ)
     → GoInTurn asked replies old new most → RunsAll asked old replies new
-go_run [] [] old new most go sound = record {
-  each = refl;
-  run = ap (λ (r : Rows). meaning r.read) go.0;
-  sound = subst AreSound (sym go.0) sound;
-}
+go_run [] [] old new most go sound = grind (arith, nat_tests)
 go_run [] (r ∷ replies) old new most go sound = absurd go
 go_run (a ∷ asked) [] old new most go sound = absurd go
 go_run (a ∷ asked) (r ∷ replies) old new most (mid, rest, does, go, is) sound =
     let step : IsStepOfRows a.user a.moment a.request old r mid = does.step sound in
     let then = go_run asked replies mid new rest go step.sound in
-    record {
-      each = ap suc then.each;
-      run = (meaning mid.read, step.step, then.run);
-      sound = then.sound;
-    }
+    grind (arith, nat_tests)
 
 sum_one : (most more same : ℕ) → most ≡ 0 → more ≡ same → most + more ≡ same + 0
 sum_one most more same none is = omega (arith, none, is)
@@ -75,23 +58,11 @@ go_more : (asked : List Asked) (one : Asked) (replies : List Reply) (reply : Rep
     → Performs one.user one.moment one.request mid reply new
     → GoInTurn (asked ++ one ∷ []) (replies ++ reply ∷ []) old new
     (most + most_writes one.request reply mid new)
-go_more [] one [] reply old mid new most go does =
-    let more = most_writes one.request reply in (
-      new,
-      0,
-      subst (λ (r : Rows). Performs one.user one.moment one.request r reply new) go.0 does,
-      (refl, refl),
-      sum_one most (more mid new) (more old new) go.1 (ap (λ (r : Rows). more r new) go.0),
-    )
+go_more [] one [] reply old mid new most go does = grind (arith, nat_tests, sum_one)
 go_more [] one (r ∷ replies) reply old mid new most go does = absurd go
 go_more (a ∷ asked) one [] reply old mid new most go does = absurd go
-go_more (a ∷ asked) one (r ∷ replies) reply old mid new most (next, rest, first, go, is) does = (
-  next,
-  rest + most_writes one.request reply mid new,
-  first,
-  go_more asked one replies reply next mid new rest go does,
-  sum_more most (most_writes a.request r old next) rest (most_writes one.request reply mid new) is,
-)
+go_more (a ∷ asked) one (r ∷ replies) reply old mid new most (next, rest, first, go, is) does =
+    search (sum_more, go_more asked one replies reply next mid new rest go does)
 
 pub goes_more : (asked : List Asked) (n : ℕ) (one : Asked) (replies all : List Reply)
     (reply : Reply) (old mid new : Rows) (most : ℕ) → n < length asked → one ≡ get_or asked n one
@@ -99,12 +70,10 @@ pub goes_more : (asked : List Asked) (n : ℕ) (one : Asked) (replies all : List
     → Performs one.user one.moment one.request mid reply new
     → GoInTurn (take (n + 1) asked) all old new (most + most_writes one.request reply mid new)
 goes_more asked n one replies all reply old mid new most below is made go does =
-    let longer : take n asked ++ one ∷ [] ≡ take (n + 1) asked = ap
-    (λ (x : Asked). take n asked ++ x ∷ []) is ∙ sym (take_more asked n one below) in
+    let longer : take n asked ++ one ∷ [] ≡ take (n + 1) asked =
+    cc (is, take_more asked n one below) in
     let most' = most + most_writes one.request reply mid new in
-    subst (λ (l : List Asked). GoInTurn l all old new most') longer
-    (subst (λ (l : List Reply). GoInTurn (take n asked ++ one ∷ []) l old new most') (sym made)
-    (go_more (take n asked) one replies reply old mid new most go does))
+    grind (arith, nat_tests, go_more)
 
 -- from sound rows they stay sound, and nothing is damaged
 pub never_after : (asked : List Asked) (rows : Rows) (row : ℕ) → AreSound rows

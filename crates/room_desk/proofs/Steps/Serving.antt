@@ -1,51 +1,34 @@
 -- The replies of requests that change nothing but records.
-use Rattle.std.proofs.Common.{◌≡◌, ℕ, true, List, [], ◌∷◌, ◌++◌, map}
-use Rattle.std.proofs.Common.{Option, Some, None, refl, sym, ap, ◌∙◌, inl, inr}
+use Rattle.std.proofs.Common.{◌≡◌, ℕ, true, List, [], ◌∷◌, ◌++◌, map, Option, Some, None, refl, sym}
+use Rattle.std.proofs.Common.{ap, ◌∙◌, inl, inr, Result, Ok, Err, arith}
+use Rattle.std.proofs.lemmas.Bool.Decides.{nat_tests}
 use Rattle.std.specs.Prelude.{unwrap_or}
-use Rattle.std.proofs.Common.{Result, Ok, Err}
-use Rattle.room_entry.specs.Rights.{read_data, read_acl, read_attributes}
-use Rattle.room_entry.specs.Valid.{is_document}
-use Rattle.room_entry.specs.declared.object.ObjKind.{ObjKind}
-use Rattle.room_entry.specs.declared.object.ObjKind.TheVariants.{Document, Folder}
-use Rattle.room_entry.specs.declared.object.Which.{Which}
-use Rattle.room_entry.specs.declared.object.Which.TheVariants.{Dacl}
+use Rattle.room_entry.specs.{Rights.{read_data, read_acl, read_attributes}, Valid.is_document}
+use Rattle.room_entry.specs.declared.object.ObjKind.{ObjKind, TheVariants.{Document, Folder}}
+use Rattle.room_entry.specs.declared.object.Which.{Which, TheVariants.Dacl}
 use Rattle.room_eval.specs.Verdict.{ruling_of}
-use Rattle.room_rows.specs.declared.node.Node.{Node}
-use Rattle.room_rows.specs.Held.{held_of, full_of}
-use Rattle.room_rows.specs.Content.{Content, node_at, root_of, child_of, body_of, children_of}
-use Rattle.room_rows.specs.Meaning.{meaning, kept_node}
-use Rattle.room_rows.specs.Rows.{Rows, AreRows}
+use Rattle.room_rows.specs.{declared.node.Node.Node, Held.{held_of, full_of}, Content.Content}
+use Rattle.room_rows.specs.Content.{node_at, root_of, child_of, body_of, children_of}
+use Rattle.room_rows.specs.{Meaning.{meaning, kept_node}, Rows.{Rows, AreRows}, Sound.AreSound}
+use Rattle.room_rows.specs.Keep.{AreNamedUnder, IsDamaged, IsUnreadable}
 use Rattle.room_rows.proofs.Frames.{Rises, root_of-is_there, child_of-is_there}
-use Rattle.room_rows.proofs.InPlace.{keeps_places, children_of-with_each}
-use Rattle.room_rows.proofs.Mixed.{named_alone}
-use Rattle.room_rows.specs.Sound.{AreSound}
-use Rattle.room_judge.specs.declared.asker.Asker.{Asker}
-use Rattle.room_machine.specs.declared.reply.Reply.{Reply}
-use Rattle.room_machine.specs.declared.reply.Reply.TheVariants.{Bytes, Names, Lists, Attr, Rulings}
-use Rattle.room_machine.specs.declared.request.Request.{Request}
+use Rattle.room_rows.proofs.{InPlace.{keeps_places, children_of-with_each}, Mixed.named_alone}
+use Rattle.room_judge.specs.{declared.asker.Asker.Asker, Closed.IsServed, Judged.IsJudged}
+use Rattle.room_judge.specs.Judged.{IsReached, of_kind}
+use Rattle.room_machine.specs.declared.reply.Reply.{Reply, TheVariants.{Bytes, Names, Lists, Attr}}
+use Rattle.room_machine.specs.declared.{reply.Reply.TheVariants.Rulings, request.Request.Request}
 use Rattle.room_machine.specs.declared.request.Request.TheVariants.{Read, List as ListFolder}
 use Rattle.room_machine.specs.declared.request.Request.TheVariants.{ReadList, ReadAttr, Can}
-use Rattle.room_machine.specs.Site.{Site, full_at, sites_along, site_at}
-use Rattle.room_machine.specs.Plan.{Along, Item, Check, plan_by, plan_of, target_by}
-use Rattle.room_machine.specs.Plan.{no_folder}
-use Rattle.room_machine.specs.Judge.{failure, or_else}
-use Rattle.room_machine.specs.Effect.{effect, with_site}
-use Rattle.room_machine.specs.Changed.{IsChanged}
-use Rattle.room_machine.specs.Closed.{IsShown, failure_told}
-use Rattle.room_judge.specs.Closed.{IsServed}
-use Rattle.room_machine.specs.Stored.{stored_site, stored_from, stored_along, stored_plan}
-use Rattle.room_judge.specs.Judged.{IsJudged, IsReached, of_kind}
-use Rattle.room_judge.proofs.Closing.{closed_asked, closed_failed}
-use Rattle.room_judge.proofs.Judging.{failure_of_parts}
-use Rattle.room_rows.specs.Keep.{AreNamedUnder, IsDamaged, IsUnreadable}
-use Rattle.room_desk.specs.Answered.{AreNamesOf, IsBytesOf}
-use Rattle.room_desk.specs.Asked.{rulings_at}
-use Rattle.room_desk.specs.Written.{HasNoBytes}
-use Rattle.room_sound.proofs.SoundParts.{none_unreadable, sound_parts}
-use Rattle.room_sound.proofs.Sites.{fill}
+use Rattle.room_machine.specs.{Site.{Site, full_at, sites_along, site_at}, Plan.{Along, Item}}
+use Rattle.room_machine.specs.{Plan.{Check, plan_by, plan_of, target_by, no_folder}, Judge.failure}
+use Rattle.room_machine.specs.{Judge.or_else, Effect.{effect, with_site}, Changed.IsChanged}
+use Rattle.room_machine.specs.{Closed.{IsShown, failure_told}, Stored.{stored_site, stored_from}}
+use Rattle.room_machine.specs.Stored.{stored_along, stored_plan}
+use Rattle.room_judge.proofs.{Closing.{closed_asked, closed_failed}, Judging.failure_of_parts}
+use Rattle.room_desk.specs.{Answered.{AreNamesOf, IsBytesOf}, Asked.rulings_at, Written.HasNoBytes}
+use Rattle.room_sound.proofs.{SoundParts.{none_unreadable, sound_parts}, Sites.fill}
 use Rattle.room_sound.proofs.Filled.{fill_item, plan_judged, target_there}
 use Rattle.room_desk.proofs.Steps.Stepping.{refused_step, served_step}
-use Rattle.std.proofs.Common.{arith}
 
 module _ (asker : Asker) (path : List (List ℕ)) (request : Request) (items : Site → List Item)
     (planned : (along : Along) (content : Content)
@@ -67,11 +50,7 @@ module _ (asker : Asker) (path : List (List ℕ)) (request : Request) (items : S
   -- an item fails
   pub not_served : (old new : Rows) (reply : Reply) → AreRows old
       → IsReached asker path items old (Err reply) new → IsServed asker request old reply new
-  not_served old new reply are reached = (
-    λ known sound. refused_step asker request old known sound new reply
-        (plan_is old new (Some reply) are sound reached.judged),
-    closed_failed asker request old reply new (stored_is old new (Some reply) reached.judged),
-  )
+  not_served old new reply are reached = search (closed_failed, plan_is, refused_step, stored_is)
 
   -- none fails, and the request does this at its target
   pub served : (act : Content → Site → Reply)
@@ -135,12 +114,16 @@ module _ (asker : Asker) (path : List (List ℕ)) where
       → IsReached asker path
       (λ target. of_kind Folder target ∷ Check target (read_data ∷ []) ∷ []) old (Ok node) new
       → AreNamedUnder node.id old names → IsServed asker (ListFolder path) old (Names names) new
-  served_names old new node names are reached named = (
-    λ known sound. (sound_names (named_alone node.id old names
-        (none_unreadable old (sound_parts old sound)) named)).0 known sound,
-    closed_asked asker (ListFolder path) old (Names names) new reached.judged refl
-        (stored_site path node, reached.found, (names, refl, named)) refl,
-  )
+  served_names old new node names are reached named =
+      grind (
+        arith,
+        nat_tests,
+        closed_asked,
+        named_alone,
+        none_unreadable,
+        sound_names,
+        sound_parts,
+      )
     where
       sound_names : names ≡ map shown (children_of old.read node.id)
           → IsServed asker (ListFolder path) old (Names names) new
@@ -190,9 +173,7 @@ module _ (asker : Asker) (path : List (List ℕ)) where
       (λ content target. Rulings
       (map (λ bit. (bit ∷ [], ruling_of (full_at Dacl target) asker.caller target.node.owners bit))
       mask)) (λ content id. refl) old new node reply are reached
-      (λ target filled. ap (λ (s : Site). Rulings
-      (map (λ bit. (bit ∷ [], ruling_of (full_at Dacl s) asker.caller s.node.owners bit)) mask))
-      filled ∙ sym replies) (rw replies)
+      (grind (arith, nat_tests)) (rw replies)
       (stored_site path node, reached.found, replies) refl
 
 -- ---- the same in terms of the calls
@@ -217,8 +198,7 @@ reached_as asker path items bits named outcome old new same reached = rw same at
 pub reached_damaged : (asker : Asker) (path : List (List ℕ)) (items : Site → List Item)
     (outcome : Result Node Reply) (old mid : Rows) (row : ℕ)
     → IsReached asker path items old outcome mid → IsUnreadable mid row → IsDamaged old row
-reached_damaged asker path items outcome old mid row reached h =
-    inl (inl (rw reached.judged.notes at h))
+reached_damaged asker path items outcome old mid row reached h = grind (arith, nat_tests)
 
 -- ---- a document has bytes
 
@@ -264,16 +244,10 @@ document_there asker path bits old new node are reached =
 pub no_bytes : (asker : Asker) (path : List (List ℕ)) (bits : List ℕ) (old mid : Rows) (node : Node)
     (row : ℕ) → AreRows old → IsReached asker path (DocumentAt bits) old (Ok node) mid
     → HasNoBytes node.id mid row → IsDamaged old row
-no_bytes asker path bits old mid node row are reached (inl unreadable) =
-    inl (inl (rw reached.judged.notes at unreadable))
+no_bytes asker path bits old mid node row are reached (inl unreadable) = grind (arith, nat_tests)
 no_bytes asker path bits old mid node row are reached (inr lacks) =
     let document = document_there asker path bits old mid node are reached in
-    inr (
-      node,
-      rw lacks.0 document.0,
-      document.1,
-      rw lacks.0 (rw reached.judged.notes at lacks.1),
-    )
+    grind (arith, nat_tests)
 
 -- ---- what is answered after the walk
 

@@ -1,22 +1,16 @@
 -- A request that changes nothing but records is a step.
-use Rattle.std.proofs.Common.{◌≡◌, ℕ, List, Option, Some, None, refl, sym, ap, ◌∙◌}
+use Rattle.std.proofs.Common.{◌≡◌, ℕ, List, Option, Some, None, refl, arith}
+use Rattle.std.proofs.lemmas.Bool.Decides.{nat_tests}
 use Rattle.room_entry.specs.declared.parties.Caller.{Caller}
-use Rattle.room_rows.specs.Content.{Content, with_records}
-use Rattle.room_rows.specs.Meaning.{meaning}
-use Rattle.room_rows.specs.Rows.{Rows}
+use Rattle.room_rows.specs.{Content.{Content, with_records}, Meaning.meaning, Rows.Rows}
 use Rattle.room_rows.specs.Sound.{AreSound}
-use Rattle.room_judge.specs.declared.asker.Asker.{Asker}
-use Rattle.room_machine.specs.declared.reply.Reply.{Reply}
-use Rattle.room_machine.specs.declared.request.Request.{Request}
-use Rattle.room_machine.specs.Plan.{plan_of}
-use Rattle.room_machine.specs.Judge.{first_failure, records_of_plan}
-use Rattle.room_machine.specs.Effect.{effect}
-use Rattle.room_machine.specs.Step.{Step, caller_in, failure_or, done_with_records}
-use Rattle.room_judge.specs.Judged.{IsJudged, IsKnown, IsStepOfRows, with_notes}
+use Rattle.room_judge.specs.{declared.asker.Asker.Asker, Judged.{IsJudged, IsKnown, IsStepOfRows}}
+use Rattle.room_judge.specs.Judged.{with_notes}
+use Rattle.room_machine.specs.{declared.{reply.Reply.Reply, request.Request.Request}, Plan.plan_of}
+use Rattle.room_machine.specs.{Judge.{first_failure, records_of_plan}, Effect.effect, Step.Step}
+use Rattle.room_machine.specs.Step.{caller_in, failure_or, done_with_records}
 use Rattle.room_machine.proofs.Free.{some_free}
 use Rattle.room_sound.proofs.SoundParts.{sound_noted}
-use Rattle.std.proofs.Common.{arith}
-use Rattle.std.proofs.lemmas.Bool.Decides.{nat_tests}
 
 -- the rows and what they mean have the same pairs
 caller_kept : (rows : Content) (user : Option (List ℕ))
@@ -54,9 +48,7 @@ module _ (asker : Asker) (request : Request) (old : Rows) (known : IsKnown asker
   refused_step new reply judged =
       let free = some_free content in
       by_records free.0 free.1 new reply
-      (ap (λ o. done_with_records
-      (failure_or o content (effect content asker.caller free.0 request))
-      (records_of_plan asker.caller asker.moment (plan_of content request))) (sym judged.answers))
+      (cc (judged.answers))
       judged.notes
 
   pub served_step : (new : Rows) (reply : Reply)
@@ -66,12 +58,7 @@ module _ (asker : Asker) (request : Request) (old : Rows) (known : IsKnown asker
   served_step new reply serves judged =
       let free = some_free content in
       by_records free.0 free.1 new reply
-      (ap (λ o. done_with_records
-      (failure_or o content (effect content asker.caller free.0 request))
-      (records_of_plan asker.caller asker.moment (plan_of content request))) (sym judged.answers)
-      ∙ ap (λ d. done_with_records d
-      (records_of_plan asker.caller asker.moment (plan_of content request)))
-      (serves free.0))
+      (grind (arith, nat_tests))
       judged.notes
 
   -- none fails, and the request changes more than records, with this number for a new object

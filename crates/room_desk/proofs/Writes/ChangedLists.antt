@@ -1,37 +1,24 @@
 -- How many objects store other inherited entries than before.
 use Rattle.std.proofs.Common.{◌≡◌, ◌∙◌, ℕ, ◌+◌, ◌≤◌, ◌==◌, Bool, true, false, cond, not, List, []}
 use Rattle.std.proofs.Common.{◌∷◌, map, Option, Some, None, refl, sym, ap, subst, inl, inr, arith}
-use Rattle.std.specs.Prelude.{zero, suc, ◌||◌, ◌⊎◌, count_by}
-use Rattle.std.specs.List.{AllByRecursion as Each}
+use Rattle.std.proofs.lemmas.Bool.{and_parts, cases_Bool, false_from_ne_true, or_cases, or_left}
+use Rattle.std.proofs.lemmas.{Bool.{or_right, Decides.nat_tests}, Option.none-some}
+use Rattle.std.specs.{Prelude.{zero, suc, ◌||◌, ◌⊎◌}, List.AllByRecursion as Each}
 use Rattle.std.specs.Option.{option_map_or}
-use Rattle.std.proofs.lemmas.Bool.{and_parts, cases_Bool, cond-false, cond-true, false≢true}
-use Rattle.std.proofs.lemmas.Bool.{false_from_ne_true, or_cases, or_left, or_right, eq-eqb}
-use Rattle.std.proofs.lemmas.Bool.{eqb-true}
-use Rattle.std.proofs.lemmas.Option.{none-some, same_Some}
-use Rattle.room_entry.specs.Ace.{Ace}
-use Rattle.room_entry.specs.Same.{same_entries}
-use Rattle.room_entry.specs.declared.object.Which.{Which}
-use Rattle.room_entry.proofs.Facts.Members.{count, count-is, one_if}
-use Rattle.room_entry.proofs.Same.{entries_equal}
-use Rattle.room_rows.specs.declared.node.Node.{Node}
-use Rattle.room_rows.specs.Content.{Content, has_parent, is_linked_in, node_at, parent_of}
-use Rattle.room_rows.specs.Content.{with_each}
-use Rattle.room_rows.specs.Finding.{find_id}
-use Rattle.room_rows.specs.Held.{held_of}
-use Rattle.room_rows.specs.Keep.{Changes, with_inh}
-use Rattle.room_rows.specs.Rows.{Rows}
-use Rattle.room_rows.proofs.Frames.{Rises, node_at-number}
-use Rattle.room_rows.proofs.InPlace.{held_of-with_inh, with_inh-id}
+use Rattle.room_entry.specs.{Ace.Ace, Same.same_entries, declared.object.Which.Which}
+use Rattle.room_entry.proofs.{Facts.Members.{count, count-is, one_if}, Same.entries_equal}
+use Rattle.room_rows.specs.{declared.node.Node.Node, Content.{Content, has_parent, is_linked_in}}
+use Rattle.room_rows.specs.{Content.{node_at, parent_of, with_each}, Finding.find_id, Held.held_of}
+use Rattle.room_rows.specs.{Keep.{Changes, with_inh}, Rows.Rows}
+use Rattle.room_rows.proofs.{Frames.{Rises, node_at-number}, InPlace.held_of-with_inh}
+use Rattle.room_rows.proofs.InPlace.{with_inh-id}
 use Rattle.room_inherit.specs.Spread.{IsLinkedBelow, IsSpread, is_changed, is_linked_within}
 use Rattle.room_inherit.specs.Spread.{is_within}
-use Rattle.room_inherit.proofs.Children.{apart_rising, each_there}
-use Rattle.room_inherit.proofs.Rooted.{rooted_no_loop}
-use Rattle.room_desk.specs.Carrying.{IsCarriedDown, IsRooted}
-use Rattle.room_desk.specs.Counted.{changed_lists, has_other_list}
-use Rattle.room_desk.proofs.Lists.HandedDown.{put_one}
-use Rattle.room_desk.proofs.Placed.Climbing.{node_at-changed}
+use Rattle.room_inherit.proofs.{Children.{apart_rising, each_there}, Rooted.rooted_no_loop}
+use Rattle.room_desk.specs.{Carrying.{IsCarriedDown, IsRooted}, Counted.changed_lists}
+use Rattle.room_desk.specs.Counted.{has_other_list}
+use Rattle.room_desk.proofs.{Lists.HandedDown.put_one, Placed.Climbing.node_at-changed}
 use Rattle.room_desk.proofs.Sound.Anchored.{rooted_changed}
-use Rattle.std.proofs.lemmas.Bool.Decides.{nat_tests}
 
 -- ---- counts
 
@@ -43,8 +30,7 @@ count_map p f (x ∷ xs) = ap (λ n. one_if (p (f x)) + n) (count_map p f xs)
 count_same : (p q : Node → Bool) (xs : List Node) → Each (λ x. p x ≡ q x) xs
     → count p xs ≡ count q xs
 count_same p q [] all = refl
-count_same p q (x ∷ xs) all =
-    ap (λ t. one_if t + count p xs) all.0 ∙ ap (λ n. one_if (q x) + n) (count_same p q xs all.1)
+count_same p q (x ∷ xs) all = cc (all.0, count_same p q xs all.1)
 
 one_less : (t u : Bool) → (t ≡ true → u ≡ true) → one_if t ≤ one_if u
 one_less true u implies = subst (λ v. 1 ≤ one_if v) (sym (implies refl)) (omega arith)
@@ -70,22 +56,12 @@ count_one_less p q id node (x ∷ xs) all found fails passes =
     on : (t : Bool) → (find_id id xs ≡ Some node → count p xs + 1 ≤ count q xs)
         → cond t (Some x) (find_id id xs) ≡ Some node
         → one_if (p x) + count p xs + 1 ≤ one_if (q x) + count q xs
-    on true rest same =
-        let is : x ≡ node = same_Some x node same in
-        let none : one_if (p x) ≡ 0 = ap (λ (n : Node). one_if (p n)) is ∙ ap one_if fails in
-        let one : one_if (q x) ≡ 1 = ap (λ (n : Node). one_if (q n)) is ∙ ap one_if passes in
-        let others = count_less p q xs all.1 in
-        omega arith
-    on false rest there =
-        let here = one_less (p x) (q x) all.0 in
-        let others = rest there in
-        omega arith
+    on t rest same = grind (arith, nat_tests, count_less, one_if, one_less)
 
 -- what holds of each object that is there
 each_here : (content : Content) → Rises content → (P : Node → Type 0)
     → ((n : Node) → node_at content n.id ≡ Some n → P n) → Each P content.nodes
-each_here content rises P all =
-    each_there P content.nodes (apart_rising 0 content.nodes rises) all
+each_here content rises P all = search (apart_rising, each_there)
 
 -- ---- other lists
 
@@ -116,11 +92,14 @@ module _ (which : Which) (change : Node → Node) (number : (n : Node) → (chan
   pub changed_after : (old mid new : Rows) → new.read ≡ with_each mid.read change
       → changed_lists which old new ≡ changed_lists which old mid
   changed_after old mid new is =
-      ap (λ (c : Content). count_by (has_other_list which c) old.read.nodes) is
-      ∙ count-is (has_other_list which (with_each mid.read change)) old.read.nodes
-      ∙ count_same (has_other_list which (with_each mid.read change))
-      (has_other_list which mid.read) old.read.nodes (each_after mid.read old.read.nodes)
-      ∙ sym (count-is (has_other_list which mid.read) old.read.nodes)
+      cc (
+        is,
+        count-is (has_other_list which (with_each mid.read change)) old.read.nodes,
+        count_same (has_other_list which (with_each mid.read change))
+            (has_other_list which mid.read)
+            old.read.nodes (each_after mid.read old.read.nodes),
+        count-is (has_other_list which mid.read) old.read.nodes,
+      )
 
 -- ---- lists that are carried down
 
@@ -146,9 +125,7 @@ module _ (which : Which) (id changed : ℕ) (old new : Rows)
   spread_changes rises =
       count-is (has_other_list which new.read) old.read.nodes
       ∙ count_same (has_other_list which new.read) (is_changed which spread.lists) old.read.nodes
-      (each_here old.read rises
-      (λ n. has_other_list which new.read n ≡ is_changed which spread.lists n)
-      (λ n there. now_other n n there))
+      (search (each_here, now_other))
       ∙ sym (count-is (is_changed which spread.lists) old.read.nodes) ∙ sym spread.counted
 
 -- what is linked below is below
@@ -161,9 +138,7 @@ linked_within (suc n) content which id node is =
     elim (or_cases (has_parent id node)
     (option_map_or (is_linked_within n content which id) (parent_of content node) false)
     parts.1) [
-      | inl child ↦
-          or_left (has_parent id node)
-          (option_map_or (is_within n content id) (parent_of content node) false) child
+      | inl child ↦ search (or_left)
       | inr further ↦
           or_right (has_parent id node)
           (option_map_or (is_within n content id) (parent_of content node) false)
@@ -202,8 +177,7 @@ module _ (which : Which) (id : ℕ) (change : Node → Node)
   named = node_at-number old.read id node rooted.there
 
   is_here : first node ≡ change node
-  is_here =
-      cond-true (node.id == id) (change node) node (eq-eqb node.id id named)
+  is_here = grind (arith, nat_tests, named)
 
   -- it stands there with the changed list, and isn't below itself
   now_there : node_at mid.read id ≡ Some (change node)
@@ -217,11 +191,7 @@ module _ (which : Which) (id : ℕ) (change : Node → Node)
       let below : IsLinkedBelow mid.read which id (change node) = down.1.below (change node)
       (ap (node_at mid.read) (number node ∙ named) ∙ now_there) is in
       let now = (rooted_changed id old mid change number parent changes rooted).rooted rooted in
-      rooted_no_loop mid.read id now.steps now.node now.there now.reaches (
-        change node,
-        now_there,
-        (below.0, linked_within below.0 mid.read which id (change node) below.1),
-      ))
+      search (linked_within, now_there, rooted_no_loop))
 
   -- so it has that list in the end
   kept : lists (change node) ≡ (held_of which (change node)).inh
@@ -229,17 +199,22 @@ module _ (which : Which) (id : ℕ) (change : Node → Node)
 
   other_first : has_other_list which new.read (first node) ≡ false
   other_first =
-      ap (λ (n : Node). has_other_list which new.read n) is_here
-      ∙ now_other which id down.0 mid new down.1 (change node) (change node)
-      (ap (node_at mid.read) (number node ∙ named) ∙ now_there) ∙ unchanged
+      cc (
+        is_here,
+        now_other which id down.0 mid new down.1 (change node) (change node)
+            (ap (node_at mid.read) (number node ∙ named) ∙ now_there),
+        unchanged,
+      )
 
   -- whether it had another one
   pub other_node : has_other_list which new.read node
       ≡ not (same_entries (held_of which (change node)).inh (held_of which node).inh)
   other_node =
-      now_other which id down.0 mid new down.1 node (change node)
-      (ap (node_at mid.read) named ∙ now_there)
-      ∙ ap (λ (l : List Ace). not (same_entries l (held_of which node).inh)) kept
+      cc (
+        now_other which id down.0 mid new down.1 node (change node)
+            (ap (node_at mid.read) named ∙ now_there),
+        kept,
+      )
 
   each_less : Each (λ n. has_other_list which new.read (first n) ≡ true
       → has_other_list which new.read n ≡ true) old.read.nodes
@@ -247,20 +222,10 @@ module _ (which : Which) (id : ℕ) (change : Node → Node)
       (λ n. has_other_list which new.read (first n) ≡ true → has_other_list which new.read n ≡ true)
       (λ n there. on n there (cases_Bool (n.id == id)))
     where
-      same_some : (n : Node) → Some n ≡ Some node → n ≡ node
-      same_some n e = cc
-
       on : (n : Node) → node_at old.read n.id ≡ Some n
           → ((n.id == id) ≡ true) ⊎ ((n.id == id) ≡ false)
           → has_other_list which new.read (first n) ≡ true → has_other_list which new.read n ≡ true
-      on n there (inl here) is =
-          let same : n ≡ node = same_some n
-          (sym there ∙ ap (node_at old.read) (eqb-true n.id id here) ∙ rooted.there) in
-          absurd (false≢true (sym other_first
-          ∙ ap (λ (m : Node). has_other_list which new.read (first m)) (sym same) ∙ is))
-      on n there (inr elsewhere) is =
-          ap (λ (m : Node). has_other_list which new.read m)
-          (sym (cond-false (n.id == id) (change n) n elsewhere)) ∙ is
+      on n there given is = grind (arith, nat_tests, other_first)
 
   -- the lists below it
   below_it : changed_lists which mid new

@@ -1,42 +1,27 @@
 -- How many writes suffice to give an object another place.
-use Rattle.std.proofs.Common.{◌≡◌, ◌∙◌, ℕ, ◌+◌, ◌≤◌, ◌==◌, false, cond, not, List, []}
-use Rattle.std.proofs.Common.{◌++◌}
-use Rattle.std.proofs.Common.{Option, Some, None, Ok, length, refl, sym, ap, subst, arith}
-use Rattle.std.specs.Prelude.{zero, suc, ◌&&◌}
-use Rattle.std.specs.Option.{option_map_or}
-use Rattle.room_entry.specs.declared.object.Which.{Which}
-use Rattle.room_entry.specs.declared.object.Which.TheVariants.{Dacl, Sacl}
-use Rattle.room_rows.specs.declared.node.AuditRow.{AuditRow}
-use Rattle.room_rows.specs.declared.node.Node.{Node}
-use Rattle.room_rows.specs.Content.{Content, node_at, root_of, with_each, with_node}
-use Rattle.room_rows.specs.Held.{held_of}
-use Rattle.room_rows.specs.Keep.{Places, with_content, with_inh, with_place}
-use Rattle.room_rows.specs.Rows.{Rows, AreRows}
-use Rattle.room_rows.proofs.InPlace.{with_inh-id}
-use Rattle.room_machine.specs.Changed.{Relinks, inh_in, with_one}
-use Rattle.room_machine.specs.Judge.{first_failure}
-use Rattle.room_machine.specs.Plan.{Item, way, where_found}
-use Rattle.room_machine.specs.Site.{Site, front, last_name, site_at}
-use Rattle.room_machine.specs.Stored.{stored_along, stored_site}
-use Rattle.room_judge.specs.Extent.{unrecorded}
-use Rattle.room_judge.specs.Judged.{FromRoot, IsReached}
-use Rattle.room_judge.specs.Stored.{found_site}
-use Rattle.room_judge.specs.declared.arrival.Found.{Found}
-use Rattle.room_judge.specs.declared.asker.Asker.{Asker}
-use Rattle.room_judge.proofs.Judging.{failure_of_parts}
-use Rattle.room_judge.proofs.UpTo.{Share}
-use Rattle.room_desk.specs.Counted.{EachList, OneAndBoth, OneAndEach, OneWrite, Provided}
-use Rattle.room_desk.specs.Counted.{changed_lists}
-use Rattle.room_desk.specs.Moving.{CanGo, HasListOf, Renews, StandsAlong, StandsListed, at_place}
-use Rattle.room_desk.specs.Moving.{begins, goes_past}
-use Rattle.room_desk.proofs.Lists.HandedDown.{put_one}
-use Rattle.room_desk.proofs.Moves.MovingFacts.{IsFree, all_passed, goable}
-use Rattle.room_desk.proofs.Moves.MovingPlan.{along_noted}
-use Rattle.room_desk.proofs.Placed.PlacingCalls.{FirstDone, is_at, placed_has, placed_stays}
-use Rattle.room_desk.proofs.Steps.Serving.{none_both}
-use Rattle.room_desk.proofs.Writes.ChangedLists.{changed_after, changed_before}
-use Rattle.room_desk.proofs.Writes.Sufficing.{rooted_unrecorded}
+use Rattle.std.proofs.Common.{◌≡◌, ◌∙◌, ℕ, ◌+◌, ◌≤◌, ◌==◌, false, cond, List, [], ◌++◌, Option}
+use Rattle.std.proofs.Common.{Some, None, Ok, length, refl, sym, ap, subst, arith}
 use Rattle.std.proofs.lemmas.Bool.Decides.{nat_tests}
+use Rattle.std.specs.{Prelude.{zero, suc}, Option.option_map_or}
+use Rattle.room_entry.specs.declared.object.Which.{Which, TheVariants.{Dacl, Sacl}}
+use Rattle.room_rows.specs.{declared.node.{AuditRow.AuditRow, Node.Node}, Content.Content}
+use Rattle.room_rows.specs.{Content.{node_at, root_of, with_each, with_node}, Held.held_of}
+use Rattle.room_rows.specs.{Keep.{Places, with_content, with_inh, with_place}, Rows.{Rows, AreRows}}
+use Rattle.room_rows.proofs.InPlace.{with_inh-id}
+use Rattle.room_machine.specs.{Changed.{Relinks, inh_in, with_one}, Judge.first_failure, Plan.Item}
+use Rattle.room_machine.specs.{Plan.way, Site.{Site, front, last_name, site_at}}
+use Rattle.room_machine.specs.Stored.{stored_along, stored_site}
+use Rattle.room_judge.specs.{Extent.unrecorded, Judged.{FromRoot, IsReached}, Stored.found_site}
+use Rattle.room_judge.specs.declared.{arrival.Found.Found, asker.Asker.Asker}
+use Rattle.room_judge.proofs.{Judging.failure_of_parts, UpTo.Share}
+use Rattle.room_desk.specs.Counted.{EachList, OneAndBoth, OneAndEach, OneWrite, Provided}
+use Rattle.room_desk.specs.{Counted.changed_lists, Moving.{CanGo, HasListOf, Renews, StandsAlong}}
+use Rattle.room_desk.specs.Moving.{StandsListed, at_place, begins, goes_past}
+use Rattle.room_desk.proofs.{Lists.HandedDown.put_one, Moves.MovingFacts.{IsFree, all_passed}}
+use Rattle.room_desk.proofs.Moves.{MovingFacts.goable, MovingPlan.along_noted}
+use Rattle.room_desk.proofs.Placed.PlacingCalls.{FirstDone, is_at, placed_has, placed_stays}
+use Rattle.room_desk.proofs.{Steps.Serving.none_both, Writes.ChangedLists.changed_after}
+use Rattle.room_desk.proofs.Writes.{ChangedLists.changed_before, Sufficing.rooted_unrecorded}
 
 -- ---- whatever the records are
 
@@ -48,8 +33,7 @@ goes_beside : (n : ℕ) (content : Content) (audits : List AuditRow) (other : �
 goes_beside n content audits other None = refl
 goes_beside zero content audits other (Some id) = refl
 goes_beside (suc n) content audits other (Some id) =
-    ap (λ t. not (id == other) && t)
-    (on (node_at content id) (λ parent. goes_beside n content audits other parent))
+    cc (on (node_at content id) (λ parent. goes_beside n content audits other parent))
   where
     on : (o : Option Node) → ((parent : Option ℕ)
         → goes_past n (with_audits content audits) other parent
@@ -89,11 +73,7 @@ module _ (asker : Asker) (path to : List (List ℕ)) (from target : Found) (mid 
   free reached =
       let front_way : List Item = way false (stored_along mid.read (front to)) (front to) in
       let none : None ≡ first_failure asker.caller (front_way ++ items site) =
-      reached.judged.answers
-      ∙ ap
-      (λ o. first_failure asker.caller
-      (way false (stored_along mid.read (front to)) (front to) ++ where_found o items))
-      reached.found in
+      grind (arith, nat_tests) in
       all_passed asker.caller mid.read to (begins path (front to)) (found_site path target)
       (found_site path from) site
       (none_both (first_failure asker.caller front_way) (first_failure asker.caller (items site))
@@ -109,10 +89,7 @@ module _ (asker : Asker) (path to : List (List ℕ)) (from target : Found) (mid 
       subst (λ (n : List ℕ). CanGo target.node folder n (unrecorded mid)) (sym is_last)
       (can_go_beside target.node folder (last_name to)
       (with_content mid (with_audits mid.read (mid.read.audits ++ []))) []
-      (goable mid [] path to target.node folder are
-      (ap (λ sites. site_at sites path)
-      (along_noted (unrecorded mid).read mid.read.audits path) ∙ stands.1) here.found
-      (free here)))
+      (search (along_noted, free, goable)))
 
 -- ---- an object changed alone
 
@@ -161,8 +138,7 @@ module _ (target folder : Node) (name : List ℕ) where
 
   listed : (which : Which) (mid : Rows) → HasListOf which target mid
       → HasListOf which target (unrecorded mid)
-  listed which mid has =
-      record { rises = has.rises; node = has.node; there = has.there; held = has.held }
+  listed which mid has = grind (arith, nat_tests)
 
   pub first_share : (old mid new : Rows) (more : ℕ) → Places target.id folder.id name old mid
       → Provided (CanGo target folder name) (OneAndEach Dacl) (unrecorded old) (unrecorded new) more
@@ -253,12 +229,6 @@ module _ (target folder : Node) (name : List ℕ) where
         first = changed_lists Dacl old mid + 1;
         second = changed_lists Sacl mid new;
         suffices_first = (enough.0, omega arith);
-        suffices_second = (
-          (
-            listed Sacl mid (done.sacl can),
-            rooted_unrecorded target.id mid (done.stays can).rooted,
-          ),
-          omega arith,
-        );
+        suffices_second = grind (arith, nat_tests, listed, rooted_unrecorded);
         fits = omega arith;
       }

@@ -1,15 +1,11 @@
 -- How many calls read: calls of a keeper one after the other.
-use Rattle.std.proofs.Common.{◌≡◌, ℕ, ◌+◌, ◌*◌, ◌≤◌, ◌<◌, ◌^◌, ◌-◌, Bool, true, false, Result}
-use Rattle.std.proofs.Common.{Ok, Err, IfOk, arith}
+use Rattle.std.proofs.Common.{◌≡◌, ℕ, ◌+◌, ◌*◌, ◌≤◌, ◌<◌, ◌^◌, ◌-◌, Bool, true, false, Result, Ok}
+use Rattle.std.proofs.{Common.{Err, IfOk, arith}, lemmas.Bool.Decides.nat_tests}
 use Rattle.std.specs.Result.{IsErrAnd}
-use Rattle.room_rows.specs.declared.keep.Keep.{Ghosts}
-use Rattle.room_rows.specs.declared.keep.KeepFault.{KeepFault}
-use Rattle.room_rows.specs.Keep.{capped}
+use Rattle.room_rows.specs.{declared.keep.{Keep.Ghosts, KeepFault.KeepFault}, Keep.capped}
 use Rattle.room_machine.specs.declared.reply.Reply.{Reply}
-use Rattle.room_judge.specs.declared.halt.Halt.{Halt}
-use Rattle.room_judge.specs.Halted.{reply_of, settled}
+use Rattle.room_judge.specs.{declared.halt.Halt.Halt, Halted.{reply_of, settled}}
 use Rattle.room_desk.specs.Called.{ReadsBeside, ReadsFew}
-use Rattle.std.proofs.lemmas.Bool.Decides.{nat_tests}
 
 module _ {S : Type 0} (k : Ghosts S) where
   -- nothing is said where there is no answer
@@ -27,16 +23,13 @@ module _ {S : Type 0} (k : Ghosts S) where
   pub reads_then : (a b c : S) (count more most : ℕ) → k.reads b ≤ k.reads a + count
       → k.writes a ≤ k.writes b → count + more ≤ most → ReadsBeside k more b c
       → ReadsBeside k most a c
-  reads_then a b c count more most reads grows fits next =
-      λ below. let others = next below in omega (arith, reads, grows, fits, others)
+  reads_then a b c count more most reads grows fits next = grind (arith, nat_tests)
 
   -- the same where the others give the result
   pub reads_on : {X : Type 0} (r : Result X KeepFault) (a b c : S) (count more most : ℕ)
       → k.reads b ≤ k.reads a + count → k.writes a ≤ k.writes b → count + more ≤ most
       → IfOk r (λ _. ReadsBeside k more b c) → IfOk r (λ _. ReadsBeside k most a c)
-  reads_on (Ok x) a b c count more most reads grows fits next =
-      reads_then a b c count more most reads grows fits next
-  reads_on (Err e) a b c count more most reads grows fits next = tt
+  reads_on r a b c count more most reads grows fits next = grind (arith, nat_tests, reads_then)
 
   -- two for each list that was written, as far as these are counted
   pub reads_carried : (a b : S) (count changed : ℕ)
@@ -48,10 +41,8 @@ module _ {S : Type 0} (k : Ghosts S) where
   pub reads_before : {X : Type 0} (down : Bool) (r : Result X KeepFault) (a b c : S)
       (count more most : ℕ) → k.reads b ≤ k.reads a + count → k.writes a ≤ k.writes b
       → count + more ≤ most → ReadsFew k down more b c r → ReadsFew k down most a c r
-  reads_before false r a b c count more most reads grows fits next =
-      omega (arith, reads, fits, next)
-  reads_before true r a b c count more most reads grows fits next =
-      reads_on r a b c count more most reads grows fits next
+  reads_before down r a b c count more most reads grows fits next =
+      grind (arith, nat_tests, reads_on)
 
   -- a refusal is a reply
   pub reads_replied : (down : Bool) (count : ℕ) (a b : S) (outcome : Result Reply Halt)

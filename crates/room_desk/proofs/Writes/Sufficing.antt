@@ -1,46 +1,26 @@
 -- How many writes suffice for the calls of requests.
-use Rattle.std.proofs.Common.{◌≡◌, ◌∙◌, ℕ, ◌+◌, ◌≤◌, not, false, true, [], ◌∷◌, List, Option}
-use Rattle.std.proofs.Common.{Some, None, length, refl, sym, ap, arith}
-use Rattle.std.specs.Prelude.{zero, suc, is_none, is_some}
-use Rattle.std.specs.Option.{option_map_or}
-use Rattle.room_entry.specs.Ace.{Ace}
-use Rattle.room_entry.specs.Same.{same_entries}
-use Rattle.room_entry.specs.Valid.{is_document}
-use Rattle.room_entry.specs.declared.object.Which.{Which}
-use Rattle.room_entry.specs.declared.object.Which.TheVariants.{Dacl, Sacl}
-use Rattle.room_rows.specs.declared.node.NewNode.{NewNode}
-use Rattle.room_rows.specs.declared.node.Node.{Node}
-use Rattle.room_rows.specs.Content.{node_at, reaches_root}
-use Rattle.room_rows.specs.HeldList.{Held}
-use Rattle.room_rows.specs.Held.{held_of}
-use Rattle.room_rows.specs.Keep.{Adds, CanAdd, Changes, IsDocumentAt, SetsBody, with_inh}
-use Rattle.room_rows.specs.Rows.{Rows, AreRows}
+use Rattle.std.proofs.Common.{◌≡◌, ◌∙◌, ℕ, ◌+◌, ◌≤◌, not, false, true, [], ◌∷◌, List, Option, Some}
+use Rattle.std.proofs.{Common.{None, length, refl, sym, ap, arith}, lemmas.Bool.Decides.nat_tests}
+use Rattle.std.specs.{Prelude.{zero, suc, is_none, is_some}, Option.option_map_or}
+use Rattle.room_entry.specs.{Ace.Ace, Same.same_entries, Valid.is_document}
+use Rattle.room_entry.specs.declared.object.Which.{Which, TheVariants.{Dacl, Sacl}}
+use Rattle.room_rows.specs.{declared.node.{NewNode.NewNode, Node.Node}, Content.node_at}
+use Rattle.room_rows.specs.{Content.reaches_root, HeldList.Held, Held.held_of, Keep.{Adds, CanAdd}}
+use Rattle.room_rows.specs.{Keep.{Changes, IsDocumentAt, SetsBody, with_inh}, Rows.{Rows, AreRows}}
 use Rattle.room_rows.proofs.InPlace.{held_of-with_inh, place-with_inh}
-use Rattle.room_machine.specs.Plan.{Check, no_folder}
-use Rattle.room_machine.specs.Site.{Site, site_at}
-use Rattle.room_machine.specs.Stored.{stored_along, stored_site}
-use Rattle.room_judge.specs.Extent.{unrecorded}
-use Rattle.room_judge.specs.Judged.{IsJudged}
-use Rattle.room_judge.specs.Spot.{IsPaired, pair_of}
-use Rattle.room_judge.specs.Stored.{found_site}
-use Rattle.room_judge.specs.declared.arrival.Found.{Found}
-use Rattle.room_judge.specs.declared.asker.Asker.{Asker}
+use Rattle.room_machine.specs.{Plan.{Check, no_folder}, Site.{Site, site_at}, Stored.stored_along}
+use Rattle.room_machine.specs.Stored.{stored_site}
+use Rattle.room_judge.specs.{Extent.unrecorded, Judged.IsJudged, Spot.{IsPaired, pair_of}}
+use Rattle.room_judge.specs.declared.{arrival.Found.Found, asker.Asker.Asker}
 use Rattle.room_judge.proofs.UpTo.{Share}
-use Rattle.room_desk.specs.Carrying.{IsCarriedDown, IsRooted, StandsRooted}
-use Rattle.room_desk.specs.Counted.{EachList, OneAndBoth, OneAndEach, OneWrite, Provided}
-use Rattle.room_desk.specs.Counted.{changed_lists}
-use Rattle.room_desk.specs.Made.{IsNameOf}
-use Rattle.room_desk.specs.Moving.{StandsListed}
-use Rattle.room_desk.specs.Removed.{RemovableIfEmpty}
-use Rattle.room_desk.proofs.Made.FolderFound.{IsFoundFolder}
-use Rattle.room_desk.proofs.Made.NewStep.{new_audits}
-use Rattle.room_desk.proofs.Made.PutMade.{is_none_none}
-use Rattle.room_desk.proofs.Moves.MovingFacts.{below_parent}
-use Rattle.room_desk.proofs.Moves.MovingSteps.{some_name}
-use Rattle.room_desk.proofs.Sound.RootedWays.{rooted_along}
+use Rattle.room_desk.specs.{Carrying.{IsCarriedDown, IsRooted, StandsRooted}, Counted.EachList}
+use Rattle.room_desk.specs.Counted.{OneAndBoth, OneAndEach, OneWrite, Provided, changed_lists}
+use Rattle.room_desk.specs.{Made.IsNameOf, Moving.StandsListed, Removed.RemovableIfEmpty}
+use Rattle.room_desk.proofs.Made.{FolderFound.IsFoundFolder, NewStep.new_audits}
+use Rattle.room_desk.proofs.{Made.PutMade.is_none_none, Moves.MovingFacts.below_parent}
+use Rattle.room_desk.proofs.{Moves.MovingSteps.some_name, Sound.RootedWays.rooted_along}
 use Rattle.room_desk.proofs.Steps.Serving.{along_there, folder_fails, none_both}
 use Rattle.room_desk.proofs.Writes.ChangedLists.{one_fewer, other_node}
-use Rattle.std.proofs.lemmas.Bool.Decides.{nat_tests}
 
 -- ---- one call that writes one object leaves the records
 
@@ -103,10 +83,7 @@ removable asker path folder target old mid are paired none = record {
   is_there =
       along_there old.read are.numbers path (stored_site path target.node) paired.target;
   parent = folder.node.id;
-  has_parent =
-      below_parent old.read path (found_site path folder) (stored_site path target.node)
-      (some_name (stored_along old.read path) path (found_site path folder) paired.folder)
-      paired.folder paired.target;
+  has_parent = grind (arith, nat_tests, below_parent, some_name);
   no_children = none;
 }
 
@@ -147,13 +124,8 @@ pub taken_share : (which : Which) (target : Node) (entries passed : List Ace) (o
     → IsCarriedDown which target.id mid tt new
     → Provided (StandsListed which target) (EachList which) (unrecorded old) (unrecorded new) more
     → Share (Provided (StandsListed which target) OneWrite) (EachList which) old mid new more
-taken_share which target entries passed old mid new more are isnt changes down enough = record {
-  first = 1;
-  second = changed_lists which mid new;
-  suffices_first = (enough.0, omega arith);
-  suffices_second = omega arith;
-  fits = fits;
-}
+taken_share which target entries passed old mid new more are isnt changes down enough =
+    grind (arith, nat_tests, fits)
   where
     rooted : IsRooted target.id old
     rooted = rooted_recorded target.id old enough.0.1
@@ -162,8 +134,7 @@ taken_share which target entries passed old mid new more are isnt changes down e
     same_some e = cc
 
     listed : held_of which rooted.node ≡ held_of which target
-    listed =
-        ap (held_of which) (same_some (sym rooted.there ∙ enough.0.0.there)) ∙ enough.0.0.held
+    listed = search (rooted, same_some)
 
     number : (n : Node) → (with_inh which entries n).id ≡ n.id
     number n = (place-with_inh which entries n).number

@@ -1,6 +1,5 @@
 use Rattle.std.proofs.Common.{[], refl}
-use Rattle.room_judge.proofs.Calls.{done, finish}
-use Rattle.room_judge.proofs.Halts.{halts_first, memory_out}
+use Rattle.room_judge.proofs.{Calls.{done, finish}, Halts.{halts_first, memory_out}}
 use Rattle.room_machine.specs.declared.request.Request.TheVariants.{Can}
 use Rattle.room_sound.proofs.Blamed.{rootless_damaged}
 use Rattle.room_desk.proofs.Steps.Serving.{not_served, served_rulings}

@@ -1,6 +1,5 @@
 use Rattle.std.proofs.Common.{ℕ, ◌≡◌, ◌∷◌, [], ◌++◌, List, drop, map}
-use Rattle.room_eval.specs.declared.outcome.Ruling.{Ruling}
-use Rattle.room_eval.specs.Verdict.{ruling_of}
+use Rattle.room_eval.specs.{declared.outcome.Ruling.Ruling, Verdict.ruling_of}
 use Rattle.room_rows.specs.Held.{full_of}
 use Rattle.room_desk.proofs.asking.rulings_of.Given as goal
 

@@ -1,5 +1,4 @@
-use Rattle.room_desk.proofs.Lists.CarriedDown.{given_ok, given_err}
-use Rattle.room_desk.proofs.Writes.Reading.{reads_carried}
+use Rattle.room_desk.proofs.{Lists.CarriedDown.{given_ok, given_err}, Writes.Reading.reads_carried}
 use Rattle.room_desk.proofs.carrying.carry_from.Goals as goal
 
 pub returns-in-Ok : goal.returns-in-Ok

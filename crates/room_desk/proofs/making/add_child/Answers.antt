@@ -1,10 +1,8 @@
 use Rattle.std.proofs.Common.{refl, sym, subst}
-use Rattle.room_rows.specs.declared.node.NewNode.{NewNode}
-use Rattle.room_judge.proofs.Calls.{done, of_change}
+use Rattle.room_rows.specs.{declared.node.NewNode.NewNode, Keep.CanAdd}
+use Rattle.room_judge.proofs.{Calls.{done, of_change}, UpTo.finish_up_to}
 use Rattle.room_desk.specs.Made.{IsMade}
-use Rattle.room_rows.specs.Keep.{CanAdd}
 use Rattle.room_judge.specs.Extent.{unrecorded}
-use Rattle.room_judge.proofs.UpTo.{finish_up_to}
 use Rattle.room_desk.proofs.Writes.Sufficing.{can_recorded, one_added}
 use Rattle.room_desk.proofs.making.add_child.Goals as goal
 

@@ -1,14 +1,11 @@
 use Rattle.std.proofs.Common.{refl}
 use Rattle.std.specs.Prelude.{is_some}
 use Rattle.room_judge.specs.Halted.{replied}
-use Rattle.room_judge.proofs.Calls.{done}
-use Rattle.room_judge.proofs.Halts.{halts_first}
-use Rattle.room_desk.proofs.Made.FolderMade.{folder_barred, make_in}
-use Rattle.room_desk.proofs.Made.ServedItems.{spotted_blames}
+use Rattle.room_judge.proofs.{Calls.done, Halts.halts_first, UpTo.tail_provided}
+use Rattle.room_desk.proofs.Made.{FolderMade.{folder_barred, make_in}, ServedItems.spotted_blames}
+use Rattle.room_desk.proofs.{Made.FolderFound.found_folder, Writes.Sufficing.{can_make, none_if}}
+use Rattle.room_desk.proofs.Writes.Sufficing.{one_of_both}
 use Rattle.room_sound.proofs.Blamed.{rootless_damaged}
-use Rattle.room_desk.proofs.Made.FolderFound.{found_folder}
-use Rattle.room_judge.proofs.UpTo.{tail_provided}
-use Rattle.room_desk.proofs.Writes.Sufficing.{can_make, none_if, one_of_both}
 use Rattle.room_desk.proofs.making.make_below.Goals as goal
 
 pub returns-in_err-spot-clause-done : goal.returns-in_err-spot-clause-done

@@ -1,10 +1,7 @@
 use Rattle.std.proofs.Common.{refl, take}
-use Rattle.room_machine.specs.declared.reply.Reply.TheVariants.{Refused}
-use Rattle.room_machine.specs.declared.reply.Reason.TheVariants.{Exists}
-use Rattle.room_judge.proofs.Calls.{none_done}
-use Rattle.room_judge.proofs.Halts.{refused_as}
-use Rattle.room_desk.proofs.Made.FolderMade.{folder_root}
-use Rattle.room_desk.proofs.Made.ServedItems.{name_of_parts}
+use Rattle.room_machine.specs.declared.reply.{Reply.TheVariants.Refused, Reason.TheVariants.Exists}
+use Rattle.room_judge.proofs.{Calls.none_done, Halts.refused_as}
+use Rattle.room_desk.proofs.Made.{FolderMade.folder_root, ServedItems.name_of_parts}
 use Rattle.room_desk.proofs.making.make_folder.Goals as goal
 
 pub make_below-requires : goal.make_below-requires

@@ -1,14 +1,10 @@
 use Rattle.std.proofs.Common.{[], ◌∷◌, None, refl, sym, ◌∙◌}
 use Rattle.std.specs.Prelude.{is_some}
 use Rattle.room_entry.specs.Rights.{append_data}
-use Rattle.room_machine.specs.declared.reply.Reason.TheVariants.{Exists}
-use Rattle.room_judge.specs.Halted.{replied}
-use Rattle.room_judge.specs.Stored.{found_site}
-use Rattle.room_judge.proofs.Calls.{done}
-use Rattle.room_machine.specs.Changed.{new_child}
-use Rattle.room_judge.proofs.Judging.{blames_first}
+use Rattle.room_machine.specs.{declared.reply.Reason.TheVariants.Exists, Changed.new_child}
+use Rattle.room_judge.specs.{Halted.replied, Stored.found_site}
+use Rattle.room_judge.proofs.{Calls.done, Judging.blames_first, UpTo.tail_provided}
 use Rattle.room_desk.proofs.Made.ServedItems.{added_behind}
-use Rattle.room_judge.proofs.UpTo.{tail_provided}
 use Rattle.room_desk.proofs.making.make_new.Goals as goal
 
 pub returns-clause-done : goal.returns-clause-done

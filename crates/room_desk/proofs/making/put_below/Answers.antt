@@ -1,16 +1,12 @@
 use Rattle.std.proofs.Common.{None, length, ap, refl}
 use Rattle.room_judge.specs.Halted.{replied}
-use Rattle.room_judge.proofs.Calls.{done}
-use Rattle.room_judge.proofs.Folders.{spotted_child}
-use Rattle.room_judge.proofs.Halts.{halts_first}
-use Rattle.room_desk.proofs.Made.PutMade.{put_barred, put_in, put_on}
-use Rattle.room_desk.proofs.Made.ServedItems.{spotted_blames}
+use Rattle.room_judge.proofs.{Calls.done, Folders.spotted_child, Halts.halts_first}
+use Rattle.room_judge.proofs.UpTo.{tail_provided}
+use Rattle.room_desk.proofs.Made.{PutMade.{put_barred, put_in, put_on}, ServedItems.spotted_blames}
+use Rattle.room_desk.proofs.{Made.FolderFound.found_folder, Steps.Serving.along_there}
+use Rattle.room_desk.proofs.Writes.Sufficing.{can_make, one_of_both}
 use Rattle.room_sound.proofs.Blamed.{rootless_damaged}
 use Rattle.room_machine.specs.Stored.{stored_site}
-use Rattle.room_desk.proofs.Made.FolderFound.{found_folder}
-use Rattle.room_desk.proofs.Steps.Serving.{along_there}
-use Rattle.room_judge.proofs.UpTo.{tail_provided}
-use Rattle.room_desk.proofs.Writes.Sufficing.{can_make, one_of_both}
 use Rattle.room_rows.specs.Rows.{Rows}
 use Rattle.room_desk.proofs.making.put_below.Goals as goal
 

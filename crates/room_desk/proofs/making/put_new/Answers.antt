@@ -1,14 +1,10 @@
 use Rattle.std.proofs.Common.{ℕ, ◌≡◌, ◌≤◌, false, [], ◌∷◌, None, nat_lt, length, refl, subst}
 use Rattle.std.proofs.lemmas.Bool.{le-ltb}
 use Rattle.room_entry.specs.Rights.{write_data}
-use Rattle.room_machine.specs.declared.reply.Reason.TheVariants.{TooLarge}
-use Rattle.room_judge.specs.Halted.{replied}
-use Rattle.room_judge.specs.Stored.{found_site}
-use Rattle.room_judge.proofs.Calls.{done}
-use Rattle.room_machine.specs.Changed.{new_child}
-use Rattle.room_judge.proofs.Judging.{blames_first}
+use Rattle.room_machine.specs.{declared.reply.Reason.TheVariants.TooLarge, Changed.new_child}
+use Rattle.room_judge.specs.{Halted.replied, Stored.found_site}
+use Rattle.room_judge.proofs.{Calls.done, Judging.blames_first, UpTo.tail_provided}
 use Rattle.room_desk.proofs.Made.ServedItems.{added_behind}
-use Rattle.room_judge.proofs.UpTo.{tail_provided}
 use Rattle.room_desk.proofs.making.put_new.Goals as goal
 
 pub returns-clause-done : goal.returns-clause-done

@@ -1,13 +1,10 @@
 use Rattle.std.proofs.Common.{refl}
 use Rattle.room_judge.specs.Halted.{replied}
-use Rattle.room_judge.proofs.Calls.{done}
-use Rattle.room_judge.proofs.Halts.{halts_first}
-use Rattle.room_desk.proofs.Made.PutMade.{put_root, root_barred}
+use Rattle.room_judge.proofs.{Calls.done, Halts.halts_first, UpTo.tail_provided}
+use Rattle.room_desk.proofs.{Made.PutMade.{put_root, root_barred}, Steps.Serving.along_there}
+use Rattle.room_desk.proofs.Writes.Sufficing.{one_of_both}
 use Rattle.room_sound.proofs.Blamed.{noted_unread, rootless_damaged}
 use Rattle.room_machine.specs.Stored.{stored_site}
-use Rattle.room_desk.proofs.Steps.Serving.{along_there}
-use Rattle.room_judge.proofs.UpTo.{tail_provided}
-use Rattle.room_desk.proofs.Writes.Sufficing.{one_of_both}
 use Rattle.room_desk.proofs.making.put_root.Goals as goal
 
 pub returns-in_err-node-clause-done : goal.returns-in_err-node-clause-done

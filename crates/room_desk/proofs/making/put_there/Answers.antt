@@ -1,11 +1,7 @@
 use Rattle.std.proofs.Common.{None, refl}
-use Rattle.room_judge.specs.Halted.{replied}
-use Rattle.room_judge.specs.Stored.{found_site}
-use Rattle.room_judge.proofs.Calls.{done}
-use Rattle.room_judge.proofs.Judging.{blames_first}
-use Rattle.room_desk.proofs.Made.ServedItems.{put_behind}
-use Rattle.room_judge.proofs.UpTo.{tail_provided}
-use Rattle.room_desk.proofs.Writes.Sufficing.{document_passed}
+use Rattle.room_judge.specs.{Halted.replied, Stored.found_site}
+use Rattle.room_judge.proofs.{Calls.done, Judging.blames_first, UpTo.tail_provided}
+use Rattle.room_desk.proofs.{Made.ServedItems.put_behind, Writes.Sufficing.document_passed}
 use Rattle.room_desk.proofs.making.put_there.Goals as goal
 
 pub returns-clause-done : goal.returns-clause-done

@@ -1,10 +1,7 @@
 use Rattle.std.proofs.Common.{Bool, List, [], ◌∷◌, ◌++◌, None, Some}
-use Rattle.room_machine.specs.Plan.{Check, Deletion, Item, right_to_add}
-use Rattle.room_machine.specs.Site.{Site, front}
-use Rattle.room_judge.specs.Judged.{refusal_of, through}
-use Rattle.room_judge.specs.Stored.{found_site}
-use Rattle.room_judge.proofs.Calls.{done, tail, then}
-use Rattle.room_judge.proofs.Halts.{halts, halts_first}
+use Rattle.room_machine.specs.{Plan.{Check, Deletion, Item, right_to_add}, Site.{Site, front}}
+use Rattle.room_judge.specs.{Judged.{refusal_of, through}, Stored.found_site}
+use Rattle.room_judge.proofs.{Calls.{done, tail, then}, Halts.{halts, halts_first}}
 use Rattle.room_judge.proofs.Judging.{blames_first, fails_first, passes_first}
 use Rattle.room_desk.specs.Moving.{begins, free_place, rights_to_move}
 use Rattle.room_desk.proofs.Moves.FreePlaces.{free_after}

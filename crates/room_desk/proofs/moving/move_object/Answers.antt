@@ -1,22 +1,15 @@
-use Rattle.std.proofs.Common.{◌≡◌, Some, ap, refl, take, ◌∙◌}
-use Rattle.std.proofs.Common.{Result, Err, arith, length, ◌+◌}
-use Rattle.room_rows.specs.Content.{root_of}
-use Rattle.room_rows.specs.Rows.{Rows}
-use Rattle.room_machine.specs.declared.reply.Reply.TheVariants.{Refused}
+use Rattle.std.proofs.Common.{◌≡◌, Some, ap, refl, take, ◌∙◌, Result, Err, arith, length, ◌+◌}
+use Rattle.room_rows.specs.{Content.root_of, Rows.Rows}
+use Rattle.room_machine.specs.declared.reply.Reply.{Reply, TheVariants.Refused}
 use Rattle.room_machine.specs.declared.reply.Reason.TheVariants.{Root}
-use Rattle.room_judge.specs.Halted.{settled}
-use Rattle.room_judge.specs.Spot.{IsPaired, pair_of}
-use Rattle.room_judge.proofs.Calls.{done, none_done, of_read, then}
-use Rattle.room_judge.proofs.Halts.{faults, halts, refused_as}
+use Rattle.room_judge.specs.{Halted.settled, Spot.{IsPaired, pair_of}, declared.arrival.Both.Both}
+use Rattle.room_judge.proofs.{Calls.{done, none_done, of_read, then}, Halts.{faults, halts}}
+use Rattle.room_judge.proofs.{Halts.refused_as, UpTo.tail_provided}
 use Rattle.room_desk.proofs.Moves.MovingSteps.{empty_path, root_after, root_stays, rooted_pair}
-use Rattle.room_desk.proofs.Moves.MovingSteps.{way_halted}
-use Rattle.room_sound.proofs.Blamed.{rootless_damaged, unread_damaged}
-use Rattle.room_judge.proofs.UpTo.{tail_provided}
-use Rattle.room_desk.proofs.Writes.Placing.{stands_unrecorded}
+use Rattle.room_desk.proofs.{Moves.MovingSteps.way_halted, Writes.Placing.stands_unrecorded}
 use Rattle.room_desk.proofs.Writes.Reading.{reads_on}
+use Rattle.room_sound.proofs.Blamed.{rootless_damaged, unread_damaged}
 use Rattle.room_desk.proofs.moving.move_object.Goals as goal
-use Rattle.room_judge.specs.declared.arrival.Both.{Both}
-use Rattle.room_machine.specs.declared.reply.Reply.{Reply}
 
 pub returns-then-is_root-clause-done : goal.returns-then-is_root-clause-done
 returns-then-is_root-clause-done g c =

@@ -1,13 +1,10 @@
-use Rattle.std.proofs.Common.{ℕ, Bool, ◌≡◌, ◌<◌, ◌+◌, Some, None, List, length, ap, subst}
-use Rattle.std.proofs.Common.{arith}
-use Rattle.std.specs.Prelude.{◌-◌}
+use Rattle.std.proofs.Common.{ℕ, Bool, ◌≡◌, ◌<◌, ◌+◌, Some, None, List, length, ap, subst, arith}
 use Rattle.std.proofs.Common.{Ok, Err}
-use Rattle.room_rows.specs.Keep.{IsUnreadable}
-use Rattle.room_rows.specs.Rows.{Rows}
+use Rattle.std.specs.Prelude.{◌-◌}
+use Rattle.room_rows.specs.{Keep.IsUnreadable, Rows.Rows}
 use Rattle.room_machine.specs.Site.{Site, front}
 use Rattle.room_judge.specs.Stored.{found_site}
-use Rattle.room_judge.proofs.Calls.{done, finish, then}
-use Rattle.room_judge.proofs.Halts.{halts, halts_first}
+use Rattle.room_judge.proofs.{Calls.{done, finish, then}, Halts.{halts, halts_first}}
 use Rattle.room_judge.proofs.Ways.{not_reached}
 use Rattle.room_desk.specs.Moving.{at_place, begins}
 use Rattle.room_desk.proofs.Moves.MovingWays.{front_reached, place_reached}

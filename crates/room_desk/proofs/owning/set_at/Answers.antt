@@ -1,11 +1,9 @@
-use Rattle.std.proofs.Common.{arith, refl, sym, inl, inr, ◌∙◌}
-use Rattle.std.proofs.lemmas.Bool.{false≢true}
-use Rattle.room_judge.proofs.Calls.{none_done, finish, done, of_change}
+use Rattle.std.proofs.{Common.{arith, refl, sym, inl, inr, ◌∙◌}, lemmas.Bool.false≢true}
+use Rattle.room_judge.proofs.{Calls.{none_done, finish, done, of_change}, UpTo.finish_up_to}
 use Rattle.room_machine.specs.declared.reply.Reply.TheVariants.{Done}
 use Rattle.room_desk.proofs.Owned.OwnersSet.{equal_owners, owners_themselves}
-use Rattle.room_rows.specs.Keep.{with_owners}
-use Rattle.room_judge.proofs.UpTo.{finish_up_to}
 use Rattle.room_desk.proofs.Writes.Sufficing.{one_changed}
+use Rattle.room_rows.specs.Keep.{with_owners}
 use Rattle.room_desk.proofs.owning.set_at.Goals as goal
 
 pub returns-then-are_same : goal.returns-then-are_same

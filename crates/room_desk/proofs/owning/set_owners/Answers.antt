@@ -1,15 +1,10 @@
-use Rattle.std.proofs.Common.{refl}
-use Rattle.std.proofs.Common.{Ok}
-use Rattle.room_machine.specs.declared.request.Request.TheVariants.{SetOwners}
-use Rattle.room_judge.proofs.Calls.{done}
-use Rattle.room_judge.proofs.Halts.{faults, halts_first}
-use Rattle.room_desk.proofs.Owned.OwnersSet.{owners_set}
+use Rattle.std.proofs.Common.{refl, Ok}
+use Rattle.room_machine.specs.{declared.request.Request.TheVariants.SetOwners, Stored.stored_site}
+use Rattle.room_judge.proofs.{Calls.done, Halts.{faults, halts_first}, UpTo.finish_up_to}
+use Rattle.room_judge.proofs.UpTo.{then_provided}
+use Rattle.room_desk.proofs.{Owned.OwnersSet.owners_set, Steps.Serving.{along_there, not_served}}
+use Rattle.room_desk.proofs.{Steps.Serving.reached_damaged, Writes.Sufficing.one_of_both}
 use Rattle.room_sound.proofs.Blamed.{rootless_damaged}
-use Rattle.room_desk.proofs.Steps.Serving.{along_there, not_served}
-use Rattle.room_desk.proofs.Steps.Serving.{reached_damaged}
-use Rattle.room_machine.specs.Stored.{stored_site}
-use Rattle.room_judge.proofs.UpTo.{finish_up_to, then_provided}
-use Rattle.room_desk.proofs.Writes.Sufficing.{one_of_both}
 use Rattle.room_desk.proofs.owning.set_owners.Goals as goal
 
 pub returns-in_err-node-clause-done : goal.returns-in_err-node-clause-done

@@ -1,11 +1,9 @@
-use Rattle.std.proofs.Common.{◌+◌, to_z, of_z, w64, arith}
-use Rattle.std.proofs.lemmas.Int.{to_z-of_z}
+use Rattle.std.proofs.{Common.{◌+◌, to_z, of_z, w64, arith}, lemmas.Int.to_z-of_z}
 use Rattle.room_judge.proofs.Calls.{tail, done, of_read}
 use Rattle.room_sound.proofs.Blamed.{damaged_before}
 use Rattle.std.specs.Option.{option_copied}
-use Rattle.room_desk.proofs.Steps.InTurn.{performed}
+use Rattle.room_desk.proofs.{Steps.InTurn.performed, Writes.Reading.reads_before}
 use Rattle.room_desk.specs.Called.{calls_for, hands_down}
-use Rattle.room_desk.proofs.Writes.Reading.{reads_before}
 use Rattle.room_desk.proofs.performing.perform.Goals as goal
 
 pub returns : goal.returns

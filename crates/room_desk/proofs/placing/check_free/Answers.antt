@@ -1,12 +1,9 @@
 use Rattle.std.proofs.Common.{◌≡◌, ◌+◌, ◌<◌, length, take, ap, refl, ◌∙◌, arith}
 use Rattle.room_desk.specs.Moving.{begins}
-use Rattle.room_machine.specs.Site.{front}
-use Rattle.room_machine.specs.declared.reply.Reply.TheVariants.{Refused}
+use Rattle.room_machine.specs.{Site.front, declared.reply.Reply.TheVariants.Refused}
 use Rattle.room_machine.specs.declared.reply.Reason.TheVariants.{Exists, Loop}
-use Rattle.room_judge.proofs.Calls.{finish, done, of_read}
-use Rattle.room_judge.proofs.Halts.{refused_as}
+use Rattle.room_judge.proofs.{Calls.{finish, done, of_read}, Halts.refused_as, Ways.name_read}
 use Rattle.room_desk.proofs.Moves.FreePlaces.{all_free, begun_as, exists_refused, loop_refused}
-use Rattle.room_judge.proofs.Ways.{name_read}
 use Rattle.room_desk.proofs.placing.check_free.Goals as goal
 
 pub returns-then-is_taken-clause-done : goal.returns-then-is_taken-clause-done

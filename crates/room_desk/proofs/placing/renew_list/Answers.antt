@@ -1,7 +1,5 @@
 use Rattle.std.proofs.Common.{◌≡◌, sym, ap, ◌∙◌}
-use Rattle.room_rows.specs.HeldList.{Held}
-use Rattle.room_rows.specs.Held.{full_of, held_of}
-use Rattle.room_rows.specs.Pass.{pass}
+use Rattle.room_rows.specs.{HeldList.Held, Held.{full_of, held_of}, Pass.pass}
 use Rattle.room_judge.proofs.Calls.{none_done, tail, finish}
 use Rattle.room_desk.proofs.Placed.PlacingCalls.{renewing_before, taken_renews, unlinked_renews}
 use Rattle.room_desk.proofs.placing.renew_list.Goals as goal

@@ -1,13 +1,11 @@
 use Rattle.std.proofs.Common.{List, sym, ap, ◌∙◌, inl}
 use Rattle.room_entry.proofs.Same.{entries_equal}
-use Rattle.room_rows.specs.HeldList.{Held}
+use Rattle.room_rows.specs.{HeldList.Held, Keep.with_inh}
 use Rattle.room_judge.proofs.Calls.{none_done, fails, finish, done, of_change, of_write}
-use Rattle.room_desk.proofs.Placed.PlacingCalls.{passed_unread, taken_as, unrenewed}
-use Rattle.room_entry.specs.Ace.{Ace}
-use Rattle.room_entry.specs.Same.{same_entries}
-use Rattle.room_rows.specs.Keep.{with_inh}
 use Rattle.room_judge.proofs.UpTo.{tail_share}
+use Rattle.room_desk.proofs.Placed.PlacingCalls.{passed_unread, taken_as, unrenewed}
 use Rattle.room_desk.proofs.Writes.Sufficing.{one_changed, taken_share}
+use Rattle.room_entry.specs.{Ace.Ace, Same.same_entries}
 use Rattle.room_desk.proofs.placing.take_passed.Goals as goal
 
 pub returns-then-is_stored-clause-done : goal.returns-then-is_stored-clause-done

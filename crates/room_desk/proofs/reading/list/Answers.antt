@@ -1,9 +1,8 @@
-use Rattle.std.proofs.Common.{[], ◌∷◌, refl}
-use Rattle.std.proofs.Common.{Ok, Err}
+use Rattle.std.proofs.Common.{[], ◌∷◌, refl, Ok, Err}
 use Rattle.room_entry.specs.Rights.{read_data}
 use Rattle.room_machine.specs.declared.request.Request.TheVariants.{List as ListFolder}
-use Rattle.room_judge.proofs.Calls.{done, finish, of_read, then_known}
-use Rattle.room_judge.proofs.Halts.{faults, halts_first}
+use Rattle.room_judge.proofs.{Calls.{done, finish, of_read, then_known}, Halts.faults}
+use Rattle.room_judge.proofs.Halts.{halts_first}
 use Rattle.room_sound.proofs.Blamed.{rootless_damaged}
 use Rattle.room_desk.proofs.Steps.Serving.{FolderAt, names_answered, not_served, reached_as}
 use Rattle.room_desk.proofs.Steps.Serving.{reached_damaged}

@@ -1,11 +1,9 @@
-use Rattle.std.proofs.Common.{[], ◌∷◌, refl}
-use Rattle.std.proofs.Common.{Ok, Err}
+use Rattle.std.proofs.Common.{[], ◌∷◌, refl, Ok, Err}
 use Rattle.room_entry.specs.Rights.{read_attributes}
 use Rattle.room_machine.specs.declared.request.Request.TheVariants.{ReadAttr}
-use Rattle.room_judge.proofs.Calls.{done, finish}
+use Rattle.room_judge.proofs.{Calls.{done, finish}, Halts.halts_first}
 use Rattle.room_sound.proofs.Blamed.{rootless_damaged}
 use Rattle.room_desk.proofs.Steps.Serving.{CheckAt, not_served, reached_as, served_attr}
-use Rattle.room_judge.proofs.Halts.{halts_first}
 use Rattle.room_desk.proofs.reading.read_attr.Goals as goal
 
 pub returns-in_err-node-clause-done : goal.returns-in_err-node-clause-done

@@ -1,14 +1,11 @@
-use Rattle.std.proofs.Common.{[], ◌∷◌, refl, ap, ◌∙◌}
-use Rattle.std.proofs.Common.{Ok, Err}
-use Rattle.room_rows.specs.HeldList.{Held}
-use Rattle.room_rows.specs.Held.{full_of}
+use Rattle.std.proofs.Common.{[], ◌∷◌, refl, ap, ◌∙◌, Ok, Err}
+use Rattle.room_rows.specs.{HeldList.Held, Held.full_of}
 use Rattle.room_entry.specs.Rights.{read_acl}
 use Rattle.room_machine.specs.declared.reply.Reply.TheVariants.{Lists}
 use Rattle.room_machine.specs.declared.request.Request.TheVariants.{ReadList}
-use Rattle.room_judge.proofs.Calls.{done, finish}
+use Rattle.room_judge.proofs.{Calls.{done, finish}, Halts.{halts_first, memory_out}}
 use Rattle.room_sound.proofs.Blamed.{rootless_damaged}
 use Rattle.room_desk.proofs.Steps.Serving.{CheckAt, not_served, reached_as, served_list}
-use Rattle.room_judge.proofs.Halts.{halts_first, memory_out}
 use Rattle.room_desk.proofs.reading.read_full_list.Goals as goal
 
 pub returns-in_err-node-clause-done : goal.returns-in_err-node-clause-done

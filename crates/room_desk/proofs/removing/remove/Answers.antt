@@ -1,20 +1,16 @@
-use Rattle.std.proofs.Common.{◌≡◌, ℕ, Bool, false, List, refl, length, sym, subst, ap, take}
+use Rattle.std.proofs.Common.{◌≡◌, ℕ, Bool, false, List, refl, length, sym, subst, ap, take, arith}
+use Rattle.std.proofs.lemmas.Bool.Decides.{nat_tests}
 use Rattle.std.specs.Prelude.{◌==◌}
 use Rattle.room_rows.specs.Content.{is_empty}
-use Rattle.room_machine.specs.declared.reply.Reply.TheVariants.{Refused}
-use Rattle.room_machine.specs.declared.reply.Reason.TheVariants.{Root}
+use Rattle.room_machine.specs.declared.reply.{Reply.TheVariants.Refused, Reason.TheVariants.Root}
 use Rattle.room_machine.specs.declared.request.Request.TheVariants.{Remove}
-use Rattle.room_judge.proofs.Calls.{done, none_done, of_read}
+use Rattle.room_judge.proofs.{Calls.{done, none_done, of_read}, Halts.{faults, halts_first}}
+use Rattle.room_judge.proofs.{Halts.refused_as, UpTo.tail_provided}
 use Rattle.room_sound.proofs.Blamed.{noted_unread, rootless_damaged}
 use Rattle.room_desk.proofs.Gone.GoneSteps.{remove_done, remove_halted, root_kept}
-use Rattle.room_desk.proofs.Moves.MovingSteps.{empty_path}
-use Rattle.room_judge.specs.Closed.{IsServed}
-use Rattle.room_judge.specs.Halted.{replied}
-use Rattle.room_judge.proofs.Halts.{faults, halts_first, refused_as}
-use Rattle.room_judge.proofs.UpTo.{tail_provided}
-use Rattle.room_desk.proofs.Writes.Sufficing.{one_of_both, removable}
-use Rattle.std.proofs.Common.{arith}
-use Rattle.std.proofs.lemmas.Bool.Decides.{nat_tests}
+use Rattle.room_desk.proofs.{Moves.MovingSteps.empty_path, Writes.Sufficing.one_of_both}
+use Rattle.room_desk.proofs.Writes.Sufficing.{removable}
+use Rattle.room_judge.specs.{Closed.IsServed, Halted.replied}
 use Rattle.room_desk.proofs.removing.remove.Goals as goal
 
 some_names : (path : List (List ℕ)) (is_root : Bool) → is_root ≡ (length path == 0)

@@ -1,6 +1,5 @@
 use Rattle.std.proofs.Common.{None}
-use Rattle.room_judge.proofs.Calls.{done, tail}
-use Rattle.room_judge.proofs.Judging.{blames_first}
+use Rattle.room_judge.proofs.{Calls.{done, tail}, Judging.blames_first}
 use Rattle.room_desk.proofs.removing.remove_from.Goals as goal
 
 pub returns-clause-done : goal.returns-clause-done

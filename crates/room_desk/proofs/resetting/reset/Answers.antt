@@ -1,14 +1,11 @@
 use Rattle.std.proofs.Common.{List, length, arith, sym, ap, ◌∙◌}
 use Rattle.std.specs.Prelude.{◌+◌, ◌-◌, slice_get}
-use Rattle.room_judge.proofs.Calls.{none_done, fails, done, of_read}
+use Rattle.room_judge.proofs.{Calls.{none_done, fails, done, of_read}, UpTo.tail_provided}
 use Rattle.room_rows.specs.declared.node.Node.{Node}
-use Rattle.room_desk.proofs.Lists.ResetClosed.{reset_told}
-use Rattle.room_desk.proofs.Lists.SetReset.{reset_blames}
-use Rattle.room_sound.proofs.Blamed.{rootless_damaged}
+use Rattle.room_desk.proofs.Lists.{ResetClosed.reset_told, SetReset.reset_blames}
 use Rattle.room_desk.proofs.Sound.RootedWays.{rooted_last, stands_last}
-use Rattle.room_judge.proofs.UpTo.{tail_provided}
-use Rattle.room_desk.proofs.Writes.Sufficing.{rooted_unrecorded}
-use Rattle.room_desk.proofs.Writes.Reading.{reads_on, unanswered}
+use Rattle.room_desk.proofs.Writes.{Sufficing.rooted_unrecorded, Reading.{reads_on, unanswered}}
+use Rattle.room_sound.proofs.Blamed.{rootless_damaged}
 use Rattle.room_desk.proofs.resetting.reset.Goals as goal
 
 pub returns-in_err-found : goal.returns-in_err-found

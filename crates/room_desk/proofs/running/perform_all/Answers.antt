@@ -1,11 +1,9 @@
-use Rattle.std.proofs.Common.{subst, take}
-use Rattle.std.proofs.lemmas.List.{take_all}
+use Rattle.std.proofs.{Common.{subst, take}, lemmas.List.take_all}
 use Rattle.room_judge.proofs.Calls.{HasDone, done, fails, memory}
 use Rattle.room_judge.specs.Extent.{Unsaid, UpTo}
 use Rattle.room_desk.specs.InTurn.{calls_for_all, some_hands_down}
 use Rattle.room_desk.proofs.Steps.Bounds.{HasGone, answered, done_so, gone_more, no_replies}
-use Rattle.room_desk.proofs.Steps.Bounds.{none_gone, reads_halted}
-use Rattle.room_desk.proofs.Steps.InTurn.{go_run}
+use Rattle.room_desk.proofs.Steps.{Bounds.{none_gone, reads_halted}, InTurn.go_run}
 use Rattle.room_desk.proofs.running.perform_all.Goals as goal
 
 pub requests-init : goal.requests-init

@@ -1,11 +1,9 @@
 use Rattle.std.proofs.Common.{◌≡◌, ap, sym, subst, ◌∙◌}
-use Rattle.room_rows.specs.declared.node.Node.{Node}
-use Rattle.room_rows.specs.Held.{with_held}
-use Rattle.room_judge.proofs.Calls.{none_done}
+use Rattle.room_rows.specs.{declared.node.Node.Node, Held.with_held}
+use Rattle.room_judge.proofs.{Calls.none_done, UpTo.tail_provided}
 use Rattle.room_desk.proofs.Lists.SettingCalls.{carried_as, loop_as}
 use Rattle.room_inherit.specs.Spread.{Holds}
 use Rattle.room_judge.specs.Extent.{unrecorded}
-use Rattle.room_judge.proofs.UpTo.{tail_provided}
 use Rattle.room_desk.proofs.setting.carry_on.Goals as goal
 
 pub returns : goal.returns

@@ -1,11 +1,10 @@
-use Rattle.std.proofs.Common.{sym, ap, ◌∙◌}
-use Rattle.std.proofs.lemmas.Bool.{false≢true}
+use Rattle.std.proofs.{Common.{sym, ap, ◌∙◌}, lemmas.Bool.false≢true}
 use Rattle.room_entry.specs.Same.{same_entries}
 use Rattle.room_desk.specs.Setting.{list_of}
 use Rattle.room_desk.proofs.Lists.SameHeld.{flags_itself, flags_same, held_equal, inh_itself}
-use Rattle.room_desk.proofs.Lists.SameHeld.{own_itself}
+use Rattle.room_desk.proofs.{Lists.SameHeld.own_itself, setting.is_same_list.Goals.then-eq}
+use Rattle.room_desk.proofs.setting.is_same_list.Goals.{else-eq}
 use Rattle.room_desk.proofs.setting.is_same_list.Goals as goal
-use Rattle.room_desk.proofs.setting.is_same_list.Goals.{then-eq, else-eq}
 
 pub returns-then-is_same : goal.returns-then-is_same
 returns-then-is_same c = (

@@ -1,8 +1,6 @@
 use Rattle.std.specs.Option.{option_copied}
-use Rattle.room_judge.proofs.Calls.{done, then}
-use Rattle.room_judge.proofs.Halts.{faults, halts_first}
+use Rattle.room_judge.proofs.{Calls.{done, then}, Halts.{faults, halts_first}, UpTo.finish_up_to}
 use Rattle.room_desk.proofs.Lists.SetRequest.{allowed_blames, allowed_done, not_allowed}
-use Rattle.room_judge.proofs.UpTo.{finish_up_to}
 use Rattle.room_desk.proofs.setting.set_allowed.Goals as goal
 
 pub returns-in_err-check-clause-done : goal.returns-in_err-check-clause-done

@@ -1,11 +1,9 @@
-use Rattle.std.proofs.Common.{List, refl, sym, ap, ◌∙◌, inl, inr}
-use Rattle.std.proofs.lemmas.Bool.{false≢true}
+use Rattle.std.proofs.{Common.{List, refl, sym, ap, ◌∙◌, inl, inr}, lemmas.Bool.false≢true}
 use Rattle.std.specs.Option.{option_copied}
 use Rattle.room_entry.specs.Ace.{Ace}
 use Rattle.room_judge.proofs.Calls.{none_done, memory, finish, tail_known}
 use Rattle.room_desk.specs.Setting.{held_with}
-use Rattle.room_desk.proofs.Lists.SettingCalls.{fails_before, list_sent, set_from}
-use Rattle.room_desk.proofs.Lists.SettingCalls.{written_as}
+use Rattle.room_desk.proofs.Lists.SettingCalls.{fails_before, list_sent, set_from, written_as}
 use Rattle.room_desk.proofs.setting.set_at.Goals as goal
 
 pub returns-in_err-inh-clause-done : goal.returns-in_err-inh-clause-done

@@ -1,9 +1,8 @@
 use Rattle.std.proofs.Common.{◌≡◌, None, sym, ap, subst, ◌∙◌}
 use Rattle.std.specs.Option.{option_map_or}
 use Rattle.room_machine.specs.declared.reply.Reply.TheVariants.{Done, Refused}
-use Rattle.room_judge.proofs.Calls.{done}
+use Rattle.room_judge.proofs.{Calls.done, UpTo.finish_up_to}
 use Rattle.room_desk.specs.Setting.{SetUnless, fault_in}
-use Rattle.room_judge.proofs.UpTo.{finish_up_to}
 use Rattle.room_desk.proofs.setting.set_found.Goals as goal
 
 pub returns-in_ok-set_at-in-None : goal.returns-in_ok-set_at-in-None

@@ -1,12 +1,9 @@
 use Rattle.std.proofs.Common.{arith, length, refl, ◌+◌}
 use Rattle.room_judge.specs.Halted.{settled}
-use Rattle.room_judge.proofs.Calls.{done}
-use Rattle.room_judge.proofs.Halts.{halts_first}
+use Rattle.room_judge.proofs.{Calls.done, Halts.halts_first, UpTo.tail_provided}
 use Rattle.room_desk.proofs.Lists.SetRequest.{found_pair, set_halted}
+use Rattle.room_desk.proofs.Writes.{Sufficing.{each_of_both, stands_along}, Reading.reads_on}
 use Rattle.room_sound.proofs.Blamed.{rootless_damaged}
-use Rattle.room_judge.proofs.UpTo.{tail_provided}
-use Rattle.room_desk.proofs.Writes.Sufficing.{each_of_both, stands_along}
-use Rattle.room_desk.proofs.Writes.Reading.{reads_on}
 use Rattle.room_desk.proofs.setting.set_list.Goals as goal
 
 pub returns-in_err-pair-clause-done : goal.returns-in_err-pair-clause-done

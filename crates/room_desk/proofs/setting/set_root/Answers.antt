@@ -1,9 +1,7 @@
-use Rattle.room_judge.proofs.Calls.{done, none_done, of_read}
-use Rattle.room_judge.proofs.Halts.{faults}
-use Rattle.room_desk.proofs.Lists.SetRequest.{found_root}
+use Rattle.room_judge.proofs.{Calls.{done, none_done, of_read}, Halts.faults, UpTo.tail_provided}
+use Rattle.room_desk.proofs.{Lists.SetRequest.found_root, Writes.Sufficing.each_of_both}
+use Rattle.room_desk.proofs.Writes.Sufficing.{stands_along}
 use Rattle.room_sound.proofs.Blamed.{rootless_damaged}
-use Rattle.room_judge.proofs.UpTo.{tail_provided}
-use Rattle.room_desk.proofs.Writes.Sufficing.{each_of_both, stands_along}
 use Rattle.room_desk.proofs.setting.set_root.Goals as goal
 
 pub returns-in_err-node-clause-done : goal.returns-in_err-node-clause-done

@@ -1,14 +1,11 @@
-use Rattle.std.proofs.Common.{[], ◌∷◌, refl}
-use Rattle.std.proofs.Common.{Ok, Err}
+use Rattle.std.proofs.Common.{[], ◌∷◌, refl, Ok, Err}
 use Rattle.room_entry.specs.Rights.{append_data}
 use Rattle.room_judge.specs.Halted.{replied}
-use Rattle.room_judge.proofs.Calls.{done}
-use Rattle.room_judge.proofs.Halts.{halts_first}
+use Rattle.room_judge.proofs.{Calls.done, Halts.halts_first, UpTo.tail_provided}
 use Rattle.room_desk.proofs.Bytes.Appending.{append_blames, append_done, append_ended}
-use Rattle.room_sound.proofs.Blamed.{rootless_damaged}
 use Rattle.room_desk.proofs.Steps.Serving.{DocumentAt, document_there, reached_as}
-use Rattle.room_judge.proofs.UpTo.{tail_provided}
 use Rattle.room_desk.proofs.Writes.Sufficing.{one_of_both}
+use Rattle.room_sound.proofs.Blamed.{rootless_damaged}
 use Rattle.room_desk.proofs.writing.append.Goals as goal
 
 pub returns-in_err-node-clause-done : goal.returns-in_err-node-clause-done

@@ -1,10 +1,8 @@
 use Rattle.std.proofs.Common.{ℕ, List, ap, inl, subst, ◌∙◌}
-use Rattle.room_rows.specs.Keep.{IsUnreadable}
-use Rattle.room_rows.specs.Rows.{Rows}
+use Rattle.room_rows.specs.{Keep.IsUnreadable, Rows.Rows}
 use Rattle.room_judge.specs.Halted.{replied}
 use Rattle.room_desk.specs.Written.{HasNoBytes, IsAppended, sized_reply}
-use Rattle.room_judge.proofs.Calls.{done, none_done, of_read, tail}
-use Rattle.room_judge.proofs.Halts.{faults, memory_out}
+use Rattle.room_judge.proofs.{Calls.{done, none_done, of_read, tail}, Halts.{faults, memory_out}}
 use Rattle.room_desk.proofs.Bytes.Appending.{answers, if_ok, no_bytes_more, put_joined, put_kept}
 use Rattle.room_desk.proofs.writing.append_at.Goals as goal
 

@@ -1,15 +1,11 @@
-use Rattle.std.proofs.Common.{ℕ, List, ap, subst, ◌∙◌, length, take}
-use Rattle.std.proofs.Math.Seq.{take-length}
+use Rattle.std.proofs.{Common.{ℕ, List, ap, subst, ◌∙◌, length, take}, Math.Seq.take-length}
 use Rattle.std.proofs.lemmas.Bool.{lt-ltb, le-ltb}
-use Rattle.room_rows.specs.Rows.{Rows}
-use Rattle.room_rows.specs.Keep.{IsUnreadable}
+use Rattle.room_rows.specs.{Rows.Rows, Keep.IsUnreadable}
 use Rattle.room_machine.specs.declared.reply.Reply.TheVariants.{Refused}
 use Rattle.room_machine.specs.declared.reply.Reason.TheVariants.{TooLarge}
-use Rattle.room_judge.proofs.Calls.{done, none_done, of_change, of_write}
-use Rattle.room_judge.proofs.Halts.{faults, refused_as}
-use Rattle.room_desk.proofs.Bytes.Appending.{put_refused, put_set}
-use Rattle.room_judge.proofs.UpTo.{finish_up_to}
-use Rattle.room_desk.proofs.Writes.Sufficing.{one_put}
+use Rattle.room_judge.proofs.{Calls.{done, none_done, of_change, of_write}, Halts.faults}
+use Rattle.room_judge.proofs.{Halts.refused_as, UpTo.finish_up_to}
+use Rattle.room_desk.proofs.{Bytes.Appending.{put_refused, put_set}, Writes.Sufficing.one_put}
 use Rattle.room_desk.proofs.writing.put_bytes.Goals as goal
 
 pub returns-then-too_many-clause-done : goal.returns-then-too_many-clause-done
