@@ -57,6 +57,9 @@ verified
 # A large log is cut short by the program itself, as soon as there is some room.
 start_server small/F 1000 || return
 for number in 2 3 4 5 6 7; do asked "document $number again" 204 PUT "/doc/$number" document; done
+# What takes another one's place needs no more room in the file. This one does, and so the log stays
+# as long as the disk is full.
+asked 'one that is new' 201 PUT /doc/8 document
 fill
 asked 'a full disk again' 500 PUT /doc/more document
 stop_server
