@@ -1,6 +1,6 @@
 -- A text is its first line and what follows it, and bytes are UTF-8 or not.
 use Rattle.std.proofs.Common.{ℕ, ◌≡◌, ◌<◌, ◌+◌, Bool, true, false, cond, List, [], ◌∷◌, ◌++◌, Some}
-use Rattle.std.proofs.{Common.{None, length, take, drop, refl, ap, ◌∙◌, arith}, lemmas.Bool.ne_eqb}
+use Rattle.std.proofs.{Common.{None, length, take, drop, refl, ap, arith}, lemmas.Bool.ne_eqb}
 use Rattle.std.proofs.lemmas.Bool.{or_from, false_from_ne_true, Decides.nat_tests}
 use Rattle.std.proofs.lemmas.{List.{length-drop, Splits.length-slice_split}, Str.IsUtf8-from_ascii}
 use Rattle.std.specs.{Prelude.◌==◌, List.position, Str.{IsUtf8, Lossy.utf8_valid_len}}
@@ -15,9 +15,7 @@ is_end byte = byte == 10
 
 lines-cons : (piece : List ℕ) (more : List (List ℕ)) → 0 < length more
     → lines_of_pieces (piece ∷ more) ≡ without_return piece ∷ lines_of_pieces more
-lines-cons piece [] some = absurd (omega arith)
-lines-cons [] (next ∷ more) some = refl
-lines-cons (byte ∷ bytes) (next ∷ more) some = refl
+lines-cons piece more some = grind (arith, nat_tests)
 
 last_line : (bytes : List ℕ) → (bytes ≡ [] → ⊥) → pieces 10 bytes ≡ bytes ∷ []
     → lines_of bytes ≡ without_return bytes ∷ []
@@ -55,8 +53,7 @@ pub without_return-push : (front : List ℕ) (last : ℕ)
 without_return-push [] last = refl
 without_return-push (byte ∷ []) last = cond_cons byte (last == 13) [] (last ∷ [])
 without_return-push (byte ∷ next ∷ front) last =
-    ap (λ line. byte ∷ line) (without_return-push (next ∷ front) last)
-    ∙ cond_cons byte (last == 13) (next ∷ front) ((next ∷ front) ++ last ∷ [])
+    search (cond_cons, without_return-push (next ∷ front) last)
 
 -- ---- UTF-8
 

@@ -1,28 +1,24 @@
 -- What is printed of a list is read back.
 use Rattle.std.proofs.Common.{ℕ, ◌≡◌, ◌+◌, ◌≤◌, Bool, true, false, not, ◌||◌, List, [], ◌∷◌, ◌++◌}
-use Rattle.std.proofs.Common.{map, length, is_some, Option, Some, None, Result, Ok, if◌then◌else◌}
-use Rattle.std.proofs.Common.{refl, sym, ap, ◌∙◌, append_assoc, append-nil, length-append, codes}
-use Rattle.std.proofs.{Common.arith, lemmas.Bool.{and_parts, and_from, false≢true, true≢false}}
-use Rattle.std.proofs.lemmas.Bool.{not-true, cond-true, cond-false, ltb-false, le-ltb}
-use Rattle.std.proofs.lemmas.{Bool.Decides.nat_tests, List.Elements.{All-head, All-tail}}
-use Rattle.std.proofs.lemmas.List.Elements.{filter-append}
-use Rattle.std.specs.{Prelude.{filter, ◌==◌, nat_lt, option_and_then}, List.{All, list_all}}
-use Rattle.std.specs.List.{flat_map, enumerate_from}
+use Rattle.std.proofs.Common.{map, length, Option, Some, None, Ok, if◌then◌else◌, refl, sym, ap}
+use Rattle.std.proofs.Common.{◌∙◌, append_assoc, append-nil, length-append, codes, arith}
+use Rattle.std.proofs.lemmas.Bool.{and_parts, and_from, false≢true, cond-true, cond-false}
+use Rattle.std.proofs.lemmas.{Bool.{ltb-false, le-ltb, Decides.nat_tests}, List.Elements.All-head}
+use Rattle.std.proofs.lemmas.List.Elements.{All-tail, filter-append}
+use Rattle.std.specs.{Prelude.{filter, ◌==◌, nat_lt}, List.{All, list_all, flat_map}}
+use Rattle.std.specs.List.{enumerate_from}
 use Rattle.room_entry.specs.{Bits.{all_bits, has}, Pieces.pieces, Ace.Ace, Letters.kind_text}
 use Rattle.room_entry.specs.Letters.{letter_if, flags_text, mask_letters, mask_text, letter_of}
 use Rattle.room_entry.specs.{Utf8.is_utf8, Laws.{has_name, IsEntry}}
-use Rattle.room_entry.specs.declared.entry.EntryKind.{EntryKind, TheVariants.{Allow, Deny, Audit}}
-use Rattle.room_entry.specs.declared.entry.{EntryKind.TheVariants.Alarm, Who.Who}
-use Rattle.room_entry.specs.declared.entry.Who.TheVariants.{Owner, Group, Everyone, Anonymous}
-use Rattle.room_entry.specs.declared.entry.Who.TheVariants.{Authenticated, User, Members}
+use Rattle.room_entry.specs.declared.entry.{EntryKind.EntryKind, Who.Who}
 use Rattle.room_entry.specs.declared.fault.ListFault.{ListFault, TheVariants.TooManyEntries}
 use Rattle.room_entry.specs.declared.fault.ListFault.TheVariants.{TooManyOwn}
 use Rattle.room_ace.specs.{Sent.{Sent, own_of, limit_fault}, Text.{who_text, entry_text, entry_of}}
-use Rattle.room_ace.specs.Lists.{entry_lines, list_line, list_text, without_return, lines_of_pieces}
-use Rattle.room_ace.specs.Lists.{lines_of, is_blank, is_comment, numbered_lines, flags_of_list}
-use Rattle.room_ace.specs.Lists.{fault_at, with_entry, and_then, entries_after, sent_of_lines}
-use Rattle.room_ace.specs.{Column.{entry_in, entries_behind, entries_of}, Laws.ListReadsBack}
-use Rattle.room_ace.specs.declared.fault.{LineFault.LineFault, Why.TheVariants.NotUtf8}
+use Rattle.room_ace.specs.Lists.{entry_lines, list_text, without_return, lines_of_pieces, lines_of}
+use Rattle.room_ace.specs.Lists.{is_blank, is_comment, numbered_lines, flags_of_list, fault_at}
+use Rattle.room_ace.specs.{Lists.{with_entry, entries_after, sent_of_lines}, Column.entry_in}
+use Rattle.room_ace.specs.{Column.{entries_behind, entries_of}, Laws.ListReadsBack}
+use Rattle.room_ace.specs.declared.fault.Why.TheVariants.{NotUtf8}
 use Rattle.room_ace.proofs.RoundTrip.{apart, pieces_at, all_flags, all-map, of_known, reads_back}
 use Rattle.room_entry.proofs.{Texts.all-append, Visible.{is_visible, are_visible, visible_name}}
 use Rattle.room_entry.proofs.{Visible.visible_utf8, Facts.Lists.all_implied}
@@ -30,19 +26,10 @@ use Rattle.room_entry.proofs.{Visible.visible_utf8, Facts.Lists.all_implied}
 -- ---- a printed entry is of visible ASCII bytes
 
 visible_who : (who : Who) → has_name who ≡ true → are_visible (who_text who) ≡ true
-visible_who Owner named = refl
-visible_who Group named = refl
-visible_who Everyone named = refl
-visible_who Anonymous named = refl
-visible_who Authenticated named = refl
-visible_who (User name) named = visible_name name named
-visible_who (Members name) named = visible_name name named
+visible_who who named = grind (arith, nat_tests, visible_name)
 
 visible_kind : (kind : EntryKind) → are_visible (kind_text kind) ≡ true
-visible_kind Allow = refl
-visible_kind Deny = refl
-visible_kind Audit = refl
-visible_kind Alarm = refl
+visible_kind kind = grind (arith, nat_tests)
 
 visible_letters : list_all (λ bit. is_visible (letter_of bit)) all_bits ≡ true
 unfolding all_bits mask_letters
@@ -74,8 +61,7 @@ other_byte c byte hidden shown = grind (arith, nat_tests, is_visible)
 
 visible_apart : (c : ℕ) (text : List ℕ) → is_visible c ≡ false → are_visible text ≡ true
     → apart c text ≡ true
-visible_apart c text hidden shown =
-    all_implied is_visible (λ byte. not (byte == c)) (λ byte. other_byte c byte hidden) text shown
+visible_apart c text hidden shown = search (all_implied, is_visible, other_byte)
 
 -- ---- lines of visible bytes
 
@@ -89,37 +75,34 @@ pieces_of_texts : (texts : List (List ℕ)) → list_all are_visible texts ≡ t
 pieces_of_texts [] shown = refl
 pieces_of_texts (text ∷ texts) shown =
     let parts = and_parts (are_visible text) (list_all are_visible texts) shown in
-    ap (pieces 10) (append_assoc text (10 ∷ []) (lines_text texts))
-    ∙ pieces_at 10 text (lines_text texts) (visible_apart 10 text refl parts.0)
-    ∙ ap (λ (others : List (List ℕ)). text ∷ others) (pieces_of_texts texts parts.1)
+    cc (
+      append_assoc text (10 ∷ []) (lines_text texts),
+      pieces_at 10 text (lines_text texts) (visible_apart 10 text refl parts.0),
+      pieces_of_texts texts parts.1,
+    )
 
 without_return-same : (line : List ℕ) → apart 13 line ≡ true → without_return line ≡ line
 without_return-same [] none = refl
-without_return-same (byte ∷ []) none =
-    cond-false (byte == 13) [] (byte ∷ [])
-    (not-true (byte == 13) (and_parts (not (byte == 13)) true none).0)
+without_return-same (byte ∷ []) none = grind (arith, nat_tests)
 without_return-same (byte ∷ next ∷ line) none =
-    ap (λ (bytes : List ℕ). byte ∷ bytes)
-    (without_return-same (next ∷ line)
+    cc (without_return-same (next ∷ line)
     (and_parts (not (byte == 13)) (apart 13 (next ∷ line)) none).1)
 
 lines_of_texts : (texts : List (List ℕ)) → list_all are_visible texts ≡ true
     → lines_of_pieces (texts ++ [] ∷ []) ≡ texts
 lines_of_texts [] shown = refl
 lines_of_texts (text ∷ []) shown =
-    ap (λ (line : List ℕ). line ∷ [])
-    (without_return-same text
-    (visible_apart 13 text refl (and_parts (are_visible text) true shown).0))
+    grind (arith, nat_tests, are_visible, visible_apart, without_return-same)
 lines_of_texts (text ∷ next ∷ texts) shown =
     let parts = and_parts (are_visible text) (list_all are_visible (next ∷ texts)) shown in
-    ap (λ (line : List ℕ). line ∷ lines_of_pieces ((next ∷ texts) ++ [] ∷ []))
-    (without_return-same text (visible_apart 13 text refl parts.0))
-    ∙ ap (λ (lines : List (List ℕ)). text ∷ lines) (lines_of_texts (next ∷ texts) parts.1)
+    cc (
+      without_return-same text (visible_apart 13 text refl parts.0),
+      lines_of_texts (next ∷ texts) parts.1,
+    )
 
 lines_back : (texts : List (List ℕ)) → list_all are_visible texts ≡ true
     → lines_of (lines_text texts) ≡ texts
-lines_back texts shown =
-    ap lines_of_pieces (pieces_of_texts texts shown) ∙ lines_of_texts texts shown
+lines_back texts shown = search (lines_of_texts, pieces_of_texts)
 
 -- ---- lines that say something
 
@@ -136,23 +119,20 @@ filter_says n [] said = refl
 filter_says n (text ∷ texts) said =
     let parts = and_parts (says text) (list_all says texts) said in
     let first : ℕ × List ℕ = (n, text) in
-    cond-true (says text) (first ∷ filter says_at (enumerate_from (n + 1) texts))
-    (filter says_at (enumerate_from (n + 1) texts)) parts.0
-    ∙ ap (λ (lines : List (ℕ × List ℕ)). first ∷ lines) (filter_says (n + 1) texts parts.1)
+    cc (
+      cond-true (says text) (first ∷ filter says_at (enumerate_from (n + 1) texts))
+          (filter says_at (enumerate_from (n + 1) texts)) parts.0,
+      filter_says (n + 1) texts parts.1,
+    )
 
 numbered_back : (texts : List (List ℕ)) → list_all are_visible texts ≡ true
     → list_all says texts ≡ true → numbered_lines (lines_text texts) ≡ enumerate_from 1 texts
-numbered_back texts shown said =
-    ap (λ (lines : List (List ℕ)). filter says_at (enumerate_from 1 lines)) (lines_back texts shown)
-    ∙ filter_says 1 texts said
+numbered_back texts shown said = search (filter_says, lines_back)
 
 -- a printed entry begins with its type's letter
 kind_says : (kind : EntryKind) (flags who mask : List ℕ)
     → says (kind_text kind ++ flags ++ who ++ mask) ≡ true
-kind_says Allow flags who mask = refl
-kind_says Deny flags who mask = refl
-kind_says Audit flags who mask = refl
-kind_says Alarm flags who mask = refl
+kind_says kind flags who mask = grind (arith, nat_tests)
 
 -- ---- the list line
 
@@ -161,23 +141,14 @@ abbrev front : Bool → Bool → List ℕ
 front auto protect = codes "list:" ++ letter_if auto 97 ++ letter_if protect 112
 
 front_visible : (auto protect : Bool) → are_visible (front auto protect) ≡ true
-front_visible true true = refl
-front_visible true false = refl
-front_visible false true = refl
-front_visible false false = refl
+front_visible auto protect = grind (arith, nat_tests)
 
 front_says : (auto protect : Bool) → says (front auto protect) ≡ true
-front_says true true = refl
-front_says true false = refl
-front_says false true = refl
-front_says false false = refl
+front_says auto protect = grind (arith, nat_tests)
 
 front_flags : (auto protect : Bool)
     → flags_of_list (front auto protect) ≡ Some (record { auto = auto; protect = protect })
-front_flags true true = refl
-front_flags true false = refl
-front_flags false true = refl
-front_flags false false = refl
+front_flags auto protect = grind (arith, nat_tests)
 
 -- ---- what stands first in a list is within the limits that the list is within
 
@@ -185,9 +156,7 @@ abbrev fault_by : Bool → Bool → Option ListFault
 fault_by many own = if many then Some TooManyEntries else if own then Some TooManyOwn else None
 
 no_fault : (many own : Bool) → fault_by many own ≡ None → (many ≡ false) × (own ≡ false)
-no_fault true own none = absurd (true≢false (ap is_some none))
-no_fault false true none = absurd (true≢false (ap is_some none))
-no_fault false false none = (refl, refl)
+no_fault many own none = grind (arith, nat_tests)
 
 -- both tests of the limits are false at what stands first
 limit_front : (first rest : List Ace) → limit_fault (first ++ rest) ≡ None
@@ -198,8 +167,8 @@ limit_front first rest none =
     let many : length (first ++ rest) ≤ 4096 = ltb-false 4096 (length (first ++ rest)) parts.0 in
     let own : length (own_of (first ++ rest)) ≤ 64 = ltb-false 64
     (length (own_of (first ++ rest))) parts.1 in
-    let split : length (own_of (first ++ rest)) ≡ length (own_of first ++ own_of rest) = ap length
-    (filter-append (λ (entry : Ace). not entry.flags.inherited) first rest) in (
+    let split : length (own_of (first ++ rest)) ≡ length (own_of first ++ own_of rest) =
+    cc (filter-append (λ (entry : Ace). not entry.flags.inherited) first rest) in (
       le-ltb 4096 (length first) (omega (arith, length-append first rest)),
       le-ltb 64 (length (own_of first)) (omega (arith, length-append (own_of first) (own_of rest))),
     )
@@ -226,12 +195,12 @@ entries_back n before (entry ∷ entries) each none =
     let pushed : (before ++ entry ∷ []) ++ entries ≡ before ++ entry ∷ entries = append_assoc before
     (entry ∷ []) entries in
     let within = ap limit_fault pushed ∙ none in
-    ap (λ (found : Result (List Ace) LineFault). and_then found
-    (λ others. entries_after others (enumerate_from (n + 1) (map entry_text entries))))
-    (line_read n before entry entries (All-head IsEntry entry entries each) within)
-    ∙ entries_back (n + 1) (before ++ entry ∷ []) entries
-    (All-tail IsEntry entry entries each) within
-    ∙ ap (λ (found : List Ace). Ok found) pushed
+    cc (
+      line_read n before entry entries (All-head IsEntry entry entries each) within,
+      entries_back (n + 1) (before ++ entry ∷ []) entries (All-tail IsEntry entry entries each)
+          within,
+      pushed,
+    )
 
 entries_visible : (entries : List Ace) → All IsEntry entries
     → list_all are_visible (map entry_text entries) ≡ true
@@ -247,8 +216,7 @@ entries_say (entry ∷ entries) = grind (arith, nat_tests, kind_says, entries_sa
 
 entry_lines-texts : (entries : List Ace) → entry_lines entries ≡ lines_text (map entry_text entries)
 entry_lines-texts [] = refl
-entry_lines-texts (entry ∷ entries) =
-    ap (λ (rest : List ℕ). (entry_text entry ++ 10 ∷ []) ++ rest) (entry_lines-texts entries)
+entry_lines-texts (entry ∷ entries) = cc (entry_lines-texts entries)
 
 -- ---- entries with no list line
 
@@ -262,13 +230,13 @@ entries_behind_back before (entry ∷ entries) each =
     let line = entry_text entry in
     let says_it = kind_says entry.kind (58 ∷ flags_text entry.flags) (58 ∷ who_text entry.who)
     (58 ∷ mask_text entry.mask) in
-    cond-false (is_blank line || is_comment line) _ _
-    (says_something (is_blank line || is_comment line) says_it)
-    ∙ ap (λ (found : Option Ace). option_and_then
-    (λ e. entries_behind (before ++ e ∷ []) (map entry_text entries)) found)
-    (entry_read entry (All-head IsEntry entry entries each))
-    ∙ entries_behind_back (before ++ entry ∷ []) entries (All-tail IsEntry entry entries each)
-    ∙ ap (λ (found : List Ace). Some found) (append_assoc before (entry ∷ []) entries)
+    cc (
+      cond-false (is_blank line || is_comment line) _ _
+          (says_something (is_blank line || is_comment line) says_it),
+      entry_read entry (All-head IsEntry entry entries each),
+      entries_behind_back (before ++ entry ∷ []) entries (All-tail IsEntry entry entries each),
+      append_assoc before (entry ∷ []) entries,
+    )
   where
     says_something : (b : Bool) → not b ≡ true → b ≡ false
     says_something true h = absurd (false≢true h)
@@ -295,19 +263,17 @@ module _ (sent : Sent) (each : All IsEntry sent.entries)
 
   numbered : numbered_lines (list_text sent.flags sent.entries) ≡ enumerate_from 1 texts
   numbered =
-      ap (λ (rest : List ℕ). numbered_lines (list_line sent.flags ++ rest))
-      (entry_lines-texts sent.entries)
-      ∙ numbered_back texts
-      (and_from (are_visible first_line) (list_all are_visible (map entry_text sent.entries)) shown
-      (entries_visible sent.entries each))
-      (and_from (says first_line) (list_all says (map entry_text sent.entries))
-      (front_says sent.flags.auto sent.flags.protect) (entries_say sent.entries))
+      cc (
+        entry_lines-texts sent.entries,
+        numbered_back texts
+            (and_from (are_visible first_line) (list_all are_visible (map entry_text sent.entries)) shown
+            (entries_visible sent.entries each))
+            (and_from (says first_line) (list_all says (map entry_text sent.entries))
+            (front_says sent.flags.auto sent.flags.protect) (entries_say sent.entries)),
+      )
 
   read : (count : ℕ) → sent_of_lines count (enumerate_from 1 texts) ≡ Ok sent
   read count = grind (arith, nat_tests, entries_back, front_flags, shown, visible_utf8)
 
 pub list_reads_back : ListReadsBack
-list_reads_back sent each none =
-    ap (sent_of_lines (length (lines_of (list_text sent.flags sent.entries))))
-    (numbered sent each none)
-    ∙ read sent each none (length (lines_of (list_text sent.flags sent.entries)))
+list_reads_back sent each none = search (numbered, read)

@@ -1,7 +1,7 @@
 -- What spells an entry is ASCII.
 use Rattle.std.proofs.Common.{ℕ, ◌≡◌, Bool, true, false, cond, List, [], ◌∷◌, Option, Some, None}
-use Rattle.std.proofs.Common.{Result, Ok, refl, sym, ap, ◌∙◌, subst, inl, inr, ◌++◌, arith}
-use Rattle.std.proofs.lemmas.Bool.{cases_Bool, cond-true, cond-false, or_left, Decides.nat_tests}
+use Rattle.std.proofs.Common.{Result, Ok, refl, sym, ◌∙◌, subst, inl, inr, ◌++◌, arith}
+use Rattle.std.proofs.lemmas.Bool.{cases_Bool, cond-false, or_left, Decides.nat_tests}
 use Rattle.std.proofs.lemmas.List.Splits.{join_with_byte-slice_split}
 use Rattle.std.specs.{Prelude.nat_lt, List.{list_all, join_with_byte}}
 use Rattle.std.specs.Cmp.Lexicographic.{same_text as text_equal}
@@ -9,8 +9,7 @@ use Rattle.room_entry.specs.{Pieces.{pieces, is_among, same_text}, Ace.Ace, Lett
 use Rattle.room_entry.specs.{Letters.{flags_of, mask_letters, mask_of}, Utf8.is_utf8}
 use Rattle.room_entry.specs.declared.entry.{EntryKind.EntryKind, Who.Who}
 use Rattle.room_entry.specs.declared.{flags.EntryFlags.EntryFlags, fault.TextFault.TextFault}
-use Rattle.room_ace.specs.{Text.{who_of, part, entry_of, entry_of_parts}, Column.some_of}
-use Rattle.room_ace.specs.Column.{entry_in}
+use Rattle.room_ace.specs.{Text.{who_of, part, entry_of, entry_of_parts}, Column.entry_in}
 use Rattle.room_entry.proofs.{Texts.{all-append, at_bit}, Visible.name_ascii}
 use Rattle.room_entry.proofs.Facts.Lists.{all_implied}
 
@@ -84,5 +83,4 @@ entry_utf8 line entry well =
     (parts_ascii (pieces 58 line) entry well))
 
 pub spelled : (line : List ℕ) (entry : Ace) → entry_of line ≡ Ok entry → Some entry ≡ entry_in line
-spelled line entry well =
-    sym (cond-true (is_utf8 line) _ None (entry_utf8 line entry well) ∙ ap some_of well)
+spelled line entry well = grind (arith, nat_tests, entry_utf8)

@@ -1,6 +1,6 @@
 -- Texts cut into names, and paths.
-use Rattle.std.proofs.Common.{◌≡◌, ◌≢◌, ℕ, zero, suc, ◌<◌, ◌≤◌, true, false, List, [], ◌∷◌, ◌++◌}
-use Rattle.std.proofs.Common.{length, take, Ok, Err, codes, refl, ap, ◌∙◌, arith, length-append}
+use Rattle.std.proofs.Common.{◌≡◌, ◌≢◌, ℕ, zero, suc, ◌<◌, ◌≤◌, true, false, List, [], ◌∷◌}
+use Rattle.std.proofs.Common.{length, take, Ok, Err, codes, refl, ◌∙◌, arith, length-append}
 use Rattle.std.proofs.lemmas.Bool.{and_parts, and_from, le-ltb, cond-true, cond-false}
 use Rattle.std.proofs.lemmas.{Bool.Decides.nat_tests, List.Splits.slice_split-cons_yes}
 use Rattle.std.proofs.lemmas.List.Splits.{slice_split-cons_no, length-slice_split}
@@ -39,9 +39,7 @@ read_as_names bytes short is = within bytes short ∙ cond-true _ _ _ (passes_as
 -- ---- names
 
 first_not_empty : (b : ℕ) (parts : List (List ℕ)) → names_in (onto_first b parts) ≡ Err BadName
-first_not_empty b [] = refl
-first_not_empty b (p ∷ []) = refl
-first_not_empty b (p ∷ q ∷ parts) = refl
+first_not_empty b parts = grind (arith, nat_tests)
 
 -- no `/` at the start
 pub no_slash_first : (text : List ℕ) → ((rest : List ℕ) → text ≢ 47 ∷ rest)
@@ -90,9 +88,7 @@ joined names = flat_map (λ name. 47 ∷ name) names
 
 joined_onto : (b : ℕ) (bs : List ℕ) (parts : List (List ℕ)) → joined parts ≡ 47 ∷ bs
     → joined (onto_first b parts) ≡ 47 ∷ b ∷ bs
-joined_onto b bs [] e = cc
-joined_onto b bs (p ∷ parts) e = let inner : p ++ joined parts ≡ bs = cc in
-    ap (λ (l : List ℕ). 47 ∷ b ∷ l) inner
+joined_onto b bs parts e = grind (arith, nat_tests)
 
 -- the names of a text joined again
 pub joined-pieces : (rest : List ℕ) → joined (pieces 47 rest) ≡ 47 ∷ rest

@@ -1,9 +1,8 @@
 -- What a change of a content leaves, and what is found in it.
 use Rattle.std.proofs.Common.{◌≡◌, ℕ, ◌==◌, ◌&&◌, true, false, List, ◌∷◌, map, Option, Some, None}
-use Rattle.std.proofs.{Common.{refl, sym, ap, ◌∙◌, arith}, lemmas.Bool.{and_parts, eqb-true}}
-use Rattle.std.proofs.lemmas.Bool.{ne_eqb, false≢true, not_from_true, not_from_false}
+use Rattle.std.proofs.{Common.{refl, ap, arith}, lemmas.Bool.{eqb-true, false≢true, not_from_true}}
 use Rattle.std.proofs.lemmas.{Bool.Decides.nat_tests, Slice.Eq.bytes_eq-Decides}
-use Rattle.std.specs.{Prelude.{IsTrue, is_none, not}, Option.option_map_or}
+use Rattle.std.specs.{Prelude.{IsTrue, is_none}, Option.option_map_or}
 use Rattle.room_entry.specs.Pieces.{same_text}
 use Rattle.room_rows.specs.{declared.node.Node.Node, Content.{Content, node_at, has_parent}}
 use Rattle.room_rows.specs.{Content.{root_of, child_of, without_node, is_rising}, Rows.Rows}
@@ -24,8 +23,7 @@ rows-rise rows are = are.numbers
 -- whether an object is below another follows from its place alone
 pub has_parent-of_place : (id : ℕ) (a b : Node) → IsSamePlace a b
     → has_parent id a ≡ has_parent id b
-has_parent-of_place id a b same =
-    ap (λ (o : Option ℕ). option_map_or (λ (parent : ℕ). parent == id) o false) same.parent
+has_parent-of_place id a b same = cc (same.parent)
 
 -- so does whether it is there by this name
 pub is_child-of_place : (id : ℕ) (name : List ℕ) (a b : Node) → IsSamePlace a b
@@ -61,9 +59,7 @@ stands_at content rises node stands =
 -- the root has a number, and no parent
 pub root_of-is_there : (content : Content) → Rises content → (root : Node)
     → root_of content ≡ Some root → node_at content root.id ≡ Some root
-root_of-is_there content rises root found =
-    stands_at content rises root
-    (lookups.stands-found (λ (n : Node). is_none n.parent) content.nodes root found)
+root_of-is_there content rises root found = search (lookups.stands-found, stands_at)
 
 pub no_parent : (parent : Option ℕ) → is_none parent ≡ true → parent ≡ None
 no_parent None is = refl
@@ -72,50 +68,34 @@ no_parent (Some id) is = absurd (false≢true is)
 -- what is found as the root has no parent
 pub root_of-parent : (content : Content) (root : Node) → root_of content ≡ Some root
     → root.parent ≡ None
-root_of-parent content root found =
-    no_parent root.parent
-    (lookups.found_passes (λ (n : Node). is_none n.parent) content.nodes root found)
+root_of-parent content root found = search (lookups.found_passes, no_parent)
 
 -- a child has a number, that parent and that name
 pub child_of-is_there : (content : Content) → Rises content
     → (id : ℕ) (name : List ℕ) (child : Node) → child_of content id name ≡ Some child
     → node_at content child.id ≡ Some child
-child_of-is_there content rises id name child found =
-    stands_at content rises child
-    (lookups.stands-found
-    (λ (n : Node). has_parent id n && same_text n.name name) content.nodes child found)
+child_of-is_there content rises id name child found = search (lookups.stands-found, stands_at)
 
 -- what is found below an object has that object as its parent
 pub child_of-parent : (content : Content) (id : ℕ) (name : List ℕ) (child : Node)
     → child_of content id name ≡ Some child → child.parent ≡ Some id
 child_of-parent content id name child found =
-    parent_is id child (and_parts (has_parent id child) (same_text child.name name)
-    (lookups.found_passes
-    (λ (n : Node). has_parent id n && same_text n.name name) content.nodes child found)).0
+    grind (arith, nat_tests, lookups.found_passes, parent_is)
 
 -- what is found below an object by a name has that name
 pub child_of-name : (content : Content) (id : ℕ) (name : List ℕ) (child : Node)
     → child_of content id name ≡ Some child → child.name ≡ name
 child_of-name content id name child found =
-    (bytes_eq-Decides child.name name).0
-    (and_parts (has_parent id child) (same_text child.name name)
-    (lookups.found_passes
-    (λ (n : Node). has_parent id n && same_text n.name name) content.nodes child found)).1
+    grind (arith, nat_tests, bytes_eq-Decides, lookups.found_passes)
 
 -- ---- an object removed
 
 -- by the number of an object that was removed nothing is found
 pub node_at-without_node : (content : Content) (id : ℕ)
     → node_at (without_node content id) id ≡ None
-node_at-without_node content id =
-    lookups.find-kept_gone (λ (n : Node). n.id == id) (λ (n : Node). not (n.id == id)) content.nodes
-    (λ n is. not_from_true (n.id == id) is)
+node_at-without_node content id = search (lookups.find-kept_gone, not_from_true)
 
 -- by each other number the same is found as before the removal
 pub node_at-without_node-other : (content : Content) (id other : ℕ) → (other ≡ id → ⊥)
     → node_at (without_node content id) other ≡ node_at content other
-node_at-without_node-other content id other isnt =
-    lookups.find-kept_all (λ (n : Node). n.id == other)
-    (λ (n : Node). not (n.id == id)) content.nodes
-    (λ n is. not_from_false (n.id == id)
-    (ne_eqb n.id id (λ e. isnt (sym (eqb-true n.id other is) ∙ e))))
+node_at-without_node-other content id other isnt = grind (arith, nat_tests, lookups.find-kept_all)

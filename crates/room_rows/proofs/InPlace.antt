@@ -1,19 +1,17 @@
 -- What a change leaves of objects that stay in their places.
-use Rattle.std.proofs.Common.{◌≡◌, ℕ, ◌<◌, ◌==◌, nat_lt, ◌&&◌, true, false, List, [], ◌∷◌, map}
-use Rattle.std.proofs.Common.{filter, Option, Some, None, refl, sym, ap, subst, ◌∙◌, inl, inr}
-use Rattle.std.proofs.{Common.arith, lemmas.Bool.{and_parts, cases_Bool, cases_order, cond-true}}
-use Rattle.std.proofs.lemmas.Bool.{cond-false, eqb-true, eq-eqb, ne_eqb, lt-ltb, ltb-true, le-ltb}
-use Rattle.std.proofs.lemmas.{Bool.Decides.nat_tests, Option.{same_Some, none-some}}
-use Rattle.std.specs.{Prelude.{IsTrue, is_none}, List.AllByRecursion, Option.option_map}
-use Rattle.std.specs.Option.{option_and_then}
-use Rattle.room_entry.specs.{Ace.Ace, Pieces.same_text, declared.object.Which.Which}
-use Rattle.room_entry.specs.declared.{object.Which.TheVariants.{Dacl, Sacl}, parties.Owners.Owners}
+use Rattle.std.proofs.Common.{◌≡◌, ℕ, ◌<◌, ◌==◌, nat_lt, true, false, List, [], ◌∷◌, map, Option}
+use Rattle.std.proofs.Common.{Some, None, refl, sym, ap, subst, ◌∙◌, inl, inr, arith}
+use Rattle.std.proofs.lemmas.Bool.{and_parts, cases_Bool, cases_order, cond-true, cond-false}
+use Rattle.std.proofs.lemmas.Bool.{eqb-true, eq-eqb, lt-ltb, ltb-true, Decides.nat_tests}
+use Rattle.std.proofs.lemmas.Option.{none-some}
+use Rattle.std.specs.{List.AllByRecursion, Option.{option_map, option_and_then}}
+use Rattle.room_entry.specs.{Ace.Ace, declared.object.Which.{Which, TheVariants.{Dacl, Sacl}}}
+use Rattle.room_entry.specs.declared.parties.Owners.{Owners}
 use Rattle.room_rows.specs.{HeldList.Held, declared.node.Node.Node, Content.{Content, node_at}}
-use Rattle.room_rows.specs.Content.{has_parent, root_of, child_of, children_of, parent_of, body_at}
-use Rattle.room_rows.specs.Content.{body_of, put_body, with_node, with_body, with_each, is_rising}
-use Rattle.room_rows.specs.{Content.sorted_by_name, Held.{held_of, with_held}, Keep.with_inh}
-use Rattle.room_rows.specs.{Keep.{with_owners, with_content}, Rows.{Rows, AreRows, numbers_of}}
-use Rattle.room_rows.specs.Rows.{put_numbers, unread_numbers}
+use Rattle.room_rows.specs.Content.{root_of, child_of, children_of, parent_of, body_at, body_of}
+use Rattle.room_rows.specs.Content.{put_body, with_node, with_body, with_each, is_rising}
+use Rattle.room_rows.specs.{Held.{held_of, with_held}, Keep.{with_inh, with_owners, with_content}}
+use Rattle.room_rows.specs.Rows.{Rows, AreRows, numbers_of, put_numbers, unread_numbers}
 use Rattle.room_rows.proofs.{SamePlace.{IsSamePlace, put_there, replaced}, Frames.Rises}
 use Rattle.room_rows.proofs.Frames.{has_parent-of_place, is_child-of_place, node_at-number}
 use Rattle.room_rows.proofs.Lookups as lookups
@@ -39,45 +37,39 @@ module _ (content : Content) (change : Node → Node) (same : KeepsPlaces conten
   -- by each number the same object is found as before, changed
   pub node_at-with_each : (id : ℕ)
       → node_at (with_each content change) id ≡ option_map change (node_at content id)
-  node_at-with_each id =
-      same_place.find-changed change (λ (n : Node). n.id == id)
-      (λ a b place. ap (λ (n : ℕ). n == id) place.number) content.nodes same
+  node_at-with_each id = grind (arith, nat_tests, same_place.find-changed)
 
   -- what was the root is the root, changed
   pub root_of-with_each : root_of (with_each content change) ≡ option_map change (root_of content)
-  root_of-with_each =
-      same_place.find-changed change (λ (n : Node). is_none n.parent)
-      (λ a b place. ap is_none place.parent) content.nodes same
+  root_of-with_each = grind (arith, nat_tests, same_place.find-changed)
 
   -- by each name below an object the child that had it is found, changed
   pub child_of-with_each : (id : ℕ) (name : List ℕ)
       → child_of (with_each content change) id name ≡ option_map change (child_of content id name)
-  child_of-with_each id name =
-      same_place.find-changed change (λ (n : Node). has_parent id n && same_text n.name name)
-      (is_child-of_place id name) content.nodes same
+  child_of-with_each id name = search (is_child-of_place, same_place.find-changed)
 
   -- the same children in the same order
   pub children_of-with_each : (id : ℕ)
       → children_of (with_each content change) id ≡ map change (children_of content id)
   children_of-with_each id =
-      ap sorted_by_name (same_place.filter-changed change (has_parent id)
-      (has_parent-of_place id) content.nodes same)
-      ∙ same_place.sorted-changed change (filter (has_parent id) content.nodes)
-      (lookups.each-weaker (λ (n : Node). IsSamePlace (change n) n × (has_parent id n ≡ true))
-      (λ (n : Node). IsSamePlace (change n) n) (λ n is. is.0) (filter (has_parent id) content.nodes)
-      (lookups.each-kept (λ (n : Node). IsSamePlace (change n) n)
-      (has_parent id) content.nodes same))
+      grind (
+        arith,
+        nat_tests,
+        has_parent-of_place,
+        lookups.each-kept,
+        lookups.each-weaker,
+        same_place.filter-changed,
+        same_place.sorted-changed,
+      )
 
   -- the objects have the numbers that they had, in the same order
   pub numbers-with_each : map (λ (n : Node). n.id) (with_each content change).nodes
       ≡ map (λ (n : Node). n.id) content.nodes
-  numbers-with_each =
-      same_place.map-changed change (λ (n : Node). n.id) (λ a b place. place.number) content.nodes same
+  numbers-with_each = grind (arith, nat_tests, same_place.map-changed)
 
   -- where the numbers rose before the change, they rise after it
   pub rises-with_each : Rises content → Rises (with_each content change)
-  rises-with_each rises =
-      subst (λ (ids : List ℕ). IsTrue (is_rising (0 ∷ ids))) (sym numbers-with_each) rises
+  rises-with_each rises = search (numbers-with_each)
 
   parent_at : (parent : Option ℕ)
       → option_and_then (node_at (with_each content change)) parent
@@ -94,8 +86,7 @@ module _ (content : Content) (change : Node → Node) (same : KeepsPlaces conten
 map-twice : (first second : Node → Node) (nodes : List Node)
     → map second (map first nodes) ≡ map (λ (n : Node). second (first n)) nodes
 map-twice first second [] = refl
-map-twice first second (x ∷ xs) =
-    ap (λ (l : List Node). second (first x) ∷ l) (map-twice first second xs)
+map-twice first second (x ∷ xs) = cc (map-twice first second xs)
 
 -- two changes of each object are one change, the second of what the first gives
 pub with_each-with_each : (content : Content) (first second : Node → Node)
@@ -110,8 +101,7 @@ module _ (content : Content) (rises : Rises content) (id : ℕ) (node new : Node
   -- it equals a change of each object that leaves the others alone
   pub with_node-replaces : with_node content new ≡ with_each content (replaced new)
   with_node-replaces =
-      ap (λ (nodes : List Node). record content { nodes = nodes })
-      (same_place.put-replaces 0 content.nodes id node new rises found
+      cc (same_place.put-replaces 0 content.nodes id node new rises found
       (same.number ∙ node_at-number content id node found))
 
 -- all numbers in use stay
@@ -131,8 +121,7 @@ place-with_held Sacl held node = record { number = refl; parent = refl; name = r
 -- it stays there with other inherited entries in a list
 pub place-with_inh : (which : Which) (entries : List Ace) (node : Node)
     → IsSamePlace (with_inh which entries node) node
-place-with_inh which entries node =
-    place-with_held which (record (held_of which node) { inh = entries }) node
+place-with_inh which entries node = search (place-with_held)
 
 -- it stays there with another owner and group
 pub place-with_owners : (owners : Owners) (node : Node) → IsSamePlace (with_owners owners node) node
@@ -158,8 +147,7 @@ held_of-with_held Sacl held node = refl
 -- inherited entries that are set leave the own entries and flags of their list
 pub held_of-with_inh : (which : Which) (entries : List Ace) (node : Node)
     → held_of which (with_inh which entries node) ≡ record (held_of which node) { inh = entries }
-held_of-with_inh which entries node =
-    held_of-with_held which (record (held_of which node) { inh = entries }) node
+held_of-with_inh which entries node = search (held_of-with_held)
 
 -- ---- what isn't an object
 
@@ -177,8 +165,7 @@ bytes_behind id bytes row rows below = cond-true _ _ _ (lt-ltb row.0 id below)
 
 bytes_here : (id : ℕ) (bytes : List ℕ) (row : ℕ × List ℕ) (rows : List (ℕ × List ℕ)) → row.0 ≡ id
     → put_body id bytes (row ∷ rows) ≡ (id, bytes) ∷ rows
-bytes_here id bytes row rows e =
-    cond-false _ _ _ (le-ltb row.0 id (omega (arith, e))) ∙ cond-true _ _ _ (eq-eqb row.0 id e)
+bytes_here id bytes row rows e = grind (arith, nat_tests)
 
 bytes_before : (id : ℕ) (bytes : List ℕ) (row : ℕ × List ℕ) (rows : List (ℕ × List ℕ)) → id < row.0
     → put_body id bytes (row ∷ rows) ≡ (id, bytes) ∷ row ∷ rows
@@ -191,13 +178,8 @@ bytes_put id bytes (row ∷ rows) = elim (cases_order row.0 id) [
   | inl e ↦ ap (λ (l : List (ℕ × List ℕ)). body_at l id) (bytes_here id bytes row rows e)
       ∙ body_yes (id, bytes) rows id (eq-eqb id id refl)
   | inr apart ↦ elim apart [
-    | inl below ↦
-        ap (λ (l : List (ℕ × List ℕ)). body_at l id) (bytes_behind id bytes row rows below)
-        ∙ body_no row (put_body id bytes rows) id
-        (ne_eqb row.0 id (λ e. absurd (omega (arith, below, e)))) ∙ bytes_put id bytes rows
-    | inr above ↦
-        ap (λ (l : List (ℕ × List ℕ)). body_at l id) (bytes_before id bytes row rows above)
-        ∙ body_yes (id, bytes) (row ∷ rows) id (eq-eqb id id refl)
+    | inl below ↦ grind (arith, nat_tests, body_no, bytes_behind, bytes_put id bytes rows)
+    | inr above ↦ search (body_yes, bytes_before, eq-eqb)
   ]
 ]
 
@@ -225,8 +207,7 @@ body_of-with_body content id bytes = bytes_put id bytes content.bodies
 pub body_of-with_body-other : (content : Content) (id : ℕ) (bytes : List ℕ)
     (row : ℕ) → (row ≡ id → ⊥)
     → body_of (with_body content id bytes) row ≡ body_of content row
-body_of-with_body-other content id bytes row other =
-    bytes_put-other id bytes content.bodies row other
+body_of-with_body-other content id bytes row other = search (bytes_put-other)
 
 -- ---- what is there, put once more
 
@@ -257,11 +238,7 @@ bytes_there k id bytes [] rises found = absurd (none-some bytes found)
 bytes_there k id bytes (row ∷ rows) rises found =
     let parts = and_parts (nat_lt k row.0) (is_rising (row.0 ∷ map (λ r. r.0) rows)) rises in
     elim (cases_Bool (row.0 == id)) [
-      | inl is ↦
-          let e = eqb-true row.0 id is in
-          let same = same_Some row.1 bytes (sym (body_yes row rows id is) ∙ found) in
-          bytes_here id bytes row rows e
-          ∙ ap (λ (r : ℕ × List ℕ). r ∷ rows) (λ i. (sym e i, sym same i))
+      | inl is ↦ grind (arith, nat_tests, body_yes, bytes_here)
       | inr isnt ↦
           let later = sym (body_no row rows id isnt) ∙ found in
           bytes_behind id bytes row rows (body_above row.0 id bytes rows parts.1 later)

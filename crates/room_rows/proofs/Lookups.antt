@@ -2,7 +2,7 @@
 use Rattle.std.proofs.Common.{◌≡◌, ℕ, suc, ◌<◌, ◌==◌, ◌⊎◌, Bool, true, false, List, [], ◌∷◌, map}
 use Rattle.std.proofs.Common.{filter, Some, None, nat_lt, refl, sym, ap, subst, ◌∙◌, arith, inl}
 use Rattle.std.proofs.{Common.{inr, ◌+◌, ◌≤◌, length}, lemmas.Bool.{cases_Bool, cases_order}}
-use Rattle.std.proofs.lemmas.Bool.{and_parts, eqb-true, eq-eqb, ne_eqb, ltb-true, lt-ltb, cond-true}
+use Rattle.std.proofs.lemmas.Bool.{and_parts, eqb-true, eq-eqb, ltb-true, lt-ltb, cond-true}
 use Rattle.std.proofs.lemmas.{Bool.{cond-false, Decides.nat_tests}, Option.{same_Some, none-some}}
 use Rattle.std.specs.List.{find, AllByRecursion}
 use Rattle.room_rows.specs.{declared.node.Node.Node, Content.{is_before, put_by_name}}
@@ -51,16 +51,10 @@ pub find-kept : {X : Type 0} (p q : X → Bool) (xs : List X) (x : X) → find p
     → q x ≡ true → find p (filter q xs) ≡ Some x
 find-kept p q [] x found kept = absurd (none-some x found)
 find-kept p q (y ∷ ys) x found kept = elim (cases_Bool (p y)) [
-  | inl is ↦
-      let it = same_Some y x (sym (find_yes p y ys is) ∙ found) in
-      ap (find p) (keep_yes q y ys (ap q it ∙ kept)) ∙ find_yes p y (filter q ys) is
-      ∙ ap (λ z. Some z) it
+  | inl is ↦ search (find_yes, keep_yes, same_Some)
   | inr isnt ↦
       let later = find-kept p q ys x (sym (find_no p y ys isnt) ∙ found) kept in
-      elim (cases_Bool (q y)) [
-        | inl stays ↦ ap (find p) (keep_yes q y ys stays) ∙ find_no p y (filter q ys) isnt ∙ later
-        | inr goes ↦ ap (find p) (keep_no q y ys goes) ∙ later
-      ]
+      grind (arith, nat_tests, find_no, keep_no, keep_yes)
 ]
 
 -- nothing is found among fewer
@@ -70,10 +64,7 @@ find-kept_none p q [] none = none
 find-kept_none p q (y ∷ ys) none =
     let parts = none_found p y ys none in
     let later = find-kept_none p q ys parts.1 in
-    elim (cases_Bool (q y)) [
-      | inl stays ↦ ap (find p) (keep_yes q y ys stays) ∙ find_no p y (filter q ys) parts.0 ∙ later
-      | inr goes ↦ ap (find p) (keep_no q y ys goes) ∙ later
-    ]
+    grind (arith, nat_tests, find_no, keep_no, keep_yes)
 
 -- where all that pass are gone, none is found
 pub find-kept_gone : {X : Type 0} (p q : X → Bool) (xs : List X)
@@ -81,13 +72,7 @@ pub find-kept_gone : {X : Type 0} (p q : X → Bool) (xs : List X)
 find-kept_gone p q [] gone = refl
 find-kept_gone p q (y ∷ ys) gone =
     let later = find-kept_gone p q ys gone in
-    elim (cases_Bool (p y)) [
-      | inl is ↦ ap (find p) (keep_no q y ys (gone y is)) ∙ later
-      | inr isnt ↦ elim (cases_Bool (q y)) [
-        | inl stays ↦ ap (find p) (keep_yes q y ys stays) ∙ find_no p y (filter q ys) isnt ∙ later
-        | inr goes ↦ ap (find p) (keep_no q y ys goes) ∙ later
-      ]
-    ]
+    grind (arith, nat_tests, find_no, keep_no, keep_yes)
 
 -- where all that pass are kept, the same is found
 pub find-kept_all : {X : Type 0} (p q : X → Bool) (xs : List X)
@@ -95,17 +80,7 @@ pub find-kept_all : {X : Type 0} (p q : X → Bool) (xs : List X)
 find-kept_all p q [] kept = refl
 find-kept_all p q (y ∷ ys) kept =
     let later = find-kept_all p q ys kept in
-    elim (cases_Bool (p y)) [
-      | inl is ↦ ap (find p) (keep_yes q y ys (kept y is)) ∙ find_yes p y (filter q ys) is
-          ∙ sym (find_yes p y ys is)
-      | inr isnt ↦
-          let before = later ∙ sym (find_no p y ys isnt) in
-          elim (cases_Bool (q y)) [
-            | inl stays ↦ ap (find p) (keep_yes q y ys stays) ∙ find_no p y (filter q ys) isnt
-                ∙ before
-            | inr goes ↦ ap (find p) (keep_no q y ys goes) ∙ before
-          ]
-    ]
+    grind (arith, nat_tests, find_no, find_yes, keep_no, keep_yes)
 
 -- ---- facts of each that stay
 
@@ -139,8 +114,7 @@ each-put_by_name P node (other ∷ others) here each =
 pub each-sorted : (P : Node → Type 0) (nodes : List Node) → AllByRecursion P nodes
     → AllByRecursion P (sorted_by_name nodes)
 each-sorted P [] each = tt
-each-sorted P (node ∷ nodes) each =
-    each-put_by_name P node (sorted_by_name nodes) each.0 (each-sorted P nodes each.1)
+each-sorted P (node ∷ nodes) each = search (each-put_by_name, each-sorted P nodes each.1)
 
 count_put : (p : Node → Bool) (node : Node) (nodes : List Node)
     → count p (put_by_name node nodes) ≡ one_if (p node) + count p nodes
@@ -186,8 +160,7 @@ stands-each P (y ∷ ys) node each (inr later) = stands-each P ys node each.1 la
 -- what is found by a number has it
 pub found_number : (id : ℕ) (nodes : List Node) (node : Node) → find_id id nodes ≡ Some node
     → node.id ≡ id
-found_number id nodes node found =
-    eqb-true node.id id (found_passes (λ (n : Node). n.id == id) nodes node found)
+found_number id nodes node found = search (eqb-true, found_passes)
 
 length_put : (id : ℕ) (ids : List ℕ) → length (put_number id ids) ≡ suc (length ids)
 length_put id [] = refl
@@ -208,9 +181,7 @@ found_above k (x ∷ xs) id node rises found =
     let parts = and_parts (nat_lt k x.id) (is_rising (x.id ∷ map (λ (n : Node). n.id) xs)) rises in
     let up = ltb-true k x.id parts.0 in
     elim (cases_Bool (x.id == id)) [
-      | inl is ↦
-          subst (λ (n : Node). k < n.id)
-          (same_Some x node (sym (find_yes (λ (n : Node). n.id == id) x xs is) ∙ found)) up
+      | inl is ↦ grind (arith, nat_tests, find_yes)
       | inr isnt ↦ let next =
           found_above x.id xs id node parts.1
           (sym (find_no (λ (n : Node). n.id == id) x xs isnt) ∙ found) in omega (arith, up, next)
@@ -246,19 +217,15 @@ put_before node x xs above = grind (arith, nat_tests)
 -- it is found by its number
 pub find-put_same : (node : Node) (nodes : List Node)
     → find_id node.id (put_node node nodes) ≡ Some node
-find-put_same node [] =
-    find_yes (λ (n : Node). n.id == node.id) node [] (eq-eqb node.id node.id refl)
+find-put_same node [] = search (eq-eqb, find_yes)
 find-put_same node (x ∷ xs) =
     let test = λ (n : Node). n.id == node.id in
     let itself = eq-eqb node.id node.id refl in
     elim (cases_order x.id node.id) [
       | inl e ↦ ap (find test) (put_same node x xs e) ∙ find_yes test node xs itself
       | inr apart ↦ elim apart [
-        | inl below ↦ ap (find test) (put_behind node x xs below)
-            ∙ find_no test x (put_node node xs)
-            (ne_eqb x.id node.id (λ e. absurd (omega (arith, below, e)))) ∙ find-put_same node xs
-        | inr above ↦ ap (find test) (put_before node x xs above)
-            ∙ find_yes test node (x ∷ xs) itself
+        | inl below ↦ grind (arith, nat_tests, find_no, put_behind, find-put_same node xs)
+        | inr above ↦ cc (put_before node x xs above, find_yes test node (x ∷ xs) itself)
       ]
     ]
 

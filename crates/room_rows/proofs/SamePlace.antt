@@ -1,8 +1,8 @@
 -- Objects that change, and keep their numbers, parents and names.
 use Rattle.std.proofs.Common.{◌≡◌, ℕ, ◌<◌, ◌≤◌, ◌==◌, Bool, true, List, [], ◌∷◌, map, filter, Some}
 use Rattle.std.proofs.{Common.{nat_lt, refl, sym, ap, ◌∙◌, arith, inl, inr}, lemmas.Bool.cases_Bool}
-use Rattle.std.proofs.lemmas.Bool.{and_parts, eqb-true, eq-eqb, ne_eqb, ltb-true, cond-true}
-use Rattle.std.proofs.lemmas.{Bool.{cond-false, Decides.nat_tests}, Option.{same_Some, none-some}}
+use Rattle.std.proofs.lemmas.Bool.{and_parts, eq-eqb, ne_eqb, ltb-true, cond-true}
+use Rattle.std.proofs.lemmas.{Bool.{cond-false, Decides.nat_tests}, Option.{none-some}}
 use Rattle.std.specs.{Prelude.if◌then◌else◌, List.{find, AllByRecursion}, Option.option_map}
 use Rattle.room_rows.specs.{declared.node.Node.Node, Content.{put_by_name, sorted_by_name}}
 use Rattle.room_rows.specs.{Content.{put_node, is_rising}, Finding.find_id}
@@ -53,21 +53,17 @@ put-replaces k [] id node new rises found same = absurd (none-some node found)
 put-replaces k (x ∷ xs) id node new rises found same =
     let parts = and_parts (nat_lt k x.id) (is_rising (x.id ∷ map (λ (n : Node). n.id) xs)) rises in
     elim (cases_Bool (x.id == id)) [
-      | inl is ↦
-          let e : x.id ≡ new.id = eqb-true x.id id is ∙ sym same in
-          let rest = untouched x.id xs new parts.1 (omega (arith, e)) in
-          put_same new x xs e
-          ∙ sym (ap (λ (n : Node). n ∷ map (replaced new) xs) (replaced_here new x e)
-          ∙ ap (λ (l : List Node). new ∷ l) rest)
+      | inl is ↦ grind (arith, nat_tests, put_same, replaced_here, untouched)
       | inr isnt ↦
           let later = sym (find_no (λ (n : Node). n.id == id) x xs isnt) ∙ found in
           let above = found_above x.id xs id node parts.1 later in
           let number = found_number id xs node later in
           let below : x.id < new.id = omega (arith, above, number, same) in
-          put_behind new x xs below
-          ∙ ap (λ (l : List Node). x ∷ l) (put-replaces x.id xs id node new parts.1 later same)
-          ∙ sym (ap (λ (n : Node). n ∷ map (replaced new) xs)
-          (replaced_elsewhere new x (λ e. absurd (omega (arith, below, e)))))
+          cc (
+            put_behind new x xs below,
+            put-replaces x.id xs id node new parts.1 later same,
+            replaced_elsewhere new x (λ e. absurd (omega (arith, below, e))),
+          )
     ]
 
 -- an object that is there, put once more, leaves all as it is
@@ -78,10 +74,7 @@ put_there k [] node rises found = absurd (none-some node found)
 put_there k (x ∷ xs) node rises found =
     let parts = and_parts (nat_lt k x.id) (is_rising (x.id ∷ map (λ (n : Node). n.id) xs)) rises in
     elim (cases_Bool (x.id == node.id)) [
-      | inl is ↦
-          let here = same_Some x node
-          (sym (find_yes (λ (n : Node). n.id == node.id) x xs is) ∙ found) in
-          put_same node x xs (eqb-true x.id node.id is) ∙ ap (λ (n : Node). n ∷ xs) (sym here)
+      | inl is ↦ grind (arith, nat_tests, find_yes, put_same)
       | inr isnt ↦
           let later = sym (find_no (λ (n : Node). n.id == node.id) x xs isnt) ∙ found in
           put_behind node x xs (found_above x.id xs node.id node parts.1 later)
@@ -119,8 +112,7 @@ module _ (change : Node → Node) where
       → AllByRecursion (λ (n : Node). IsSamePlace (change n) n) nodes
       → sorted_by_name (map change nodes) ≡ map change (sorted_by_name nodes)
   sorted-changed [] same = refl
-  sorted-changed (x ∷ xs) same =
-      grind (arith, nat_tests, each-sorted, put_by_name-changed, sorted-changed xs same.1)
+  sorted-changed (x ∷ xs) same = search (each-sorted, put_by_name-changed, sorted-changed xs same.1)
 
   -- what depends on the place alone stays
   pub map-changed : {A : Type 0} (part : Node → A)
@@ -128,6 +120,4 @@ module _ (change : Node → Node) where
       → AllByRecursion (λ (n : Node). IsSamePlace (change n) n) nodes
       → map part (map change nodes) ≡ map part nodes
   map-changed part of_place [] same = refl
-  map-changed part of_place (x ∷ xs) same =
-      ap (λ a. a ∷ map part (map change xs)) (of_place (change x) x same.0)
-      ∙ ap (λ l. part x ∷ l) (map-changed part of_place xs same.1)
+  map-changed part of_place (x ∷ xs) same = search (map-changed part of_place xs same.1)

@@ -1,11 +1,10 @@
 -- A set of pairs is in order, and none is lost or added.
 use Rattle.std.proofs.Common.{◌≡◌, ℕ, ◌||◌, ◌&&◌, Bool, true, false, List, [], ◌∷◌, refl, sym, ap}
 use Rattle.std.proofs.{Common.{◌∙◌, inl, inr, arith}, lemmas.Bool.{cases_Bool, and_parts, and_from}}
-use Rattle.std.proofs.lemmas.Bool.{or_parts, cond-true, cond-false, false≢true, true≢false}
-use Rattle.std.proofs.lemmas.{Bool.Decides.nat_tests, Cmp.nat_list_cmp_total}
-use Rattle.std.proofs.lemmas.Map.Text.{is_eq-slice_cmp}
-use Rattle.std.specs.{List.list_any, Ordering.{nat_cmp, ordering_reverse, is_lt, is_eq}}
-use Rattle.std.specs.{Cmp.Lexicographic.{slice_cmp, bytes_decides}, declared.cmp.Ordering.Ordering}
+use Rattle.std.proofs.lemmas.Bool.{or_parts, cond-true, false≢true, true≢false, Decides.nat_tests}
+use Rattle.std.proofs.lemmas.{Cmp.nat_list_cmp_total, Map.Text.is_eq-slice_cmp}
+use Rattle.std.specs.{List.list_any, Ordering.{nat_cmp, is_lt, is_eq}, Cmp.Lexicographic.slice_cmp}
+use Rattle.std.specs.{Cmp.Lexicographic.bytes_decides, declared.cmp.Ordering.Ordering}
 use Rattle.std.specs.declared.cmp.Ordering.TheVariants.{Less, Equal, Greater}
 use Rattle.room_entry.specs.Pieces.{same_text}
 use Rattle.room_rows.specs.{Content.{is_before, is_pair_before, put_pair, set_of}, Laws.SetOfPairs}
@@ -22,9 +21,7 @@ text_total a b first second =
     by : (o : Ordering) → slice_cmp nat_cmp a b ≡ o → a ≡ b
     by Less e = absurd (true≢false (sym (ap is_lt e) ∙ first))
     by Equal e = (bytes_decides a b).0 (sym (is_eq-slice_cmp a b) ∙ ap is_eq e)
-    by Greater e =
-        absurd (true≢false
-        (sym (ap is_lt (nat_list_cmp_total.antisymm b a ∙ ap ordering_reverse e)) ∙ second))
+    by Greater e = grind (arith, nat_tests, nat_list_cmp_total)
 
 then_false : (x y : Bool) → x ≡ true → (x && y) ≡ false → y ≡ false
 then_false true y is none = none
@@ -43,9 +40,7 @@ pair_total a b first second =
     λ i. (group i, user i)
 
 pub or_swap : (a b c : Bool) → (a || (b || c)) ≡ (b || (a || c))
-or_swap true true c = refl
-or_swap true false c = refl
-or_swap false b c = refl
+or_swap a b c = grind (arith, nat_tests)
 
 or_twice : (a c : Bool) → (a || c) ≡ (a || (a || c))
 or_twice true c = refl
@@ -68,24 +63,12 @@ rising_behind x y (z ∷ zs) up order =
     let parts = and_parts (is_pair_before y z) (are_rising (z ∷ zs)) order in
     elim (cases_Bool (is_pair_before z x)) [
       | inl first ↦
-          ap (λ (l : List Pair). are_rising (y ∷ l))
-          (cond-true (is_pair_before z x) (z ∷ put_pair x zs) _ first)
-          ∙ and_from (is_pair_before y z) (are_rising (z ∷ put_pair x zs)) parts.0
-          (rising_behind x z zs first parts.1)
-      | inr isnt ↦
-          ap (λ (l : List Pair). are_rising (y ∷ l))
-          (cond-false (is_pair_before z x) (z ∷ put_pair x zs) _ isnt)
-          ∙ (elim (cases_Bool (is_pair_before x z)) [
-            | inl between ↦
-                ap (λ (l : List Pair). are_rising (y ∷ l))
-                (cond-true (is_pair_before x z) (x ∷ z ∷ zs) (z ∷ zs) between)
-                ∙ and_from (is_pair_before y x) (are_rising (x ∷ z ∷ zs)) up
-                (and_from (is_pair_before x z) (are_rising (z ∷ zs)) between parts.1)
-            | inr same ↦
-                ap (λ (l : List Pair). are_rising (y ∷ l))
-                (cond-false (is_pair_before x z) (x ∷ z ∷ zs) (z ∷ zs) same)
-                ∙ order
-          ])
+          cc (
+            cond-true (is_pair_before z x) (z ∷ put_pair x zs) _ first,
+            and_from (is_pair_before y z) (are_rising (z ∷ put_pair x zs)) parts.0
+                (rising_behind x z zs first parts.1),
+          )
+      | inr isnt ↦ grind (arith, nat_tests)
     ]
 
 rising_put : (x : Pair) (ys : List Pair) → are_rising ys ≡ true → are_rising (put_pair x ys) ≡ true

@@ -1,7 +1,7 @@
 -- Calls of a keeper one after the other.
-use Rattle.std.proofs.Common.{◌≡◌, ℕ, ◌≤◌, Result, Ok, Err, refl, ap, ◌∙◌, inl, inr, arith}
-use Rattle.std.proofs.lemmas.Bool.{cases_lt, Decides.nat_tests}
-use Rattle.room_rows.specs.declared.keep.KeepFault.{KeepFault, TheVariants.{Memory, Store, Damaged}}
+use Rattle.std.proofs.Common.{◌≡◌, ℕ, ◌≤◌, Result, Ok, Err, ap, arith}
+use Rattle.std.proofs.lemmas.Bool.{Decides.nat_tests}
+use Rattle.room_rows.specs.declared.keep.KeepFault.{KeepFault, TheVariants.{Memory}}
 use Rattle.room_rows.specs.{Rows.Rows, Keep.{HasCause, IfSeen, IsRead, KeepLaws}}
 
 -- an error that `?` hands on
@@ -13,11 +13,7 @@ handed_on (Err x) e h = ap Err h
 -- a cause of a later call is one of all calls since an earlier state
 pub later_cause : (first mid last : ℕ) (e : KeepFault) (D E : ℕ → Type 0) → first ≤ mid → mid ≤ last
     → ((id : ℕ) → D id → E id) → HasCause mid last D e → HasCause first last E e
-later_cause first mid last Memory D E up up' damaged h = tt
-later_cause first mid last Store D E up up' damaged (inl h) = inl (omega arith)
-later_cause first mid last Store D E up up' damaged (inr h) =
-    elim (cases_lt first last) [ inl below ↦ inl below | inr not_below ↦ inr (omega arith) ]
-later_cause first mid last (Damaged id) D E up up' damaged h = damaged id h
+later_cause first mid last e D E up up' damaged h = grind (arith, nat_tests)
 
 module _ {S : Type 0} (rows : S → Rows) (failures writes : S → ℕ)
     (Follows IsTrusted : S → S → Type 0) where
@@ -30,8 +26,7 @@ module _ {S : Type 0} (rows : S → Rows) (failures writes : S → ℕ)
 
   -- before the first read nothing was written, nothing failed, and the rows are the same
   pub none_yet : KeepLaws rows failures writes Follows IsTrusted → (a : S) → HasRead a a
-  none_yet laws a =
-      record { follows = laws.itself a; unwritten = refl; unfailed = refl; same = λ _. refl }
+  none_yet laws a = grind (arith, nat_tests)
 
   -- a read that answered is by itself a run of reads, each of which answered
   pub seen : {X : Type 0} (a b : S) (x : X) {Blames : Rows → ℕ → Type 0}
@@ -41,10 +36,7 @@ module _ {S : Type 0} (rows : S → Rows) (failures writes : S → ℕ)
 
   seen_on : {X : Type 0} (r : Result X KeepFault) (old mid new : Rows) → mid ≡ old
       → IfSeen r (new ≡ mid) → IfSeen r (new ≡ old)
-  seen_on (Ok x) old mid new e h = h ∙ e
-  seen_on (Err Memory) old mid new e h = tt
-  seen_on (Err Store) old mid new e h = tt
-  seen_on (Err (Damaged id)) old mid new e h = h ∙ e
+  seen_on r old mid new e h = grind (arith, nat_tests)
 
   -- a read after others
   pub read_on : KeepLaws rows failures writes Follows IsTrusted

@@ -1,8 +1,8 @@
 -- The test of UTF-8, and texts.
 use Rattle.std.proofs.Common.{◌≡◌, ℕ, zero, suc, ◌<◌, ◌≤◌, ◌==◌, true, false, List, [], ◌∷◌, length}
-use Rattle.std.proofs.Common.{take, sym, subst, ◌∙◌, arith, inl, inr, get_or, nat_lt}
-use Rattle.std.proofs.lemmas.Bool.{cases_Bool, and_parts, or_from, ltb-true, ne_eqb, false≢true}
-use Rattle.std.proofs.lemmas.{Bool.false_from_ne_true, List.take_all, Str.IsUtf8-from_ascii}
+use Rattle.std.proofs.Common.{take, subst, arith, inl, inr, get_or, nat_lt}
+use Rattle.std.proofs.lemmas.Bool.{cases_Bool, and_parts, or_from, ne_eqb, false_from_ne_true}
+use Rattle.std.proofs.lemmas.{Bool.Decides.nat_tests, List.take_all, Str.IsUtf8-from_ascii}
 use Rattle.std.proofs.lemmas.Str.{IsUtf8-from_is_utf8, IsUtf8-nil, is_utf8-from_IsUtf8}
 use Rattle.std.proofs.lemmas.Str.{utf8_valid_len-IsValidUpTo}
 use Rattle.std.specs.{List.list_all, Str.{IsUtf8, IsValidUpTo, is_utf8 as is_text}}
@@ -13,8 +13,7 @@ use Rattle.room_entry.specs.Utf8.{is_utf8}
 pub ascii_at : (bytes : List ℕ) → list_all (λ byte. nat_lt byte 128) bytes ≡ true → (i : ℕ)
     → get_or bytes i 0 < 128
 ascii_at [] h i = omega arith
-ascii_at (b ∷ bs) h zero =
-    ltb-true b 128 (and_parts (nat_lt b 128) (list_all (λ byte. nat_lt byte 128) bs) h).0
+ascii_at (b ∷ bs) h zero = grind (arith, nat_tests)
 ascii_at (b ∷ bs) h (suc i) =
     ascii_at bs (and_parts (nat_lt b 128) (list_all (λ byte. nat_lt byte 128) bs) h).1 i
 
@@ -46,9 +45,7 @@ front_below bytes (suc k) within none = elim (cases_Bool (is_text (take k bytes)
     },
   )
   | inr isnt ↦ front_below bytes k (omega (arith, within)) (λ m at is. elim (cases_Bool (k == m)) [
-    | inl same ↦
-        false≢true (sym isnt ∙ is_utf8-from_IsUtf8 (take k bytes)
-        (subst (λ (n : ℕ). IsUtf8 (take n bytes)) (sym (equal k m same)) is))
+    | inl same ↦ grind (arith, nat_tests, equal, is_utf8-from_IsUtf8)
     | inr apart ↦ none m (above k m at apart) is
   ])
 ]
@@ -72,7 +69,5 @@ text_from bytes passed = elim (cases_Bool (is_text bytes)) [
   | inl holds ↦ IsUtf8-from_is_utf8 bytes holds
   | inr isnt ↦
       absurd
-      (false≢true
-      (sym (other_as_utf8 bytes (λ is. false≢true (sym isnt ∙ is_utf8-from_IsUtf8 bytes is)))
-      ∙ passed))
+      (grind (arith, nat_tests, is_utf8-from_IsUtf8, other_as_utf8))
 ]

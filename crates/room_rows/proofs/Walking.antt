@@ -1,15 +1,12 @@
 -- Steps of a walk.
-use Rattle.std.proofs.Common.{◌≡◌, ℕ, ◌<◌, ◌-◌, ◌+◌, suc, List, [], ◌∷◌, ◌++◌, length, Some, None}
-use Rattle.std.proofs.Common.{drop, get_or, refl, sym, ap, ◌∙◌, append_assoc, drop-cons, add-one}
-use Rattle.std.proofs.Common.{length-drop}
+use Rattle.std.proofs.Common.{◌≡◌, ℕ, ◌<◌, ◌-◌, ◌+◌, List, [], ◌∷◌, ◌++◌, length, Some, None, drop}
+use Rattle.std.proofs.Common.{get_or, refl, append_assoc, drop-cons, add-one, length-drop}
 use Rattle.room_rows.specs.{declared.node.Node.Node, Content.{Content, child_of}, Along.after_chain}
 use Rattle.room_rows.specs.Walk.{walk_from, behind}
 
 pub next_name : (names : List (List ℕ)) (i : ℕ) (name : List ℕ) → i < length names
     → name ≡ get_or names i name → drop i names ≡ name ∷ drop (i + 1) names
-next_name names i name below is =
-    drop-cons names i name below ∙ ap (λ (x : List ℕ). x ∷ drop (suc i) names) (sym is)
-    ∙ ap (λ (j : ℕ). name ∷ drop j names) (sym (add-one i))
+next_name names i name below is = cc (drop-cons names i name below, is, add-one i)
 
 pub none_further : (content : Content) (node : Node) (name : List ℕ) (names : List (List ℕ))
     → child_of content node.id name ≡ None
@@ -30,10 +27,12 @@ pub walk_ends : (content : Content) (node : Node) (chain : List Node) (names : L
     ≡ record { chain = chain ++ node ∷ []; rest = length names - i }
 walk_ends content node chain names i name below is none =
     let rest = next_name names i name below is in
-    ap (λ (l : List (List ℕ)). after_chain chain (walk_from content node l)) rest
-    ∙ ap (after_chain chain) (none_further content node name (drop (i + 1) names) none)
-    ∙ ap (λ (n : ℕ). record { chain = chain ++ node ∷ []; rest = n })
-    (sym (ap length rest) ∙ length-drop i names)
+    cc (
+      rest,
+      none_further content node name (drop (i + 1) names) none,
+      rest,
+      length-drop i names,
+    )
 
 -- a child of the next name
 pub walk_goes_on : (content : Content) (node next : Node) (chain : List Node)
@@ -43,9 +42,8 @@ pub walk_goes_on : (content : Content) (node next : Node) (chain : List Node)
     ≡ after_chain (chain ++ node ∷ []) (walk_from content next (drop (i + 1) names))
 walk_goes_on content node next chain names i name below is found =
     let rest = next_name names i name below is in
-    ap (λ (l : List (List ℕ)). after_chain chain (walk_from content node l)) rest
-    ∙ ap (after_chain chain) (one_further content node next name (drop (i + 1) names) found)
-    ∙ ap
-    (λ (l : List Node).
-    record { chain = l; rest = (walk_from content next (drop (i + 1) names)).rest })
-    (sym (append_assoc chain (node ∷ []) (walk_from content next (drop (i + 1) names)).chain))
+    cc (
+      rest,
+      one_further content node next name (drop (i + 1) names) found,
+      append_assoc chain (node ∷ []) (walk_from content next (drop (i + 1) names)).chain,
+    )
