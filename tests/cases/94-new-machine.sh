@@ -202,7 +202,8 @@ cp -a moved "$machine/mnt/rooms"
 does 'the package on the third machine' "$(installs)"
 does 'the backups of the second' "$(block docs/backup.md 'cp -a /mnt/rooms')"
 does 'its rooms' "$(block docs/backup.md 'do rooms-admin restore --conf')"
-does 'they start' "$(block docs/backup.md reload-or-restart)"
+inside "$(block docs/backup.md reload-or-restart)"
+holds "they start: $(tail -n 1 "$work/out")" eval 'tail -n 1 "$work/out" | grep -q "^rooms WARNING - " && ! tail -n 1 "$work/out" | grep -q answer'
 does 'and have all' "$(got $named -u alice:typed $site/doc/last); cat body; echo
   $(got $named -u alice:typed $site/doc/letter)
   $(got $named -u carol:typed $site/invoices/doc/one)
