@@ -25,7 +25,11 @@ def _remove_left(place: str, name: str, user: int) -> None:
     """Anybody may make a folder there, so only ours go."""
     for one in glob.glob(f"{glob.escape(place)}/{name}.*"):
         found = re.fullmatch(r"(\d+)\.(\d+)\..*", os.path.basename(one).removeprefix(f"{name}."))
-        seen = os.lstat(one)
+        try:
+            seen = os.lstat(one)
+        except FileNotFoundError:
+            # Whoever made it has removed it meanwhile.
+            continue
         if found and seen.st_uid in (os.geteuid(), user) and (
                 unit.began(int(found[1])) != found[2]):
             shutil.rmtree(one, ignore_errors=True)
