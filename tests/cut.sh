@@ -1,5 +1,5 @@
-# A verb of rooms-admin that is cut off at each of its calls of the system, by a signal that it can catch
-# and by one that it can't: nothing of the run goes on, and the same command then completes.
+# A verb of rooms-admin that is cut off at each of its calls of the system, by a signal that it can
+# catch and by one that it can't: nothing of the run goes on, and the same command then completes.
 
 admin() {
   "$contrib/rooms-admin" "$@" >"$work/out" 2>"$work/err" </dev/null
@@ -16,14 +16,14 @@ nobody_left() { # NAME RUN
   holds "$1: none of its processes goes on" [ -z "$(goes_on "$2")" ]
 }
 
-# What a case may have otherwise: the command once more, what is found in the folder of marks, and whether a run
-# that got a signal may say that all is well.
+# What a case may have otherwise: the command once more, what is found in the folder of marks, and
+# whether a run that got a signal may say that all is well.
 once_more() { admin "${words[@]}"; }
 owes() { ls "$ROOMS_RUN"; }
 ended_badly() { [ "$status" != 0 ]; }
 
-# Each call of the verb in `words`: `before` makes ready, `is_served` looks at the room and at what is left, and
-# `again` at the command once more.
+# Each call of the verb in `words`: `before` makes ready, `is_served` looks at the room and at what
+# is left, and `again` at the command once more.
 at_each_call() { # NAME LEAST
   local number name lock
   for number in {1..200}; do
@@ -43,7 +43,8 @@ at_each_call() { # NAME LEAST
     once_more
     again "$name"
   done
-  holds "$1, $how: the calls come to an end, after $number" [ "$number" -gt "$2" -a "$number" -lt 200 ]
+  holds "$1, $how: the calls come to an end, after $number" \
+    [ "$number" -gt "$2" -a "$number" -lt 200 ]
   holds "$1, $how: a run that nothing cuts off" [ "$status" = 0 ]
 }
 

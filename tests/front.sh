@@ -1,4 +1,5 @@
-# A front end before the server: nginx by the file that rooms-admin writes, with other ports and files.
+# A front end before the server: nginx by the file that rooms-admin writes, with other ports and
+# files.
 
 nginx=$(command -v nginx || ls /usr/sbin/nginx 2>/dev/null)
 
@@ -9,16 +10,21 @@ has_six() {
 }
 
 # The site with the ports and the files of a case: passwords are ./rooms.htpasswd and so on, what is
-# remembered is in ./remembered, that socket in ./checks, those of rooms in ./run, all else below ./machine.
+# remembered is in ./remembered, that socket in ./checks, those of rooms in ./run, all else below
+# ./machine.
 for_here() { # FILE
   local six='/listen \[::\]/d'
-  if has_six; then six="s/listen \[::\]:80;/listen [::1]:$front;/; s/listen \[::\]:443 /listen [::1]:$secure /"; fi
+  if has_six; then
+    six="s/listen \[::\]:80;/listen [::1]:$front;/; s/listen \[::\]:443 /listen [::1]:$secure /"
+  fi
   sed -e "s/listen 80;/listen 127.0.0.1:$front;/" -e "s/listen 443 /listen 127.0.0.1:$secure /" \
     -e "$six" -e "s/127.0.0.1:8778/127.0.0.1:$apache/" -e "s/127.0.0.1:8777/127.0.0.1:$apache/" \
-    -e "s|/run/rooms-front/remembered|$PWD/remembered|; s|/run/rooms-front|$PWD/checks|; s|/run/rooms-full|$PWD/run/rooms-full|" \
+    -e "s|/run/rooms-front/remembered|$PWD/remembered|; s|/run/rooms-front|$PWD/checks|" \
+    -e "s|/run/rooms-full|$PWD/run/rooms-full|" \
     -e "s|unix:/run/rooms/|unix:$PWD/run/rooms/|" \
     -e "s|/var/lib/rooms-web|$PWD/root/var/lib/rooms-web|g" \
-    -e "s|/etc/nginx/|$PWD/|; s|/etc/rooms/|$PWD/machine/etc/rooms/|; s|/var/lib/rooms-front|$PWD/machine/var/lib/rooms-front|" "$1"
+    -e "s|/etc/nginx/|$PWD/|; s|/etc/rooms/|$PWD/machine/etc/rooms/|" \
+    -e "s|/var/lib/rooms-front|$PWD/machine/var/lib/rooms-front|" "$1"
 }
 
 # nginx's file, which includes the site as Debian's does.
@@ -26,7 +32,8 @@ write_front() {
   echo "daemon off; pid $PWD/nginx.pid; error_log $PWD/error.log; worker_processes 1;"
   [ "$(id -u)" != 0 ] || echo 'user root;'
   echo 'events { worker_connections 256; }'
-  echo "http { log_format short '\$status \$request_method \$request_uri \$remote_user \$http_origin';"
+  echo 'http {'
+  echo "log_format short '\$status \$request_method \$request_uri \$remote_user \$http_origin';"
   echo "access_log $PWD/access.log short; client_body_temp_path $PWD/t1; proxy_temp_path $PWD/t2;"
   echo "fastcgi_temp_path $PWD/t3; uwsgi_temp_path $PWD/t4; scgi_temp_path $PWD/t5;"
   echo 'include sites-enabled/*; }'
@@ -34,9 +41,11 @@ write_front() {
 
 # Runs a verb for the machine of the case, which is below ./machine.
 admin() { # VERB ARGUMENT ..
-  "$contrib/rooms-admin" "$1" --destdir "$PWD/machine" "${@:2}" </dev/null >"$work/out" 2>"$work/err"
+  "$contrib/rooms-admin" "$1" --destdir "$PWD/machine" "${@:2}" \
+    </dev/null >"$work/out" 2>"$work/err"
   status=$?
 }
+adds() { admin "$@"; [ "$status" = 0 ]; }
 # A setting of a room, or of the site where the room is '-'.
 sets() { # ROOM NAME VALUE
   local file=machine/etc/rooms/$1.conf
@@ -54,10 +63,10 @@ start_room() { # FILE COUNT
   start_at_socket "$1" "$PWD/run/rooms/office/socket" "$2"
 }
 
-# Starts nginx with the site of the room office, whose server is at $place, a socket or a port; with TLS
-# for 'tls', whose certificate and key are ./rooms.pem and ./rooms.key. The ports $front and $secure are
-# free if $port is. It asks for the passwords of ./rooms.htpasswd, serves the page of contrib, and writes
-# the status, method, target, user and origin of each request into ./access.log.
+# Starts nginx with the site of the room office, whose server is at $place, a socket or a port; with
+# TLS for 'tls', whose certificate and key are ./rooms.pem and ./rooms.key. The ports $front and
+# $secure are free if $port is. It asks for the passwords of ./rooms.htpasswd, serves the page of
+# contrib, and writes the status, method, target, user and origin of each request into ./access.log.
 start_front() { # NAME [tls]
   local began=$SECONDS
   front=$((port + 1))
@@ -136,4 +145,33 @@ reloaded() { # COMMAND ..
   kill -HUP "$proxy"
   for one in ${before[@]+"${before[@]}"}; do wait_for "$one"; done
   until "$@" || [ $((SECONDS - began)) -ge "$patience" ]; do sleep 0.1; done
+}
+
+# What every answer says, also one to a wrong password.
+policy="Content-Security-Policy: default-src 'none'; script-src 'self'; style-src 'self'; img-src 'self' blob:; connect-src 'self'; base-uri 'none'; form-action 'none'; frame-ancestors 'none'"
+says_all() { # USER:PASSWORD TARGET
+  local line
+  answer "$1" "$2"
+  for line in "$policy" 'X-Content-Type-Options: nosniff' 'Referrer-Policy: no-referrer'; do
+    holds "$1 $base$2 says ${line%%:*}" grep -qxF "$line"$'\r' "$work/head"
+  done
+}
+
+# At ROOM, the path before a route, WHO makes a document with the longest path, which READER reads;
+# $path is that path then. One byte more is the room's to refuse.
+makes_deepest() { # ROOM WHO READER
+  local n name
+  # Names of 255 bytes, each byte escaped as three; 16 of them are the longest path.
+  printf -v name '%127s' ''
+  name=${name// /%C3%A9}%78
+  path=
+  for n in {1..15}; do
+    path=$path/$name
+    ask "a folder of ${1:-the root} at depth $n" 201 '' "$2" "$1/folder$path" -X POST
+  done
+  path=$path/$name
+  ask "a document of ${1:-the root} with the longest path" 201 '' \
+    "$2" "$1/doc$path" -X PUT --data-binary deep
+  ask 'is read' 200 deep "$3" "$1/doc$path"
+  ask 'a longer path' 400 '{"why":"bad-target P2"}' "$3" "$1/doc$path%78"
 }

@@ -4,7 +4,8 @@
 port=$((10000 + RANDOM % 20000))
 place=
 
-# Whether this shell opens sockets, and there is a loopback: port 1 then takes or refuses a connection.
+# Whether this shell opens sockets, and there is a loopback: port 1 then takes or refuses a
+# connection.
 has_loopback() {
   local why
   why=$( (exec 3<>/dev/tcp/127.0.0.1/1) 2>&1) || [[ $why = *refused* ]]
@@ -21,7 +22,8 @@ start_server() { # FILE COUNT
     port=$((port + 1))
     # The line of an earlier server has to go.
     : >"$work/server.out"
-    "$rooms" serve "$1" --port "$port" --count "$2" </dev/null >"$work/server.out" 2>"$work/server.err" &
+    "$rooms" serve "$1" --port "$port" --count "$2" \
+      </dev/null >"$work/server.out" 2>"$work/server.err" &
     server=$!
     place=127.0.0.1:$port
     if await_line; then return 0; fi
@@ -37,7 +39,8 @@ start_server() { # FILE COUNT
 # The same on a socket in the file system.
 start_at_socket() { # FILE PATH COUNT
   : >"$work/server.out"
-  "$rooms" serve "$1" --socket "$2" --count "$3" </dev/null >"$work/server.out" 2>"$work/server.err" &
+  "$rooms" serve "$1" --socket "$2" --count "$3" \
+    </dev/null >"$work/server.out" 2>"$work/server.err" &
   server=$!
   place=$2
   if await_line; then return 0; fi
@@ -112,8 +115,8 @@ exchange() {
   exec 3>&- 3<&-
 }
 
-# Sends what was written, and reads the answers meanwhile, so that neither side waits for the other; $work/statuses then has a
-# line for each answer.
+# Sends what was written, and reads the answers meanwhile, so that neither side waits for the other;
+# $work/statuses then has a line for each answer.
 converse() {
   last_message GET '/can/?' - >>"$work/sent"
   : >"$work/statuses"

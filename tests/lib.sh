@@ -43,11 +43,13 @@ told() { # NAME STATUS TEXT ..
   holds "$name (status $status)" [ "$status" = "$2" ]
   shift 2
   for text; do
-    holds "$name ($text): $(head -c 400 "$work/out" "$work/err")" grep -qF -e "$text" "$work/out" "$work/err"
+    holds "$name ($text): $(head -c 400 "$work/out" "$work/err")" \
+      grep -qF -e "$text" "$work/out" "$work/err"
   done
 }
 
-# Runs the program on $input, with what it writes in $work/out and $work/err, and its status in $status.
+# Runs the program on $input, with what it writes in $work/out and $work/err, and its status in
+# $status.
 run() {
   "$rooms" "$@" <"$input" >"$work/out" 2>"$work/err"
   status=$?
@@ -154,10 +156,13 @@ is_there() { [ -e "$1" ]; }
 is_missing() { [ ! -e "$1" ] && [ ! -L "$1" ]; }
 has() { command -v "$1" >/dev/null 2>&1; }
 # An older sqlite3 doesn't read the tables.
-has_sqlite() { has sqlite3 && sqlite3 :memory: 'CREATE TABLE t (a INTEGER) STRICT;' >/dev/null 2>&1; }
+has_sqlite() {
+  has sqlite3 && sqlite3 :memory: 'CREATE TABLE t (a INTEGER) STRICT;' >/dev/null 2>&1
+}
 
-# What the consoles of a page type goes to a script, with a line @N before each command; what they show goes to standard output
-# in the same form. Nothing is typed that the page doesn't say, but after a server's start its line is waited for, as a reader does.
+# What the consoles of a page type goes to a script, with a line @N before each command; what they
+# show goes to standard output in the same form. Nothing is typed that the page doesn't say, but
+# after a server's start its line is waited for, as a reader does.
 from_consoles() { # PAGE SCRIPT
   awk -v script="$2" '
     /^```/ { inside = $0 == "```console"; typed = 0; next }

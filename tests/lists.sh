@@ -1,19 +1,22 @@
-# What plays access lists: it takes them out of the pages, sends requests of many users over one connection, and compares the
-# answers with what tables say. A case that uses it has the file groups.csv, and in `users` who plays.
+# What plays access lists: it takes them out of the pages, sends requests of many users over one
+# connection, and compares the answers with what tables say. A case that uses it has the file
+# groups.csv, and in `users` who plays.
 
 serial=0
 closed=$(printf '%s\n' list:p "A::alice:$ALL")
 members=$'\n'$(<groups.csv)$'\n'
 in_group() { [[ $members = *$'\n'"$1,$2"$'\n'* ]]; } # GROUP USER
 
-# From a page: what is pasted to set a list, as N.sh; the list alone, as N.txt; its rows of a table, as N.table, which are those
-# of the table below it, or those of its folder and of each folder in a table of all lists; and a line 'N PATH dacl' or 'N PATH
-# sacl' each, which is printed.
+# From a page: what is pasted to set a list, as N.sh; the list alone, as N.txt; its rows of a table,
+# as N.table, which are those of the table below it, or those of its folder and of each folder in a
+# table of all lists; and a line 'N PATH dacl' or 'N PATH sacl' each, which is printed.
 take_lists() { # PAGE FOLDER
   mkdir -p "$2"
-  awk -v into="$2" -v header="| who | read | add | change | remove own | remove others' | manage |" '
+  awk -v into="$2" \
+    -v header="| who | read | add | change | remove own | remove others' | manage |" '
     /^(\$ )?rooms reset office\.rooms [^ ]+ [ds]acl <<END$/ {
-      sub(/^\$ /, ""); file = into "/" ++n; pasted = 1; print n, $4, $5; print >(file ".sh"); place[n] = $5 == "dacl" ? $4 : ""; next
+      sub(/^\$ /, ""); file = into "/" ++n; pasted = 1; print n, $4, $5; print >(file ".sh")
+      place[n] = $5 == "dacl" ? $4 : ""; next
     }
     pasted { print >(file ".sh"); if ($0 == "END") pasted = 0; else print >(file ".txt"); next }
     $0 == "| " substr(header, 7) { table = 1; next }
@@ -26,8 +29,10 @@ take_lists() { # PAGE FOLDER
     }
     { table = 0 }
     END {
-      for (list = 1; list <= n; list++) for (turn = 1; turn <= 2; turn++) for (each = 1; each <= rows; each++) {
-        of = row[each]; sub(/\|.*/, "", of); gsub(/`/, "", of); said = row[each]; sub(/^[^|]*\|/, "", said)
+      for (list = 1; list <= n; list++) for (turn = 1; turn <= 2; turn++)
+      for (each = 1; each <= rows; each++) {
+        of = row[each]; sub(/\|.*/, "", of); gsub(/`/, "", of)
+        said = row[each]; sub(/^[^|]*\|/, "", said)
         named = index(", " of ", ", ", " place[list] ", ")
         if (named) here[list] = 1
         if (turn == 2 && here[list] && (named || of == "each")) print said >(into "/" list ".table")
@@ -42,7 +47,9 @@ paste_lines() { # NAME FILE STATUS OUT
   wants "$1" "$3" "$4" ''
 }
 
-number_of() { awk -v path="$1" -v which="${2-dacl}" '$2 == path && $3 == which { print $1 }' index; } # PATH [dacl|sacl]
+number_of() { # PATH [dacl|sacl]
+  awk -v path="$1" -v which="${2-dacl}" '$2 == path && $3 == which { print $1 }' index
+}
 list_of() { cat "lists/$(number_of "$@").txt"; }
 
 # The row of a user: the first one that means the user at this place.
@@ -62,8 +69,8 @@ row_of() { # USER PLACE TABLE
   done <"$3"
 }
 
-# One request of the user at the place, whose answer counts for a column. CLASS is d for documents, f for folders, n for the
-# names in a folder.
+# One request of the user at the place, whose answer counts for a column. CLASS is d for documents,
+# f for folders, n for the names in a folder.
 tries() { # COLUMN CLASS METHOD TARGET [BODY]
   echo "$place|$user|$1|$2|$3 $4" >&4
   message "$3" "$4" "$user" "${5-}"
@@ -77,7 +84,8 @@ expects() { # STATUS METHOD TARGET USER [BODY]
 prepares() { expects 2 "$1" "$2" alice "${3-}"; } # METHOD TARGET [BODY]
 belongs_to() { prepares PUT "/attr$1" "{\"owner\":\"$2\",\"group\":\"staff\"}"; } # PATH USER
 
-# The names of three things of which each is gone where the cell grants it, and of one that stays where it doesn't.
+# The names of three things of which each is gone where the cell grants it, and of one that stays
+# where it doesn't.
 three() { # CELL NAME OTHER
   if [ "$1" = no ]; then names=("$3" "$3" "$3"); else names=("$2.1" "$2.2" "$2.3"); fi
 }
@@ -90,8 +98,8 @@ tries_removing() { # COLUMN CLASS
   tries "$1" "$2" POST "/move$p/${names[2]}" "{\"to\":\"/elsewhere/$serial\"}"
 }
 
-# What others have at a place: a document and a folder of pat, and a document and a folder that only alice may read. In a
-# folder that is to be removed there is nothing.
+# What others have at a place: a document and a folder of pat, and a document and a folder that only
+# alice may read. In a folder that is to be removed there is nothing.
 furnish() { # ENDING [empty]
   prepares PUT "/doc$p/paper$1" x
   belongs_to "$p/paper$1" pat
@@ -122,7 +130,8 @@ plays_adding() {
   if [ "$add" != yes ]; then tries add f POST "/folder$p/new.folder.$name"; fi
 }
 
-# The user's own documents and folders, made by the user; where that isn't granted, alice gives some to the user.
+# The user's own documents and folders, made by the user; where that isn't granted, alice gives some
+# to the user.
 makes_own() { # NUMBER
   if [ "$add" != no ]; then
     tries add d PUT "/doc$p/mine.$name.$1" x
@@ -169,7 +178,8 @@ plays_with_others() {
   tries_removing "remove others'" f
 }
 
-# Lists and owners of a document and of the folder itself; and removing, renaming and moving the folder itself.
+# Lists and owners of a document and of the folder itself; and removing, renaming and moving the
+# folder itself.
 plays_managing() { # LIST
   tries manage d PUT "/dacl$p/paper" list:a
   tries manage d PUT "/sacl$p/paper" list:a
@@ -203,8 +213,9 @@ plays() { # CELLS LIST
   plays_managing "$2"
 }
 
-# Compares what was answered with what was expected, and with the cells that were said. Prints a line for each difference, and
-# last the number of all that agree. Only who may remove a folder is told that it isn't empty.
+# Compares what was answered with what was expected, and with the cells that were said. Prints a
+# line for each difference, and last the number of all that agree. Only who may remove a folder is
+# told that it isn't empty.
 judge() { # NAME
   paste -d'|' asked "$work/statuses" | awk -F'|' '
     FILENAME == "-" && $1 == "" {
@@ -230,7 +241,8 @@ judge() { # NAME
       for (i = 3; i < NF; i += 2) {
         cell = $1 "|" $2 "|" $i; is = verdict(got[cell])
         if (is == $(i + 1)) agree++
-        else print $2 " at " $1 ", " $i ": the page says " $(i + 1) ", the room answers " is substr(tried[cell], 2)
+        else print $2 " at " $1 ", " $i ": the page says " $(i + 1) ", the room answers " is \
+          substr(tried[cell], 2)
       }
     }
     END { print agree + 0 }' - said >judged
@@ -238,7 +250,8 @@ judge() { # NAME
   sed '$d' judged >differences
   # What went with one mistake is missing in many a later answer.
   while IFS= read -r line; do fail "$1" "$line"; done < <(head -n 10 differences)
-  [ "$(wc -l <differences)" -le 10 ] || fail "$1" "and $(tail -n +11 differences | wc -l) more differences"
+  [ "$(wc -l <differences)" -le 10 ] ||
+    fail "$1" "and $(tail -n +11 differences | wc -l) more differences"
 }
 
 # Everybody plays at a place by a table; in the folder below it, one user of each row does.

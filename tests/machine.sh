@@ -6,9 +6,14 @@ copy_machine() { # NAME OF WHAT IS SKIPPED
   local folder=${ROOMS_DEBIAN:-$work/debian}
   if [ ! -d "$folder" ]; then
     has debootstrap || { skip "$1" 'no debootstrap, and ROOMS_DEBIAN names no folder'; return 1; }
-    timeout 600 debootstrap --variant=minbase --include=systemd,dbus,nftables,nginx,apache2-utils,openssl,curl,python3,python3-ldap \
+    timeout 600 debootstrap --variant=minbase \
+      --include=systemd,dbus,nftables,nginx,apache2-utils,openssl,curl,python3,python3-ldap \
       bookworm "$folder.part" >"$work/debootstrap" 2>&1 </dev/null ||
-      { skip "$1" "debootstrap fails: $(tail -n 1 "$work/debootstrap")"; rm -rf "$folder.part"; return 1; }
+      {
+        skip "$1" "debootstrap fails: $(tail -n 1 "$work/debootstrap")"
+        rm -rf "$folder.part"
+        return 1
+      }
     mv "$folder.part" "$folder"
   fi
   cp -a "$folder" "$machine" || { skip "$1" "$folder can't be copied"; return 1; }
@@ -25,7 +30,8 @@ make_machine() { # NAME OF WHAT IS SKIPPED [FOLDER]
   fi
   machine=$PWD/${2:-machine}
   copy_machine "$1" || return 1
-  for file in usr/sbin/nginx usr/bin/htpasswd usr/bin/openssl usr/bin/curl usr/bin/python3 usr/bin/systemctl; do
+  for file in usr/sbin/nginx usr/bin/htpasswd usr/bin/openssl usr/bin/curl usr/bin/python3 \
+    usr/bin/systemctl; do
     [ -x "$machine/$file" ] || { skip "$1" "/$file isn't in it"; return 1; }
   done
   start_machine || { skip "$1" "no network of its own: $(head -c 200 said)"; return 1; }
@@ -107,7 +113,11 @@ start() { # NAME
   env "${settings[@]}" setpriv --reuid=rooms --regid=rooms --clear-groups "${@:2}" \
     >"/run/$1.line" 2>"/run/$1.fault" </dev/null &
   echo $! >"/run/$1.pid"
-  for turn in {1..500}; do [ ! -s "/run/$1.line" ] || break; alive "$1" || return 1; sleep 0.02; done
+  for turn in {1..500}; do
+    [ ! -s "/run/$1.line" ] || break
+    alive "$1" || return 1
+    sleep 0.02
+  done
   line=$(sed -n 's/^ExecStartPost=+//p' "$(unit "$1")")
   env "${settings[@]}" MAINPID="$(cat "/run/$1.pid")" ${line//%i/${1#*@}}
 }
@@ -118,7 +128,10 @@ stop() { # NAME
 }
 all() { # NAME: it, or those that run
   if [ "$1" = 'rooms@*' ]; then
-    for pid in /run/rooms@*.pid; do pid=${pid##*/}; ! alive "${pid%.pid}" || echo "${pid%.pid}"; done
+    for pid in /run/rooms@*.pid; do
+      pid=${pid##*/}
+      ! alive "${pid%.pid}" || echo "${pid%.pid}"
+    done
   else
     echo "$1"
   fi
@@ -158,7 +171,8 @@ case $verb in
     exit
     ;;
   enable | disable)
-    /usr/bin/systemctl --root=/ -q "$verb" $(printf '%s\n' "${units[@]}" | sed '/\./!s/$/.service/') || exit
+    /usr/bin/systemctl --root=/ -q "$verb" \
+      $(printf '%s\n' "${units[@]}" | sed '/\./!s/$/.service/') || exit
     [ "$now" = yes ] || exit 0
     if [ "$verb" = enable ]; then verb=start; else verb=stop; fi
     ;;
@@ -200,7 +214,8 @@ END
 furnish_machine() {
   write_systemd >"$machine/usr/local/bin/systemctl"
   # A password that is asked for is typed twice.
-  printf '#!/bin/sh\nexec /usr/bin/htpasswd -bB "$2" "$3" typed\n' >"$machine/usr/local/bin/htpasswd"
+  printf '#!/bin/sh\nexec /usr/bin/htpasswd -bB "$2" "$3" typed\n' \
+    >"$machine/usr/local/bin/htpasswd"
   printf '#!/bin/sh\nexit 101\n' >"$machine/usr/sbin/policy-rc.d"
   # There is no /dev/pts, and no way out.
   printf '%s\n' 'Dpkg::Use-Pty "0";' 'quiet "2";' 'APT::Sandbox::User "root";' \

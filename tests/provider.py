@@ -1,10 +1,12 @@
-"""A small provider of OpenID Connect for tests: whoever comes is signed in with the claims of a file.
+"""A small provider of OpenID Connect for tests: whoever comes is signed in with the claims of a
+file.
 
     provider.py PORT KEY CLAIMS [KEY]
 
-KEY is an RSA key, and CLAIMS a file with a JSON object, which is read anew at each sign-in. Where it has "error", the provider
-refuses the sign-in with that word; "nonce", "aud", "iss" and "exp" replace what belongs there. A second KEY, where there is one,
-signs in its place, and isn't among the keys that it tells.
+KEY is an RSA key, and CLAIMS a file with a JSON object, which is read anew at each sign-in. Where
+it has "error", the provider refuses the sign-in with that word; "nonce", "aud", "iss" and "exp"
+replace what belongs there. A second KEY, where there is one, signs in its place, and isn't among
+the keys that it tells.
 """
 
 import base64
@@ -33,11 +35,13 @@ def openssl(*words, data=None):
 
 def key_set():
     modulus = openssl('rsa', '-in', KEY, '-noout', '-modulus').decode().strip().partition('=')[2]
-    return {'keys': [{'kty': 'RSA', 'kid': 'k', 'use': 'sig', 'alg': 'RS256', 'e': 'AQAB', 'n': encoded(bytes.fromhex(modulus))}]}
+    return {'keys': [{'kty': 'RSA', 'kid': 'k', 'use': 'sig', 'alg': 'RS256', 'e': 'AQAB',
+                      'n': encoded(bytes.fromhex(modulus))}]}
 
 
 def signed(claims):
-    text = '.'.join(encoded(json.dumps(part).encode()) for part in ({'alg': 'RS256', 'kid': 'k', 'typ': 'JWT'}, claims))
+    text = '.'.join(encoded(json.dumps(part).encode())
+                    for part in ({'alg': 'RS256', 'kid': 'k', 'typ': 'JWT'}, claims))
     return text + '.' + encoded(openssl('dgst', '-sha256', '-sign', SIGNS, data=text.encode()))
 
 
@@ -62,9 +66,11 @@ class Provider(BaseHTTPRequestHandler):
         asked = dict(urllib.parse.parse_qsl(query))
         if path == '/.well-known/openid-configuration':
             self.reply(200, {
-                'issuer': ISSUER, 'authorization_endpoint': ISSUER + '/in', 'token_endpoint': ISSUER + '/token',
-                'jwks_uri': ISSUER + '/keys', 'end_session_endpoint': ISSUER + '/out', 'response_types_supported': ['code'],
-                'subject_types_supported': ['public'], 'id_token_signing_alg_values_supported': ['RS256'],
+                'issuer': ISSUER, 'authorization_endpoint': ISSUER + '/in',
+                'token_endpoint': ISSUER + '/token', 'jwks_uri': ISSUER + '/keys',
+                'end_session_endpoint': ISSUER + '/out', 'response_types_supported': ['code'],
+                'subject_types_supported': ['public'],
+                'id_token_signing_alg_values_supported': ['RS256'],
                 'token_endpoint_auth_methods_supported': ['client_secret_basic']})
         elif path == '/keys':
             self.reply(200, key_set())
@@ -77,7 +83,8 @@ class Provider(BaseHTTPRequestHandler):
             else:
                 answer['code'] = secrets.token_hex(8)
                 codes[answer['code']] = (asked, claims)
-            self.reply(302, {}, Location=asked['redirect_uri'] + '?' + urllib.parse.urlencode(answer))
+            self.reply(302, {},
+                       Location=asked['redirect_uri'] + '?' + urllib.parse.urlencode(answer))
         else:
             self.reply(404, {})
 
@@ -88,8 +95,10 @@ class Provider(BaseHTTPRequestHandler):
             self.reply(400, {'error': 'invalid_grant'})
             return
         now = int(time.time())
-        token = {'iss': ISSUER, 'aud': asked['client_id'], 'nonce': asked.get('nonce'), 'iat': now, 'exp': now + 300, **claims}
-        self.reply(200, {'access_token': 'x', 'token_type': 'Bearer', 'expires_in': 300, 'id_token': signed(token)})
+        token = {'iss': ISSUER, 'aud': asked['client_id'], 'nonce': asked.get('nonce'), 'iat': now,
+                 'exp': now + 300, **claims}
+        self.reply(200, {'access_token': 'x', 'token_type': 'Bearer', 'expires_in': 300,
+                         'id_token': signed(token)})
 
 
 ThreadingHTTPServer(('127.0.0.1', PORT), Provider).serve_forever()

@@ -1,14 +1,17 @@
-"""Types texts into a shell on a terminal, line by line as a terminal without bracketed paste passes them on.
+"""Types texts into a shell on a terminal, line by line as a terminal without bracketed paste passes
+them on.
 
     typed.py LOG SECONDS FILE .. -- COMMAND ..
 
-COMMAND starts a shell that shows PROMPT. Before it runs a command line it appends to LOG a line '>', the line as its history has
-it, with its number, and a line '~'; and after it the same with '=STATUS' instead of '>'. Each FILE is sent at once, and the next
-one when the shell waits again. So what a command takes from its standard input is missing among the shell's own. A question for
-a password gets the answer 'typed'.
+COMMAND starts a shell that shows PROMPT. Before it runs a command line it appends to LOG a line
+'>', the line as its history has it, with its number, and a line '~'; and after it the same with
+'=STATUS' instead of '>'. Each FILE is sent at once, and the next one when the shell waits again. So
+what a command takes from its standard input is missing among the shell's own. A question for a
+password gets the answer 'typed'.
 
-Printed is what the terminal shows. For each command line that doesn't end with status 0, and for each line that the shell
-didn't get as it was sent, there is a line in LOG.faults. The status is 0 if there are none.
+Printed is what the terminal shows. For each command line that doesn't end with status 0, and for
+each line that the shell didn't get as it was sent, there is a line in LOG.faults. The status is 0
+if there are none.
 """
 
 import os
@@ -33,7 +36,8 @@ class Terminal:
         os.set_blocking(self.end, False)
 
     def step(self, rest):
-        """Writes what the terminal takes of the rest, and reads what it shows; whether anything happened, and the new rest."""
+        """Writes what the terminal takes of the rest, and reads what it shows; whether anything
+        happened, and the new rest."""
         ready, writable, _ = select.select([self.end], [self.end] if rest else [], [], QUIET)
         if writable:
             rest = rest[os.write(self.end, rest[:512]):]
@@ -70,7 +74,8 @@ class Terminal:
 
 
 def commands(log):
-    """The command lines in a log, in order, and those that ended with another status than 0, as a text."""
+    """The command lines in a log, in order, and those that ended with another status than 0, as a
+    text."""
     begun = []
     failed = []
     with open(log, encoding='utf-8', errors='replace') as file:
@@ -85,7 +90,8 @@ def commands(log):
 
 
 def squashed(text):
-    """A text without blanks, ends of lines and signs that join lines, which a history has in another way."""
+    """A text without blanks, ends of lines and signs that join lines, which a history has in
+    another way."""
     return re.sub(r'\s', '', re.sub(r'\\\n', '', text))
 
 

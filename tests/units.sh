@@ -13,13 +13,16 @@ make_stand() {
   echo 0 >"$stand/count"
   : >"$stand/pid"
   echo "$port" >"$stand/port"
-  printf '%s\n' "FILE=$PWD/office/F" "BACKUPS=$PWD/backups" KEEP=0 MAIL=root UNIT=rooms "PROGRAM=$stand/bin/rooms" >conf
+  printf '%s\n' "FILE=$PWD/office/F" "BACKUPS=$PWD/backups" KEEP=0 MAIL=root UNIT=rooms \
+    "PROGRAM=$stand/bin/rooms" >conf
   write_step >"$stand/step"
   write_systemctl >"$stand/bin/systemctl"
   write_tool >"$stand/bin/tool"
   chmod 755 "$stand/bin/systemctl" "$stand/bin/tool"
   local tool
-  for tool in rooms setpriv cat sync mkdir mv rm rmdir touch chmod tar mail logger sleep; do ln -s tool "$stand/bin/$tool"; done
+  for tool in rooms setpriv cat sync mkdir mv rm rmdir touch chmod tar mail logger sleep; do
+    ln -s tool "$stand/bin/$tool"
+  done
   export STAND=$stand STAND_ROOMS=$rooms STAND_FILE=$PWD/office/F ROOMS_RUN=$PWD/run
   # What the machine has beside its rooms is looked for here.
   mkdir -p root/etc/rooms
@@ -42,7 +45,13 @@ give_office() {
   chmod 700 office
 }
 
-as_user() { if [ "$STAND_USER" = "$(id -u)" ]; then "$@"; else setpriv --reuid=65534 --regid=65534 --clear-groups "$@"; fi; }
+as_user() {
+  if [ "$STAND_USER" = "$(id -u)" ]; then
+    "$@"
+  else
+    setpriv --reuid=65534 --regid=65534 --clear-groups "$@"
+  fi
+}
 
 # At the given call the script under test gets a signal, and this tool too, as all processes of a
 # unit do.
@@ -65,9 +74,10 @@ step() {
 STEP
 }
 
-# STAND/socket names the socket at which a server listens, in the place of a port. STAND/no-start makes a start fail, STAND/no-answer a server that never gets so far as to listen, STAND/no-tool a tool of that
-# name, and STAND/no-word the program at that subcommand, after a part of its output. What is in STAND/at-TOOL is done once, before
-# that tool does anything.
+# STAND/socket names the socket at which a server listens, in the place of a port. STAND/no-start
+# makes a start fail, STAND/no-answer a server that never gets so far as to listen, STAND/no-tool a
+# tool of that name, and STAND/no-word the program at that subcommand, after a part of its output.
+# What is in STAND/at-TOOL is done once, before that tool does anything.
 write_tool() {
   cat <<'TOOL'
 #!/usr/bin/env bash
@@ -81,7 +91,9 @@ fi
 if [ -e "$STAND/no-tool" ] && [ "$name" = "$(<"$STAND/no-tool")" ]; then exit 1; fi
 case $name in
   sleep) ;;
-  mail | logger) { echo "$name $*"; [ "$name" = logger ] || PATH=${PATH#*:} cat; } >>"$STAND/messages" ;;
+  mail | logger)
+    { echo "$name $*"; [ "$name" = logger ] || PATH=${PATH#*:} cat; } >>"$STAND/messages"
+    ;;
   rooms)
     if [ -e "$STAND/no-word" ] && [ "$1" = "$(<"$STAND/no-word")" ]; then echo a part; exit 3; fi
     exec "$STAND_ROOMS" "$@"
@@ -118,7 +130,8 @@ serve() {
     place=(--socket "$(<"$STAND/socket")")
     rm -f "${place[1]}"
   fi
-  setsid env -u CUT "${user[@]}" "$STAND_ROOMS" serve "$STAND_FILE" "${place[@]}" --count 1000000 </dev/null >"$STAND/out" 2>"$STAND/err" &
+  setsid env -u CUT "${user[@]}" "$STAND_ROOMS" serve "$STAND_FILE" "${place[@]}" --count 1000000 \
+    </dev/null >"$STAND/out" 2>"$STAND/err" &
   pid=$!
   echo "$pid" >"$STAND/pid"
   until grep -q '^listening ' "$STAND/out" || ! alive; do sleep 0.02; done
@@ -157,16 +170,17 @@ unit() { PATH=$stand/bin:$PATH KILL_AT=0 systemctl "$@" rooms; }
 
 stop_unit() { if [ -n "$stand" ] && [ -s "$stand/pid" ]; then unit stop; fi; }
 
-# A verb of rooms-admin with the stand-ins; its status is in $status, and its output in $work/out and
-# $work/err. KILL_AT and KILL_HOW name the call at which it is interrupted.
-# Its standard input is the file $typed, if that is set.
+# A verb of rooms-admin with the stand-ins; its status is in $status, and its output in $work/out
+# and $work/err. KILL_AT and KILL_HOW name the call at which it is interrupted. Its standard input
+# is the file $typed, if that is set.
 verb() { # VERB WORD ..
   echo 0 >"$stand/count"
   : >"$stand/steps"
   : >"$stand/messages"
   # shellcheck disable=SC2016
-  { PATH=$stand/bin:$PATH bash -c 'echo $$ >"$STAND/script"; exec "$@"' script /usr/bin/python3 -I "$here/admin/hooked.py" "$@" \
-    <"${typed-/dev/null}" >"$work/out" 2>"$work/err"; } 2>/dev/null
+  { PATH=$stand/bin:$PATH bash -c 'echo $$ >"$STAND/script"; exec "$@"' script \
+    /usr/bin/python3 -I "$here/admin/hooked.py" "$@" <"${typed-/dev/null}" \
+    >"$work/out" 2>"$work/err"; } 2>/dev/null
   status=$?
 }
 
@@ -182,7 +196,11 @@ says() { # NAME STATUS TEXT
 }
 
 unit_runs() { # NAME
-  if [ "$(unit is-active)" = active ]; then pass; else fail "$1" "no server runs: $(cat "$stand/err")"; fi
+  if [ "$(unit is-active)" = active ]; then
+    pass
+  else
+    fail "$1" "no server runs: $(cat "$stand/err")"
+  fi
 }
 unit_rests() { # NAME
   if [ "$(unit is-active)" = inactive ]; then pass; else fail "$1" 'a server runs'; fi

@@ -61,7 +61,8 @@ class Watched(unittest.TestCase):
         self.assertEqual(watched.within(60, fails, "/mnt"), [(2, "/mnt can't be looked at")])
 
     def test_a_room_is_asked_where_it_listens(self) -> None:
-        """At its socket, if it has one, whether SOCKET says so or its unit does; never elsewhere."""
+        """At its socket, if it has one, whether SOCKET says so or its unit does; never
+        elsewhere."""
         with tempfile.TemporaryDirectory() as home, \
                 unittest.mock.patch.object(unit, "state", return_value="active"), \
                 unittest.mock.patch.object(locks, "RUN", home), \

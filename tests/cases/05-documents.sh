@@ -1,15 +1,18 @@
-# The documents: each link leads to a file or a heading that is there, and lines are no longer than 100 columns.
-# The proofs: each lemma is named somewhere, and stated once.
+# The documents: each link leads to a file or a heading that is there, and lines are no longer than
+# 100 columns. The proofs: each lemma is named somewhere, and stated once.
 
 top=$here/..
 
 # What a page says outside of fenced code, with a number before each line.
 prose() { awk '/^ *(```|~~~)/ { fenced = !fenced; next } !fenced { print NR ":" $0 }' "$1"; }
 
-# The anchors of a page's headings: small letters, no punctuation, a '-' for each space, and a number from the second on.
+# The anchors of a page's headings: small letters, no punctuation, a '-' for each space, and a
+# number from the second on.
 anchors() { # PAGE
-  prose "$1" | sed -n 's/^[0-9]*:##*  *//p' | sed -e 's/\xe2\x80.//g' -e 's/\[\([^]]*\)\]([^)]*)/\1/g' -e 's/ *#* *$//' |
-    tr 'A-Z' 'a-z' | tr -d '!-,./:-@[-^`{-~' | tr ' ' '-' | awk '{ n = seen[$0]++; print n ? $0 "-" n : $0 }'
+  prose "$1" | sed -n 's/^[0-9]*:##*  *//p' |
+    sed -e 's/\xe2\x80.//g' -e 's/\[\([^]]*\)\]([^)]*)/\1/g' -e 's/ *#* *$//' |
+    tr 'A-Z' 'a-z' | tr -d '!-,./:-@[-^`{-~' | tr ' ' '-' |
+    awk '{ n = seen[$0]++; print n ? $0 "-" n : $0 }'
 }
 
 # Where the links of a page lead, as LINE:TARGET; code between backquotes has none.
@@ -19,7 +22,9 @@ links() { # PAGE
     if (match(rest, /^ *\[[^]]*\]: */)) print line ":" substr(rest, RLENGTH + 1)
     while ((at = index(rest, "](")) > 0) {
       rest = substr(rest, at + 2); end = index(rest, ")")
-      if (end > 0) { target = substr(rest, 1, end - 1); sub(/ +".*/, "", target); print line ":" target }
+      if (end > 0) {
+        target = substr(rest, 1, end - 1); sub(/ +".*/, "", target); print line ":" target
+      }
     }
   }'
 }
@@ -45,7 +50,8 @@ lost_links() { # PAGE
 # stand alone, may be wider.
 long_lines() { # PAGE
   prose "$1" | awk '{
-    line = $0; sub(/:.*/, "", line); text = substr($0, length(line) + 2); wide = text; gsub(/[\200-\277]/, "", wide)
+    line = $0; sub(/:.*/, "", line)
+    text = substr($0, length(line) + 2); wide = text; gsub(/[\200-\277]/, "", wide)
     if (length(wide) <= 100 || text ~ /^ *\|/) next
     if (text ~ /^ *([-*] )?(<?https?:[^ ]*>?|\[[^]]*\](\([^ )]*\)|: *[^ ]*))[.,;]?$/) next
     print "line " line ": " length(wide) " columns"
@@ -88,11 +94,14 @@ holds 'README names the command of all tests' grep -qxF .ci/run "$top/README.md"
 # The same of the pages as they are installed, without whatever else is in the repository.
 "$top/contrib/install" --destdir "$PWD/machine" --program "$rooms" >installed 2>&1 </dev/null
 holds 'the pages are installed' [ -s machine/usr/share/doc/rooms/README.md ]
-find machine -name '*.md' | sort | while IFS= read -r page; do lost_links "$page" | sed "s|^|${page#machine}, |"; done >found
+find machine -name '*.md' | sort | while IFS= read -r page; do
+  lost_links "$page" | sed "s|^|${page#machine}, |"
+done >found
 none 'links of the installed pages' found
 
 if has python3; then
-  (cd "$top" && "$here/twice.py" "$data/twice.txt" README.md CHANGELOG.md CONTRIBUTING.md docs/*.md) >found 2>&1
+  (cd "$top" &&
+    "$here/twice.py" "$data/twice.txt" README.md CHANGELOG.md CONTRIBUTING.md docs/*.md) >found 2>&1
   none 'what stands on two pages' found
   "$top/tools/crates" --check >found
   none 'the tables of crates' found
@@ -110,13 +119,16 @@ if has python3; then
   # In a folder with two lemmas that are alike, and named nowhere, it finds both.
   for crate in one two; do
     mkdir -p "spare/crates/$crate/proofs"
-    printf '%s\n' 'pub spare : (t : Bool) → t ≡ t' 'spare t = refl' >"spare/crates/$crate/proofs/Spare.antt"
+    printf '%s\n' 'pub spare : (t : Bool) → t ≡ t' 'spare t = refl' \
+      >"spare/crates/$crate/proofs/Spare.antt"
   done
   mkdir spare/tools
   cp "$top/tools/unused" spare/tools
   { spare/tools/unused; spare/tools/unused --twice; } >found
-  printf '%s\n' 'crates/one/proofs/Spare.antt:1 spare (2 lines)' 'crates/two/proofs/Spare.antt:1 spare (2 lines)' '2 unused, 4 lines' \
-    '2 times: crates/one/proofs/Spare.antt:1 spare, crates/two/proofs/Spare.antt:1 spare' '1 stated more than once, 1 copies' >wanted
+  printf '%s\n' 'crates/one/proofs/Spare.antt:1 spare (2 lines)' \
+    'crates/two/proofs/Spare.antt:1 spare (2 lines)' '2 unused, 4 lines' \
+    '2 times: crates/one/proofs/Spare.antt:1 spare, crates/two/proofs/Spare.antt:1 spare' \
+    '1 stated more than once, 1 copies' >wanted
   same 'lemmas that are spare' found wanted
 else
   skip 'the tables of crates, and the lemmas' 'python3 is missing'
@@ -125,20 +137,26 @@ fi
 # The version stands in the program, and the list of changes has it.
 run --version
 wanted=$(sed 's/^rooms //' "$work/err")
-holds "CHANGELOG.md has version $wanted" [ "$(sed -n 's/^## \[\([0-9][^]]*\)\].*/\1/p' "$top/CHANGELOG.md" | head -n 1)" = "$wanted" ]
+holds "CHANGELOG.md has version $wanted" \
+  [ "$(sed -n 's/^## \[\([0-9][^]]*\)\].*/\1/p' "$top/CHANGELOG.md" | head -n 1)" = "$wanted" ]
 
 # What the page quotes of contracts and definitions stands there.
 stripped() { sed 's/^ *//' "$@" | LC_ALL=C sort -u; }
-awk '/^```/ { quoted = !quoted; next } quoted && length > 12' "$top"/docs/statement.md | stripped >quoted
+awk '/^```/ { quoted = !quoted; next } quoted && length > 12' "$top"/docs/statement.md |
+  stripped >quoted
 stripped "$top"/crates/*/src/*.rt "$top"/crates/*/specs/*.antt >stated
 LC_ALL=C comm -23 quoted stated >found
 none 'the quotes of statement.md' found
 
-# Two pages of which each says something that the other one says too, in other signs and in another case; a sentence is excepted.
+# Two pages of which each says something that the other one says too, in other signs and in another
+# case; a sentence is excepted.
 if has python3; then
-  printf '%s\n' 'Six words that are its own. One two *three* four five,' 'six [seven](page.md) eight nine ten eleven twelve thirteen.' '' '```' \
-    'a b c d e f g h i j k l' '```' '- It'"'"'s one more that is there again, and it is allowed here.' >first.md
-  printf '%s\n' '# One Two: three' '' 'One Two: three-four `five` six' 'seven eight nine ten eleven twelve' 'thirteen fourteen' '' 'a b c d e f g h i j k l' \
+  printf '%s\n' 'Six words that are its own. One two *three* four five,' \
+    'six [seven](page.md) eight nine ten eleven twelve thirteen.' '' '```' \
+    'a b c d e f g h i j k l' '```' \
+    '- It'"'"'s one more that is there again, and it is allowed here.' >first.md
+  printf '%s\n' '# One Two: three' '' 'One Two: three-four `five` six' \
+    'seven eight nine ten eleven twelve' 'thirteen fourteen' '' 'a b c d e f g h i j k l' \
     '| its one more that is there again and it is allowed here | |' >second.md
   echo 'it'"'"'s one more that is there again, and it is allowed here: why' >allowed
   "$here/twice.py" allowed first.md second.md >found
@@ -148,21 +166,25 @@ if has python3; then
   holds 'is refused' [ "$status" = 1 ]
   echo >second.md
   "$here/twice.py" allowed first.md second.md >found
-  echo "no two pages need the exception 'its one more that is there again and it is allowed here'" >wanted
+  echo "no two pages need the exception 'its one more that is there again and it is allowed here'" \
+    >wanted
   same 'an exception that nobody needs' found wanted
 fi
 
 # The case itself finds what it is for.
-printf '%s\n' '# One `two`, three' '# A' '# A' '[x](#one-two-three) [x](#a-1) [x](page.md) [x](page.md#a "T")' '```' '[x](none.md)' '```' \
+printf '%s\n' '# One `two`, three' '# A' '# A' \
+  '[x](#one-two-three) [x](#a-1) [x](page.md) [x](page.md#a "T")' '```' '[x](none.md)' '```' \
   '`[x](none.md)` <http://none>' >page.md
 lost_links page.md >found
 holds 'links that lead somewhere' [ ! -s found ]
 printf '%s\n' '[x](#b) and [y](none.md)' '[z]: gone.md' '[w](page.md#a-2)' >bad.md
 lost_links bad.md >found
-printf '%s\n' 'line 1: no heading for #b' 'line 1: no file at none.md' 'line 2: no file at gone.md' 'line 3: no heading for page.md#a-2' >wanted
+printf '%s\n' 'line 1: no heading for #b' 'line 1: no file at none.md' \
+  'line 2: no file at gone.md' 'line 3: no heading for page.md#a-2' >wanted
 same 'links that lead nowhere' found wanted
 long=$(printf 'x%.0s' {1..99})
-printf '%s\n' "| $long |" "[$long](y.md)" "https://$long" "$long ." "$longé" '```' "$long$long" '```' >wide.md
+printf '%s\n' "| $long |" "[$long](y.md)" "https://$long" "$long ." "$longé" '```' "$long$long" \
+  '```' >wide.md
 long_lines wide.md >found
 printf '%s\n' 'line 4: 101 columns' >wanted
 same 'lines that are too long' found wanted

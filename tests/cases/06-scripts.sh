@@ -1,17 +1,45 @@
-# The scripts of contrib/ and tools/: shellcheck has no note on any of them.
+# The scripts of contrib/ and tools/: shellcheck has no note on any of them. And no line of those in
+# Python, of the cases and of what these share is wider than 100 columns.
+
+top=$here/..
+# Lines over 100 columns, where a byte that continues a letter isn't counted. A shell's line may be
+# wider for a text between quotes that fills one by itself: it is compared or sent byte by byte.
+wide_lines() { # FILE ..
+  awk '{
+    text = $0; gsub(/[\200-\277]/, "", text)
+    if (length(text) <= 100) next
+    wide = length(text); gsub(/\\"/, "..", text)
+    if (FILENAME ~ /\.sh$/ && text !~ /^ *#/) for (sign = 1; sign <= 2; sign++) {
+      n = split(text, part, sign == 1 ? "\047" : "\"")
+      for (i = 2; i < n; i++) if (length(part[i]) > 90) next
+    }
+    print FILENAME ":" FNR ": " wide " columns"
+  }' "$@"
+}
+wide_lines "$here"/*.{sh,py} "$here"/*/*.{sh,py} "$top"/contrib/*/*.py "$top"/tools/*.py >found
+same 'no line is too wide' found /dev/null
+long=$(printf 'x%.0s' {1..99})
+printf '%s\n' "${long}é" "$long yz" "echo '$long'" "# '$long'" "echo \"\\\"$long\"" \
+  "echo 'x' $long" >wide.sh
+wide_lines wide.sh >found
+printf 'wide.sh:%s columns\n' '2: 102' '4: 103' '6: 108' >wanted
+same 'a wide one is found' found wanted
 
 if ! has shellcheck; then
   skip 'scripts' 'shellcheck is missing'
   return
 fi
-top=$here/..
 cd "$top" || return
 # The gate takes files and folders alone.
 find . -name .git -prune -o -name out -prune -o -type l -print >"$work/found"
 same 'no link in the repository' "$work/found" /dev/null
-scripts() { grep -lE '^#!(/bin/sh|/usr/bin/env bash)$|^# shellcheck shell=bash' contrib/* contrib/debian/* contrib/completion/* tools/* 2>/dev/null; }
+scripts() {
+  grep -lE '^#!(/bin/sh|/usr/bin/env bash)$|^# shellcheck shell=bash' contrib/* contrib/debian/* \
+    contrib/completion/* tools/* 2>/dev/null
+}
 # What is longer is written in Python, under types. dpkg's scripts have their own folder.
-scripts | grep -E '^contrib/' | grep -v '^contrib/debian/' | xargs -r wc -l | awk '$2 != "total" && $1 > 60' >"$work/found"
+scripts | grep -E '^contrib/' | grep -v '^contrib/debian/' | xargs -r wc -l |
+  awk '$2 != "total" && $1 > 60' >"$work/found"
 same 'no long script of a shell in contrib' "$work/found" /dev/null
 while IFS= read -r file; do
   shellcheck -x "$file" >"$work/found" 2>&1

@@ -1,28 +1,41 @@
-# The completion for bash offers each option of each verb and subcommand, and no other: it is compared with what these say
-# themselves.
+# The completion for bash offers each option of each verb and subcommand, and no other: it is
+# compared with what these say themselves.
 
 completion=$contrib/completion/rooms
 completes() { # WORD ..
   # shellcheck disable=SC2016
-  PATH=$contrib:$PATH bash -c '. "$1"; shift; COMP_WORDS=("$@") COMP_CWORD=$(($# - 1)); by=$(complete -p "${1##*/}"); by=${by% *}; "${by##* }"; printf "%s\n" ${COMPREPLY[@]+"${COMPREPLY[@]}"}' bash "$completion" "$@"
+  PATH=$contrib:$PATH bash -c '
+    . "$1"; shift; COMP_WORDS=("$@") COMP_CWORD=$(($# - 1))
+    by=$(complete -p "${1##*/}"); by=${by% *}; "${by##* }"
+    printf "%s\n" ${COMPREPLY[@]+"${COMPREPLY[@]}"}' bash "$completion" "$@"
 }
 options() { grep -oE -e '--[a-z]+(-[a-z]+)*' | sort -u; }
 # rooms-admin says its verbs and their options itself, under each of its names.
 "$contrib/rooms-admin" --words | sort >wanted
 completes rooms-admin '' | sort >offered
 same 'the verbs' offered wanted
-for pair in rooms-admin:export export:export import:import handover:handover get:get nightly:backup restore:restore \
+for pair in rooms-admin:export export:export import:import handover:handover get:get \
+  nightly:backup restore:restore \
   standby:standby directory:groups full:full add:add setup:setup doctor:doctor; do
   verb=${pair#*:}
   "$contrib/rooms-admin" --words "$verb" | sort >wanted
-  if [ "$pair" = rooms-admin:export ]; then completes rooms-admin export --; else completes "rooms-${pair%:*}" --; fi | sort >offered
+  if [ "$pair" = rooms-admin:export ]; then
+    completes rooms-admin export --
+  else
+    completes "rooms-${pair%:*}" --
+  fi | sort >offered
   same "the options of $pair" offered wanted
 done
 
 # The program itself, and each of its subcommands.
-subcommands() { "$rooms" --help 2>&1 </dev/null | awk '/^Commands:/ { on = 1; next } /^$/ { on = 0 } on { print $1 }'; }
+subcommands() {
+  "$rooms" --help 2>&1 </dev/null |
+    awk '/^Commands:/ { on = 1; next } /^$/ { on = 0 } on { print $1 }'
+}
 by_rooms() { # WORD ..
-  bash -c '. "$1"; shift; COMP_WORDS=("$@") COMP_CWORD=$(($# - 1)); _rooms; printf "%s\n" ${COMPREPLY[@]+"${COMPREPLY[@]}"}' bash "$completion" "$@"
+  bash -c '
+    . "$1"; shift; COMP_WORDS=("$@") COMP_CWORD=$(($# - 1)); _rooms
+    printf "%s\n" ${COMPREPLY[@]+"${COMPREPLY[@]}"}' bash "$completion" "$@"
 }
 { subcommands; "$rooms" --help 2>&1 </dev/null | options; } | sort >wanted
 by_rooms rooms '' | sort >offered

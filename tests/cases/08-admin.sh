@@ -6,9 +6,11 @@ if ! has python3; then
   skip 'rooms-admin' 'python3 is missing'
   return
 fi
-printf '%s\n' '[mypy]' 'strict = True' "cache_dir = $PWD/mypy" '[mypy-ldap.*]' 'ignore_missing_imports = True' >mypy.ini
+printf '%s\n' '[mypy]' 'strict = True' "cache_dir = $PWD/mypy" '[mypy-ldap.*]' \
+  'ignore_missing_imports = True' >mypy.ini
 if has mypy; then
-  MYPYPATH=$contrib mypy --config-file mypy.ini "$contrib/rooms_admin" "$here/admin/test_pure.py" >"$work/out" 2>&1
+  MYPYPATH=$contrib mypy --config-file mypy.ini "$contrib/rooms_admin" "$here/admin/test_pure.py" \
+    >"$work/out" 2>&1
   holds "mypy --strict: $(tail -n 5 "$work/out")" [ "$?" = 0 ]
   MYPYPATH=$contrib mypy --config-file mypy.ini "$contrib/install" >"$work/out" 2>&1
   holds "mypy --strict of install: $(tail -n 5 "$work/out")" [ "$?" = 0 ]
@@ -16,18 +18,21 @@ else
   skip 'types' 'mypy is missing'
 fi
 if has flake8; then
-  flake8 --isolated --max-line-length 100 "$contrib/rooms_admin" "$contrib/install" "$contrib/rooms-admin" "$here/admin/test_pure.py" >"$work/out" 2>&1
+  flake8 --isolated --max-line-length 100 "$contrib/rooms_admin" "$contrib/install" \
+    "$contrib/rooms-admin" "$here/admin/test_pure.py" >"$work/out" 2>&1
   holds "flake8: $(head -n 5 "$work/out")" [ "$?" = 0 ]
   # (tools/kit.py may leave no byte code behind, so a line stands before the imports)
   mapfile -t tools < <(grep -lx '#!/usr/bin/env python3' "$here"/../tools/*)
-  flake8 --isolated --max-line-length 100 --extend-ignore E203,E402,E731 "${tools[@]}" "$here/../tools/"*.py >"$work/out" 2>&1
+  flake8 --isolated --max-line-length 100 \
+    --extend-ignore E203,E402,E731 "${tools[@]}" "$here/../tools/"*.py >"$work/out" 2>&1
   holds "flake8 of tools: $(head -n 5 "$work/out")" [ "$?" = 0 ]
 else
   skip 'style' 'flake8 is missing'
 fi
 (cd "$here/admin" && PYTHONPATH=$contrib python3 -B -m unittest test_pure) >"$work/out" 2>&1
 holds "the pure parts: $(tail -n 20 "$work/out")" [ "$?" = 0 ]
-wc -l "$contrib"/rooms_admin/*.py "$contrib/install" | awk '$2 != "total" && $1 >= 500 { print $2 }' >found
+wc -l "$contrib"/rooms_admin/*.py "$contrib/install" |
+  awk '$2 != "total" && $1 >= 500 { print $2 }' >found
 same 'no file has 500 lines' found /dev/null
 
 # Each line that it says when something isn't as it should be stands on the page of messages.
@@ -54,7 +59,8 @@ cmp -s "$work/out" help
 holds 'no verb, and what there is' [ "$?" = 0 ]
 run_admin --manual
 cp "$work/out" page
-holds 'the page is for man' [ "$(head -n 1 page)" = '.TH ROOMS\-ADMIN 8 "" "rooms" "System Administration"' ]
+holds 'the page is for man' \
+  [ "$(head -n 1 page)" = '.TH ROOMS\-ADMIN 8 "" "rooms" "System Administration"' ]
 if has groff; then
   groff -man -Tutf8 -ww page >/dev/null 2>found
   same 'troff has no complaint' found /dev/null
@@ -83,9 +89,10 @@ done <verbs
 run_admin no-such-verb
 told 'no such verb' 2 "bad arguments: there is no verb 'no-such-verb'"
 
-# The names of before are links that the installation makes: the same words, standard output as it was,
-# and the new name on standard error.
-for pair in export:export import:import handover:handover get:get nightly:backup restore:restore standby:standby directory:groups full:full doctor:doctor; do
+# The names of before are links that the installation makes: the same words, standard output as it
+# was, and the new name on standard error.
+for pair in export:export import:import handover:handover get:get nightly:backup restore:restore \
+  standby:standby directory:groups full:full doctor:doctor; do
   old=rooms-${pair%:*} verb=${pair#*:}
   ln -s "$admin" "$old"
   "./$old" --help >"$work/out" 2>"$work/err" </dev/null
@@ -119,11 +126,13 @@ needs_starttls() { # URI
 from rooms_admin.settings import Directory
 sys.exit(not Directory(sys.argv[1], *[""] * 7, 1).needs_starttls)' "$1"
 }
-for uri in ldap://127.a.b.c.example ldap://127.0.0.1.example ldap://localhost.example ldap://dc.example:389; do
+for uri in ldap://127.a.b.c.example ldap://127.0.0.1.example ldap://localhost.example \
+  ldap://dc.example:389; do
   needs_starttls "$uri"
   holds "$uri needs TLS for passwords" [ "$?" = 0 ]
 done
-for uri in ldaps://dc.example ldap://127.0.0.1 ldap://127.0.0.1:389/ ldap://localhost/ 'ldap://[::1]:389'; do
+for uri in ldaps://dc.example ldap://127.0.0.1 ldap://127.0.0.1:389/ ldap://localhost/ \
+  'ldap://[::1]:389'; do
   needs_starttls "$uri"
   holds "$uri doesn't" [ "$?" = 1 ]
 done

@@ -17,18 +17,21 @@ refuses_words 'unknown option' serve F --host x
 holds 'nothing was made' is_missing F
 
 # The value of an option, and the list's name, are words too.
-for words in '--port 0' '--port 65536' '--port x' '--port -1' '--count 0' '--count 1000001' '--count x' '--port' '--count 1 --count 2' \
+for words in '--port 0' '--port 65536' '--port x' '--port -1' '--count 0' '--count 1000001' \
+  '--count x' '--port' '--count 1 --count 2' \
   '--socket' '--socket a --socket b' '--socket a --port 8780' '--port 8781 --socket a'; do
   run serve missing $words
   holds "serve $words" [ "$status" = 2 ]
   holds "serve $words (standard output)" [ ! -s "$work/out" ]
   holds "serve $words (standard error)" [ -s "$work/err" ]
 done
-gives 'a port and a socket' 2 '' "error: the argument '--port <port>' cannot be used with '--socket <socket>'\n
+gives 'a port and a socket' 2 \
+  '' "error: the argument '--port <port>' cannot be used with '--socket <socket>'\n
 Usage: rooms serve [OPTIONS] <FILE>\n
 For more information, try '--help'.\n" serve missing --socket a --port 8780
 holds 'no socket was made' is_missing a
-gives 'the default of the port is no port that was given' 3 '' 'fault: file\n' serve missing --socket a
+gives 'the default of the port is no port that was given' 3 '' 'fault: file\n' \
+  serve missing --socket a
 run reset missing / xacl
 holds 'reset of no such list' [ "$status" = 2 ]
 holds 'reset of no such list (standard output)' [ ! -s "$work/out" ]

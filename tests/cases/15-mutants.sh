@@ -41,7 +41,8 @@ END
 
 # A mutant of the crate, as a file.
 mutant() { # NAME OLD NEW [FILE]
-  printf 'file: %s\nold: %s\nnew: %s\n' "${4:-src/lib.rt}" "$2" "$3" >"house/crates/low/wrong/$1.edit"
+  printf 'file: %s\nold: %s\nnew: %s\n' "${4:-src/lib.rt}" "$2" "$3" \
+    >"house/crates/low/wrong/$1.edit"
 }
 
 # What is said of the mutants that are there, and the status.
@@ -57,18 +58,24 @@ lists() { # NAME STATUS LINE ..
 
 mutant often u8 u16
 mutant turns_second '{ result ≡ y }' '{ result ≡ _x }'
-lists 'a text that stands often' 1 "wrong: low/often: BAD EDIT: an 'old:' text is in src/lib.rt 8 times, and not once" 'low 1: turns_second' '0 passed, 1 failed'
+lists 'a text that stands often' 1 \
+  "wrong: low/often: BAD EDIT: an 'old:' text is in src/lib.rt 8 times, and not once" \
+  'low 1: turns_second' '0 passed, 1 failed'
 
 mutant gone '    z' '    x'
-lists 'a text that is not there' 1 "wrong: low/gone: BAD EDIT: an 'old:' text is in src/lib.rt 0 times, and not once" '0 passed, 1 failed'
+lists 'a text that is not there' 1 \
+  "wrong: low/gone: BAD EDIT: an 'old:' text is in src/lib.rt 0 times, and not once" \
+  '0 passed, 1 failed'
 
 mutant no_file 'x' 'y' src/other.rt
-lists 'a file that is not there' 1 'wrong: low/no_file: BAD EDIT: there is no file src/other.rt' '0 passed, 1 failed'
+lists 'a file that is not there' 1 'wrong: low/no_file: BAD EDIT: there is no file src/other.rt' \
+  '0 passed, 1 failed'
 
 mutant one 'pub fn second(_x: u8, y: u8)' 'pub fn second(y: u8, _x: u8)'
 mutant two '{ result ≡ y }' '{ result ≡ _x }'
 mutant three '{ result ≡ x }' '{ result ≡ _y }'
-lists 'two of one function go into two checks' 0 'low 1: one three' 'low 2: two' '0 passed, 0 failed'
+lists 'two of one function go into two checks' 0 'low 1: one three' 'low 2: two' \
+  '0 passed, 0 failed'
 
 mutant constant 'LIMIT: u8 = 7' 'LIMIT: u8 = 8'
 mutant other '{ result ≡ x }' '{ result ≡ _y }'
@@ -81,25 +88,40 @@ mutant stands_once '{ result ≡ y }' '{ result ≡ _x }'
 lists 'a text that another makes ambiguous' 0 'low 1: makes_it_twice stands_once'
 
 printf 'new: x\n' >house/crates/low/wrong/headless.edit
-lists 'a line without what goes before it' 1 "wrong: low/headless: BAD EDIT: a 'new:' line stands before any 'file:' or 'old:' line"
+lists 'a line without what goes before it' 1 \
+  "wrong: low/headless: BAD EDIT: a 'new:' line stands before any 'file:' or 'old:' line"
 
 house/tools/wrong high --list >said 2>&1
 holds 'no such crate (status)' [ $? = 1 ]
 holds 'no such crate' grep -qF 'neither an option nor a crate with mutants: high' said
 
-# What the files of a crate say decides whether it has changed, and not their comments.
-digest() {
-  (cd house && python3 - <<'END'
+# What an expression says, among the names of tools/wrong, with `rt` and all crates at hand.
+asked() { # EXPRESSION
+  (cd house && python3 - "$1" <<'END'
 import importlib.machinery, importlib.util, sys
 sys.path.insert(0, "tools")
 loader = importlib.machinery.SourceFileLoader("wrong", "tools/wrong")
 wrong = importlib.util.module_from_spec(importlib.util.spec_from_loader("wrong", loader))
 loader.exec_module(wrong)
 rt = wrong.load_rt("test")
-print(*(wrong.digest_of(rt, it) for it in wrong.crates_in_order(rt)))
+crates = wrong.crates_in_order(rt)
+print(*eval(sys.argv[1], vars(wrong) | globals()))
 END
   )
 }
+
+# The check names a function after the file that declares its type, or that has its trait's impl.
+printf 'impl Pair {\n    pub fn other() {}\n}\n\nimpl Model for Pair {\n    fn third() {}\n}\n' \
+  >house/crates/low/src/other.rt
+mutant in_type 'other() {}' 'other() {;}' src/other.rt
+mutant in_trait 'third() {}' 'third() {;}' src/other.rt
+found=$(asked 'sorted(f for it in edits_in(crates[0]) for f in Mutant(crates[0], it).functions)')
+holds "names of functions ($found)" \
+  [ "$found" = 'low::Pair::other low::other::PairModel::third' ]
+rm house/crates/low/wrong/* house/crates/low/src/other.rt
+
+# What the files of a crate say decides whether it has changed, and not their comments.
+digest() { asked '[digest_of(rt, it) for it in crates]'; }
 before=$(digest)
 holds 'a sum of a crate' [ -n "$before" ]
 printf '    // A comment.\n/// And another.\n' >>house/crates/low/src/lib.rt

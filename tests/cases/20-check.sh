@@ -46,7 +46,8 @@ gives 'input of 1048576 bytes' 0 'granted\n' '' check
 printf x >>whole
 gives check-too-long 2 'refused: input too long\n' '' check
 # No more than that is read: the input here never ends.
-holds 'input without an end' [ "$(timeout "$patience" "$rooms" check </dev/zero)" = 'refused: input too long' ]
+holds 'input without an end' \
+  [ "$(timeout "$patience" "$rooms" check </dev/zero)" = 'refused: input too long' ]
 
 # Faults of the output and the input.
 list_of alice '' root:staff r A::alice:r

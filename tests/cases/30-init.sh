@@ -25,7 +25,8 @@ gives 'init on a link to a room' 2 'refused: file exists\n' '' init linked root 
 gives 'a room behind a link' 0 "$EMPTY_ROOM" '' dump linked
 
 printf x >Left-wal
-gives 'init beside the log of a file that was removed' 2 'refused: file exists\n' '' init Left root staff
+gives 'init beside the log of a file that was removed' 2 \
+  'refused: file exists\n' '' init Left root staff
 holds 'nothing was made beside it' is_missing Left
 
 gives 'an owner that is no name' 2 'refused: A3 bad who\n' '' init G 'bad name' staff
@@ -36,8 +37,10 @@ gives 'names come before the file' 2 'refused: A3 bad who\n' '' init F 'bad name
 gives 'init where there is no folder' 3 '' 'fault: file\n' init none/F root staff
 gives 'init below a file' 3 '' 'fault: file\n' init F/G root staff
 gives 'init of no name' 3 '' 'fault: file\n' init '' root staff
-gives 'a longest name' 0 'ready\n' '' init H "$(printf 'a%.0s' {1..64})@$(printf 'b%.0s' {1..64})" staff
-gives 'a name that is too long' 2 'refused: A3 bad who\n' '' init I "$(printf 'a%.0s' {1..65})" staff
+gives 'a longest name' 0 'ready\n' '' init H \
+  "$(printf 'a%.0s' {1..64})@$(printf 'b%.0s' {1..64})" staff
+gives 'a name that is too long' 2 \
+  'refused: A3 bad who\n' '' init I "$(printf 'a%.0s' {1..65})" staff
 gives 'a colon in the name of the file' 0 'ready\n' '' init 'file:x' root staff
 gives 'the same as memory' 0 'ready\n' '' init ':memory:' root staff
 gives 'and it is a file' 0 "$EMPTY_ROOM" '' dump ':memory:'

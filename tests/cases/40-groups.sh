@@ -50,7 +50,8 @@ gives 'one row more' 2 'refused: row 20002: C4 too many rows\n' '' groups F rows
 gives 'a CSV file of 8388608 bytes' 0 'groups 1, members 1\n' '' groups F long.csv
 echo >>long.csv
 gives 'one byte more' 2 'refused: input too long\n' '' groups F long.csv
-holds 'a CSV file without an end' [ "$(timeout "$patience" "$rooms" groups F /dev/zero)" = 'refused: input too long' ]
+holds 'a CSV file without an end' \
+  [ "$(timeout "$patience" "$rooms" groups F /dev/zero)" = 'refused: input too long' ]
 gives 'the last members stay' 0 'group,user\ng,a\n' '' groups-out F
 
 # The CSV file comes before the room's.
@@ -58,7 +59,8 @@ gives 'a CSV file that is missing' 3 '' 'fault: file\n' groups F missing.csv
 gives 'both are missing' 3 '' 'fault: file\n' groups missing missing.csv
 gives 'a folder as CSV file' 3 '' 'fault: file\n' groups F .
 csv 'group,user\nsales\n'
-gives 'a bad row comes before the file' 2 'refused: row 2: C2 not two fields\n' '' groups missing in.csv
+gives 'a bad row comes before the file' 2 \
+  'refused: row 2: C2 not two fields\n' '' groups missing in.csv
 csv 'group,user\nsales,alice\n'
 gives 'the CSV file as the room' 3 '' 'fault: database\n' groups in.csv in.csv
 gives 'which stays' 0 'groups 1, members 1\n' '' groups F in.csv

@@ -1,5 +1,6 @@
-# The lists that the pages recommend: each is set as it is pasted, and what the page says of it is compared with what the room
-# answers to a user of each kind, right by right, and with the records that it makes.
+# The lists that the pages recommend: each is set as it is pasted, and what the page says of it is
+# compared with what the room answers to a user of each kind, right by right, and with the records
+# that it makes.
 
 if [ "$loopback" = no ]; then
   skip 'recommended lists' 'this machine has no loopback'
@@ -9,8 +10,8 @@ fi
 operating=$PWD/operating.md
 cat "$here"/../docs/{operating,lists}.md >"$operating"
 
-# The members of groups. pat is the other user, to whom belongs what others have added; fred was a member of staff, and zoe is
-# in no group.
+# The members of groups. pat is the other user, to whom belongs what others have added; fred was a
+# member of staff, and zoe is in no group.
 cat >groups.csv <<'END'
 group,user
 staff,alice
@@ -34,12 +35,15 @@ users='alice bob erin ella clara ivan bea carol petra zoe fred -'
 mkdir bin
 ln -s "$rooms" bin/rooms
 take_lists "$operating" lists >index
-holds 'the lists of operating.md and lists.md' [ "$(cut -d' ' -f3 index | sort | uniq -c | tr -s ' \n' ' ')" = ' 9 dacl 2 sacl ' ]
+holds 'the lists of operating.md and lists.md' \
+  [ "$(cut -d' ' -f3 index | sort | uniq -c | tr -s ' \n' ' ')" = ' 9 dacl 2 sacl ' ]
 private=$(list_of /bob | grep -v bob)
 
 make_folders() {
   local name
-  for name in $(sed -n 's/^for name in \(.*\); do$/\1/p' "$operating") plain; do prepares POST "/folder/$name"; done
+  for name in $(sed -n 's/^for name in \(.*\); do$/\1/p' "$operating") plain; do
+    prepares POST "/folder/$name"
+  done
   prepares POST /folder/elsewhere
   prepares PUT /dacl/elsewhere "$(printf '%s\n' list:ap "A:fd:EVERYONE@:$ALL")"
   prepares PUT /doc/elsewhere/sample x
@@ -76,7 +80,8 @@ play_table 'a folder without a list' plain.table list:a /plain
 with_board() { list_of /letters && echo A:g:board:x; }
 play_the_line() {
   local kept
-  # Without the line, w on the folder above is enough to rename what nobody else may open; with it, it isn't.
+  # Without the line, w on the folder above is enough to rename what nobody else may open; with it,
+  # it isn't.
   prepares POST /folder/old
   prepares PUT /dacl/old "$(printf '%s\n' list:ap "A:fd:alice:$ALL" A:fdg:staff:rwaxtc)"
   prepares POST /folder/old/loose
@@ -117,8 +122,10 @@ play_folders_above() {
 }
 
 play_single_entries() {
-  # With fdi and above the line, whoever made a folder moves it away with what others have put there.
-  prepares PUT /dacl/letters "$(list_of /letters | awk '/OWNER@/ { next } /EVERYONE@/ { print "A:fdi:OWNER@:d" } { print }')"
+  # With fdi and above the line, whoever made a folder moves it away with what others have put
+  # there.
+  prepares PUT /dacl/letters \
+    "$(list_of /letters | awk '/OWNER@/ { next } /EVERYONE@/ { print "A:fdi:OWNER@:d" } { print }')"
   expects 201 POST /folder/letters/ella ella
   expects 201 PUT /doc/letters/ella/paper bob x
   expects 204 POST /move/letters/ella ella '{"to":"/elsewhere/ella"}'
@@ -129,9 +136,11 @@ play_single_entries() {
   expects 403 GET /doc/inbox/bobs ella
   expects 404 GET /doc/inbox/none ella
   # The denial behind the grant is none, and the first line takes w away from everybody.
-  prepares PUT /dacl/drafts "$(list_of /drafts | awk '/:interns:/ { late = $0; next } { print } /:staff:/ { print late }')"
+  prepares PUT /dacl/drafts \
+    "$(list_of /drafts | awk '/:interns:/ { late = $0; next } { print } /:staff:/ { print late }')"
   expects 204 PUT /doc/drafts/paper ivan x
-  prepares PUT /dacl/drafts "$(list_of /drafts | awk '{ print } /^list:/ { print "D::EVERYONE@:w" }')"
+  prepares PUT /dacl/drafts \
+    "$(list_of /drafts | awk '{ print } /^list:/ { print "D::EVERYONE@:w" }')"
   expects 403 PUT /doc/drafts/new alice x
 }
 
@@ -146,8 +155,9 @@ play_removers() {
   expects 204 DELETE /object/written/vault bob
   expects 204 DELETE /object/written bob
 }
-# Who may delete a folder that isn't protected, by D on the folder above or d on it, and has a folder of their own, moves it there
-# and reads what is in it. What is protected, and what has an entry of its own that denies, stays shut.
+# Who may delete a folder that isn't protected, by D on the folder above or d on it, and has a
+# folder of their own, moves it there and reads what is in it. What is protected, and what has an
+# entry of its own that denies, stays shut.
 play_moving() {
   local name
   prepares POST /folder/shared
@@ -199,10 +209,13 @@ play 'folders above' play_folders_above
 play 'single entries' play_single_entries
 stop_server
 
-# What `check` says of the list that the page tries, and that this is the list which the page recommends.
+# What `check` says of the list that the page tries, and that this is the list which the page
+# recommends.
 sed -n '/^rooms check <<END$/,/^END$/p' "$operating" >check.sh
-paste_lines 'a list that is tried' check.sh 1 "$(sed -n 's/^It prints `\(denied .*\)`\..*/\1/p' "$operating")\n"
-holds 'it is the one for interns' [ "$(sed -e '1,/^ask/d' -e '/^END$/d' check.sh)" = "$(list_of /drafts)" ]
+paste_lines 'a list that is tried' check.sh 1 \
+  "$(sed -n 's/^It prints `\(denied .*\)`\..*/\1/p' "$operating")\n"
+holds 'it is the one for interns' \
+  [ "$(sed -e '1,/^ask/d' -e '/^END$/d' check.sh)" = "$(list_of /drafts)" ]
 
 # The tour shows two of these lists, and says the same of them.
 page_says() { # PAGE SENTENCE
@@ -216,8 +229,8 @@ page_says docs/tour.md 'taff see which names are at the top'
 page_says docs/tour.md 'may read, add and change, and each of them may remove, rename and move away the documents that they added themselves.'
 page_says docs/lists.md 'Staff read everything, add documents and folders, and change every document. Each of them may remove, rename and move away the documents that they added themselves.'
 
-# Records: the page promises one for each denied read, and for each attempt to remove, rename or move something or to change a
-# list or an owner; in /contracts one more for whatever is denied.
+# Records: the page promises one for each denied read, and for each attempt to remove, rename or
+# move something or to change a list or an owner; in /contracts one more for whatever is denied.
 rm office.rooms*
 gives 'a room for records' 0 'ready\n' '' init office.rooms alice staff
 gives 'its members' 0 'groups 7, members 14\n' '' groups office.rooms groups.csv
@@ -284,7 +297,8 @@ play_denials() {
   recorded bob GET /attr$f/paper '' 403 $f/paper t no 1
   recorded bob GET /dacl$f/paper '' 403 $f/paper c no 1
   recorded bob PUT /dacl$f/paper list:a 403 $f/paper C no 1 $f/paper C no 3
-  recorded bob PUT /attr$f/paper '{"owner":"bob","group":"staff"}' 403 $f/paper o no 1 $f/paper o no 3
+  recorded bob PUT /attr$f/paper '{"owner":"bob","group":"staff"}' 403 $f/paper o no 1 \
+    $f/paper o no 3
   recorded carol GET /doc$f/paper '' 403 $f x no 1 $f x no 2
   recorded carol POST /move/elsewhere/theirs "{\"to\":\"$f/moved\"}" 403 $f x no 1 $f x no 2
   recorded alice GET /doc$f/paper '' 200

@@ -1,4 +1,5 @@
-# The tour, and the question of the README, as pasted: after each command stands what the page shows.
+# The tour, and the question of the README, as pasted: after each command stands what the page
+# shows.
 
 if [ "$loopback" = no ] || ! has curl; then
   skip 'the tour' 'this machine has no loopback, or curl is missing'
@@ -13,7 +14,8 @@ paste_script() { # SCRIPT
   port=$((port + 1))
   sed -e "s/8780/$port/g" -e "s/rooms serve office.rooms/& --port $port/" "$1" >pasted.sh
   : >pasted
-  (cd top && OUT=$PWD/../pasted TMPDIR=$PWD/../rooms timeout "$patience" bash "$OLDPWD/pasted.sh") </dev/null >pasted 2>&1
+  (cd top && OUT=$PWD/../pasted TMPDIR=$PWD/../rooms \
+    timeout "$patience" bash "$OLDPWD/pasted.sh") </dev/null >pasted 2>&1
   tr -d '\r' <pasted | grep -v '^$' | sed "s/$port/8780/g"
 }
 

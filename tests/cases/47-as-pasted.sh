@@ -1,23 +1,16 @@
-# What pages tell an administrator to paste, pasted: into a shell in which the folders, the ports and
-# the programs of the system are those of this test.
+# What pages tell an administrator to paste, pasted: into a shell in which the folders, the ports
+# and the programs of the system are those of this test.
 
 if [ "$loopback" = no ] || ! has curl || ! has setpriv; then
   skip 'what is pasted' 'no loopback, or curl is missing'
   return
 fi
 docs=$here/../docs
-
-# The fenced blocks of a page that have a text in them.
-blocks() { # PAGE TEXT
-  awk -v text="$2" '
-    /^```/ { if (inside && found) printf "%s", kept; inside = !inside; found = 0; kept = ""; next }
-    inside { kept = kept $0 "\n"; if (index($0, text)) found = 1 }' "$docs/$1"
-}
+. "$here/pasted.sh"
 
 # Stand-ins for what needs root or another machine. The server is stopped and started for real.
 mkdir -p bin room backups run/rooms/rooms
 sock=$PWD/run/rooms/rooms/socket
-stand_in() { { printf '#!/usr/bin/env bash\n'; cat; } >"bin/$1" && chmod 755 "bin/$1"; } # NAME
 ln -s "$rooms" bin/rooms
 stand_in runuser <<'END'
 [ "$1 $2 $3" = '-u rooms --' ] && shift 3 && exec "$@"
@@ -29,7 +22,9 @@ stand_in at <<END
 END
 # A password that is asked for is typed twice.
 stand_in htpasswd <<END
-if [ "\$1" = -B ] && [ -n "$(command -v htpasswd)" ]; then exec "$(command -v htpasswd)" -bB "\$2" "\$3" typed; fi
+if [ "\$1" = -B ] && [ -n "$(command -v htpasswd)" ]; then
+  exec "$(command -v htpasswd)" -bB "\$2" "\$3" typed
+fi
 if [ -n "$(command -v htpasswd)" ]; then exec "$(command -v htpasswd)" "\$@"; fi
 echo "htpasswd \$*" >>"$PWD/asked"
 END
@@ -49,7 +44,9 @@ if [ "\$1 \$2" = 'user add' ] && [ ! -p /dev/stdin ]; then exec <<<typed; fi
 exec "$here/../contrib/rooms-admin" "\$@"
 END
 stand_in systemctl <<END
-if [ "\$*" = 'start rooms-nightly@office' ]; then exec "$here/../contrib/rooms-admin" backup "$PWD/conf"; fi
+if [ "\$*" = 'start rooms-nightly@office' ]; then
+  exec "$here/../contrib/rooms-admin" backup "$PWD/conf"
+fi
 case \$1 in
   is-active) [ -e "$PWD/pid" ] && echo active || echo inactive ;;
   restart) "\$0" stop && "\$0" start ;;
@@ -61,7 +58,8 @@ case \$1 in
   start)
     : >"$PWD/line"
     rm -f "$sock"
-    "$rooms" serve "$PWD/room/office.rooms" --socket "$sock" --count 1000000 </dev/null >"$PWD/line" 2>"$PWD/err" &
+    "$rooms" serve "$PWD/room/office.rooms" --socket "$sock" --count 1000000 \\
+      </dev/null >"$PWD/line" 2>"$PWD/err" &
     echo \$! >"$PWD/pid"
     for turn in {1..3000}; do [ ! -s "$PWD/line" ] || exit 0; sleep 0.02; done
     exit 1
@@ -70,39 +68,14 @@ case \$1 in
 esac
 END
 
-# A script of blocks: what it prints is in $work/out, and its status in $status.
-paste_in() { # TEXT-OF-BLOCKS
-  sed -e "s|/var/lib/rooms|$PWD/room|g; s|/etc/nginx/rooms.htpasswd|$PWD/passwords|g; s|/var/backups/rooms|$PWD/backups|g" \
-    -e "s|/run/rooms/office/socket|$sock|g" <<<"$1" >pasted
-  [ -s pasted ] || fail 'what is pasted' 'no such block'
-  PATH=$PWD/bin:$PATH TMPDIR=$PWD timeout "$patience" bash pasted </dev/null >"$work/out" 2>"$work/err"
-  status=$?
-}
-prints() { # NAME LINE ..: these lines, and status 0
-  local name=$1
-  shift
-  printf '%s\n' "$@" >wanted
-  if [ "$status" != 0 ]; then fail "$name" "status $status: $(head -c 400 "$work/err")"; return; fi
-  same "$name" "$work/out" wanted
-}
-asked() { # USER METHOD TARGET [BODY]: the body of the reply and its status
-  curl -s -m "$patience" -X "$2" -H "Room-User: $1" ${4+--data-binary "$4"} -w ' %{http_code}\n' --unix-socket "$sock" "http://localhost$3"
-}
-answers() { # NAME WANTED USER METHOD TARGET [BODY]
-  local name=$1 wanted=$2
-  shift 2
-  printf '%s\n' "$wanted" >wanted
-  asked "$@" >got
-  same "$name" got wanted
-}
-
 PATH=$PWD/bin:$PATH rooms init room/office.rooms alice staff >/dev/null
 printf 'group,user\nstaff,bob\nstaff,a.bob\nsales,carol\nsales,bob\n' >members.csv
 gives 'the members' 0 'groups 2, members 4\n' '' groups room/office.rooms members.csv
 set_list room/office.rooms / dacl list:a "A:fd:alice:$ALL" A:fdg:staff:rwaxtc A::AUTHENTICATED@:xt
 : >root/etc/nginx/rooms.htpasswd
 ln -s root/etc/nginx/rooms.htpasswd passwords
-printf '%s\n' "FILE=$PWD/room/office.rooms" SOCKET=yes "BACKUPS=$PWD/backups" UNIT=rooms "PROGRAM=$rooms" >root/etc/rooms/office.conf
+printf '%s\n' "FILE=$PWD/room/office.rooms" SOCKET=yes "BACKUPS=$PWD/backups" UNIT=rooms \
+  "PROGRAM=$rooms" >root/etc/rooms/office.conf
 if ! has htpasswd || [ ! -x /usr/bin/python3 ]; then
   skip 'what is pasted' 'htpasswd or python3 is missing'
   return
@@ -112,12 +85,16 @@ answers 'a folder' ' 201' alice POST /folder/letters
 answers 'a document of bob' ' 201' bob PUT /doc/letters/reply 'Dear Sir'
 answers 'a folder for others' ' 201' alice POST /folder/projects
 answers 'and one in it' ' 201' alice POST /folder/projects/bridge
-answers 'an entry that names bob' ' 204' alice PUT /dacl/projects/bridge $'list:a\nA:fd:bob:r\nA:fd:a.bob:r\n'
+answers 'an entry that names bob' ' 204' \
+  alice PUT /dacl/projects/bridge $'list:a\nA:fd:bob:r\nA:fd:a.bob:r\n'
 
 paste_in "$(blocks people.md 'user add dana')"
-prints 'somebody joins' "a password for dana, in $PWD/root/etc/nginx/rooms.htpasswd" 'groups 2, members 5'
+prints 'somebody joins' "a password for dana, in $PWD/root/etc/nginx/rooms.htpasswd" \
+  'groups 2, members 5'
 bin/systemctl stop rooms
-gives 'she is in her group' 0 'group,user\nsales,bob\nsales,carol\nsales,dana\nstaff,a.bob\nstaff,bob\n' '' groups-out room/office.rooms
+gives 'she is in her group' 0 \
+  'group,user\nsales,bob\nsales,carol\nsales,dana\nstaff,a.bob\nstaff,bob\n' '' \
+  groups-out room/office.rooms
 bin/systemctl start rooms
 htpasswd -vb passwords dana typed >said 2>&1
 holds 'and has a password' grep -q correct said
@@ -127,10 +104,13 @@ paste_in "$(blocks people.md 'user add eve')
 $(blocks people.md 'A::eve:x')
 $(blocks people.md 'can/projects/bridge')
 $(blocks people.md '18:00')"
-prints 'somebody from outside' "a password for eve, in $PWD/root/etc/nginx/rooms.htpasswd" 204 204 '{"r":"allowed 3","w":"silent","x":"allowed 3"}'
+prints 'somebody from outside' "a password for eve, in $PWD/root/etc/nginx/rooms.htpasswd" 204 204 \
+  '{"r":"allowed 3","w":"silent","x":"allowed 3"}'
 answers 'she sees her folder' '[] 200' eve GET /folder/projects/bridge
-answers 'but not the one above' '{"at":"/projects","bits":"r","entry":null,"text":null} 403' eve GET /folder/projects
-answers 'nor any other' '{"at":"/letters","bits":"r","entry":null,"text":null} 403' eve GET /folder/letters
+answers 'but not the one above' '{"at":"/projects","bits":"r","entry":null,"text":null} 403' \
+  eve GET /folder/projects
+answers 'nor any other' '{"at":"/letters","bits":"r","entry":null,"text":null} 403' \
+  eve GET /folder/letters
 holds 'the day is noted' grep -q '^at 18:00 2027-01-31$' due
 
 # Who can have changed the rights at a folder, by the review of a night.
@@ -139,8 +119,8 @@ mkdir backups/2026-11-26.030000
 "$rooms" review room/office.rooms / >backups/2026-11-26.030000/review.csv
 bin/systemctl start rooms
 paste_in "$(blocks people.md "at='/projects'")"
-prints 'who can have changed it' "/,folder,alice,$ALL,no" /projects,folder,a.bob,rwaxtc,yes "/projects,folder,alice,$ALL,yes" \
-  /projects,folder,bob,rwaxtc,yes
+prints 'who can have changed it' "/,folder,alice,$ALL,no" /projects,folder,a.bob,rwaxtc,yes \
+  "/projects,folder,alice,$ALL,yes" /projects,folder,bob,rwaxtc,yes
 rm -r backups/2026-11-26.030000
 holds 'and what is done then' grep -q "htpasswd -D .*passwords 'eve'" due
 
@@ -148,13 +128,16 @@ cp -L passwords before
 htpasswd -bB passwords bob secret 2>/dev/null
 chmod 640 root/etc/nginx/rooms.htpasswd
 paste_in "$(blocks people.md 'user remove bob' | head -n 1)"
-prints 'somebody leaves' "no password for bob any more, in $PWD/root/etc/nginx/rooms.htpasswd" 'groups 2, members 3' \
+prints 'somebody leaves' "no password for bob any more, in $PWD/root/etc/nginx/rooms.htpasswd" \
+  'groups 2, members 3' \
   'document bob staff 8 /letters/reply' 'folder alice staff /projects/bridge' 'A:fd:bob:r'
 same 'he has no password, and nobody else has another' passwords before
 holds 'the mode of the file stays' [ -n "$(find -L passwords -perm 640)" ]
-answers 'the room is served' '{"group":"staff","kind":"document","owner":"bob"} 200' alice GET /attr/letters/reply
+answers 'the room is served' '{"group":"staff","kind":"document","owner":"bob"} 200' \
+  alice GET /attr/letters/reply
 bin/systemctl stop rooms
-gives 'and is in no group' 0 'group,user\nsales,carol\nsales,dana\nstaff,a.bob\n' '' groups-out room/office.rooms
+gives 'and is in no group' 0 \
+  'group,user\nsales,carol\nsales,dana\nstaff,a.bob\n' '' groups-out room/office.rooms
 bin/systemctl start rooms
 bin/systemctl stop rooms
 mkdir backups/2026-11-26.030000
@@ -162,17 +145,21 @@ mkdir backups/2026-11-26.030000
 bin/systemctl start rooms
 paste_in "$(blocks people.md 'rooms-admin handover --dry-run')"
 rm -r backups/2026-11-26.030000
-prints 'what would be his' 'would: /letters/reply' 'would be given 1, of others by now 0, left out 0'
-answers 'still is' '{"group":"staff","kind":"document","owner":"bob"} 200' alice GET /attr/letters/reply
+prints 'what would be his' 'would: /letters/reply' \
+  'would be given 1, of others by now 0, left out 0'
+answers 'still is' '{"group":"staff","kind":"document","owner":"bob"} 200' \
+  alice GET /attr/letters/reply
 paste_in "$(blocks people.md 'user remove bob --to')"
 tail -n 1 "$work/out" >got
 echo 'given 1, of others by now 0, left out 0' >wanted
 same 'all that is his' got wanted
-answers 'is alices' '{"group":"staff","kind":"document","owner":"alice"} 200' alice GET /attr/letters/reply
+answers 'is alices' '{"group":"staff","kind":"document","owner":"alice"} 200' \
+  alice GET /attr/letters/reply
 answers 'it goes back' ' 204' alice PUT /attr/letters/reply '{"group":"staff","owner":"bob"}'
 paste_in "$(blocks people.md '/attr/letters/reply')"
 prints 'another owner' 204
-answers 'who it is' '{"group":"staff","kind":"document","owner":"alice"} 200' alice GET /attr/letters/reply
+answers 'who it is' '{"group":"staff","kind":"document","owner":"alice"} 200' \
+  alice GET /attr/letters/reply
 paste_in "$(blocks people.md 'tr -dc')"
 holds 'a new password is printed' [ "$(tail -n 1 "$work/out" | wc -c)" = 17 ]
 htpasswd -vb passwords bob "$(tail -n 1 "$work/out")" >said 2>&1
@@ -184,7 +171,8 @@ paste_in "cd $PWD && $(blocks lists.md 'cat list.txt')"
 holds 'a list that shuts its sender out' [ "$status" = 1 ]
 holds 'is denied' grep -q '^denied bits C no entry$' "$work/out"
 answers 'it is taken without a word' ' 204' alice PUT /dacl/letters "$(cat list.txt)"
-answers 'and holds for its sender' '{"at":"/letters","bits":"r","entry":null,"text":null} 403' alice GET /folder/letters
+answers 'and holds for its sender' '{"at":"/letters","bits":"r","entry":null,"text":null} 403' \
+  alice GET /folder/letters
 paste_in "$(blocks people.md 'office.rooms /letters dacl')"
 prints 'the operator sets another' 'done'
 answers 'and she gets in' '[{"kind":"document","name":"reply"}] 200' alice GET /folder/letters
@@ -197,14 +185,16 @@ bin/systemctl stop rooms
 cp room/office.rooms* backups/2026-11-20.030000/
 bin/systemctl start rooms
 answers 'it is overwritten' ' 204' alice PUT /doc/letters/reply 'Dear Madam'
-printf '%s\n' "FILE=$PWD/room/office.rooms" "BACKUPS=$PWD/backups" KEEP=0 MAIL= UNIT=rooms "PROGRAM=$rooms" >conf
+printf '%s\n' "FILE=$PWD/room/office.rooms" "BACKUPS=$PWD/backups" KEEP=0 MAIL= UNIT=rooms \
+  "PROGRAM=$rooms" >conf
 paste_in "$(blocks backup.md 'rooms-admin get 2026')"
 prints 'one document out of a backup' 204
 answers 'is the old one' 'Dear Sir 200' alice GET /doc/letters/reply
 paste_in "cd $PWD && $(blocks backup.md '@reply' | sed 's#/letters/reply >#/letters/none >#')"
 holds 'one that is not in it' [ "$status" != 0 -a ! -s "$work/out" -a ! -s reply ]
 answers 'replaces nothing' 'Dear Sir 200' alice GET /doc/letters/reply
-answers 'of the same owner' '{"group":"staff","kind":"document","owner":"alice"} 200' alice GET /attr/letters/reply
+answers 'of the same owner' '{"group":"staff","kind":"document","owner":"alice"} 200' \
+  alice GET /attr/letters/reply
 
 # An upgrade: a backup, the new files, the restart; the earlier files; the earlier room.
 mkdir -p contrib run
@@ -226,8 +216,9 @@ if has flock; then
   paste_in "$(blocks people.md 'here && dacl')"
   prints 'the list of that night' list:a "A:fdI:alice:$ALL" A:fdgI:staff:rwaxtc
   paste_in "$(blocks people.md 'rooms review')"
-  prints 'who can read a folder' path,kind,user,rights,remove /letters,folder,a.bob,rwaxtc,yes "/letters,folder,alice,$ALL,yes" \
-    /letters,folder,carol,,no /letters,folder,dana,,no '/letters,folder,*,,no' '/letters,folder,ANONYMOUS@,,no'
+  prints 'who can read a folder' path,kind,user,rights,remove /letters,folder,a.bob,rwaxtc,yes \
+    "/letters,folder,alice,$ALL,yes" /letters,folder,carol,,no /letters,folder,dana,,no \
+    '/letters,folder,*,,no' '/letters,folder,ANONYMOUS@,,no'
 else
   skip 'a backup before an upgrade' 'no flock'
   backup=
@@ -236,13 +227,17 @@ paste_in "$(blocks operating.md 'contrib/install')"
 holds 'the new files' cmp -s machine/usr/local/bin/rooms "$rooms"
 paste_in "$(blocks upgrading.md 'rooms-admin check')
 $(blocks upgrading.md 'nginx -t')"
-holds "the new program serves: $(head -c 300 "$work/out")" grep -q '^rooms OK - office: answers, ' "$work/out"
+holds "the new program serves: $(head -c 300 "$work/out")" \
+  grep -q '^rooms OK - office: answers, ' "$work/out"
 answers 'what was there before' 'Dear Sir 200' alice GET /doc/letters/reply
 echo '# older' >>machine/usr/local/sbin/rooms-admin
 paste_in "$(blocks operating.md 'contrib/install')"
-same 'the files of the version before' machine/usr/local/sbin/rooms-admin "$here/../contrib/rooms-admin"
+same 'the files of the version before' machine/usr/local/sbin/rooms-admin \
+  "$here/../contrib/rooms-admin"
 paste_in "$(blocks upgrading.md "systemctl restart 'rooms" | tail -n 1)"
-prints_nothing() { if [ "$status" = 0 ] && [ ! -s "$work/out" ]; then pass; else fail "$1" "status $status"; fi; }
+prints_nothing() {
+  if [ "$status" = 0 ] && [ ! -s "$work/out" ]; then pass; else fail "$1" "status $status"; fi
+}
 prints_nothing 'its program runs'
 answers 'on the same room' 'Dear Sir 200' alice GET /doc/letters/reply
 if [ -n "$backup" ]; then
@@ -256,21 +251,24 @@ if [ -n "$backup" ]; then
   take moved.1.db room/office.rooms
   paste_in "$(blocks upgrading.md 'rooms migrate')"
   prints 'a file of schema 1' migrated
-  holds 'is served then' [ "$(curl -s -o /dev/null -w '%{http_code}' --unix-socket "$sock" 'http://localhost/can/?')" = 200 ]
+  holds 'is served then' [ "$(curl -s -o /dev/null -w '%{http_code}' --unix-socket "$sock" \
+    'http://localhost/can/?')" = 200 ]
   bin/systemctl stop rooms
   rm -f room/office.rooms*
   mv kept/* room/
   bin/systemctl start rooms
 fi
 
-# The same blocks for other names, by each awk that is here: nobody else's rows go, and none of theirs stays. A name is between
-# single quotes, as the page says. The server rests meanwhile.
+# The same blocks for other names, by each awk that is here: nobody else's rows go, and none of
+# theirs stays. A name is between single quotes, as the page says. The server rests meanwhile.
 named() { # TEXT WORD NAME
   grep -v -e ^htpasswd -e ^systemctl <<<"${1//"'$2'"/"'$3'"}"
 }
 odd_users=(-x 0815 1e3 'OFFICE\bob' 'OFFICE\\bob' 'OFFICE\nbob' 'pc-7$' user)
 { echo group,user && printf 'staff,%s\n' "${odd_users[@]}" 815 1000 OFFICEbob bob; } >members.csv
-all_members() { gives 'members' 0 'groups 1, members 12\n' '' groups room/office.rooms members.csv; }
+all_members() {
+  gives 'members' 0 'groups 1, members 12\n' '' groups room/office.rooms members.csv
+}
 members_are() { # NAME FILE
   "$rooms" groups-out room/office.rooms | sort >got
   sort "$2" >wanted
@@ -278,10 +276,12 @@ members_are() { # NAME FILE
 }
 odd_path='/a "b"\n, c '
 answers 'a folder of an odd name' ' 201' alice POST '/folder/a%20%22b%22%5Cn%2C%20c%20'
-answers 'and its list' ' 204' alice PUT '/dacl/a%20%22b%22%5Cn%2C%20c%20' $'list:ap\nA::OFFICE\\nbob:C'
+answers 'and its list' ' 204' \
+  alice PUT '/dacl/a%20%22b%22%5Cn%2C%20c%20' $'list:ap\nA::OFFICE\\nbob:C'
 for at in "${!odd_users[@]}"; do
   answers 'a document' ' 201' alice PUT "/doc/letters/odd$at" 12345
-  answers "of ${odd_users[at]}" ' 204' alice PUT "/attr/letters/odd$at" "{\"group\":\"staff\",\"owner\":\"${odd_users[at]//\\/\\\\}\"}"
+  answers "of ${odd_users[at]}" ' 204' \
+    alice PUT "/attr/letters/odd$at" "{\"group\":\"staff\",\"owner\":\"${odd_users[at]//\\/\\\\}\"}"
 done
 bin/systemctl stop rooms
 for at in "${!odd_users[@]}"; do
@@ -312,7 +312,8 @@ refuses_user 'a name that is none' "'b ob' can't be the name of a user" add 'b o
 refuses_user 'a group that is none' "'a:b' can't be the name of a user" add bob --groups a:b
 refuses_user 'a user who would inherit from themselves' 'bob would give to bob' remove bob --to bob
 refuses_user 'a room that is not there' 'no settings' add bob nowhere
-ROOMS_RUN=$PWD/run "$here/../contrib/rooms-admin" user add bob "$PWD/root/etc/rooms/office.conf" </dev/null >"$work/out" 2>"$work/err"
+ROOMS_RUN=$PWD/run "$here/../contrib/rooms-admin" user add bob "$PWD/root/etc/rooms/office.conf" \
+  </dev/null >"$work/out" 2>"$work/err"
 status=$?
 told 'no password' 2 'bad password'
 awks=0
@@ -325,7 +326,10 @@ for awk in mawk gawk original-awk; do
   mkdir "$night"
   "$rooms" review room/office.rooms / >"$night/review.csv"
   "$rooms" dump room/office.rooms >"$night/lists.txt"
-  { echo at,user,path,bits,granted,entry,kind && printf '1000,%s,/x,r,no,1,audit\n' 0815 815 'OFFICE\nbob' OFFICEbob; } >"$night/records.csv"
+  {
+    echo at,user,path,bits,granted,entry,kind &&
+      printf '1000,%s,/x,r,no,1,audit\n' 0815 815 'OFFICE\nbob' OFFICEbob
+  } >"$night/records.csv"
   paste_in "$(named "$(blocks people.md 'here && dacl')" /letters "$odd_path")"
   prints "the list of an odd path, by $awk" list:ap 'A::OFFICE\nbob:C'
   paste_in "$(named "$(blocks people.md "at='/projects'")" /projects "$odd_path")"
@@ -357,7 +361,8 @@ for text in 'user add dana' 'user remove bob'; do
   paste_in "$(blocks people.md "$text" | head -n 1)"
   told "no members in part, by $text" 1 'groups-out failed: ' 'fault: store'
   holds 'nothing is imported' [ "$(grep -c '^groups' "$work/out")" = 0 ]
-  answers 'the room is served' '{"group":"staff","kind":"document","owner":"user"} 200' alice GET /attr/letters/odd7
+  answers 'the room is served' '{"group":"staff","kind":"document","owner":"user"} 200' \
+    alice GET /attr/letters/odd7
   bin/systemctl stop rooms
   members_are 'all members are there' members.csv
 done
@@ -372,20 +377,33 @@ if [ -n "$smbd" ] && has smbclient && has smbpasswd && has setsid && [ "$(id -u)
   printf one >'samba/share/a b/100% ü.txt'
   printf two >'samba/share/a b/ü/.hidden'
   printf 'not for all' >samba/share/secret
-  { printf '%s\n' '[global]' 'server role = standalone server' 'interfaces = 127.0.0.1' 'bind interfaces only = yes' \
-    "smb ports = $((port + 2))" 'disable netbios = yes' 'load printers = no' "passdb backend = tdbsam:$PWD/samba/passdb.tdb" \
-    "log file = $PWD/samba/log" "ncalrpc dir = $PWD/samba/state/ncalrpc"
-    for name in 'private dir' 'lock directory' 'state directory' 'cache directory' 'pid directory'; do echo "$name = $PWD/samba/state"; done
-    printf '%s\n' '[share]' "path = $PWD/samba/share"; } >samba/conf
+  {
+    printf '%s\n' '[global]' 'server role = standalone server' 'interfaces = 127.0.0.1' \
+      'bind interfaces only = yes' "smb ports = $((port + 2))" 'disable netbios = yes' \
+      'load printers = no' "passdb backend = tdbsam:$PWD/samba/passdb.tdb" \
+      "log file = $PWD/samba/log" "ncalrpc dir = $PWD/samba/state/ncalrpc"
+    for name in 'private dir' 'lock directory' 'state directory' 'cache directory' \
+      'pid directory'; do
+      echo "$name = $PWD/samba/state"
+    done
+    printf '%s\n' '[share]' "path = $PWD/samba/share"
+  } >samba/conf
   printf 'word\nword\n' | smbpasswd -c samba/conf -L -s -a root >said 2>&1
-  setsid "$smbd" -s "$PWD/samba/conf" -F --no-process-group --debug-stdout >samba/said 2>&1 </dev/null &
+  setsid "$smbd" -s "$PWD/samba/conf" -F --no-process-group --debug-stdout \
+    >samba/said 2>&1 </dev/null &
   others+=("$!")
-  for turn in {1..500}; do (exec 3<>"/dev/tcp/127.0.0.1/$((port + 2))") 2>/dev/null && break; sleep 0.02; done
+  for turn in {1..500}; do
+    (exec 3<>"/dev/tcp/127.0.0.1/$((port + 2))") 2>/dev/null && break
+    sleep 0.02
+  done
   # The port is another one, and a password that is asked for is given.
   stand_in smbclient <<END
-exec "$(command -v smbclient)" -s "$PWD/samba/conf" -p $((port + 2)) "\${@/#alice/root%\$(cat "$PWD/samba/word")}"
+exec "$(command -v smbclient)" -s "$PWD/samba/conf" -p $((port + 2)) \\
+  "\${@/#alice/root%\$(cat "$PWD/samba/word")}"
 END
-  fetching="mkdir \$PWD/fetch; cd \$PWD/fetch && $(blocks in-and-out.md smbclient | sed 's/SERVER/127.0.0.1/')"
+  fetching="mkdir \$PWD/fetch; cd \$PWD/fetch && $(
+    blocks in-and-out.md smbclient | sed 's/SERVER/127.0.0.1/'
+  )"
   echo word >samba/word
   paste_in "$fetching"
   holds 'a share comes' [ "$(tail -n 1 "$work/out")" = 3 ]
@@ -404,7 +422,8 @@ else
   skip 'a share of Windows' 'no root, smbd, smbclient, smbpasswd or setsid'
 fi
 
-# Records that are older than two years. Without a backup nothing is done, and after a fault nothing is served.
+# Records that are older than two years. Without a backup nothing is done, and after a fault nothing
+# is served.
 if has_sqlite && has flock; then
   removing=$(blocks capacity.md 'DELETE FROM audits')
   records_are() { # NAME NUMBER
@@ -417,7 +436,8 @@ if has_sqlite && has flock; then
     bin/systemctl stop rooms
   }
   bin/systemctl stop rooms
-  sqlite3 room/office.rooms "INSERT INTO audits (at, user, path, bits, granted, entry) VALUES (1000, 'bob', '/', 1, 0, 1), (unixepoch(), 'bob', '/', 1, 0, 1);"
+  sqlite3 room/office.rooms "INSERT INTO audits (at, user, path, bits, granted, entry)
+    VALUES (1000, 'bob', '/', 1, 0, 1), (unixepoch(), 'bob', '/', 1, 0, 1);"
   bin/systemctl start rooms
   mv backups backups.away
   paste_in "$removing"
@@ -432,14 +452,17 @@ if has_sqlite && has flock; then
   prints 'old records are removed' sound
   bin/systemctl stop rooms
   run audit room/office.rooms
-  holds 'the others stay' [ "$(sed 's/^[0-9]*,/T,/' "$work/out")" = $'at,user,path,bits,granted,entry,kind\nT,bob,/,r,no,1,audit' ]
+  holds 'the others stay' [ "$(sed 's/^[0-9]*,/T,/' "$work/out")" \
+    = $'at,user,path,bits,granted,entry,kind\nT,bob,/,r,no,1,audit' ]
   set_list room/office.rooms / sacl list:a U:F:EVERYONE@:r
   bin/systemctl start rooms
   answers 'a denied list' '{"at":"/","bits":"r","entry":null,"text":null} 403' eve GET /folder/
   bin/systemctl stop rooms
-  holds 'no number is given twice' [ "$(sqlite3 room/office.rooms 'SELECT seq FROM audits ORDER BY seq' | tr '\n' ' ')" = '2 3 ' ]
+  holds 'no number is given twice' \
+    [ "$(sqlite3 room/office.rooms 'SELECT seq FROM audits ORDER BY seq' | tr '\n' ' ')" = '2 3 ' ]
   gives 'the room is sound' 0 'sound\n' '' verify room/office.rooms
-  sqlite3 room/office.rooms "INSERT INTO audits (at, user, path, bits, granted, entry) VALUES (unixepoch(), 'OFFICE\\bob', '/', 1, 0, 1);"
+  sqlite3 room/office.rooms "INSERT INTO audits (at, user, path, bits, granted, entry)
+    VALUES (unixepoch(), 'OFFICE\\bob', '/', 1, 0, 1);"
   bin/systemctl start rooms
   paste_in "$(sed 's/WHERE at .*;/WHERE user = '\''OFFICE\\bob'\'';/' <<<"$removing")"
   prints 'records of one person are removed' sound

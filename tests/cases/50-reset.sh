@@ -1,7 +1,8 @@
 # `reset`: what it sets, what it refuses, and in which order.
 
 open_room F
-gives 'the open room' 0 "folder root staff /\ndacl\nlist:a\nA::EVERYONE@:x\nA:fd:root:$ALL\nsacl\nlist:a\n" '' dump F
+gives 'the open room' 0 \
+  "folder root staff /\ndacl\nlist:a\nA::EVERYONE@:x\nA:fd:root:$ALL\nsacl\nlist:a\n" '' dump F
 set_list F / sacl '# all reads' list:a 'U:SF:EVERYONE@:r'
 gives 'both lists' 0 "folder root staff /\ndacl\nlist:a\nA::EVERYONE@:x\nA:fd:root:$ALL\nsacl\nlist:a\nU:SF:EVERYONE@:r\n" '' dump F
 gives 'it leaves no record' 0 'at,user,path,bits,granted,entry,kind\n' '' audit F
@@ -17,8 +18,10 @@ resets() { # NAME STATUS OUT ERR FILE PATH WHICH LINE ..
 resets reset-no-such 2 'refused: N1 no-such at /q\n' '' F /q dacl list:
 resets 'no such above' 2 'refused: N1 no-such at /q\n' '' F /q/r/s dacl list:
 resets reset-bad-entry 2 'refused: entry 1: A11 i without f or d\n' '' F / dacl list: A:i:bob:r
-resets 'an entry of the other list' 2 'refused: entry 2: A9 type not of this attribute\n' '' F / sacl list: U:S:bob:r A::bob:r
-resets 'a flag of the other list' 2 'refused: entry 1: A10 S or F on A or D\n' '' F / dacl list: A:S:bob:r
+resets 'an entry of the other list' 2 \
+  'refused: entry 2: A9 type not of this attribute\n' '' F / sacl list: U:S:bob:r A::bob:r
+resets 'a flag of the other list' 2 \
+  'refused: entry 1: A10 S or F on A or D\n' '' F / dacl list: A:S:bob:r
 resets 'no list line' 2 'refused: line 1: A6 no list line\n' '' F / dacl A::bob:r
 resets 'an entry of three parts' 2 'refused: line 2: A5 not four parts\n' '' F / dacl list:a A::bob
 resets 'a type that is none' 2 'refused: line 2: A1 bad type\n' '' F / dacl list:a X::bob:r
@@ -40,10 +43,12 @@ resets 'an empty name' 2 'refused: P1 bad object name\n' '' F //q dacl list:
 resets 'dots' 2 'refused: P1 bad object name\n' '' F /.. dacl list:
 resets 'no path' 2 'refused: P1 bad object name\n' '' F '' dacl list:
 resets 'a long name' 2 'refused: P1 bad object name\n' '' F "/$(printf 'a%.0s' {1..256})" dacl list:
-resets 'a long path' 2 'refused: P2 path over 4096 bytes\n' '' F "/$(printf 'a%.0s' {1..4096})" dacl list:
+resets 'a long path' 2 \
+  'refused: P2 path over 4096 bytes\n' '' F "/$(printf 'a%.0s' {1..4096})" dacl list:
 resets 'escapes stand as they are' 2 'refused: N1 no-such at /%71\n' '' F /%71 dacl list:
 resets 'the path comes before the list' 2 'refused: P1 bad object name\n' '' F q dacl nonsense
-resets 'the list comes before the file' 2 'refused: line 1: A6 no list line\n' '' missing / dacl nonsense
+resets 'the list comes before the file' 2 \
+  'refused: line 1: A6 no list line\n' '' missing / dacl nonsense
 resets 'the path comes before the file' 2 'refused: P1 bad object name\n' '' missing q dacl list:
 resets 'a file that is missing' 3 '' 'fault: file\n' missing / dacl list:
 { printf 'list:a\n#'; head -c 1048569 /dev/zero | tr '\0' x; } >whole

@@ -34,7 +34,11 @@ for code in {0..255}; do printf "\\x$(printf %x "$code")"; done >each
 holds 'it has each byte' [ "$(wc -c <each)" = 256 ]
 head -c 1048576 /dev/urandom >big
 put() { # FILE: a document of this name
-  { printf 'PUT /doc/%s HTTP/1.1\r\nRoom-User: root\r\nConnection: close\r\nContent-Length: %s\r\n\r\n' "$1" "$(wc -c <"$1")"; cat "$1"; } >"$work/sent"
+  {
+    printf 'PUT /doc/%s HTTP/1.1\r\nRoom-User: root\r\nConnection: close\r\n' "$1"
+    printf 'Content-Length: %s\r\n\r\n' "$(wc -c <"$1")"
+    cat "$1"
+  } >"$work/sent"
   exchange
   made >"$work/want.reply"
   same "$1 is put" "$work/reply" "$work/want.reply"

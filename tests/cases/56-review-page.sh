@@ -1,4 +1,5 @@
-# docs/review.md: its room, made with the lists that other pages recommend, and its commands as pasted.
+# docs/review.md: its room, made with the lists that other pages recommend, and its commands as
+# pasted.
 
 if [ "$loopback" = no ]; then
   skip 'the page on reviews' 'this machine has no loopback'
@@ -45,6 +46,7 @@ night 2026-11-26
 
 from_consoles "$here/../docs/review.md" typed.sh | grep -v '^$' >wanted
 sed "s|/var/backups/rooms|$PWD/backups|" typed.sh >pasted.sh
-(cd room && PATH=$PWD/../bin:$PATH timeout "$patience" bash ../pasted.sh) </dev/null 2>&1 | grep -v '^$' | sed "s|$PWD/backups|/var/backups/rooms|" >got
+(cd room && PATH=$PWD/../bin:$PATH timeout "$patience" bash ../pasted.sh) </dev/null 2>&1 |
+  grep -v '^$' | sed "s|$PWD/backups|/var/backups/rooms|" >got
 holds 'the page has commands' [ "$(grep -c '^@' wanted)" = 5 ]
 same 'each command prints what the page shows' got wanted

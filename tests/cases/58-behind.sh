@@ -1,9 +1,11 @@
-# Behind a barred folder: the lists and the answers of requests.md, as the page has them, and what the flag `p` changes.
+# Behind a barred folder: the lists and the answers of requests.md, as the page has them, and what
+# the flag `p` changes.
 
 page=$here/../docs/requests.md
 section() { sed -n '/^## Behind a barred folder/,/^## Who changes rights/p' "$page"; }
 
-# The lists of the page, as PATH FIRST-LINE ENTRY ..; and the rows of its table, as WHO|METHOD TARGET|BODY|STATUS|ANSWER.
+# The lists of the page, as PATH FIRST-LINE ENTRY ..; and the rows of its table, as WHO|METHOD
+# TARGET|BODY|STATUS|ANSWER.
 section | awk '/^```text/ { inside = 1; next } /^```/ { inside = 0 } inside' >lists
 section | awk -F ' [|] ' '/^\| (eve|alice) / {
   who = $1; sub(/^\| /, "", who)
@@ -28,7 +30,8 @@ make_room() { # FILE
   asks "$1: the memo" made PUT /doc/memo alice memo
   asks "$1: eve's folder" made POST /folder/eve alice
   while read -r path words; do
-    [ "$path" = / ] || asks "$1: the list of $path" done_reply PUT "/dacl$path" alice "$(printf '%s\n' $words)"
+    [ "$path" = / ] ||
+      asks "$1: the list of $path" done_reply PUT "/dacl$path" alice "$(printf '%s\n' $words)"
   done <lists
   server_ends "$1 is made" 0 ''
 }

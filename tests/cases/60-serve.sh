@@ -7,7 +7,11 @@ printf '%s' $'PUT /doc/f HTTP/1.1\r\nRoom-User: root\r\nContent-Length: 5\r\n\r\
 if start_server F 1; then
   { cat one one; last_message GET /doc/f root; } >"$work/sent"
   exchange
-  { made goes-on; done_reply goes-on; reply '200 OK' application/octet-stream hello; } >"$work/want.reply"
+  {
+    made goes-on
+    done_reply goes-on
+    reply '200 OK' application/octet-stream hello
+  } >"$work/want.reply"
   same 'two messages at once, and a third' "$work/reply" "$work/want.reply"
   server_ends 'the server ends after one' 0 ''
 fi
@@ -22,8 +26,11 @@ asks 'a document' made PUT /doc/a/x root hello
 asks 'it is replaced' done_reply PUT /doc/a/x root hi
 asks 'bytes behind it' done_reply POST /doc/a/x root '!!'
 asks 'it is read' "reply '200 OK' application/octet-stream 'hi!!'" GET /doc/a/x root
-asks 'a document is no folder' "json '409 Conflict' '{\"at\":\"/a/x\",\"why\":\"wrong-kind\"}'" GET /folder/a/x root
-asks 'a listing' "json '200 OK' '[{\"kind\":\"folder\",\"name\":\"a\"},{\"kind\":\"document\",\"name\":\"f\"}]'" GET /folder/ root
+asks 'a document is no folder' "json '409 Conflict' '{\"at\":\"/a/x\",\"why\":\"wrong-kind\"}'" \
+  GET /folder/a/x root
+asks 'a listing' \
+  "json '200 OK' '[{\"kind\":\"folder\",\"name\":\"a\"},{\"kind\":\"document\",\"name\":\"f\"}]'" \
+  GET /folder/ root
 asks 'an empty listing for nobody' "denied / r null null" GET /folder/ -
 asks 'the list of the folder' "reply '200 OK' text/plain 'list:a
 A:fdI:root:$ALL
@@ -40,8 +47,11 @@ asks 'alice reads by it' "reply '200 OK' application/octet-stream 'hi!!'" GET /d
 asks 'bob does not pass' "denied /a x null null" GET /doc/a/x bob
 asks 'what is behind is hidden' "denied /a x null null" GET /doc/a/zz bob
 asks 'alice may not write' "denied /a/x w null null" PUT /doc/a/x alice no
-asks 'a list with a fault' "json '422 Unprocessable Entity' '{\"line\":1,\"why\":\"bad-list A6\"}'" PUT /dacl/a root A::a:r
-asks 'an entry with a fault' "json '422 Unprocessable Entity' '{\"at\":\"/a\",\"entry\":1,\"why\":\"bad-list A9\"}'" PUT /dacl/a root 'list:
+asks 'a list with a fault' \
+  "json '422 Unprocessable Entity' '{\"line\":1,\"why\":\"bad-list A6\"}'" PUT /dacl/a root A::a:r
+asks 'an entry with a fault' \
+  "json '422 Unprocessable Entity' '{\"at\":\"/a\",\"entry\":1,\"why\":\"bad-list A9\"}'" \
+  PUT /dacl/a root 'list:
 U:S:bob:r'
 asks 'a list of records' done_reply PUT /sacl/a/x root 'list:a
 U:F:EVERYONE@:r
@@ -51,32 +61,45 @@ asks 'which is read' "reply '200 OK' text/plain 'list:a
 U:F:EVERYONE@:r
 L:S:AUTHENTICATED@:w
 '" GET /sacl/a/x root
-asks 'owners' "json '200 OK' '{\"group\":\"staff\",\"kind\":\"folder\",\"owner\":\"root\"}'" GET /attr/a alice
+asks 'owners' "json '200 OK' '{\"group\":\"staff\",\"kind\":\"folder\",\"owner\":\"root\"}'" \
+  GET /attr/a alice
 asks 'owners are set' done_reply PUT /attr/a/x root '{"group":"sales","owner":"alice"}'
-asks 'and read' "json '200 OK' '{\"group\":\"sales\",\"kind\":\"document\",\"owner\":\"alice\"}'" GET /attr/a/x root
-asks 'a body that is none' "json '400 Bad Request' '{\"why\":\"bad-body\"}'" PUT /attr/a/x root '{"owner":"x"}'
+asks 'and read' "json '200 OK' '{\"group\":\"sales\",\"kind\":\"document\",\"owner\":\"alice\"}'" \
+  GET /attr/a/x root
+asks 'a body that is none' "json '400 Bad Request' '{\"why\":\"bad-body\"}'" \
+  PUT /attr/a/x root '{"owner":"x"}'
 asks 'rights' "json '200 OK' '{\"r\":\"allowed 1\",\"w\":\"silent\"}'" GET '/can/a?rw' alice
 asks 'no rights asked' "json '200 OK' '{}'" GET '/can/a?' alice
-asks 'a letter that is none' "json '400 Bad Request' '{\"why\":\"bad-target A4\"}'" GET '/can/a?rq' alice
+asks 'a letter that is none' "json '400 Bad Request' '{\"why\":\"bad-target A4\"}'" \
+  GET '/can/a?rq' alice
 asks 'a move' done_reply POST /move/a/x root '{"to":"/y"}'
 asks 'back' done_reply POST /move/y root '{"to":"/a/x"}'
-asks 'a move into itself' "json '409 Conflict' '{\"at\":\"/a/b\",\"why\":\"loop\"}'" POST /move/a root '{"to":"/a/b"}'
-asks 'a move of the root' "json '409 Conflict' '{\"at\":\"/\",\"why\":\"root\"}'" POST /move/ root '{"to":"/z"}'
-asks 'a folder that is not empty' "json '409 Conflict' '{\"at\":\"/a\",\"why\":\"not-empty\"}'" DELETE /object/a root
+asks 'a move into itself' "json '409 Conflict' '{\"at\":\"/a/b\",\"why\":\"loop\"}'" \
+  POST /move/a root '{"to":"/a/b"}'
+asks 'a move of the root' "json '409 Conflict' '{\"at\":\"/\",\"why\":\"root\"}'" \
+  POST /move/ root '{"to":"/z"}'
+asks 'a folder that is not empty' "json '409 Conflict' '{\"at\":\"/a\",\"why\":\"not-empty\"}'" \
+  DELETE /object/a root
 asks 'bob may not remove' "denied /a x null null" DELETE /object/a/x bob
-asks 'a document has no folder in it' "json '409 Conflict' '{\"at\":\"/f\",\"why\":\"not-folder\"}'" GET /doc/f/q root
+asks 'a document has no folder in it' \
+  "json '409 Conflict' '{\"at\":\"/f\",\"why\":\"not-folder\"}'" GET /doc/f/q root
 asks 'no route' "json '404 Not Found' '{\"why\":\"no-route\"}'" GET /nope -
 asks 'no such method' "no_method 'DELETE, GET, POST, PUT'" PATCH /doc/f root
 asks 'not for this word' "no_method 'GET, POST, PUT'" DELETE /doc/f root
-asks 'two users' "json '400 Bad Request' '{\"why\":\"bad-user\"}'" GET /doc/f root '' 'Room-User: root'
+asks 'two users' "json '400 Bad Request' '{\"why\":\"bad-user\"}'" \
+  GET /doc/f root '' 'Room-User: root'
 asks 'no name' "json '400 Bad Request' '{\"why\":\"bad-user\"}'" GET /doc/f 'bad name'
 asks 'dots' "json '400 Bad Request' '{\"why\":\"bad-target P1\"}'" GET /folder/%2e%2e root
 asks 'a name in UTF-8' made PUT /doc/%C3%A9 root x
 asks 'a listing of bytes' "json '200 OK' '[{\"kind\":\"folder\",\"name\":\"a\"},{\"kind\":\"document\",\"name\":\"f\"},{\"kind\":\"document\",\"name\":\"é\"}]'" GET /folder/ root
-asks 'chunks' "json '501 Not Implemented' '{\"why\":\"transfer-coding\"}'" GET /doc/f root '' 'Transfer-Encoding: chunked'
-asks 'two lengths' "json '400 Bad Request' '{\"why\":\"bad-length\"}'" GET /doc/f root '' 'Content-Length: 5, 5'
-asks 'a length over the limit' "json '413 Payload Too Large' '{\"why\":\"too-large\"}'" PUT /doc/f root '' 'Content-Length: 1048577'
-asks 'many fields' "json '431 Request Header Fields Too Large' '{\"why\":\"too-many-fields\"}'" GET /doc/f root '' $(printf 'X:%d ' {1..64})
+asks 'chunks' "json '501 Not Implemented' '{\"why\":\"transfer-coding\"}'" \
+  GET /doc/f root '' 'Transfer-Encoding: chunked'
+asks 'two lengths' "json '400 Bad Request' '{\"why\":\"bad-length\"}'" \
+  GET /doc/f root '' 'Content-Length: 5, 5'
+asks 'a length over the limit' "json '413 Payload Too Large' '{\"why\":\"too-large\"}'" \
+  PUT /doc/f root '' 'Content-Length: 1048577'
+asks 'many fields' "json '431 Request Header Fields Too Large' '{\"why\":\"too-many-fields\"}'" \
+  GET /doc/f root '' $(printf 'X:%d ' {1..64})
 asks 'removed' done_reply DELETE /object/%C3%A9 root
 asks 'gone' "json '404 Not Found' '{\"at\":\"/é\",\"why\":\"no-such\"}'" GET /doc/%C3%A9 root
 
@@ -98,7 +121,8 @@ server_ends 'the server ends after all of them' 0 ''
 # A socket in the file system, in the place of a port. The path of one has at most 107 bytes.
 at_socket() { # NAME PATH WANTED ARGUMENT ..
   local got
-  got=$(curl -s --max-time "$patience" --unix-socket "$2" -H 'Room-User: root' -w ' %{http_code}' "${@:4}" 2>&1)
+  got=$(curl -s --max-time "$patience" --unix-socket "$2" -H 'Room-User: root' \
+    -w ' %{http_code}' "${@:4}" 2>&1)
   holds "$1: $got" [ "$got" = "$3" ]
 }
 long=$(printf 'x%.0s' {1..107})
@@ -106,9 +130,11 @@ if has curl; then
   for path in s './s t' "$long"; do
     start_at_socket F "$path" 3 || continue
     holds "a socket is made at $path" [ -S "$path" ]
-    at_socket 'a change through a socket' "$path" ' 204' -X PUT -H Expect: --data-binary socket http://room/doc/f
+    at_socket 'a change through a socket' "$path" ' 204' -X PUT -H Expect: \
+      --data-binary socket http://room/doc/f
     at_socket 'a document through a socket' "$path" 'socket 200' http://room/doc/f
-    at_socket 'two messages on a connection of a socket' "$path" 'socket 200socket 200' http://room/doc/f http://room/doc/f
+    at_socket 'two messages on a connection of a socket' "$path" 'socket 200socket 200' \
+      http://room/doc/f http://room/doc/f
     server_ends "the server ends at $path" 0 ''
     holds "its socket is gone from $path" is_missing "$path"
   done
@@ -155,7 +181,8 @@ elif has setpriv; then
   cp F theirs/F
   chown -R 65534:65534 theirs
   chmod a+x "$work" . 2>/dev/null
-  setpriv --reuid=65534 --regid=65534 --clear-groups "$rooms" serve theirs/F --socket closed/s </dev/null >"$work/out" 2>"$work/err"
+  setpriv --reuid=65534 --regid=65534 --clear-groups "$rooms" serve theirs/F --socket closed/s \
+    </dev/null >"$work/out" 2>"$work/err"
   status=$?
   wants 'a folder that is not ours' 3 '' 'fault: net\n'
   holds 'nothing is made there' is_missing closed/s

@@ -10,8 +10,10 @@ exec 3<>"/dev/tcp/127.0.0.1/$port"
 exec 3>&-
 # 2: cut in mid-head. 3: cut in mid-body: the message is never acted on.
 printf 'PUT /doc/cut HTT' >"/dev/tcp/127.0.0.1/$port"
-printf 'PUT /doc/cut HTTP/1.1\r\nRoom-User: root\r\nContent-Length: 5\r\n\r\nhel' >"/dev/tcp/127.0.0.1/$port"
-asks 'what was cut is not there' "json '404 Not Found' '{\"at\":\"/cut\",\"why\":\"no-such\"}'" GET /doc/cut root # 4
+printf 'PUT /doc/cut HTTP/1.1\r\nRoom-User: root\r\nContent-Length: 5\r\n\r\nhel' \
+  >"/dev/tcp/127.0.0.1/$port"
+asks 'what was cut is not there' "json '404 Not Found' '{\"at\":\"/cut\",\"why\":\"no-such\"}'" \
+  GET /doc/cut root # 4
 
 # 5: one byte at a time.
 exec 3<>"/dev/tcp/127.0.0.1/$port"
@@ -25,23 +27,39 @@ same 'a byte at a time' "$work/reply" "$work/want.reply"
 
 # 6: the greatest body. 7: it is read. 8: no byte can be added to it.
 head -c 1048576 /dev/urandom >big
-{ printf 'PUT /doc/big HTTP/1.1\r\nRoom-User: root\r\nConnection: close\r\nContent-Length: 1048576\r\n\r\n'; cat big; } >"$work/sent"
+{
+  printf 'PUT /doc/big HTTP/1.1\r\nRoom-User: root\r\nConnection: close\r\n'
+  printf 'Content-Length: 1048576\r\n\r\n'
+  cat big
+} >"$work/sent"
 exchange
 made >"$work/want.reply"
 same largest-body "$work/reply" "$work/want.reply"
 last_message GET /doc/big root >"$work/sent"
 exchange
-{ printf 'HTTP/1.1 200 OK\r\nContent-Type: application/octet-stream\r\nContent-Length: 1048576\r\nConnection: close\r\n\r\n'; cat big; } >"$work/want.reply"
+{
+  printf 'HTTP/1.1 200 OK\r\nContent-Type: application/octet-stream\r\n'
+  printf 'Content-Length: 1048576\r\nConnection: close\r\n\r\n'
+  cat big
+} >"$work/want.reply"
 same 'it is read' "$work/reply" "$work/want.reply"
-asks 'nothing fits behind it' "json '413 Payload Too Large' '{\"at\":\"/big\",\"why\":\"too-large\"}'" POST /doc/big root x
-asks 'and it is still there' "json '200 OK' '{\"group\":\"staff\",\"kind\":\"document\",\"owner\":\"root\"}'" GET /attr/big root # 9
+asks 'nothing fits behind it' \
+  "json '413 Payload Too Large' '{\"at\":\"/big\",\"why\":\"too-large\"}'" POST /doc/big root x
+asks 'and it is still there' \
+  "json '200 OK' '{\"group\":\"staff\",\"kind\":\"document\",\"owner\":\"root\"}'" \
+  GET /attr/big root # 9
 server_ends 'nothing is told of callers who break off in order' 0 ''
 gives 'sound' 0 'sound\n' '' verify F
 
-# A caller who has sent more than is served, and reads slowly, gets the whole of the last reply: what it sent behind that is read
-# before its connection is closed. It is more than the server reads at once.
+# A caller who has sent more than is served, and reads slowly, gets the whole of the last reply:
+# what it sent behind that is read before its connection is closed. It is more than the server reads
+# at once.
 if start_server F 2; then
-  { printf 'HTTP/1.1 200 OK\r\nContent-Type: application/octet-stream\r\nContent-Length: 1048576\r\nConnection: close\r\n\r\n'; cat big; } >"$work/want.reply"
+  {
+    printf 'HTTP/1.1 200 OK\r\nContent-Type: application/octet-stream\r\n'
+    printf 'Content-Length: 1048576\r\nConnection: close\r\n\r\n'
+    cat big
+  } >"$work/want.reply"
   for turn in 1 2; do
     { last_message GET /doc/big root; head -c 100000 /dev/zero | tr '\0' x; } >"$work/sent"
     exec 3<>"/dev/tcp/127.0.0.1/$port"

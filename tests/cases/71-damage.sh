@@ -1,7 +1,10 @@
-# Rooms whose stored rows are damaged: what is granted, shown, changed and left in them, request by request.
+# Rooms whose stored rows are damaged: what is granted, shown, changed and left in them, request by
+# request.
 
 if [ "$loopback" = no ] || ! has python3 || ! has_sqlite ||
-  ! python3 -c 'import sqlite3; sqlite3.connect(":memory:").execute("CREATE TABLE t (a INTEGER) STRICT")' 2>/dev/null; then
+  ! python3 \
+    -c 'import sqlite3; sqlite3.connect(":memory:").execute("CREATE TABLE t (a INTEGER) STRICT")' \
+    2>/dev/null; then
   skip 'damaged rows' 'no loopback, python3, or sqlite3, or one that is too old'
   return
 fi
@@ -18,7 +21,8 @@ else
   fail 'damaged rows' "they aren't played to the end: $(tail -n 3 said errors)"
 fi
 
-# A parent that is not there at all breaks what the tables themselves demand, and such a file isn't served.
+# A parent that is not there at all breaks what the tables themselves demand, and such a file isn't
+# served.
 new_room F
 sqlite3 F "PRAGMA foreign_keys=off; UPDATE nodes SET parent = 999"
 gives 'a file that is not served' 3 '' 'fault: database\n' serve F --port "$port"

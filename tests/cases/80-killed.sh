@@ -1,4 +1,5 @@
-# A server that is killed at any moment: what was answered is on the disk, and the file opens and is sound.
+# A server that is killed at any moment: what was answered is on the disk, and the file opens and is
+# sound.
 
 # Puts documents n1, n2 .. on one connection, and counts in `answered` those that were answered.
 put_until_cut() {
@@ -54,7 +55,8 @@ for ((round = 1; round <= rounds; round++)); do
   fi
   # The last answered one is read back; then all of them go.
   if [ "$count" -gt 0 ] && start_server F 1; then
-    asks "killed $round: read back" "reply '200 OK' application/octet-stream $count" GET "/doc/n$count" root
+    asks "killed $round: read back" "reply '200 OK' application/octet-stream $count" \
+      GET "/doc/n$count" root
     server_ends "killed $round: ends" 0 ''
   fi
   new_room F

@@ -1,4 +1,5 @@
-# Each call on the disk in turn: the program is killed right after it, or the call fails. strace does both.
+# Each call on the disk in turn: the program is killed right after it, or the call fails. strace
+# does both.
 
 calls=pwrite64,fdatasync,fsync,ftruncate
 at_call() { # NUMBER HOW COMMAND ..: the status is that of the program, or 137
@@ -8,7 +9,9 @@ at_call() { # NUMBER HOW COMMAND ..: the status is that of the program, or 137
     "$rooms" "$@" <"$input" >"$work/out" 2>"$work/err"; } 2>/dev/null
   status=$?
 }
-if ! has strace || ! strace -f -qq -o /dev/null -e trace=$calls -e inject=$calls:error=EIO:when=1 true 2>/dev/null; then
+if ! has strace ||
+  ! strace -f -qq -o /dev/null -e trace=$calls -e inject=$calls:error=EIO:when=1 true 2>/dev/null
+then
   skip 'each call on the disk' 'strace is missing or not allowed'
   return
 fi
@@ -31,8 +34,13 @@ for how in signal=KILL error=EIO error=ENOSPC; do
       *) wants "$name" 3 '' 'fault: database\n' ;;
     esac
     run groups-out F
-    # What was answered is there; else it is there whole, or not at all. A disk that fails in the commit may leave either.
-    if [ -s answered ]; then wants_file "$name: there" 0 second.csv; else one_of "$name" first.csv second.csv; fi
+    # What was answered is there; else it is there whole, or not at all. A disk that fails in the
+    # commit may leave either.
+    if [ -s answered ]; then
+      wants_file "$name: there" 0 second.csv
+    else
+      one_of "$name" first.csv second.csv
+    fi
     gives "$name: sound" 0 'sound\n' '' verify F
     [ "$ended" = 0 ] && break
   done
@@ -90,7 +98,11 @@ before_or_after() { # NAME TOLD FROM OLD NEW COMMAND ..: OLD and NEW are texts o
         *) wants "$name" 3 '' 'fault: database\n' ;;
       esac
       look
-      if [ "$answered" = yes ]; then wants_file "$name: there" 0 "$new"; else one_of "$name" "$old" "$new"; fi
+      if [ "$answered" = yes ]; then
+        wants_file "$name: there" 0 "$new"
+      else
+        one_of "$name" "$old" "$new"
+      fi
       [ "$ended" = 0 ] && break
     done
     holds "$what, $how: the calls came to an end" [ "$ended" = 0 ]
@@ -127,7 +139,8 @@ serve_once() { # NUMBER HOW: the reply to a document that is put, and the server
     port=$((port + 1))
     : >"$work/server.out"
     { strace -f -qq -o /dev/null -e "trace=$calls" -e "inject=$calls:$how:when=$number" \
-      "$rooms" serve F --port "$port" </dev/null >"$work/server.out" 2>"$work/server.err"; } 2>/dev/null &
+      "$rooms" serve F --port "$port" \
+      </dev/null >"$work/server.out" 2>"$work/server.err"; } 2>/dev/null &
     server=$!
     : >"$work/reply"
     if await_line; then
@@ -186,7 +199,8 @@ if [ "$loopback" = yes ]; then
       answered=()
       : >"$work/server.out"
       { strace -f -qq -o /dev/null -e "trace=$syncs" -e "inject=$syncs:$how:when=$number" \
-        "$rooms" serve F --port "$port" --count 4 </dev/null >"$work/server.out" 2>"$work/server.err"; } 2>/dev/null &
+        "$rooms" serve F --port "$port" --count 4 \
+        </dev/null >"$work/server.out" 2>"$work/server.err"; } 2>/dev/null &
       server=$!
       if await_line; then
         for document in a b c d; do
@@ -220,7 +234,8 @@ if [ "$loopback" = yes ]; then
       gives "$name: sound" 0 'sound\n' '' verify F
       if start_server F $((${#answered[@]} + 1)); then
         for document in "${answered[@]}"; do
-          asks "$name: $document is there" "reply '200 OK' application/octet-stream hello" GET "/doc/$document" root
+          asks "$name: $document is there" "reply '200 OK' application/octet-stream hello" \
+            GET "/doc/$document" root
         done
         asks "$name: it is served again" "json '200 OK' '{}'" GET '/can/?' root
         server_ends "$name: it ends" 0 ''

@@ -1,18 +1,20 @@
-# A disk that is full while a room is served: documents are read, no change is made and none is lost, and each way out of
-# messages.md leads out.
+# A disk that is full while a room is served: documents are read, no change is made and none is
+# lost, and each way out of messages.md leads out.
 
 if [ "$loopback" = no ] || ! has curl; then
   skip 'a full disk under a server' 'no loopback, or no curl'
   return
 fi
-if [ "$(id -u)" != 0 ] || ! mkdir small || ! mount -t tmpfs -o size=16m rooms-small small 2>said; then
+if [ "$(id -u)" != 0 ] || ! mkdir small ||
+  ! mount -t tmpfs -o size=16m rooms-small small 2>said; then
   skip 'a full disk under a server' 'no root, or no mount'
   return
 fi
 
 asked() { # NAME STATUS METHOD PATH [FILE]
   local got
-  got=$(curl -s -o reply -m "$patience" -X "$3" -H 'Room-User: root' ${5+--data-binary "@$5"} -w '%{http_code}' "http://127.0.0.1:$port$4")
+  got=$(curl -s -o reply -m "$patience" -X "$3" -H 'Room-User: root' ${5+--data-binary "@$5"} \
+    -w '%{http_code}' "http://127.0.0.1:$port$4")
   holds "$1: $got" [ "$got" = "$2" ]
 }
 # Nothing else fits on the disk.
@@ -21,8 +23,10 @@ room_left() { df -P -k small | awk 'NR == 2 { print $4 }'; }
 # The block of the page, without what stops and starts the server.
 verified() {
   local block
-  block=$(awk '/^```/ { inside = !inside; next } inside && /rooms verify/' "$here/../docs/messages.md")
-  holds 'the page has the block' [ "$block" = 'runuser -u rooms -- rooms verify /var/lib/rooms/office.rooms' ]
+  block=$(awk '/^```/ { inside = !inside; next } inside && /rooms verify/' \
+    "$here/../docs/messages.md")
+  holds 'the page has the block' \
+    [ "$block" = 'runuser -u rooms -- rooms verify /var/lib/rooms/office.rooms' ]
   gives 'it is sound' 0 'sound\n' '' verify small/F
 }
 
@@ -36,8 +40,9 @@ fill
 holds 'the disk is full' [ "$(room_left)" = 0 ]
 # What fits into the pages of the log that are used again may be done; at last nothing does.
 tries=0
-until [ "$tries" = 40 ] || [ "$(curl -s -o /dev/null -m "$patience" -X PUT -H 'Room-User: root' --data-binary @document \
-  -w '%{http_code}' "http://127.0.0.1:$port/doc/more.$tries")" = 500 ]; do
+until [ "$tries" = 40 ] ||
+  [ "$(curl -s -o /dev/null -m "$patience" -X PUT -H 'Room-User: root' --data-binary @document \
+    -w '%{http_code}' "http://127.0.0.1:$port/doc/more.$tries")" = 500 ]; do
   tries=$((tries + 1))
 done
 asked 'a document that has no place' 500 PUT /doc/more document

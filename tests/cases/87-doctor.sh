@@ -1,5 +1,5 @@
-# rooms-admin doctor: each cause for which a room can't be opened is made, the program fails by it, the script names it, and what
-# the script says mends it.
+# rooms-admin doctor: each cause for which a room can't be opened is made, the program fails by it,
+# the script names it, and what the script says mends it.
 
 contrib=$here/../contrib
 if ! has findmnt || ! has setpriv || [ ! -x /usr/bin/python3 ]; then
@@ -14,14 +14,21 @@ program=$rooms
 other=no
 if [ "$(id -u)" = 0 ]; then
   chmod 755 "$work" .
-  if setpriv --reuid=65534 --regid=65534 --clear-groups "$rooms" --version </dev/null >/dev/null 2>&1; [ $? = 2 ]; then
+  if setpriv --reuid=65534 --regid=65534 --clear-groups "$rooms" --version \
+    </dev/null >/dev/null 2>&1; [ $? = 2 ]; then
     other=yes
     user=$(getent passwd 65534 | cut -d : -f 1)
     chown 65534:65534 var
   fi
 fi
 chmod 700 var
-as_user() { if [ "$other" = yes ]; then setpriv --reuid=65534 --regid=65534 --clear-groups -- "$@"; else "$@"; fi; }
+as_user() {
+  if [ "$other" = yes ]; then
+    setpriv --reuid=65534 --regid=65534 --clear-groups -- "$@"
+  else
+    "$@"
+  fi
+}
 file=$PWD/var/F
 new_file() {
   chmod -R u+rwX var
@@ -30,8 +37,8 @@ new_file() {
   as_user "$rooms" init "$file" root staff >/dev/null
 }
 doctor() { # FILE
-  ROOMS_SETTINGS=$PWD/settings ROOMS_RUN=$PWD/run PATH=$PWD/bin:$PATH "$contrib/rooms-admin" doctor --user "$user" --program "$program" "$1" \
-    </dev/null >"$work/out" 2>"$work/err"
+  ROOMS_SETTINGS=$PWD/settings ROOMS_RUN=$PWD/run PATH=$PWD/bin:$PATH "$contrib/rooms-admin" \
+    doctor --user "$user" --program "$program" "$1" </dev/null >"$work/out" 2>"$work/err"
   status=$?
 }
 fails() { # NAME FAULT [FILE]: the program does, as the room's user
@@ -67,7 +74,8 @@ told 'no user' 2 'there is no user nobody-here'
 ln -s "$contrib/rooms-admin" rooms-doctor
 ./rooms-doctor --program "$rooms" --user nobody-here F >"$work/out" 2>"$work/err"
 status=$?
-told 'the old name' 2 'rooms-doctor: its name is now rooms-admin doctor' 'there is no user nobody-here'
+told 'the old name' 2 'rooms-doctor: its name is now rooms-admin doctor' \
+  'there is no user nobody-here'
 
 new_file
 state() { ls -l --time-style=full-iso var && cksum var/*; }
@@ -161,7 +169,8 @@ if has_sqlite; then
   rm var/F
   sqlite3 var/F 'CREATE TABLE t (a INTEGER);'
   [ "$other" = no ] || chown 65534:65534 var/F
-  finds 'another database' 'refused: not a rooms file' 'not a room' "$file is a database of another program"
+  finds 'another database' 'refused: not a rooms file' 'not a room' \
+    "$file is a database of another program"
 fi
 
 # Damaged, with the file's beginning as it was.
@@ -172,17 +181,20 @@ doctor "$file"
 told 'a damaged file' 1 'damaged: verify gives status' 'rooms-admin restore'
 new_file
 if has_sqlite; then
-  sqlite3 var/F "INSERT INTO audits (at, user, path, bits, granted, entry) VALUES (1, 'bob', 'no path', 1, 1, 1)"
+  sqlite3 var/F "INSERT INTO audits (at, user, path, bits, granted, entry)
+    VALUES (1, 'bob', 'no path', 1, 1, 1)"
   [ "$other" = no ] || chown 65534:65534 var/F*
   doctor "$file"
-  told 'a record that cannot be read' 1 "damaged: the room is sound, but a record can't be read: fault: database" 'records.csv'
+  told 'a record that cannot be read' 1 \
+    "damaged: the room is sound, but a record can't be read: fault: database" 'records.csv'
   new_file
 fi
 well 'a new one'
 
 # A server has it, and two rooms want it.
 if [ "$other" = yes ]; then
-  printf '#!/bin/sh\nexec setpriv --reuid=65534 --regid=65534 --clear-groups -- "%s" "$@"\n' "$program" >bin/rooms
+  printf '#!/bin/sh\nexec setpriv --reuid=65534 --regid=65534 --clear-groups -- "%s" "$@"\n' \
+    "$program" >bin/rooms
   chmod 755 bin/rooms
   rooms=$PWD/bin/rooms
 fi
@@ -198,7 +210,8 @@ serve_one() { # COUNT
   sed -i "s/^PORT=.*/PORT=$port/" settings/one.conf
   # The process of the room's user.
   served=$server
-  printf '#!/bin/sh\ncase "$*" in *MainPID*) echo %s ;; *ReadWritePaths*) echo %s ;; esac\n' "$served" "$PWD/var" >bin/systemctl
+  printf '#!/bin/sh\ncase "$*" in *MainPID*) echo %s ;; *ReadWritePaths*) echo %s ;; esac\n' \
+    "$served" "$PWD/var" >bin/systemctl
   chmod 755 bin/systemctl
 }
 if serve_one 100; then
@@ -218,7 +231,8 @@ if serve_one 100; then
     printf 'FILE=%s\nPORT=%s\nSOCKET=yes\n' "$file" "$port" >settings/one.conf
     sed -i "s/echo $served/echo $server/" bin/systemctl
     doctor "$file"
-    told 'a room that its unit serves at a socket' 0 "nothing is wrong: rooms@one serves $file, and answers"
+    told 'a room that its unit serves at a socket' 0 \
+      "nothing is wrong: rooms@one serves $file, and answers"
     stop_server
   fi
   rm -r run/rooms
@@ -235,11 +249,13 @@ rm settings/two.conf
 well 'one room, in a folder that its unit may write'
 echo '#!/bin/sh' >bin/systemctl
 doctor "$file"
-told 'a folder that its unit may not write' 1 "read-only: the unit rooms@one may not write there" "ReadWritePaths=$PWD/var"
+told 'a folder that its unit may not write' 1 "read-only: the unit rooms@one may not write there" \
+  "ReadWritePaths=$PWD/var"
 rm settings/one.conf bin/systemctl
 
 # Disks.
-if [ "$(id -u)" = 0 ] && mkdir small && mount -t tmpfs -o size=6m,mode=755 rooms-small small 2>said; then
+if [ "$(id -u)" = 0 ] && mkdir small &&
+  mount -t tmpfs -o size=6m,mode=755 rooms-small small 2>said; then
   cp var/F small/F
   [ "$other" = no ] || chown -R 65534:65534 small
   file=$PWD/small/F

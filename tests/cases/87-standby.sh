@@ -26,7 +26,8 @@ answers() { # NAME
 }
 has_document() { # FOLDER NAME
   rm -f look look-wal
-  cp "$1/F" look && { [ ! -e "$1/F-wal" ] || cp "$1/F-wal" look-wal; } && "$rooms" dump look >dumped 2>&1 && grep -q "^document root staff [0-9]* /$2\$" dumped
+  cp "$1/F" look && { [ ! -e "$1/F-wal" ] || cp "$1/F-wal" look-wal; } &&
+    "$rooms" dump look >dumped 2>&1 && grep -q "^document root staff [0-9]* /$2\$" dumped
 }
 put() { # NAME
   read -r port <"$stand/port"
@@ -44,13 +45,15 @@ write() { # NUMBER: documents of up to 64 kB; every third one is removed again
     [ ! -e enough ] || return 0
     name=w$1-$n
     head -c $((RANDOM * 2)) /dev/urandom >"body.$1"
-    got=$(curl -q -s -m "$patience" -o "said.$1" -w '%{http_code}' -X PUT -H 'Room-User: root' -H Expect: \
+    got=$(curl -q -s -m "$patience" -o "said.$1" -w '%{http_code}' -X PUT -H 'Room-User: root' \
+      -H Expect: \
       --data-binary "@body.$1" "$url/doc/$name")
     if [ "$got" = 201 ]; then echo "$name" >>answered; else echo "$got" >>other; fi
     ((n % 3 == 0)) || continue
     name=w$1-$((n - 2))
     echo "$name" >>going
-    got=$(curl -q -s -m "$patience" -o "said.$1" -w '%{http_code}' -X DELETE -H 'Room-User: root' "$url/object/$name")
+    got=$(curl -q -s -m "$patience" -o "said.$1" -w '%{http_code}' -X DELETE \
+      -H 'Room-User: root' "$url/object/$name")
     [ "$got" = 204 ] || echo "$got" >>other
   done
 }
@@ -107,7 +110,9 @@ holds 'nothing is owed' [ -z "$(ls run)" ]
 # The files are read by setpriv, where the room belongs to another user.
 reader=cat
 [ "$STAND_USER" = "$(id -u)" ] || reader=setpriv
-played() { printf 'PATH="%s:$PATH" KILL_AT=0 "%s" %s rooms\n' "$stand/bin" "$stand/bin/systemctl" "$1"; }
+played() {
+  printf 'PATH="%s:$PATH" KILL_AT=0 "%s" %s rooms\n' "$stand/bin" "$stand/bin/systemctl" "$1"
+}
 hooks() { # WORD ..: what somebody does with the unit while the first file is copied
   local word
   for word in "$@"; do played "$word"; done >"$stand/at-$reader"
@@ -130,7 +135,8 @@ hooks stop
 verb backup "$PWD/conf"
 says 'a server that is stopped at night' 0 'so the room is copied again'
 unit_rests 'stays stopped'
-holds 'the backup has what was answered' has_document "backups/$(cd backups && echo 20*)" before-the-stop
+holds 'the backup has what was answered' \
+  has_document "backups/$(cd backups && echo 20*)" before-the-stop
 rm -rf backups/20*
 stands
 says 'a server that does not run' 0 "isn't running: the last copy stays"
@@ -243,14 +249,16 @@ if has rsync; then
   says 'it is restored' 0 "restored $PWD/office/F"
   unit start
   read -r port <"$stand/port"
-  asks 'with the last document' "reply '200 OK' application/octet-stream hello" GET /doc/to-be-sent-too root
+  asks 'with the last document' "reply '200 OK' application/octet-stream hello" \
+    GET /doc/to-be-sent-too root
   cp kept conf
   . "$here/elsewhere.sh"
 else
   skip 'a standby copy elsewhere' 'no rsync'
 fi
 
-# An interruption at each call. A kill may leave the server held, which --after and the next run undo.
+# An interruption at each call. A kill may leave the server held, which --after and the next run
+# undo.
 for how in TERM KILL; do
   for number in {1..60}; do
     rm -f "$stand/hit"

@@ -1,5 +1,5 @@
-# rooms-admin check: one line and a status for monitoring, for a room that is well and for each thing that isn't; and the nightly
-# run, which fails where the site's certificate has expired.
+# rooms-admin check: one line and a status for monitoring, for a room that is well and for each
+# thing that isn't; and the nightly run, which fails where the site's certificate has expired.
 
 if [ "$loopback" = no ] || [ ! -x /usr/bin/python3 ] || ! has openssl; then
   skip 'what a check finds' 'no loopback, or python3 or openssl is missing'
@@ -40,7 +40,8 @@ ROOMS_FRONT=127.0.0.1:$(<front.port)
 export ROOMS_FRONT
 
 # What systemd says beside the server, and a mail program or none.
-mkdir -p root/etc/nginx/{sites-enabled,sites-available} root/etc/systemd/system/timers.target.wants root/var/lib/systemd/timers
+mkdir -p root/etc/nginx/{sites-enabled,sites-available} \
+  root/etc/systemd/system/timers.target.wants root/var/lib/systemd/timers
 : >failed
 echo active >timer
 mv stand/bin/systemctl stand/bin/own
@@ -56,8 +57,10 @@ esac
 END
 chmod 755 stand/bin/systemctl
 settings() { # LINE ..: those of office, and more
-  printf '%s\n' "FILE=$PWD/office/F" "PORT=$(<"$stand/port")" "BACKUPS=$PWD/backups" UNIT=rooms@office "PROGRAM=$rooms" "$@" >root/etc/rooms/office.conf
-  echo "upstream room_office { server 127.0.0.1:$(<"$stand/port"); }" >root/etc/nginx/sites-available/rooms
+  printf '%s\n' "FILE=$PWD/office/F" "PORT=$(<"$stand/port")" "BACKUPS=$PWD/backups" \
+    UNIT=rooms@office "PROGRAM=$rooms" "$@" >root/etc/rooms/office.conf
+  echo "upstream room_office { server 127.0.0.1:$(<"$stand/port"); }" \
+    >root/etc/nginx/sites-available/rooms
 }
 settings
 ln -s ../sites-available/rooms root/etc/nginx/sites-enabled/rooms
@@ -71,22 +74,26 @@ backup() { # DATE: a good one of that time
 }
 backup '1 hour ago' >/dev/null
 checks() { # NAME STATUS TEXT ..
-  ROOMS_SETTINGS=$PWD/root/etc/rooms PATH=$stand/bin:$PATH timeout "$patience" "$contrib/rooms-admin" check ${words[@]+"${words[@]}"} \
-    >"$work/out" 2>"$work/err" </dev/null
+  ROOMS_SETTINGS=$PWD/root/etc/rooms PATH=$stand/bin:$PATH timeout "$patience" \
+    "$contrib/rooms-admin" check ${words[@]+"${words[@]}"} >"$work/out" 2>"$work/err" </dev/null
   status=$?
   told "$@"
   holds "$1: one line" [ "$(wc -l <"$work/out")" = 1 ]
   holds "$1: and no other: $(head -c 300 "$work/err")" [ ! -s "$work/err" ]
 }
 words=()
-checks 'a room that is well' 0 'rooms OK - office: answers, nginx answers, ' ' of 384 MB in use, last good backup 1 h ago'
+checks 'a room that is well' 0 'rooms OK - office: answers, nginx answers, ' \
+  ' of 384 MB in use, last good backup 1 h ago'
 holds 'nginx was asked for the room' grep -qx "127.0.0.1:$(<front.port) /can/?" front.asked
 words=(office)
 checks 'by its name' 0 'rooms OK - office: '
 words=("$PWD/root/etc/rooms/office.conf")
 checks 'by its settings' 0 'rooms OK - office: '
 words=()
-tree() { find office backups root -exec ls -ld --time-style=full-iso {} + | grep -v -e front -e 'office$' && cksum office/F backups/*/F; }
+tree() {
+  find office backups root -exec ls -ld --time-style=full-iso {} + |
+    grep -v -e front -e 'office$' && cksum office/F backups/*/F
+}
 tree >before
 checks 'once more' 0 'rooms OK'
 tree >after
@@ -112,7 +119,8 @@ echo "$PWD/run/rooms/office/socket" >"$stand/socket"
 unit stop
 unit start
 settings SOCKET=yes
-echo 'upstream room_office { server unix:/run/rooms/office/socket; }' >root/etc/nginx/sites-available/rooms
+echo 'upstream room_office { server unix:/run/rooms/office/socket; }' \
+  >root/etc/nginx/sites-available/rooms
 checks 'a socket' 0 'rooms OK - office: answers, nginx answers, '
 unit stop
 rm -r "$stand/socket" run/rooms
@@ -122,7 +130,8 @@ settings
 # Backups.
 rm -r backups/*
 future=$(backup '3 hours')
-checks 'a clock that was set back' 1 "the backup $future is dated in the future: was the clock set back?"
+checks 'a clock that was set back' 1 \
+  "the backup $future is dated in the future: was the clock set back?"
 backup '2 hours ago' >/dev/null
 checks 'a later one beside it' 1 'rooms WARNING - ' "the backup $future is dated in the future"
 rm -r backups/*
@@ -146,7 +155,8 @@ checks 'no limit' 0 ' MB in use'
 settings LIMIT=1
 head -c 1048576 /dev/zero >big
 for name in one two; do
-  curl -s -o said -X PUT -H 'Room-User: root' -H Expect: --data-binary @big "http://127.0.0.1:$(<"$stand/port")/doc/$name"
+  curl -s -o said -X PUT -H 'Room-User: root' -H Expect: \
+    --data-binary @big "http://127.0.0.1:$(<"$stand/port")/doc/$name"
 done
 checks 'a room that is full' 2 ' of 1 MB in use'
 settings LIMIT=3
@@ -182,7 +192,8 @@ checks 'groups of another night' 1 'groups 30 h ago'
 rm "root/etc/systemd/system/timers.target.wants/$timer"
 
 # Settings that are refused are said of their room, and the other one is looked at.
-sed 's/^UNIT=.*/UNIT=rooms@other/; s/^PORT=.*/PORT=much/' root/etc/rooms/office.conf >root/etc/rooms/other.conf
+sed 's/^UNIT=.*/UNIT=rooms@other/; s/^PORT=.*/PORT=much/' root/etc/rooms/office.conf \
+  >root/etc/rooms/other.conf
 checks 'settings with a mistake' 2 "bad settings: PORT in $PWD/root/etc/rooms/other.conf"
 words=(office)
 checks 'the room beside it' 0 'rooms OK - office'
@@ -192,7 +203,8 @@ rm root/etc/rooms/other.conf
 # The certificate.
 mkdir -p root/etc/ssl/private
 certificate() { # DAYS
-  openssl req -x509 -newkey ec -pkeyopt ec_paramgen_curve:P-256 -noenc -subj /CN=rooms.example -keyout c.key -out c.csr 2>/dev/null
+  openssl req -x509 -newkey ec -pkeyopt ec_paramgen_curve:P-256 -noenc -subj /CN=rooms.example \
+    -keyout c.key -out c.csr 2>/dev/null
   openssl x509 -in c.csr -signkey c.key -days "$1" -out root/etc/ssl/rooms.pem 2>/dev/null
   cp c.key root/etc/ssl/private/rooms.key
 }
@@ -200,7 +212,8 @@ printf '%s\n' CERTIFICATE=/etc/ssl/rooms.pem KEY=/etc/ssl/private/rooms.key >roo
 certificate 90
 checks 'a certificate' 0 'the certificate ends on '
 certificate 20
-checks 'one that ends soon' 1 'the certificate /etc/ssl/rooms.pem ends on ' 'docs/operating.md, Renewal'
+checks 'one that ends soon' 1 'the certificate /etc/ssl/rooms.pem ends on ' \
+  'docs/operating.md, Renewal'
 certificate -1
 checks 'one that has expired' 2 'the certificate /etc/ssl/rooms.pem has expired, on '
 echo none >root/etc/ssl/rooms.pem
@@ -212,16 +225,19 @@ if [ "$(id -u)" = 0 ]; then
   }
   settings MAIL=root
   certificate -1
-  nightly 'a nightly run with one that has expired' 1 'the certificate /etc/ssl/rooms.pem has expired, on '
+  nightly 'a nightly run with one that has expired' 1 \
+    'the certificate /etc/ssl/rooms.pem has expired, on '
   holds 'is told by mail' grep -q 'rooms.pem has expired' "$stand/messages"
   certificate 20
   nightly 'with one that ends soon' 0 'the certificate /etc/ssl/rooms.pem ends on '
   holds 'too' grep -q 'rooms.pem ends on' "$stand/messages"
-  # In a unit mail programs lack what they need: another unit is started, or will be, since this one fails.
+  # In a unit mail programs lack what they need: another unit is started, or will be, since this one
+  # fails.
   export ROOMS_UNIT=rooms-nightly@office.service
   : >told
   nightly 'in its unit, with one that ends soon' 0 'the certificate /etc/ssl/rooms.pem ends on '
-  holds 'the unit that mails is started' grep -qx 'start --no-block rooms-tell@rooms-nightly@office.service.service' told
+  holds 'the unit that mails is started' \
+    grep -qx 'start --no-block rooms-tell@rooms-nightly@office.service.service' told
   certificate -1
   : >told
   nightly 'in its unit, with one that has expired' 1 'has expired, on '
@@ -237,17 +253,21 @@ certificate 90
 # Who is told of a unit.
 tells() { # UNIT
   : >"$stand/messages"
-  ROOMS_SETTINGS=$PWD/root/etc/rooms PATH=$stand/bin:$PATH "$contrib/rooms-admin" tell "$@" >"$work/out" 2>"$work/err" </dev/null
+  ROOMS_SETTINGS=$PWD/root/etc/rooms PATH=$stand/bin:$PATH "$contrib/rooms-admin" tell "$@" \
+    >"$work/out" 2>"$work/err" </dev/null
   status=$?
 }
 settings MAIL=admin@office.example
 mkdir run/rooms-tell
-printf '#!/bin/sh\necho "2026-11-27 rooms[1]: a line"; echo "~! touch %s/hacked"\n' "$PWD" >stand/bin/journalctl
+printf '#!/bin/sh\necho "2026-11-27 rooms[1]: a line"; echo "~! touch %s/hacked"\n' "$PWD" \
+  >stand/bin/journalctl
 chmod 755 stand/bin/journalctl
 export MONITOR_SERVICE_RESULT=exit-code
 tells rooms-nightly@office.service
 told 'a unit that failed' 0
-holds 'its people are told' grep -q '^mail -s rooms-nightly@office.service on .* failed (exit-code) admin@office.example$' "$stand/messages"
+holds 'its people are told' \
+  grep -q '^mail -s rooms-nightly@office.service on .* failed (exit-code) admin@office.example$' \
+    "$stand/messages"
 holds 'with its log' grep -q 'a line$' "$stand/messages"
 holds 'in which no line is a command' [ "$(grep -c '^~' "$stand/messages")" = 0 ]
 tells rooms-nightly@office.service
@@ -258,7 +278,8 @@ tells rooms-nightly@office.service
 holds 'but hours later' [ -s "$stand/messages" ]
 echo LIMIT=much >>root/etc/rooms/office.conf
 tells rooms-full@office.service
-holds 'settings with a mistake have an address too' grep -q 'admin@office.example$' "$stand/messages"
+holds 'settings with a mistake have an address too' \
+  grep -q 'admin@office.example$' "$stand/messages"
 settings MAIL=
 tells rooms-standby@office.service
 holds 'where nobody wants it nobody is told' [ ! -s "$stand/messages" ]
@@ -273,10 +294,12 @@ settings
 
 # The server, and disks.
 unit stop
-checks 'a server that rests' 2 "office: rooms@office doesn't answer (inactive): systemctl status rooms@office"
+checks 'a server that rests' 2 \
+  "office: rooms@office doesn't answer (inactive): systemctl status rooms@office"
 unit start
 settings
-if [ "$(id -u)" = 0 ] && mkdir small && mount -t tmpfs -o size=40m,mode=755 rooms-small small 2>said; then
+if [ "$(id -u)" = 0 ] && mkdir small &&
+  mount -t tmpfs -o size=40m,mode=755 rooms-small small 2>said; then
   cp office/F small/F
   settings "FILE=$PWD/small/F" LIMIT=none
   checks 'a disk with space' 0 'rooms OK'

@@ -1,4 +1,5 @@
-# rooms-admin handover: all that belongs to one user goes to another, whatever its names, and nothing else does.
+# rooms-admin handover: all that belongs to one user goes to another, whatever its names, and
+# nothing else does.
 
 if [ "$loopback" = no ] || ! has curl; then
   skip 'what is handed over' 'no loopback, or no curl'
@@ -13,7 +14,8 @@ hands() { # ARGUMENT ..
 }
 asked() { # STATUS USER METHOD TARGET [BODY]
   local got
-  got=$(curl -s -o /dev/null -m "$patience" -X "$3" -H "Room-User: $2" --data-binary "${5-}" -w '%{http_code}' "$room$4")
+  got=$(curl -s -o /dev/null -m "$patience" -X "$3" -H "Room-User: $2" --data-binary "${5-}" \
+    -w '%{http_code}' "$room$4")
   holds "$3 $4 as $2: $got" [ "$got" = "$1" ]
 }
 dumped() { run dump F && cat "$work/out"; }
@@ -28,7 +30,8 @@ while IFS= read -r name; do printf x >"tree/$name"; done <names
 printf x >'tree/folder/ below '
 start_server F 100000 || return
 room=http://127.0.0.1:$port
-LC_ALL=C.UTF-8 "$contrib/rooms-admin" import --replace --as bob "$room" tree /bobs >said 2>&1 </dev/null
+LC_ALL=C.UTF-8 "$contrib/rooms-admin" import --replace --as bob "$room" tree /bobs \
+  >said 2>&1 </dev/null
 holds "documents of bob: $(tail -n 1 said)" grep -q 'left out 0' said
 asked 201 alice PUT /doc/dans x
 asked 204 alice PUT /attr/dans '{"owner":"dan","group":"sales"}'
@@ -70,7 +73,8 @@ start_server F 100000 || return
 room=http://127.0.0.1:$port
 count=$(grep -ac '^\(document\|folder\) bob ' lists)
 hands --dry-run --as alice "$room" lists bob alice
-told 'what would be done' 1 "would be given $((count - 3)), of others by now 1, left out 2" "would: /bobs/plan\\ "
+told 'what would be done' 1 "would be given $((count - 3)), of others by now 1, left out 2" \
+  "would: /bobs/plan\\ "
 holds 'each has a line' [ "$(grep -c '^would: ' "$work/out")" = $((count - 3)) ]
 stop_server
 dumped >after
@@ -81,7 +85,8 @@ room=http://127.0.0.1:$port
 hands --log log --as eve "$room" lists bob alice
 told 'a stranger' 1 'given 0, of others by now 0,' '403'
 hands --log log2 --as alice "$room" lists bob alice
-told 'all that is his' 1 "given $((count - 4)), of others by now 1, left out 3" '/own: not given: 403' "/secret: its owner isn't read: 403" \
+told 'all that is his' 1 "given $((count - 4)), of others by now 1, left out 3" \
+  '/own: not given: 403' "/secret: its owner isn't read: 403" \
   "/bobs/plan: its owner isn't read: 404"
 holds 'the log has the rest' [ "$(wc -l <log2)" = 3 ]
 hands --as alice "$room" lists bob alice
@@ -90,7 +95,8 @@ hands --as bob "$room" lists bob newcomer
 told 'what only he may give' 1 'given 2,' "newcomer owns nothing and is in no group, as lists says"
 stop_server
 dumped >after
-sed -e 's/^\(document\|folder\) bob /\1 alice /' -e '/^document alice [^ ]* 1 \/\(own\|secret\)$/s/ alice / newcomer /' before >wanted
+sed -e 's/^\(document\|folder\) bob /\1 alice /' \
+  -e '/^document alice [^ ]* 1 \/\(own\|secret\)$/s/ alice / newcomer /' before >wanted
 same 'owners alone have changed' after wanted
 
 # Names with a backslash, and a password that isn't sent in clear.

@@ -1,5 +1,5 @@
-# The verbs that ask a room or read a backup, cut off at each of their calls of the system: the room is
-# served, nothing of the run goes on, and the same command then completes, with the same outcome.
+# The verbs that ask a room or read a backup, cut off at each of their calls of the system: the room
+# is served, nothing of the run goes on, and the same command then completes, with the same outcome.
 
 if [ "$loopback" = no ] || [ ! -x /usr/bin/python3 ] || ! has setpriv; then
   skip 'verbs that are cut off' 'no loopback, or no python3 or setpriv'
@@ -42,7 +42,8 @@ afresh() {
 comes_out() { # NAME
   if [ "$status" = 2 ]; then
     told "$1: nothing is written over" 2 'there is something at out/tree'
-    holds "$1: and there is no more" [ -z "$(find out -mindepth 1 -maxdepth 1 ! -name tree ! -name tree.acl)" ]
+    holds "$1: and there is no more" \
+      [ -z "$(find out -mindepth 1 -maxdepth 1 ! -name tree ! -name tree.acl)" ]
     afresh
     admin "${words[@]}"
   fi
@@ -72,7 +73,9 @@ import_it() {
   at_each_call import 10
   admin export --no-lists --as root "$room" "/in/$how" got
   told 'what came in' 0 'left out 0'
-  for ((one = 1; one <= into; one++)); do same_tree "import, $how, $one: the same tree" "got/$one" "$above/source"; done
+  for ((one = 1; one <= into; one++)); do
+    same_tree "import, $how, $one: the same tree" "got/$one" "$above/source"
+  done
 }
 
 # To and fro: the lists say whose all was before.
@@ -91,7 +94,8 @@ hand_over() {
     read -r _ given _ _ _ _ others _ <<<"$(tr -d , <"$work/out")"
     holds "$1: all is given, $given and $others" [ "$((given + others))" = 2 ]
     for path in folder: document:/b; do
-      asks "$1: $path belongs to $taker" "json '200 OK' '{\"group\":\"staff\",\"kind\":\"${path%:*}\",\"owner\":\"$taker\"}'" \
+      asks "$1: $path belongs to $taker" \
+        "json '200 OK' '{\"group\":\"staff\",\"kind\":\"${path%:*}\",\"owner\":\"$taker\"}'" \
         GET "/attr/$how${path#*:}" root
     done
     swap=$giver giver=$taker taker=$swap

@@ -1,8 +1,10 @@
-# What the machine can refuse: a closed or full standard output, a full disk, rights, locks and ports; and a backup.
+# What the machine can refuse: a closed or full standard output, a full disk, rights, locks and
+# ports; and a backup.
 
 open_room F
 printf 'group,user\nsales,alice\n' >in.csv
-for command in 'dump F' 'get F /' 'review F /' 'audit F' 'groups-out F' 'verify F' 'migrate F' 'groups F in.csv'; do
+for command in 'dump F' 'get F /' 'review F /' 'audit F' 'groups-out F' 'verify F' 'migrate F' \
+  'groups F in.csv'; do
   "$rooms" $command </dev/null 2>"$work/err" >&-
   status=$?
   : >"$work/out"
@@ -32,7 +34,8 @@ if [ -c /dev/full ]; then
   input=/dev/null
   : >"$work/out"
   wants 'full standard output: reset' 3 '' 'fault: file\n'
-  gives 'the list is set all the same' 0 "folder root staff /\ndacl\nlist:a\nA:fd:alice:$ALL\nsacl\nlist:a\n" '' dump N
+  gives 'the list is set all the same' 0 \
+    "folder root staff /\ndacl\nlist:a\nA:fd:alice:$ALL\nsacl\nlist:a\n" '' dump N
   take rejoined.1.db N1
   gives 'an older file' 2 'refused: schema 1 is old\n' '' verify N1
   "$rooms" migrate N1 </dev/null 2>"$work/err" >/dev/full
@@ -51,7 +54,8 @@ if [ -c /dev/full ]; then
 fi
 gives 'sound' 0 'sound\n' '' verify F
 
-# A backup: the file and its log, copied once no process has them. The log holds what was written last.
+# A backup: the file and its log, copied once no process has them. The log holds what was written
+# last.
 open_room B
 run dump B
 cp "$work/out" old
@@ -64,11 +68,18 @@ if start_server B 2; then
   cp B alone/
   gives 'the copy of both is sound' 0 'sound\n' '' verify both/B
   run dump both/B
-  { cat old; echo 'document root staff 5 /f'; echo dacl; printf '%s\n' list:a "A:I:root:$ALL"; printf '%s\n' sacl list:a; } >new
+  {
+    cat old
+    echo 'document root staff 5 /f'
+    echo dacl
+    printf '%s\n' list:a "A:I:root:$ALL"
+    printf '%s\n' sacl list:a
+  } >new
   wants_file 'it has what was written last' 0 new
   run dump alone/B
   wants_file 'the copy of the file alone lacks it' 0 old
-  # Restored over a room that went on: both are put back, and nothing is left of the log that was there.
+  # Restored over a room that went on: both are put back, and nothing is left of the log that was
+  # there.
   mkdir back
   cp B B-wal back/
   if start_server B 2; then
@@ -103,10 +114,15 @@ gives 'another process has the file open' 0 'sound\n' '' verify G
 exec 7>&-
 if has_sqlite; then
   mkfifo hold
-  { echo 'PRAGMA locking_mode=exclusive; BEGIN IMMEDIATE; SELECT 1;'; cat hold; } | sqlite3 G >held 2>&1 &
+  {
+    echo 'PRAGMA locking_mode=exclusive; BEGIN IMMEDIATE; SELECT 1;'
+    cat hold
+  } | sqlite3 G >held 2>&1 &
   holder=$!
   began=$SECONDS
-  until grep -q '^1$' held 2>/dev/null || [ $((SECONDS - began)) -ge "$patience" ]; do sleep 0.01; done
+  until grep -q '^1$' held 2>/dev/null || [ $((SECONDS - began)) -ge "$patience" ]; do
+    sleep 0.01
+  done
   gives 'sqlite3 writes in the file' 3 '' 'fault: database\n' verify G
   echo 'ROLLBACK;' >hold
   wait "$holder"
@@ -123,7 +139,11 @@ fi
 
 # Rights.
 as_other() { # COMMAND ..
-  if [ "$(id -u)" != 0 ]; then "$@"; else setpriv --reuid=65534 --regid=65534 --clear-groups "$@"; fi
+  if [ "$(id -u)" != 0 ]; then
+    "$@"
+  else
+    setpriv --reuid=65534 --regid=65534 --clear-groups "$@"
+  fi
 }
 # Whether another user can run the program here and reach its files, but can't read a file of mode
 # 000.
@@ -181,7 +201,8 @@ if mount -t tmpfs -o size=1m none small 2>/dev/null; then
   wants_file 'which changes nothing either' 0 before
   gives 'and stays sound' 0 'sound\n' '' verify small/F
   if start_server small/F 3; then
-    asks 'a document on a full disk' "json '500 Internal Server Error' '{\"why\":\"store\"}'" PUT /doc/f root hello
+    asks 'a document on a full disk' "json '500 Internal Server Error' '{\"why\":\"store\"}'" \
+      PUT /doc/f root hello
     asks 'a look at a full disk' "json '200 OK' '[]'" GET /folder/ root
     rm small/filler small/more
     asks 'a document once there is room' made PUT /doc/f root hello
@@ -207,7 +228,11 @@ if (ulimit -v 60000) 2>/dev/null && has seq; then
     skip 'out of memory' 'the program does not start in 20 MB'
     return
   fi
-  (ulimit -v 20000; "$rooms" groups F many.csv </dev/null >"$work/out" 2>"$work/err"; echo $? >status)
+  (
+    ulimit -v 20000
+    "$rooms" groups F many.csv </dev/null >"$work/out" 2>"$work/err"
+    echo $? >status
+  )
   status=$(cat status)
   wants 'out of memory' 3 '' 'fault: memory\n'
   gives 'which changes nothing' 0 'group,user\nsales,alice\n' '' groups-out F
@@ -221,13 +246,18 @@ if [ "$loopback" = no ] || ! (ulimit -v 60000) 2>/dev/null; then
   return
 fi
 open_room W
-{ printf 'PUT /doc/big HTTP/1.1\r\nRoom-User: root\r\nConnection: close\r\nContent-Length: 1048576\r\n\r\n'; head -c 1048576 /dev/zero; } >large
+{
+  printf 'PUT /doc/big HTTP/1.1\r\nRoom-User: root\r\nConnection: close\r\n'
+  printf 'Content-Length: 1048576\r\n\r\n'
+  head -c 1048576 /dev/zero
+} >large
 told=no
 for ((limit = 8000; limit <= 40000; limit += 500)); do
   port=$((port + 1))
   place=127.0.0.1:$port
   : >"$work/server.out"
-  (ulimit -v "$limit" && exec "$rooms" serve W --port "$port" --count 2) </dev/null >"$work/server.out" 2>"$work/server.err" &
+  (ulimit -v "$limit" && exec "$rooms" serve W --port "$port" --count 2) \
+    </dev/null >"$work/server.out" 2>"$work/server.err" &
   server=$!
   if await_line; then
     cp large "$work/sent"

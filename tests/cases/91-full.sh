@@ -10,12 +10,12 @@ mkdir bin room run backups
 printf '%s\n' '#!/bin/sh' "cat '$PWD/memory'" >bin/systemctl
 chmod 755 bin/systemctl
 write_conf() { # LIMIT
-  printf '%s\n' "FILE=$PWD/room/F" "PORT=$port" "SOCKET=${at_socket-}" "BACKUPS=$PWD/backups" "LIMIT=$1" UNIT=rooms \
-    "PROGRAM=$rooms" >conf
+  printf '%s\n' "FILE=$PWD/room/F" "PORT=$port" "SOCKET=${at_socket-}" "BACKUPS=$PWD/backups" \
+    "LIMIT=$1" UNIT=rooms "PROGRAM=$rooms" >conf
 }
 fulls() { # WORD ..
-  PATH=$PWD/bin:$PATH ROOMS_RUN=$PWD/run timeout "$patience" "$contrib/rooms-admin" full "$@" "$PWD/conf" \
-    </dev/null >"$work/out" 2>"$work/err"
+  PATH=$PWD/bin:$PATH ROOMS_RUN=$PWD/run timeout "$patience" "$contrib/rooms-admin" full "$@" \
+    "$PWD/conf" </dev/null >"$work/out" 2>"$work/err"
   status=$?
 }
 megabytes() { # USER PLACE COUNT: that many documents of 1 MiB, in one connection
@@ -71,7 +71,8 @@ rm room/F
 fulls --look
 told 'a file that is not there' 2 "can't be read"
 
-# What is in use, while a server runs: removing makes it less at once, though the file stays as large.
+# What is in use, while a server runs: removing makes it less at once, though the file stays as
+# large.
 open_room room/F
 write_conf 5
 start_server room/F 1000 || return
@@ -104,7 +105,8 @@ flag=run/rooms-full/127.0.0.1:$port
 watcher=
 watch() {
   write_conf "$1"
-  PATH=$PWD/bin:$PATH ROOMS_RUN=$PWD/run "$contrib/rooms-admin" full "$PWD/conf" </dev/null 2>>watched &
+  PATH=$PWD/bin:$PATH ROOMS_RUN=$PWD/run "$contrib/rooms-admin" full "$PWD/conf" \
+    </dev/null 2>>watched &
   watcher=$!
 }
 unwatch() { # SIGNAL
@@ -181,7 +183,8 @@ set_all() { printf 'list:a\nA::EVERYONE@:x\nA:fd:root:%s\n' "$ALL"; }
 watch 6
 for ((n = 1; n <= 600; n++)); do
   sleep 0.1
-  got=$(curl -s -o "$work/body" -w '%{http_code}' -u root:r -X PUT -H Expect: --data-binary @mebibyte "$base/doc/f/m$n")
+  got=$(curl -s -o "$work/body" -w '%{http_code}' -u root:r -X PUT -H Expect: \
+    --data-binary @mebibyte "$base/doc/f/m$n")
   [ "$got" = 201 ] || break
 done
 holds 'uploads are refused in the end' [ "$got" = 507 ]
@@ -196,7 +199,8 @@ ask 'a path with slashes' 507 - root:r //doc/new -X PUT --data-binary x
 # Only who has signed in is told so, and nobody gets there by its address.
 ask 'nobody without a password is told' 401 - '' /doc/new -X PUT --data-binary x
 ask 'nor with a wrong one' 401 - root:x /doc/new -X PUT --data-binary x
-ask 'another site is told nothing' 403 - '' /doc/new -X PUT --data-binary x -H 'Origin: http://elsewhere.example'
+ask 'another site is told nothing' 403 - \
+  '' /doc/new -X PUT --data-binary x -H 'Origin: http://elsewhere.example'
 ask 'more than a room takes' 413 - root:r /doc/new -X PUT -H Expect: --data-binary @larger
 ask 'nothing is at its address' 404 - root:r /rooms/full
 ask 'whatever is asked' 404 - root:r /rooms/full -X PUT --data-binary x
@@ -209,16 +213,20 @@ ask 'a list is read' 200 - root:r /dacl/f
 ask 'a list is changed' 204 '' root:r /dacl/f -X PUT --data-binary "$(set_all)"
 for name in doc folder; do
   ask "a list of $name" 204 '' root:r "/dacl/$name" -X PUT --data-binary "$(set_all)"
-  ask "an owner of $name" 204 '' root:r "/attr/$name" -X PUT --data-binary '{"group":"staff","owner":"root"}'
+  ask "an owner of $name" 204 '' \
+    root:r "/attr/$name" -X PUT --data-binary '{"group":"staff","owner":"root"}'
 done
 ask 'a move' 204 '' root:r /move/f/d -X POST --data-binary '{"to":"/doc/d"}'
-ask 'another site still is one' 403 - root:r /doc/new -X PUT --data-binary x -H 'Origin: http://elsewhere.example'
+ask 'another site still is one' 403 - \
+  root:r /doc/new -X PUT --data-binary x -H 'Origin: http://elsewhere.example'
 ask 'nobody without a password reads' 401 - '' /doc/doc/d
 # Another room of the same nginx isn't full, and the flag is that of a port.
 admin add --port $((port + 5)) invoices
 take_front
 printf 'root:{PLAIN}r\n' >rooms-invoices.htpasswd
-second() { [ "$(curl -s -o "$work/body" -w '%{http_code}' -u root:r "$base/invoices/doc/f")" = 502 ]; }
+second() {
+  [ "$(curl -s -o "$work/body" -w '%{http_code}' -u root:r "$base/invoices/doc/f")" = 502 ]
+}
 reloaded second
 ask 'it is not full' 502 - root:r /invoices/doc/new -X PUT --data-binary x
 : >"run/rooms-full/127.0.0.1:$((port + 5))"

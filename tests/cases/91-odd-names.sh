@@ -1,5 +1,6 @@
-# Names that end in a blank, begin with a dash, are as long as a name may be, or turn the direction of writing: 500 of them go
-# into a room, and every byte and name comes out, by export, get, a backup, a restore and the texts of the night.
+# Names that end in a blank, begin with a dash, are as long as a name may be, or turn the direction
+# of writing: 500 of them go into a room, and every byte and name comes out, by export, get, a
+# backup, a restore and the texts of the night.
 
 if [ "$loopback" = no ] || ! has curl || ! has find || ! has sort || ! has diff; then
   skip 'odd names' 'no loopback, curl, find, sort or diff'
@@ -7,10 +8,11 @@ if [ "$loopback" = no ] || ! has curl || ! has find || ! has sort || ! has diff;
 fi
 contrib=$here/../contrib
 
-# A verb of rooms-admin, in a locale in which a letter may have several bytes; its status is in $status, its output in $work/out
-# and $work/err.
+# A verb of rooms-admin, in a locale in which a letter may have several bytes; its status is in
+# $status, its output in $work/out and $work/err.
 transfers() { # VERB ARGUMENT ..
-  PATH=$PWD/bin:$PATH LC_ALL=C.UTF-8 "$contrib/rooms-admin" "$@" </dev/null >"$work/out" 2>"$work/err"
+  PATH=$PWD/bin:$PATH LC_ALL=C.UTF-8 "$contrib/rooms-admin" "$@" \
+    </dev/null >"$work/out" 2>"$work/err"
   status=$?
 }
 equal() { # NAME FOLDER FOLDER
@@ -23,7 +25,8 @@ equal() { # NAME FOLDER FOLDER
 special_names >special
 { cat special && every_sign; } | sort -u | grep -vx '\.\.' >names
 holds 'there are 500 names' [ "$(wc -l <names)" -ge 500 ]
-holds 'the longest has 255 bytes' [ "$(awk 'length($0) > most { most = length($0) } END { print most }' names)" = 255 ]
+holds 'the longest has 255 bytes' \
+  [ "$(awk 'length($0) > most { most = length($0) } END { print most }' names)" = 255 ]
 
 # Each is a document that has its name in it; each tenth is also a folder with one in it.
 mkdir -p tree/many tree/folders 'tree/ deep '
@@ -42,7 +45,8 @@ printf '#!/bin/sh\n' >bin/logger
 chmod 755 bin/systemctl bin/logger
 room=$PWD/' room /-office.rooms'
 gives 'a room' 0 'ready\n' '' init "$room" root staff
-# Bob reads documents and passes through folders, so that each document has a row in a review. Reads are recorded.
+# Bob reads documents and passes through folders, so that each document has a row in a review. Reads
+# are recorded.
 set_list "$room" / dacl list:a "A:fd:root:$ALL" A:fi:bob:r A:d:bob:x
 set_list "$room" / sacl list:a U:fdiS:root:r
 start_server "$room" 100000 || return
@@ -55,8 +59,8 @@ equal 'each byte and each name' tree out
 transfers import --as root "http://127.0.0.1:$port" 'tree/ deep ' '/in/ deep '
 told 'they are found again' 0 'made 0, replaced 0,' 'left out 0'
 
-# The lists beside them. The file for those of a name with more than 251 bytes isn't one that a file system can have, and a
-# document's own name comes first.
+# The lists beside them. The file for those of a name with more than 251 bytes isn't one that a file
+# system can have, and a document's own name comes first.
 transfers export --as root "http://127.0.0.1:$port" '/in/ deep ' lists
 told 'with their lists' 1 'File name too long'
 diff -r 'tree/ deep ' lists | grep -av '^Only in lists' >found
@@ -71,18 +75,23 @@ told 'what has no file is left out' 1 "documents $(wc -l <documents), left out $
 
 # Names that a room can't have: each is told, and none becomes another.
 mkdir bad
-for name in $'plan\n' $'\nplan' $'pl\nan' $'plan\t' $'\tplan' $'\177' $'\1' $'no\xfftext' $'\xc3' $'\xed\xa0\x80' $'plan\r'; do
+for name in $'plan\n' $'\nplan' $'pl\nan' $'plan\t' $'\tplan' $'\177' $'\1' $'no\xfftext' $'\xc3' \
+  $'\xed\xa0\x80' $'plan\r'; do
   printf 'bad' >"bad/$name"
 done
 transfers import --as root --replace "http://127.0.0.1:$port" bad '/in/ deep '
-told 'names that a room can not have' 1 'made 0, replaced 0, there already 1, left out 11' "'plan\\n': not sent: 400" "'\\tplan': not sent: 400"
+told 'names that a room can not have' 1 'made 0, replaced 0, there already 1, left out 11' \
+  "'plan\\n': not sent: 400" "'\\tplan': not sent: 400"
 transfers export --as root --no-lists "http://127.0.0.1:$port" '/in/ deep ' deep
 told 'none became another' 0
 equal 'all is as it was' 'tree/ deep ' deep
 
-# Names of an older system, whose last letter isn't whole in UTF-8, don't hide those that come after them.
+# Names of an older system, whose last letter isn't whole in UTF-8, don't hide those that come after
+# them.
 mkdir old
-for name in $'caf\xe9' dach ende $'men\xfc' nach $'\xc3' zuletzt; do printf %s "$name" >"old/$name"; done
+for name in $'caf\xe9' dach ende $'men\xfc' nach $'\xc3' zuletzt; do
+  printf %s "$name" >"old/$name"
+done
 transfers import --as root "http://127.0.0.1:$port" old /old
 told 'names of an older system' 1 'made 5, replaced 0, there already 0, left out 3'
 
@@ -96,7 +105,8 @@ for name in - -x ' ' $'line\nbreak\n'; do
   told "and comes out as $(printf %q "$name.out")" 0 'documents 1, left out 0'
   diff -r -- "./$name" "./$name.out" >found 2>&1
   same 'as it was' found /dev/null
-  curl -s -m "$patience" -X DELETE -H 'Room-User: root' "http://127.0.0.1:$port/object/from/x" "http://127.0.0.1:$port/object/from"
+  curl -s -m "$patience" -X DELETE \
+    -H 'Room-User: root' "http://127.0.0.1:$port/object/from/x" "http://127.0.0.1:$port/object/from"
 done
 
 # An export where something else is: nothing of it is touched.
@@ -106,7 +116,9 @@ transfers export --as root "http://127.0.0.1:$port" /in there
 told 'over a folder' 2 'there is something at there'
 printf mine >lists-of.acl
 transfers export --as root "http://127.0.0.1:$port" /in/many/plan lists-of
-told 'where lists would go' 1 "/in/many/plan: its lists aren't written: cannot overwrite existing file" 'documents 1, left out 1'
+told 'where lists would go' 1 \
+  "/in/many/plan: its lists aren't written: cannot overwrite existing file" \
+  'documents 1, left out 1'
 holds 'what was there stays' [ "$(cat there/x lists-of.acl)" = minemine ]
 transfers export --as root "http://127.0.0.1:$port" /in missing/out
 told 'into a folder that is missing' 1 'nor what is in it' 'folders 0, documents 0, left out 2'
@@ -116,9 +128,12 @@ while [ "${#deep}" -lt 3900 ]; do deep+=/$(long 100 d); done
 mkdir -p "$deep"
 transfers export --as root --no-lists "http://127.0.0.1:$port" '/in/ deep ' "$deep/out"
 told 'where a whole path is longer than the system takes' 0 'left out 0'
-for name in ' plan' 'plan ' plan; do holds 'but others have' [ "$(cat "$deep/out/$name")" = "the $name" ]; done
+for name in ' plan' 'plan ' plan; do
+  holds 'but others have' [ "$(cat "$deep/out/$name")" = "the $name" ]
+done
 
-# A disk that is full: what is there is whole, and the rest is named. Neither is there where replies are kept.
+# A disk that is full: what is there is whole, and the rest is named. Neither is there where replies
+# are kept.
 mkdir small
 if [ "$(id -u)" = 0 ] && mount -t tmpfs -o size=1000k rooms-small small 2>/dev/null; then
   mkdir filled
@@ -131,11 +146,13 @@ if [ "$(id -u)" = 0 ] && mount -t tmpfs -o size=1000k rooms-small small 2>/dev/n
     [ ! -e "small/out/$name" ] || holds "'$name' is whole" cmp "small/out/$name" "filled/$name"
   done
   whole=$(find small/out -type f | wc -l)
-  holds 'the rest is counted' grep -qx "folders 1, documents $whole, left out $((4 - whole))" "$work/out"
+  holds 'the rest is counted' \
+    grep -qx "folders 1, documents $whole, left out $((4 - whole))" "$work/out"
   holds 'there are both' [ "$whole" = 2 ]
   rm -rf small/*
   head -c 800000 /dev/zero >small/ballast
-  TMPDIR=$PWD/small transfers export --as root --no-lists "http://127.0.0.1:$port" /filled filled.out
+  TMPDIR=$PWD/small transfers export --as root \
+    --no-lists "http://127.0.0.1:$port" /filled filled.out
   told 'no place for replies is needed' 0 'left out 0'
   rm -rf small/* filled.out
   head -c 1019904 /dev/zero >small/ballast
@@ -155,7 +172,10 @@ if has flock && has setpriv; then
   told 'a backup' 0
   backup=$(ls ' backups ')
   cd tree || return
-  { find . -type f -printf 'document root staff %s /in/%P\n' && find . -type d -printf 'folder root staff /in/%P\n'; } |
+  {
+    find . -type f -printf 'document root staff %s /in/%P\n' &&
+      find . -type d -printf 'folder root staff /in/%P\n'
+  } |
     sed 's#/$##' | sort >../wanted
   find . -type f -printf '/in/%P\n' | awk '
     /[",]/ { gsub(/"/, "\"\""); $0 = "\"" $0 "\"" }

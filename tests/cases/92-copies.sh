@@ -1,5 +1,5 @@
-# Copies of a room while rooms-admin works on them: who has the lock, on which disk they lie, and whose they are afterwards, also where
-# that fails or the run is killed.
+# Copies of a room while rooms-admin works on them: who has the lock, on which disk they lie, and
+# whose they are afterwards, also where that fails or the run is killed.
 
 . "$here/people.sh"
 if ! plays_people || ! has setpriv || ! has flock; then
@@ -32,7 +32,8 @@ chmod 755 prog
 chmod 666 ran reading
 setting PROGRAM "$PWD/prog"
 
-# While a nightly run is at work its room isn't removed, and a room that is being removed has no nightly run.
+# While a nightly run is at work its room isn't removed, and a room that is being removed has no
+# nightly run.
 "$contrib/install" --destdir "$PWD/machine" --program "$rooms" >"$work/out" 2>&1 </dev/null
 verb add --destdir "$PWD/machine" kept
 told 'a further room' 0 'file /etc/rooms/kept.conf'
@@ -45,20 +46,24 @@ for word in '' --dry-run; do
   # shellcheck disable=SC2086
   verb remove $word --destdir "$PWD/machine" kept
   if [ -z "$word" ]; then
-    told 'a room whose nightly run is at work' 2 'busy: another verb of rooms-admin is at work with rooms@kept'
+    told 'a room whose nightly run is at work' 2 \
+      'busy: another verb of rooms-admin is at work with rooms@kept'
   else
     told 'which may be looked at' 0 'would: /etc/rooms/kept.conf is removed'
   fi
-  holds 'stays' [ "$(cksum machine/etc/rooms/kept.conf machine/etc/nginx/sites-available/rooms)" = "$settings" ]
+  holds 'stays' \
+    [ "$(cksum machine/etc/rooms/kept.conf machine/etc/nginx/sites-available/rooms)" = "$settings" ]
 done
 : >seen
 wait "$running"
 holds "the run doesn't notice: $(cat night.said)" [ "$?" = 0 -a -s "$(echo backups/*/review.csv)" ]
 rm wait-verify seen
-printf '%s\n' 'flock -n "$ROOMS_RUN/.rooms-admin/rooms@kept" true || echo held >"$STAND/held"' >"$stand/at-rm"
+printf '%s\n' 'flock -n "$ROOMS_RUN/.rooms-admin/rooms@kept" true || echo held >"$STAND/held"' \
+  >"$stand/at-rm"
 verb remove --destdir "$PWD/machine" kept
 told 'then it is removed' 0 'file /etc/nginx/sites-available/rooms'
-holds 'with its lock until its settings are gone' [ "$(cat "$stand/held")" = held -a ! -e machine/etc/rooms/kept.conf ]
+holds 'with its lock until its settings are gone' \
+  [ "$(cat "$stand/held")" = held -a ! -e machine/etc/rooms/kept.conf ]
 holds 'which is free then' flock -n run/.rooms-admin/rooms@kept true
 verb remove --destdir "$PWD/machine" kept
 told 'and once only' 2 'no room: /etc/rooms/kept.conf'
@@ -83,7 +88,8 @@ elsewhere mine "$PWD/office.conf"
 lies_on_disk 'mine without a review' rooms-get review
 mv review.csv "$night/"
 unit stop
-elsewhere doctor --program "$PWD/prog" --user "$(getent passwd "$STAND_USER" | cut -d : -f 1)" "$PWD/office/F"
+elsewhere doctor --program "$PWD/prog" \
+  --user "$(getent passwd "$STAND_USER" | cut -d : -f 1)" "$PWD/office/F"
 lies_on_disk doctor rooms-doctor verify
 starts
 if [ "$(id -u)" != 0 ] || [ "$STAND_USER" = 0 ]; then
@@ -96,7 +102,9 @@ chgrp 1 closed
 mkdir -m 700 closed/backups
 setting BACKUPS "$PWD/closed/backups"
 elsewhere backup "$PWD/office.conf"
-for word in audit dump review; do holds "backup, $word: its copy lies on a disk" grep -q " /var/tmp/rooms-get\.[^ ]* $word " ran; done
+for word in audit dump review; do
+  holds "backup, $word: its copy lies on a disk" grep -q " /var/tmp/rooms-get\.[^ ]* $word " ran
+done
 lies_on_disk backup rooms-get verify
 elsewhere standby "$PWD/office.conf"
 lies_on_disk standby rooms-get verify
@@ -107,7 +115,8 @@ mkdir -m 1777 tmp
 : >reading
 rm -f seen
 unit stop
-TMPDIR=$PWD/tmp "$contrib/rooms-admin" doctor --program "$PWD/prog" --user nobody "$PWD/office/F" >"$work/out" 2>&1 </dev/null &
+TMPDIR=$PWD/tmp "$contrib/rooms-admin" doctor --program "$PWD/prog" --user nobody "$PWD/office/F" \
+  >"$work/out" 2>&1 </dev/null &
 running=$!
 until [ -s reading ] || [ ! -d "/proc/$running" ]; do sleep 0.05; done
 kill -KILL "$running"
@@ -133,7 +142,8 @@ for name in F F-wal; do
     copy=$(echo backups/2*)
     told "$name isn't given back by $word" 1 \
       "still lent: $PWD/$copy/$name: the room's user can change that, since chown failed: Input/output error"
-    holds "$name isn't given back by $word: mail" grep -qF "still lent: $PWD/$copy/$name" "$stand/messages"
+    holds "$name isn't given back by $word: mail" \
+      grep -qF "still lent: $PWD/$copy/$name" "$stand/messages"
     lent >got
     echo "$copy/$name" >wanted
     same "$name isn't given back by $word: all else is" got wanted
@@ -141,7 +151,8 @@ for name in F F-wal; do
     rm "lost-$word"
     : >"$stand/no-tool"
     night
-    told 'the next run' 1 "interrupted: an earlier run was cut off, and the backup of ${copy##*/} may lack"
+    told 'the next run' 1 \
+      "interrupted: an earlier run was cut off, and the backup of ${copy##*/} may lack"
     holds 'takes it back' [ -z "$(lent)" ]
     rm -rf backups/*
   done

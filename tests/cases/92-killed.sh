@@ -1,5 +1,5 @@
-# setup, add and remove below a folder, cut off at each of their calls of the system: what the next run says
-# to do then makes the same files, and leaves no other.
+# setup, add and remove below a folder, cut off at each of their calls of the system: what the next
+# run says to do then makes the same files, and leaves no other.
 
 if [ ! -x /usr/bin/python3 ] || ! has setpriv || ! has flock; then
   skip 'an installation that is cut off' 'no python3, setpriv or flock'
@@ -9,14 +9,18 @@ fi
 is_served() { :; }
 mkdir TERM KILL
 # The key of the check of passwords is another one each time.
+files() {
+  (cd "$1" && find . ! -type d ! -name passwords.key -exec cksum {} + &&
+    find . -printf '%m %p %l\n') | sort
+}
+image() { # FOLDER: what is there before the verb, by other verbs
+  rm -rf "$1"
+  mkdir -p "$1"/etc/nginx/sites-{available,enabled}
+  [ "$2" = setup ] || "$contrib/rooms-admin" setup --destdir "$PWD/$1" >"$work/out" </dev/null
+  [ "$2" != remove ] ||
+    "$contrib/rooms-admin" add --destdir "$PWD/$1" invoices >"$work/out" </dev/null
+}
 does_all() {
-  files() { (cd "$1" && find . ! -type d ! -name passwords.key -exec cksum {} + && find . -printf '%m %p %l\n') | sort; }
-  image() { # FOLDER: what is there before the verb, by other verbs
-    rm -rf "$1"
-    mkdir -p "$1"/etc/nginx/sites-{available,enabled}
-    [ "$2" = setup ] || "$contrib/rooms-admin" setup --destdir "$PWD/$1" >"$work/out" </dev/null
-    [ "$2" != remove ] || "$contrib/rooms-admin" add --destdir "$PWD/$1" invoices >"$work/out" </dev/null
-  }
   before() { rm -rf image && cp -a "ready.$one" image; }
   again() {
     case $one.$status in

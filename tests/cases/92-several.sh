@@ -1,17 +1,22 @@
-# Several rooms, below a folder: what 'rooms-admin add' makes and refuses, what 'remove' takes away, and
-# how a machine of a version that had a file of nginx for each part of the site gets one.
+# Several rooms, below a folder: what 'rooms-admin add' makes and refuses, what 'remove' takes away,
+# and how a machine of a version that had a file of nginx for each part of the site gets one.
 
 verb() { # VERB ARGUMENT ..
-  "$contrib/rooms-admin" "$1" --destdir "$PWD/machine" "${@:2}" </dev/null >"$work/out" 2>"$work/err"
+  "$contrib/rooms-admin" "$1" --destdir "$PWD/machine" "${@:2}" \
+    </dev/null >"$work/out" 2>"$work/err"
   status=$?
 }
 adds() { verb add "$@"; }
 removes() { verb remove "$@"; }
 installs() {
-  "$contrib/install" --destdir "$PWD/machine" --program "$rooms" "$@" </dev/null >"$work/out" 2>"$work/err"
+  "$contrib/install" --destdir "$PWD/machine" --program "$rooms" "$@" \
+    </dev/null >"$work/out" 2>"$work/err"
   status=$?
 }
-tree() { (cd machine && find . -exec ls -ld --time-style=full-iso {} + && find . -type f -exec cksum {} +) 2>/dev/null; }
+tree() {
+  (cd machine && find . -exec ls -ld --time-style=full-iso {} + &&
+    find . -type f -exec cksum {} +) 2>/dev/null
+}
 refuses() { # NAME TEXT ARGUMENT ..
   tree >before
   if [ "${3-}" = --remove ]; then removes "${@:4}"; else adds "${@:3}"; fi
@@ -61,8 +66,11 @@ fi
 for name in doc folder object move dacl sacl attr can me people mine rooms password office; do
   refuses "the name $name" 'bad name' "$name"
 done
-for wrong in 0 08781 65536 99999 -1 port; do refuses "the port $wrong" 'bad port' --port "$wrong" invoices; done
-refuses "office's port" "port in use: $PWD/machine/etc/rooms/office.conf has 8780" --port 8780 invoices
+for wrong in 0 08781 65536 99999 -1 port; do
+  refuses "the port $wrong" 'bad port' --port "$wrong" invoices
+done
+refuses "office's port" "port in use: $PWD/machine/etc/rooms/office.conf has 8780" \
+  --port 8780 invoices
 for wrong in 'a"b' 'a\b' "a'b" 'a$b' ' a' 'a ' $'a\nb' "$(printf 'a%.0s' {1..101})"; do
   refuses "the title '$wrong'" 'bad title' --title "$wrong" invoices
 done
@@ -86,16 +94,20 @@ holds 'its unit' [ "$(value invoices UNIT)" = rooms@invoices ]
 holds 'its title' [ "$(value invoices TITLE)" = 'Invoices & <orders>' ]
 holds 'its backups' [ "$(value invoices BACKUPS)" = /var/backups/rooms/invoices ]
 holds 'which have a folder' [ -n "$(find machine/var/backups/rooms/invoices -perm 700)" ]
-holds 'nobody else reads its passwords' [ -n "$(find machine/etc/nginx/rooms-invoices.htpasswd -perm 600)" ]
+holds 'nobody else reads its passwords' \
+  [ -n "$(find machine/etc/nginx/rooms-invoices.htpasswd -perm 600)" ]
 first=$(value invoices PORT)
 holds 'a port in reserve' [ "$first" -gt 8780 ]
 site=machine/etc/nginx/sites-available/rooms
 holds 'which it does not have' [ "$(value invoices SOCKET)" = yes ]
-holds 'nginx goes to its socket' grep -qx 'upstream room_invoices { server unix:/run/rooms/invoices/socket; }' "$site"
-holds 'and to that of office' grep -qx 'upstream room_office { server unix:/run/rooms/office/socket; }' "$site"
+holds 'nginx goes to its socket' \
+  grep -qx 'upstream room_invoices { server unix:/run/rooms/invoices/socket; }' "$site"
+holds 'and to that of office' \
+  grep -qx 'upstream room_office { server unix:/run/rooms/office/socket; }' "$site"
 holds 'nothing is left to fill in' [ -z "$(grep -l '@[A-Z]*@' machine/etc/rooms/*.* "$site")" ]
 refuses 'the same room again' 'room exists: /etc/rooms/invoices.conf' invoices
-refuses "a port of another room" "port in use: $PWD/machine/etc/rooms/invoices.conf has $first" --port "$first" staff
+refuses "a port of another room" "port in use: $PWD/machine/etc/rooms/invoices.conf has $first" \
+  --port "$first" staff
 adds --host HR.example hr
 says 'a room with a host' 0 'new file /etc/nginx/sites-available/rooms'
 holds 'another port' [ "$(value hr PORT)" -gt "$first" ]
@@ -114,21 +126,23 @@ rm machine/etc/nginx/rooms-desk.htpasswd
 start=machine/var/lib/rooms-front/start.html
 links() { sed -n 's/^ *<li>\(.*\)<\/li>$/\1/p' "$start"; }
 links >got
-printf '%s\n' '<a href="//hr.example/">hr</a>' '<a href="/invoices/">Invoices &amp; &lt;orders&gt;</a>' \
-  '<a href="/">office</a>' >wanted
+printf '%s\n' '<a href="//hr.example/">hr</a>' \
+  '<a href="/invoices/">Invoices &amp; &lt;orders&gt;</a>' '<a href="/">office</a>' >wanted
 same 'the start page has them all' got wanted
 sed -i 's/^TITLE=.*/TITLE=/' machine/etc/rooms/hr.conf
 sed -i 's/^TITLE=.*/TITLE=The office/' machine/etc/rooms/office.conf
 installs
 links >got
-printf '%s\n' '<a href="/invoices/">Invoices &amp; &lt;orders&gt;</a>' '<a href="/">The office</a>' >wanted
+printf '%s\n' '<a href="/invoices/">Invoices &amp; &lt;orders&gt;</a>' \
+  '<a href="/">The office</a>' >wanted
 same 'titles are changed in the settings' got wanted
 installs
 says 'and once' 0 'nothing to change'
 
 # The backups of a further room are on the disk that those of office are on.
 sed -i 's#^BACKUPS=.*#BACKUPS=/disk/rooms/#' machine/etc/rooms/office.conf
-refuses 'a disk that is not there' 'no folder: /disk/rooms/, of BACKUPS in /etc/rooms/office.conf' onward
+refuses 'a disk that is not there' 'no folder: /disk/rooms/, of BACKUPS in /etc/rooms/office.conf' \
+  onward
 mkdir -p machine/disk/rooms
 adds onward
 says 'backups elsewhere' 0 'folder /disk/rooms/onward'
@@ -156,7 +170,8 @@ fi
 
 # A room's file is never touched: what is there is served, and stays.
 echo mine >machine/var/lib/rooms/kept.rooms
-refuses 'an owner for a file that is there' 'room exists: /var/lib/rooms/kept.rooms' kept carol accounting
+refuses 'an owner for a file that is there' 'room exists: /var/lib/rooms/kept.rooms' \
+  kept carol accounting
 echo half >machine/var/lib/rooms/half.rooms-wal
 refuses 'a log without its file' 'half a room' half
 echo 'carol:x' >machine/etc/nginx/rooms-kept.htpasswd
@@ -189,20 +204,25 @@ adds kept
 says 'the same room again' 0 'file /etc/rooms/kept.conf'
 removes kept
 sed 's/^UNIT=.*/UNIT=archive/' machine/etc/rooms/hr.conf >machine/etc/rooms/archive.conf
-refuses 'a room that was made by hand' "another unit: UNIT in /etc/rooms/archive.conf is 'archive'" --remove archive
+refuses 'a room that was made by hand' \
+  "another unit: UNIT in /etc/rooms/archive.conf is 'archive'" --remove archive
 rm machine/etc/rooms/archive.conf
 
-# A file of nginx that somebody has edited is never overwritten: a room that isn't there can't be shown.
+# A file of nginx that somebody has edited is never overwritten: a room that isn't there can't be
+# shown.
 cp "$site" saved
 echo '# mine' >>"$site"
 refuses 'an edited site' 'edited: /etc/nginx/sites-available/rooms' staff
-refuses 'an edited site, and a room that goes' 'edited: /etc/nginx/sites-available/rooms' --remove hr
-sed -i 's/^TITLE=.*/TITLE=Staff/; s/^PORT=.*/PORT=8790/; s/^SOCKET=.*/SOCKET=/' machine/etc/rooms/hr.conf
+refuses 'an edited site, and a room that goes' 'edited: /etc/nginx/sites-available/rooms' \
+  --remove hr
+sed -i 's/^TITLE=.*/TITLE=Staff/; s/^PORT=.*/PORT=8790/; s/^SOCKET=.*/SOCKET=/' \
+  machine/etc/rooms/hr.conf
 cp "$site" edited
 verb setup
 says 'an edited site stays' 1 'kept /etc/nginx/sites-available/rooms, which was edited'
 same 'as it was' "$site" edited
-holds 'what it should be is beside' grep -qx 'upstream room_hr { server 127.0.0.1:8790; }' "$site.new"
+holds 'what it should be is beside' \
+  grep -qx 'upstream room_hr { server 127.0.0.1:8790; }' "$site.new"
 says 'what differs is printed' 1 '+upstream room_hr { server 127.0.0.1:8790; }'
 says 'and what somebody wrote' 1 '-# mine'
 cp "$site.new" "$site"
@@ -227,7 +247,13 @@ for wrong in PASSWORDS=ldap HOST=a_b BEHIND=no SOCKET=1 PORT= PORT=0 OTHER=x HOS
   echo "$wrong" >>machine/etc/rooms/hr.conf
   tree >before
   verb setup
-  says "the setting $wrong" 2 "$(case $wrong in OTHER=*) echo 'has none of' ;; HOST=rooms*) echo 'host in use' ;; *) echo "bad settings: ${wrong%%=*}" ;; esac)"
+  says "the setting $wrong" 2 "$(
+    case $wrong in
+      OTHER=*) echo 'has none of' ;;
+      HOST=rooms*) echo 'host in use' ;;
+      *) echo "bad settings: ${wrong%%=*}" ;;
+    esac
+  )"
   tree >after
   same "the setting $wrong: nothing is changed" after before
   cp hr.conf machine/etc/rooms/hr.conf
@@ -247,7 +273,8 @@ echo '# mine' >machine/etc/nginx/sites-enabled/rooms
 refuses 'another site' 'another site' staff
 rm machine/etc/nginx/sites-enabled/rooms
 if has openssl; then
-  openssl req -x509 -newkey ec -pkeyopt ec_paramgen_curve:P-256 -noenc -subj /CN=rooms.example -keyout one.key -out one.pem \
+  openssl req -x509 -newkey ec -pkeyopt ec_paramgen_curve:P-256 -noenc -subj /CN=rooms.example \
+    -keyout one.key -out one.pem \
     -addext subjectAltName=DNS:rooms.example,DNS:staff.example 2>/dev/null
   verb setup --tls one.pem one.key
   says 'a certificate' 0 'new file /etc/nginx/sites-available/rooms'
@@ -258,20 +285,26 @@ else
   skip 'a host with TLS' 'openssl is missing'
 fi
 
-# A machine of a version that had a file of nginx for each part of the site, each room and TLS: what they
-# say goes to the settings. What nobody has edited goes, all else stays beside.
+# A machine of a version that had a file of nginx for each part of the site, each room and TLS: what
+# they say goes to the settings. What nobody has edited goes, all else stays beside.
 before=$data/before
-of_before() { # PREFIX: office, invoices at a path, hr at a host, ledger behind another front end, archive elsewhere
+# office, invoices at a path, hr at a host, ledger behind another front end, archive elsewhere.
+of_before() { # PREFIX
   local part name
   rm -rf machine
-  mkdir -p machine/etc/{rooms/machines,nginx/{sites-available,sites-enabled,snippets,rooms.d,conf.d}}
+  mkdir -p \
+    machine/etc/{rooms/machines,nginx/{sites-available,sites-enabled,snippets,rooms.d,conf.d}}
   for part in http server host page proxy remember remembered machine front directory; do
-    sed "s#/usr/local/#$1/#g" "$before/nginx-$part.conf" >"machine/etc/nginx/snippets/rooms-$part.conf"
+    sed "s#/usr/local/#$1/#g" "$before/nginx-$part.conf" \
+      >"machine/etc/nginx/snippets/rooms-$part.conf"
   done
   sed "s#/usr/local/#$1/#g" "$before/nginx.conf" >machine/etc/nginx/sites-available/rooms
   sed "s#/usr/local/#$1/#g" "$before/nginx-tls.conf" >machine/etc/nginx/sites-available/rooms-tls
   ln -s ../sites-available/rooms machine/etc/nginx/sites-enabled/rooms
-  of_room() { sed -e "s/@NAME@/$2/g; s/@PORT@/$3/g; s/@HOST@/$2.example/g; s/@ON@/b.example/g; s#/usr/local/#$prefix/#g" "$before/room/$1"; }
+  of_room() {
+    sed -e "s/@NAME@/$2/g; s/@PORT@/$3/g; s/@HOST@/$2.example/g; s/@ON@/b.example/g" \
+      -e "s#/usr/local/#$prefix/#g" "$before/room/$1"
+  }
   prefix=$1
   of_room path invoices 8781 >machine/etc/nginx/rooms.d/invoices.path
   for part in host host-tls; do of_room $part hr 8782 >machine/etc/nginx/rooms.d/hr.$part; done
@@ -279,22 +312,30 @@ of_before() { # PREFIX: office, invoices at a path, hr at a host, ledger behind 
   of_room on archive 8443 >machine/etc/nginx/rooms.d/archive.path
   echo '<!doctype html>' >machine/etc/nginx/rooms.d/start.html
   for name in office:8780 invoices:8781 hr:8782 ledger:8783; do
-    printf '%s\n' "FILE=/var/lib/rooms/${name%:*}.rooms" "PORT=${name#*:}" "TITLE=${name%:*}" BACKUPS=/var/backups/rooms '# mine' \
+    printf '%s\n' "FILE=/var/lib/rooms/${name%:*}.rooms" "PORT=${name#*:}" "TITLE=${name%:*}" \
+      BACKUPS=/var/backups/rooms '# mine' \
       "UNIT=rooms@${name%:*}" >"machine/etc/rooms/${name%:*}.conf"
   done
   printf '%s\n' TITLE=archive ON=b.example PORT=8443 >machine/etc/rooms/archive.on
-  : | tee machine/etc/rooms/machines/{front,machine}.{pem,key} >machine/etc/rooms/machines/authority.pem
+  : | tee machine/etc/rooms/machines/{front,machine}.{pem,key} \
+    >machine/etc/rooms/machines/authority.pem
   echo 'alice:x' >machine/etc/nginx/rooms.htpasswd
 }
 came() { # NAME: one file is there, and no other; the rooms are where they were
   find machine/etc/nginx ! -type d | sort >got
-  { printf 'machine/etc/nginx/%s\n' rooms.htpasswd sites-available/rooms sites-enabled/rooms; cat kept; } | sort >wanted
+  {
+    printf 'machine/etc/nginx/%s\n' rooms.htpasswd sites-available/rooms sites-enabled/rooms
+    cat kept
+  } | sort >wanted
   same "$1: nginx's files" got wanted
-  for line in 'upstream room_office { server 127.0.0.1:8780; }' '    "~^[^ ]+ /invoices(/|$)" invoices;' '    "~^hr\.example " hr;' \
-    '    "~^/ledger(/|$)" ledger;' 'upstream room_archive { server b.example:8443 max_fails=0; }'; do
+  for line in 'upstream room_office { server 127.0.0.1:8780; }' \
+    '    "~^[^ ]+ /invoices(/|$)" invoices;' \
+    '    "~^hr\.example " hr;' '    "~^/ledger(/|$)" ledger;' \
+    'upstream room_archive { server b.example:8443 max_fails=0; }'; do
     holds "$1: $line" grep -qxF "$line" "$site"
   done
-  [ "$(value hr HOST) $(value ledger BEHIND)$(value invoices HOST)" = 'hr.example yes' ] || fail "$1" 'other settings'
+  [ "$(value hr HOST) $(value ledger BEHIND)$(value invoices HOST)" = 'hr.example yes' ] ||
+    fail "$1" 'other settings'
   holds "$1: what somebody wrote stays" grep -qx '# mine' machine/etc/rooms/hr.conf
   verb setup
   says "$1: once" 0 'nothing to change'
@@ -312,35 +353,49 @@ for prefix in /usr /usr/local; do
   holds 'no line of it was edited' [ "$(grep -c 'no version had' "$work/out")" = 0 ]
   came "below $prefix"
 done
-# By the blocks that pages had: TLS, another name, a directory for office and invoices, what is remembered.
+# By the blocks that pages had: TLS, another name, a directory for office and invoices, what is
+# remembered.
 of_before /usr
-sed -i 's/rooms.example/files.office.example/; s/8780/9123/' machine/etc/nginx/sites-available/rooms{,-tls}
+sed -i 's/rooms.example/files.office.example/; s/8780/9123/' \
+  machine/etc/nginx/sites-available/rooms{,-tls}
 ln -sfn ../sites-available/rooms-tls machine/etc/nginx/sites-enabled/rooms
 printf '# Written by rooms-setup --tls.\nssl_certificate /etc/ssl/rooms.pem;\nssl_certificate_key /etc/ssl/private/rooms.key;\n' \
   >machine/etc/nginx/snippets/rooms-tls.conf
 ln -s ../snippets/rooms-directory.conf machine/etc/nginx/conf.d/rooms-remember.conf
 ln -s ../snippets/rooms-front.conf machine/etc/nginx/conf.d/rooms-front.conf
 sed -i 's#^auth_basic ".*;#include snippets/rooms-remembered.conf;#
-  s#^auth_basic_user_file /etc/nginx/\(.*\).htpasswd;#auth_request /password/\1;#' machine/etc/nginx/snippets/rooms-server.conf
+  s#^auth_basic_user_file /etc/nginx/\(.*\).htpasswd;#auth_request /password/\1;#' \
+  machine/etc/nginx/snippets/rooms-server.conf
 sed -i '/auth_request off;/d; /auth_basic "/d
-  s#auth_basic_user_file /etc/nginx/\(.*\).htpasswd;#auth_request /password/\1;#' machine/etc/nginx/rooms.d/invoices.path
-sed -i '/^auth_request /a add_header WWW-Authenticate $room_challenge always;' machine/etc/nginx/snippets/rooms-server.conf
+  s#auth_basic_user_file /etc/nginx/\(.*\).htpasswd;#auth_request /password/\1;#' \
+  machine/etc/nginx/rooms.d/invoices.path
+sed -i '/^auth_request /a add_header WWW-Authenticate $room_challenge always;' \
+  machine/etc/nginx/snippets/rooms-server.conf
 echo '# mine' >machine/etc/nginx/conf.d/rooms-tickets.conf
 echo machine/etc/nginx/conf.d/rooms-tickets.conf >kept
 verb setup
 says 'by the blocks of pages' 0 'new file /etc/rooms/invoices.conf, with PASSWORDS=directory'
 holds 'no line of it was edited' [ "$(grep -c 'no version had' "$work/out")" = 0 ]
 came 'by the blocks of pages'
-holds 'the names and the certificate' [ "$(grep -E '^(HOSTS|CERTIFICATE|KEY)=' machine/etc/rooms/site | tr '\n' ' ')" = \
+holds 'the names and the certificate' \
+  [ "$(grep -E '^(HOSTS|CERTIFICATE|KEY)=' machine/etc/rooms/site | tr '\n' ' ')" = \
   'HOSTS=files.office.example CERTIFICATE=/etc/ssl/rooms.pem KEY=/etc/ssl/private/rooms.key ' ]
-holds 'who checks passwords' [ "$(value office PASSWORDS) $(value invoices PASSWORDS) $(value hr PASSWORDS)." = 'directory directory .' ]
-holds 'which nginx asks' grep -qF 'location ~ ^/password/(?<room_file>rooms-invoices|rooms)$' "$site"
-holds 'what is offered beside a ticket' grep -qx 'add_header WWW-Authenticate $room_challenge always;' machine/etc/rooms/nginx/server.d/tickets.conf
+holds 'who checks passwords' \
+  [ "$(value office PASSWORDS) $(value invoices PASSWORDS) $(value hr PASSWORDS)." \
+    = 'directory directory .' ]
+holds 'which nginx asks' \
+  grep -qF 'location ~ ^/password/(?<room_file>rooms-invoices|rooms)$' "$site"
+holds 'what is offered beside a ticket' \
+  grep -qx 'add_header WWW-Authenticate $room_challenge always;' \
+    machine/etc/rooms/nginx/server.d/tickets.conf
 # Edited by hand: it stays beside, and its lines are printed.
 of_before /usr
-sed -i 's#^client_max_body_size 1m;#client_max_body_size 2m;#' machine/etc/nginx/snippets/rooms-host.conf
+sed -i 's#^client_max_body_size 1m;#client_max_body_size 2m;#' \
+  machine/etc/nginx/snippets/rooms-host.conf
 echo 'allow 10.0.0.0/8;' >>machine/etc/nginx/rooms.d/invoices.path
-sed -i 's/server_name rooms.example;/server_name rooms.example _ *.x.example;/; /server_name/a gzip on;' machine/etc/nginx/sites-available/rooms
+sed -i 's/server_name rooms.example;/server_name rooms.example _ *.x.example;/
+  /server_name/a gzip on;' \
+  machine/etc/nginx/sites-available/rooms
 verb setup
 cp "$work/out" edited.out
 says 'edited files' 0 '/etc/nginx/snippets/rooms-host.conf is now /etc/nginx/snippets/rooms-host.conf.dpkg-bak, since it was edited'
@@ -348,11 +403,13 @@ for line in 'client_max_body_size 2m;' 'allow 10.0.0.0/8;' 'gzip on;'; do
   says "what was edited: $line" 0 "no version had: $line"
 done
 holds 'and nothing else' [ "$(grep -c 'no version had' "$work/out")" = 3 ]
-printf 'machine/etc/nginx/%s.dpkg-bak\n' snippets/rooms-host.conf rooms.d/invoices.path sites-available/rooms >kept
+printf 'machine/etc/nginx/%s.dpkg-bak\n' snippets/rooms-host.conf rooms.d/invoices.path \
+  sites-available/rooms >kept
 came 'edited files'
 holds 'names that are no hosts are left out' grep -qx HOSTS=rooms.example machine/etc/rooms/site
 holds 'which is said' [ "$(grep -c "^the site had the name '" edited.out)" = 2 ]
-holds 'what was edited is there' grep -qx 'client_max_body_size 2m;' machine/etc/nginx/snippets/rooms-host.conf.dpkg-bak
+holds 'what was edited is there' \
+  grep -qx 'client_max_body_size 2m;' machine/etc/nginx/snippets/rooms-host.conf.dpkg-bak
 # The new file is one's own from then on: what is edited in it stays too.
 echo '# mine' >>"$site"
 cp "$site" edited

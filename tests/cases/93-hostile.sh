@@ -15,7 +15,8 @@ import json
 import os
 import sys
 
-NAMES = ["../../escaped/evil", "../evil", "..", ".", "", "/etc/evil", "a/b", "tab\tname", "x" * 300, "good", "folder"]
+NAMES = ["../../escaped/evil", "../evil", "..", ".", "", "/etc/evil", "a/b", "tab\tname", "x" * 300,
+         "good", "folder"]
 
 
 class Liar(http.server.BaseHTTPRequestHandler):
@@ -68,7 +69,10 @@ lies() { # NAME WORD ..: what it prints is in NAME, and its port in `at`
   until [ -s "$1" ]; do sleep 0.05; done
   read -r at <"$1"
 }
-does_anywhere() { (unset TMPDIR && "$admin" "$@" >"$work/out" 2>"$work/err" </dev/null); status=$?; }
+does_anywhere() {
+  (unset TMPDIR && "$admin" "$@" >"$work/out" 2>"$work/err" </dev/null)
+  status=$?
+}
 does() { # WORD ..
   "$admin" "$@" >"$work/out" 2>"$work/err" </dev/null
   status=$?
@@ -83,7 +87,8 @@ told 'a room that tells other names' 1 'folders 2, documents 1, left out 11'
 find . -newer liar.py -type f ! -name asked ! -name got | sort >got
 echo ./out/copy/good >wanted
 same 'nothing is written outside DIR' got wanted
-told 'each of them is told' 1 '/archive/../../escaped/evil: left out: no room has such a name' '/archive/tab\tname'
+told 'each of them is told' 1 '/archive/../../escaped/evil: left out: no room has such a name' \
+  '/archive/tab\tname'
 told 'what is no listing' 1 '/archive/folder: not listed: '
 
 # What is sent is what was looked at: a file that becomes a link meanwhile isn't opened again.
@@ -113,9 +118,16 @@ holds 'gets the password' grep -q 'Basic YWxpY2U6d29yZA==' first
 holds 'and the other one nothing' [ "$(wc -l <second)" = 1 ]
 
 # A letter beyond ASCII is none of a name, whatever the locale.
-if has localedef && mkdir loc && localedef -i de_DE -f UTF-8 "$PWD/loc/de_DE.UTF-8" 2>/dev/null; then
+if has localedef && mkdir loc &&
+  localedef -i de_DE -f UTF-8 "$PWD/loc/de_DE.UTF-8" 2>/dev/null; then
   printf 'folder alice staff /\n' >lists
-  localized() { (export LOCPATH=$PWD/loc LC_ALL=de_DE.UTF-8; "$admin" "$@" >"$work/out" 2>"$work/err" </dev/null) 2>/dev/null; status=$?; }
+  localized() {
+    (
+      export LOCPATH=$PWD/loc LC_ALL=de_DE.UTF-8
+      "$admin" "$@" >"$work/out" 2>"$work/err" </dev/null
+    ) 2>/dev/null
+    status=$?
+  }
   for name in bü aß; do
     localized handover --as root http://127.0.0.1:1 lists "$name" alice
     told "the user $name in another locale" 2 "'$name' isn't the name of a user"
@@ -134,7 +146,8 @@ room=http://127.0.0.1:$port
 asks 'a document' made PUT /doc/file root hello
 asks 'one with the name of its list' made PUT /doc/file.acl root mine
 does export --as root "$room" / whole
-told 'a list without a place' 1 "/file: its lists aren't written: cannot overwrite existing file" 'left out 1'
+told 'a list without a place' 1 "/file: its lists aren't written: cannot overwrite existing file" \
+  'left out 1'
 holds 'the documents are there' [ "$(cat whole/file whole/file.acl)" = hellomine ]
 asks 'it goes' done_reply DELETE /object/file.acl root
 
@@ -142,7 +155,8 @@ asks 'it goes' done_reply DELETE /object/file.acl root
 asks 'a folder' made POST /folder/letters root
 asks 'a folder in it' made POST /folder/letters/old root
 asks 'a document in it' made PUT /doc/letters/old/a%20b root text
-asks 'a list of its own' done_reply PUT /dacl/letters/old root $'list:p\nA:fd:bob:rx\nA:fd:root:'"$ALL"
+asks 'a list of its own' done_reply \
+  PUT /dacl/letters/old root $'list:p\nA:fd:bob:rx\nA:fd:root:'"$ALL"
 asks 'another one' done_reply PUT /dacl/letters/old/a%20b root $'list:p\nA::root:'"$ALL"
 for way in '' --no-lists; do
   rm -rf letters letters.acl kept kept.acl
@@ -161,7 +175,11 @@ for way in '' --no-lists; do
     told "a folder of $backup $way" 0 'folders 2, documents 1, left out 0'
     diff -r letters kept >found
     same "a folder of $backup is that of the room $way" found /dev/null
-    if [ -z "$way" ]; then same "its own list, of $backup" kept.acl letters.acl; else holds 'no list' [ ! -e kept.acl ]; fi
+    if [ -z "$way" ]; then
+      same "its own list, of $backup" kept.acl letters.acl
+    else
+      holds 'no list' [ ! -e kept.acl ]
+    fi
   done
   start_server F 1000 || return
   room=http://127.0.0.1:$port
@@ -181,7 +199,8 @@ stop_server
 if has_sqlite; then
   cp F tampered
   [ ! -e F-wal ] || cp F-wal tampered-wal
-  sqlite3 tampered "UPDATE nodes SET name = '../../../escaped/evil' WHERE name = 'a b'" >/dev/null 2>said
+  sqlite3 tampered "UPDATE nodes SET name = '../../../escaped/evil' WHERE name = 'a b'" \
+    >/dev/null 2>said
   start_server tampered 1000 || return
   does export --as root "http://127.0.0.1:$port" /letters out/tampered
   told 'a damaged room' 1 '/letters/old/../../../escaped/evil: left out: no room has such a name'
@@ -224,13 +243,17 @@ does_anywhere export --backup --conf conf.prog latest /letters kept
 told 'a folder again' 0 'folders 2, documents 1, left out 0'
 holds 'the copy has a network of its own' [ "$(cat net)" != "$(readlink /proc/self/ns/net)" ]
 holds 'it lies on a disk' grep -q ' serve /var/tmp/rooms-get' ran
-if [ "$(id -u)" = 0 ]; then holds 'nothing of it runs as root' [ "$(grep -vc '^65534 ' ran)" = 0 ]; fi
+if [ "$(id -u)" = 0 ]; then
+  holds 'nothing of it runs as root' [ "$(grep -vc '^65534 ' ran)" = 0 ]
+fi
 : >dies
-timeout "$patience" "$admin" get --conf conf.prog latest '/letters/old/a b' >"$work/out" 2>"$work/err"
+timeout "$patience" "$admin" get --conf conf.prog latest '/letters/old/a b' \
+  >"$work/out" 2>"$work/err"
 status=$?
 told 'a program that dies' 1 '/letters/old/a\ b: status -9'
 rm -rf kept kept.acl
-timeout "$patience" "$admin" export --backup --conf conf.prog latest /letters kept >"$work/out" 2>"$work/err"
+timeout "$patience" "$admin" export --backup --conf conf.prog latest /letters kept \
+  >"$work/out" 2>"$work/err"
 status=$?
 told 'a server that dies' 1 "the copy can't be served"
 rm dies
@@ -243,7 +266,8 @@ exec "$rooms" "\$@"
 END
 : >net
 rm -rf kept kept.acl
-TMPDIR=$PWD/own "$admin" export --backup --conf conf.prog latest /letters kept >"$work/out" 2>"$work/err" </dev/null &
+TMPDIR=$PWD/own "$admin" export --backup --conf conf.prog latest /letters kept \
+  >"$work/out" 2>"$work/err" </dev/null &
 getting=$!
 until [ -s net ]; do sleep 0.05; done
 kill -KILL "$getting"

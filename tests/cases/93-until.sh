@@ -1,4 +1,5 @@
-# rooms-admin until: accesses that have an end date are taken back, as whoever asked for the date, and nothing else is touched.
+# rooms-admin until: accesses that have an end date are taken back, as whoever asked for the date,
+# and nothing else is touched.
 
 . "$here/people.sh"
 if ! plays_people; then
@@ -7,7 +8,8 @@ if ! plays_people; then
 fi
 make_people
 as_user "$rooms" init "$PWD/office/F" alice staff >/dev/null
-printf '%s\n' list:a "A:fd:alice:$ALL" D:d:EVERYONE@:Dd A::AUTHENTICATED@:xt | as_user "$rooms" reset "$PWD/office/F" / dacl >/dev/null
+printf '%s\n' list:a "A:fd:alice:$ALL" D:d:EVERYONE@:Dd A::AUTHENTICATED@:xt |
+  as_user "$rooms" reset "$PWD/office/F" / dacl >/dev/null
 starts
 over=$(date -d '3 days ago' +%F)
 yesterday=$(date -d yesterday +%F)
@@ -16,7 +18,8 @@ later=$(date -d '90 days' +%F)
 
 asked() { # NAME STATUS USER METHOD TARGET [BODY]
   local got
-  got=$(curl -s -o "$work/body" -w '%{http_code}' -H "Room-User: $3" -X "$4" "http://127.0.0.1:$port$5" ${6+--data-binary "$6"})
+  got=$(curl -s -o "$work/body" -w '%{http_code}' -H "Room-User: $3" \
+    -X "$4" "http://127.0.0.1:$port$5" ${6+--data-binary "$6"})
   holds "$1 (status $got): $(head -c 200 "$work/body")" [ "$got" = "$2" ]
 }
 lists() { printf '%s\n' "$@"; } # LINE ..
@@ -38,31 +41,42 @@ top=("A:fdI:alice:$ALL" D:dI:EVERYONE@:Dd)
 ends() { echo "A:g:until.$1.$2.$3@$4:"; } # DATE LEVEL u|g.WHO ASKER
 ended() { echo "A:g:ended.$today.$1.$2@$3:"; } # LEVEL u|g.WHO ASKER
 
-# What is over goes, at folders and documents, and in the list of whoever asked. What isn't, and what others have, stays.
-for path in projects projects/bridge carols; do asked 'a folder' 201 alice POST "/folder/$path"; done
+# What is over goes, at folders and documents, and in the list of whoever asked. What isn't, and
+# what others have, stays.
+for path in projects projects/bridge carols; do
+  asked 'a folder' 201 alice POST "/folder/$path"
+done
 asked 'a document' 201 alice PUT '/doc/projects/plan%20%22a%22' x
-bridge=(list:a A:fd:bob:rwaxtc A:fd:eve:rxtc "$(ends "$over" read u.eve alice)" A:d:dan:wa A:fd:dan:rxtc "$(ends "$yesterday" add u.dan alice)"
-  'A:fd:OFFICE\fay:rxtc' "$(ends "$today" read 'u.OFFICE\fay' alice)" A::eve:x A:fdg:eve:rxtc A:fdg:staff:rxtc "$(ends "$over" read g.staff alice)"
-  A:fi:OWNER@:d)
+bridge=(list:a A:fd:bob:rwaxtc A:fd:eve:rxtc "$(ends "$over" read u.eve alice)" A:d:dan:wa
+  A:fd:dan:rxtc "$(ends "$yesterday" add u.dan alice)"
+  'A:fd:OFFICE\fay:rxtc' "$(ends "$today" read 'u.OFFICE\fay' alice)" A::eve:x A:fdg:eve:rxtc
+  A:fdg:staff:rxtc "$(ends "$over" read g.staff alice)" A:fi:OWNER@:d)
 sets alice /projects/bridge "${bridge[@]}"
-sets alice /projects list:a A::eve:x A::bob:xt "$(ends "$over" pass u.eve alice)" "$(ends "$later" pass u.bob alice)"
-sets alice '/projects/plan%20%22a%22' list:a A::bob@x.example:rwaxtc "$(ends "$over" change u.bob+40x.example alice)"
+sets alice /projects list:a A::eve:x A::bob:xt "$(ends "$over" pass u.eve alice)" \
+  "$(ends "$later" pass u.bob alice)"
+sets alice '/projects/plan%20%22a%22' list:a A::bob@x.example:rwaxtc \
+  "$(ends "$over" change u.bob+40x.example alice)"
 dumps
 curl -s -H 'Room-User: alice' "http://127.0.0.1:$port/dacl/projects/bridge" >before
 room_verb until --dry-run
-says 'what would be done' 0 "would take back: /projects/bridge: read of eve, until $over, asked by alice"
+says 'what would be done' 0 \
+  "would take back: /projects/bridge: read of eve, until $over, asked by alice"
 list_is 'is not done' alice /projects/bridge $(cat before)
 room_verb until
 says 'a person' 0 "taken back: /projects/bridge: read of eve, until $over, asked by alice"
 says 'two entries' 0 "taken back: /projects/bridge: add of dan, until $yesterday, asked by alice"
-says 'a group' 0 "taken back: /projects/bridge: read of the group staff, until $over, asked by alice"
+says 'a group' 0 \
+  "taken back: /projects/bridge: read of the group staff, until $over, asked by alice"
 says 'the way there' 0 "taken back: /projects: pass of eve, until $over, asked by alice"
 says 'a document' 0 "change of bob@x.example, until $over, asked by alice"
-after=(list:a A:fd:bob:rwaxtc "$(ended read u.eve alice)" "$(ended add u.dan alice)" 'A:fd:OFFICE\fay:rxtc'
-  "$(ends "$today" read 'u.OFFICE\fay' alice)" A::eve:x A:fdg:eve:rxtc "$(ended read g.staff alice)" A:fi:OWNER@:d "${top[@]}")
+after=(list:a A:fd:bob:rwaxtc "$(ended read u.eve alice)" "$(ended add u.dan alice)"
+  'A:fd:OFFICE\fay:rxtc' "$(ends "$today" read 'u.OFFICE\fay' alice)" A::eve:x A:fdg:eve:rxtc
+  "$(ended read g.staff alice)" A:fi:OWNER@:d "${top[@]}")
 list_is 'those entries and no others' alice /projects/bridge "${after[@]}"
-list_is 'what is not over stays' alice /projects list:a A::bob:xt "$(ended pass u.eve alice)" "$(ends "$later" pass u.bob alice)" "${top[@]}"
-list_is 'of the document too' alice '/projects/plan%20%22a%22' list:a "$(ended change u.bob+40x.example alice)" "A:I:alice:$ALL"
+list_is 'what is not over stays' alice /projects list:a A::bob:xt "$(ended pass u.eve alice)" \
+  "$(ends "$later" pass u.bob alice)" "${top[@]}"
+list_is 'of the document too' alice '/projects/plan%20%22a%22' list:a \
+  "$(ended change u.bob+40x.example alice)" "A:I:alice:$ALL"
 asked 'eve may not read any more' 403 eve GET /folder/projects/bridge
 asked 'bob may' 200 bob GET /folder/projects/bridge
 dumps
@@ -72,12 +86,14 @@ list_is 'so nothing is done' alice /projects/bridge "${after[@]}"
 holds 'a date is no user of the room' [ "$("$rooms" review look/F / | grep -cE 'until|ended')" = 0 ]
 
 # Somebody has changed it: by hand, to another level, to another date, or the object has gone.
-changed=(list:a A:fd:eve:rwaxtc "$(ends "$over" read u.eve alice)" A:fd:bob:rxtc "$(ends "$over" read u.bob alice)")
+changed=(list:a A:fd:eve:rwaxtc "$(ends "$over" read u.eve alice)" A:fd:bob:rxtc
+  "$(ends "$over" read u.bob alice)")
 sets alice /projects/bridge "${changed[@]}"
 dumps
 room_verb until
 says 'another level' 1 "not taken back: /projects/bridge: read of eve, until $over, asked by alice: the entries of eve aren't those of 'read' any more"
-list_is 'stays, and others go' alice /projects/bridge list:a A:fd:eve:rwaxtc "$(ends "$over" read u.eve alice)" "$(ended read u.bob alice)" "${top[@]}"
+list_is 'stays, and others go' alice /projects/bridge list:a A:fd:eve:rwaxtc \
+  "$(ends "$over" read u.eve alice)" "$(ended read u.bob alice)" "${top[@]}"
 sets alice /projects/bridge list:a A:fd:bob:rxtc "$(ends "$over" read u.eve alice)"
 dumps
 room_verb until
@@ -89,7 +105,8 @@ dumps
 sets alice /projects/bridge list:a A:fd:eve:rxtc "$(ends "$later" read u.eve alice)"
 room_verb until
 ended_well 'a date that was put off after the night'
-list_is 'counts' alice /projects/bridge list:a A:fd:eve:rxtc "$(ends "$later" read u.eve alice)" "${top[@]}"
+list_is 'counts' alice /projects/bridge list:a A:fd:eve:rxtc "$(ends "$later" read u.eve alice)" \
+  "${top[@]}"
 sets alice /projects/bridge "${over_now[@]}"
 dumps
 asked 'a move' 204 alice POST /move/projects/bridge '{"to":"/projects/tunnel"}'
@@ -112,21 +129,27 @@ given=(list:a A:fd:carol:rxtc A:fd:eve:rxtc "$(ends "$over" read u.eve carol)")
 sets alice /given "${given[@]}"
 dumps
 room_verb until
-says 'in the name of somebody who has no way there' 1 "not taken back: /carols: read of eve, until $over, asked by alice: alice may not see the list any more: 403"
-says 'in the name of somebody who had' 1 "not taken back: /given: read of eve, until $over, asked by carol: carol may not change the list any more: 403"
+says 'in the name of somebody who has no way there' 1 \
+  "not taken back: /carols: read of eve, until $over, asked by alice: alice may not see the list any more: 403"
+says 'in the name of somebody who had' 1 \
+  "not taken back: /given: read of eve, until $over, asked by carol: carol may not change the list any more: 403"
 list_is 'nothing is done by the first' carol /carols "${forged[@]}"
 list_is 'nor by the second' alice /given "${given[@]}" "${top[@]}"
 sets carol /carols list:ap "A:fd:carol:$ALL"
 sets alice /given list:a
 
 # What is no date is told, and never carried out.
-nonsense=(list:a A:fd:eve:rxtc A:g:until.2026-02-30.read.u.eve@alice: A:g:until.2026-01-01.own.u.eve@alice:
-  A::until.2026-01-01.read.u.eve@alice: A:g:until.2026-01-01.read.u.eve@alice:r A:fdg:until.2026-01-01.read.u.eve@alice:
+nonsense=(list:a A:fd:eve:rxtc A:g:until.2026-02-30.read.u.eve@alice:
+  A:g:until.2026-01-01.own.u.eve@alice: A::until.2026-01-01.read.u.eve@alice:
+  A:g:until.2026-01-01.read.u.eve@alice:r A:fdg:until.2026-01-01.read.u.eve@alice:
   A:g:until.2026-01-01.read.u.eve:)
 sets alice /given "${nonsense[@]}"
 dumps
 room_verb until
-for line in "${nonsense[@]:2}"; do says 'what is no date' 1 "not understood: /given: $line is no date, and whoever manages it removes that"; done
+for line in "${nonsense[@]:2}"; do
+  says 'what is no date' 1 \
+    "not understood: /given: $line is no date, and whoever manages it removes that"
+done
 list_is 'stays as it is' alice /given "${nonsense[@]}" "${top[@]}"
 
 # In the night: what couldn't be taken back is a mail of its own, and the backup is a good one.
@@ -134,7 +157,8 @@ rm -rf backups/*
 sets alice /given "${nonsense[@]}" "$(ends "$over" read u.eve alice)"
 room_verb backup
 says 'a night' 0 "taken back: /given: read of eve, until $over, asked by alice"
-list_is 'takes it back' alice /given list:a "${nonsense[@]:2}" "$(ended read u.eve alice)" "${top[@]}"
+list_is 'takes it back' alice /given list:a "${nonsense[@]:2}" "$(ended read u.eve alice)" \
+  "${top[@]}"
 holds 'with a mail' grep -qF 'mail -s rooms on ' "$stand/messages"
 holds 'of what it is about' grep -qF 'accesses that should have ended root' "$stand/messages"
 holds 'and each line' [ "$(grep -c '^not understood: /given: ' "$stand/messages")" = 6 ]

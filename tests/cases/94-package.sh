@@ -1,10 +1,12 @@
-# tools/package: what the package has in it, and a machine of its own on which it is installed over a
-# version that had many files of nginx, serves two rooms, and is removed and purged, while the rooms stay. The machine is a copy of the folder
-# ROOMS_DEBIAN, which debootstrap has made by the command below; without that variable it is made
-# anew. It has a network of its own, without a way out.
+# tools/package: what the package has in it, and a machine of its own on which it is installed over
+# a version that had many files of nginx, serves two rooms, and is removed and purged, while the
+# rooms stay. The machine is a copy of the folder ROOMS_DEBIAN, which debootstrap has made by the
+# command below; without that variable it is made anew. It has a network of its own, without a way
+# out.
 
 top=$here/..
 . "$here/machine.sh"
+. "$here/single.sh"
 if ! has dpkg-deb || ! has gzip || ! has md5sum || ! has sha256sum; then
   skip 'the package' 'dpkg-deb, gzip, md5sum or sha256sum is missing'
   return
@@ -44,27 +46,30 @@ dpkg-deb -e "$package" control
 units=usr/lib/systemd/system
 docs=usr/share/doc/rooms
 for file in usr/bin/rooms usr/bin/rooms-import usr/bin/rooms-export usr/sbin/rooms-nightly \
-  usr/sbin/rooms-restore usr/sbin/rooms-get usr/sbin/rooms-add usr/sbin/rooms-setup usr/sbin/rooms-admin \
-  usr/sbin/rooms-doctor usr/bin/rooms-handover usr/share/man/man8/rooms-doctor.8.gz \
-  usr/sbin/rooms-standby usr/bin/rooms-admin usr/share/rooms/rooms_admin/__main__.py usr/share/man/man8/rooms-admin.8.gz \
-  $units/rooms-standby@.service $units/rooms-standby@.timer \
-  usr/share/man/man8/rooms-standby.8.gz usr/share/rooms/rooms_admin/site.py usr/share/rooms/site.conf.in \
-  usr/sbin/rooms-full $units/rooms-full@.service usr/share/man/man8/rooms-full.8.gz \
-  usr/share/rooms/before.txt usr/sbin/rooms-directory usr/share/rooms/room.conf.in \
-  usr/share/rooms/directory.apache usr/share/rooms/signed-in $units/rooms-passwords.service \
-  $units/rooms-directory@.service $units/rooms-directory@.timer usr/share/man/man8/rooms-directory.8.gz \
-  $units/rooms@.service $units/rooms-nightly@.service $units/nginx.service.d/rooms.conf usr/lib/tmpfiles.d/rooms.conf \
-  $units/rooms-nightly@.timer usr/share/rooms/page/index.html \
-  usr/share/man/man1/rooms.1.gz usr/share/man/man8/rooms-add.8.gz \
-  usr/share/man/man8/rooms-setup.8.gz usr/share/bash-completion/completions/rooms \
-  usr/share/bash-completion/completions/rooms-setup usr/share/bash-completion/completions/rooms-nightly \
-  $docs/docs/operating.md $docs/CHANGELOG.md $docs/copyright; do
+  usr/sbin/rooms-restore usr/sbin/rooms-get \
+  usr/sbin/rooms-add usr/sbin/rooms-setup usr/sbin/rooms-admin usr/sbin/rooms-doctor \
+  usr/bin/rooms-handover usr/share/man/man8/rooms-doctor.8.gz usr/sbin/rooms-standby \
+  usr/bin/rooms-admin usr/share/rooms/rooms_admin/__main__.py usr/share/man/man8/rooms-admin.8.gz \
+  $units/rooms-standby@.service $units/rooms-standby@.timer usr/share/man/man8/rooms-standby.8.gz \
+  usr/share/rooms/rooms_admin/site.py usr/share/rooms/site.conf.in usr/sbin/rooms-full \
+  $units/rooms-full@.service usr/share/man/man8/rooms-full.8.gz usr/share/rooms/before.txt \
+  usr/sbin/rooms-directory usr/share/rooms/room.conf.in usr/share/rooms/directory.apache \
+  usr/share/rooms/signed-in $units/rooms-passwords.service $units/rooms-directory@.service \
+  $units/rooms-directory@.timer usr/share/man/man8/rooms-directory.8.gz $units/rooms@.service \
+  $units/rooms-nightly@.service $units/nginx.service.d/rooms.conf usr/lib/tmpfiles.d/rooms.conf \
+  $units/rooms-nightly@.timer usr/share/rooms/page/index.html usr/share/man/man1/rooms.1.gz \
+  usr/share/man/man8/rooms-add.8.gz usr/share/man/man8/rooms-setup.8.gz \
+  usr/share/bash-completion/completions/rooms usr/share/bash-completion/completions/rooms-setup \
+  usr/share/bash-completion/completions/rooms-nightly $docs/docs/operating.md $docs/CHANGELOG.md \
+  $docs/copyright; do
   holds "$file is in it" [ -s "files/$file" ]
 done
 same 'the program is the one that was built' files/usr/bin/rooms "$rooms"
-holds 'no setting is a conffile, which no script may edit' [ ! -e files/etc -a ! -e control/conffiles ]
+holds 'no setting is a conffile, which no script may edit' \
+  [ ! -e files/etc -a ! -e control/conffiles ]
 dpkg-deb -f "$package" Recommends >found
-holds 'a mail program is recommended, without which nobody is told of a failure' grep -q 'mailx.*mail-transport-agent' found
+holds 'a mail program is recommended, without which nobody is told of a failure' \
+  grep -q 'mailx.*mail-transport-agent' found
 grep -rlE '/usr/local/(s?bin|lib|share)/rooms' files >found
 : >nothing
 same 'no file looks below /usr/local' found nothing
@@ -82,38 +87,6 @@ else
   skip 'what lintian says' 'lintian is missing'
 fi
 
-# A package of the form of 1.0.0: nginx's files are conffiles, and its script enables one of two sites.
-single_package() {
-  local part
-  dpkg-deb -R "$older" one || return
-  rm -rf one/usr/sbin/rooms-{add,setup} one/usr/share/rooms/{site.conf.in,room.conf.in,before.txt} \
-    one/usr/lib/tmpfiles.d one/$units/nginx.service.d
-  mkdir -p one/etc/nginx/{snippets,sites-available}
-  for part in http server host page proxy remember remembered machine front directory; do
-    sed 's#/usr/local/#/usr/#g' "$data/before/nginx-$part.conf" >"one/etc/nginx/snippets/rooms-$part.conf"
-  done
-  sed 's#/usr/local/#/usr/#g' "$data/before/nginx.conf" >one/etc/nginx/sites-available/rooms
-  sed 's#/usr/local/#/usr/#g' "$data/before/nginx-tls.conf" >one/etc/nginx/sites-available/rooms-tls
-  cat >one/DEBIAN/postinst <<'END'
-#!/bin/sh
-set -e
-getent passwd rooms >/dev/null || useradd --system --user-group --home-dir /var/lib/rooms --shell /usr/sbin/nologin rooms
-mkdir -p /etc/rooms /etc/nginx/rooms.d /var/lib/rooms /var/backups/rooms
-chown rooms:rooms /var/lib/rooms
-chmod 700 /var/lib/rooms /var/backups/rooms
-[ -e /etc/rooms/office.conf ] || printf '%s\n' FILE=/var/lib/rooms/office.rooms PORT=8780 TITLE=office \
-  BACKUPS=/var/backups/rooms KEEP=30 MAIL=root UNIT=rooms@office PROGRAM=/usr/bin/rooms >/etc/rooms/office.conf
-[ -e /etc/nginx/rooms.htpasswd ] || { : >/etc/nginx/rooms.htpasswd; chgrp www-data /etc/nginx/rooms.htpasswd; chmod 640 /etc/nginx/rooms.htpasswd; }
-rm -f /etc/nginx/sites-enabled/default
-ln -sfn ../sites-available/rooms /etc/nginx/sites-enabled/rooms
-echo '<!doctype html>' >/etc/nginx/rooms.d/start.html
-END
-  rm -f one/DEBIAN/{preinst,prerm,postrm}
-  (cd one && find etc -type f | sort | sed 's|^|/|' >DEBIAN/conffiles &&
-    find usr -type f -print0 | sort -z | xargs -0 md5sum >DEBIAN/md5sums &&
-    sed -i 's/^Version: .*/Version: 0.0.8/' DEBIAN/control) &&
-    dpkg-deb --root-owner-group --build one "$single" >said 2>&1
-}
 holds 'a package with many files of nginx' single_package
 
 make_machine 'a machine with the package' || return
@@ -140,7 +113,8 @@ room() { (cd "$machine/var/lib/rooms" && stat -c '%n %i %s %y %U' ./* && cksum .
 restarts() { # NAME: all that is amiss is that there is no mail program
   inside "$(block docs/upgrading.md 'rooms-admin check' | sed 's/admin check/& office/')"
   holds "$1: status $status, $(head -c 300 "$work/out" "$work/err")" [ "$status" = 1 ]
-  holds "$1: $(head -c 300 "$work/out")" grep -qx 'rooms WARNING - office: no mail program, so root is told of nothing: apt-get install bsd-mailx\(, no backup yet\)\?' "$work/out"
+  holds "$1: $(head -c 300 "$work/out")" \
+    grep -qx 'rooms WARNING - office: no mail program, so root is told of nothing: apt-get install bsd-mailx\(, no backup yet\)\?' "$work/out"
 }
 replies() { # NAME
   does "$1" "curl -s -u alice:typed $reply"
@@ -148,15 +122,20 @@ replies() { # NAME
   same "$1: what it has" "$work/out" wanted
 }
 before=$machine/etc/nginx
-sed -e 's/@NAME@/hr/g; s/@PORT@/8781/g; s/@HOST@/hr.example/g' "$data/before/room/host" >"$before/rooms.d/hr.host"
-printf '%s\n' FILE=/var/lib/rooms/hr.rooms PORT=8781 TITLE=hr BACKUPS=/var/backups/rooms UNIT=rooms@hr PROGRAM=/usr/bin/rooms \
-  >"$machine/etc/rooms/hr.conf"
-# What somebody wrote into it: passwords that are remembered, by the block of then, a name, and a line of their own.
-does 'what was set' "cd /etc/nginx && ln -s ../snippets/rooms-remember.conf conf.d/rooms-remember.conf
+sed -e 's/@NAME@/hr/g; s/@PORT@/8781/g; s/@HOST@/hr.example/g' "$data/before/room/host" \
+  >"$before/rooms.d/hr.host"
+printf '%s\n' FILE=/var/lib/rooms/hr.rooms PORT=8781 TITLE=hr BACKUPS=/var/backups/rooms \
+  UNIT=rooms@hr PROGRAM=/usr/bin/rooms >"$machine/etc/rooms/hr.conf"
+# What somebody wrote into it: passwords that are remembered, by the block of then, a name, and a
+# line of their own.
+does 'what was set' "cd /etc/nginx &&
+  ln -s ../snippets/rooms-remember.conf conf.d/rooms-remember.conf
   sed -i 's#^auth_basic \".*;#include snippets/rooms-remembered.conf;#
-    s#^auth_basic_user_file /etc/nginx/\\(.*\\).htpasswd;#auth_request /password/\\1;#' snippets/rooms-server.conf
+    s#^auth_basic_user_file /etc/nginx/\\(.*\\).htpasswd;#auth_request /password/\\1;#' \
+    snippets/rooms-server.conf
   sed -i 's/rooms.example/rooms.example files.example/' sites-available/rooms
-  sed -i '/^client_max_body_size/a access_log /var/log/nginx/rooms.log;' snippets/rooms-host.conf; systemctl reload nginx"
+  sed -i '/^client_max_body_size/a access_log /var/log/nginx/rooms.log;' snippets/rooms-host.conf
+  systemctl reload nginx"
 replies 'it is so'
 
 # An upgrade from there, by the blocks of upgrading.md: nginx has one file then.
@@ -167,7 +146,8 @@ holds 'has the room' [ -s "$machine/$backup/office.rooms" ]
 replies 'the server runs after it'
 does 'the newer package' "$(block docs/upgrading.md 'install -y ./rooms_VERSION' | head -n 1)"
 for line in "systemctl restart 'rooms@\*'" '/etc/nginx/snippets/rooms-server.conf is removed' \
-  'new file /etc/rooms/hr.conf, with HOST=hr.example' '/etc/nginx/conf.d/rooms-remember.conf is removed' \
+  'new file /etc/rooms/hr.conf, with HOST=hr.example' \
+  '/etc/nginx/conf.d/rooms-remember.conf is removed' \
   '/etc/nginx/snippets/rooms-host.conf is now /etc/nginx/snippets/rooms-host.conf.dpkg-bak' \
   'no version had: access_log /var/log/nginx/rooms.log;'; do
   holds "it says: $line" grep -q "$line" "$work/out"
@@ -177,7 +157,8 @@ replies 'the same room by one file'
 printf './%s\n' rooms.htpasswd sites-available/default sites-available/rooms sites-enabled/rooms \
   snippets/rooms-host.conf.dpkg-bak | sort >wanted
 same 'it is all that nginx has of rooms' found wanted
-does 'its names' "grep -E '^HOSTS=' /etc/rooms/site; curl -s -o /dev/null -w '%{http_code}\n' -H 'Host: hr.example' http://127.0.0.1/doc/x
+does 'its names' "grep -E '^HOSTS=' /etc/rooms/site
+  curl -s -o /dev/null -w '%{http_code}\n' -H 'Host: hr.example' http://127.0.0.1/doc/x
   curl -s -o /dev/null -w '%{http_code}\n' -u alice:no 'http://127.0.0.1/doc/x?[1-120]' | sort -u"
 prints 'with tries that are limited' 'HOSTS=rooms.example files.example' 401 401 429
 does 'a second run' 'rooms-admin setup'
@@ -214,7 +195,8 @@ same 'nor units' found nothing
 
 # The README's commands on a bare machine.
 cp "$older" "$machine/root/"
-does 'the package is installed' "$(block README.md './rooms_' | sed "s/rooms_\*/${older%_amd64.deb}/")"
+does 'the package is installed' \
+  "$(block README.md './rooms_' | sed "s/rooms_\*/${older%_amd64.deb}/")"
 holds 'it prints the address' grep -q '^Users then open http://' "$work/out"
 holds 'and what is left' grep -q 'rooms init' "$work/out"
 does 'its files are whole' 'dpkg -V rooms'
@@ -236,15 +218,18 @@ same 'is served' "$work/out" files/usr/share/rooms/page/index.html
 
 # A second room, by the blocks of several.md.
 does 'a second room' "$(block docs/several.md 'invoices carol accounting')"
-holds 'it is made' grep -q '^room /var/lib/rooms/invoices.rooms, of carol and accounting$' "$work/out"
-does 'and where it is' 'systemctl is-active rooms@invoices; cd /etc/systemd/system && ls *.wants/*invoices*
+holds 'it is made' \
+  grep -q '^room /var/lib/rooms/invoices.rooms, of carol and accounting$' "$work/out"
+does 'and where it is' 'systemctl is-active rooms@invoices
+  cd /etc/systemd/system && ls *.wants/*invoices*
   stat -c "%U %a" /var/lib/rooms/invoices.rooms /var/backups/rooms/invoices'
 prints 'it runs' active multi-user.target.wants/rooms@invoices.service \
   timers.target.wants/rooms-nightly@invoices.timer 'rooms 600' 'root 700'
 invoice=http://127.0.0.1/invoices/doc/one
 second() { # NAME
   does "$1" "curl -s -u carol:typed $invoice; for who in carol:typed@127.0.0.1/doc/letters/reply \
-    alice:typed@127.0.0.1/invoices/doc/one; do curl -s -o /dev/null -w ' %{http_code}' http://\$who; done; echo"
+    alice:typed@127.0.0.1/invoices/doc/one; do
+    curl -s -o /dev/null -w ' %{http_code}' http://\$who; done; echo"
   prints "$1: each room has its users" 'first 401 401'
 }
 does 'a document in it' "curl -s -u carol:typed -X PUT -d first -w '%{http_code}\n' $invoice"
@@ -257,7 +242,8 @@ second 'it runs after its backup'
 does 'a tree comes in' 'mkdir -p share/2026 && echo ten >share/2026/bill && echo typed |
   rooms-import --user carol http://127.0.0.1/invoices share /archive'
 holds 'all of it' grep -q 'left out 0$' "$work/out"
-does 'and goes out' 'echo typed | rooms-export --user carol --no-lists http://127.0.0.1/invoices /archive out &&
+does 'and goes out' 'echo typed |
+  rooms-export --user carol --no-lists http://127.0.0.1/invoices /archive out &&
   diff -r share out'
 refused() { # NAME TEXT ARGUMENT ..
   inside "rooms-admin add ${*:3}"
@@ -266,56 +252,73 @@ refused() { # NAME TEXT ARGUMENT ..
 }
 refused 'a room that is there' 'room exists' invoices
 refused 'a port of nginx' 'port in use: something listens' --port 80 other dora staff
-refused 'a port of a room' 'port in use: /etc/rooms/office.conf has 8780' --port 8780 other dora staff
+refused 'a port of a room' 'port in use: /etc/rooms/office.conf has 8780' \
+  --port 8780 other dora staff
 refused 'a room without an owner' 'OWNER and GROUP are needed' other
 inside 'rooms-admin add other "no name" staff'
 holds 'an owner that is none fails' [ "$status" = 1 ]
 holds 'by its name' grep -q 'refused: A3 bad who' "$work/err"
-find "$machine"/etc/{rooms,nginx} "$machine/var/lib/rooms" "$machine/var/backups" -name '*other*' >found
+find "$machine"/etc/{rooms,nginx} "$machine/var/lib/rooms" "$machine/var/backups" -name '*other*' \
+  >found
 same 'and leaves nothing' found nothing
 does 'two rooms of one file' 'sed -i "s/invoices.rooms/office.rooms/" /etc/rooms/invoices.conf
-  systemctl restart rooms@invoices || cat /run/rooms@invoices.fault; systemctl is-active rooms@invoices || :'
+  systemctl restart rooms@invoices || cat /run/rooms@invoices.fault
+  systemctl is-active rooms@invoices || :'
 prints 'the second one does not start' 'fault: database' inactive
 replies 'the first one goes on'
-does 'its own file' 'sed -i "s/office.rooms/invoices.rooms/" /etc/rooms/invoices.conf && systemctl start rooms@invoices'
+does 'its own file' 'sed -i "s/office.rooms/invoices.rooms/" /etc/rooms/invoices.conf &&
+  systemctl start rooms@invoices'
 second 'brings it back'
-does 'timers that somebody enabled' 'systemctl enable --now rooms-directory@invoices.timer rooms-standby@invoices.timer
+does 'timers that somebody enabled' \
+  'systemctl enable --now rooms-directory@invoices.timer rooms-standby@invoices.timer
   echo MOST=1 >/etc/rooms/invoices.groups'
 does 'it is taken away' "$(block docs/several.md 'rooms-admin remove')"
 holds 'its file stays' grep -qx 'kept /var/lib/rooms/invoices.rooms' "$work/out"
 holds 'what it takes from a directory too' grep -qx 'kept /etc/rooms/invoices.groups' "$work/out"
-does 'no unit of it is enabled' 'rm /etc/rooms/invoices.groups; ! ls -d /etc/systemd/system/*.wants/*invoices* 2>/dev/null'
-does 'nobody gets there' "curl -s -o /dev/null -w '%{http_code}\n' -u carol:typed $invoice; systemctl is-active rooms@invoices || :"
+does 'no unit of it is enabled' \
+  'rm /etc/rooms/invoices.groups; ! ls -d /etc/systemd/system/*.wants/*invoices* 2>/dev/null'
+does 'nobody gets there' "curl -s -o /dev/null -w '%{http_code}\n' -u carol:typed $invoice
+  systemctl is-active rooms@invoices || :"
 prints 'and no server runs' 401 inactive
-does 'the same room again, by the name that the verb had' 'rooms-add --title "Invoices & more" invoices'
-holds 'with its users' grep -q '^kept /etc/nginx/rooms-invoices.htpasswd: its 1 users may sign in$' "$work/out"
+does 'the same room again, by the name that the verb had' \
+  'rooms-add --title "Invoices & more" invoices'
+holds 'with its users' \
+  grep -q '^kept /etc/nginx/rooms-invoices.htpasswd: its 1 users may sign in$' "$work/out"
 second 'it is back'
 # Passwords are remembered, where nginx alone reads them, and checked where it alone enters.
 does 'where they are' 'stat -c "%U %G %a" /run/rooms-front /run/rooms-front/remembered'
 prints 'for one user' 'root www-data 710' 'www-data root 700'
-does 'nobody else has passwords checked' 'setpriv --reuid=65534 --regid=65534 --clear-groups curl -s -o /dev/null -w "%{http_code}\n" \
-  --unix-socket /run/rooms-front/passwords.sock -u alice:typed http://x/password/rooms || :'
+does 'nobody else has passwords checked' 'setpriv --reuid=65534 --regid=65534 --clear-groups \
+  curl -s -o /dev/null -w "%{http_code}\n" --unix-socket /run/rooms-front/passwords.sock \
+  -u alice:typed http://x/password/rooms || :'
 prints 'not even with the right one' 000
 # A killed nginx leaves its socket, and the next one starts by what is done before.
-does 'nginx is killed, and starts again' 'master=$(cat /run/nginx.pid); workers=$(cat /proc/$master/task/*/children)
-  kill -9 $master $workers; while kill -0 $master 2>/dev/null; do sleep 0.05; done; rm -f /run/nginx.pid
+does 'nginx is killed, and starts again' 'master=$(cat /run/nginx.pid)
+  workers=$(cat /proc/$master/task/*/children)
+  kill -9 $master $workers; while kill -0 $master 2>/dev/null; do sleep 0.05; done
+  rm -f /run/nginx.pid
   [ -S /run/rooms-front/passwords.sock ] && ! nginx 2>/dev/null
-  sed -n "s/^ExecStartPre=-//p" /usr/lib/systemd/system/nginx.service.d/rooms.conf | bash -e && nginx'
+  sed -n "s/^ExecStartPre=-//p" /usr/lib/systemd/system/nginx.service.d/rooms.conf | bash -e &&
+  nginx'
 replies 'office after that'
 # Files that nginx refuses, and a site that somebody has edited: what was there goes on.
-inside 'sed -i "s/^HOSTS=.*/HOSTS=rooms.example hr.example/" /etc/rooms/site; echo "nonsense;" >/etc/rooms/nginx/server.d/x.conf; rooms-admin setup'
+inside 'sed -i "s/^HOSTS=.*/HOSTS=rooms.example hr.example/" /etc/rooms/site
+  echo "nonsense;" >/etc/rooms/nginx/server.d/x.conf; rooms-admin setup'
 holds 'files that nginx refuses' [ "$status" = 1 ]
 holds 'by its words' grep -q 'nginx refuses its files, and they are as before' "$work/err"
-holds 'the site is the old one' eval '! grep -q "server_name rooms.example hr.example" "$machine/etc/nginx/sites-available/rooms"'
+holds 'the site is the old one' \
+  eval '! grep -q "server_name rooms.example hr.example" "$machine/etc/nginx/sites-available/rooms"'
 does 'once they are mended' 'rm /etc/rooms/nginx/server.d/x.conf; rooms-admin setup && nginx -t -q'
-holds 'the site is new' grep -q 'server_name rooms.example hr.example' "$machine/etc/nginx/sites-available/rooms"
+holds 'the site is new' \
+  grep -q 'server_name rooms.example hr.example' "$machine/etc/nginx/sites-available/rooms"
 echo '# mine' >>"$machine/etc/nginx/sites-available/rooms"
 inside 'sed -i "s/^HOSTS=.*/HOSTS=rooms.example/" /etc/rooms/site; rooms-admin setup'
 holds 'a site that somebody edited' [ "$status" = 1 ]
 holds 'stays' grep -q '^# mine' "$machine/etc/nginx/sites-available/rooms"
 inside 'rooms-admin add more dora staff'
 holds 'no room is added to it' [ "$status" = 2 -a ! -e "$machine/etc/rooms/more.conf" ]
-does 'the new one in its place' 'cd /etc/nginx/sites-available && mv rooms.new rooms && rooms-admin setup && nginx -t -q'
+does 'the new one in its place' \
+  'cd /etc/nginx/sites-available && mv rooms.new rooms && rooms-admin setup && nginx -t -q'
 second 'nothing else has changed'
 
 # An upgrade to the same form.
@@ -364,7 +367,8 @@ fi
 # It is removed, installed again, and purged. Beside these rooms there is one for the front end of
 # another machine, and a place of one that is there.
 does 'certificates of machines' "mkdir -p -m 700 /etc/rooms/machines && cd /etc/rooms/machines &&
-  openssl req -x509 -newkey rsa:2048 -noenc -days 9 -subj /CN=localhost -keyout machine.key -out machine.pem 2>/dev/null &&
+  openssl req -x509 -newkey rsa:2048 -noenc -days 9 -subj /CN=localhost -keyout machine.key \
+    -out machine.pem 2>/dev/null &&
   cp machine.pem authority.pem && cp machine.pem front.pem && cp machine.key front.key"
 does 'a room behind another front end, and one on another machine' \
   'rooms-admin add --behind ledger dora staff && rooms-admin add --on 127.0.0.1 archive'
@@ -392,30 +396,41 @@ same 'the room stays' after before
 does 'it is installed again' "$(block docs/upgrading.md 'enable --now "$unit"')"
 for room in office invoices; do
   holds "it says how $room is served again" grep -qF \
-    "the room $room isn't served, or has no backups, until: systemctl enable --now rooms@$room rooms-nightly@$room.timer" "$work/out"
+    "the room $room isn't served, or has no backups, until: systemctl enable --now rooms@$room rooms-nightly@$room.timer" \
+    "$work/out"
 done
 behind 'it is there again'
-does 'so is the check of passwords' 'stat -c "%U %G %a" /run/rooms-front; cd /run/rooms-front && ls *.sock'
+does 'so is the check of passwords' \
+  'stat -c "%U %G %a" /run/rooms-front; cd /run/rooms-front && ls *.sock'
 prints 'where nginx alone enters' 'root www-data 710' passwords.sock
-does 'those two rooms go' "systemctl stop rooms@ledger; rooms-admin remove ledger && rooms-admin remove archive &&
-  rm -r /etc/rooms/machines /etc/nginx/rooms-archive.htpasswd /var/lib/rooms/ledger.rooms* /var/backups/rooms/ledger"
+does 'those two rooms go' "systemctl stop rooms@ledger
+  rooms-admin remove ledger && rooms-admin remove archive &&
+  rm -r /etc/rooms/machines /etc/nginx/rooms-archive.htpasswd /var/lib/rooms/ledger.rooms* \
+    /var/backups/rooms/ledger"
 room >before
 holds 'settings have stayed' grep -q '^# mine' "$machine/etc/rooms/office.conf"
 replies 'the room is served again'
 second 'the other one too'
 does 'a certificate' 'openssl req -x509 -newkey rsa:2048 -noenc -days 9 \
-  -subj /CN=rooms.example -keyout k.pem -out c.pem 2>/dev/null && rooms-admin setup --tls c.pem k.pem'
+  -subj /CN=rooms.example -keyout k.pem -out c.pem 2>/dev/null &&
+  rooms-admin setup --tls c.pem k.pem'
 does 'removed with TLS' 'systemctl stop rooms@office rooms@invoices; apt-get remove -y rooms'
 does 'installed with TLS' \
-  "apt-get install -y /root/$package && curl -sk -o /dev/null -w '%{http_code}\n' https://127.0.0.1/ && grep -c 'listen 443' /etc/nginx/sites-available/rooms"
+  "apt-get install -y /root/$package &&
+  curl -sk -o /dev/null -w '%{http_code}\n' https://127.0.0.1/ &&
+  grep -c 'listen 443' /etc/nginx/sites-available/rooms"
 holds 'TLS stays' grep -qx 401 "$work/out"
 room >before
 # What somebody has put there, as other pages say.
-own='/etc/rooms/directory.secret /etc/rooms/machines /etc/rooms/nginx /etc/rooms/office.groups /etc/rooms/restic.password /etc/rooms/session.apache
+own='/etc/rooms/directory.secret /etc/rooms/machines /etc/rooms/nginx /etc/rooms/office.groups
+  /etc/rooms/restic.password /etc/rooms/session.apache
   /etc/systemd/system/rooms-session.service'
-does 'what is beside the settings' "mkdir /etc/rooms/machines; : | tee /etc/rooms/nginx/http.d/mine.conf $(echo $own | sed 's# /etc/rooms/\(machines\|nginx\)##g')"
+does 'what is beside the settings' \
+  "mkdir /etc/rooms/machines; : | tee /etc/rooms/nginx/http.d/mine.conf $(echo $own |
+    sed 's# /etc/rooms/\(machines\|nginx\)##g')"
 does 'purged' 'apt-get purge -y rooms'
-printf '%s\n' /var/lib/rooms /var/backups/rooms $own /etc/nginx/rooms.htpasswd /etc/nginx/rooms-invoices.htpasswd | sort >wanted
+printf '%s\n' /var/lib/rooms /var/backups/rooms $own /etc/nginx/rooms.htpasswd \
+  /etc/nginx/rooms-invoices.htpasswd | sort >wanted
 # It is removed first, which says that all of /etc/rooms stays.
 sed -n 's/^rooms: kept //p' "$work/out" | tail -n "$(wc -l <wanted)" | sort >found
 same 'it says what stays, and where' found wanted
@@ -450,12 +465,14 @@ find "$machine/usr/local" "$machine/etc/systemd" -name 'rooms*' >found
 same 'nothing of it is left' found nothing
 does 'the package after it' "$(block docs/upgrading.md 'enable --now "$unit"')"
 replies 'the same room by the package'
-holds 'its page is the package'\''s' grep -q 'alias /usr/share/rooms/page/' "$machine/etc/nginx/sites-available/rooms"
+holds 'its page is the package'\''s' \
+  grep -q 'alias /usr/share/rooms/page/' "$machine/etc/nginx/sites-available/rooms"
 holds 'and its program' grep -qx PROGRAM=/usr/bin/rooms "$machine/etc/rooms/office.conf"
 cat "$machine"/etc/rooms/{directory,session}.apache >found
 printf 'AliasMatch ^/password/ /usr/share/rooms/signed-in\n%.0s' 1 2 >wanted
 same 'Apache is told where the file is now' found wanted
 holds 'the file is there' [ -s "$machine/usr/share/rooms/signed-in" ]
-does 'what was enabled' "[ ! -e rooms.units ] && readlink -e /etc/systemd/system/*.wants/rooms* | sed 's#.*/systemd/system/##'"
-prints 'is so again, by the units of the package' rooms-passwords.service rooms@.service rooms-directory@.timer rooms-nightly@.timer \
-  rooms-standby@.timer
+does 'what was enabled' "[ ! -e rooms.units ] &&
+  readlink -e /etc/systemd/system/*.wants/rooms* | sed 's#.*/systemd/system/##'"
+prints 'is so again, by the units of the package' rooms-passwords.service rooms@.service \
+  rooms-directory@.timer rooms-nightly@.timer rooms-standby@.timer

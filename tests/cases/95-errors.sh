@@ -1,5 +1,5 @@
-# The pages that a browser shows where nginx itself answers: without a password, without a room, with a room that hangs, and
-# where passwords can't be checked.
+# The pages that a browser shows where nginx itself answers: without a password, without a room,
+# with a room that hangs, and where passwords can't be checked.
 
 . "$here/front.sh"
 lacking=
@@ -10,14 +10,18 @@ if [ -n "$lacking" ]; then
   return
 fi
 
-# The status is nginx's own, the page says it in words, and nothing else is in it than its style, which needs no password.
+# The status is nginx's own, the page says it in words, and nothing else is in it than its style,
+# which needs no password.
 shows() { # NAME STATUS WORDS USER:PASSWORD TARGET ARGUMENT ..
   local name=$1 wanted=$2 words=$3
   ask "$name" "$wanted" - "${@:4}"
   holds "$name: in words" grep -qF "<h1>$words</h1>" "$work/body"
-  holds "$name: one file beside" [ "$(grep -oE '(href|src)="[^"]+"' "$work/body")" = 'href="/rooms/style.css"' ]
+  holds "$name: one file beside" \
+    [ "$(grep -oE '(href|src)="[^"]+"' "$work/body")" = 'href="/rooms/style.css"' ]
 }
-awaits_nobody() { [ "$(curl -s -o "$work/body" -w '%{http_code}' -u alice:a "$base/can/?")" = "$1" ]; }
+awaits_nobody() {
+  [ "$(curl -s -o "$work/body" -w '%{http_code}' -u alice:a "$base/can/?")" = "$1" ]
+}
 
 printf 'alice:{PLAIN}a\n' >rooms.htpasswd
 open_room F
@@ -29,8 +33,10 @@ for target in / /folder/ /index.html /nothing; do
   shows "no password at $target" 401 'You aren’t signed in' '' "$target"
 done
 shows 'a wrong password' 401 'You aren’t signed in' alice:b /folder/
-holds 'the browser asks for it' [ "$(curl -s -D - -o /dev/null "$base/" | tr -d '\r' | grep -i '^www-authenticate:')" = 'WWW-Authenticate: Basic realm="rooms"' ]
-holds 'under the same policy' grep -qi "^Content-Security-Policy: default-src 'none'" <(curl -s -D - -o /dev/null "$base/")
+holds 'the browser asks for it' [ "$(curl -s -D - -o /dev/null "$base/" | tr -d '\r' |
+  grep -i '^www-authenticate:')" = 'WWW-Authenticate: Basic realm="rooms"' ]
+holds 'under the same policy' \
+  grep -qi "^Content-Security-Policy: default-src 'none'" <(curl -s -D - -o /dev/null "$base/")
 ask 'its style' 200 - '' /rooms/style.css
 same 'is that of the page' "$work/body" "$here/../contrib/page/style.css"
 ask 'nobody asks for them' 404 - '' /rooms/errors/502.html
@@ -49,9 +55,11 @@ reloaded awaits_nobody 200
 
 stop_server
 shows 'no room' 502 'The room doesn’t answer at the moment' alice:a /folder/
-shows 'no room for a document' 502 'The room doesn’t answer at the moment' alice:a /doc/f -X PUT --data-binary x
+shows 'no room for a document' 502 'The room doesn’t answer at the moment' alice:a /doc/f -X PUT \
+  --data-binary x
 
 # Passwords that nobody checks.
-sed -i '/^upstream rooms_passwords/,/^}/ s#server unix:.*#server unix:/nowhere/passwords.sock;#' sites-enabled/rooms
+sed -i '/^upstream rooms_passwords/,/^}/ s#server unix:.*#server unix:/nowhere/passwords.sock;#' \
+  sites-enabled/rooms
 reloaded awaits_nobody 503
 shows 'nobody checks passwords' 503 'The room is busy' alice:a /folder/

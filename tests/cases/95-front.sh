@@ -1,4 +1,5 @@
-# A room behind nginx, by the file that rooms-admin writes: passwords, the caller's name, other sites, slow callers and large ones.
+# A room behind nginx, by the file that rooms-admin writes: passwords, the caller's name, other
+# rooms and sites, slow callers and large ones, and ports that other users don't reach.
 
 . "$here/front.sh"
 top=$here/..
@@ -17,12 +18,16 @@ ask 'no password' 401 - '' /doc/f
 ask 'a wrong password' 401 - alice:x /doc/f
 ask 'alice makes a document' 201 '' alice:a /doc/f -X PUT --data-binary hello
 ask 'bob reads it' 200 hello bob:b /doc/f
-ask 'bob may not write' 403 '{"at":"/f","bits":"w","entry":null,"text":null}' bob:b /doc/f -X PUT --data-binary x
-ask 'bob is not root by saying so' 403 '{"at":"/f","bits":"w","entry":null,"text":null}' bob:b /doc/f -X PUT --data-binary x -H 'Room-User: root'
-ask 'nor in other letters' 403 '{"at":"/f","bits":"w","entry":null,"text":null}' bob:b /doc/f -X PUT --data-binary x -H 'room-user: root' -H 'ROOM-USER: root'
+ask 'bob may not write' 403 '{"at":"/f","bits":"w","entry":null,"text":null}' \
+  bob:b /doc/f -X PUT --data-binary x
+ask 'bob is not root by saying so' 403 '{"at":"/f","bits":"w","entry":null,"text":null}' \
+  bob:b /doc/f -X PUT --data-binary x -H 'Room-User: root'
+ask 'nor in other letters' 403 '{"at":"/f","bits":"w","entry":null,"text":null}' \
+  bob:b /doc/f -X PUT --data-binary x -H 'room-user: root' -H 'ROOM-USER: root'
 ask 'its owner is alice' 200 '{"group":"staff","kind":"document","owner":"alice"}' root:r /attr/f
 ask 'escapes go on as they came' 201 '' alice:a /doc/%C3%A9%20b -X PUT --data-binary x
-ask 'and are one name' 200 '[{"kind":"document","name":"f"},{"kind":"document","name":"é b"}]' alice:a /folder/
+ask 'and are one name' 200 '[{"kind":"document","name":"f"},{"kind":"document","name":"é b"}]' \
+  alice:a /folder/
 ask 'a slash that is escaped' 404 '{"at":"/g","why":"no-such"}' alice:a /doc/g%2Fh
 ask 'rights in a query' 200 '{"r":"allowed 3","w":"silent"}' bob:b '/can/f?rw'
 head -c 1048576 /dev/urandom >big
@@ -31,19 +36,13 @@ curl -s -u bob:b "http://127.0.0.1:$front/doc/big" >"$work/body"
 same 'it comes back' "$work/body" big
 printf x >>big
 ask 'one byte more' 413 - alice:a /doc/big -X PUT --data-binary @big -H 'Expect:'
-ask 'an upload in chunks' 204 '' alice:a /doc/f -X PUT --data-binary @rooms.htpasswd -H 'Transfer-Encoding: chunked'
+ask 'an upload in chunks' 204 '' \
+  alice:a /doc/f -X PUT --data-binary @rooms.htpasswd -H 'Transfer-Encoding: chunked'
 curl -s -u bob:b "http://127.0.0.1:$front/doc/f" >"$work/body"
 same 'which came in whole' "$work/body" rooms.htpasswd
 
-# What every answer says, and who may ask for changes: a browser sends passwords whichever site asks it to.
-policy="Content-Security-Policy: default-src 'none'; script-src 'self'; style-src 'self'; img-src 'self' blob:; connect-src 'self'; base-uri 'none'; form-action 'none'; frame-ancestors 'none'"
-says_all() { # USER:PASSWORD TARGET
-  local line
-  answer "$1" "$2"
-  for line in "$policy" 'X-Content-Type-Options: nosniff' 'Referrer-Policy: no-referrer'; do
-    holds "$1 $base$2 says ${line%%:*}" grep -qxF "$line"$'\r' "$work/head"
-  done
-}
+# What every answer says, and who may ask for changes: a browser sends passwords whichever site asks
+# it to.
 for target in / /app.js /none /me /doc/f /doc/none /folder/ /dacl/f '/can/f?r'; do
   for who in bob:b bob:x; do says_all $who "$target"; done
 done
@@ -60,29 +59,40 @@ ask 'the page' 200 - bob:b /
 ask 'not without a password' 401 - '' /
 ask 'what is neither the page nor a route' 404 - bob:b /nope
 ask 'a route that the room judges' 404 '{"why":"no-route"}' bob:b /doc
-for field in 'Sec-Fetch-Site: cross-site' 'Sec-Fetch-Site: same-site' 'Sec-Fetch-Site: other' 'Origin: http://elsewhere.example' \
-  'Origin: null' "Origin: http://127.0.0.1:$port" "Origin: https://127.0.0.1:$front" "Origin: http://127.0.0.1:$front.x"; do
-  for method in POST PUT DELETE OPTIONS; do ask "$method, $field" 403 - alice:a /doc/f -X $method -H "$field"; done
+for field in 'Sec-Fetch-Site: cross-site' 'Sec-Fetch-Site: same-site' 'Sec-Fetch-Site: other' \
+  'Origin: http://elsewhere.example' 'Origin: null' "Origin: http://127.0.0.1:$port" \
+  "Origin: https://127.0.0.1:$front" "Origin: http://127.0.0.1:$front.x"; do
+  for method in POST PUT DELETE OPTIONS; do
+    ask "$method, $field" 403 - alice:a /doc/f -X $method -H "$field"
+  done
   ask "GET, $field" 200 - alice:a /doc/f -H "$field"
 done
-for field in 'Sec-Fetch-Site: same-origin' 'Sec-Fetch-Site: none' "Origin: http://127.0.0.1:$front"; do
+for field in 'Sec-Fetch-Site: same-origin' 'Sec-Fetch-Site: none' \
+  "Origin: http://127.0.0.1:$front"; do
   ask "PUT, $field" 204 - alice:a /doc/f -X PUT --data-binary @rooms.htpasswd -H "$field"
 done
-ask 'one of both is foreign' 403 - alice:a /doc/f -X PUT -H 'Sec-Fetch-Site: same-origin' -H 'Origin: http://elsewhere.example'
+ask 'one of both is foreign' 403 - \
+  alice:a /doc/f -X PUT -H 'Sec-Fetch-Site: same-origin' -H 'Origin: http://elsewhere.example'
 
 # What nginx answers otherwise than the room: docs/http.md, Through nginx.
 ask 'a document before its part is sent' 204 - alice:a /doc/f -X PUT --data-binary 0123456789
-ask 'a part of a document' 400 - alice:a /doc/f -X PUT --data-binary 6789 -H 'Content-Range: bytes 6-9/10'
+ask 'a part of a document' 400 - \
+  alice:a /doc/f -X PUT --data-binary 6789 -H 'Content-Range: bytes 6-9/10'
 ask 'is not put in its place' 200 0123456789 alice:a /doc/f
-ask 'a chunked body' 204 - alice:a /doc/f -X PUT --data-binary chunked -H 'Transfer-Encoding: chunked'
+ask 'a chunked body' 204 - \
+  alice:a /doc/f -X PUT --data-binary chunked -H 'Transfer-Encoding: chunked'
 ask 'and all of it' 200 chunked alice:a /doc/f
-ask 'a client that waits before its body' 204 - alice:a /doc/f -X PUT --data-binary waited -H 'Expect: 100-continue'
+ask 'a client that waits before its body' 204 - \
+  alice:a /doc/f -X PUT --data-binary waited -H 'Expect: 100-continue'
 ask 'and its body' 200 waited alice:a /doc/f
-ask 'a target with a scheme and a host' 200 waited alice:a /doc/f --request-target "http://127.0.0.1:$front/doc/f"
+ask 'a target with a scheme and a host' 200 waited \
+  alice:a /doc/f --request-target "http://127.0.0.1:$front/doc/f"
 
-# A caller who sends slowly, and one who reads slowly: the others don't wait for them. Both take five seconds.
+# A caller who sends slowly, and one who reads slowly: the others don't wait for them. Both take
+# five seconds.
 truncate -s 1048576 big
-curl -s -o slow.out -w '%{http_code}' --limit-rate 200k -u alice:a -X PUT --data-binary @big -H 'Expect:' "http://127.0.0.1:$front/doc/slow" >slow.status &
+curl -s -o slow.out -w '%{http_code}' --limit-rate 200k -u alice:a -X PUT --data-binary @big \
+  -H 'Expect:' "http://127.0.0.1:$front/doc/slow" >slow.status &
 sender=$!
 curl -s -o slow.body --limit-rate 200k -u bob:b "http://127.0.0.1:$front/doc/big" &
 reader=$!
@@ -161,23 +171,7 @@ done
 wait "${many[@]}"
 for n in {1..30}; do ask "one of many" 200 "$n" bob:b "/doc/many$n"; done
 
-# Names of 255 bytes, each byte escaped as three; 16 of them are the longest path.
-printf -v name '%127s' ''
-name=${name// /%C3%A9}%78
-# At ROOM, the path before a route, WHO makes a document with the longest path, which READER reads.
-# One byte more is the room's to refuse.
-makes_deepest() { # ROOM WHO READER
-  local n
-  path=
-  for n in {1..15}; do
-    path=$path/$name
-    ask "a folder of ${1:-the root} at depth $n" 201 '' "$2" "$1/folder$path" -X POST
-  done
-  path=$path/$name
-  ask "a document of ${1:-the root} with the longest path" 201 '' "$2" "$1/doc$path" -X PUT --data-binary deep
-  ask 'is read' 200 deep "$3" "$1/doc$path"
-  ask 'a longer path' 400 '{"why":"bad-target P2"}' "$3" "$1/doc$path%78"
-}
+# The longest path.
 makes_deepest '' alice:a bob:b
 
 # A program's user, by the commands of passwords.md.
@@ -204,8 +198,10 @@ fi
 ask 'a document for later' 204 '' alice:a /doc/f -X PUT --data-binary kept
 
 # Further rooms: invoices at a path, hr at a host. Users of one are no users of another.
-answers() { [ "$(curl -s -o "$work/body" -w '%{http_code}' ${reach[@]+"${reach[@]}"} ${2:+-u "$2"} "$base$3")" = "$1" ]; }
-adds() { admin "$@"; [ "$status" = 0 ]; }
+answers() {
+  [ "$(curl -s -o "$work/body" \
+    -w '%{http_code}' ${reach[@]+"${reach[@]}"} ${2:+-u "$2"} "$base$3")" = "$1" ]
+}
 holds 'a room at a path' adds add --port $((port + 5)) --title 'Invoices & <orders>' invoices
 holds 'a room at a host' adds add --port $((port + 6)) --host hr.example hr
 take_front
@@ -219,17 +215,20 @@ second=$!
 began=$SECONDS
 until [ -s second.out ] || [ $((SECONDS - began)) -ge "$patience" ]; do sleep 0.05; done
 reloaded answers 404 carol:c /invoices/doc/f
-ask 'carol makes a document in the room at a path' 201 '' carol:c /invoices/doc/f -X PUT --data-binary invoice
+ask 'carol makes a document in the room at a path' 201 '' \
+  carol:c /invoices/doc/f -X PUT --data-binary invoice
 ask 'bob of that room reads it' 200 invoice bob:x /invoices/doc/f
 ask 'bob of office does not' 401 - bob:b /invoices/doc/f
 ask 'nor bob of that room in office' 401 - bob:x /doc/f
 ask 'nor does alice' 401 - alice:a /invoices/doc/f
 ask 'nor carol in office' 401 - carol:c /doc/f
-ask 'nor who says to be root' 403 '{"at":"/f","bits":"w","entry":null,"text":null}' bob:x /invoices/doc/f -X PUT --data-binary x -H 'Room-User: root'
+ask 'nor who says to be root' 403 '{"at":"/f","bits":"w","entry":null,"text":null}' \
+  bob:x /invoices/doc/f -X PUT --data-binary x -H 'Room-User: root'
 ask 'nobody without a password' 401 - '' /invoices/doc/f
 ask 'office has its own document' 200 kept bob:b /doc/f
 ask 'escapes go on as they came' 201 '' carol:c /invoices/doc/%C3%A9%20b -X PUT --data-binary x
-ask 'and are one name' 200 '[{"kind":"document","name":"f"},{"kind":"document","name":"é b"}]' carol:c /invoices/folder/
+ask 'and are one name' 200 '[{"kind":"document","name":"f"},{"kind":"document","name":"é b"}]' \
+  carol:c /invoices/folder/
 ask 'a slash that is escaped' 404 '{"at":"/g","why":"no-such"}' carol:c /invoices/doc/g%2Fh
 ask 'rights in a query' 200 '{"r":"allowed 2","w":"silent"}' bob:x '/invoices/can/f?rw'
 ask 'a route that the room judges' 404 '{"why":"no-route"}' bob:x /invoices/doc
@@ -238,11 +237,15 @@ for target in //invoices/doc/f /x/../invoices/doc/f /%69nvoices/doc/f /doc/../in
   ask "another way to write it, $target" 400 - carol:c "$target" --path-as-is
 done
 ask 'a way out of it' 401 - carol:c /invoices/../doc/f --path-as-is
-ask 'a way that the room judges' 400 '{"why":"bad-target P1"}' carol:c /invoices/folder/../doc/f --path-as-is
+ask 'a way that the room judges' 400 '{"why":"bad-target P1"}' \
+  carol:c /invoices/folder/../doc/f --path-as-is
 makes_deepest /invoices carol:c bob:x
-for target in /invoices/ /invoices/app.js /invoices/me /invoices/doc/f /invoices/folder/; do says_all bob:x "$target"; done
+for target in /invoices/ /invoices/app.js /invoices/me /invoices/doc/f /invoices/folder/; do
+  says_all bob:x "$target"
+done
 answer bob:x /invoices/doc/f
-holds 'a document of a room at a path is a file' grep -qx $'Content-Disposition: attachment\r' "$work/head"
+holds 'a document of a room at a path is a file' \
+  grep -qx $'Content-Disposition: attachment\r' "$work/head"
 for target in /invoices/folder/ /invoices/can/doc; do
   answer bob:x "$target"
   holds "$target is none" [ "$(grep -c Content-Disposition "$work/head")" = 0 ]
@@ -257,7 +260,8 @@ for field in 'Sec-Fetch-Site: cross-site' 'Origin: http://elsewhere.example'; do
 done
 ask 'the start page, without a password' 200 - '' /rooms/
 same 'has the rooms' "$work/body" machine/var/lib/rooms-front/start.html
-holds 'by their titles' grep -qF '<a href="/invoices/">Invoices &amp; &lt;orders&gt;</a>' "$work/body"
+holds 'by their titles' \
+  grep -qF '<a href="/invoices/">Invoices &amp; &lt;orders&gt;</a>' "$work/body"
 ask 'its style' 200 - '' /rooms/style.css
 ask 'the start page without a slash' 301 - '' /rooms
 ask 'the page itself still asks' 401 - '' /style.css
@@ -278,7 +282,8 @@ for turn in 1 2; do
   ask "bob with the password of alice $turn" 401 - bob:a /doc/f
   ask "alice with that of bob $turn" 401 - alice:b /doc/f
   ask "no password $turn" 401 - '' /doc/f
-  ask "bob may not write $turn" 403 '{"at":"/f","bits":"w","entry":null,"text":null}' bob:b /doc/f -X PUT --data-binary x
+  ask "bob may not write $turn" 403 '{"at":"/f","bits":"w","entry":null,"text":null}' \
+    bob:b /doc/f -X PUT --data-binary x
   ask "bob of the other room $turn" 200 invoice bob:x /invoices/doc/f
   ask "is nobody in office $turn" 401 - bob:x /doc/f
   ask "nor is bob of office there $turn" 401 - bob:b /invoices/doc/f
@@ -287,11 +292,16 @@ done
 answer bob:b /me
 holds 'the page is told who asks' grep -qx $'Room-User: bob\r' "$work/head"
 answer bob:x /doc/f
-holds 'a wrong password is asked for again' grep -qx $'WWW-Authenticate: Basic realm="rooms"\r' "$work/head"
-for file in rooms rooms-invoices none; do ask "nobody asks for /password/$file from outside" 404 - alice:a "/password/$file"; done
+holds 'a wrong password is asked for again' \
+  grep -qx $'WWW-Authenticate: Basic realm="rooms"\r' "$work/head"
+for file in rooms rooms-invoices none; do
+  ask "nobody asks for /password/$file from outside" 404 - alice:a "/password/$file"
+done
 word=$(printf 'alice:a' | base64)
-ask 'two names at once' 400 - '' /doc/f -H "Authorization: Basic $word" -H "Authorization: Basic $(printf 'root:r' | base64)"
-ask 'a change by another site' 403 - alice:a /doc/f -X PUT --data-binary x -H 'Origin: http://elsewhere.example'
+ask 'two names at once' 400 - \
+  '' /doc/f -H "Authorization: Basic $word" -H "Authorization: Basic $(printf 'root:r' | base64)"
+ask 'a change by another site' 403 - \
+  alice:a /doc/f -X PUT --data-binary x -H 'Origin: http://elsewhere.example'
 ask 'an upload with a remembered password' 201 '' alice:a /doc/remembered -X PUT --data-binary yes
 ask 'the start page asks for none' 200 - '' /rooms/
 # Where names and passwords are: in the folder that has to be in memory, and in no other.
@@ -301,21 +311,24 @@ grep -rlF -e "$word" . 2>/dev/null | grep -v '^\./remembered/' >found
 same 'no password is kept elsewhere' found nothing
 holds 'it is where the page says' eval 'grep -rqF -e "$word" remembered'
 holds 'which only one user reads' [ -z "$(find remembered -perm /077)" ]
-holds 'and which is in memory as installed' grep -q '^proxy_cache_path /run/' machine/etc/nginx/sites-available/rooms
-holds 'without a way over the disk' grep -q 'use_temp_path=off' machine/etc/nginx/sites-available/rooms
+holds 'and which is in memory as installed' \
+  grep -q '^proxy_cache_path /run/' machine/etc/nginx/sites-available/rooms
+holds 'without a way over the disk' \
+  grep -q 'use_temp_path=off' machine/etc/nginx/sites-available/rooms
 # Nobody else reaches what checks passwords: no port does, and the socket's folder is nginx's.
 listening() { # PROCESS: the addresses at which it listens
   local inodes
   inodes=$(find "/proc/$1/fd" -printf '%l\n' | sed -n 's/^socket:\[\(.*\)\]$/\1/p' | tr '\n' ' ')
-  awk -v inodes=" $inodes " '$4 == "0A" && index(inodes, " " $10 " ") { print substr($2, length($2) - 3) }' \
-    /proc/net/tcp
+  awk -v inodes=" $inodes " \
+    '$4 == "0A" && index(inodes, " " $10 " ") { print substr($2, length($2) - 3) }' /proc/net/tcp
 }
 listening "$proxy" | sort -u >found
 printf '%04X\n' "$front" >wanted
 same 'nginx listens at the port of the site alone' found wanted
 asks_there() { # USER NAME:PASSWORD: what 80 tries in the name of another address are answered
   setpriv --reuid="$1" --regid="$1" --clear-groups curl -s -m 9 -o /dev/null -w '%{http_code}\n' \
-    --unix-socket checks/passwords.sock -u "$2" -H 'X-Real-IP: 192.0.2.7' 'http://x/password/rooms?[1-80]' |
+    --unix-socket checks/passwords.sock -u "$2" \
+    -H 'X-Real-IP: 192.0.2.7' 'http://x/password/rooms?[1-80]' |
     sort | uniq -c | awk '{ print $2 }'
 }
 if [ "$(id -u)" = 0 ] && has setpriv; then
@@ -338,7 +351,8 @@ holds 'and nothing is remembered any more' [ -z "$(ls remembered)" ]
 cp all.htpasswd rooms.htpasswd
 # Tries: some are checked, the others are not; who is remembered goes on, and others soon.
 ask 'alice before the tries' 200 kept alice:a /doc/f
-curl -s -o "$work/body" -w '%{http_code}\n' -u bob:wrong "$base/doc/f?[1-200]" | sort | uniq -c >tried
+curl -s -o "$work/body" -w '%{http_code}\n' -u bob:wrong "$base/doc/f?[1-200]" | sort |
+  uniq -c >tried
 ask 'alice is remembered meanwhile' 200 kept alice:a /doc/f
 holds 'most tries are not checked' \
   awk '{ n[$2] = $1 } END { exit !(n[401] >= 10 && n[429] >= 10 && n[401] + n[429] == 200) }' tried
@@ -346,7 +360,8 @@ began=$SECONDS
 until answers 200 bob:b /doc/f || [ $((SECONDS - began)) -ge "$patience" ]; do sleep 0.5; done
 holds 'bob with his own password, soon' answers 200 bob:b /doc/f
 sleep 1
-curl -s -o "$work/body" -w '%{http_code}\n' -u alice:a "$base/app.js?[1-500]" | sort | uniq -c >asked
+curl -s -o "$work/body" -w '%{http_code}\n' -u alice:a "$base/app.js?[1-500]" | sort |
+  uniq -c >asked
 holds 'a page that asks for much meets no limit' [ "$(awk '{ print $1, $2 }' asked)" = '500 200' ]
 curl -s -o "$work/body" -w '%{http_code}\n' "$base/doc/f?[1-100]" | sort | uniq -c >asked
 holds 'what has no password is asked for one' [ "$(awk '{ print $1, $2 }' asked)" = '100 401' ]
@@ -367,140 +382,18 @@ gives 'sound' 0 'sound\n' '' verify F
 run audit F
 holds 'nothing is on record' [ "$(wc -l <"$work/out")" = 1 ]
 
-# With TLS, by a certificate that is made as operating.md says.
-if ! has openssl; then
-  skip 'behind nginx with TLS' 'openssl is missing'
-  return
-fi
-
-mkdir own run
-on_own() { ROOMS_ROOT=$PWD/own ROOMS_RUN=$PWD/run "$top/contrib/rooms-admin" "$@"; }
-{ echo "top='$top'"; declare -f on_own; page_block operating TLS 3 | sed 's/^rooms-admin/on_own/'; } >certify
-if ! bash -eu certify >certify.out 2>&1; then
-  fail 'a certificate' "it can't be made: $(tail -c 400 certify.out)"
-  return
-fi
-ln -s own/etc/ssl/rooms.pem own/etc/ssl/private/rooms.key .
-ln -s own/root/authority .
-authority=$PWD/authority/authority
-certified() { openssl verify -x509_strict -verify_hostname "$1" -CAfile "$authority.pem" "$2" >verified 2>&1; }
-holds 'the authority certifies the name' certified rooms.example rooms.pem
-holds 'nobody else reads its key' [ -n "$(find "$authority.key" -perm 600)" ]
-holds 'nor that of the site' [ -n "$(find -L rooms.key -perm 600)" ]
-holds 'it says what is left' grep -qx 'to use it: rooms-admin setup --tls /etc/ssl/rooms.pem /etc/ssl/private/rooms.key && nginx -t && systemctl reload nginx' certify.out
-refuses_host() { # NAME TEXT HOST ..
-  on_own certificate "${@:3}" >"$work/out" 2>"$work/err" </dev/null
-  status=$?
-  told "$1" 2 "$2"
-  same "$1: nothing is changed" rooms.pem rooms.pem.before
-}
-cp rooms.pem rooms.pem.before
-refuses_host 'a name of another domain' 'not for bank.test: /root/authority/authority.pem can'"'"'t certify it' bank.test
-refuses_host 'one of several' 'not for rooms.example, bank.test: ' rooms.example bank.test
-refuses_host 'an address' "'127.0.0.1' isn't the name of a machine" 127.0.0.1
-refuses_host 'a name with a line end' "isn't the name of a machine" $'rooms.example\nDNS:bank.test'
-refuses_host 'no name' 'bad arguments'
-# Whoever has the key can't either.
-openssl req -new -key rooms.key -subj /CN=bank.test -out other.csr
-openssl x509 -req -in other.csr -days 9 -set_serial 7 -CA "$authority.pem" -CAkey "$authority.key" \
-  -extfile <(printf '%s\n' subjectAltName=DNS:bank.test basicConstraints=critical,CA:false keyUsage=critical,digitalSignature \
-    subjectKeyIdentifier=hash authorityKeyIdentifier=keyid) -out other.pem 2>/dev/null
-holds 'a certificate for another domain' [ -s other.pem ]
-holds 'counts for nothing' eval '! certified bank.test other.pem && grep -q "permitted subtree" verified'
-
-start_room F 1000 || return
-start_front 'behind nginx with TLS' tls || return
-
-# Port 80 redirects whatever is asked, and never asks for a password.
-moved() { # NAME TARGET ARGUMENT ..
-  curl -s -o "$work/body" -D "$work/head" "${@:3}" "http://127.0.0.1:$front$2"
-  holds "$1 is redirected" grep -q '^HTTP/1.1 301 ' "$work/head"
-  holds "$1: the same address with https" grep -qxF "Location: https://127.0.0.1$2"$'\r' "$work/head"
-  holds "$1: no password is asked for" [ "$(grep -ci '^WWW-Authenticate' "$work/head")" = 0 ]
-}
-moved 'the page' /
-moved 'a document' '/doc/%C3%A9%20b?x'
-moved 'a document with a password' /doc/f -u bob:b
-moved 'an upload' /doc/f -u alice:a -X PUT --data-binary unencrypted
-moved 'a change by another site' /doc/f -X POST -H 'Origin: http://elsewhere.example'
-
-# Port 443 serves, by TLS alone.
-base=http://127.0.0.1:$secure
-ask 'port 443 without TLS' 400 - bob:b /doc/f
-base=https://rooms.example:$secure
-reach=(--resolve "rooms.example:$secure:127.0.0.1" --cacert "$authority.pem")
-ask 'no password with TLS' 401 - '' /doc/f
-ask 'a wrong password with TLS' 401 - alice:x /doc/f
-ask 'what was sent to port 80 is not there' 200 kept bob:b /doc/f
-ask 'alice makes a document with TLS' 201 '' alice:a /doc/tls -X PUT --data-binary hello
-ask 'bob reads it with TLS' 200 hello bob:b /doc/tls
-ask 'bob is not root with TLS' 403 '{"at":"/tls","bits":"w","entry":null,"text":null}' bob:b /doc/tls -X PUT --data-binary x -H 'Room-User: root'
-ask 'the longest path with TLS' 200 deep bob:b "/doc$path"
-ask 'the page with TLS' 200 - bob:b /
-for field in 'Sec-Fetch-Site: cross-site' "Origin: http://rooms.example:$secure" 'Origin: https://elsewhere.example'; do
-  ask "PUT with TLS, $field" 403 - alice:a /doc/tls -X PUT --data-binary x -H "$field"
-done
-for field in 'Sec-Fetch-Site: same-origin' "Origin: $base"; do
-  ask "PUT with TLS, $field" 204 - alice:a /doc/tls -X PUT --data-binary hello -H "$field"
-done
-says_all bob:b /doc/tls
-only_tls() { grep -qx $'Strict-Transport-Security: max-age=31536000\r' "$work/head"; }
-holds 'and that it is asked for with TLS only' only_tls
-holds 'a document is a file with TLS' grep -qx $'Content-Disposition: attachment\r' "$work/head"
-answer bob:b /me
-holds 'the page is told who asks with TLS' grep -qx $'Room-User: bob\r' "$work/head"
-if has_six; then
-  reach=(--resolve "rooms.example:$secure:[::1]" --cacert "$authority.pem")
-  ask 'TLS over IPv6' 200 hello bob:b /doc/tls
-else
-  skip 'TLS over IPv6' 'this machine has no loopback for IPv6'
-fi
-curl -s -o "$work/body" "${reach[@]}" --tls-max 1.1 --ciphers 'ALL:@SECLEVEL=0' -u bob:b "$base/doc/tls"
-holds 'older versions of TLS are refused' [ $? = 35 ]
-
-# A room at a host has TLS with the site. (The certificate isn't for it, which 'add' refuses.)
-base=https://hr.example:$secure
-reach=(--resolve "hr.example:$secure:127.0.0.1" -k)
-ask 'the room at a host, with TLS' 502 - dora:d /doc/f
-ask 'alice is nobody there, with TLS' 401 - alice:a /doc/f
-answer dora:d /doc/f
-holds 'nor without TLS for a year' only_tls
-base=http://hr.example:$front
-reach=(--resolve "hr.example:$front:127.0.0.1")
-ask 'and no password without TLS' 301 - '' /doc/f
-base=https://rooms.example:$secure
-reach=(--resolve "rooms.example:$secure:127.0.0.1" --cacert "$authority.pem")
-ask 'the first room beside it' 200 hello bob:b /doc/tls
-
-# A renewal: the same key, and another certificate, which nginx takes when it reloads its files.
-serial() { openssl s_client -connect "127.0.0.1:$secure" -servername rooms.example </dev/null 2>/dev/null | openssl x509 -noout -serial; }
-serial >before
-cp certify renew
-cp rooms.pem rooms.pem.before
-mv authority/authority.key away.key
-holds "without the authority's key none is made" eval '! bash -eu renew >certify.out 2>&1'
-same 'and the one that is there stays' rooms.pem rooms.pem.before
-mv away.key authority/authority.key
-bash -eu renew >certify.out 2>&1
-kill -HUP "$proxy"
-began=$SECONDS
-until serial >after && ! cmp -s before after || [ $((SECONDS - began)) -ge "$patience" ]; do sleep 0.1; done
-holds 'a renewed certificate is served' [ "$(cat after)" = "$(openssl x509 -in rooms.pem -noout -serial)" ]
-ask 'and is trusted' 200 hello bob:b /doc/tls
-reach=()
-stop_server
-stop_proxy
-gives 'sound after TLS' 0 'sound\n' '' verify F
-
 # The ports of rooms, closed to other users by a rule of the firewall, in a network of its own.
-if [ "$(id -u)" != 0 ] || ! has nft || ! has ip || ! has setpriv || ! getent passwd www-data >/dev/null ||
+if [ "$(id -u)" != 0 ] || ! has nft || ! has ip || ! has setpriv ||
+  ! getent passwd www-data >/dev/null ||
   ! unshare --net nft list ruleset >said 2>&1; then
-  skip 'ports that are closed to other users' 'no root, or no nft, ip, setpriv, www-data, or network of its own'
+  skip 'ports that are closed to other users' \
+    'no root, or no nft, ip, setpriv, www-data, or network of its own'
   return
 fi
 page_block operating 'A port or a socket' 3 >close
 # It is loaded again, as after an upgrade, and where nothing of it is loaded.
-printf '%s\n' "nft -f '$top/contrib/rooms.nft'" "nft -f '$top/contrib/rooms.nft'" "$(<close) >listed" >close
+printf '%s\n' "nft -f '$top/contrib/rooms.nft'" "nft -f '$top/contrib/rooms.nft'" \
+  "$(<close) >listed" >close
 for n in 8777 8780 8998 8999; do open_room "P$n"; done
 cat >tried <<'END'
 ip link set lo up
@@ -511,7 +404,8 @@ done
 reached() {
   for user in root www-data 65534; do
     for n in 8777 8780 8998 8999; do
-      ! setpriv --reuid=$user --regid=0 --clear-groups bash -c "exec 3<>/dev/tcp/127.0.0.1/$n" 2>/dev/null || echo -n "$user $n, "
+      ! setpriv --reuid=$user --regid=0 --clear-groups \
+        bash -c "exec 3<>/dev/tcp/127.0.0.1/$n" 2>/dev/null || echo -n "$user $n, "
     done
   done
   echo
@@ -523,6 +417,7 @@ kill $(jobs -p)
 END
 unshare --net bash tried "$rooms" >got 2>said
 both='root 8777, root 8780, root 8998, root 8999, www-data 8777, www-data 8780, www-data 8998, www-data 8999, '
-printf '%s\n' "${both}65534 8777, 65534 8780, 65534 8998, 65534 8999, " "${both}65534 8999, " >wanted
+printf '%s\n' "${both}65534 8777, 65534 8780, 65534 8998, 65534 8999, " "${both}65534 8999, " \
+  >wanted
 same "the rule closes them to all but root and the front end: $(head -c 200 said)" got wanted
 holds 'loaded twice it is one rule' [ "$(grep -c 'tcp dport 8777-8998' listed)" = 1 ]

@@ -16,7 +16,8 @@ start_room F 1000 || return
 start_front 'the page' || return
 api() { curl -s -o "$work/body" -w '%{http_code}' -u alice:a "$@"; }
 holds 'a folder' [ "$(api -X POST "http://127.0.0.1:$front/folder/letters")" = 201 ]
-holds 'a document' [ "$(api -X PUT --data-binary Dear "http://127.0.0.1:$front/doc/letters/reply")" = 201 ]
+holds 'a document' \
+  [ "$(api -X PUT --data-binary Dear "http://127.0.0.1:$front/doc/letters/reply")" = 201 ]
 stop_server
 stop_proxy
 run dump F
@@ -39,7 +40,8 @@ start_room G 10000 || return
 start_front 'the page' || return
 # The play kills the server at its end, which is expected.
 disown "$server"
-play 'the office' office.py "$PWD" "$front" "$PWD/access.log" "$server" "$proxy" "$here/../docs" ${PAGE_PICTURES:+"$PAGE_PICTURES"}
+play 'the office' office.py "$PWD" "$front" "$PWD/access.log" "$server" "$proxy" "$here/../docs" \
+  ${PAGE_PICTURES:+"$PAGE_PICTURES"}
 stop_server
 stop_proxy
 gives 'sound after the office' 0 'sound\n' '' verify G
@@ -50,7 +52,8 @@ set_list R / dacl list:a "A:fd:alice:$ALL"
 start_server R 1 || return
 stop_server
 start_front 'a server that restarts' || return
-play 'a server that restarts' restarts.py "$PWD" "$front" "$PWD/access.log" "$rooms" "$PWD/R" "$port"
+play 'a server that restarts' restarts.py "$PWD" "$front" "$PWD/access.log" "$rooms" "$PWD/R" \
+  "$port"
 stop_proxy
 gives 'sound after restarts' 0 'sound\n' '' verify R
 

@@ -1,5 +1,6 @@
-# Who has access, by the page of contrib/page behind nginx, in Chromium and in Firefox: a manager, a reader, and one with a
-# document deep down; names that the front end has, places that were shared, and lists at random.
+# Who has access, by the page of contrib/page behind nginx, in Chromium and in Firefox: a manager, a
+# reader, and one with a document deep down; names that the front end has, places that were shared,
+# and lists at random.
 
 . "$here/front.sh"
 . "$here/browsers.sh"
@@ -11,8 +12,8 @@ fi
 printf '%s:{PLAIN}%s\n' alice a bob b dana d >rooms.htpasswd
 printf "%s\n" group,user staff,{bob,carol,kim,lea,mo} sales,dana >groups.csv
 
-# A room of its own for each browser, whose root lets alice do all and everybody with a name pass through, with what nginx
-# serves beside it.
+# A room of its own for each browser, whose root lets alice do all and everybody with a name pass
+# through, with what nginx serves beside it.
 start_sharing() { # ROOM
   open_room "$1"
   gives "groups of $1" 0 'groups 2, members 6\n' '' groups "$1" groups.csv
@@ -44,5 +45,6 @@ fi
 
 # Every right of every user, before and after, by the program's own review of a copy.
 start_sharing K || return
-play 'clicks at random' clicks.py "$PWD" "$front" "$rooms" "$PWD/K" "${PAGE_ROUNDS:-40}" "${PAGE_SEED:-1}"
+play 'clicks at random' clicks.py "$PWD" "$front" "$rooms" "$PWD/K" "${PAGE_ROUNDS:-40}" \
+  "${PAGE_SEED:-1}"
 end_sharing K

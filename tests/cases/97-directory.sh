@@ -1,11 +1,13 @@
-# rooms-admin groups: groups of a directory, what it refuses, and an interruption at each of its calls.
+# rooms-admin groups: groups of a directory, what it refuses, and an interruption at each of its
+# calls.
 
 . "$here/directory.sh"
 if [ "$loopback" = no ] || ! has flock || ! has setpriv || ! has setsid || ! has timeout; then
   skip 'groups of a directory' 'no loopback, or no flock, setpriv, setsid'
   return
 fi
-# Groups in groups, two of which are in one another; names beyond ASCII and with spaces; one who has left, and one without a name.
+# Groups in groups, two of which are in one another; names beyond ASCII and with spaces; one who has
+# left, and one without a name.
 people=(alice bob carol dana jürgen 'anna maria')
 if ! {
   for name in "${people[@]}"; do person "$name" x; done
@@ -18,7 +20,8 @@ if ! {
   group 'Human Resources' carol
   group abroad jürgen
   group guests dana
-  entry cn=unix,ou=groups,dc=example,dc=net posixGroup 'cn: unix' 'gidNumber: 1000' 'memberUid: bob' 'memberUid: nobody' 'memberUid: gone'
+  entry cn=unix,ou=groups,dc=example,dc=net posixGroup 'cn: unix' 'gidNumber: 1000' \
+    'memberUid: bob' 'memberUid: nobody' 'memberUid: gone'
   entry cn=twice,ou=groups,dc=example,dc=net posixGroup 'cn: twice' 'gidNumber: 1001'
   entry ou=more,dc=example,dc=net organizationalUnit 'ou: more'
   entry cn=twice,ou=more,dc=example,dc=net posixGroup 'cn: twice' 'gidNumber: 1002'
@@ -33,7 +36,8 @@ touch_groups() {
     {
       echo "dn: $(group_dn "$one")"
       printf '%s\n' 'changetype: modify' 'replace: member'
-      ldapsearch -x -LLL -o ldif-wrap=no -H "ldap://127.0.0.1:$ldap" -b "$(group_dn "$one")" -s base member | grep '^member:'
+      ldapsearch -x -LLL -o ldif-wrap=no -H "ldap://127.0.0.1:$ldap" -b "$(group_dn "$one")" \
+        -s base member | grep '^member:'
     } >change.ldif
     as_root_of_directory ldapmodify -f change.ldif || fail 'members are set again' "$(cat said)"
   done
@@ -43,7 +47,10 @@ cp conf office.conf
 sed -i 's/^KEEP=.*/KEEP=0/' office.conf
 echo secret-word >secret
 chmod 600 secret
-where() { printf '%s\n' "URI=ldap://127.0.0.1:$ldap" BASE=dc=example,dc=net 'USERS=(&(objectClass=inetOrgPerson)(!(employeeType=gone)))' MEMBERS=member "$@"; }
+where() {
+  printf '%s\n' "URI=ldap://127.0.0.1:$ldap" BASE=dc=example,dc=net \
+    'USERS=(&(objectClass=inetOrgPerson)(!(employeeType=gone)))' MEMBERS=member "$@"
+}
 where >directory
 asked() { printf '%s\n' "$@" >office.groups; }
 brings() { verb groups "$@" "$PWD/office.conf"; }
@@ -77,13 +84,15 @@ prints() { # NAME LINE ..: on standard output
   same "$1" "$work/out" wanted
 }
 
-# Groups come in, nested ones flattened, under the names that the room gives them; the room's own stay.
+# Groups come in, nested ones flattened, under the names that the room gives them; the room's own
+# stay.
 new_office
-asked 'MOST=1' 'group staff = staff' "group sales = $(group_dn sales)" 'group bureau = büro' 'group hr = Human Resources'
+asked 'MOST=1' 'group staff = staff' "group sales = $(group_dn sales)" 'group bureau = büro' \
+  'group hr = Human Resources'
 brings
 says 'groups' 0 'groups 5, members 8'
-prints 'the pairs that come and go' '+ bureau,carol' '+ hr,carol' '+ sales,bob' '+ sales,dana' '+ staff,alice' '+ staff,bob' \
-  '+ staff,dana' '- staff,frank'
+prints 'the pairs that come and go' '+ bureau,carol' '+ hr,carol' '+ sales,bob' '+ sales,dana' \
+  '+ staff,alice' '+ staff,bob' '+ staff,dana' '- staff,frank'
 says 'a name beyond ASCII' 0 "left out of bureau: 'jürgen' can't be a user of a room"
 says 'a name with a space' 0 "left out of bureau: 'anna maria' can't be a user of a room"
 unit_runs 'the server runs after it'
@@ -91,7 +100,8 @@ all=(bureau,carol hr,carol own,erin sales,bob sales,dana staff,alice staff,bob s
 has_members 'they are the members' "${all[@]}"
 holds 'nothing is left in the folder' [ -z "$(ls office | grep groups)" ]
 holds 'nothing is owed' [ -z "$(ls run)" ]
-holds 'the web interface offers them at once' grep -qF '"groups":{"bureau":[],"hr":[],"own":[],"sales":[],"staff":[]}' \
+holds 'the web interface offers them at once' \
+  grep -qF '"groups":{"bureau":[],"hr":[],"own":[],"sales":[],"staff":[]}' \
   root/var/lib/rooms-web/office/people.json
 brings
 says 'the same again' 0 ''
@@ -108,7 +118,10 @@ brings
 says 'a run without a backup' 0 ''
 # One joins, one leaves: seen first, then done.
 change() { # GROUP add|delete NAME
-  { echo "dn: $(group_dn "$1")"; printf '%s\n' 'changetype: modify' "$2: member" "member: uid=$3,ou=people,dc=example,dc=net"; } >change.ldif
+  {
+    echo "dn: $(group_dn "$1")"
+    printf '%s\n' 'changetype: modify' "$2: member" "member: uid=$3,ou=people,dc=example,dc=net"
+  } >change.ldif
   as_root_of_directory ldapmodify -f change.ldif || fail "a change of the directory" "$(cat said)"
 }
 change interns add carol
@@ -121,10 +134,12 @@ has_members 'and is not done' "${all[@]}"
 back_up 2020-01-01.030000
 brings
 says 'what changes' 0 'groups 5, members 9'
-all=(bureau,carol hr,carol own,erin sales,bob sales,carol sales,dana staff,bob staff,carol staff,dana)
+all=(bureau,carol hr,carol own,erin sales,bob sales,carol sales,dana staff,bob staff,carol
+  staff,dana)
 has_members 'is done' "${all[@]}"
 
-# A restore brings back who has left. A later backup doesn't know of it, so a run looks into the room, and the next one needn't.
+# A restore brings back who has left. A later backup doesn't know of it, so a run looks into the
+# room, and the next one needn't.
 back_up 2020-01-02.030000
 unit stop
 verb restore --conf "$PWD/office.conf" 2020-01-01.030000
@@ -153,7 +168,8 @@ holds 'is read from the room' was_stopped
 brings
 says 'is refused again' 2 'too much: 1 pairs would go'
 holds 'without another stop' eval '! was_stopped'
-asked 'MOST=1' 'group staff = staff' "group sales = $(group_dn sales)" 'group bureau = büro' 'group hr = Human Resources'
+asked 'MOST=1' 'group staff = staff' "group sales = $(group_dn sales)" 'group bureau = büro' \
+  'group hr = Human Resources'
 brings
 says 'and then done' 0 'groups 5, members 9'
 rm -r office/before-restore.* backups/2020*
@@ -181,16 +197,19 @@ printf '%s\n' group,user Carol,bob own,erin staff,DANA >members.csv
 unit stop
 as_user "$rooms" groups-out "$PWD/office/F" >got
 as_user "$rooms" groups "$PWD/office/F" "$PWD/members.csv" >/dev/null
-printf '%s\n' list:a D:fd:BOB:r A:fdg:CAROL:rx A:fd:ERIN:rx A::EVERYONE@:x | as_user "$rooms" reset "$PWD/office/F" / dacl >/dev/null
+printf '%s\n' list:a D:fd:BOB:r A:fdg:CAROL:rx A:fd:ERIN:rx A::EVERYONE@:x |
+  as_user "$rooms" reset "$PWD/office/F" / dacl >/dev/null
 back_up 2020-01-01.030000
-printf '%s\n' 'document Alice Bob 5 /Carol' dacl list:a sacl list:a >>backups/2020-01-01.030000/lists.txt
+printf '%s\n' 'document Alice Bob 5 /Carol' dacl list:a sacl list:a \
+  >>backups/2020-01-01.030000/lists.txt
 unit stop
 cp got members.csv
 as_user "$rooms" groups "$PWD/office/F" "$PWD/members.csv" >/dev/null
 unit start
 brings --names
 says 'names' 0 ''
-prints 'in other capitals' 'Alice: the directory has alice' 'BOB: the directory has bob' 'DANA: the directory has dana'
+prints 'in other capitals' 'Alice: the directory has alice' 'BOB: the directory has bob' \
+  'DANA: the directory has dana'
 holds 'without a stop' eval '! was_stopped'
 rm -r backups/2020*
 mv members.before members.csv
@@ -213,7 +232,8 @@ unchanged() { # NAME STATUS TEXT
   unit_runs "$1: the server runs"
   holds "$1: it was not stopped" eval '! was_stopped'
   holds "$1: nothing is owed" [ -z "$(ls run)" ]
-  holds "$1: there is a mail" grep -q '^mail -s rooms on .*: groups of the directory failed root$' "$stand/messages"
+  holds "$1: there is a mail" \
+    grep -q '^mail -s rooms on .*: groups of the directory failed root$' "$stand/messages"
   holds "$1: which says so" grep -qF -e "$3" "$stand/messages"
 }
 members_before() { stopped; cp got before; }
@@ -227,7 +247,9 @@ holds 'is no mail' [ ! -s "$stand/messages" ]
 echo mail >"$stand/no-tool"
 brings
 rm "$stand/no-tool"
-holds 'without mail it is in the log' grep -qF -e "logger -p daemon.err -t rooms-admin-groups -- no group: the directory has 0 groups 'nothere'" "$stand/messages"
+holds 'without mail it is in the log' grep -qF -e \
+  "logger -p daemon.err -t rooms-admin-groups -- no group: the directory has 0 groups 'nothere'" \
+  "$stand/messages"
 asked "group staff = $(group_dn nothere)"
 brings
 unchanged 'a DN that is not there' 2 'no group: the directory has no'
@@ -240,7 +262,8 @@ unchanged 'a star is no pattern' 2 "0 groups '*'"
 asked 'group staff = nothere' 'group sales = *'
 brings
 unchanged 'none of two' 2 "no group: the directory has 0 groups '*'"
-holds 'both are named' grep -qF -e "staff stays as it is: no group: the directory has 0 groups 'nothere'" "$stand/messages"
+holds 'both are named' grep -qF -e \
+  "staff stays as it is: no group: the directory has 0 groups 'nothere'" "$stand/messages"
 asked 'group abroad = abroad'
 brings
 unchanged 'a group without a member' 2 'empty: abroad would have no member; --force'
@@ -301,33 +324,39 @@ same 'no member is changed by any of them' got before
 asked 'MOST=0' 'group staff = staff' 'group sales = Human Resources' 'group abroad = abroad'
 brings --force
 says 'what is meant' 0 '- sales,bob'
-has_members 'is done' bureau,carol hr,carol own,erin sales,carol staff,bob staff,carol staff,dana unix,bob
+has_members 'is done' bureau,carol hr,carol own,erin sales,carol staff,bob staff,carol staff,dana \
+  unix,bob
 asked 'MOST=9' 'group staff = Human Resources'
 
 # A group that was renamed in the directory stays as it is, whoever left another one goes, and the
 # renamed one is named.
 rename_group() { # CN CN: the entry stays what it is, under another name
-  printf '%s\n' "dn: $(group_dn "$1")" 'changetype: modrdn' "newrdn: cn=$2" 'deleteoldrdn: 1' >change.ldif
+  printf '%s\n' "dn: $(group_dn "$1")" 'changetype: modrdn' "newrdn: cn=$2" 'deleteoldrdn: 1' \
+    >change.ldif
   as_root_of_directory ldapmodify -f change.ldif || fail 'a group gets another name' "$(cat said)"
 }
-asked 'MOST=9' 'group staff = staff' "group guests = $(group_dn guests)" 'group hr = Human Resources'
+asked 'MOST=9' 'group staff = staff' "group guests = $(group_dn guests)" \
+  'group hr = Human Resources'
 brings
 says 'three groups' 0 'members '
 rename_group guests visitors
 rename_group 'Human Resources' People
 change interns delete carol
 brings --dry-run
-says 'a look at renamed groups' 1 "guests stays as it is: no group: the directory has no '$(group_dn guests)'"
+says 'a look at renamed groups' 1 \
+  "guests stays as it is: no group: the directory has no '$(group_dn guests)'"
 prints 'shows the others' '- staff,carol'
 holds 'and is no mail' [ ! -s "$stand/messages" ]
 brings
-says 'groups that were renamed' 1 "guests stays as it is: no group: the directory has no '$(group_dn guests)'"
+says 'groups that were renamed' 1 \
+  "guests stays as it is: no group: the directory has no '$(group_dn guests)'"
 says 'each of them' 1 "hr stays as it is: no group: the directory has 0 groups 'Human Resources'"
 prints 'the others are taken' '- staff,carol'
-holds 'a mail names them' [ "$(grep -c '^[a-z]* stays as it is: no group: ' "$stand/messages")" = 2 ]
+holds 'a mail names them' \
+  [ "$(grep -c '^[a-z]* stays as it is: no group: ' "$stand/messages")" = 2 ]
 unit_runs 'the server runs after renamed groups'
-has_members 'whoever left has left, and the renamed ones are as they were' bureau,carol guests,dana hr,carol own,erin \
-  sales,carol staff,bob staff,dana unix,bob
+has_members 'whoever left has left, and the renamed ones are as they were' bureau,carol \
+  guests,dana hr,carol own,erin sales,carol staff,bob staff,dana unix,bob
 change interns add carol
 rename_group visitors guests
 rename_group People 'Human Resources'
@@ -354,7 +383,8 @@ holds 'is in a mail' grep -qF -e "rooms doesn't start" "$stand/messages"
 rm "$stand/no-start"
 verb groups --after "$PWD/office.conf"
 says 'is started after it' 1 'interrupted'
-holds 'which is in a mail' grep -qF -e 'interrupted: a run that had stopped rooms was cut off' "$stand/messages"
+holds 'which is in a mail' \
+  grep -qF -e 'interrupted: a run that had stopped rooms was cut off' "$stand/messages"
 unit_runs 'a second start'
 unit stop
 asked 'group staff = staff'
@@ -368,7 +398,11 @@ for how in TERM KILL; do
   stopped
   for number in {1..60}; do
     rm -f "$stand/hit"
-    if [ "$(grep -c '^staff,' got)" = 1 ]; then group=staff wanted='bob carol dana '; else group='Human Resources' wanted='carol '; fi
+    if [ "$(grep -c '^staff,' got)" = 1 ]; then
+      group=staff wanted='bob carol dana '
+    else
+      group='Human Resources' wanted='carol '
+    fi
     asked 'MOST=9' "group staff = $group"
     export KILL_AT=$number KILL_HOW=$how
     brings
@@ -384,7 +418,8 @@ for how in TERM KILL; do
     # What is known of a run that was cut off is never wrong: the next one does what is left.
     brings
     stopped
-    holds "$name: the next run has all members" [ "$(sed -n 's/^staff,//p' got | tr '\n' ' ')" = "$wanted" ]
+    holds "$name: the next run has all members" \
+      [ "$(sed -n 's/^staff,//p' got | tr '\n' ' ')" = "$wanted" ]
   done
   holds "$how: the calls came to an end" [ "$number" -gt 5 -a "$number" -lt 60 ]
 done

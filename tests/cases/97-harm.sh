@@ -24,7 +24,11 @@ answers() { # NAME TARGET REPLY [METHOD [BODY]]
   asks "$1" "$3" "${4:-GET}" "$2" root "${5-}"
 }
 mailed() { holds "$1: mail" grep -qF -e "$2" "$stand/messages"; } # NAME TEXT
-newest() { (cd backups && grep -l . ./*/run 2>/dev/null | while IFS= read -r one; do echo "$(sed -n 's/^number //p' "$one") ${one%/run}"; done) | sort -n | tail -n 1 | sed 's/.*\///'; }
+newest() {
+  (cd backups && grep -l . ./*/run 2>/dev/null | while IFS= read -r one; do
+    echo "$(sed -n 's/^number //p' "$one") ${one%/run}"
+  done) | sort -n | tail -n 1 | sed 's/.*\///'
+}
 new_office
 answers 'a document' /doc/f made PUT hello
 
@@ -40,7 +44,8 @@ night
 holds 'whoever may read the settings stops no night' [ "$status" = 0 ]
 exec 7<&- 8<&-
 if [ "$(id -u)" = 0 ]; then
-  setpriv --reuid=65533 --regid=65533 --clear-groups flock -n run/.rooms-admin/rooms true 2>/dev/null
+  setpriv --reuid=65533 --regid=65533 --clear-groups flock -n run/.rooms-admin/rooms true \
+    2>/dev/null
   holds 'nobody else takes the lock' [ "$?" != 0 ]
   chmod 755 run/.rooms-admin
   night
@@ -95,7 +100,8 @@ END
     done
     as_user ls backups >/dev/null 2>&1
     holds "$1: the room's user lists no backups" [ "$?" != 0 ]
-    holds "$1: only its group may pass" [ "$(stat -c '%u %a' backups)" = '0 710' -a "$(stat -c %g backups)" = "$(stat -c %g office)" ]
+    holds "$1: only its group may pass" \
+      [ "$(stat -c '%u %a' backups)" = '0 710' -a "$(stat -c %g backups)" = "$(stat -c %g office)" ]
     : >seen
     wait "$!"
   }
@@ -104,7 +110,9 @@ END
   sleep 1
   watched 'a night that is watched' backup
   watched 'a standby copy that is watched' standby
-  holds 'both have a copy' [ "$("$rooms" verify "backups/$(newest)/F" 2>&1) $("$rooms" verify backups/standby/F 2>&1)" = 'sound sound' ]
+  holds 'both have a copy' \
+    [ "$("$rooms" verify "backups/$(newest)/F" 2>&1) $("$rooms" verify backups/standby/F 2>&1)" \
+      = 'sound sound' ]
 
   # A further room has its backups in those of office. Where a folder on the way is closed by
   # somebody, it stays so, and the program reads a private copy.
@@ -124,7 +132,8 @@ END
     holds "backups in $place: $(head -c 300 "$work/err")" [ "$status" = 0 ]
     TMPDIR=$PWD/tmp verb standby "$PWD/conf"
     holds "a standby copy in $place: $(head -c 300 "$work/err")" [ "$status" = 0 ]
-    holds "$place: nothing of it runs as root" [ "$(cut -d ' ' -f 1 ran | sort -u)" = "$STAND_USER" ]
+    holds "$place: nothing of it runs as root" \
+      [ "$(cut -d ' ' -f 1 ran | sort -u)" = "$STAND_USER" ]
     holds "$place: a standby copy is one file" [ "$(ls "$place/standby")" = F ]
     for copy in "$place"/2*/F "$place/standby/F"; do
       holds "$copy is sound" [ "$("$rooms" verify "$copy" 2>&1)" = sound ]
@@ -149,7 +158,8 @@ holds 'has a number' [ "$(cat "backups/$first/run")" = 'number 1' ]
 mv "backups/$first" backups/2999-01-01.030000
 answers 'a later document' /doc/later made PUT later
 night
-says 'the clock was set back' 1 'the clock was set back: the backup 2999-01-01.030000 was made before'
+says 'the clock was set back' 1 \
+  'the clock was set back: the backup 2999-01-01.030000 was made before'
 mailed 'the clock was set back' 'the clock was set back'
 second=$(newest)
 holds 'the second' [ "$second" != 2999-01-01.030000 -a "$(cat "backups/$second/run")" = 'number 2' ]
@@ -167,7 +177,8 @@ setting KEEP 2
 sleep 1
 night
 holds 'a night that keeps two' [ "$status" = 0 ]
-holds 'the one of the future goes, which is the oldest' [ "$(ls backups | wc -l) $(ls -d backups/2999* 2>/dev/null)" = '2 ' ]
+holds 'the one of the future goes, which is the oldest' \
+  [ "$(ls backups | wc -l) $(ls -d backups/2999* 2>/dev/null)" = '2 ' ]
 setting KEEP 0
 
 # What a run left that was cut off with its machine goes at the next one, and is told.
@@ -177,7 +188,8 @@ echo mine >backups/2020-01-02.030000.part/mine
 mkdir "backups/$third/unfinished"
 sleep 1
 night
-says 'a copy that was left' 1 'interrupted: an earlier run was cut off, and left no backup of 2020-01-01.030000'
+says 'a copy that was left' 1 \
+  'interrupted: an earlier run was cut off, and left no backup of 2020-01-01.030000'
 mailed 'a copy that was left' 'left no backup of 2020-01-01.030000'
 says 'a text that was left' 1 "the backup of $third may lack a part"
 holds 'they are gone' [ ! -e backups/2020-01-01.030000.part -a ! -e "backups/$third/unfinished" ]
@@ -238,7 +250,8 @@ read -r port <"$stand/port"
 verb restore --conf "$PWD/conf" --start latest
 says 'with --start' 0 "restored $PWD/office/F"
 unit_runs 'with --start'
-answers 'it is the backup' /doc/after "json '404 Not Found' '{\"at\":\"/after\",\"why\":\"no-such\"}'"
+answers 'it is the backup' /doc/after \
+  "json '404 Not Found' '{\"at\":\"/after\",\"why\":\"no-such\"}'"
 echo verify >"$stand/no-word"
 verb restore --conf "$PWD/conf" --start latest
 says 'no sound backup' 1 'no backup: verify of'
@@ -256,7 +269,9 @@ for how in TERM KILL; do
     # Another process may have to put the room in place and start the server.
     for turn in {1..400}; do
       read -r port <"$stand/port"
-      if [ "$(unit is-active)" = active ] && (exec 3<>"/dev/tcp/127.0.0.1/$port") 2>/dev/null; then break; fi
+      if [ "$(unit is-active)" = active ] && (exec 3<>"/dev/tcp/127.0.0.1/$port") 2>/dev/null; then
+        break
+      fi
       sleep 0.05
     done
     unit_runs "$name"
@@ -275,7 +290,9 @@ if mkdir small && mount -t tmpfs -o size=8m,mode=755 none small 2>/dev/null; the
   mount --bind small office
   unit start
   head -c 8000000 /dev/zero >small/filler 2>/dev/null
-  answers 'a change on a full disk' /doc/more "json '500 Internal Server Error' '{\"why\":\"store\"}'" PUT "$(head -c 100000 /dev/zero | tr '\0' a)"
+  answers 'a change on a full disk' /doc/more \
+    "json '500 Internal Server Error' '{\"why\":\"store\"}'" PUT \
+    "$(head -c 100000 /dev/zero | tr '\0' a)"
   sleep 1
   night
   says 'a full disk' 1 "the disk of $PWD/office/F takes no change, which needs 4 MB"
@@ -297,14 +314,16 @@ fi
 
 # A disk of backups that hangs: the server goes on, and somebody is told.
 frozen=
-if [ "$(id -u)" = 0 ] && has fsfreeze && has mkfs.ext4 && truncate -s 24M disk && mkfs.ext4 -q disk 2>/dev/null &&
+if [ "$(id -u)" = 0 ] && has fsfreeze && has mkfs.ext4 && truncate -s 24M disk &&
+  mkfs.ext4 -q disk 2>/dev/null &&
   mkdir hung && mount -o loop disk hung 2>/dev/null; then
   frozen=$PWD/hung
 fi
 if [ -n "$frozen" ]; then
   chmod 700 hung
   setting BACKUPS "$frozen"
-  hangs() { # SECONDS: a run whose disk hangs from the copy on, and for how long the server may be held
+  # A run whose disk hangs from the copy on, and for how long the server may be held.
+  hangs() { # SECONDS
     echo "fsfreeze -f '$frozen'" >"$stand/at-cat"
     (
       unset KILL_AT
@@ -331,7 +350,9 @@ if [ -n "$frozen" ]; then
   mount --bind small office
   unit start
   head -c 3000000 /dev/urandom >body
-  for n in 1 2 3; do answers "a large document $n" "/doc/large$n" made PUT "$(head -c 1000000 /dev/zero | tr '\0' a)"; done
+  for n in 1 2 3; do
+    answers "a large document $n" "/doc/large$n" made PUT "$(head -c 1000000 /dev/zero | tr '\0' a)"
+  done
   hangs 60
   until grep -qF 'was held for 30 s' "$stand/messages" || [ ! -d "/proc/$run" ]; do sleep 0.5; done
   mailed 'a disk that hangs while it is copied to' 'the server was held for 30 s, and goes on'

@@ -1,30 +1,15 @@
-# rooms-admin backup: what a good night leaves, each thing that may go wrong in it, and an interruption at each of its calls.
+# rooms-admin backup: what a good night leaves, what its settings ask for, and what is told of where
+# there is a backup all the same.
 
+. "$here/nights.sh"
 if [ "$loopback" = no ] || ! has flock || ! has setpriv || ! has setsid; then
   skip 'the nightly run' 'no loopback, or no flock, setpriv, setsid'
   return
 fi
 make_stand
-night() { verb backup "$PWD/conf"; }
 # Only root keeps what the machine has beside its rooms.
 tar=
 [ "$(id -u)" != 0 ] || tar='machine.tar '
-setting() { # NAME VALUE
-  sed "s|^$1=.*|$1=$2|" conf >conf.new
-  mv conf.new conf
-}
-new_office() {
-  unit stop
-  rm -f office/F office/F-wal run/*
-  as_user "$rooms" init "$PWD/office/F" root staff >/dev/null
-  printf '%s\n' 'list:a' "A:fd:root:$ALL" | as_user "$rooms" reset "$PWD/office/F" / dacl >/dev/null
-  unit start
-}
-backups() { (cd backups && ls); }
-answers() { # NAME TARGET REPLY
-  read -r port <"$stand/port"
-  asks "$1" "$3" "${4:-GET}" "$2" root "${5-}"
-}
 
 # A good night: the copy has what was answered last, which is in the log.
 new_office
@@ -35,18 +20,21 @@ holds 'a good night, without a message' [ "$status" = 0 -a ! -s "$stand/messages
 unit_runs 'the server runs after it'
 answers 'and has the document' /doc/f "reply '200 OK' application/octet-stream hello"
 good=$(backups)
-holds 'one folder, of this night' [ "$(grep -cE '^[0-9]{4}-[0-9]{2}-[0-9]{2}\.[0-9]{6}$' <<<"$good")" = 1 ]
+holds 'one folder, of this night' \
+  [ "$(grep -cE '^[0-9]{4}-[0-9]{2}-[0-9]{2}\.[0-9]{6}$' <<<"$good")" = 1 ]
 gives 'the copy is sound' 0 'sound\n' '' verify "backups/$good/F"
 run dump "backups/$good/F"
 holds 'the copy has the document' grep -q '^document root staff 5 /f$' "$work/out"
 holds 'the lists have it' grep -q '^document root staff 5 /f$' "backups/$good/lists.txt"
 holds 'the records are there' grep -q '^at,user,path' "backups/$good/records.csv"
-printf '%s\n' path,kind,user,rights,remove "/,folder,root,$ALL,no" '/,folder,*,,no' '/,folder,ANONYMOUS@,,no' "/f,document,root,$ALL,yes" >wanted
+printf '%s\n' path,kind,user,rights,remove "/,folder,root,$ALL,no" '/,folder,*,,no' \
+  '/,folder,ANONYMOUS@,,no' "/f,document,root,$ALL,yes" >wanted
 same 'the review is there' "backups/$good/review.csv" wanted
 holds 'nobody else may read it' [ -z "$(find backups/* -perm /077)" ]
 holds 'the room is still its users' [ -z "$(find office -not -user "$STAND_USER")" ]
 holds 'nothing is owed' [ -z "$(ls run)" ]
-holds 'nothing else is left' [ "$(cd "backups/$good" && echo *)" = "F F-wal lists.txt ${tar}records.csv review.csv run" ]
+holds 'nothing else is left' \
+  [ "$(cd "backups/$good" && echo *)" = "F F-wal lists.txt ${tar}records.csv review.csv run" ]
 if [ -n "$tar" ]; then
   tar -xOf "backups/$good/machine.tar" etc/rooms/office.conf >got
   same 'what the machine has beside its rooms is there' got root/etc/rooms/office.conf
@@ -55,7 +43,8 @@ fi
 # The server is held for the copy alone, and the program works on the copy, never on the room.
 did() { sed -n 's/^[0-9]* \(systemctl\|rooms\) \([a-z-]*\).*/\2/p' steps | tr '\n' ' '; }
 same_words() { if [ "$2" = "$3" ]; then pass; else fail "$1" "'$2' instead of '$3'"; fi; }
-same_words 'the server goes on before the copy is read' "$(did)" "is-active is-active show verify audit dump review ${tar:+--version }show "
+same_words 'the server goes on before the copy is read' "$(did)" \
+  "is-active is-active show verify audit dump review ${tar:+--version }show "
 holds 'the room itself is not opened' [ "$(grep -c ' rooms .*office/F' steps)" = 0 ]
 
 # Where the settings say so, the review is put into the room once the server is back.
@@ -72,7 +61,8 @@ put_there() { # NAME
   local last
   last=$(backups | tail -n 1)
   read -r port <"$stand/port"
-  curl -s -m "$patience" -H 'Room-User: root' "http://127.0.0.1:$port/doc/for%20auditors/${last%.*}-review.csv" >got
+  curl -s -m "$patience" \
+    -H 'Room-User: root' "http://127.0.0.1:$port/doc/for%20auditors/${last%.*}-review.csv" >got
   same "$1" got "backups/$last/review.csv"
 }
 printf '%s\n' PORT= REVIEW= REVIEWER= MEMORY= >>conf
@@ -89,7 +79,8 @@ if has curl; then
   night
   holds 'a second one that day' [ "$status" = 0 ]
   put_there 'takes its place'
-  holds 'and has the document of the first' grep -q '^/for auditors/.*-review.csv,document,carl,' got
+  holds 'and has the document of the first' \
+    grep -q '^/for auditors/.*-review.csv,document,carl,' got
   reviewing '/for auditors' bob
   night
   says 'who may not add there' 1 "-review.csv isn't put into the room: {\"at\":\"/for auditors\""
@@ -106,8 +97,10 @@ if has curl; then
   sed 's/^PORT=.*/SOCKET=yes/' conf >kept.conf
   mv kept.conf conf
   night
-  holds "a night with a socket: $(head -c 300 "$work/err")" [ "$status" = 0 -a ! -s "$stand/messages" ]
-  curl -s -m "$patience" --unix-socket "$sock" -H 'Room-User: root' "http://localhost/doc/for%20auditors/$(date +%F)-review.csv" >got
+  holds "a night with a socket: $(head -c 300 "$work/err")" \
+    [ "$status" = 0 -a ! -s "$stand/messages" ]
+  curl -s -m "$patience" --unix-socket "$sock" \
+    -H 'Room-User: root' "http://localhost/doc/for%20auditors/$(date +%F)-review.csv" >got
   same 'its review is in the room' got "backups/$(backups | tail -n 1)/review.csv"
   unit stop
   rm -r "$stand/socket" run/rooms
@@ -127,8 +120,9 @@ else
   skip 'a review in the room' 'no curl'
 fi
 
-# A server that runs and doesn't answer, as one that is killed before it has read its file, and starts again: the copy is sound,
-# and the run fails all the same. Where the settings have no port, nobody can ask.
+# A server that runs and doesn't answer, as one that is killed before it has read its file, and
+# starts again: the copy is sound, and the run fails all the same. Where the settings have no port,
+# nobody can ask.
 if has curl; then
   at_port
   : >"$stand/no-answer"
@@ -137,7 +131,8 @@ if has curl; then
   night
   says 'a server that does not answer' 1 "doesn't answer at port $port within 30 s"
   holds 'a server that does not answer: mail' grep -qF "doesn't answer at port" "$stand/messages"
-  gives 'a server that does not answer: the copy is sound' 0 'sound\n' '' verify "backups/$(backups | tail -n 1)/F"
+  gives 'a server that does not answer: the copy is sound' 0 'sound\n' '' verify \
+    "backups/$(backups | tail -n 1)/F"
   rm "$stand/no-answer"
   unit stop
   night
@@ -163,7 +158,8 @@ if has perl; then
   night
   says 'a room that is nearly full' 1 'the room has 0 MB in use, and beyond 1 MB nginx refuses'
   unit_runs 'a room that is nearly full: the server runs'
-  holds 'a room that is nearly full: the backup is there' [ -s "backups/$(backups | tail -n 1)/review.csv" ]
+  holds 'a room that is nearly full: the backup is there' \
+    [ -s "backups/$(backups | tail -n 1)/review.csv" ]
   answers 'it is removed' /object/big done_reply DELETE
   setting LIMIT ''
   rm -rf backups/*
@@ -177,8 +173,8 @@ if [ -n "$tar" ] && has openssl; then
   certified() { # DAYS FILE
     printf '%s\n' "CERTIFICATE=$2" KEY=/etc/ssl/rooms.key >root/etc/rooms/site
     mkdir -p "root${2%/*}"
-    openssl req -x509 -newkey ec -pkeyopt ec_paramgen_curve:P-256 -noenc -days "$1" -subj /CN=rooms.example \
-      -keyout root/etc/ssl/rooms.key -out "root$2" 2>/dev/null
+    openssl req -x509 -newkey ec -pkeyopt ec_paramgen_curve:P-256 -noenc -days "$1" \
+      -subj /CN=rooms.example -keyout root/etc/ssl/rooms.key -out "root$2" 2>/dev/null
     night
   }
   untold() { holds "$1" [ "$status" = 0 -a ! -s "$stand/messages" ]; }
@@ -189,12 +185,17 @@ if [ -n "$tar" ] && has openssl; then
   untold 'a certificate that ends in 31 days'
   certified 29 /etc/ssl/rooms.pem
   says 'one that ends in 29' 0 'the certificate /etc/ssl/rooms.pem ends on '
-  holds 'one that ends in 29: mail' grep -q '^the certificate /etc/ssl/rooms.pem ends on .* GMT: ' "$stand/messages"
-  holds 'which says no more' [ "$(grep -c '^mail -s the certificate of rooms on ' "$stand/messages") $(wc -l <"$stand/messages")" = '1 2' ]
+  holds 'one that ends in 29: mail' \
+    grep -q '^the certificate /etc/ssl/rooms.pem ends on .* GMT: ' "$stand/messages"
+  holds 'which says no more' \
+    [ "$(grep -c '^mail -s the certificate of rooms on ' "$stand/messages") $(
+      wc -l <"$stand/messages"
+    )" = '1 2' ]
   holds 'the backup is there' [ -s "backups/$(backups | tail -n 1)/review.csv" ]
   setting MAIL ''
   night
-  holds 'nobody named: the log' grep -q '^logger -p daemon.warning .*rooms.pem ends on ' "$stand/messages"
+  holds 'nobody named: the log' \
+    grep -q '^logger -p daemon.warning .*rooms.pem ends on ' "$stand/messages"
   setting MAIL root
   certified 29 /etc/letsencrypt/live/rooms.example/fullchain.pem
   untold 'one that is renewed by a timer'
@@ -204,7 +205,8 @@ if [ -n "$tar" ] && has openssl; then
   : >root/etc/ssl/rooms.pem
   night
   says 'an empty one' 1 "the certificate /etc/ssl/rooms.pem can't be used"
-  holds 'an empty one: mail' grep -q "^the certificate /etc/ssl/rooms.pem can't be used" "$stand/messages"
+  holds 'an empty one: mail' \
+    grep -q "^the certificate /etc/ssl/rooms.pem can't be used" "$stand/messages"
   printf '%s\n' CERTIFICATE= KEY= >root/etc/rooms/site
   night
   untold 'a site without TLS'
@@ -234,7 +236,8 @@ for day in 1 2 3 4; do
   cp office/F "backups/2020-01-0$day.030000/F"
 done
 mkdir backups/2019-01-01.030000 backups/2019-01-02.030000 backups/2019-01-02.030000.unsound
-tee backups/2019-01-02.030000/F backups/2019-01-02.030000/mine backups/2019-01-02.030000.unsound/F <office/F >/dev/null
+tee backups/2019-01-02.030000/F backups/2019-01-02.030000/mine backups/2019-01-02.030000.unsound/F \
+  <office/F >/dev/null
 setting KEEP 3
 setting PROGRAM /bin/false
 night
@@ -258,14 +261,16 @@ rm -rf backups/*
 if has_sqlite; then
   unit stop
   cp office/F whole
-  as_user sqlite3 office/F "INSERT INTO audits (at, user, path, bits, granted, entry) VALUES (1, 'bob', 'no path', 1, 1, 1)" >/dev/null
+  as_user sqlite3 office/F "INSERT INTO audits (at, user, path, bits, granted, entry)
+    VALUES (1, 'bob', 'no path', 1, 1, 1)" >/dev/null
   unit start
   setting KEEP 1
   mkdir backups/2020-01-01.030000
   cp whole backups/2020-01-01.030000/F
   night
   says 'a record that cannot be read' 1 'no older backup is removed'
-  holds 'the text is told of too' grep -q '^audit of the copy failed, status 3: fault: database' "$stand/messages"
+  holds 'the text is told of too' \
+    grep -q '^audit of the copy failed, status 3: fault: database' "$stand/messages"
   holds 'the older backup stays' [ -e backups/2020-01-01.030000/F ]
   holds 'beside tonight'"'"'s' [ "$(backups | wc -l)" = 2 ]
   unit stop
@@ -291,10 +296,12 @@ for word in audit dump review; do
   unit_runs "its $word fails: the server runs"
   holds "its $word fails: mail" grep -q "^$word of the copy failed" "$stand/messages"
   kept=$(backups)
-  holds "its $word fails: the older one goes, and tonight's stays" grep -qxE '20[2-9][0-9]-[0-9]{2}-[0-9]{2}\.[0-9]{6}' <<<"$kept"
+  holds "its $word fails: the older one goes, and tonight's stays" \
+    grep -qxE '20[2-9][0-9]-[0-9]{2}-[0-9]{2}\.[0-9]{6}' <<<"$kept"
   gives "its $word fails: the copy is sound" 0 'sound\n' '' verify "backups/$kept/F"
   wanted=" F F-wal lists.txt ${tar}records.csv review.csv run "
-  same_words "its $word fails: the others are there" " $(cd "backups/$kept" && echo *) " "${wanted/ ${beside[$word]} / }"
+  same_words "its $word fails: the others are there" " $(cd "backups/$kept" && echo *) " \
+    "${wanted/ ${beside[$word]} / }"
   rm -rf backups/*
 done
 setting KEEP 0
@@ -306,20 +313,25 @@ if [ -n "$tar" ]; then
   says 'a night that can not keep the machine' 1 'but it has no machine.tar'
   rm "$stand/no-tool"
   unit_runs 'no machine.tar: the server runs'
-  holds 'no machine.tar: the rest is there' [ "$(cd "backups/$(backups | tail -n 1)" && echo *)" = 'F F-wal lists.txt records.csv review.csv run' ]
+  holds 'no machine.tar: the rest is there' \
+    [ "$(cd "backups/$(backups | tail -n 1)" && echo *)" \
+      = 'F F-wal lists.txt records.csv review.csv run' ]
   ln -s /nowhere/at/all root/etc/rooms/lost
   sleep 1
   night
-  says 'a file of the machine that can not be read' 1 "it lacks /etc/rooms/lost, which can't be read"
+  says 'a file of the machine that can not be read' 1 \
+    "it lacks /etc/rooms/lost, which can't be read"
   rm root/etc/rooms/lost
-  holds 'the others are kept' tar -tf "backups/$(backups | tail -n 1)/machine.tar" etc/rooms/office.conf
+  holds 'the others are kept' \
+    tar -tf "backups/$(backups | tail -n 1)/machine.tar" etc/rooms/office.conf
   rm -rf backups/*
 else
   skip 'what the machine has beside its rooms' 'only root keeps it'
 fi
 
-# A tree of folders so deep that its lists need more memory than the settings give. Each move puts what is there below 15 folders
-# more: no path that is sent is longer than 4,096 bytes, and those that the lists print get far longer.
+# A tree of folders so deep that its lists need more memory than the settings give. Each move puts
+# what is there below 15 folders more: no path that is sent is longer than 4,096 bytes, and those
+# that the lists print get far longer.
 deepest() { # LEVELS
   local url=http://127.0.0.1:$(<"$stand/port") name level=0 path turn
   name=$(printf 'n%.0s' {1..255})
@@ -343,10 +355,13 @@ deepest() { # LEVELS
 if has curl; then
   new_office
   deepest 1000 | sort | uniq -c >made
-  holds 'a deep tree is made' [ "$(awk '$2 != 201 && $2 != 204' made | wc -l)" = 0 -a "$(awk '{ n += $1 } END { print n }' made)" = 1140 ]
+  holds 'a deep tree is made' \
+    [ "$(awk '$2 != 201 && $2 != 204' made | wc -l)" = 0 \
+      -a "$(awk '{ n += $1 } END { print n }' made)" = 1140 ]
   setting MEMORY 100
   night
-  says 'lists that need more memory than there may be' 1 'fault: memory, with MEMORY=100; the backup'
+  says 'lists that need more memory than there may be' 1 \
+    'fault: memory, with MEMORY=100; the backup'
   unit_runs 'too large lists: the server runs'
   kept=$(backups)
   gives 'too large lists: the copy is sound' 0 'sound\n' '' verify "backups/$kept/F"
@@ -356,165 +371,9 @@ if has curl; then
   rm -rf backups/*
   sleep 1
   night
-  holds 'with the memory of the default they are there' [ "$(wc -c <"backups/$(backups)/lists.txt")" -gt 100000000 ]
+  holds 'with the memory of the default they are there' \
+    [ "$(wc -c <"backups/$(backups)/lists.txt")" -gt 100000000 ]
   rm -rf backups/*
-  new_office
-  answers 'a document once more' /doc/f made PUT hello
 else
   skip 'lists that are too large' 'no curl'
 fi
-
-# Each failure is reported, and the server runs.
-failing() { # NAME TEXT
-  says "$1" 1 "$2"
-  unit_runs "$1: the server runs"
-  holds "$1: mail" grep -q '^mail -s .* root$' "$stand/messages"
-  holds "$1: the mail says it" grep -qF "$2" "$stand/messages"
-  holds "$1: nothing is taken for a backup" [ -z "$(backups | grep -vE 'unsound$')" ]
-}
-for tool in cat sync; do
-  echo "$tool" >"$stand/no-tool"
-  night
-  failing "a $tool that fails" 'copy of'
-done
-echo mkdir >"$stand/no-tool"
-night
-failing 'no folder' 'so nothing was copied'
-rm "$stand/no-tool"
-if mkdir small && mount -t tmpfs -o size=1m,mode=700 none small 2>/dev/null; then
-  setting BACKUPS "$PWD/small"
-  head -c 2000000 /dev/zero >small/filler 2>/dev/null
-  night
-  failing 'a full disk' 'failed'
-  holds 'a full disk is left as it was' [ "$(ls small)" = filler ]
-  umount small
-  setting BACKUPS "$PWD/backups"
-else
-  skip 'a night on a full disk' 'no leave to mount'
-fi
-echo mail >"$stand/no-tool"
-setting PROGRAM /bin/false
-night
-says 'mail that fails' 1 'mail to root failed'
-holds 'goes to the log' grep -q '^logger .*verify of' "$stand/messages"
-setting MAIL ''
-night
-holds 'nobody named: the log' grep -q '^logger .*verify of' "$stand/messages"
-setting MAIL root
-setting PROGRAM "$stand/bin/rooms"
-rm -f "$stand/no-tool"
-# One that has ended is stopped, copied and started.
-: >"$stand/no-start"
-kill -KILL "$(cat "$stand/pid")"
-night
-says 'a server that does not start' 1 "doesn't start"
-rm "$stand/no-start"
-verb backup --after "$PWD/conf"
-says 'is started after it' 1 'interrupted'
-unit_runs 'a second start'
-rm -rf backups/*
-if has_sqlite; then
-  unit stop
-  as_user sqlite3 office/F "UPDATE nodes SET dacl_inh = 'A:I:bob:r' || char(10)" >/dev/null
-  unit start
-  night
-  failing 'an unsound room' 'V3 broken-law'
-  holds 'its copy is named so' [ "$(backups | grep -c '\.unsound$')" = 1 ]
-else
-  skip 'an unsound room at night' 'no sqlite3, or one that is too old'
-fi
-unit stop
-rm -rf backups/* office/F office/F-wal
-take unsound.1.db office/F
-[ "$STAND_USER" = "$(id -u)" ] || chown "$STAND_USER" office/F
-unit start
-night
-says 'a room of the old schema' 1 'schema 1 is old'
-says 'has no server that stays' 1 "doesn't stay"
-rm -f office/F
-night
-says 'a room that is not there' 1 "isn't there"
-
-# What is refused before anything is stopped.
-new_office
-refused() { # NAME TEXT
-  says "$1" 2 "$2"
-  unit_runs "$1: the server runs"
-  holds "$1: a message" [ -s "$stand/messages" ]
-}
-cp conf kept
-for line in 'KEEP=many' 'KEEP=-1' 'MEMORY=many' 'MEMORY=99' 'PORT=many' 'PORT=0' 'FILE=F' 'UNIT=a b' 'UNIT=-a' 'MAIL=-s' 'REVIEW=/audit' 'REVIEWER=carl' 'PROGRAM=/nowhere' 'FILE=/nowhere/F' 'rm -rf /' 'OTHER=x'; do
-  { cat kept; echo "$line"; } >conf
-  night
-  refused "settings with $line" "$([[ $line = *nowhere* ]] && echo 'no ' || echo 'bad settings: ')"
-done
-cp kept conf
-setting BACKUPS "$PWD/not-mounted"
-night
-refused 'no folder of backups' 'no folder'
-cp kept conf
-# A mount point is a folder even so. The case has no disk: what is mounted here is the root alone.
-before=$(backups)
-for place in . ..; do
-  echo "UUID=none $(realpath "backups/$place") ext4 nofail 0 2" >root/etc/fstab
-  night
-  refused "a disk that isn't mounted at backups/$place" 'not mounted: '
-  holds 'nothing is written there' [ "$(backups)" = "$before" ]
-done
-mkdir 'a disk' 'a disk/rooms'
-setting BACKUPS "$PWD/a disk/rooms"
-echo "LABEL=none $PWD/a\\040disk ext4 nofail 0 2" >root/etc/fstab
-night
-refused 'a disk with a blank in its place' "not mounted: $PWD/a disk, which /etc/fstab has"
-if mount -t tmpfs none 'a disk' 2>/dev/null; then
-  mkdir 'a disk/rooms'
-  night
-  holds 'a disk that is mounted' [ "$status" = 0 ]
-  umount 'a disk'
-else
-  skip 'a disk that is mounted' 'no leave to mount'
-fi
-cp kept conf
-printf '%s\n' "# /dev/none $PWD/backups ext4 noauto 0 0" 'proc /proc proc defaults 0 0' '/dev/none / ext4 defaults 0 1' "/dev/none $PWD/backups-too ext4 noauto 0 0" \
-  '/dev/none none swap sw 0 0' >root/etc/fstab
-night
-holds 'disks that have nothing to do with it' [ "$status" = 0 ]
-rm root/etc/fstab
-verb backup "$PWD/nothing"
-refused 'no settings' 'no settings'
-verb backup --other
-says 'an unknown word' 2 'bad arguments'
-exec 8<>run/.rooms-admin/rooms
-flock 8
-night
-refused 'another run at work' 'busy'
-exec 8<&-
-
-# An interruption at each call, alone and followed by what the unit does after each run.
-for how in TERM KILL; do
-  for number in {1..150}; do
-    rm -rf backups/* "$stand/hit"
-    export KILL_AT=$number KILL_HOW=$how
-    night
-    unset KILL_AT
-    [ -e "$stand/hit" ] || break
-    name="$how at $(cat "$stand/hit")"
-    name=${name//$PWD\//}
-    [ "$how" = KILL ] || unit_runs "$name"
-    verb backup --after "$PWD/conf"
-    unit_runs "$name, and after"
-    for copy in backups/*; do
-      case $copy in
-        *'*' | *.part) ;;
-        *) [ "$("$rooms" verify "$copy/F" 2>&1)" = sound ] || fail "$name" "$copy is no backup" ;;
-      esac
-    done
-    holds "$name: nothing is owed" [ -z "$(ls run)" ]
-    holds "$name: no copy is half made" [ -z "$(find backups -name '*.part')" ]
-    holds "$name: no text is half written" [ -z "$(find backups -name unfinished)" ]
-  done
-  holds "$how: the calls came to an end" [ "$number" -gt 10 -a "$number" -lt 150 ]
-  night
-  holds "$how: a good night after all" [ "$status" = 0 ]
-done
-answers 'the room answers' '/can/?' "json '200 OK' '{}'"

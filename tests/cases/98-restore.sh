@@ -34,10 +34,13 @@ old_office() {
   chmod 600 office/*
   [ "$STAND_USER" = "$(id -u)" ] || chown "$STAND_USER:$STAND_USER" office/*
 }
-owner() { as_user "$rooms" dump "$PWD/office/F" 2>&1 | sed -n '1s/folder \([a-z]*\) staff .*/\1/p'; }
+owner() {
+  as_user "$rooms" dump "$PWD/office/F" 2>&1 | sed -n '1s/folder \([a-z]*\) staff .*/\1/p'
+}
 aside() { find office -name 'before-restore.*' | grep -q .; }
 unchanged() { # NAME
-  holds "$1: the room is the old one" [ "$(cat office/F office/F-wal | cksum)" = "$(cat old.F old.F-wal | cksum)" ]
+  holds "$1: the room is the old one" \
+    [ "$(cat office/F office/F-wal | cksum)" = "$(cat old.F old.F-wal | cksum)" ]
   holds "$1: nothing else lies there" [ "$(cd office && echo *)" = 'F F-wal' ]
 }
 
@@ -100,8 +103,10 @@ unchanged 'a file that can not be moved'
 restores good
 says 'a restore' 0 "restored $PWD/office/F"
 holds 'the room is the backup' [ "$(owner)" = dave ]
-holds 'with its last document' [ "$(as_user "$rooms" dump "$PWD/office/F" | grep -c '^document dave staff 5 /f$')" = 1 ]
-holds 'the owner and the rights' [ -z "$(find office -not -user "$STAND_USER" -o -perm /077 -not -path office)" ]
+holds 'with its last document' \
+  [ "$(as_user "$rooms" dump "$PWD/office/F" | grep -c '^document dave staff 5 /f$')" = 1 ]
+holds 'the owner and the rights' \
+  [ -z "$(find office -not -user "$STAND_USER" -o -perm /077 -not -path office)" ]
 holds 'the backup is as it was' [ "$(cksum backups/good/*)" = "$(cat backup.sums)" ]
 kept=$(echo office/before-restore.*)
 holds 'the old files are aside' cmp -s "$kept/F" old.F
@@ -126,7 +131,8 @@ unchanged 'an earlier version was cut off'
 as_user mkdir office/restoring office/restoring/old
 as_user touch office/restoring/old/G
 restores good
-holds "another room's restore that was cut off" [ "$status" = 0 -a "$(owner)" = dave -a -e office/restoring/old/G ]
+holds "another room's restore that was cut off" \
+  [ "$status" = 0 -a "$(owner)" = dave -a -e office/restoring/old/G ]
 rm -rf office/*
 
 # An interruption at each call: the room is the old or the new one, or there is none, and --undo or

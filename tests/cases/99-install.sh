@@ -1,33 +1,45 @@
 # contrib/install below a folder, and the units as systemd reads them.
 
 installs() {
-  "$contrib/install" --destdir "$PWD/machine" --program "$rooms" "$@" </dev/null >"$work/out" 2>"$work/err"
+  "$contrib/install" --destdir "$PWD/machine" --program "$rooms" "$@" \
+    </dev/null >"$work/out" 2>"$work/err"
   status=$?
 }
 sets_up() {
   "$contrib/rooms-admin" setup --destdir "$PWD/machine" "$@" </dev/null >"$work/out" 2>"$work/err"
   status=$?
 }
-tree() { (cd machine && find . -exec ls -ld --time-style=full-iso {} + && find . -type f -exec cksum {} +) 2>/dev/null; }
+tree() {
+  (cd machine && find . -exec ls -ld --time-style=full-iso {} + &&
+    find . -type f -exec cksum {} +) 2>/dev/null
+}
 installs --dry-run
 says 'what would be done' 0 'would: file /usr/local/bin/rooms'
 holds 'is not done' is_missing machine
 installs
 says 'an install' 0 'file /etc/systemd/system/rooms-nightly@.timer'
-for file in /usr/local/bin/rooms /usr/local/sbin/rooms-nightly /usr/local/sbin/rooms-restore /usr/local/sbin/rooms-admin /usr/local/bin/rooms-admin /usr/local/share/rooms/rooms_admin/__main__.py /usr/local/share/man/man8/rooms-admin.8 \
-  /usr/local/sbin/rooms-get /usr/local/sbin/rooms-add /usr/local/sbin/rooms-doctor /usr/local/bin/rooms-handover /usr/local/bin/rooms-import /usr/local/bin/rooms-export \
-  /usr/local/share/man/man1/rooms.1 /usr/local/share/man/man8/rooms-get.8 /usr/share/bash-completion/completions/rooms \
-  /etc/rooms/office.conf /etc/systemd/system/rooms@.service /usr/share/doc/rooms/docs/operating.md /etc/nginx/sites-enabled/rooms \
-  /usr/local/sbin/rooms-standby /etc/systemd/system/rooms-standby@.timer /etc/rooms/site \
-  /usr/local/sbin/rooms-full /etc/systemd/system/rooms-full@.service /usr/local/share/man/man8/rooms-full.8 \
-  /usr/local/sbin/rooms-directory /usr/local/share/rooms/directory.apache /usr/local/share/rooms/signed-in \
-  /etc/systemd/system/rooms-passwords.service /etc/systemd/system/rooms-directory@.timer /etc/systemd/system/nginx.service.d/rooms.conf \
-  /etc/tmpfiles.d/rooms.conf /usr/local/sbin/rooms-admin /usr/local/sbin/rooms-setup /usr/local/share/rooms/rooms_admin/site.py \
-  /usr/local/share/rooms/site.conf.in /usr/local/share/rooms/room.conf.in /usr/local/share/rooms/before.txt \
-  /usr/share/bash-completion/completions/rooms-add /usr/share/bash-completion/completions/rooms-handover \
-  /usr/local/share/rooms/rooms_admin/check.py /usr/local/share/rooms/rooms.nft /etc/sysusers.d/rooms.conf \
-  /etc/systemd/system/rooms-firewall.service /etc/systemd/system/rooms-tell@.service \
-  /var/lib/rooms-front/start.html; do
+for file in /usr/local/bin/rooms \
+  /usr/local/sbin/rooms-nightly /usr/local/sbin/rooms-restore /usr/local/sbin/rooms-admin \
+  /usr/local/bin/rooms-admin /usr/local/share/rooms/rooms_admin/__main__.py \
+  /usr/local/share/man/man8/rooms-admin.8 /usr/local/sbin/rooms-get /usr/local/sbin/rooms-add \
+  /usr/local/sbin/rooms-doctor /usr/local/bin/rooms-handover \
+  /usr/local/bin/rooms-import /usr/local/bin/rooms-export /usr/local/share/man/man1/rooms.1 \
+  /usr/local/share/man/man8/rooms-get.8 /usr/share/bash-completion/completions/rooms \
+  /etc/rooms/office.conf /etc/systemd/system/rooms@.service /usr/share/doc/rooms/docs/operating.md \
+  /etc/nginx/sites-enabled/rooms /usr/local/sbin/rooms-standby \
+  /etc/systemd/system/rooms-standby@.timer /etc/rooms/site /usr/local/sbin/rooms-full \
+  /etc/systemd/system/rooms-full@.service /usr/local/share/man/man8/rooms-full.8 \
+  /usr/local/sbin/rooms-directory /usr/local/share/rooms/directory.apache \
+  /usr/local/share/rooms/signed-in /etc/systemd/system/rooms-passwords.service \
+  /etc/systemd/system/rooms-directory@.timer /etc/systemd/system/nginx.service.d/rooms.conf \
+  /etc/tmpfiles.d/rooms.conf /usr/local/sbin/rooms-admin \
+  /usr/local/sbin/rooms-setup /usr/local/share/rooms/rooms_admin/site.py \
+  /usr/local/share/rooms/site.conf.in /usr/local/share/rooms/room.conf.in \
+  /usr/local/share/rooms/before.txt /usr/share/bash-completion/completions/rooms-add \
+  /usr/share/bash-completion/completions/rooms-handover \
+  /usr/local/share/rooms/rooms_admin/check.py /usr/local/share/rooms/rooms.nft \
+  /etc/sysusers.d/rooms.conf /etc/systemd/system/rooms-firewall.service \
+  /etc/systemd/system/rooms-tell@.service /var/lib/rooms-front/start.html; do
   holds "$file is there" [ -s "machine$file" ]
 done
 # Each unit names a page that is there, and that is about it: about rooms-tell@ by what it does.
@@ -39,7 +51,8 @@ for file in machine/etc/systemd/system/rooms*; do
 done
 holds 'nobody else reads the passwords' [ -n "$(find machine/etc/nginx/rooms.htpasswd -perm 600)" ]
 holds 'the room has a folder of its own' [ -n "$(find machine/var/lib/rooms -perm 700)" ]
-holds 'the page is there if there is one' [ ! -d "$contrib/page" -o -n "$(find machine/usr -path '*rooms/page/index.html')" ]
+holds 'the page is there if there is one' \
+  [ ! -d "$contrib/page" -o -n "$(find machine/usr -path '*rooms/page/index.html')" ]
 holds 'the program runs' cmp -s machine/usr/local/bin/rooms "$rooms"
 tree >before
 installs
@@ -58,20 +71,26 @@ says 'a changed file would be' 0 'would: new /usr/local/sbin/rooms-admin'
 installs
 says 'a unit that was changed' 0 'kept /etc/systemd/system/rooms@.service, which differs'
 says 'a site that was changed' 0 'kept /etc/nginx/sites-enabled/rooms'
-says 'a script that was changed' 0 'new /usr/local/sbin/rooms-admin, the old one is /usr/local/sbin/rooms-admin.old'
+says 'a script that was changed' 0 \
+  'new /usr/local/sbin/rooms-admin, the old one is /usr/local/sbin/rooms-admin.old'
 holds 'settings stay' grep -q '^# mine' machine/etc/rooms/office.conf
 holds 'the old script is beside' grep -q '^# mine' machine/usr/local/sbin/rooms-admin.old
 same 'the script is new' machine/usr/local/sbin/rooms-admin "$contrib/rooms-admin"
 says 'the script of an older version' 0 'link /usr/local/sbin/rooms-get to rooms-admin'
-holds 'is beside the link' [ "$(cat machine/usr/local/sbin/rooms-get.old)$(readlink machine/usr/local/sbin/rooms-get)" = '# olderrooms-admin' ]
+holds 'is beside the link' \
+  [ "$(cat machine/usr/local/sbin/rooms-get.old)$(readlink machine/usr/local/sbin/rooms-get)" \
+    = '# olderrooms-admin' ]
 installs --replace
-same 'the unit is replaced if that is asked' machine/etc/systemd/system/rooms@.service "$contrib/rooms@.service"
+same 'the unit is replaced if that is asked' machine/etc/systemd/system/rooms@.service \
+  "$contrib/rooms@.service"
 holds 'and stays beside' grep -q '^# mine' machine/etc/systemd/system/rooms@.service.old
 # What an administrator wrote there outlives the next version too.
 echo '# a later version' >>"machine/etc/systemd/system/rooms@.service"
 installs --replace
-says 'a second replacement' 0 'new /etc/systemd/system/rooms@.service, the old one is /etc/systemd/system/rooms@.service.old.2'
-holds 'leaves what stood there first' [ "$(cat machine/etc/systemd/system/rooms@.service.old{,.2} | grep -c '^# mine\|^# a later')" = 2 ]
+says 'a second replacement' 0 \
+  'new /etc/systemd/system/rooms@.service, the old one is /etc/systemd/system/rooms@.service.old.2'
+holds 'leaves what stood there first' [ "$(cat machine/etc/systemd/system/rooms@.service.old{,.2} |
+  grep -c '^# mine\|^# a later')" = 2 ]
 holds 'settings stay in any case' grep -q '^# mine' machine/etc/rooms/office.conf
 installs --program "$PWD/nowhere"
 says 'no program' 2 'no program'
@@ -94,7 +113,8 @@ for words in --other 'x' '--tls one.pem' '--directory' '--destdir here' 'x y'; d
   holds "setup $words: by its name" grep -qE 'bad (arguments|folder)' "$work/err"
 done
 # The name that it had before.
-machine/usr/local/sbin/rooms-setup --dry-run --destdir "$PWD/machine" </dev/null >"$work/out" 2>"$work/err"
+machine/usr/local/sbin/rooms-setup --dry-run --destdir "$PWD/machine" \
+  </dev/null >"$work/out" 2>"$work/err"
 status=$?
 says 'rooms-setup' 0 'its name is now rooms-admin setup'
 : >a-file
@@ -112,7 +132,8 @@ if has dpkg-query && has md5sum; then
   : >machine/var/www/html/index.nginx-debian.html
   echo 'server { listen 80 default_server; }' >"$default"
   {
-    printf '%s\n' 'Package: nginx-common' 'Status: install ok installed' 'Maintainer: nobody' 'Architecture: all'
+    printf '%s\n' 'Package: nginx-common' 'Status: install ok installed' 'Maintainer: nobody' \
+      'Architecture: all'
     printf '%s\n' 'Version: 1.22.1-9' 'Description: small' 'Conffiles:'
     echo ' /etc/nginx/nginx.conf 0123456789abcdef0123456789abcdef'
     echo " /etc/nginx/sites-available/default $(md5sum <"$default" | cut -d ' ' -f 1)"
@@ -185,7 +206,8 @@ if has openssl; then
   refuses_tls 'a certificate that has expired' 'expired' old.pem old.key
   refuses_tls "a name that nginx's file can't hold" 'bad name' 'one;.pem' one.key
   if [ "$(id -u)" = 0 ] && has nginx; then
-    openssl req -newkey rsa:1024 -noenc -subj /CN=weak -keyout weak.key -x509 -out weak.pem 2>/dev/null
+    openssl req -newkey rsa:1024 -noenc -subj /CN=weak -keyout weak.key -x509 -out weak.pem \
+      2>/dev/null
     { cat one.pem; sed '3d' two.pem; } >chain.pem
     refuses_tls 'a key that is too short for nginx' 'no pair for nginx' weak.pem weak.key
     refuses_tls 'a chain with a fault' 'no pair for nginx' chain.pem one.key
@@ -206,8 +228,10 @@ if has openssl; then
   sets_up --tls one.pem one.key
   says 'TLS' 0 'new file /etc/nginx/sites-available/rooms'
   holds 'TLS is served' grep -qx '    listen 443 ssl;' machine/etc/nginx/sites-available/rooms
-  holds 'by this certificate' grep -qxF "    ssl_certificate $PWD/one.pem;" machine/etc/nginx/sites-available/rooms
-  holds 'and this key' grep -qxF "    ssl_certificate_key $PWD/one.key;" machine/etc/nginx/sites-available/rooms
+  holds 'by this certificate' \
+    grep -qxF "    ssl_certificate $PWD/one.pem;" machine/etc/nginx/sites-available/rooms
+  holds 'and this key' \
+    grep -qxF "    ssl_certificate_key $PWD/one.key;" machine/etc/nginx/sites-available/rooms
   holds 'the settings say so' grep -qxF "KEY=$PWD/one.key" machine/etc/rooms/site
   tree >before
   for words in '' '--tls one.pem one.key'; do
@@ -221,7 +245,8 @@ if has openssl; then
   sets_up --tls two.pem two.key
   says 'another certificate' 0 "new file /etc/rooms/site, with CERTIFICATE=$PWD/two.pem"
   says 'whose key all can read' 0 "chmod 600 $PWD/two.key"
-  holds 'is used' grep -qxF "    ssl_certificate $PWD/two.pem;" machine/etc/nginx/sites-available/rooms
+  holds 'is used' \
+    grep -qxF "    ssl_certificate $PWD/two.pem;" machine/etc/nginx/sites-available/rooms
   rm machine/etc/nginx/sites-enabled/rooms
   echo '# mine' >machine/etc/nginx/sites-enabled/rooms
   tree >before
@@ -237,11 +262,15 @@ nginx=$(command -v nginx || ls /usr/sbin/nginx 2>/dev/null)
 if [ -n "$nginx" ] && [ "$(id -u)" = 0 ] && has openssl; then
   mkdir machine/t
   {
-    echo "pid $PWD/nginx.pid; error_log $PWD/error.log; events { } http { include sites-enabled/*; access_log off;"
-    for body in client_body proxy fastcgi uwsgi scgi; do echo "${body}_temp_path $PWD/machine/t/$body;"; done
+    echo "pid $PWD/nginx.pid; error_log $PWD/error.log; events { }"
+    echo 'http { include sites-enabled/*; access_log off;'
+    for body in client_body proxy fastcgi uwsgi scgi; do
+      echo "${body}_temp_path $PWD/machine/t/$body;"
+    done
     echo '}'
   } >machine/etc/nginx/nginx.conf
-  # Each kind of site, with rooms of each kind, but for the port that only a machine with certificates has.
+  # Each kind of site, with rooms of each kind, but for the port that only a machine with
+  # certificates has.
   takes() { # NAME: what was written, with the folders of this machine
     sed -e "s#/etc/rooms/#$PWD/machine/etc/rooms/#; s#/run/rooms-front#$PWD/machine/t#" \
       machine/etc/nginx/sites-available/rooms >machine/etc/nginx/tried
@@ -251,7 +280,10 @@ if [ -n "$nginx" ] && [ "$(id -u)" = 0 ] && has openssl; then
   sed -i 's#sites-enabled/\*#tried#' machine/etc/nginx/nginx.conf
   takes 'the site with TLS'
   mkdir machine/etc/rooms/machines
-  for name in front machine; do cp one.pem "machine/etc/rooms/machines/$name.pem"; cp one.key "machine/etc/rooms/machines/$name.key"; done
+  for name in front machine; do
+    cp one.pem "machine/etc/rooms/machines/$name.pem"
+    cp one.key "machine/etc/rooms/machines/$name.key"
+  done
   cp one.pem machine/etc/rooms/machines/authority.pem
   more() { "$contrib/rooms-admin" add --destdir "$PWD/machine" "$@" </dev/null >said 2>&1; }
   holds 'a room behind another front end' more --behind ledger
@@ -263,8 +295,11 @@ if [ -n "$nginx" ] && [ "$(id -u)" = 0 ] && has openssl; then
   sed -i 's/^SOCKET=.*/SOCKET=/' machine/etc/rooms/office.conf
   sets_up
   says 'rooms of each kind' 0 'new file /etc/nginx/sites-available/rooms'
-  holds 'a room with a socket' grep -qx 'upstream room_invoices { server unix:/run/rooms/invoices/socket; }' machine/etc/nginx/sites-available/rooms
-  holds 'and one with a port' grep -qx 'upstream room_office { server 127.0.0.1:8780; }' machine/etc/nginx/sites-available/rooms
+  holds 'a room with a socket' \
+    grep -qx 'upstream room_invoices { server unix:/run/rooms/invoices/socket; }' \
+      machine/etc/nginx/sites-available/rooms
+  holds 'and one with a port' grep -qx 'upstream room_office { server 127.0.0.1:8780; }' \
+    machine/etc/nginx/sites-available/rooms
   takes 'the site with all of them'
   sed -i 's/^\(CERTIFICATE\|KEY\)=.*/\1=/' machine/etc/rooms/site
   sets_up
@@ -279,7 +314,13 @@ fi
 
 if [ "$(id -u)" != 0 ] || has setpriv; then
   chmod 755 "$work" .
-  as_nobody() { if [ "$(id -u)" = 0 ]; then setpriv --reuid=65534 --regid=65534 --clear-groups "$@"; else "$@"; fi; }
+  as_nobody() {
+    if [ "$(id -u)" = 0 ]; then
+      setpriv --reuid=65534 --regid=65534 --clear-groups "$@"
+    else
+      "$@"
+    fi
+  }
   if as_nobody test -r "$contrib/install" && as_nobody "$rooms" --version 2>&1 | grep -q .; then
     as_nobody "$contrib/install" --program "$rooms" </dev/null >"$work/out" 2>"$work/err"
     status=$?
@@ -289,7 +330,8 @@ if [ "$(id -u)" != 0 ] || has setpriv; then
   fi
 fi
 
-# The firewall's table is loaded before a server listens, unless that has a socket; and at an upgrade, if a room has a port.
+# The firewall's table is loaded before a server listens, unless that has a socket; and at an
+# upgrade, if a room has a port.
 mkdir -p asked etc/rooms run/systemd/system
 printf '#!/bin/sh\necho "$*" >>"%s/asked/words"\n' "$PWD" >asked/systemctl
 chmod 755 asked/systemctl
@@ -304,7 +346,8 @@ starts_table 'with a socket' '' SOCKET=yes PORT=8780
 starts_table 'with a port' 'start rooms-firewall.service' SOCKET= PORT=8780
 starts_table 'of an earlier version' 'start rooms-firewall.service' PORT=8780
 starts_table 'with another word' 'start rooms-firewall.service' SOCKET=no PORT=8780
-sed -n '/^      for conf in/,/^      done/p' "$contrib/debian/postinst" | sed "s#/etc/rooms#$PWD/etc/rooms#" >closes
+sed -n '/^      for conf in/,/^      done/p' "$contrib/debian/postinst" |
+  sed "s#/etc/rooms#$PWD/etc/rooms#" >closes
 holds 'the package looks at settings' [ -s closes ]
 loads() { # NAME WANTED, for what is in ./etc/rooms, which goes
   : >asked/words
@@ -328,7 +371,8 @@ loads 'a room that has changed to a port' "$table"
 if has systemd-analyze; then
   mkdir units
   for unit in "$contrib"/rooms*.service "$contrib"/rooms*.timer; do
-    sed "s#=\(+\?\)/usr/local/#=\1$PWD/machine/usr/local/#; s#=/usr/sbin/\(apache2\|nft\)#=/bin/true#" "$unit" >"units/${unit##*/}"
+    sed -e "s#=\(+\?\)/usr/local/#=\1$PWD/machine/usr/local/#" \
+      -e "s#=/usr/sbin/\(apache2\|nft\)#=/bin/true#" "$unit" >"units/${unit##*/}"
   done
   # It reports what it doesn't know of all units that it meets. Only these are of this project.
   systemd-analyze verify units/*.service units/*.timer >"$work/out" 2>&1
@@ -338,8 +382,10 @@ if has systemd-analyze; then
   # How much a unit could do, by systemd's own count from 0 to 10.
   exposed() { # UNIT MOST
     local level
-    level=$(cd units && systemd-analyze security --offline=true "./$1" 2>&1 | sed -n 's/.*exposure level for [^:]*: \([0-9.]*\) .*/\1/p')
-    holds "$1 is exposed to $level, and at most $2" awk -v level="${level:-11}" -v most="$2" 'BEGIN { exit !(level <= most) }'
+    level=$(cd units && systemd-analyze security --offline=true "./$1" 2>&1 |
+      sed -n 's/.*exposure level for [^:]*: \([0-9.]*\) .*/\1/p')
+    holds "$1 is exposed to $level, and at most $2" \
+      awk -v level="${level:-11}" -v most="$2" 'BEGIN { exit !(level <= most) }'
   }
   if systemd-analyze --help | grep -q -e --offline; then
     exposed rooms@.service 1.3

@@ -21,9 +21,10 @@ def found(*names):
 def options_for(folder, rules):
     options = Options()
     options.binary_location = found('chromium', 'chromium-browser', 'google-chrome')
-    for word in ('--headless=new', '--no-sandbox', '--disable-gpu', '--disable-dev-shm-usage', '--no-proxy-server',
-                 '--no-first-run', '--disable-background-networking', '--disable-component-update', '--lang=en',
-                 '--window-size=1200,900', f'--user-data-dir={folder}/profile', f'--host-resolver-rules={rules}'):
+    for word in ('--headless=new', '--no-sandbox', '--disable-gpu', '--disable-dev-shm-usage',
+                 '--no-proxy-server', '--no-first-run', '--disable-background-networking',
+                 '--disable-component-update', '--lang=en', '--window-size=1200,900',
+                 f'--user-data-dir={folder}/profile', f'--host-resolver-rules={rules}'):
         options.add_argument(word)
     options.add_experimental_option('prefs', {'download.default_directory': f'{folder}/downloads'})
     options.set_capability('goog:loggingPrefs', {'browser': 'ALL'})
@@ -35,7 +36,8 @@ class Browser:
         os.makedirs(f'{folder}/downloads')
         self.base = base
         self.downloads = f'{folder}/downloads'
-        self.driver = webdriver.Chrome(service=Service(found('chromedriver')), options=options_for(folder, rules))
+        self.driver = webdriver.Chrome(service=Service(found('chromedriver')),
+                                       options=options_for(folder, rules))
         self.debugger = self.driver.capabilities['goog:chromeOptions']['debuggerAddress']
         self.driver.set_page_load_timeout(PATIENCE)
         self.driver.set_script_timeout(PATIENCE)
@@ -58,9 +60,11 @@ class Browser:
 
     def settled(self):
         self.until(lambda: self.script(
-            "return document.readyState === 'complete' && !document.body.classList.contains('waiting')"
+            "return document.readyState === 'complete'"
+            " && !document.body.classList.contains('waiting')"
             " && document.querySelector('main').childElementCount > 0"
-            " && document.querySelector('.sheet, .empty')?.childNodes.length > 0"), 'the page is at rest')
+            " && document.querySelector('.sheet, .empty')?.childNodes.length > 0"),
+            'the page is at rest')
 
     def script(self, text, *words):
         return self.driver.execute_script(text, *words)
@@ -72,24 +76,28 @@ class Browser:
                 return holds()
             except StaleElementReferenceException:
                 return False
-        return WebDriverWait(self.driver, patience, poll_frequency=0.05).until(tried, f'never came: {what}')
+        return WebDriverWait(self.driver, patience, poll_frequency=0.05).until(
+            tried, f'never came: {what}')
 
     def all(self, css):
-        return self.script('return [...document.querySelectorAll(arguments[0])].filter((one) => one.checkVisibility())', css)
+        return self.script('return [...document.querySelectorAll(arguments[0])]'
+                           '.filter((one) => one.checkVisibility())', css)
 
     def one(self, css):
         return self.until(lambda: next(iter(self.all(css)), None), css)
 
     def texts(self, css):
         """Without the marks that set a name apart in a sentence."""
-        return self.script("""return [...document.querySelectorAll(arguments[0])].filter((one) => one.checkVisibility())
+        return self.script("""return [...document.querySelectorAll(arguments[0])]
+            .filter((one) => one.checkVisibility())
             .map((one) => one.innerText.replace(/[\\u2068\\u2069]/g, ''))""", css)
 
     def button(self, words, within='body'):
         """The button or link of these words, or with this label."""
-        return self.until(lambda: self.script("""return [...document.querySelectorAll(`${arguments[1]} :is(button, a, label)`)]
-            .find((one) => one.checkVisibility()
-              && (one.innerText.trim() === arguments[0] || one.getAttribute('aria-label') === arguments[0]))""",
+        return self.until(lambda: self.script("""
+            return [...document.querySelectorAll(`${arguments[1]} :is(button, a, label)`)]
+            .find((one) => one.checkVisibility() && (one.innerText.trim() === arguments[0]
+              || one.getAttribute('aria-label') === arguments[0]))""",
                                               words, within), f'button {words}')
 
     def press(self, words, within='body'):
@@ -98,7 +106,8 @@ class Browser:
 
     def press_choice(self, words):
         """The choice below a field that has these words."""
-        self.until(lambda: self.script("""const one = [...document.querySelectorAll('[role=option]')]
+        self.until(lambda: self.script("""
+            const one = [...document.querySelectorAll('[role=option]')]
             .find((each) => each.innerText.replace(/\\s+/g, ' ').includes(arguments[0]));
             one?.dispatchEvent(new Event('pointerdown', { cancelable: true }));
             return Boolean(one);""", words), f'the choice {words}')
@@ -139,17 +148,20 @@ class Browser:
     def says(self, *words, css='.notice', patience=PATIENCE):
         """Waits for a message with all of these words, and puts messages aside."""
         try:
-            self.until(lambda: any(all(word in text for word in words) for text in self.texts(css)), 'a message', patience)
+            self.until(lambda: any(all(word in text for word in words) for text in self.texts(css)),
+                       'a message', patience)
         except Exception:
             raise AssertionError(f'{css} says {self.texts(css)}, not {words}') from None
-        self.script("""document.querySelectorAll('.notice [aria-label="Close this message"]').forEach((one) => one.click())""")
+        self.script("""document.querySelectorAll('.notice [aria-label="Close this message"]')"""
+                    '.forEach((one) => one.click())')
 
     def downloaded(self, name):
         path = f'{self.downloads}/{name}'
         try:
             self.until(lambda: os.path.exists(path), 'a download')
         except Exception:
-            raise AssertionError(f'{os.listdir(self.downloads)} were downloaded, not {name}') from None
+            raise AssertionError(f'{os.listdir(self.downloads)} were downloaded, '
+                                 f'not {name}') from None
         with open(path, 'rb') as file:
             text = file.read()
         os.remove(path)
@@ -162,9 +174,11 @@ class Browser:
 
     def unnamed(self):
         """What can be reached by keyboard and has no name that a screen reader tells."""
-        seen = self.script("""return [...document.querySelectorAll('a, button, input, select, textarea, summary')]
+        seen = self.script("""
+            return [...document.querySelectorAll('a, button, input, select, textarea, summary')]
             .filter((each) => each.checkVisibility({ checkVisibilityCSS: true }))""")
-        return [each.get_attribute('outerHTML') for each in seen if not each.accessible_name.strip()]
+        return [each.get_attribute('outerHTML') for each in seen
+                if not each.accessible_name.strip()]
 
     def is_wider(self):
         return self.script('return document.scrollingElement.scrollWidth > innerWidth')
@@ -192,7 +206,8 @@ class Checks:
         try:
             act()
         except Exception as fault:  # Each check is told, whatever stopped it.
-            words = ' '.join(str(getattr(fault, 'msg', None) or fault).split()) or type(fault).__name__
+            words = ' '.join(str(getattr(fault, 'msg', None) or fault).split()) or \
+                type(fault).__name__
             print(f'fail\t{name}\t{words[:2400]}', flush=True)
             return
         took = time.monotonic() - began

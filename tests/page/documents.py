@@ -32,7 +32,8 @@ class Documents:
     def upload(self):
         alice = self.alice
         alice.press('letters')
-        alice.until(lambda: 'Nothing is in this folder' in alice.one('.sheet').text, 'an empty folder')
+        alice.until(lambda: 'Nothing is in this folder' in alice.one('.sheet').text,
+                    'an empty folder')
         paths = [self.file('Report 10.txt', b'ten'), self.file('Report 2.txt', b'two'),
                  self.file('Größe 100%25.html', b'<script>document.title = "evil"</script>')]
         alice.script("document.querySelector('input[type=file]').hidden = false")
@@ -51,7 +52,9 @@ class Documents:
             alice.script(DROP.replace("'dropped'", "'anew'"), HEBREW)
             alice.says(HEBREW, css='dialog')
             alice.press(answer, 'dialog')
-            alice.until(lambda: self.ask('GET', '/doc/letters/' + urllib.request.quote(HEBREW)) == content, content)
+            alice.until(
+                lambda: self.ask('GET', '/doc/letters/' + urllib.request.quote(HEBREW)) == content,
+                content)
 
     def too_large(self):
         alice = self.alice
@@ -150,14 +153,17 @@ class Documents:
         alice.one('dialog input').send_keys('keys', Keys.ENTER)
         alice.says('keys', 'was made')
         alice.button('Actions: keys').send_keys(Keys.ENTER)
-        for key, words in ((Keys.ARROW_UP, 'Remove'), (Keys.ARROW_DOWN, 'Rename or move'), (Keys.END, 'Remove')):
+        for key, words in ((Keys.ARROW_UP, 'Remove'), (Keys.ARROW_DOWN, 'Rename or move'),
+                           (Keys.END, 'Remove')):
             alice.driver.switch_to.active_element.send_keys(key)
             assert alice.script('return document.activeElement.textContent') == words
         alice.driver.switch_to.active_element.send_keys(Keys.ESCAPE)
-        assert alice.script('return document.activeElement.dataset.act') == 'menu' and not alice.all('.menu')
+        assert alice.script('return document.activeElement.dataset.act') == 'menu' and \
+            not alice.all('.menu')
         alice.driver.switch_to.active_element.send_keys(Keys.ENTER, Keys.ARROW_UP)
         alice.driver.switch_to.active_element.send_keys(Keys.ENTER)
-        alice.until(lambda: alice.script('return document.activeElement.textContent') == 'Cancel', 'the question')
+        alice.until(lambda: alice.script('return document.activeElement.textContent') == 'Cancel',
+                    'the question')
         alice.driver.switch_to.active_element.send_keys(Keys.TAB)
         alice.driver.switch_to.active_element.send_keys(Keys.ENTER)
         alice.says('keys', 'was removed')

@@ -1,11 +1,13 @@
-"""The examples of lists that stand in the pages of docs, so that both are tested by the same ones."""
+"""The examples of lists that stand in the pages of docs, so that both are tested by the same
+ones."""
 
 import glob
 import re
 
 
 def blocks(text):
-    """The indented and fenced pieces that begin with a list line. A here-document ends them, too."""
+    """The indented and fenced pieces that begin with a list line. A here-document ends them,
+    too."""
     lines = text.split('\n')
     for index, line in enumerate(lines):
         begun = re.match(r'( {4})?list:[ap]*$', line)
@@ -26,7 +28,8 @@ def shown_text(cell):
     if cell == 'nothing':
         return ''
     written = re.match(r'`(.*?)`', cell)[1]
-    return re.sub(r' ?/ ?$', '\n', written).replace(' / / ', '\n\n').replace(' / ', '\n').replace(' /  ', '\n ')
+    return re.sub(r' ?/ ?$', '\n', written).replace(' / / ', '\n\n').replace(
+        ' / ', '\n').replace(' /  ', '\n ')
 
 
 def of_docs(docs):
@@ -45,7 +48,8 @@ def of_docs(docs):
                re.findall(r'^\| `([^`]*)` \| (?:printed `([^`]*)`|(A\d+))', rules, re.M)]
     entries.append(['A:g:OWNER@:r', 'A:g:OWNER@:r'])
     faults = [[shown_text(cell), int(line), code] for cell, line, code in
-              re.findall(r'^\| (nothing|`[^`]* /`.*?|`list: a /`) \| line (\d+), (A\d+)', rules, re.M)]
+              re.findall(r'^\| (nothing|`[^`]* /`.*?|`list: a /`) \| line (\d+), (A\d+)',
+                         rules, re.M)]
     long = re.search(r'So this text\n\n(.*?)\n\nis read, and printed as\n\n(.*?)\n\n', rules, re.S)
     printed = [re.sub(r'^ {4}', '', one, flags=re.M) + '\n' for one in long.groups()]
     below = re.search(r'^\| the parent\'s entry \|.*\n\|.*\n((?:\|.*\n)+)', rules, re.M)[1]

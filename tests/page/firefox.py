@@ -1,5 +1,5 @@
-"""A headless Firefox by its own protocol, Marionette, since Debian has no geckodriver. It answers to the calls of selenium's
-driver and elements that the plays use."""
+"""A headless Firefox by its own protocol, Marionette, since Debian has no geckodriver. It answers
+to the calls of selenium's driver and elements that the plays use."""
 
 import base64
 import json
@@ -15,19 +15,23 @@ from selenium.common.exceptions import StaleElementReferenceException
 REFERENCE = 'element-6066-11e4-a52e-4f735466cecf'
 
 PREFERENCES = {
-    'browser.shell.checkDefaultBrowser': False, 'browser.startup.page': 0, 'datareporting.policy.dataSubmissionEnabled': False,
-    'app.update.auto': False, 'app.normandy.enabled': False, 'network.proxy.type': 0, 'browser.aboutwelcome.enabled': False,
-    'toolkit.telemetry.reportingpolicy.firstRun': False, 'browser.download.folderList': 2, 'signon.rememberSignons': False,
-    'browser.download.useDownloadDir': True, 'browser.download.always_ask_before_handling_new_types': False,
-    'browser.helperApps.neverAsk.saveToDisk': 'application/octet-stream', 'network.auth.confirmAuth.enabled': False,
-    'network.http.prompt-temp-redirect': False, 'browser.newtabpage.enabled': False, 'remote.prefs.recommended': True,
+    'browser.shell.checkDefaultBrowser': False, 'browser.startup.page': 0,
+    'datareporting.policy.dataSubmissionEnabled': False, 'app.update.auto': False,
+    'app.normandy.enabled': False, 'network.proxy.type': 0, 'browser.aboutwelcome.enabled': False,
+    'toolkit.telemetry.reportingpolicy.firstRun': False, 'browser.download.folderList': 2,
+    'signon.rememberSignons': False, 'browser.download.useDownloadDir': True,
+    'browser.download.always_ask_before_handling_new_types': False,
+    'browser.helperApps.neverAsk.saveToDisk': 'application/octet-stream',
+    'network.auth.confirmAuth.enabled': False, 'network.http.prompt-temp-redirect': False,
+    'browser.newtabpage.enabled': False, 'remote.prefs.recommended': True,
     'devtools.console.stdout.content': True,
 }
 
 
 SIZE = """
 for (const [name, length] of [['width', arguments[0]], ['height', arguments[1]]]) {
-  for (const word of [name, `min-${name}`, `max-${name}`]) gBrowser.selectedBrowser.style.setProperty(word, `${length}px`);
+  for (const word of [name, `min-${name}`, `max-${name}`])
+    gBrowser.selectedBrowser.style.setProperty(word, `${length}px`);
 }
 """
 
@@ -60,7 +64,8 @@ class Element:
 
     def get_attribute(self, name):
         return self.driver.execute_script(
-            'return arguments[0][arguments[1]] ?? arguments[0].getAttribute(arguments[1])', self, name)
+            'return arguments[0][arguments[1]] ?? arguments[0].getAttribute(arguments[1])',
+            self, name)
 
     @property
     def text(self):
@@ -78,17 +83,22 @@ class Element:
 class Driver:
     def __init__(self, folder, port):
         os.makedirs(f'{folder}/profile')
-        preferences = {**PREFERENCES, 'marionette.port': port, 'browser.download.dir': f'{folder}/downloads'}
+        preferences = {**PREFERENCES, 'marionette.port': port,
+                       'browser.download.dir': f'{folder}/downloads'}
         with open(f'{folder}/profile/user.js', 'w', encoding='utf-8') as file:
-            file.writelines(f'user_pref({json.dumps(name)}, {json.dumps(value)});\n' for name, value in preferences.items())
+            file.writelines(f'user_pref({json.dumps(name)}, {json.dumps(value)});\n'
+                            for name, value in preferences.items())
         with open(f'{folder}/firefox.log', 'wb') as log:
             self.process = subprocess.Popen(
-                [found('firefox-esr', 'firefox'), '--headless', '--marionette', '--remote-allow-system-access', '--no-remote',
+                [found('firefox-esr', 'firefox'), '--headless', '--marionette',
+                 '--remote-allow-system-access', '--no-remote',
                  '--profile', f'{folder}/profile'],
-                stdin=subprocess.DEVNULL, stdout=log, stderr=log, env={**os.environ, 'HOME': folder, 'MOZ_DISABLE_CONTENT_SANDBOX': '1'})
+                stdin=subprocess.DEVNULL, stdout=log, stderr=log,
+                env={**os.environ, 'HOME': folder, 'MOZ_DISABLE_CONTENT_SANDBOX': '1'})
         self.socket, self.rest, self.count = self.connected(port), b'', 0
         self.told()
-        self.ask('WebDriver:NewSession', capabilities={'alwaysMatch': {'pageLoadStrategy': 'normal', 'timeouts': {
+        self.ask('WebDriver:NewSession',
+                 capabilities={'alwaysMatch': {'pageLoadStrategy': 'normal', 'timeouts': {
             'pageLoad': int(PATIENCE * 1000), 'script': int(PATIENCE * 1000)}}})
         self.ask('WebDriver:SetWindowRect', width=1200, height=900)
 
@@ -136,10 +146,12 @@ class Driver:
         return value
 
     def execute_script(self, text, *words):
-        return self.ask('WebDriver:ExecuteScript', script=text, args=[self.given(one) for one in words])
+        return self.ask('WebDriver:ExecuteScript', script=text,
+                        args=[self.given(one) for one in words])
 
     def execute_async_script(self, text, *words):
-        return self.ask('WebDriver:ExecuteAsyncScript', script=text, args=[self.given(one) for one in words])
+        return self.ask('WebDriver:ExecuteAsyncScript', script=text,
+                        args=[self.given(one) for one in words])
 
     def in_browser(self, text, *words):
         """A script of the browser itself, beside any page."""
@@ -192,23 +204,29 @@ class Firefox(Browser):
         self.driver.get(f'{scheme}//{user}:{password}@{rest}/me')
 
     def type(self, *keys):
-        presses = [{'type': word, 'value': key} for key in ''.join(keys) for word in ('keyDown', 'keyUp')]
-        self.driver.ask('WebDriver:PerformActions', actions=[{'type': 'key', 'id': 'keys', 'actions': presses}])
+        presses = [{'type': word, 'value': key} for key in ''.join(keys)
+                   for word in ('keyDown', 'keyUp')]
+        self.driver.ask('WebDriver:PerformActions',
+                        actions=[{'type': 'key', 'id': 'keys', 'actions': presses}])
 
     def resize(self, width, height):
-        """The part of the window that has the page, since a whole window isn't as narrow as a telephone."""
+        """The part of the window that has the page, since a whole window isn't as narrow as a
+        telephone."""
         self.driver.in_browser(SIZE, width, height)
         self.until(lambda: self.script('return innerWidth') == width, f'{width} px')
 
     def downloaded(self, name):
         """It makes an empty file first, and writes into another one beside it."""
         path = f'{self.downloads}/{name}'
-        self.until(lambda: os.path.exists(path) and os.path.getsize(path) > 0 and not os.path.exists(f'{path}.part'),
+        self.until(lambda: os.path.exists(path) and os.path.getsize(path) > 0
+                   and not os.path.exists(f'{path}.part'),
                    'a download')
         return super().downloaded(name)
 
     def dark(self, dark=True):
-        self.driver.in_browser("Services.prefs.setIntPref('layout.css.prefers-color-scheme.content-override', arguments[0])",
+        self.driver.in_browser(
+            "Services.prefs.setIntPref("
+            "'layout.css.prefers-color-scheme.content-override', arguments[0])",
                                0 if dark else 1)
 
     def picture(self, path):

@@ -17,8 +17,10 @@ FOREIGN = 'elsewhere.example'
 # What a page can make a browser send. 'no-cors' needs no leave of the other side.
 ATTACKS = [
     ('fetch', 'POST', '/folder/evil', "{method: 'POST', mode: 'no-cors', credentials: 'include'}"),
-    ('fetch', 'POST', '/move/letters', "{method: 'POST', mode: 'no-cors', credentials: 'include', body: '{\"to\":\"/x\"}'}"),
-    ('fetch', 'POST', '/doc/letters/reply', "{method: 'POST', mode: 'no-cors', credentials: 'include', body: 'evil'}"),
+    ('fetch', 'POST', '/move/letters',
+     "{method: 'POST', mode: 'no-cors', credentials: 'include', body: '{\"to\":\"/x\"}'}"),
+    ('fetch', 'POST', '/doc/letters/reply',
+     "{method: 'POST', mode: 'no-cors', credentials: 'include', body: 'evil'}"),
     ('fetch', 'PUT', '/doc/letters/reply', "{method: 'PUT', credentials: 'include', body: 'evil'}"),
     ('fetch', 'PUT', '/dacl/letters', "{method: 'PUT', credentials: 'include', body: 'list:a'}"),
     ('fetch', 'DELETE', '/object/letters/reply', "{method: 'DELETE', credentials: 'include'}"),
@@ -55,7 +57,8 @@ def lines(log):
 
 
 def refused(browser, log, before, path):
-    """The lines for this path since then. Each has to be a 403; a preflight counts for what it asks."""
+    """The lines for this path since then. Each has to be a 403; a preflight counts for what it
+    asks."""
     def seen():
         return [line for line in lines(log)[before:] if line[2] == path]
     told = browser.until(seen, f'a request for {path}')
@@ -66,7 +69,8 @@ def refused(browser, log, before, path):
 def attack(browser, base, log, path, how):
     before = len(lines(log))
     browser.driver.execute_async_script(
-        f"const done = arguments[1]; fetch(arguments[0], {how}).then(() => done(), () => done());", base + path)
+        f"const done = arguments[1]; fetch(arguments[0], {how}).then(() => done(), () => done());",
+        base + path)
     refused(browser, log, before, path)
 
 
@@ -79,20 +83,24 @@ def submit(browser, base, log, path, there):
 
 
 def sends_password(browser, base, log):
-    """Else the checks would show little: reading goes through in the user's name, and can't be looked at."""
+    """Else the checks would show little: reading goes through in the user's name, and can't be
+    looked at."""
     before = len(lines(log))
     seen = browser.driver.execute_async_script(
         "const done = arguments[1]; fetch(arguments[0], {mode: 'no-cors', credentials: 'include'})"
-        ".then((reply) => done(reply.type), (fault) => done(String(fault)));", f'{base}/folder/letters')
+        ".then((reply) => done(reply.type), (fault) => done(String(fault)));",
+        f'{base}/folder/letters')
     assert seen == 'opaque', seen
     told = [line[:4] for line in lines(log)[before:] if line[2] == '/folder/letters']
     assert told == [['200', 'GET', '/folder/letters', 'alice']], f'{told}'
 
 
 def framed(browser, base):
-    browser.script("const frame = document.createElement('iframe'); frame.src = arguments[0]; document.body.append(frame);", base)
+    browser.script("const frame = document.createElement('iframe'); frame.src = arguments[0]; "
+                   "document.body.append(frame);", base)
     # A frame that was refused is of another origin, so its content can't be read.
-    browser.until(lambda: any('frame-ancestors' in entry['message'] for entry in browser.driver.get_log('browser')),
+    browser.until(lambda: any('frame-ancestors' in entry['message']
+                              for entry in browser.driver.get_log('browser')),
                   'a refused frame')
 
 
@@ -114,9 +122,11 @@ def main():
     signal.signal(signal.SIGTERM, lambda *_: sys.exit(1))
     server = http.server.ThreadingHTTPServer(('127.0.0.1', 0), Page)
     threading.Thread(target=server.serve_forever, daemon=True).start()
-    # A browser says 'Sec-Fetch-Site' to 127.0.0.1 and to TLS; to a plain name it says 'Origin' alone.
+    # A browser says 'Sec-Fetch-Site' to 127.0.0.1 and to TLS; to a plain name it says 'Origin'
+    # alone.
     named, plain = f'http://{ROOM}:{front}', f'http://127.0.0.1:{front}'
-    plays = [(named, FOREIGN, False), (named, f'other.{ROOM}', True), (plain, FOREIGN, False), (plain, '127.0.0.1', True)]
+    plays = [(named, FOREIGN, False), (named, f'other.{ROOM}', True), (plain, FOREIGN, False),
+             (plain, '127.0.0.1', True)]
     rules = ','.join(f'MAP {host} 127.0.0.1' for host in (ROOM, f'*.{ROOM}', FOREIGN))
     checks = Checks()
     browser = Browser(f'{folder}/foreign', named, 'alice', 'a', rules)

@@ -76,7 +76,8 @@ class Handling:
         alice.press('Close', 'dialog')
 
     def rename(self):
-        """The name without its extension is selected, so that typing replaces that; then the focus is in the row."""
+        """The name without its extension is selected, so that typing replaces that; then the focus
+        is in the row."""
         alice = self.alice
         alice.open('#/desk')
         alice.act('Rename or move', 'plan.csv')
@@ -187,7 +188,8 @@ class Handling:
         width = "return document.querySelector('dialog img')?.naturalWidth"
         alice.until(lambda: alice.script(width) == 1, 'the image')
         alice.press('Close', 'dialog')
-        for name, words in (('odd.bin', 'no preview'), ('paper.pdf', 'PDF documents have no preview'),
+        for name, words in (('odd.bin', 'no preview'),
+                            ('paper.pdf', 'PDF documents have no preview'),
                             ('Note 5.txt', 'note 5')):
             alice.act('Preview', name)
             alice.says(words, css='dialog .content')
@@ -199,7 +201,8 @@ class Handling:
         with open(self.log, encoding='utf-8') as log:
             before = len(log.readlines())
         bob.open('')
-        bob.says('You can’t see the list of what is in the room, only what was shared with you', 'Ask root, who owns it',
+        bob.says('You can’t see the list of what is in the room, only what was shared with you',
+                 'Ask root, who owns it',
                  css='.closed')
         with open(self.log, encoding='utf-8') as log:
             asked = [line for line in log.readlines()[before:] if ' /can/' in line]

@@ -1,10 +1,12 @@
-"""The play of what takes long, of what fits a telephone, and of names with signs that can't be seen."""
+"""The play of what takes long, of what fits a telephone, and of names with signs that can't be
+seen."""
 
 import urllib.request
 
 MANY = 150
 BOX = 'return document.querySelector(arguments[0]).getBoundingClientRect().toJSON()'
-# A name that looks like a picture's, and one that ends with a blank. The family has joiners that belong there.
+# A name that looks like a picture's, and one that ends with a blank. The family has joiners that
+# belong there.
 TURNED = 'plan\u202egnp.exe'
 SHOWN = 'planU+202Egnp.exe'
 FAMILY = 'a \U0001f468\u200d\U0001f469\u200d\U0001f467.txt'
@@ -28,8 +30,10 @@ class Lasting:
         alice.act('Remove', 'full')
         alice.press('Remove it', 'dialog')
         alice.says('Remove full', css='.uploads h2')
-        alice.until(lambda: alice.texts('.uploads .count')[0].split(' of ')[0] not in ('0', '1'), 'a count')
-        assert alice.texts('.uploads .count')[0].endswith(f' of {MANY + 1}'), alice.texts('.uploads .count')
+        alice.until(lambda: alice.texts('.uploads .count')[0].split(' of ')[0] not in ('0', '1'),
+                    'a count')
+        assert alice.texts('.uploads .count')[0].endswith(f' of {MANY + 1}'), \
+            alice.texts('.uploads .count')
         alice.press('Stop', '.uploads')
         alice.says('Stopped.', f'of {MANY + 1} were removed. The rest is still there.')
         assert not alice.all('.uploads')
@@ -49,7 +53,8 @@ class Lasting:
         alice.script("document.querySelector('input[type=file]').hidden = false")
         alice.one('input[type=file]').send_keys('\n'.join(paths))
         alice.until(lambda: alice.texts('.uploads .count') == ['25 of 25'], 'the count')
-        tops = alice.script("""return ['.bad', '.good'].map((css) => Math.min(...[...document.querySelectorAll(`.uploads ${css}`)]
+        tops = alice.script("""return ['.bad', '.good'].map((css) =>
+            Math.min(...[...document.querySelectorAll(`.uploads ${css}`)]
             .map((one) => one.getBoundingClientRect().top)))""")
         assert tops[0] < tops[1], tops
         before = alice.script(BOX, '.uploads .head')
@@ -60,7 +65,8 @@ class Lasting:
         assert abs(before['top'] - after['top']) <= 1, (before, after)
         # At another place it folds to its head, and shows the rest again on demand.
         alice.script("location.hash = '#/'")
-        alice.until(lambda: alice.texts('h1') == ['All documents'] and not alice.all('.uploads li'), 'the head alone')
+        alice.until(lambda: alice.texts('h1') == ['All documents'] and not alice.all('.uploads li'),
+                    'the head alone')
         assert alice.texts('.uploads .count') == ['25 of 25']
         alice.press('Details', '.uploads')
         assert len(alice.all('.uploads li')) == 25
@@ -69,7 +75,8 @@ class Lasting:
             self.ask('DELETE', f'/object/panel/{urllib.request.quote(path.split("/")[-1])}')
 
     def rows_of_a_phone(self):
-        """A row is a name and its menu, so that more than ten fit, and a menu stays inside the window."""
+        """A row is a name and its menu, so that more than ten fit, and a menu stays inside the
+        window."""
         alice = self.alice
         for number in range(1, 21):
             self.ask('PUT', f'/doc/panel/Minutes%20of%20the%20meeting%20{number}.txt', b'x')
@@ -82,8 +89,10 @@ class Lasting:
         row = f'[data-path="/panel/Minutes of the meeting {shown}.txt"] [data-act=menu]'
         alice.one(row).click()
         box = alice.script(BOX, '.menu')
-        assert box['top'] >= 0 and box['bottom'] <= 844 and box['left'] >= 0 and box['right'] <= 390, box
-        assert alice.texts('.menu > *') == ['Preview', 'Download', 'Rename or move', 'Copy link', 'Access', 'Remove']
+        assert box['top'] >= 0 and box['bottom'] <= 844 and box['left'] >= 0 and \
+            box['right'] <= 390, box
+        assert alice.texts('.menu > *') == ['Preview', 'Download', 'Rename or move', 'Copy link',
+                                            'Access', 'Remove']
         assert alice.unnamed() == [], alice.unnamed()
         alice.one('h1').click()
         assert not alice.all('.menu')
@@ -92,7 +101,8 @@ class Lasting:
             self.ask('DELETE', f'/object/panel/Minutes%20of%20the%20meeting%20{number}.txt')
 
     def unseen_signs(self):
-        """They are shown in the list, in sentences and in the title, and the name itself stays as it is."""
+        """They are shown in the list, in sentences and in the title, and the name itself stays as
+        it is."""
         alice = self.alice
         for name in (TURNED, FAMILY, 'plan', 'plan '):
             self.ask('PUT', f'/doc/panel/{urllib.request.quote(name)}', b'x')

@@ -15,7 +15,8 @@ class Lists:
         alice.press('Text')
         self.type_list('list:a\n# a remark\nA::OWNER@:rw\nD:fdn:EVERYONE@:C\n')
         alice.press('Table')
-        assert [each.get_attribute('value') for each in alice.all('.who select')] == ['OWNER@', 'EVERYONE@']
+        assert [each.get_attribute('value')
+                for each in alice.all('.who select')] == ['OWNER@', 'EVERYONE@']
         alice.press('Remove entry 1')
         alice.press('Manage', '.groups')
         alice.press('Text')

@@ -28,7 +28,8 @@ class Moving:
         alice.press('Move it', 'dialog')
 
     def told_of_move(self):
-        """Who gains what is told before a folder goes to where more people can read; then bob reads it."""
+        """Who gains what is told before a folder goes to where more people can read; then bob reads
+        it."""
         alice = self.alice
         self.make_two()
         self.move_to('salaries', 'shared')
@@ -44,7 +45,8 @@ class Moving:
         assert self.ask('GET', '/doc/shared/salaries/2026', user='bob:b') == 'secret'
 
     def silent_move(self):
-        """What is protected keeps its list, so nobody gains; back to where fewer may read nobody does either."""
+        """What is protected keeps its list, so nobody gains; back to where fewer may read nobody
+        does either."""
         alice = self.alice
         self.move_to('board', 'shared')
         alice.says('board is now “/shared/board”')
@@ -81,7 +83,8 @@ class Moving:
         alice.press('bin', 'dialog .chooser')
         alice.until(lambda: 'bin' in alice.one('dialog .where').text, 'the folder')
         alice.press('Move it', 'dialog')
-        alice.says('It isn’t known who can get at it there', 'It isn’t known who could do more there: '
+        alice.says('It isn’t known who can get at it there',
+                   'It isn’t known who could do more there: '
                    'you may not read the list of “/shared/bin”.', css='dialog')
         alice.press('Cancel', 'dialog')
         self.ask('PUT', '/dacl/shared/two', f'list:p\nA::alice:rwaxDtTdC\n'.encode())
@@ -109,6 +112,7 @@ class Moving:
         alice.says('Who may read there isn’t known: you may not read its list.')
 
     def clear_two(self):
-        for name in ('shared/bin', 'shared/board', 'shared/one', 'shared/two', 'shared/three', 'shared',
+        for name in ('shared/bin', 'shared/board', 'shared/one', 'shared/two', 'shared/three',
+                     'shared',
                      'shut/salaries/2026', 'shut/salaries', 'shut'):
             self.ask('DELETE', '/object/' + urllib.request.quote(name))

@@ -1,4 +1,5 @@
-"""The files that the front end has beside the room, /people and /mine: whole, old, and not what they should be."""
+"""The files that the front end has beside the room, /people and /mine: whole, old, and not what
+they should be."""
 
 import json
 import os
@@ -15,7 +16,8 @@ def day(ago=0):
 
 def people(ago=0, members=True, users=None):
     groups = GROUPS if members else {group: [] for group in GROUPS}
-    return {'made': day(ago), 'members': members, 'users': users or USERS, 'groups': groups, 'names': NAMES}
+    return {'made': day(ago), 'members': members, 'users': users or USERS, 'groups': groups,
+            'names': NAMES}
 
 
 class Names:

@@ -10,7 +10,8 @@ import trio_websocket
 
 def address_of(debugger):
     with urllib.request.urlopen(f'http://{debugger}/json') as reply:
-        return next(page['webSocketDebuggerUrl'] for page in json.load(reply) if page['type'] == 'page')
+        return next(page['webSocketDebuggerUrl'] for page in json.load(reply)
+                    if page['type'] == 'page')
 
 
 def answer_to(event):
@@ -18,7 +19,8 @@ def answer_to(event):
     if event.get('method') == 'Fetch.requestPaused':
         return 'Fetch.continueRequest', number
     if event.get('method') == 'Fetch.authRequired':
-        return 'Fetch.continueWithAuth', {**number, 'authChallengeResponse': {'response': 'CancelAuth'}}
+        return 'Fetch.continueWithAuth', {**number,
+                                          'authChallengeResponse': {'response': 'CancelAuth'}}
     return None
 
 
@@ -29,7 +31,8 @@ async def cancel_all(address, ready):
         while True:
             for method, words in asked:
                 number += 1
-                await socket.send_message(json.dumps({'id': number, 'method': method, 'params': words}))
+                await socket.send_message(json.dumps({'id': number, 'method': method,
+                                                      'params': words}))
             event = json.loads(await socket.get_message())
             if event.get('id') == 1:
                 ready.set()

@@ -10,7 +10,8 @@ class Readers:
         bob = self.bob
         bob.open('#/letters')
         assert bob.one('#me').text == 'bob'
-        bob.says('At “/letters” you may not see what is in it', 'Ask your administrator', css='.closed')
+        bob.says('At “/letters” you may not see what is in it', 'Ask your administrator',
+                 css='.closed')
         bob.open('#/letters?rights')
         assert 'Nobody gave it to you.' in bob.one('.may-not .why').text
         bob.open('#/letters?dacl')
@@ -26,7 +27,8 @@ class Readers:
         alice.write('.who input', 'staff')
         alice.press('Review and send')
         shown = alice.one('dialog .difference')
-        assert 'A:fdg:staff:rxtc' in shown.text and 'allows the group staff to' in shown.text, shown.text
+        assert 'A:fdg:staff:rxtc' in shown.text and 'allows the group staff to' in shown.text, \
+            shown.text
         alice.press('Send', 'dialog')
         alice.says('counts from now on')
         assert self.ask('GET', '/dacl/letters').split('\n')[1] == 'A:fdg:staff:rxtc'
@@ -49,10 +51,12 @@ class Readers:
         bob.driver.get(self.base + '/doc/letters/' + urllib.request.quote(name))
         assert b'<script>' in bob.downloaded(name)
         told = bob.driver.execute_async_script(
-            "fetch(arguments[0]).then((reply) => arguments[1](reply.headers.get('Content-Disposition')))",
+            "fetch(arguments[0])"
+            ".then((reply) => arguments[1](reply.headers.get('Content-Disposition')))",
             '/doc/letters/' + urllib.request.quote(name))
         assert told == 'attachment', told
-        assert bob.driver.title == 'letters – rooms' and bob.driver.current_url.endswith('#/letters')
+        assert bob.driver.title == 'letters – rooms' and \
+            bob.driver.current_url.endswith('#/letters')
 
     def may_not(self):
         bob = self.bob
@@ -82,15 +86,20 @@ class Readers:
         bob.act('Remove', 'Report 2.txt')
         bob.press('Remove it', 'dialog')
         bob.click(bob.one('.notice summary'))
-        bob.says('Entry 1 of its access list denies it', 'denies the user bob', 'D:I:bob:waDd', '“/letters/Report 2.txt”')
+        bob.says('Entry 1 of its access list denies it', 'denies the user bob', 'D:I:bob:waDd',
+                 '“/letters/Report 2.txt”')
         bob.open('#/letters/Report%202.txt?rights')
         told = bob.one('.rights').text
         assert 'remove it or move it away' in told.lower(), told
-        assert 'By line 1 of its list, from a folder above, which denies it to the user bob.' in told, told
-        assert 'By line 2 of its list, from a folder above, which allows it to the group staff.' in told, told
+        assert ('By line 1 of its list, from a folder above, '
+                'which denies it to the user bob.') in told, told
+        assert ('By line 2 of its list, from a folder above, '
+                'which allows it to the group staff.') in told, told
         # Letters stand in the entry alone, which is told to whoever points at the line.
-        titles = bob.script("return [...document.querySelectorAll('.rights [title]')].map((one) => one.title)")
+        titles = bob.script("return [...document.querySelectorAll('.rights [title]')]"
+                            ".map((one) => one.title)")
         assert 'D:I:bob:waDd' in titles, titles
         assert not any(word in told for word in ('waDd', 'rxtc', ' (')), told
         bob.open('#/letters?dacl')
-        assert 'You may look at this list' in bob.one('.sheet').text and not bob.all('.entries select')
+        assert 'You may look at this list' in bob.one('.sheet').text and \
+            not bob.all('.entries select')

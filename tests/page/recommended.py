@@ -4,7 +4,8 @@ import re
 
 
 # The groups or the user of each list there, in the order of its fields.
-NAMES = [['staff'], ['staff'], ['staff'], ['bob'], ['personnel'], ['editors', 'staff'], ['clerks', 'staff']]
+NAMES = [['staff'], ['staff'], ['staff'], ['bob'], ['personnel'], ['editors', 'staff'],
+         ['clerks', 'staff']]
 
 
 class Recommended:

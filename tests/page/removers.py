@@ -15,7 +15,8 @@ class Removers:
                             ('loose', 'list:a\n')):
             self.ask('POST', f'/folder/archive/{name}')
             self.ask('PUT', f'/dacl/archive/{name}', lines.encode())
-        self.ask('PUT', '/dacl/archive', '\n'.join(['list:ap', f'A:fd:alice:{ALL}', *entries, '']).encode())
+        self.ask('PUT', '/dacl/archive',
+                 '\n'.join(['list:ap', f'A:fd:alice:{ALL}', *entries, '']).encode())
 
     def clear_archive(self, *more):
         self.ask('PUT', '/dacl/archive', f'list:a\nA:fd:alice:{ALL}\n'.encode())
@@ -24,7 +25,8 @@ class Removers:
         self.ask('DELETE', '/object/archive')
 
     def add_staff(self, *boxes):
-        """Adds an entry for the group staff with these boxes ticked besides 'Read', and presses 'Review and send'."""
+        """Adds an entry for the group staff with these boxes ticked besides 'Read', and presses
+        'Review and send'."""
         alice = self.alice
         alice.open('#/archive?dacl')
         alice.press('Add an entry')
@@ -45,7 +47,8 @@ class Removers:
         return 200
 
     def write_alone(self):
-        """'Write' gives w and a, and the box beside it D and d. A document has its own words for it."""
+        """'Write' gives w and a, and the box beside it D and d. A document has its own words for
+        it."""
         alice = self.alice
         self.make_archive()
         assert self.add_staff('Write') == 'rwaxtc'
@@ -56,7 +59,8 @@ class Removers:
         alice.press('Write', '[data-place="1"] .groups')
         assert alice.one('[data-place="1"] .letters').text == 'rxDtdc'
         alice.press('Drop changes')
-        # Below the line that keeps things in place, 'Write' alone removes nothing, and nothing is warned of.
+        # Below the line that keeps things in place, 'Write' alone removes nothing, and nothing is
+        # warned of.
         self.ask('PUT', '/dacl/archive', f'list:ap\nA:fd:alice:{ALL}\nD:d:EVERYONE@:Dd\n'.encode())
         alice.open('#/archive?dacl')
         alice.press('Add an entry')
@@ -107,7 +111,8 @@ class Removers:
         self.clear_archive()
 
     def no_entry_says(self):
-        """Then whoever may put documents there may remove; the page says which entry prevents it."""
+        """Then whoever may put documents there may remove; the page says which entry prevents
+        it."""
         alice = self.alice
         self.make_archive()
         self.add_staff('Write')

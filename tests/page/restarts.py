@@ -3,7 +3,8 @@
 
     restarts.py FOLDER FRONT-PORT ACCESS-LOG PROGRAM ROOM PORT
 
-ROOM is a room whose root lets alice do all. The server at PORT, behind the front end, is this play's.
+ROOM is a room whose root lets alice do all. The server at PORT, behind the front end, is this
+play's.
 """
 
 import base64
@@ -45,8 +46,9 @@ class Restarts:
 
     def start(self):
         with open(f'{self.folder}/served', 'wb') as out:
-            self.server = subprocess.Popen([self.program, 'serve', self.room, '--port', self.port,
-                                            '--count', '1000000'], stdout=out, stdin=subprocess.DEVNULL)
+            self.server = subprocess.Popen(
+                [self.program, 'serve', self.room, '--port', self.port, '--count', '1000000'],
+                stdout=out, stdin=subprocess.DEVNULL)
         self.alice.until(lambda: os.path.getsize(f'{self.folder}/served') > 0, 'a server')
 
     def kill(self):
@@ -55,7 +57,8 @@ class Restarts:
 
     def ask(self, method, target, body=None):
         word = base64.b64encode(b'alice:a').decode()
-        asked = urllib.request.Request(self.base + target, body, {'Authorization': f'Basic {word}'}, method=method)
+        asked = urllib.request.Request(self.base + target, body, {'Authorization': f'Basic {word}'},
+                                       method=method)
         with urllib.request.urlopen(asked) as reply:
             return reply.read()
 
@@ -77,7 +80,8 @@ class Restarts:
     def pace(self, bytes_a_second):
         self.alice.driver.execute_cdp_cmd('Network.enable', {})
         self.alice.driver.execute_cdp_cmd('Network.emulateNetworkConditions', {
-            'offline': False, 'latency': 0, 'downloadThroughput': -1, 'uploadThroughput': bytes_a_second})
+            'offline': False, 'latency': 0, 'downloadThroughput': -1,
+            'uploadThroughput': bytes_a_second})
 
     def upload(self, folder, paths):
         alice = self.alice
@@ -117,7 +121,8 @@ class Restarts:
         assert not alice.all('.uploads .bad') and not alice.all('.notice.bad')
 
     def interrupted(self):
-        """80 documents, while the server is killed twice and once restarted by a change of groups."""
+        """80 documents, while the server is killed twice and once restarted by a change of
+        groups."""
         self.ask('POST', '/folder/many')
         made = self.files(MANY)
         before = self.lines()
@@ -126,7 +131,8 @@ class Restarts:
             self.reach(count)
             self.kill()
             if count == 14:
-                subprocess.run([self.program, 'groups', self.room, f'{self.folder}/groups.csv'], check=True,
+                subprocess.run([self.program, 'groups', self.room, f'{self.folder}/groups.csv'],
+                               check=True,
                                stdout=subprocess.DEVNULL)
             # The page says that it waits, and that it still does.
             self.alice.says('The room doesn’t answer. The page tries again for half a minute.')
@@ -145,7 +151,8 @@ class Restarts:
         assert len(alice.names()) == MANY
 
     def set_back(self):
-        """The room is restored from a copy meanwhile: the page says what is gone, and sends it once more."""
+        """The room is restored from a copy meanwhile: the page says what is gone, and sends it once
+        more."""
         alice = self.alice
         self.ask('POST', '/folder/back')
         self.ask('PUT', '/doc/back/Report%2001.txt', b'before')
@@ -169,7 +176,8 @@ class Restarts:
         alice.says('The room was interrupted during the upload', 'that it had taken are gone',
                    'set back to an earlier copy', css='.notice.bad')
         alice.says('it was uploaded, but the room doesn’t have it any more', css='.uploads .bad')
-        told = alice.script("return [...document.querySelectorAll('.uploads .bad .name')].map((one) => one.textContent)")
+        told = alice.script("return [...document.querySelectorAll('.uploads .bad .name')]"
+                            ".map((one) => one.textContent)")
         assert 'Report 01.txt' in told and len(told) >= 10, told
         assert len(self.names('/back')) < MANY
         alice.press('Try the failed ones again')
@@ -183,7 +191,8 @@ class Restarts:
         return driver.current_window_handle
 
     def shared(self):
-        """The server ends when somebody is given access: the page waits for it, and sends the list."""
+        """The server ends when somebody is given access: the page waits for it, and sends the
+        list."""
         alice = self.alice
         alice.open('#/many?access')
         alice.write('.picker input', 'kim')
@@ -200,7 +209,8 @@ class Restarts:
         return self.ask('GET', f'/dacl{path}')
 
     def share_deep(self):
-        """Shares a document below a folder that bars the way, and holds the second list that is sent."""
+        """Shares a document below a folder that bars the way, and holds the second list that is
+        sent."""
         alice = self.alice
         alice.open('#/deep/plan?access')
         alice.write('.picker input', 'lea')
@@ -216,7 +226,8 @@ class Restarts:
         alice.says('The room doesn’t answer. The page tries again for half a minute.')
 
     def shared_deep(self):
-        """It ends between the lists that are sent: it goes on once the room is there, and says what stays if it isn't."""
+        """It ends between the lists that are sent: it goes on once the room is there, and says what
+        stays if it isn't."""
         alice = self.alice
         self.ask('POST', '/folder/deep')
         self.ask('PUT', '/doc/deep/plan', b'x')
@@ -224,22 +235,25 @@ class Restarts:
         self.share_deep()
         self.start()
         alice.says('lea can now read “plan”')
-        assert b'A::lea:x\n' in self.list_of('/deep') and b'A::lea:rxtc\n' in self.list_of('/deep/plan')
+        assert b'A::lea:x\n' in self.list_of('/deep') and \
+            b'A::lea:rxtc\n' in self.list_of('/deep/plan')
         for path, text in zip(('/', '/deep', '/deep/plan'), before):
             self.ask('PUT', f'/dacl{path}', text)
         self.share_deep()
-        alice.until(lambda: any('couldn’t be taken back' in text for text in alice.texts('.notice')), 'what stays', 120)
+        alice.until(lambda: any('couldn’t be taken back' in text
+                                for text in alice.texts('.notice')), 'what stays', 120)
         told = alice.texts('.notice')
         self.start()
-        assert any('“All documents” lets somebody pass through now, which' in text for text in told), told
+        assert any('“All documents” lets somebody pass through now, which' in text
+                   for text in told), told
         assert any('The room doesn’t answer at the moment' in text for text in told), told
         alice.script("document.querySelectorAll('.notice').forEach((one) => one.remove())")
         assert [self.list_of(path) for path in ('/deep', '/deep/plan')] == before[1:]
         self.ask('PUT', '/dacl/', before[0])
 
     def gone_for_long(self):
-        """After half a minute the page gives up, and offers another try: of an upload, of a removal of several, of a
-        folder that isn't shown."""
+        """After half a minute the page gives up, and offers another try: of an upload, of a removal
+        of several, of a folder that isn't shown."""
         alice = self.alice
         driver = alice.driver
         for folder in ('few', 'later'):
@@ -260,11 +274,13 @@ class Restarts:
         alice.press('Remove', '.chosen')
         alice.press('Remove them', 'dialog')
         shown = self.in_another_tab('#/few')
-        for tab, words, css in ((first, 'not sent', '.uploads .bad'), (removing, '0 of 2 removed', 'dialog h2'),
+        for tab, words, css in ((first, 'not sent', '.uploads .bad'),
+                                (removing, '0 of 2 removed', 'dialog h2'),
                                 (removing, 'The room doesn’t answer at the moment', 'dialog p'),
                                 (shown, 'can’t be shown', '.empty')):
             driver.switch_to.window(tab)
-            alice.until(lambda: any(words in text for text in alice.texts(css)), words, 60 + PATIENCE)
+            alice.until(lambda: any(words in text for text in alice.texts(css)), words,
+                        60 + PATIENCE)
         self.start()
         driver.switch_to.window(shown)
         alice.press('Load again')
@@ -281,8 +297,8 @@ class Restarts:
         assert self.names('/few') == []
 
     def full(self):
-        """The front end refuses what adds, as long as the flag of a full room is there. That is said once, with what
-        helps, and the rest isn't sent."""
+        """The front end refuses what adds, as long as the flag of a full room is there. That is
+        said once, with what helps, and the rest isn't sent."""
         alice = self.alice
         flag = f'{self.folder}/run/rooms-full/127.0.0.1:{self.port}'
         os.makedirs(os.path.dirname(flag), exist_ok=True)

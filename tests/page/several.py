@@ -1,5 +1,6 @@
 #!/usr/bin/env python3
-"""The page of a room at a path, beside that of office: the same files, and requests that go below the path.
+"""The page of a room at a path, beside that of office: the same files, and requests that go below
+the path.
 
     several.py FOLDER FRONT-PORT
 
@@ -12,7 +13,8 @@ import urllib.parse
 
 from browser import Browser, Checks
 
-LINKS = "return [...document.querySelectorAll('a')].map((one) => [one.innerText, one.getAttribute('href')])"
+LINKS = ("return [...document.querySelectorAll('a')]"
+         ".map((one) => [one.innerText, one.getAttribute('href')])")
 
 
 class Several:
@@ -27,7 +29,8 @@ class Several:
         carol.driver.get(f'{self.site}/rooms/')
         links = carol.script(LINKS)
         assert links == [['Invoices & <orders>', '/invoices/'], ['office', '/']], links
-        assert carol.script("return getComputedStyle(document.querySelector('.sheet')).padding") != '0px'
+        assert carol.script(
+            "return getComputedStyle(document.querySelector('.sheet')).padding") != '0px'
         carol.script("document.querySelector('a').click()")
         carol.settled()
         assert carol.driver.current_url == f'{self.base}/', carol.driver.current_url

@@ -5,7 +5,8 @@ import os
 from people import people
 from selenium.webdriver.common.keys import Keys
 
-# Texts that don't stand out from what is behind them, by WCAG's contrast: what they are, and how little.
+# Texts that don't stand out from what is behind them, by WCAG's contrast: what they are, and how
+# little.
 FAINT = """
 const context = document.createElement('canvas').getContext('2d', { willReadFrequently: true });
 const partsOf = (color) => {
@@ -14,19 +15,24 @@ const partsOf = (color) => {
   context.fillRect(0, 0, 1, 1);
   return [...context.getImageData(0, 0, 1, 1).data];
 };
-const over = ([r, g, b, a], [x, y, z]) => [[r, x], [g, y], [b, z]].map(([one, other]) => (one * a + other * (255 - a)) / 255);
+const over = ([r, g, b, a], [x, y, z]) => [[r, x], [g, y], [b, z]]
+  .map(([one, other]) => (one * a + other * (255 - a)) / 255);
 const groundOf = (one) => {
   if (one === null) return partsOf('Canvas').slice(0, 3);
   const parts = partsOf(getComputedStyle(one).backgroundColor);
   return parts[3] === 255 ? parts.slice(0, 3) : over(parts, groundOf(one.parentElement));
 };
 const light = (parts) => {
-  const [r, g, b] = parts.map((each) => each / 255).map((each) => (each <= 0.04045 ? each / 12.92 : ((each + 0.055) / 1.055) ** 2.4));
+  const [r, g, b] = parts.map((each) => each / 255)
+    .map((each) => (each <= 0.04045 ? each / 12.92 : ((each + 0.055) / 1.055) ** 2.4));
   return 0.2126 * r + 0.7152 * g + 0.0722 * b;
 };
-const hasText = (one) => [...one.childNodes].some((node) => node.nodeType === 3 && node.textContent.trim() !== '');
-return [...document.querySelectorAll('main *, dialog *')].filter((one) => one.checkVisibility({ checkVisibilityCSS: true })
-  && (hasText(one) || one.matches('input[type=text]')) && !one.disabled && !one.matches('option')).flatMap((one) => {
+const hasText = (one) => [...one.childNodes]
+  .some((node) => node.nodeType === 3 && node.textContent.trim() !== '');
+return [...document.querySelectorAll('main *, dialog *')].filter((one) =>
+  one.checkVisibility({ checkVisibilityCSS: true })
+  && (hasText(one) || one.matches('input[type=text]'))
+  && !one.disabled && !one.matches('option')).flatMap((one) => {
   const ground = groundOf(one);
   const lights = [light(over(partsOf(getComputedStyle(one).color), ground)), light(ground)];
   const contrast = (Math.max(...lights) + 0.05) / (Math.min(...lights) + 0.05);
@@ -42,7 +48,8 @@ class Tree:
         self.alice.type(*keys)
 
     def focused(self):
-        return self.alice.script('return document.activeElement.ariaLabel || document.activeElement.textContent')
+        return self.alice.script('return document.activeElement.ariaLabel'
+                                 ' || document.activeElement.textContent')
 
     def tab_to(self, wanted):
         """By the Tab key alone. A field for a day has several stops."""
@@ -53,13 +60,15 @@ class Tree:
         raise AssertionError(f'{wanted} was never reached')
 
     def keyboard(self):
-        """A name is typed, chosen by the arrow keys, and shared; then removed: without a pointer, and the focus is never lost."""
+        """A name is typed, chosen by the arrow keys, and shared; then removed: without a pointer,
+        and the focus is never lost."""
         alice = self.alice
         self.panel('/letters/2026')
         self.tab_to('Add people or groups')
         self.key('kim')
         alice.until(lambda: alice.texts('[role=option] .name') == ['kim'], 'the choice')
-        active = "return document.getElementById(document.activeElement.getAttribute('aria-activedescendant'))?.innerText"
+        active = ("return document.getElementById("
+                  "document.activeElement.getAttribute('aria-activedescendant'))?.innerText")
         assert 'kim' in alice.script(active)
         # Without a letter, the arrow key opens the list, and goes round in it.
         self.key(Keys.BACKSPACE * 3)
@@ -67,7 +76,8 @@ class Tree:
         self.key(Keys.ARROW_DOWN)
         alice.until(lambda: len(alice.all('[role=option]')) == 8, 'the first ones')
         self.key(Keys.ARROW_UP)
-        assert alice.script(active) == alice.texts('[role=option]')[-1] or alice.script(active) in alice.texts('[role=option]')[-1]
+        assert alice.script(active) == alice.texts('[role=option]')[-1] or \
+            alice.script(active) in alice.texts('[role=option]')[-1]
         self.key('kim')
         alice.until(lambda: alice.texts('[role=option] .name') == ['kim'], 'the choice')
         self.key(Keys.ENTER)
@@ -97,10 +107,12 @@ class Tree:
         alice.until(lambda: self.focused() == 'Add people or groups', 'the focus')
 
     def full_list(self):
-        """The room takes 64 entries of an object's own: the 65th is refused in words, and nothing is lost."""
+        """The room takes 64 entries of an object's own: the 65th is refused in words, and nothing
+        is lost."""
         alice = self.alice
         self.ask('POST', '/folder/many')
-        lines = ['A:fd:alice:rwanNxDtThHdcCoy', *[f'A:fd:user{number}:rxtc' for number in range(63)]]
+        lines = ['A:fd:alice:rwanNxDtThHdcCoy',
+                 *[f'A:fd:user{number}:rxtc' for number in range(63)]]
         self.put_list('/many', 'list:ap', *lines)
         self.panel('/many')
         assert len(self.lines()) == 64
@@ -117,7 +129,8 @@ class Tree:
         """No control leaves the window, and a name from right to left turns nothing around it."""
         alice = self.alice
         self.names.put('people.json', people())
-        self.put_list('/letters/2026', 'list:a', 'A:fd:noa:rxtc', 'A:fdg:a-rather-long-name-of-a-group-of-people:rwaxDtc')
+        self.put_list('/letters/2026', 'list:a', 'A:fd:noa:rxtc',
+                      'A:fdg:a-rather-long-name-of-a-group-of-people:rwaxDtc')
         for width in (1200, 390):
             alice.resize(width, 844)
             assert alice.script('return innerWidth') == width
@@ -127,27 +140,37 @@ class Tree:
             assert HEBREW in names, names
             self.pick('dana', 'person')
             assert not alice.is_wider(), width
-            out = alice.script("""return [...document.querySelectorAll('.sharing-view :is(select, button, input, a, p)')]
-                .filter((one) => one.checkVisibility() && one.getBoundingClientRect().right > innerWidth).map((one) => one.outerHTML)""")
+            out = alice.script("""
+                return [...document.querySelectorAll(
+                  '.sharing-view :is(select, button, input, a, p)')]
+                .filter((one) => one.checkVisibility()
+                  && one.getBoundingClientRect().right > innerWidth)
+                .map((one) => one.outerHTML)""")
             assert out == [], out
-        assert alice.script("return [...document.querySelectorAll('.name-of .name')].every((one) => one.tagName === 'BDI')")
+        assert alice.script("return [...document.querySelectorAll('.name-of .name')]"
+                            ".every((one) => one.tagName === 'BDI')")
         self.set_level('noa', 'gone')
-        assert f'\u2068{HEBREW}\u2069 is taken off the list' in alice.script("return document.querySelector('dialog p').textContent")
+        assert f'\u2068{HEBREW}\u2069 is taken off the list' in alice.script(
+            "return document.querySelector('dialog p').textContent")
         assert not alice.is_wider()
         alice.press('Cancel', 'dialog')
         alice.resize(1200, 900)
 
     def lights(self):
-        """In either light each text stands out from its ground, at the panel and in a question, as far as 4.5 to 1."""
+        """In either light each text stands out from its ground, at the panel and in a question, as
+        far as 4.5 to 1."""
         alice = self.alice
         self.names.put('people.json', people())
-        self.put_list('/letters/2026', 'list:a', 'A:fd:noa:rwanNxDtThHdcCoy', 'A:fdg:staff:rxtc', 'A::kim:x', 'A::zoe:a')
+        self.put_list('/letters/2026', 'list:a', 'A:fd:noa:rwanNxDtThHdcCoy', 'A:fdg:staff:rxtc',
+                      'A::kim:x', 'A::zoe:a')
         grounds = []
         for is_dark in (False, True):
             alice.dark(is_dark)
             self.panel('/letters/2026')
-            alice.until(lambda: alice.script("return matchMedia('(prefers-color-scheme: dark)').matches") == is_dark, 'this light')
-            grounds.append(alice.script("return getComputedStyle(document.querySelector('.sheet')).backgroundColor"))
+            alice.until(lambda: alice.script("return matchMedia('(prefers-color-scheme: dark)')"
+                                             ".matches") == is_dark, 'this light')
+            grounds.append(alice.script(
+                "return getComputedStyle(document.querySelector('.sheet')).backgroundColor"))
             alice.click(alice.one('.sharing-view > details:last-child summary'))
             assert alice.script(FAINT) == [], alice.script(FAINT)
             self.pick('sales', 'group')
@@ -174,10 +197,13 @@ class Tree:
         alice.script("document.querySelector('.picker input').focus()")
         self.key('kim')
         alice.until(lambda: alice.all('[role=option]'), 'a choice')
-        told = self.tree_of('main :is(a, button, input, select, summary, h1, h2, nav, [role], ul, li)')
-        for wanted in (('combobox', 'Add people or groups'), ('listbox', 'People and groups'), ('navigation', 'Access'),
-                       ('heading', 'Who has access'), ('combobox', 'What noa can do'), ('checkbox', 'Only these people'),
-                       ('combobox', 'What the group sales can do'), ('link', 'Who has access'), ('heading', '2026')):
+        told = self.tree_of('main :is(a, button, input, select, summary, h1, h2, nav, [role], '
+                            'ul, li)')
+        for wanted in (('combobox', 'Add people or groups'), ('listbox', 'People and groups'),
+                       ('navigation', 'Access'), ('heading', 'Who has access'),
+                       ('combobox', 'What noa can do'), ('checkbox', 'Only these people'),
+                       ('combobox', 'What the group sales can do'), ('link', 'Who has access'),
+                       ('heading', '2026')):
             assert wanted in told, (wanted, told)
         options = [name for role, name in told if role == 'option']
         assert any('kim' in name for name in options), options
@@ -186,13 +212,16 @@ class Tree:
         # What is picked, what comes of it, and a question.
         self.pick('carol', 'person')
         told = self.tree_of('.adding :is(select, input, button, ul, [role])')
-        for wanted in (('combobox', 'What they can do'), ('button', 'Share'), ('button', 'Cancel'), ('list', 'Who gains and who loses')):
+        for wanted in (('combobox', 'What they can do'), ('button', 'Share'), ('button', 'Cancel'),
+                       ('list', 'Who gains and who loses')):
             assert wanted in told, (wanted, told)
         assert any(role == 'status' for role, _ in told), told
         self.set_level('noa', 'gone')
         told = self.tree_of('dialog, dialog :is(h2, button, ul)')
-        for wanted in (('dialog', 'Remove access to “2026”?'), ('heading', 'Remove access to “2026”?'), ('button', 'Remove access')):
-            assert wanted in [(role, name.replace('\u2068', '').replace('\u2069', '')) for role, name in told], (wanted, told)
+        for wanted in (('dialog', 'Remove access to “2026”?'),
+                       ('heading', 'Remove access to “2026”?'), ('button', 'Remove access')):
+            assert wanted in [(role, name.replace('\u2068', '').replace('\u2069', ''))
+                              for role, name in told], (wanted, told)
         alice.press('Cancel', 'dialog')
         self.put_list('/letters/2026', 'list:a')
 
