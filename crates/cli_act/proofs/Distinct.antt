@@ -1,13 +1,13 @@
 -- The groups of pairs: those of all pairs, each once, in the order in which they come first.
 use Rattle.std.proofs.Common.{◌≡◌, ℕ, zero, suc, Bool, true, false, List, [], ◌∷◌, ◌++◌, take, refl}
-use Rattle.std.proofs.Common.{sym, ap, ◌∙◌, inl, inr, append_assoc, append-nil}
+use Rattle.std.proofs.Common.{sym, ap, ◌∙◌, inl, inr, append_assoc, append-nil, arith, rules}
 use Rattle.std.proofs.{Math.Bool.{or_assoc, or-false}, lemmas.Bool.{and_from, and_parts}}
 use Rattle.std.proofs.lemmas.Bool.{cases_Bool, cond-true, cond-false, false≢true, not-true}
 use Rattle.std.proofs.lemmas.Bool.{not_from_false, or_cases, or_from, or_left, or_parts, or_right}
-use Rattle.std.proofs.lemmas.List.Folds.{list_any-append}
-use Rattle.std.specs.{Prelude.{◌||◌, not}, List.list_any, Cmp.Lexicographic.bytes_decides}
-use Rattle.room_entry.specs.Pieces.{same_text}
-use Rattle.room_entry.proofs.{Facts.Booleans.same_truth, Texts.same_text-sym}
+use Rattle.std.{proofs.lemmas.List.Folds.list_any-append, specs.Prelude.{◌||◌, not}}
+use Rattle.std.specs.List.{list_any}
+use Rattle.room_entry.{specs.Pieces.same_text, proofs.Facts.Booleans.same_truth}
+use Rattle.room_entry.proofs.Texts.{same_text-sym}
 use Rattle.cli_act.specs.Counting.{GroupsOfPairs, are_once, groups_after, with_group}
 
 abbrev Groups : Type 0
@@ -33,11 +33,9 @@ there_passes test group [] there passes = absurd (false≢true there)
 there_passes test group (other ∷ before) there passes =
     elim (or_cases (same_text group other) (list_any (same_text group) before) there) [
       | inl same ↦
-          or_left (test other) (list_any test before)
-          (ap test (sym ((bytes_decides group other).0 same)) ∙ passes)
+          search (rules, or_left, passes, same)
       | inr later ↦
-          or_right (test other) (list_any test before)
-          (there_passes test group before later passes)
+          search (rules, or_right, there_passes test group before later passes)
     ]
 
 any_with : (test : List ℕ → Bool) (before : Groups) (group : List ℕ)
@@ -45,17 +43,9 @@ any_with : (test : List ℕ → Bool) (before : Groups) (group : List ℕ)
 any_with test before group =
     elim (cases_Bool (list_any (same_text group) before)) [
       | inl there ↦
-          ap (list_any test) (with_old before group there)
-          ∙ same_truth (list_any test before) (list_any test before || test group)
-          (or_left (list_any test before) (test group))
-          (λ either. elim (or_cases (list_any test before) (test group) either) [
-            | inl was ↦ was
-            | inr passes ↦ there_passes test group before there passes
-          ])
+          grind (arith, with_old, same_truth, or_left, or_cases, there_passes, there)
       | inr new ↦
-          ap (list_any test) (with_new before group new)
-          ∙ list_any-append test before (group ∷ [])
-          ∙ ap (λ b. list_any test before || b) (or-false (test group))
+          grind (arith, with_new, list_any-append, or-false, new)
     ]
 
 any_after : (test : List ℕ → Bool) (before : Groups) (pairs : Pairs)
@@ -63,9 +53,7 @@ any_after : (test : List ℕ → Bool) (before : Groups) (pairs : Pairs)
     ≡ (list_any test before || list_any (λ pair. test pair.0) pairs)
 any_after test before [] = sym (or-false (list_any test before))
 any_after test before (pair ∷ pairs) =
-    any_after test (with_group before pair.0) pairs
-    ∙ ap (λ b. b || list_any (λ p. test p.0) pairs) (any_with test before pair.0)
-    ∙ or_assoc (list_any test before) (test pair.0) (list_any (λ p. test p.0) pairs)
+    grind (arith, any_with, or_assoc, any_after test (with_group before pair.0) pairs)
 
 -- ---- each once
 
@@ -80,18 +68,12 @@ one_more_once (other ∷ groups) group each new =
     ∙ or_from (list_any (same_text other) groups) (same_text other group || false)
     (not-true (list_any (same_text other) groups) parts.0)
     (or_from (same_text other group) false (same_text-sym other group ∙ apart.0) refl) in
-    and_from (not (list_any (same_text other) (groups ++ group ∷ [])))
-    (are_once (groups ++ group ∷ []))
-    (not_from_false (list_any (same_text other) (groups ++ group ∷ [])) none)
-    (one_more_once groups group parts.1 apart.1)
+    search (rules, and_from, not_from_false, none, one_more_once groups group parts.1 apart.1)
 
 once_with : (before : Groups) (group : List ℕ) → are_once before ≡ true
     → are_once (with_group before group) ≡ true
 once_with before group each =
-    elim (cases_Bool (list_any (same_text group) before)) [
-      | inl there ↦ ap are_once (with_old before group there) ∙ each
-      | inr new ↦ ap are_once (with_new before group new) ∙ one_more_once before group each new
-    ]
+    grind (arith, with_old, with_new, one_more_once, each)
 
 once_after : (before : Groups) (pairs : Pairs) → are_once before ≡ true
     → are_once (groups_after before pairs) ≡ true
@@ -126,8 +108,4 @@ fronts (suc n) before [] = ([], sym (append-nil before))
 fronts (suc n) before (pair ∷ pairs) = fronts n (with_group before pair.0) pairs
 
 pub groups_are : GroupsOfPairs
-groups_are pairs = record {
-  each = λ test. any_after test [] pairs;
-  once = once_after [] pairs refl;
-  in_order = λ n. fronts n [] pairs;
-}
+groups_are pairs = search (rules, any_after, once_after, fronts)

@@ -1,15 +1,13 @@
 -- The set of groups that came before, as pairs are counted.
 use Rattle.std.proofs.Common.{ℕ, ◌≡◌, ◌+◌, ◌∷◌, ◌++◌, Bool, true, false, cond, length, List, []}
-use Rattle.std.proofs.Common.{refl, sym, ap, subst, ◌∙◌, ◌<◌, ◌≤◌, Ordering, get_or, drop}
-use Rattle.std.proofs.{Common.{drop-cons, add-one}, lemmas.Bool.{cond-true, cond-false}}
+use Rattle.std.proofs.Common.{sym, ap, subst, ◌∙◌, ◌<◌, ◌≤◌, Ordering, get_or, drop, drop-cons}
+use Rattle.std.proofs.{Common.{add-one, arith, rules}, lemmas.Bool.{cond-true, cond-false}}
 use Rattle.std.proofs.lemmas.List.{drop_all, length-append, Folds.list_any-append}
-use Rattle.std.proofs.lemmas.Map.Text.{is_eq-slice_cmp}
-use Rattle.std.specs.{Prelude.{not, if◌then◌else◌}, Bool.OnFalse, Borrow.Bor, List.list_any}
-use Rattle.std.specs.{Ordering.{is_eq, nat_cmp}, Cmp.Lexicographic.slice_cmp, BTreeSet.BTreeSet}
-use Rattle.std.specs.BTreeSet.{contains}
-use Rattle.room_entry.specs.Pieces.{same_text}
+use Rattle.std.{proofs.lemmas.Map.Text.is_eq-slice_cmp, specs.Prelude.{not, if◌then◌else◌}}
+use Rattle.std.specs.{Bool.OnFalse, Borrow.Bor, List.list_any, Ordering.{is_eq, nat_cmp}}
+use Rattle.std.specs.{Cmp.Lexicographic.slice_cmp, BTreeSet.{BTreeSet, contains}}
+use Rattle.room_entry.{specs.Pieces.same_text, proofs.Facts.Booleans.one_more}
 use Rattle.cli_act.specs.Counting.{groups_after, distinct_groups, with_group}
-use Rattle.room_entry.proofs.{Facts.Booleans.one_more, Texts.same_text-sym}
 
 -- names in the order of their bytes
 abbrev pub name_order : Bor (List ℕ) → Bor (List ℕ) → Ordering
@@ -25,8 +23,7 @@ pub record HasSeen (seen : BTreeSet (Bor (List ℕ))) (groups : List (List ℕ))
 key_equal : (x y : Bor (List ℕ))
     → is_eq (name_order x y) ≡ same_text y.now x.now
 key_equal x y =
-    is_eq-slice_cmp x.now y.now
-    ∙ same_text-sym x.now y.now
+    search (rules, is_eq-slice_cmp)
 
 seen_more : (seen more : BTreeSet (Bor (List ℕ))) (groups : List (List ℕ)) (key : Bor (List ℕ))
     → ((other : Bor (List ℕ))
@@ -38,12 +35,7 @@ seen_more : (seen more : BTreeSet (Bor (List ℕ))) (groups : List (List ℕ)) (
     → contains name_order more other
     ≡ list_any (same_text other.now) (groups ++ key.now ∷ [])
 seen_more seen more groups key has adds other =
-    adds other
-    ∙ ap (λ b. cond b true (contains name_order seen other)) (key_equal key other)
-    ∙ ap (λ b. cond (same_text other.now key.now) true b) (has other)
-    ∙ one_more (same_text other.now key.now)
-    (list_any (same_text other.now) groups)
-    ∙ sym (list_any-append (same_text other.now) groups (key.now ∷ []))
+    grind (arith, key_equal, one_more, list_any-append, has, adds)
 
 seen_by : (seen more : BTreeSet (Bor (List ℕ))) (groups : List (List ℕ)) (key : Bor (List ℕ))
     (is added : Bool)
@@ -55,15 +47,7 @@ seen_by : (seen more : BTreeSet (Bor (List ℕ))) (groups : List (List ℕ)) (ke
     → length more.keys ≡ length seen.keys + (if added then 1 else 0)
     → HasSeen more (with_group groups key.now)
 seen_by seen more groups key true added seen_so e was adds same len =
-    let Q : Bool → Type 0 = λ b. OnFalse b (more.keys ≡ seen.keys) in
-    let keys : more.keys ≡ seen.keys = subst Q was same in
-    let P : List (List ℕ) → Type 0 = λ all. HasSeen more all in
-    subst P (sym (cond-true _ _ _ e)) (record {
-      has =
-          λ other. ap (λ (ks : List (Bor (List ℕ))). list_any (λ k. is_eq (name_order other k)) ks) keys
-          ∙ seen_so.has other;
-      len = ap (λ (ks : List (Bor (List ℕ))). length ks) keys ∙ seen_so.len;
-    })
+    grind (arith, cond-true, seen_so, e, was, same, len, seen_so.has, seen_so.len)
 seen_by seen more groups key false added seen_so e was adds same len =
     let P : List (List ℕ) → Type 0 = λ all. HasSeen more all in
     let one : (if added then 1 else 0) ≡ 1 = ap (λ (b : Bool). if b then 1 else 0) was in
@@ -86,16 +70,11 @@ pub seen_next : (seen more : BTreeSet (Bor (List ℕ))) (groups : List (List ℕ
     → HasSeen more (with_group groups name)
 seen_next seen more groups key name added seen_so bytes was adds same len =
     let P : List ℕ → Type 0 = λ text. HasSeen more (with_group groups text) in
-    subst P bytes (seen_by seen more groups key
-    (list_any (same_text key.now) groups) added seen_so refl
-    (was ∙ ap not (seen_so.has key)) adds same len)
+    subst P bytes (search (rules, seen_by, seen_so, was, adds, same, len, seen_so.has))
 
 -- the set that is empty
 pub seen_none : (seen : BTreeSet (Bor (List ℕ))) → seen.keys ≡ [] → HasSeen seen []
-seen_none seen e = record {
-  has = λ key. ap (λ (ks : List (Bor (List ℕ))). list_any (λ k. is_eq (name_order key k)) ks) e;
-  len = ap (λ (ks : List (Bor (List ℕ))). length ks) e;
-}
+seen_none seen e = grind (arith, e)
 
 -- the groups so far and those of the pairs that are left are all
 pub after_next : (groups : List (List ℕ)) (pairs : List (List ℕ × List ℕ)) (i : ℕ)

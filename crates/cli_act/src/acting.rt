@@ -14,8 +14,9 @@ use std::io::Write;
 /// Does a task on a database, and prints its outcome on standard output and standard error.
 ///
 /// It returns the connection, outside of any transaction, and the exit status: 0 done, 1 a fault of
-/// the rows was found, 2 refused, 3 failed. A power cut at any moment leaves what it could leave
-/// before, or all that the task does.
+/// the rows was found, 2 refused, 3 failed. A power cut leaves what it could leave before, or all
+/// that the task does: at any moment, by the argument that `docs/statement.md` has among its
+/// premises.
 pub fn act<S: Alter + Drop, O: Write, E: Write>(
     alloc: Global,
     conn: Connection<S>,

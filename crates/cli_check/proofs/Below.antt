@@ -1,16 +1,16 @@
 -- A list text below other lines says what it says alone, its faults' lines counted from the top.
-use Rattle.std.proofs.Common.{ℕ, ◌≡◌, ◌≤◌, ◌+◌, Bool, true, not, List, [], ◌∷◌, ◌++◌, map, Option}
-use Rattle.std.proofs.Common.{Some, None, length, refl, ap, ◌∙◌, ◌⊎◌, inl, inr, arith}
+use Rattle.std.proofs.Common.{ℕ, ◌≡◌, ◌≤◌, ◌+◌, Bool, true, not, List, [], ◌∷◌, map, Option, Some}
+use Rattle.std.proofs.Common.{None, length, refl, ap, ◌∙◌, ◌⊎◌, inl, inr, arith, rules}
 use Rattle.std.proofs.lemmas.Bool.{cases_Bool, leb-true, le-leb, and_parts, and_from}
 use Rattle.std.proofs.lemmas.List.{Splits.length-slice_split, Sums.count_by-le-length}
 use Rattle.std.specs.{Prelude.{◌||◌, ◌==◌, nat_le, filter, Result, Ok, Err}, List.enumerate_from}
 use Rattle.std.specs.List.{list_all}
-use Rattle.room_entry.specs.{Pieces.pieces, Ace.Ace, Utf8.is_utf8}
-use Rattle.room_entry.specs.declared.{flags.ListFlags.ListFlags, fault.TextFault.TextFault}
-use Rattle.room_ace.specs.{Sent.{Sent, limit_fault}, Text.entry_of, Lists.lines_of}
-use Rattle.room_ace.specs.Lists.{lines_of_pieces, is_blank, is_comment, numbered_lines}
-use Rattle.room_ace.specs.Lists.{flags_of_list, with_entry, and_then, entries_after, sent_with}
-use Rattle.room_ace.specs.{Lists.{sent_of_lines, sent_of}, declared.fault.LineFault.LineFault}
+use Rattle.room_entry.specs.{Ace.Ace, Utf8.is_utf8, declared.flags.ListFlags.ListFlags}
+use Rattle.room_entry.specs.declared.fault.TextFault.{TextFault}
+use Rattle.room_ace.specs.{Sent.Sent, Text.entry_of, Lists.{lines_of, lines_of_pieces, is_blank}}
+use Rattle.room_ace.specs.Lists.{is_comment, numbered_lines, with_entry, and_then, entries_after}
+use Rattle.room_ace.specs.Lists.{sent_with, sent_of_lines, sent_of}
+use Rattle.room_ace.specs.declared.fault.LineFault.{LineFault}
 use Rattle.cli_check.specs.Check.{in_list, list_below}
 
 abbrev says : ℕ × List ℕ → Bool
@@ -32,26 +32,18 @@ enumerate-on : (k j : ℕ) (lines : List (List ℕ)) → j ≡ 4 + k
     → enumerate_from j lines ≡ map on (enumerate_from k lines)
 enumerate-on k j [] e = refl
 enumerate-on k j (line ∷ lines) e =
-    ap (λ n. (n, line) ∷ enumerate_from (j + 1) lines) e
-    ∙ ap (λ (more : List (ℕ × List ℕ)). (4 + k, line) ∷ more)
-    (enumerate-on (k + 1) (j + 1) lines (omega arith))
+    grind (arith, e, enumerate-on (k + 1) (j + 1) lines (omega arith))
 
 filter-on : (lines : List (ℕ × List ℕ)) → filter says (map on lines) ≡ map on (filter says lines)
 filter-on [] = refl
 filter-on (line ∷ lines) =
-    elim (cases_Bool (says line)) [
-      | inl e ↦ rw (e, filter-on lines) refl
-      | inr e ↦ rw (e, filter-on lines) refl
-    ]
+    grind (arith, filter-on lines)
 
 with_entry-on : (line : ℕ) (before : List Ace) (read : Result Ace TextFault)
     → with_entry (4 + line) before read ≡ raised (with_entry line before read)
 with_entry-on line before (Err fault) = refl
 with_entry-on line before (Ok entry) =
-    elim (option_cases (limit_fault (before ++ entry ∷ []))) [
-      | inl e ↦ rw e refl
-      | inr e ↦ rw (e.1) refl
-    ]
+    grind (arith, option_cases)
 
 and_then-on : {A B : Type 0} (read : Result A LineFault) (rest there : A → Result B LineFault)
     → ((value : A) → there value ≡ raised (rest value))
@@ -79,20 +71,13 @@ sent_with-on : (flags : Option ListFlags) (line : ℕ) (lines : List (ℕ × Lis
     → sent_with flags (4 + line) (map on lines) ≡ raised (sent_with flags line lines)
 sent_with-on None line lines = refl
 sent_with-on (Some flags) line lines =
-    ap (λ (read : Result (List Ace) LineFault). and_then read
-    (λ entries. Ok (record { flags = flags; entries = entries }))) (entries-on [] lines)
-    ∙ and_then-on (entries_after [] lines)
-    (λ entries. Ok (record { flags = flags; entries = entries }))
-    (λ entries. Ok (record { flags = flags; entries = entries })) (λ entries. refl)
+    grind (arith, entries-on, and_then-on)
 
 sent-on : (count : ℕ) (lines : List (ℕ × List ℕ))
     → sent_of_lines (4 + count) (map on lines) ≡ raised (sent_of_lines count lines)
 sent-on count [] = let e : 4 + count + 1 ≡ 4 + (count + 1) = omega arith in rw e refl
 sent-on count (line ∷ lines) =
-    elim (cases_Bool (is_utf8 line.1)) [
-      | inl e ↦ rw e (sent_with-on (flags_of_list line.1) line.0 lines)
-      | inr e ↦ rw e refl
-    ]
+    grind (arith, sent_with-on)
 
 list_below-is : (bytes : List ℕ) → list_below (lines_of bytes) ≡ in_list (raised (sent_of bytes))
 list_below-is bytes =
@@ -127,8 +112,7 @@ numbered-within most k [] fits = refl
 numbered-within most k (line ∷ lines) fits =
     elim (cases_Bool (says (k, line))) [
       | inl e ↦
-          rw e (and_from (nat_le k most) _ (le-leb k most (omega arith))
-          (numbered-within most (k + 1) lines (omega arith)))
+          grind (arith, and_from, le-leb, e, numbered-within most (k + 1) lines (omega arith))
       | inr e ↦ rw e (numbered-within most (k + 1) lines (omega arith))
     ]
 
@@ -136,10 +120,7 @@ with_entry-most : (most line : ℕ) (before : List Ace) (read : Result Ace TextF
     → AtMost most (with_entry line before read)
 with_entry-most most line before (Err fault) le = le
 with_entry-most most line before (Ok entry) le =
-    elim (option_cases (limit_fault (before ++ entry ∷ []))) [
-      | inl e ↦ rw e tt
-      | inr e ↦ rw (e.1) le
-    ]
+    grind (arith, option_cases, le)
 
 and_then-most : {A B : Type 0} (most : ℕ) (read : Result A LineFault)
     (rest : A → Result B LineFault) → AtMost most read → ((value : A) → AtMost most (rest value))
@@ -166,20 +147,13 @@ sent_with-most : (most : ℕ) (flags : Option ListFlags) (line : ℕ) (lines : L
     → line ≤ most → list_all (within most) lines ≡ true → AtMost most (sent_with flags line lines)
 sent_with-most most None line lines le all = le
 sent_with-most most (Some flags) line lines le all =
-    and_then-most most (entries_after [] lines)
-    (λ entries. Ok (record { flags = flags; entries = entries })) (entries-most most [] lines all)
-    (λ entries. tt)
+    grind (arith, and_then-most, entries-most, all)
 
 sent-most : (most count : ℕ) (lines : List (ℕ × List ℕ)) → count + 1 ≤ most
     → list_all (within most) lines ≡ true → AtMost most (sent_of_lines count lines)
 sent-most most count [] le all = le
 sent-most most count (line ∷ lines) le all =
-    let parts = and_parts (within most line) (list_all (within most) lines) all in
-    let at = leb-true line.0 most parts.0 in
-    elim (cases_Bool (is_utf8 line.1)) [
-      | inl e ↦ rw e (sent_with-most most (flags_of_list line.1) line.0 lines at parts.1)
-      | inr e ↦ rw e at
-    ]
+    search (rules, and_parts, leb-true, sent_with-most, all)
 
 lines-most : (parts : List (List ℕ)) → length (lines_of_pieces parts) ≤ length parts
 lines-most [] = omega arith
@@ -192,9 +166,4 @@ pub fault-most : (bytes : List ℕ) (fault : LineFault) → sent_of bytes ≡ Er
     → fault.line ≤ length bytes + 2
 fault-most bytes fault read =
     let count = length-slice_split (λ byte. byte == 10) bytes in
-    let few = count_by-le-length (λ byte. byte == 10) bytes in
-    let lines = lines-most (pieces 10 bytes) in
-    let most : AtMost (length bytes + 2) (sent_of bytes) = sent-most (length bytes + 2)
-    (length (lines_of bytes)) (numbered_lines bytes) (omega arith)
-    (numbered-within (length bytes + 2) 1 (lines_of bytes) (omega arith)) in
-    rw read at most
+    grind (arith, count_by-le-length, lines-most, sent-most, numbered-within, read)

@@ -1,7 +1,6 @@
 -- Worked rows: what is printed for one list.
 use Rattle.std.proofs.Common.{ℕ, ◌≡◌, List, [], ◌∷◌, ◌++◌, refl, ap, arith, codes}
-use Rattle.std.proofs.lemmas.Fmt.{decimal_digit}
-use Rattle.std.specs.List.{flat_map}
+use Rattle.std.{proofs.lemmas.Fmt.decimal_digit, specs.List.flat_map}
 use Rattle.room_entry.specs.{Bits.all_bits, Names.is_name, Letters.mask_letters}
 use Rattle.cli_check.specs.{Check.judged, Reply.judged_text}
 

@@ -28,5 +28,4 @@ pub told_of : (known : Option (List ℕ)) (bytes line : List ℕ) (status : Stat
     × (status ≡ reply_status (judged input))
 told_of None bytes line status front said ends = (bytes, tt, said, ends)
 told_of (Some input) bytes line status front said ends =
-    let same : judged bytes ≡ judged input = rw front (judged-take input) in
-    (input, refl, rw same at said, rw same at ends)
+    grind (arith, judged-take, front, said, ends)

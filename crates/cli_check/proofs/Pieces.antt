@@ -1,10 +1,8 @@
 -- A text is its first piece and the pieces of what follows it.
-use Rattle.std.proofs.Common.{ℕ, ◌≡◌, List, [], ◌∷◌, refl, ap, ◌∙◌, inl, inr}
+use Rattle.std.proofs.{Common.{ℕ, ◌≡◌, List, [], ◌∷◌, refl, inl, inr}, lemmas.Bool.cases_Bool}
 use Rattle.std.specs.Prelude.{◌==◌, Err}
-use Rattle.std.proofs.lemmas.Bool.{cases_Bool}
 use Rattle.room_entry.specs.Pieces.{pieces}
-use Rattle.cli_check.specs.declared.fault.InputWhy.TheVariants.{BadName}
-use Rattle.cli_check.specs.Check.{owners_of, owners_of_parts}
+use Rattle.cli_check.specs.{declared.fault.InputWhy.TheVariants.BadName, Check.owners_of}
 
 pieces-some : (separator : ℕ) (bytes : List ℕ) → (first : List ℕ)
     × ((more : List (List ℕ)) × (pieces separator bytes ≡ first ∷ more))
@@ -23,7 +21,4 @@ pub owners-three : (value owner group name more : List ℕ)
     → owners_of value ≡ Err BadName
 owners-three value owner group name more cut again =
     let third = pieces-some 58 more in
-    let parts : pieces 58 value ≡ owner ∷ (name ∷ (third.0 ∷ third.1.0)) = cut
-    ∙ ap (λ (ps : List (List ℕ)). owner ∷ ps)
-    (again ∙ ap (λ (ps : List (List ℕ)). name ∷ ps) third.1.1) in
-    ap owners_of_parts parts
+    cc

@@ -1,9 +1,8 @@
 -- What is written of the line that answers an input.
-use Rattle.std.proofs.Common.{ℕ, ◌≡◌, List, [], Option, Some, None, Result, Ok, Err, refl, ◌∙◌}
-use Rattle.std.proofs.Common.{subst}
+use Rattle.std.proofs.Common.{ℕ, ◌≡◌, List, [], Option, Some, None, Result, Ok, Err, refl, arith}
 use Rattle.std.specs.{Io.KnownBytes.Appends, Prelude.{IfOk, OnErr, OnOk}}
-use Rattle.cli_outcome.proofs.KnownBytes.{writes_none}
-use Rattle.cli_outcome.specs.{Reading.IsInput, Written.WritesSome, declared.status.Status.Status}
+use Rattle.cli_outcome.{proofs.KnownBytes.writes_none, specs.{Reading.IsInput, Written.WritesSome}}
+use Rattle.cli_outcome.specs.declared.status.Status.{Status}
 use Rattle.cli_check.specs.{Answering.{Answers, reply_line}, Check.judged, Reply.reply_status}
 
 -- nothing
@@ -21,8 +20,6 @@ pub told : {E : Type 0} (known old new : Option (List ℕ)) (line : List ℕ) (s
     → OnErr sent (WritesSome old new line)
     → Answers known old new sent
 told known old new line status (Ok how) of ok ends err =
-    let P : List ℕ → Type 0 = λ text. Appends old new text in
-    (of.0, of.1, subst P of.2 ok, ends ∙ of.3)
+    grind (arith, ok, ends)
 told known old new line status (Err error) of ok ends err =
-    let P : List ℕ → Type 0 = λ text. WritesSome old new text in
-    (of.0, of.1, subst P of.2 err)
+    grind (arith, err)

@@ -14,7 +14,8 @@ ghost use Rattle.cli_check.specs.Check.{owners_of, user_of, value_of, without_sp
 
 use crate::fault::{InputFault, InputWhy};
 use room_ace::{
-    Failure, Mask, Name, Names, Owners, TextFault, Why, read_mask, read_name, split_line, text_of,
+    Failure, Mask, Name, Names, Owners, TextFault, Why, map_fault, read_mask, read_name,
+    split_line, text_of,
 };
 use room_entry::cut;
 use std::alloc::Global;
@@ -68,11 +69,7 @@ fn in_line<T>(line: usize, read: Result<T, Failure<InputWhy>>) -> Result<T, Fail
     ensures { (defined : Result T InputWhy)
         → Gives read defined → Gives result (at_line line defined) }
 {
-    match read {
-        Ok(value) => Ok(value),
-        Err(Failure::OutOfMemory) => Err(Failure::OutOfMemory),
-        Err(Failure::Fault(why)) => Err(Failure::Fault(InputFault { line, why })),
-    }
+    map_fault(read, |why| InputFault { line, why })
 }
 
 // The value of the header that the first line is. The lines below are left.
@@ -132,11 +129,7 @@ fn checked_name(alloc: Global, value: &[u8]) -> Result<Name, Failure<InputWhy>>
         None => return Err(Failure::Fault(InputWhy::BadName)),
         Some(text) => text,
     };
-    match read_name(alloc, text) {
-        Ok(name) => Ok(name),
-        Err(Failure::OutOfMemory) => Err(Failure::OutOfMemory),
-        Err(Failure::Fault(_)) => Err(Failure::Fault(InputWhy::BadName)),
-    }
+    map_fault(read_name(alloc, text), |_| InputWhy::BadName)
 }
 
 // The caller's name, or none for an anonymous caller.

@@ -1,7 +1,6 @@
 -- A message has a reply of the desk exactly where no test refuses it.
 use Rattle.std.proofs.Common.{ℕ, List, [], ◌∷◌, Option, None, Some, All, subst, sym}
-use Rattle.std.proofs.lemmas.List.Elements.{recursion_from_All}
-use Rattle.std.specs.List.{AllByRecursion}
+use Rattle.std.{proofs.lemmas.List.Elements.recursion_from_All, specs.List.AllByRecursion}
 use Rattle.room_http.specs.{declared.ended.Cause.Cause, Message.{Message, asked}, Serve.IsNext}
 use Rattle.room_http.specs.{Serve.{Next, next_exchange}, Stream.{EndsStream, Exchange, HasReply}}
 use Rattle.room_http.specs.Stream.{IsOpen, Last, last_exchange}

@@ -1,17 +1,17 @@
 -- Two servers to whom the same messages come have runs that are alike.
-use Rattle.std.proofs.Common.{◌≡◌, ℕ, ℤ, List, [], ◌∷◌, ◌++◌, Option, None, Some, Ok, Err, All, inl}
-use Rattle.std.proofs.Common.{inr, refl, sym, ap, subst, ◌∙◌, append_assoc}
+use Rattle.std.proofs.Common.{◌≡◌, ℕ, ℤ, List, [], ◌∷◌, ◌++◌, Option, None, Some, Ok, Err, All}
+use Rattle.std.proofs.Common.{refl, sym, ap, subst, ◌∙◌, append_assoc, arith, rules}
 use Rattle.std.specs.List.{AllByRecursion}
 use Rattle.sqlite.specs.State.{State}
 use Rattle.room_inherit.specs.Laws.{SoundIsContent}
 use Rattle.room_machine.specs.{Run.{Event, Run}, declared.reply.Reply.Reply}
-use Rattle.room_laws.specs.{Laws.front_after, Tidy.ContentIsTidy, Twins.{AnswersAlike, Turn}}
-use Rattle.room_laws.specs.Twins.{Unseen, first_events, second_events}
+use Rattle.room_laws.specs.{Tidy.ContentIsTidy, Twins.{AnswersAlike, Turn, Unseen, first_events}}
+use Rattle.room_laws.specs.Twins.{second_events}
 use Rattle.room_http.specs.{Message.{Message, Parsed, asked}, Stream.{Exchange, HasReply, event_at}}
 use Rattle.room_http.specs.Stream.{events_at, events_by}
 use Rattle.room_store.specs.Leads.{Leads}
 use Rattle.store_runs.proofs.Rooms.{keeps, numbered, sound, tidy}
-use Rattle.cli_serve.specs.Visits.{IsServedVisit, Visit, requests_of, visit_events}
+use Rattle.cli_serve.specs.Visits.{IsServedVisit, Visit, requests_of}
 use Rattle.cli_runs.specs.Alike.{NoneListsFront, SameExchanges, SameMessages, SameMessagesCame}
 use Rattle.cli_runs.specs.Alike.{ServersAnswerAlike, turn_before, turns_before, turns_of_both}
 use Rattle.cli_runs.proofs.Agreed.{AgreeAll, IsAgreed, agreed}
@@ -76,9 +76,7 @@ first_all [] [] same one two = refl
 first_all [] (w ∷ others) same one two = absurd same
 first_all (v ∷ visits) [] same one two = absurd same
 first_all (v ∷ visits) (w ∷ others) same one two =
-    first_turns v.moment w.moment (turns_of_both visits others) v.exchanges w.exchanges same.0 one.0
-    two.0
-    ∙ ap (λ (es : List Event). visit_events v ++ es) (first_all visits others same.1 one.1 two.1)
+    search (rules, first_turns, same.0, one.0, two.0, first_all visits others same.1 one.1 two.1)
 
 second_all : (visits others : List Visit) → SameMessagesCame visits others → AgreeAll visits
     → AgreeAll others → second_events (turns_of_both visits others) ≡ requests_of others
@@ -86,9 +84,7 @@ second_all [] [] same one two = refl
 second_all [] (w ∷ others) same one two = absurd same
 second_all (v ∷ visits) [] same one two = absurd same
 second_all (v ∷ visits) (w ∷ others) same one two =
-    second_turns v.moment w.moment (turns_of_both visits others) v.exchanges w.exchanges same.0
-    one.0 two.0
-    ∙ ap (λ (es : List Event). visit_events w ++ es) (second_all visits others same.1 one.1 two.1)
+    search (rules, second_turns, same.0, one.0, two.0, second_all visits others same.1 one.1 two.1)
 
 -- ---- what each answers
 
@@ -103,11 +99,7 @@ same_reply : (turns : List Turn) (moment later : ℤ) (front : List (List ℕ)) 
     → NoneListsFront front (turn_before turns moment later m first second)
     → (first ≡ second) × Rest turns
 same_reply turns moment later front (Ok call) (Some first) (Some second) one two alike none =
-    let same : first ≡ second = elim alike.0 [
-      | inl is ↦ is
-      | inr names ↦ absurd (none.0 names.0)
-    ] in
-    (ap Some same, (front_after front call.1 first, alike.1, none.1))
+    grind (arith, alike, none, alike.0, none.0, alike.1, none.1)
 same_reply turns moment later front (Ok call) (Some first) None one two alike none = absurd two
 same_reply turns moment later front (Ok call) None second one two alike none = absurd one
 same_reply turns moment later front (Err fault) None None one two alike none =
@@ -132,8 +124,7 @@ same_replies turns moment later front (x ∷ xs) (y ∷ ys) same one two alike n
     (asked x.message) x.reply y.reply one.0 (of_same moment later x y same.0 two.0) alike none in
     let then = same_replies turns moment later first.1.0 xs ys same.1 one.1 two.1 first.1.1
     first.1.2 in
-    let here = same_exchange x y same.0 first.0 in
-    (λ i. here i ∷ then.0 i, then.1)
+    search (rules, same_exchange, same.0, first.0, then.0, then.1)
 
 same_all : (front : List (List ℕ)) (visits others : List Visit) → SameMessagesCame visits others
     → AgreeAll visits → AgreeAll others → AnswersAlike front (turns_of_both visits others)

@@ -1,16 +1,14 @@
 -- Connections that carry no harmful message bring nothing that changes rights.
-use Rattle.std.proofs.Common.{ℕ, ℤ, List, [], ◌∷◌, ◌++◌, Option, None, Some, IfSome, Ok, Err, subst}
-use Rattle.std.proofs.lemmas.List.{append-nil}
-use Rattle.std.specs.List.{AllByRecursion}
+use Rattle.std.proofs.Common.{ℕ, ℤ, List, [], ◌∷◌, ◌++◌, Option, None, Some, IfSome, Ok, Err, arith}
+use Rattle.std.{proofs.{Common.rules, lemmas.List.append-nil}, specs.List.AllByRecursion}
 use Rattle.sqlite.specs.State.{State}
 use Rattle.room_rows.specs.Content.{Content}
-use Rattle.room_machine.specs.{Run.{Asking, Event}, declared.reply.Reply.Reply}
+use Rattle.room_machine.specs.declared.reply.Reply.{Reply}
 use Rattle.room_laws.specs.WhoChanged.{IsHarmless}
 use Rattle.room_http.specs.{Message.{Message, Parsed, asked}, Stream.{Exchange, asking_at}}
-use Rattle.room_http.specs.Stream.{event_at, events_at, events_by}
+use Rattle.room_http.specs.Stream.{events_at, events_by}
 use Rattle.store_runs.specs.Rights.{CrashGainsNothing, GainsNothing, IsHarmlessAsking}
-use Rattle.cli_serve.specs.Visits.{Visit, asking_by, requests_of, unanswered_of, visit_events}
-use Rattle.cli_serve.specs.Visits.{visit_unanswered}
+use Rattle.cli_serve.specs.Visits.{Visit, asking_by, requests_of, unanswered_of}
 use Rattle.cli_runs.specs.Gains.{IsHarmlessMessage, IsHarmlessVisit, ServingGainsNothing}
 
 -- what holds of each of some, and of each of others
@@ -31,15 +29,13 @@ module _ (path : List (List ℕ)) (room : Content) where
       → AllByRecursion (IsHarmless path room) (events_by moment xs)
   by_messages moment [] all = tt
   by_messages moment (x ∷ xs) all =
-      all_both (IsHarmless path room) (event_at moment x) (events_by moment xs)
-      (by_message moment (asked x.message) x.reply all.0) (by_messages moment xs all.1)
+      search (rules, all_both, by_message, all.0, by_messages moment xs all.1)
 
   all_requests : (visits : List Visit) → AllByRecursion (IsHarmlessVisit path room) visits
       → AllByRecursion (IsHarmless path room) (requests_of visits)
   all_requests [] all = tt
   all_requests (v ∷ visits) all =
-      all_both (IsHarmless path room) (visit_events v) (requests_of visits)
-      (by_messages v.moment v.exchanges all.0.answered) (all_requests visits all.1)
+      search (rules, all_both, by_messages, all.0.answered, all_requests visits all.1)
 
   by_asking : (moment : ℤ) (m : Parsed) → IsHarmlessMessage path room m
       → AllByRecursion (IsHarmlessAsking path room) (asking_at moment m)
@@ -56,8 +52,7 @@ module _ (path : List (List ℕ)) (room : Content) where
       → AllByRecursion (IsHarmlessAsking path room) (unanswered_of visits)
   all_unanswered [] all = tt
   all_unanswered (v ∷ visits) all =
-      all_both (IsHarmlessAsking path room) (visit_unanswered v) (unanswered_of visits)
-      (by_failed v.moment v.failed all.0.failed) (all_unanswered visits all.1)
+      search (rules, all_both, by_failed, all.0.failed, all_unanswered visits all.1)
 
 -- of the requests of connections as one call of a store
 pub gains_nothing : (path : List (List ℕ)) (old new : State) (visits : List Visit)
@@ -65,19 +60,4 @@ pub gains_nothing : (path : List (List ℕ)) (old new : State) (visits : List Vi
     → CrashGainsNothing path old (unanswered_of visits ++ []) (requests_of visits ++ []) new
     → ServingGainsNothing path old visits new
 gains_nothing path old new visits gains crash now is_open lasts room is there harmless =
-    let events = requests_of visits in
-    let asked = unanswered_of visits in
-    let seen = subst (λ (es : List Event). GainsNothing path old es new) (append-nil events) gains
-    in
-    let left = subst (λ (us : List Asking). CrashGainsNothing path old us events new)
-    (append-nil asked)
-    (subst (λ (es : List Event). CrashGainsNothing path old (asked ++ []) es new)
-    (append-nil events) crash) in
-    let quiet = all_requests path room visits harmless in
-    let it = seen now room is there quiet in (
-      it.0,
-      it.1,
-      it.2,
-      it.4,
-      left now is_open lasts room is there quiet (all_unanswered path room visits harmless),
-    )
+    grind (arith, append-nil, all_requests, all_unanswered)

@@ -1,9 +1,9 @@
 -- The texts of replies, one after another, of the exchanges alone.
-use Rattle.std.proofs.Common.{◌≡◌, ◌<◌, ℕ, suc, ◌+◌, Bool, false, true, List, [], ◌∷◌, ◌++◌, length}
-use Rattle.std.proofs.Common.{None, Option, Some, IsSome, refl, sym, ap, subst, ◌∙◌, append_assoc}
-use Rattle.std.proofs.{Common.{arith, ne_eqb, true≢false, ◌≢◌}, lemmas.List.append-nil}
-use Rattle.std.proofs.lemmas.List.Elements.{recursion_from_All}
-use Rattle.std.specs.{Prelude.{◌==◌, ◌||◌}, Io.KnownBytes.Appends, List.AllByRecursion}
+use Rattle.std.proofs.Common.{◌≡◌, ◌<◌, ℕ, suc, ◌+◌, Bool, false, List, [], ◌∷◌, ◌++◌, length, None}
+use Rattle.std.proofs.Common.{Option, Some, IsSome, refl, sym, ap, subst, ◌∙◌, append_assoc, arith}
+use Rattle.std.proofs.{Common.{true≢false, rules}, lemmas.List.append-nil}
+use Rattle.std.{proofs.lemmas.List.Elements.recursion_from_All, specs.Io.KnownBytes.Appends}
+use Rattle.std.specs.List.{AllByRecursion}
 use Rattle.room_http.specs.{Limits.max_messages, Message.closes, Stream.{EndsStream, Exchange}}
 use Rattle.room_http.specs.Stream.{IsOpen, Last, exchange_text, last_exchange, last_text}
 use Rattle.room_http.specs.Stream.{says_close, texts_of}
@@ -19,16 +19,14 @@ texts_after n (x ∷ xs) = exchange_text (says_close x.message n) x ++ texts_aft
 stays_open : (n : ℕ) (x : Exchange) → closes x.message ≡ false → n + 1 < max_messages
     → says_close x.message n ≡ false
 stays_open n x stays more =
-    let ne : n + 1 ≢ max_messages = omega (arith, more) in
-    ap (λ (b : Bool). b || ((n + 1) == max_messages)) stays ∙ ne_eqb (n + 1) max_messages ne
+    grind (arith, stays, more)
 
 -- messages that leave the connection open, and then others
 open_texts : (n : ℕ) (xs rest : List Exchange) → AllByRecursion IsOpen xs
     → n + length xs < max_messages
     → texts_after n (xs ++ rest) ≡ texts_of xs ++ texts_after (n + length xs) rest
 open_texts n [] rest all few =
-    let same : n ≡ n + 0 = omega arith in
-    ap (λ (k : ℕ). texts_after k rest) same
+    grind arith
 open_texts n (x ∷ xs) rest all few =
     let all_few : n + suc (length xs) < max_messages = few in
     let more : n + 1 < max_messages = omega (arith, all_few) in
@@ -49,11 +47,9 @@ end_text : (left : List ℕ) (n k : ℕ) (last : Last) → k ≡ n → EndsStrea
 end_text left n k Last.Clean same ends calm none = refl
 end_text left n k Last.Cut same ends calm none = refl
 end_text left n k (Last.Refused refusal) same ends calm none = absurd calm
-end_text left n k (Last.Failed m) same ends calm none = absurd (let e = none in cc)
+end_text left n k (Last.Failed m) same ends calm none = absurd (cc)
 end_text left n k (Last.Closing x) same ends calm none =
-    ap (λ (i : ℕ). exchange_text (says_close x.message i) x ++ []) same
-    ∙ ap (λ (close : Bool). exchange_text close x ++ []) ends.1
-    ∙ append-nil (exchange_text true x)
+    grind (arith, append-nil, same, ends, ends.1)
 
 -- what was written of a connection that ended so
 all_texts : (had has : Wire) (exchanges : List Exchange) (one : EndsTalk had has exchanges None)
@@ -67,8 +63,7 @@ all_texts had has exchanges one calm =
     let text : texts_after 0 exchanges ≡ texts_of one.before ++ last_text one.last =
     ap (texts_after 0) one.whole ∙ whole
     ∙ ap (λ (t : List ℕ). texts_of one.before ++ t)
-    (end_text stream.rest (length one.before) (0 + length one.before) one.last count stream.ends
-    calm one.failed_is) in
+    (search (rules, end_text, calm, count, stream.ends, one.failed_is)) in
     subst (λ (t : List ℕ). Appends had.sent has.sent t) (sym text) one.talks.writes
 
 same_written : (before one two : Option (List ℕ)) (text : List ℕ) → IsSome before

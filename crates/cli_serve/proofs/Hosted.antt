@@ -1,18 +1,17 @@
 -- A store that is opened, and then serves.
-use Rattle.std.proofs.Common.{◌≡◌, ◌≤◌, ◌⊎◌, ℕ, ℤ, All, List, [], length, map, Option, Result, Ok}
-use Rattle.std.proofs.Common.{Err, OnOk, IsTrue, inl, inr, refl, subst, sym}
+use Rattle.std.proofs.Common.{arith, rules, ◌≡◌, ◌≤◌, ◌⊎◌, ℕ, ℤ, All, List, [], length, map, Option}
+use Rattle.std.proofs.Common.{Result, Ok, Err, OnOk, IsTrue, inl, inr, subst, sym}
 use Rattle.sqlite.specs.{Effect.Database, State.{State, HasCleanDisk}}
 use Rattle.cli_outcome.specs.declared.place.Place.{Place}
 use Rattle.room_rows.specs.Rows.{Rows}
-use Rattle.store_tables.specs.{Meaning.rows_of, Shown.{HasTables, Retains, room_of}}
-use Rattle.store_tables.proofs.Calls.{retains_same}
+use Rattle.store_tables.{specs.{Meaning.rows_of, Shown.HasTables}, proofs.Calls.retains_same}
 use Rattle.room_machine.specs.{Desk.RunsClosed, declared.desk.Desk.Ghosts, Run.{Asking, Event}}
 use Rattle.room_machine.proofs.Meeting.{meet}
 use Rattle.room_http.specs.Stream.{Runs}
 use Rattle.room_store.specs.{Crash.{Lasts, Outlasts}, Lasting.together, Opens.Opens, Retained.Holds}
 use Rattle.room_store.specs.{Retained.StillHolds, Kept.{IsOfThisVersion, IsShut, IsSound, Keeps}}
-use Rattle.room_store.specs.Kept.{Stores}
-use Rattle.room_store.proofs.{Outlasting.{idle, leaves_whole}, Versions.same_version}
+use Rattle.room_store.{specs.Kept.Stores, proofs.Outlasting.{idle, leaves_whole}}
+use Rattle.room_store.proofs.Versions.{same_version}
 use Rattle.store_schema.specs.declared.fault.OpenFault.{OpenFault}
 use Rattle.cli_serve.specs.{Lines.{TellsFaults, TellsPlace}, Staying.PassesUntil, Peers.Adds}
 use Rattle.cli_serve.specs.Visits.{IsServedVisit, Visit, moment_of, requests_of, unanswered_of}
@@ -32,8 +31,7 @@ pub leaves_requests : (old new : State) (visits : List Visit)
     → Outlasts old (unanswered_of visits) (requests_of visits) new → Lasts old
     → LeavesRequests old visits new
 leaves_requests old new visits outlasts lasts now sound is_open room keeps =
-    leaves_whole old new (unanswered_of visits) (requests_of visits) outlasts now sound is_open
-    lasts room keeps
+    search (rules, leaves_whole, old, outlasts, now, sound, is_open, lasts, room, keeps)
 
 -- what a store served, in terms of its content
 unfoldable pub served : (place : Place) (count : ℕ) (told told' : List ℤ → Type 0)
@@ -106,27 +104,12 @@ opened_retains : (old new : State) (result : Result (Unit {0}) OpenFault) → Op
     → StillHolds old new
 opened_retains old new result opens now = (
   opens.leads.trusted now,
-  λ before holds. record {
-    seen = λ is_open.
-        subst (λ (db : Database). HasTables db × Retains before db.trees)
-        (sym (opens.adopts.kept now is_open).0) (holds.seen (opens.adopts.was_open now is_open));
-    left = λ db left. holds.left db (opens.adopts.crash now db left);
-  },
+  grind (arith, opens.adopts.kept, now, opens.adopts.was_open, opens.adopts.crash),
 )
 
 -- a room over an open connection holds what it holds
 holds_itself : (s : State) → IsTrue s.is_open → HasTables s.now → Lasts s → Holds s.now.trees s
-holds_itself s is_open has lasts =
-    let same = retains_same s.now s.now refl in
-    let safe = lasts is_open in
-    record {
-      seen = λ _. (has, same);
-      left = λ db left. (
-        s.now,
-        record { room = room_of has safe.0; retains = same },
-        safe.1.only db left,
-      );
-    }
+holds_itself s is_open has lasts = grind (arith, retains_same, lasts, is_open, has)
 
 -- a room that was opened, and then retained what it held, is still one
 pub stays_room : (old mid new : State) → Opens old mid (Ok tt) → StillHolds mid new → Lasts old
@@ -138,19 +121,8 @@ stays_room old mid new opens retained lasted now is_open has =
     (first.1 old.now.trees (holds_itself old is_open has lasted)) in
     let version : IsOfThisVersion old.now = opens.adopts.told then.0 has.schema in
     record {
-      seen = λ is_open'.
-          let seen = holds.seen is_open' in
-          (seen.0, same_version old.now new.now seen.1 version, seen.1);
-      left = λ db left.
-          let it = holds.left db left in (
-            it.0,
-            record {
-              room = it.1.room;
-              version = same_version old.now it.0 it.1.retains version;
-              retains = it.1.retains;
-            },
-            it.2,
-          );
+      seen = grind (arith, holds.seen, same_version, version);
+      left = grind (arith, holds.left, version, same_version);
     }
 
 -- what happens after that

@@ -1,4 +1,5 @@
 -- Connections one after another, as what a desk did.
+use Rattle.std.proofs.Common.{rules}
 use Rattle.std.proofs.Common.{◌≡◌, ℕ, ℤ, ◌+◌, ◌≤◌, List, [], ◌∷◌, ◌++◌, length, map, Option, Some}
 use Rattle.std.proofs.Common.{None, Result, Ok, Err, subst, sym, ap, refl, ◌∙◌, arith, append_assoc}
 use Rattle.std.proofs.lemmas.{Grind.flat_map-append, List.{append-nil, length-append, map-append}}
@@ -42,40 +43,29 @@ pub told_on : {X : Type 0} (told told' told'' : List X → Type 0) (one two both
     → ((before : List X) → told' before → told'' (before ++ two))
     → (before : List X) → told before → told'' (before ++ both)
 told_on told told' told'' one two both whole first then before is =
-    subst told'' (append_assoc before one two ∙ ap (λ t. before ++ t) (sym whole))
-    (then (before ++ one) (first before is))
+    grind (arith, append_assoc, one, whole, then, is)
 
 -- what an accept did, by what it answered
 module _ {P E : Type 0} (result : Result (Option P) E) (did did' : List Act → Type 0)
     (bytes : P → Wire) where
   pub met_peer : (found : Option P) (peer : P) → result ≡ Ok found → found ≡ Some peer
       → Adds did did' (met_by result bytes) → Adds did did' (Act.Came (bytes peer) ∷ [])
-  met_peer found peer is some met =
-      at-value (λ (r : Result (Option P) E). Adds did did' (met_by r bytes)) result found
-      (Some peer) is some met
+  met_peer found peer is some met = grind (arith, at-value, peer, is, some, met)
 
   pub met_lost : (found : Option P) → result ≡ Ok found → found ≡ None
       → Adds did did' (met_by result bytes) → Adds did did' (Act.Lost ∷ [])
-  met_lost found is none met =
-      at-value (λ (r : Result (Option P) E). Adds did did' (met_by r bytes)) result found
-      None is none met
+  met_lost found is none met = grind (arith, at-value, is, none, met)
 
   pub met_fault : (fault : E) → result ≡ Err fault → Adds did did' (met_by result bytes)
       → Adds did (λ acts. did' (acts ++ Act.Failed ∷ [])) []
-  met_fault fault is met =
-      let failed : Adds did did' (Act.Failed ∷ []) =
-      subst (λ (r : Result (Option P) E). Adds did did' (met_by r bytes)) is met in
-      λ before has.
-      no_more (λ (acts : List Act). did' (acts ++ Act.Failed ∷ [])) before (failed before has)
+  met_fault fault is met = search (rules, is, met, no_more)
 
 module _ {D : Type 0} (d : Ghosts D) (laws : DeskLaws d.Outlasts) where
   -- the same requests, however they are listed
   pub alike : (old new : D) (asked asked' : List Asking) (events events' : List Event)
       → asked ≡ asked' → events ≡ events' → DeskRuns d old asked events new
       → DeskRuns d old asked' events' new
-  alike old new asked asked' events events' a e did =
-      subst (λ (es : List Event). DeskRuns d old asked' es new) e
-      (subst (λ (us : List Asking). DeskRuns d old us events new) a did)
+  alike old new asked asked' events events' a e did = grind (arith, old, new, e, a, did)
 
   -- no connection came
   unfoldable pub nobody : (count : ℕ) (from to : Sources) (desk : D)
@@ -175,13 +165,7 @@ module _ {D : Type 0} (d : Ghosts D) (laws : DeskLaws d.Outlasts) where
         same_moment = same;
         met = refl;
         ended = refl;
-        is = record {
-          before = s.exchanges;
-          last = s.last;
-          talks = s.talks;
-          whole = refl;
-          failed_is = refl;
-        };
+        is = search (rules, s.talks);
         did = alike old new _ _ _ _ (last_unanswered z s.last) refl s.did;
       }
 
@@ -246,12 +230,9 @@ module _ {D : Type 0} (d : Ghosts D) (laws : DeskLaws d.Outlasts) where
           visits = a.visit ∷ [];
           few = omega arith;
           each = All-from_recursion IsServedVisit (a.visit ∷ []) (a.is, tt);
-          moments = λ before is.
-              subst (λ (z : ℤ). to.told (before ++ z ∷ [])) (sym a.same_moment) (tells before is);
+          moments = search (rules, a.same_moment, tells);
           acts = subst (λ (done : List Act). Adds from.did to.did done) here acts;
-          did =
-              alike old new _ _ _ _ (sym (append-nil (visit_unanswered a.visit)))
-              (sym (append-nil (visit_events a.visit))) a.did;
+          did = search (rules, alike, append-nil, a.did);
         };
         visit = a.visit;
         only = refl;
@@ -271,11 +252,7 @@ module _ {D : Type 0} (d : Ghosts D) (laws : DeskLaws d.Outlasts) where
           each = r.each;
           moments = r.moments;
           acts = r.acts;
-          did =
-              alike old new _ _ _ _ (append-nil (unanswered_of r.visits))
-              (append-nil (requests_of r.visits))
-              (done-then d laws old mid new (unanswered_of r.visits) [] (requests_of r.visits) []
-              r.did rests);
+          did = grind (arith, alike, old, new, append-nil, r.visits, done-then, mid, r.did, rests);
         };
         visit = first.visit;
         only = first.only;

@@ -5,17 +5,16 @@ use Rattle.std.proofs.{Common.{add-one, arith}, lemmas.List.{length-append, Elem
 use Rattle.std.specs.Io.KnownBytes.{Appends}
 use Rattle.cli_outcome.specs.{Written.WritesSome, declared.place.Place.Place}
 use Rattle.room_machine.specs.{declared.desk.Desk.Ghosts, Desk.{Agrees, DeskLaws}}
-use Rattle.room_rows.specs.{Content.Content, Rows.Rows}
 use Rattle.room_machine.proofs.Meeting.{closed_still}
-use Rattle.room_http.specs.{Stream.DeskRuns, declared.ended.Cause.Cause}
+use Rattle.room_rows.specs.{Content.Content, Rows.Rows}
+use Rattle.room_http.{specs.{Stream.DeskRuns, declared.ended.Cause.Cause}, proofs.Runs.nothing-done}
 use Rattle.cli_serve.specs.{Lines.{TellsEach, TellsFirst, TellsOf, TellsPlace, Writing}, Peers.Act}
 use Rattle.cli_serve.specs.{Peers.Adds, Places.{Deed, site_of}, Staying.{Passes, PassesEach}}
 use Rattle.cli_serve.specs.Staying.{PassesUntil, Served, ServedAt, ServedHere, TellsShut}
 use Rattle.cli_serve.specs.Visits.{IsEnd, IsServedVisit, Receives, ReceivesAll, ReceivesOne}
 use Rattle.cli_serve.specs.Visits.{Sources, acts_of, end_acts, sources, until}
-use Rattle.cli_serve.specs.declared.fault.ServingFault.{ServingFault}
-use Rattle.room_http.proofs.Runs.{nothing-done}
-use Rattle.cli_serve.proofs.Receiving.{at_end, fewer, no_more, nobody, one_more, others, told_on}
+use Rattle.cli_serve.{specs.declared.fault.ServingFault.ServingFault, proofs.Receiving.at_end}
+use Rattle.cli_serve.proofs.Receiving.{fewer, no_more, nobody, one_more, others, told_on}
 use Rattle.cli_serve.proofs.Told.{told_next, told_no_more}
 
 module _ {D : Type 0} (d : Ghosts D) (laws : DeskLaws d.Outlasts) where
@@ -43,8 +42,7 @@ module _ {D : Type 0} (d : Ghosts D) (laws : DeskLaws d.Outlasts) where
   pub stays_on : (n : ℕ) (old mid new : D) (shut : Bool) → PassesEach d n old mid
       → Passes d mid new shut → shut ≡ false → PassesEach d (n + 1) old new
   stays_on n old mid new shut before leaves is =
-      let here = subst (λ (b : Bool). Passes d mid new b) is leaves in
-      subst (λ (k : ℕ). PassesEach d k old new) (sym (add-one n)) (mid, before, here)
+      grind (arith, mid, new, is, leaves, old, add-one, before)
 
   -- no connection came, nothing was printed of one, and this was the end
   pub unserved : (place : Place) (count : ℕ) (from to : Sources) (desk : D) (fault : ServingFault)

@@ -1,6 +1,6 @@
 -- Lines about connections, one after another.
 use Rattle.std.proofs.Common.{◌≡◌, ℕ, ◌+◌, ◌≤◌, Bool, List, [], ◌∷◌, Option, ◌++◌, length, Result}
-use Rattle.std.proofs.Common.{Ok, Err, IsTrue, OnOk, sym, ap, refl, ◌∙◌, subst, arith}
+use Rattle.std.proofs.Common.{Ok, Err, IsTrue, OnOk, sym, ap, ◌∙◌, subst, arith}
 use Rattle.std.proofs.lemmas.{Fmt.contents_after_writes, List.append-nil}
 use Rattle.std.specs.{Fmt.WritesInCalls, Io.KnownBytes.Appends}
 use Rattle.cli_outcome.specs.Written.{WritesSome}
@@ -23,9 +23,7 @@ told_one : (Tells : Writing) (before number : ℕ) (visit : Visit) (fault : Opti
     (old mid new : Option (List ℕ)) → mid ≡ old → visit.fault ≡ fault → number ≡ before
     → TellsOf Tells (number + 1) fault mid new → TellsEach Tells before (visit ∷ []) old new
 told_one Tells before number visit fault old mid new same ended at told =
-    let from = subst (λ (m : Option (List ℕ)). TellsOf Tells (number + 1) fault m new) same told in
-    let its = subst (λ (f : Option Cause). TellsOf Tells (number + 1) f old new) (sym ended) from in
-    (new, subst (λ (n : ℕ). TellsOf Tells (n + 1) visit.fault old new) at its, refl)
+    grind (arith, same, told, ended, visit.fault)
 
 -- one connection more
 pub told_next : (Tells : Writing) (before number : ℕ) (visits next : List Visit) (visit : Visit)
@@ -33,8 +31,7 @@ pub told_next : (Tells : Writing) (before number : ℕ) (visits next : List Visi
     → next ≡ visit ∷ [] → visit.fault ≡ fault → number ≡ before + length visits
     → TellsOf Tells (number + 1) fault mid new → TellsEach Tells before (visits ++ next) old new
 told_next Tells before number [] next visit fault old mid new told only ended at now =
-    subst (λ (vs : List Visit). TellsEach Tells before vs old new) (sym only)
-    (told_one Tells before number visit fault old mid new told ended (omega (arith, at)) now)
+    grind (arith, only, told_one, visit, told, ended, now)
 told_next Tells before number (v ∷ vs) next visit fault old mid new told only ended at now = (
   told.0,
   told.1,

@@ -38,8 +38,9 @@ pub struct Service<'a, P, M> {
 /// returns the connection with the status: 0 where all is done, 2 where the database
 /// holds no room of this version, which is printed on `out`, and 3 at a fault, which is printed on
 /// `err`. A fault of the disk that shuts the connection ends the service after the client's
-/// connection that met it; any other fault of a request doesn't. A power cut at any moment leaves
-/// all requests that were answered, and at most one that wasn't, as a whole.
+/// connection that met it; any other fault of a request doesn't. A power cut leaves all requests
+/// that were answered, and at most one that wasn't, as a whole: at any moment, by the argument that
+/// `docs/statement.md` has among its premises.
 pub fn host<S: Alter, P: Ports, M: Moments, O: Write, E: Write>(
     alloc: Global,
     conn: Connection<S>,

@@ -66,10 +66,8 @@ where
     ghost did = { λ _ _. ⊤ };
 
     fn bind(&mut self, address: Ipv4Addr, port: u16) -> io::Result<NetListener> {
-        match TcpListener::bind(self.system, (address, port)) {
-            Ok(listener) => Ok(NetListener::Tcp(listener)),
-            Err(error) => Err(error),
-        }
+        let listener = TcpListener::bind(self.system, (address, port))?;
+        Ok(NetListener::Tcp(listener))
     }
 
     fn bind_path(&mut self, path: &str) -> io::Result<NetListener> {
@@ -77,10 +75,8 @@ where
         if path.is_empty() {
             return Err(io::Error::from(ErrorKind::InvalidInput));
         }
-        match UnixListener::bind(self.system, path) {
-            Ok(listener) => Ok(NetListener::Unix(listener, file_at(self.system, path))),
-            Err(error) => Err(error),
-        }
+        let listener = UnixListener::bind(self.system, path)?;
+        Ok(NetListener::Unix(listener, file_at(self.system, path)))
     }
 
     fn close(&mut self, listener: NetListener) {

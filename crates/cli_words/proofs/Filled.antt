@@ -1,17 +1,16 @@
 -- Rows of matches: uses without fault leave each row with values that passed the parser of its
 -- argument.
-use Rattle.std.proofs.Common.{◌≡◌, ◌∙◌, ap, sym, subst, refl, true, false, Bool, cond, List, []}
-use Rattle.std.proofs.Common.{◌∷◌, ◌++◌, ◌||◌, ◌&&◌, Option, Some, None, inl, inr, length, arith}
-use Rattle.std.proofs.{Common.true≢false, lemmas.Bool.{cond_both, or_cases, false≢true, ne_eqb}}
-use Rattle.std.proofs.lemmas.Slice.Eq.{bytes_eq-Decides}
-use Rattle.std.specs.{Prelude.{IfSome, find, nat_lt, ◌⊎◌}, List.{AllByRecursion as Each, list_any}}
-use Rattle.std.specs.{Option.option_map_or, Str.bytes_eq}
-use Rattle.clap.specs.{Facts.{parser_of_value, unwrap_or_range}, Faults.action_fault}
-use Rattle.clap.specs.{Faults.{repeat_fault, use_fault, values_fault}, Kinds.{Kinds, or_else}}
-use Rattle.clap.specs.{Kinds.{range_kinds, value_kinds, values_kinds}, Takes.value_passes}
-use Rattle.clap.specs.{ValueTests.accepts, Walk.{Row, Rule, Text, action_of, is_empty, more_values}}
-use Rattle.clap.specs.Walk.{most_values, reading_by, used, used_as, used_by_id, values_or_missing}
-use Rattle.clap.specs.{Walk.{with_values, without}, declared.builder.action.ArgAction.ArgAction}
+use Rattle.std.proofs.Common.{◌≡◌, ◌∙◌, ap, sym, refl, true, false, Bool, cond, List, [], ◌∷◌, ◌++◌}
+use Rattle.std.proofs.Common.{◌||◌, ◌&&◌, Option, Some, None, length, arith, true≢false, rules}
+use Rattle.std.proofs.lemmas.Bool.{cond_both, or_cases, false≢true, ne_eqb}
+use Rattle.std.{proofs.lemmas.Slice.Eq.bytes_eq-Decides, specs.Prelude.{IfSome, find, nat_lt, ◌⊎◌}}
+use Rattle.std.specs.{List.{AllByRecursion as Each, list_any}, Option.option_map_or, Str.bytes_eq}
+use Rattle.clap.specs.{Facts.unwrap_or_range, Faults.{action_fault, use_fault, values_fault}}
+use Rattle.clap.specs.Kinds.{Kinds, or_else, range_kinds, value_kinds, values_kinds}
+use Rattle.clap.specs.{Takes.value_passes, ValueTests.accepts, Walk.{Row, Rule, Text, action_of}}
+use Rattle.clap.specs.Walk.{is_empty, more_values, most_values, reading_by, used, used_as}
+use Rattle.clap.specs.Walk.{used_by_id, values_or_missing, with_values, without}
+use Rattle.clap.specs.declared.builder.action.ArgAction.{ArgAction}
 use Rattle.clap.specs.declared.builder.value_parser.{ValueParser.ValueParser, Reading.Reading}
 use Rattle.clap.specs.declared.parser.matches.ValueSource.{ValueSource, TheVariants.CommandLine}
 use Rattle.room_entry.proofs.Facts.Members.{each_append, each_weaker}
@@ -93,8 +92,7 @@ good_without : (c : List Rule) (id : Text) (rows : List Row) → AreGood c rows
     → AreGood c (without id rows)
 good_without c id [] good = tt
 good_without c id (r ∷ rs) good =
-    cond_both (bytes_eq r.id id) rs (r ∷ without id rs) (AreGood c) (λ e. good.1)
-    (λ e. (good.0, good_without c id rs good.1))
+    grind (arith, cond_both, good, good.1, good.0, good_without c id rs good.1)
 
 pub good_with : (c : List Rule) (id : Text) (how : Reading) (source : ValueSource)
     (values : List Text) (rows : List Row) → has_some values ≡ true
@@ -107,9 +105,7 @@ good_with c id how source values (r ∷ rs) some pass reads good =
     (λ e. (
       (
         some_more r.values values good.0.0,
-        each_append (Passes c r.id) r.values values good.0.1
-            (subst (λ (k : Text). Each (Passes c k) values)
-            (sym ((bytes_eq-Decides r.id id).0 e)) pass),
+        grind (arith, each_append, bytes_eq-Decides, pass, good, good.0.1),
         good.0.2,
       ),
       good.1,
@@ -143,35 +139,24 @@ filled : (a : Rule) (values : List Text) → fills a ≡ true
     → has_some (values_or_missing a values) ≡ true
 filled a (v ∷ values) fine range = refl
 filled a [] fine range =
-    elim (or_cases (has_some a.missing) (nat_lt 0 (unwrap_or_range a.range).start_inclusive) fine) [
-      | inl missing ↦ missing
-      | inr least ↦ absurd (true≢false (ap has_some (rw least at range)))
-    ]
+    grind (arith, or_cases, range)
 
 stored : (c : List Rule) (a : Rule) (values : List Text) (rows : List Row) → IsFine c a
     → has_some values ≡ true → values_fault a values ≡ [] → AreGood c rows
     → AreGood c (with_values a.id (reading_by a) CommandLine values rows)
 stored c a values rows fine some none good =
-    good_with c a.id (reading_by a) CommandLine values rows some
-    (each_weaker (λ v. value_passes a v ≡ true) (Passes c a.id) fine.1 values
-    (values_pass a.ignore_case (parser_of_value a.parser) values none)) fine.2 good
+    search (rules, good_with, each_weaker, values_pass, some, none, good, fine.1, fine.2)
 
 by_action : (c : List Rule) (x : ArgAction) (again : Bool) (a : Rule) (values : List Text)
     (rows : List Row) → IsFine c a → leaves_some x a ≡ true
     → (fills a ≡ true → has_some values ≡ true) → action_fault x again a values rows ≡ []
     → AreGood c rows → AreGood c (used_as x a.id (reading_by a) values rows)
 by_action c action.Set again a values rows fine leaves some none good =
-    stored c a values (without a.id rows) fine (some leaves)
-    (second (repeat_fault again a.id rows) (values_fault a values) none)
-    (good_without c a.id rows good)
+    grind (arith, stored, second, good_without, fine, leaves, some, none, good)
 by_action c action.SetTrue again a values rows fine leaves some none good =
-    stored c a values (without a.id rows) fine (some leaves)
-    (second (repeat_fault again a.id rows) (values_fault a values) none)
-    (good_without c a.id rows good)
+    grind (arith, stored, second, good_without, fine, leaves, some, none, good)
 by_action c action.SetFalse again a values rows fine leaves some none good =
-    stored c a values (without a.id rows) fine (some leaves)
-    (second (repeat_fault again a.id rows) (values_fault a values) none)
-    (good_without c a.id rows good)
+    grind (arith, stored, second, good_without, fine, leaves, some, none, good)
 by_action c action.Append again a values rows fine leaves some none good =
     stored c a values rows fine (some leaves) none good
 by_action c action.Count again a values rows fine leaves some none good =
@@ -185,11 +170,7 @@ pub good_used : (c : List Rule) (again : Bool) (a : Rule) (values : List Text) (
     → IsFine c a → use_fault again a values rows ≡ [] → AreGood c rows
     → AreGood c (used a values rows)
 good_used c again a values rows fine none good =
-    let least = (unwrap_or_range a.range).start_inclusive in
-    let range = range_kinds least (most_values a) (length values) in
-    let acts = action_fault (action_of a) again a (values_or_missing a values) rows in
-    by_action c (action_of a) again a (values_or_missing a values) rows fine fine.0
-    (λ fill. filled a values fill (first range acts none)) (second range acts none) good
+    grind (arith, by_action, filled, first, second, fine, none, good, fine.0)
 
 pub used_found : (c : List Rule) (again : Bool) (found : Option Rule) (values : List Text)
     (rows : List Row) → IfSome found (IsFine c)

@@ -1,21 +1,18 @@
 -- A line without fault names one of the twelve subcommands, and has the words that it wants.
 use Rattle.std.proofs.Common.{◌≡◌, ◌∙◌, ap, sym, subst, refl, true, false, Bool, List, [], ◌∷◌}
-use Rattle.std.proofs.Common.{Option, Some, None, inl, inr, is_some, ◌||◌, codes}
+use Rattle.std.proofs.Common.{Option, Some, None, inl, inr, is_some, ◌||◌, codes, arith, rules}
 use Rattle.std.proofs.{Math.Bool.or-false, lemmas.Bool.{and_parts, both_ways, false≢true, or_cases}}
-use Rattle.std.proofs.lemmas.{Bool.true≢false, Slice.Eq.bytes_eq-Decides}
-use Rattle.std.specs.Prelude.{IfSome, IsSome, option_map, pos, unwrap_or}
-use Rattle.std.specs.{List.{AllByRecursion as Each, list_all, list_any}, Option.option_map_or}
-use Rattle.std.specs.{Str.bytes_eq, Borrow.Bor}
-use Rattle.clap.specs.Faults.{check_fault, defaults_fault, entered_fault, fault_of, level_fault}
-use Rattle.clap.specs.{Faults.{settle_fault, walk_fault}, Kinds.{Kinds, or_else}}
+use Rattle.std.{proofs.lemmas.{Bool.true≢false, Slice.Eq.bytes_eq-Decides}, specs.Prelude.IfSome}
+use Rattle.std.specs.{Prelude.{IsSome, option_map, pos}, List.{AllByRecursion as Each, list_all}}
+use Rattle.std.specs.{List.list_any, Option.option_map_or, Str.bytes_eq, Borrow.Bor}
+use Rattle.clap.specs.{Faults.{check_fault, entered_fault, fault_of, level_fault}, Kinds.Kinds}
 use Rattle.clap.specs.{ValueTests.accepts, Simple.{App, Shape, argument_words, built, entered}}
 use Rattle.clap.specs.{Simple.{names_of, rows_at}, Walk.{Held, Names, finished, nothing_held}}
-use Rattle.clap.specs.{Walk.{rows_after, settled, stop_after, walk, walk_from}, Words.{Row, Text}}
-use Rattle.clap.specs.Words.{subcommand_of}
+use Rattle.clap.specs.{Walk.{rows_after, stop_after, walk}, Words.{Row, Text, subcommand_of}}
 use Rattle.clap.proofs.WalkLemmas.{list_any-map}
 use Rattle.cli_words.proofs.{Filled.{first, found_each, passes_by, second}, Wanted.are_bare}
 use Rattle.cli_words.proofs.Wanted.{is_usual, is_wanted, leave_some, usual_number, wanted_passed}
-use Rattle.cli_words.specs.Command.{HasWords, HaveWords, IsList, IsName, IsWhole, wanted_by, word}
+use Rattle.cli_words.specs.Command.{HasWords, HaveWords, IsList, IsName, IsWhole, wanted_by}
 use Rattle.cli_words.specs.Line.{AreAttributes, command_line}
 use Rattle.clap.specs.declared.builder.value_parser.ValueParser.TheVariants as parser
 
@@ -34,16 +31,7 @@ level_last : (s : Shape) (names : Names) (held : Held) (words : List Text) (has 
     (below : Kinds) → level_fault s names held words has below ≡ []
     → check_fault s (finished s.rules (walk s.rules names held words).held) has ≡ []
 level_last s names held words has below none =
-    let end = (walk s.rules names held words).held in
-    second (defaults_fault (settled s.rules end).rows s.rules)
-    (check_fault s (finished s.rules end) has)
-    (second (settle_fault s.rules s.args_override_self end)
-    (or_else (defaults_fault (settled s.rules end).rows s.rules)
-    (check_fault s (finished s.rules end) has))
-    (second below (or_else (settle_fault s.rules s.args_override_self end)
-    (or_else (defaults_fault (settled s.rules end).rows s.rules)
-    (check_fault s (finished s.rules end) has)))
-    (second (walk_fault s names (walk_from held) words) _ none)))
+    grind (arith, second, none)
 
 is_met : (names : Bor (List (Bor Text))) (words : List Text)
     → fault_of (command_line names) words ≡ []
@@ -51,14 +39,9 @@ is_met : (names : Bor (List (Bor Text))) (words : List Text)
 is_met names words none =
     let app = built (command_line names) in
     wants names
-    (finished app.top.rules
-    (walk app.top.rules (names_of app) nothing_held
-    (argument_words (command_line names) words)).held)
+    (grind (arith, app.top.rules))
     (is_some (subcommand_of (command_line names) words))
-    (level_last app.top (names_of app) nothing_held (argument_words (command_line names) words)
-    (is_some (subcommand_of (command_line names) words))
-    (entered_fault app (walk app.top.rules (names_of app) nothing_held
-    (argument_words (command_line names) words)).stopped) none)
+    (search (rules, level_last, none, app.top))
 
 -- What a level without fault below has read.
 abbrev IsRead : Shape → Type 0
@@ -101,12 +84,7 @@ reads : (s : Shape) → leave_some s.rules ≡ true
     → IsName s.name → IsRead s
 reads s leaves wanted other apart named = (
   named,
-  λ words none. record {
-    wanted = have_passed s words (wanted_by s.name) leaves wanted none;
-    list = λ e. absurd (both_ways (bytes_eq s.name (codes "reset")) other e);
-    port = λ e. absurd (both_ways (bytes_eq s.name (codes "serve")) apart e);
-    count = λ e. absurd (both_ways (bytes_eq s.name (codes "serve")) apart e);
-  },
+  grind (arith, have_passed, both_ways, leaves, wanted, other, apart),
 )
 
 -- the subcommand with two numbers
@@ -137,13 +115,7 @@ is_list names text two passes =
     ap (list_any (λ name. bytes_eq name text)) (sym two)
     ∙ sym (list_any-map (λ name. bytes_eq name text) (λ (name : Bor Text). name.now) names.now)
     ∙ passes in
-    elim (or_cases (bytes_eq (codes "dacl") text) (bytes_eq (codes "sacl") text || false) known) [
-      | inl dacl ↦ inl (sym ((bytes_eq-Decides (codes "dacl") text).0 dacl))
-      | inr later ↦ elim (or_cases (bytes_eq (codes "sacl") text) false later) [
-        | inl sacl ↦ inr (sym ((bytes_eq-Decides (codes "sacl") text).0 sacl))
-        | inr none ↦ absurd (false≢true none)
-      ]
-    ]
+    search (rules, or_cases, bytes_eq-Decides, known)
 
 -- the subcommand that sets a list
 reset_read : (names : Bor (List (Bor Text))) → AreAttributes names → (s : Shape)
@@ -156,13 +128,7 @@ reset_read names two s leaves wanted list passes apart named = (
   named,
   λ words none. record {
     wanted = have_passed s words (wanted_by s.name) leaves wanted none;
-    list = λ e.
-        let has = wanted_passed s words (codes "LIST") leaves list none in
-        let passed = list_any (λ name. bytes_eq name.now has.0) names.now in
-        let text : word (codes "LIST") (rows_after s.rules [] words) ≡ has.0 =
-        ap (λ (found : Option Text). unwrap_or found []) has.1 in
-        subst IsList (sym text)
-        (is_list names has.0 two (sym (or-false passed) ∙ sym (passes has.0) ∙ has.2));
+    list = grind (arith, wanted_passed, is_list, or-false, two, leaves, list, passes);
     port = λ e. absurd (both_ways (bytes_eq s.name (codes "serve")) apart e);
     count = λ e. absurd (both_ways (bytes_eq s.name (codes "serve")) apart e);
   },
@@ -220,22 +186,10 @@ below_passes : (names : Bor (List (Bor Text))) (words : List Text)
     (stop_after (built (command_line names)).top.rules (names_of (built (command_line names)))
     (argument_words (command_line names) words)) ≡ []
 below_passes names words none =
-    let app = built (command_line names) in
-    let given = argument_words (command_line names) words in
-    let end = (walk app.top.rules (names_of app) nothing_held given).held in
-    let stop = (walk app.top.rules (names_of app) nothing_held given).stopped in
-    let after = or_else (settle_fault app.top.rules app.top.args_override_self end)
-    (or_else (defaults_fault (settled app.top.rules end).rows app.top.rules)
-    (check_fault app.top (finished app.top.rules end) (is_some (entered app stop)))) in
-    first (entered_fault app stop) after
-    (second (walk_fault app.top (names_of app) (walk_from nothing_held) given)
-    (or_else (entered_fault app stop) after) none)
+    grind (arith, first, second, none)
 
 pub is_whole : (names : Bor (List (Bor Text))) (words : List Text) → AreAttributes names
     → fault_of (command_line names) words ≡ []
     → IsWhole (subcommand_of (command_line names) words)
 is_whole names words two none =
-    let app = built (command_line names) in
-    of_entered app (stop_after app.top.rules (names_of app)
-    (argument_words (command_line names) words)) (all_read names two)
-    (below_passes names words none) (is_met names words none)
+    search (rules, of_entered, all_read, below_passes, is_met, two, none)

@@ -1,8 +1,9 @@
 -- Numbers of options and flags, as `clap` answers them.
 use Rattle.std.proofs.Common.{◌≡◌, ap, refl, codes, List, ℕ, Option, Some, None, Bool, true, false}
-use Rattle.std.specs.{Prelude.{Result, Ok, Err, unwrap_or}, Str.Parse.ParsesUnsigned}
+use Rattle.std.specs.{Prelude.{Result, Ok, unwrap_or}, Str.Parse.ParsesUnsigned}
 use Rattle.clap.specs.Words.{ReadsOne}
 use Rattle.cli_words.specs.Command.{IsFlag, IsNumber}
+use Rattle.std.proofs.Common.{arith}
 
 pub number_read : (E : Type 0) (G : List ℕ → Result ℕ E → Type 0) (bits default : ℕ)
     (text : Option (List ℕ)) (answer : Option ℕ)
@@ -14,8 +15,7 @@ number_read E G bits default None answer only none value =
 number_read E G bits default (Some t) (Some v) only none value =
     λ numeral fits. (only t (Ok v) (value t refl)).1
 number_read E G bits default (Some t) None only none value =
-    let read = value t refl in
-    λ numeral fits. absurd (only t (Err read.0) read.1 (numeral, fits))
+    grind (arith, only, value)
 
 pub flag_read : (text : Option (List ℕ)) (flag : Bool) → (text ≡ None → flag ≡ false)
     → (text ≡ Some (codes "true") → flag ≡ true) → (text ≡ Some (codes "false") → flag ≡ false)

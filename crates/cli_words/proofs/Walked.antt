@@ -1,32 +1,29 @@
 -- A walk without fault keeps what holds of rows, word by word and then default by default.
-use Rattle.std.proofs.Common.{◌≡◌, refl, true, false, Bool, cond, List, [], ◌∷◌, ◌||◌, ◌&&◌, Option}
-use Rattle.std.proofs.Common.{Some, None, ℕ, zero, suc, length, is_some}
-use Rattle.std.specs.{Prelude.{IfSome, find, fold, slice_get}, Option.option_map_or, Str.bytes_eq}
-use Rattle.std.specs.{Str.chars, List.AllByRecursion as Each}
-use Rattle.clap.specs.{Facts.parser_of_value, Faults.{bundle_fault, bundle_step_fault, check_fault}}
-use Rattle.clap.specs.Faults.{default_fault, defaults_fault, flag_word_fault, flags_fault}
-use Rattle.clap.specs.Faults.{given_default_fault, level_fault, long_fault, option_fault}
-use Rattle.clap.specs.Faults.{positional_fault, react_fault, settle_fault, short_fault, step_fault}
-use Rattle.clap.specs.Faults.{stray_fault, turn_fault, use_fault, values_fault, walk_fault}
-use Rattle.clap.specs.{Faults.{word_fault, other_fault}, Kinds.{Kinds, or_else, request_kinds}}
-use Rattle.clap.specs.{Lexer.{long_of, short_of}, Simple.Shape, Takes.value_passes, Walk.Held}
-use Rattle.clap.specs.Walk.{Names, Outcome, Row, Rule, Step, Text, Waiting, Walk, action_of}
-use Rattle.clap.specs.Walk.{after_flag, after_step, arg_by_id, arg_by_index, arg_by_long}
-use Rattle.clap.specs.Walk.{arg_by_short, at_row, attached_value, bundle, bundle_met, bundle_step}
-use Rattle.clap.specs.Walk.{default_rows, done, finished, first_of, flag_met, has_row, idle}
-use Rattle.clap.specs.Walk.{is_empty, is_pending, long_met, long_or_other, more_values, most_values}
-use Rattle.clap.specs.Walk.{next, nothing_held, one_of, option, row_text, option_met, option_word}
-use Rattle.clap.specs.Walk.{plain, plain_word, positional, positional_held, reacted, reading_by}
-use Rattle.clap.specs.Walk.{refused, rows_after, settled, settled_rows, short_met, subcommand}
-use Rattle.clap.specs.Walk.{subcommand_met, subcommand_or_other, takes_several, takes_values}
-use Rattle.clap.specs.Walk.{to_positional, trailing, used, used_as, used_by_id, value}
-use Rattle.clap.specs.Walk.{values_or_missing, waits, walk, walk_from, walked, walked_from}
-use Rattle.clap.specs.Walk.{with_default, with_values, without, word_met}
-use Rattle.clap.specs.declared.error.kind.ErrorKind.{ErrorKind}
-use Rattle.clap.specs.declared.parser.matches.ValueSource.TheVariants.{DefaultValue}
+use Rattle.std.proofs.Common.{◌≡◌, true, false, Bool, cond, List, [], ◌∷◌, ◌||◌, Option, Some, None}
+use Rattle.std.{proofs.Common.{ℕ, zero, suc, length, is_some, arith, rules}, specs.Prelude.IfSome}
+use Rattle.std.specs.{Prelude.{find, fold, slice_get}, Option.option_map_or, Str.{bytes_eq, chars}}
+use Rattle.std.specs.List.{AllByRecursion as Each}
+use Rattle.clap.specs.Faults.{bundle_fault, bundle_step_fault, check_fault, default_fault}
+use Rattle.clap.specs.Faults.{defaults_fault, flag_word_fault, flags_fault, given_default_fault}
+use Rattle.clap.specs.Faults.{level_fault, long_fault, option_fault, positional_fault, react_fault}
+use Rattle.clap.specs.Faults.{settle_fault, short_fault, step_fault, stray_fault, turn_fault}
+use Rattle.clap.specs.{Faults.{use_fault, walk_fault, word_fault, other_fault}, Kinds.Kinds}
+use Rattle.clap.specs.{Kinds.or_else, Lexer.{long_of, short_of}, Simple.Shape, Walk.{Held, Names}}
+use Rattle.clap.specs.Walk.{Outcome, Row, Rule, Step, Text, Waiting, Walk, action_of, after_flag}
+use Rattle.clap.specs.Walk.{after_step, arg_by_id, arg_by_index, arg_by_long, arg_by_short, at_row}
+use Rattle.clap.specs.Walk.{attached_value, bundle, bundle_met, bundle_step, default_rows, done}
+use Rattle.clap.specs.Walk.{finished, first_of, flag_met, has_row, idle, is_empty, is_pending}
+use Rattle.clap.specs.Walk.{long_met, long_or_other, more_values, most_values, next, nothing_held}
+use Rattle.clap.specs.Walk.{one_of, option, row_text, option_met, option_word, plain, plain_word}
+use Rattle.clap.specs.Walk.{positional, positional_held, reacted, reading_by, refused, rows_after}
+use Rattle.clap.specs.Walk.{settled, settled_rows, short_met, subcommand, subcommand_met}
+use Rattle.clap.specs.Walk.{subcommand_or_other, takes_several, takes_values, to_positional}
+use Rattle.clap.specs.Walk.{trailing, used, used_as, used_by_id, value, values_or_missing, waits}
+use Rattle.clap.specs.Walk.{walk, walk_from, walked, walked_from, with_default, with_values}
+use Rattle.clap.specs.{Walk.{without, word_met}, declared.error.kind.ErrorKind.ErrorKind}
 use Rattle.room_entry.proofs.Facts.Members.{each_weaker}
-use Rattle.cli_words.proofs.Filled.{found_each, not_empty, first, second, values_pass, Passes}
-use Rattle.cli_words.proofs.Filled.{AreGood, good_with, IsFine, used_found, good_used}
+use Rattle.cli_words.proofs.Filled.{found_each, not_empty, first, second, values_pass, AreGood}
+use Rattle.cli_words.proofs.Filled.{good_with, IsFine, used_found, good_used}
 
 module _ (c : List Rule) (fine : Each (IsFine c) c) (again : Bool) where
   fine_found : (test : Rule → Bool) → IfSome (find test c) (IsFine c)
@@ -48,10 +45,7 @@ module _ (c : List Rule) (fine : Each (IsFine c) c) (again : Bool) where
       → react_fault c again a values h ≡ [] → AreGood c h.rows
       → AreGood c (reacted c a values h).rows
   good_reacted a values h is none good =
-      let settles = settle_fault c again h in
-      let uses = use_fault again a values (settled c h).rows in
-      good_used c again a values (settled c h).rows is (second settles uses none)
-      (good_settled h (first settles uses none) good)
+      grind (arith, good_used, second, good_settled, first, is, none, good)
 
   good_option : (a : Rule) (attached : Option Text) (h : Held) → IsFine c a
       → option_fault c again a attached h ≡ [] → AreGood c h.rows
@@ -85,10 +79,7 @@ module _ (c : List Rule) (fine : Each (IsFine c) c) (again : Bool) where
   short_by true a rest h fails meets is none go good =
       good_option a (attached_value rest) h is none good
   short_by false a rest h fails meets is none go good =
-      let reacts = react_fault c again a [] h in
-      let after = fails (reacted c a [] h) in
-      go (reacted c a [] h) (second reacts after none)
-      (good_reacted a [] h is (first reacts after none) good)
+      search (rules, second, good_reacted, first, is, none, go, good)
 
   good_short : (found : Option Rule) (rest : Text) (h : Held) (fails : Held → Kinds)
       (meets : Held → Held × Outcome) → IfSome found (IsFine c)
@@ -107,8 +98,7 @@ module _ (c : List Rule) (fine : Each (IsFine c) c) (again : Bool) where
       → AreGood c h.rows → AreGood c (bundle_step c x flags skip so_far h meets).0.rows
   bundle_by None flags skip so_far h fails meets none go good = good
   bundle_by (Some x) flags zero so_far h fails meets none go good =
-      good_short (arg_by_short c x) _ h (fails _ 0) (meets _ 0 done) (fine_found _) none
-      (λ h. go _ 0 done h) good
+      grind (arith, good_short, fine_found, none, go, good)
   bundle_by (Some x) flags (suc skip) so_far h fails meets none go good =
       go _ skip so_far h none good
 
@@ -151,8 +141,7 @@ module _ (c : List Rule) (fine : Each (IsFine c) c) (again : Bool) where
       → flag_word_fault c again long word h ≡ [] → AreGood c h.rows
       → AreGood c (long_or_other c waiting word long h).0.rows
   good_flag_word (Some p) waiting word h none good =
-      good_after waiting word _ _
-      (good_long (arg_by_long c p.0) p.1 h (fine_found _) none good)
+      grind (arith, good_after, good_long, fine_found, none, good)
   good_flag_word None waiting word h none good =
       short_word_by (short_of word) waiting word h none good
 
@@ -169,12 +158,7 @@ module _ (c : List Rule) (fine : Each (IsFine c) c) (again : Bool) where
       → AreGood c h.rows → AreGood c (to_positional c found word w h).held.rows
   to_positional_by None stray word w h none good = good
   to_positional_by (Some a) stray word w h none good =
-      waiting_by (is_pending a h.pending && takes_several a) none
-    where
-      waiting_by : (b : Bool) → cond b [] (settle_fault c again h) ≡ []
-          → AreGood c (cond b h (settled c h)).rows
-      waiting_by true none = good
-      waiting_by false none = good_settled h none good
+      grind (arith, good_settled, none, good)
 
 module _ (s : Shape) (fine : Each (IsFine s.rules) s.rules) (names : Names) where
   good_other : (name : Option Text) (waiting : Waiting) (position : ℕ) (word : Text) (h : Held)
@@ -182,8 +166,7 @@ module _ (s : Shape) (fine : Each (IsFine s.rules) s.rules) (names : Names) wher
       → AreGood s.rules (subcommand_or_other s.rules name waiting position word h).0.rows
   good_other (Some name) waiting position word h none good = good
   good_other None waiting position word h none good =
-      dashes_by s.rules fine s.args_override_self (bytes_eq word (45 ∷ 45 ∷ [])) waiting position
-      word h none good
+      grind (arith, dashes_by, fine, none, good)
 
   good_word : (trails : Bool) (waiting : Waiting) (position : ℕ) (word : Text) (h : Held)
       → word_fault s names trails waiting word h ≡ [] → AreGood s.rules h.rows
@@ -211,11 +194,7 @@ module _ (s : Shape) (fine : Each (IsFine s.rules) s.rules) (names : Names) wher
       → AreGood s.rules (walked_from s.rules names stop w word).held.rows
   turn_by (Some p) w word none good = good
   turn_by None w word none good =
-      let met = word_met s.rules names w.is_trailing w.waiting w.position word w.held in
-      let words = word_fault s names w.is_trailing w.waiting word w.held in
-      let steps = step_fault s w.position met.0 met.1 in
-      good_step met.1 word w met.0 (second words steps none)
-      (good_word w.is_trailing w.waiting w.position word w.held (first words steps none) good)
+      grind (arith, good_step, second, good_word, first, none, good)
 
   good_walk : (words : List Text) (w : Walk) → walk_fault s names w words ≡ []
       → AreGood s.rules w.held.rows
@@ -236,10 +215,7 @@ module _ (s : Shape) (fine : Each (IsFine s.rules) s.rules) (names : Names) wher
   default_by false a [] rows is none good = good
   default_by false a (v ∷ values) rows is none good =
       let given : given_default_fault a (v ∷ values) ≡ [] = rw (not_empty v values) at none in
-      let pass = second (request_kinds (action_of a)) (values_fault a (v ∷ values)) given in
-      good_with s.rules a.id (reading_by a) DefaultValue (v ∷ values) rows refl
-      (each_weaker (λ text. value_passes a text ≡ true) (Passes s.rules a.id) is.1 (v ∷ values)
-      (values_pass a.ignore_case (parser_of_value a.parser) (v ∷ values) pass)) is.2 good
+      search (rules, second, good_with, each_weaker, values_pass, good, given, is.1, is.2)
 
   good_defaults : (rules : List Rule) (rows : List Row) → Each (IsFine s.rules) rules
       → defaults_fault rows rules ≡ [] → AreGood s.rules rows

@@ -1,12 +1,11 @@
 -- A subcommand without fault has a value for each argument that it wants, or that has a default.
-use Rattle.std.proofs.Common.{◌≡◌, ◌∙◌, ap, sym, subst, refl, true, false, Bool, cond, List, []}
-use Rattle.std.proofs.Common.{◌∷◌, ◌++◌, ◌||◌, ◌&&◌, Option, Some, None, ℕ, inl, inr, true≢false}
+use Rattle.std.proofs.Common.{◌≡◌, ◌∙◌, ap, sym, refl, true, false, Bool, cond, List, [], ◌∷◌, ◌++◌}
+use Rattle.std.proofs.Common.{◌||◌, ◌&&◌, Option, Some, None, ℕ, inl, inr, true≢false, arith, rules}
 use Rattle.std.proofs.lemmas.Bool.{cond_both, or_cases, or_left, or_right, or_parts, false≢true}
 use Rattle.std.proofs.lemmas.{Bool.{and_from, and_parts}, Slice.Eq.bytes_eq-Decides}
-use Rattle.std.proofs.Math.Bool.{or-false}
-use Rattle.std.specs.Prelude.{IfSome, find, fold, not, option_and_then, option_map, pos, slice_get}
-use Rattle.std.specs.{List.{AllByRecursion as Each, list_all, list_any}, Option.option_map_or}
-use Rattle.std.specs.Str.{bytes_eq}
+use Rattle.std.{proofs.Math.Bool.or-false, specs.Prelude.{IfSome, find, fold, not, option_and_then}}
+use Rattle.std.specs.{Prelude.{pos, slice_get}, List.{AllByRecursion as Each, list_all, list_any}}
+use Rattle.std.specs.{Option.option_map_or, Str.bytes_eq}
 use Rattle.clap.specs.{Facts.explicit_source, Faults.level_fault, Kinds.check_kinds, Values.read_as}
 use Rattle.clap.specs.{Simple.Shape, Takes.{is_given, value_passes}, ValueTests.accepts, Walk.Row}
 use Rattle.clap.specs.Walk.{Rule, Text, action_of, default_rows, first_of, has_row, is_empty}
@@ -16,9 +15,8 @@ use Rattle.clap.specs.declared.builder.value_parser.Reading.{Reading}
 use Rattle.clap.specs.declared.parser.matches.ValueSource.{ValueSource, TheVariants.DefaultValue}
 use Rattle.clap.proofs.ValueTestLemmas.{accepts-Accepts}
 use Rattle.room_entry.proofs.Facts.Members.{each_weaker}
-use Rattle.cli_words.specs.Command.{HasNumber}
-use Rattle.cli_words.proofs.Filled.{has_some, passes_by, Passes, ReadsBy, IsGood, AreGood, IsFine}
-use Rattle.cli_words.proofs.{Filled.leaves_some, Walked.level_rows}
+use Rattle.cli_words.{specs.Command.HasNumber, proofs.Filled.{has_some, passes_by, Passes, ReadsBy}}
+use Rattle.cli_words.proofs.{Filled.{IsGood, AreGood, IsFine, leaves_some}, Walked.level_rows}
 use Rattle.clap.specs.declared.builder.value_parser.ValueParser.TheVariants as parser
 use Rattle.clap.specs.declared.builder.value_parser.Reading.TheVariants as reading
 
@@ -39,9 +37,7 @@ row_found : (c : List Rule) (id : Text) (rows : List Row) → AreGood c rows
     → IfSome (find (λ r. bytes_eq r.id id) rows) (λ r. IsGood c r × (bytes_eq r.id id ≡ true))
 row_found c id [] good = tt
 row_found c id (r ∷ rs) good =
-    cond_both (bytes_eq r.id id) (Some r) (find (λ x. bytes_eq x.id id) rs)
-    (λ found. IfSome found (λ x. IsGood c x × (bytes_eq x.id id ≡ true)))
-    (λ e. (good.0, e)) (λ e. row_found c id rs good.1)
+    grind (arith, cond_both, good, good.0, good.1, row_found c id rs good.1)
 
 passed_at : (c : List Rule) (id : Text) (found : Option Row)
     → IfSome found (λ r. IsGood c r × (bytes_eq r.id id ≡ true))
@@ -50,9 +46,7 @@ passed_at : (c : List Rule) (id : Text) (found : Option Row)
     × (passes_by c id text ≡ true)
 passed_at c id None good given = absurd (false≢true given)
 passed_at c id (Some r) good given =
-    first_passed c id r.values good.0.0
-    (subst (λ (k : Text). Each (Passes c k) r.values) ((bytes_eq-Decides r.id id).0 good.1)
-    good.0.1)
+    grind (arith, first_passed, bytes_eq-Decides, good, good.0.0, good.1, good.0.1)
 
 is_last : (a b x : Bool) → check_kinds a b x ≡ [] → x ≡ false
 is_last a b false none = refl
@@ -84,9 +78,7 @@ wanted_given (a ∷ rules) rows id wanted none =
     (list_any (λ b. b.required && not (is_given b.id rows)) rules) none in
     elim (or_cases (a.required && bytes_eq a.id id) (is_wanted rules id) wanted) [
       | inl here ↦
-          let both = and_parts a.required (bytes_eq a.id id) here in
-          subst (λ (k : Text). is_given k rows ≡ true) ((bytes_eq-Decides a.id id).0 both.1)
-          (given_here a.required (is_given a.id rows) parts.0 both.0)
+          grind (arith, and_parts, bytes_eq-Decides, given_here, parts, here, parts.0)
       | inr later ↦ wanted_given rules rows id later parts.1
     ]
 
@@ -98,21 +90,7 @@ IsOwn c a = ((text : Text) → value_passes a text ≡ true → Passes c a.id te
 each_own : (c : List Rule) → Each (IsOwn c) c
 each_own [] = tt
 each_own (a ∷ c) =
-    let same : bytes_eq a.id a.id ≡ true = (bytes_eq-Decides a.id a.id).1 refl in (
-      (
-        λ text pass. or_left (bytes_eq a.id a.id && value_passes a text)
-            (passes_by c a.id text)
-            (and_from (bytes_eq a.id a.id) (value_passes a text) same pass),
-        inl (same, refl),
-      ),
-      each_weaker (IsOwn c) (IsOwn (a ∷ c))
-          (λ b own. (
-            λ text pass. or_right (bytes_eq a.id b.id && value_passes a text)
-                (passes_by c b.id text) (own.0 text pass),
-            inr own.1,
-          ))
-          c (each_own c),
-    )
+    grind (arith, bytes_eq-Decides, or_left, passes_by, and_from, each_weaker, or_right, each_own c)
 
 -- no rule counts, and what is used by a rule has a value
 abbrev pub leave_some : List Rule → Bool
@@ -138,8 +116,7 @@ wanted_passed s words id leaves wanted none =
     let missing = list_any (λ a. a.required && not (is_given a.id rows)) s.rules in
     let last = is_last _ _ (not (s.subcommand_negates_reqs && false) && missing) level.1 in
     passed_at s.rules id (find (λ r. bytes_eq r.id id) rows) (row_found s.rules id rows level.0)
-    (wanted_given s.rules rows id wanted
-    (without_subcommand s.subcommand_negates_reqs missing last))
+    (grind (arith, wanted_given, without_subcommand, wanted, last))
 
 -- ---- options with a default
 
@@ -164,10 +141,7 @@ row_comes : (id : Text) (how : Reading) (source : ValueSource) (values : List Te
 row_comes id how source values [] =
     or_left (bytes_eq id id) false ((bytes_eq-Decides id id).1 refl)
 row_comes id how source values (r ∷ rs) =
-    cond_both (bytes_eq r.id id) (more_values source values r ++ rs)
-    (r ∷ with_values id how source values rs) (λ rows. has_row id rows ≡ true)
-    (λ e. or_left (bytes_eq r.id id) (has_row id rs) e)
-    (λ e. or_right (bytes_eq r.id id) _ (row_comes id how source values rs))
+    grind (arith, cond_both, or_left, or_right, row_comes id how source values rs)
 
 stays_by : (has : Bool) (id key : Text) (how : Reading) (values : List Text) (rows : List Row)
     → has_row id rows ≡ true
@@ -197,12 +171,7 @@ row_there : (rules : List Rule) (rows : List Row) (id : Text) → is_usual rules
 row_there [] rows id usual = absurd (false≢true usual)
 row_there (a ∷ rules) rows id usual =
     elim (or_cases (bytes_eq a.id id && not (is_empty a.defaults)) (is_usual rules id) usual) [
-      | inl here ↦ (
-          let both = and_parts (bytes_eq a.id id) (not (is_empty a.defaults)) here in
-          row_kept rules (with_default rows a) id
-          (subst (λ (k : Text). has_row k (with_default rows a) ≡ true)
-          ((bytes_eq-Decides a.id id).0 both.0)
-          (comes_by (has_row a.id rows) a.id (reading_by a) a.defaults rows refl both.1)))
+      | inl here ↦ grind (arith, and_parts, row_kept, bytes_eq-Decides, comes_by, here)
       | inr later ↦ row_there rules (with_default rows a) id later
     ]
 
@@ -217,16 +186,7 @@ row_read c id [] good has = absurd (false≢true has)
 row_read c id (r ∷ rs) good has =
     cond_both (bytes_eq r.id id) (Some r) (find (λ x. bytes_eq x.id id) rs)
     (λ found. IsReadAs c id (option_and_then row_text found))
-    (λ e.
-    let same = (bytes_eq-Decides r.id id).0 e in
-    let value = first_passed c id r.values good.0.0
-    (subst (λ (k : Text). Each (Passes c k) r.values) same good.0.1) in (
-      r.reading,
-      value.0,
-      ap (option_map (read_as r.reading)) value.1,
-      value.2,
-      subst (λ (k : Text). ReadsBy c k r.reading) same good.0.2,
-    ))
+    (grind (arith, bytes_eq-Decides, first_passed, good, good.0.0, good.0.1, good.0.2))
     (λ e.
     let later : has_row id rs ≡ true = rw e at has in
     row_read c id rs good.1 later)
@@ -251,9 +211,7 @@ read_bare : (c : List Rule) (id : Text) (how : Reading) → are_bare c id ≡ tr
     → how ≡ reading.WithoutMinus
 read_bare [] id how bares reads = absurd reads
 read_bare (a ∷ c) id how bares (inl here) =
-    let both = and_parts (not (bytes_eq a.id id) || is_bare (reading_by a)) (are_bare c id) bares in
-    let is : is_bare (reading_by a) ≡ true = rw here.0 at both.0 in
-    sym here.1 ∙ bare (reading_by a) is
+    grind (arith, and_parts, bare, bares)
 read_bare (a ∷ c) id how bares (inr later) =
     let both = and_parts (not (bytes_eq a.id id) || is_bare (reading_by a)) (are_bare c id) bares in
     read_bare c id how both.1 later
@@ -273,9 +231,7 @@ usual_number s words id most leaves usual bares passes none =
     (row_there s.rules (settled s.rules end).rows id usual) in
     let taken = accepts false (parser.Signed (pos 1) (pos most)) read.1 in (
       read.1,
-      read.2
-          ∙ ap (λ (how : Reading). Some (read_as how read.1))
-          (read_bare s.rules id read.0 bares read.4),
+      grind (arith, read_bare, bares, read, read.2, read.1, read.0, read.4),
       accepts-Accepts false (parser.Signed (pos 1) (pos most)) read.1
           (sym (or-false taken) ∙ sym (passes read.1) ∙ read.3),
     )

@@ -6,6 +6,7 @@ use Rattle.room_ace.specs.Faults.{line_fault_text}
 use Rattle.room_entry.specs.Faults.{text_fault_text}
 use Rattle.room_ace.specs.Lists.{sent_of}
 use Rattle.room_ace.specs.Sent.{Sent}
+use Rattle.room_entry.specs.Gives.{told}
 use Rattle.room_entry.specs.Names.{name_of}
 use Rattle.room_entry.specs.declared.object.Which.{Which}
 use Rattle.room_import.specs.Faults.{csv_fault_text}
@@ -28,33 +29,28 @@ refusal_text refusal.TooLong = codes "refused: input too long"
 refusal_text (refusal.Line fault) = codes "refused: " ++ line_fault_text fault
 refusal_text (refusal.Row fault) = codes "refused: " ++ csv_fault_text fault
 
--- an answer, or why it is refused
-abbrev pub refused_by : {A F : Type 0} → (F → TaskRefusal) → Result A F → Result A TaskRefusal
-refused_by why (Ok answer) = Ok answer
-refused_by why (Err fault) = Err (why fault)
-
 abbrev pub goes_on : {A B : Type 0} → Result A TaskRefusal → (A → Result B TaskRefusal)
     → Result B TaskRefusal
 goes_on (Ok answer) next = next answer
 goes_on (Err why) next = Err why
 
 abbrev pub task_name : List ℕ → Result (List ℕ) TaskRefusal
-task_name text = refused_by refusal.Name (name_of text)
+task_name text = told refusal.Name (name_of text)
 
 abbrev pub task_path : List ℕ → Result (List (List ℕ)) TaskRefusal
-task_path text = refused_by refusal.Path (path_of text)
+task_path text = told refusal.Path (path_of text)
 
 -- the list in at most 2^20 bytes
 abbrev pub sent_in : List ℕ → Result Sent TaskRefusal
 sent_in input =
     if nat_lt 1048576 (length input) then Err refusal.TooLong
-    else refused_by refusal.Line (sent_of input)
+    else told refusal.Line (sent_of input)
 
 -- the pairs in a group file of at most 2^23 bytes
 abbrev pub pairs_in : List ℕ → Result (List (List ℕ × List ℕ)) TaskRefusal
 pairs_in input =
     if nat_lt 8388608 (length input) then Err refusal.TooLong
-    else refused_by refusal.Row (groups_in input)
+    else told refusal.Row (groups_in input)
 
 abbrev pub init_task : List ℕ → List ℕ → Result Task TaskRefusal
 init_task owner group = goes_on (task_name owner) (λ owner. goes_on (task_name group) (λ group.

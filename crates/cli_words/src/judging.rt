@@ -6,7 +6,9 @@ ghost use Rattle.cli_words.specs.Tasks.{review_of, sent_in, task_name, task_of, 
 
 use crate::command::Job;
 use crate::refusal::TaskRefusal;
-use room_ace::{Failure, MOST_BYTES, Name, Owners, SentList, Which, read_list, read_name};
+use room_ace::{
+    Failure, MOST_BYTES, Name, Owners, SentList, Which, map_fault, read_list, read_name,
+};
 use room_import::{Pairs, read_groups};
 use room_rows::{Path, read_path};
 use std::alloc::Global;
@@ -82,11 +84,7 @@ fn init_task(alloc: Global, owner: &str, group: &str) -> Result<Task, Failure<Ta
 fn task_name(alloc: Global, text: &str) -> Result<Name, Failure<TaskRefusal>>
     ensures { Gives result (task_name text.now) }
 {
-    match read_name(alloc, text) {
-        Ok(name) => Ok(name),
-        Err(Failure::Fault(why)) => Err(Failure::Fault(TaskRefusal::Name(why))),
-        Err(Failure::OutOfMemory) => Err(Failure::OutOfMemory),
-    }
+    map_fault(read_name(alloc, text), TaskRefusal::Name)
 }
 
 fn pairs_in(alloc: Global, input: &[u8]) -> Result<Pairs, Failure<TaskRefusal>>
@@ -95,11 +93,7 @@ fn pairs_in(alloc: Global, input: &[u8]) -> Result<Pairs, Failure<TaskRefusal>>
     if input.len() > MOST_GROUP_BYTES {
         return Err(Failure::Fault(TaskRefusal::TooLong));
     }
-    match read_groups(alloc, input) {
-        Ok(pairs) => Ok(pairs),
-        Err(Failure::Fault(fault)) => Err(Failure::Fault(TaskRefusal::Row(fault))),
-        Err(Failure::OutOfMemory) => Err(Failure::OutOfMemory),
-    }
+    map_fault(read_groups(alloc, input), TaskRefusal::Row)
 }
 
 fn get_of(alloc: Global, path: &str) -> Result<Task, Failure<TaskRefusal>>
@@ -151,11 +145,7 @@ fn reset_of(
 fn task_path(alloc: Global, text: &str) -> Result<Path, Failure<TaskRefusal>>
     ensures { Gives result (task_path text.now) }
 {
-    match read_path(alloc, text.as_bytes()) {
-        Ok(path) => Ok(path),
-        Err(Failure::Fault(why)) => Err(Failure::Fault(TaskRefusal::Path(why))),
-        Err(Failure::OutOfMemory) => Err(Failure::OutOfMemory),
-    }
+    map_fault(read_path(alloc, text.as_bytes()), TaskRefusal::Path)
 }
 
 fn sent_in(alloc: Global, input: &[u8]) -> Result<SentList, Failure<TaskRefusal>>
@@ -164,9 +154,5 @@ fn sent_in(alloc: Global, input: &[u8]) -> Result<SentList, Failure<TaskRefusal>
     if input.len() > MOST_BYTES {
         return Err(Failure::Fault(TaskRefusal::TooLong));
     }
-    match read_list(alloc, input) {
-        Ok(list) => Ok(list),
-        Err(Failure::Fault(fault)) => Err(Failure::Fault(TaskRefusal::Line(fault))),
-        Err(Failure::OutOfMemory) => Err(Failure::OutOfMemory),
-    }
+    map_fault(read_list(alloc, input), TaskRefusal::Line)
 }

@@ -42,8 +42,5 @@ fn most_of(job: &Job<'_>) -> usize
 fn task_in(alloc: Global, job: &Job<'_>, input: &[u8]) -> Result<Task, Stop>
     ensures { IsTask (task_of job.now input.now) result }
 {
-    match judge(alloc, job, input) {
-        Ok(task) => Ok(task),
-        Err(failure) => Err(Stop::from(failure)),
-    }
+    Ok(judge(alloc, job, input)?)
 }

@@ -1,8 +1,7 @@
 -- The fields of one name, field by field.
-use Rattle.std.proofs.Common.{◌≡◌, ℕ, ◌+◌, ◌<◌, Bool, true, false, List, [], ◌∷◌, ◌++◌, length}
-use Rattle.std.proofs.Common.{take, get_or, refl, sym, ap, subst, ◌∙◌, if◌then◌else◌}
-use Rattle.std.proofs.lemmas.List.{append-nil, take_more}
-use Rattle.std.specs.Str.{str_eq_ignore_ascii_case}
+use Rattle.std.proofs.Common.{arith, ◌≡◌, ℕ, ◌+◌, ◌<◌, Bool, true, false, List, [], ◌∷◌, ◌++◌}
+use Rattle.std.proofs.Common.{length, take, get_or, refl, sym, ap, subst, ◌∙◌, if◌then◌else◌}
+use Rattle.std.{proofs.lemmas.List.{append-nil, take_more}, specs.Str.str_eq_ignore_ascii_case}
 use Rattle.http_message.specs.declared.{fields.Values.Values, head.Field.Field}
 use Rattle.http_message.specs.{Fields.field_values, Values.AreValues}
 
@@ -37,10 +36,8 @@ pub values-other : (name read : List ℕ) (same : Bool) (fields : List Field) (i
     → AreValues (field_values name (take (i + 1) fields)) found
 values-other name read same fields i f found lt is reads tests off have =
     let before = field_values name (take i fields) in
-    let other : str_eq_ignore_ascii_case f.name name ≡ false =
-    ap (λ t. str_eq_ignore_ascii_case t name) (sym reads) ∙ sym tests ∙ off in
-    let one : field_values name (f ∷ []) ≡ [] = ap
-    (λ (b : Bool). if b then f.value ∷ [] else []) other in
+    let other : str_eq_ignore_ascii_case f.name name ≡ false = grind (arith, reads, tests, off) in
+    let one : field_values name (f ∷ []) ≡ [] = grind (arith, f.value, other) in
     let all : field_values name (take (i + 1) fields) ≡ before =
     values-then name fields i f lt is ∙ ap (λ t. before ++ t) one ∙ append-nil before in
     subst (λ t. AreValues t found) (sym all) have
@@ -55,11 +52,6 @@ pub values-same : (name read value : List ℕ) (same : Bool) (fields : List Fiel
     → AreValues (field_values name (take (i + 1) fields)) next
 values-same name read value same fields i f next lt is reads tests on valued have =
     let before = field_values name (take i fields) in
-    let alike : str_eq_ignore_ascii_case f.name name ≡ true =
-    ap (λ t. str_eq_ignore_ascii_case t name) (sym reads) ∙ sym tests ∙ on in
-    let one : field_values name (f ∷ []) ≡ f.value ∷ [] = ap
-    (λ (b : Bool). if b then f.value ∷ [] else []) alike in
-    let all : field_values name (take (i + 1) fields) ≡ before ++ f.value ∷ [] =
-    values-then name fields i f lt is ∙ ap (λ t. before ++ t) one in
-    let V : List ℕ → Type 0 = λ v. AreValues (before ++ v ∷ []) next in
-    subst (λ t. AreValues t next) (sym all) (subst V valued have)
+    let alike : str_eq_ignore_ascii_case f.name name ≡ true = grind (arith, reads, tests, on) in
+    let one : field_values name (f ∷ []) ≡ f.value ∷ [] = grind (arith, f.value, alike) in
+    grind (arith, before, f.value, values-then, f, lt, is, one, next, valued, have)

@@ -1,9 +1,8 @@
 -- A value written a token at a time.
-use Rattle.std.proofs.Common.{◌≡◌, ℕ, List, [], ◌++◌, Result, Ok, Err, OnOk, ap, ◌∙◌, append_assoc}
-use Rattle.std.specs.declared.alloc.AllocError.{AllocError}
+use Rattle.std.proofs.Common.{arith, ◌≡◌, ℕ, List, [], ◌++◌, Result, Ok, Err, OnOk, ap, ◌∙◌}
+use Rattle.std.{proofs.Common.append_assoc, specs.declared.alloc.AllocError.AllocError}
 use Rattle.json.specs.{Print.print, Token.Token}
-use Rattle.serde_json.specs.{Data.Data, Written.compact_text}
-use Rattle.serde_json.proofs.Texts.{print-outline}
+use Rattle.serde_json.{specs.{Data.Data, Written.compact_text}, proofs.Texts.print-outline}
 use Rattle.http_message.specs.Form.{data_tokens}
 
 -- tokens are written, and then the rest
@@ -18,5 +17,4 @@ pub printed : (value : Data) (bytes same text : List ℕ) (none wrote : List Tok
     → bytes ≡ [] → none ≡ [] → same ≡ bytes → wrote ≡ none ++ data_tokens value
     → text ≡ same ++ print wrote → text ≡ compact_text value
 printed value bytes same text none wrote empty new still is whole =
-    whole ∙ ap (λ (t : List ℕ). t ++ print wrote) (still ∙ empty)
-    ∙ ap print (is ∙ ap (λ (t : List Token). t ++ data_tokens value) new) ∙ print-outline value
+    grind (arith, whole, still, empty, is, value, new, print-outline)

@@ -1,6 +1,5 @@
 -- Worked examples: whole replies, byte for byte.
-use Rattle.std.proofs.Common.{◌≡◌, [], ◌∷◌, false, true, None, refl, codes}
-use Rattle.std.specs.Fmt.{digits}
+use Rattle.std.{proofs.Common.{◌≡◌, [], ◌∷◌, false, true, None, refl, codes}, specs.Fmt.digits}
 use Rattle.serde_json.proofs.OnLiterals.{serde_json_on_literals}
 use Rattle.room_entry.specs.{Bits.all_bits, Letters.mask_letters}
 use Rattle.room_ace.specs.declared.fault.Why.{Why}

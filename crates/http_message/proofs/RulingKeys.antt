@@ -1,7 +1,7 @@
 -- Rulings under their letters, as the members of an object.
-use Rattle.std.proofs.Common.{◌≡◌, ℕ, List, [], ◌∷◌, ◌++◌, Some, Ordering, Less, Equal, Greater}
-use Rattle.std.proofs.{Common.{nat_cmp, refl, ap, ◌∙◌, arith}, lemmas.Cmp.nat_list_cmp_total}
-use Rattle.std.proofs.lemmas.Bool.Decides.{nat_tests}
+use Rattle.std.proofs.Common.{rules, ◌≡◌, ℕ, List, [], ◌∷◌, ◌++◌, Some, Ordering, Less, Equal}
+use Rattle.std.proofs.Common.{Greater, nat_cmp, refl, ap, ◌∙◌, arith}
+use Rattle.std.proofs.lemmas.{Cmp.nat_list_cmp_total, Bool.Decides.nat_tests}
 use Rattle.std.specs.{Cmp.Lexicographic.slice_cmp, List.{AllByRecursion, Sorted.IsStrictlySortedBy}}
 use Rattle.std.specs.Ordering.{match_ordering, ordering_reverse}
 use Rattle.serde_json.specs.{Data.{Data, Members, no_members, member, put, string}, Find.get_member}
@@ -95,8 +95,4 @@ unfolding IsStrictlySortedBy
 none_rises = tt
 
 pub are_keys : RulingsAreKeys
-are_keys = (
-  found,
-  λ letters rulings lacks. passed letters no_members rulings lacks,
-  λ rulings. all_rise no_members rulings none_rises,
-)
+are_keys = (search (rules, found, passed, all_rise, none_rises))

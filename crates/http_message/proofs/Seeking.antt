@@ -1,14 +1,14 @@
 -- The word of a path, by a walk over the table of routes.
-use Rattle.std.proofs.Common.{◌≡◌, ◌⊎◌, ℕ, zero, suc, ◌-◌, Bool, true, false, not, cond, ◌==◌, ◌&&◌}
-use Rattle.std.proofs.Common.{List, [], ◌∷◌, ◌++◌, length, Option, Some, None, option_map, nat_eq}
-use Rattle.std.proofs.{Common.{refl, ap, ◌∙◌, inl, inr, true≢false, arith}, lemmas.Bool.and_parts}
-use Rattle.std.proofs.lemmas.Bool.{cases_Bool, Decides.nat_tests}
+use Rattle.std.proofs.Common.{rules, ◌≡◌, ◌⊎◌, ℕ, zero, suc, ◌-◌, Bool, true, false, not, cond}
+use Rattle.std.proofs.Common.{◌==◌, ◌&&◌, List, [], ◌∷◌, ◌++◌, length, Option, Some, None}
+use Rattle.std.proofs.Common.{option_map, nat_eq, refl, ap, ◌∙◌, inl, inr, true≢false, arith}
+use Rattle.std.proofs.lemmas.Bool.{and_parts, Decides.nat_tests}
 use Rattle.std.specs.{Prelude.⊤, List.starts_with}
 use Rattle.matchit.specs.{Rows.{RowsOf, param_token, catch_all_token}, Router.RouteOf, Seek.own}
 use Rattle.matchit.specs.Seek.{step, or_else, seek, param_step, has_slash}
 use Rattle.matchit.proofs.OnLiterals.{matchit_on_literals}
 use Rattle.http_message.specs.{declared.word.Word.Word, Laws.{WordsBeginPaths, word_start}}
-use Rattle.http_message.specs.Routes.{Table, routes, with_route, word_of}
+use Rattle.http_message.specs.Routes.{routes, with_route, word_of}
 
 -- ---- rows without a parameter
 
@@ -33,11 +33,7 @@ seek_none {K} zero (b ∷ p) =
 
 after_none : {K : Type 0} (rs : RowsOf K) (path p : List ℕ) → rs ≡ []
     → seek ((param_step rs path).0 - 1) (param_step rs path).1 p ≡ None
-after_none {K} rs path p none =
-    ap (λ (rows : RowsOf K). seek ((param_step rows path).0 - 1) (param_step rows path).1 p) none
-    ∙ ap (λ (rows : RowsOf K). seek ((param_step {K = K} [] path).0 - 1) rows p)
-    (param_none {K = K} path)
-    ∙ seek_none {K = K} ((param_step {K = K} [] path).0 - 1) p
+after_none {K} rs path p none = search (rules, none, param_none, seek_none)
 
 at_byte : {K : Type 0} (b : ℕ) (rs : RowsOf K) (p : List ℕ) → step param_token rs ≡ []
     → seek 0 rs (b ∷ p) ≡ or_else (seek 0 (step b rs) p) (own (step catch_all_token rs))
@@ -100,12 +96,8 @@ word_at : (w rest : List ℕ) (word : Word) (below here : RouteOf Word)
     → steps w routes ≡ two_rows below here
     → below.value ≡ word → here.value ≡ word → word_of (w ++ rest) ≡ Some word
 word_at w rest word below here rows b h = elim (at_two below here rest) [
-  | inl is ↦
-      ap (option_map (λ (route : RouteOf Word). route.value))
-      (reaches w routes rest below (ap (λ (rs : Table). seek 0 rs rest) rows ∙ is)) ∙ ap Some b
-  | inr is ↦
-      ap (option_map (λ (route : RouteOf Word). route.value))
-      (reaches w routes rest here (ap (λ (rs : Table). seek 0 rs rest) rows ∙ is)) ∙ ap Some h
+  | inl is ↦ search (rules, option_map, reaches, below, rows, is, b)
+  | inr is ↦ search (rules, option_map, reaches, here, rows, is, h)
 ]
 
 begins : (word : Word) (rest : List ℕ) → word_of (word_start word ++ rest) ≡ Some word
@@ -147,13 +139,7 @@ no_param ((x ∷ t, key) ∷ rs) h = grind (arith, nat_tests, no_param rs h.1)
 plain_step : {K : Type 0} (b : ℕ) (rs : RowsOf K) → ArePlain rs → ArePlain (step b rs)
 plain_step b [] h = tt
 plain_step b (([], key) ∷ rs) h = plain_step b rs h.1
-plain_step {K} b ((x ∷ t, key) ∷ rs) h =
-    let tail = (and_parts (not (x == param_token)) (plain t) h.0).1 in
-    let rest = plain_step b rs h.1 in
-    elim (x == b) as (λ (v : Bool). ArePlain {K = K} (cond v ((t, key) ∷ step b rs) (step b rs))) [
-      | true ↦ (tail, rest)
-      | false ↦ rest
-    ]
+plain_step {K} b ((x ∷ t, key) ∷ rs) h = search (rules, and_parts, h.0, h.1, plain_step b rs h.1)
 
 -- one byte more on both sides
 cut_front : (v w : Bool) (x b : ℕ) (t p : List ℕ) → (x == b) ≡ true
@@ -167,11 +153,7 @@ blocked_step : {K : Type 0} (b : ℕ) (rs : RowsOf K) (p : List ℕ) → Blocked
 blocked_step b [] p h = tt
 blocked_step b (([], key) ∷ rs) p h = blocked_step b rs p h.1
 blocked_step {K} b ((x ∷ t, key) ∷ rs) p h =
-    let rest = blocked_step b rs p h.1 in
-    elim (cases_Bool (x == b)) [
-      | inl same ↦ rw same (cut_front true (x == catch_all_token) x b t p same h.0, rest)
-      | inr other ↦ rw other rest
-    ]
+    let rest = blocked_step b rs p h.1 in search (rules, cut_front, h.0, rest)
 
 own_none : {K : Type 0} (rs : RowsOf K) → Blocked rs [] → own rs ≡ None
 own_none [] h = refl
@@ -252,9 +234,7 @@ blocked_routes path none =
 
 no_word : (path : List ℕ) → ((word : Word) → starts_with nat_eq path (word_start word) ≡ false)
     → word_of path ≡ None
-no_word path none =
-    ap (option_map (λ (route : RouteOf Word). route.value))
-    (blocked path routes plain_routes (blocked_routes path none))
+no_word path none = search (rules, option_map, blocked, plain_routes, blocked_routes, none)
 
 pub words_begin : WordsBeginPaths
 words_begin = (begins, no_word)

@@ -1,14 +1,14 @@
 -- Every path has a target that is read as it.
-use Rattle.std.proofs.Common.{◌≡◌, ℕ, ◌+◌, ◌<◌, Bool, true, false, not, cond, ◌==◌, ◌&&◌, List, []}
-use Rattle.std.proofs.Common.{◌∷◌, ◌++◌, take, drop, map, nat_lt, Some, codes, refl, sym, ap, ◌∙◌}
-use Rattle.std.proofs.Common.{subst, inl, inr, arith, append_assoc, append-nil, true≢false}
+use Rattle.std.proofs.Common.{rules, ◌≡◌, ℕ, ◌+◌, ◌<◌, Bool, true, false, not, cond, ◌==◌, ◌&&◌}
+use Rattle.std.proofs.Common.{List, [], ◌∷◌, ◌++◌, take, drop, map, nat_lt, Some, codes, refl, sym}
+use Rattle.std.proofs.Common.{ap, ◌∙◌, subst, inl, inr, arith, append_assoc, append-nil, true≢false}
 use Rattle.std.proofs.lemmas.Bool.{and_from, and_parts, both_ways, cases_Bool, cond-true, lt-ltb}
 use Rattle.std.proofs.lemmas.Bool.{ltb-true, not-true, Decides.nat_tests}
-use Rattle.std.proofs.lemmas.List.Elements.{All-append, All-cons, All-from_recursion, All-head}
-use Rattle.std.proofs.lemmas.List.{Elements.{All-nil, All-tail}, Folds.list_all-append}
+use Rattle.std.proofs.lemmas.List.Elements.{All-append, All-from_recursion, All-head, All-nil}
+use Rattle.std.proofs.lemmas.List.{Elements.All-tail, Folds.list_all-append}
 use Rattle.std.proofs.lemmas.{List.Sums.list_all-from_AllPass, Str.IsUtf8-append}
-use Rattle.std.proofs.lemmas.Str.{IsUtf8-from_ascii, Ascii.IsAscii-from_all}
-use Rattle.std.specs.{List.{All, AllByRecursion, flat_map, list_all, position_or_len}, Str.IsUtf8}
+use Rattle.std.{proofs.lemmas.Str.{IsUtf8-from_ascii, Ascii.IsAscii-from_all}, specs.List.All}
+use Rattle.std.specs.{List.{AllByRecursion, flat_map, list_all, position_or_len}, Str.IsUtf8}
 use Rattle.percent_encoding.specs.AsciiSet.{contains, should_percent_encode}
 use Rattle.percent_encoding.specs.Percent.{percent_encode, percent_encode_byte, percent_decode}
 use Rattle.percent_encoding.specs.declared.ascii_set.AsciiSet.{AsciiSet}
@@ -19,15 +19,13 @@ use Rattle.percent_encoding.proofs.PercentLemmas.{percent_encode-nil, percent_en
 use Rattle.percent_encoding.proofs.PercentLemmas.{percent_encode_kept, percent_decode-nil}
 use Rattle.percent_encoding.proofs.PercentLemmas.{percent_decode-percent_encode_byte}
 use Rattle.percent_encoding.proofs.PercentLemmas.{percent_decode_not_percent}
-use Rattle.room_entry.specs.Utf8.{is_utf8}
-use Rattle.room_rows.specs.{Laws.PathReadsBack, Paths.{is_object_name, is_path, path_of, path_text}}
+use Rattle.room_entry.{specs.Utf8.is_utf8, proofs.Texts.passes_as_utf8}
+use Rattle.room_rows.specs.{Laws.PathReadsBack, Paths.{is_object_name, is_path, path_text}}
 use Rattle.room_rows.proofs.Utf8.{text_from}
-use Rattle.http_message.specs.declared.{word.Word.Word, fault.HttpFault.HttpFault}
-use Rattle.http_message.specs.{Asked.{target_path, told}, Laws.{EveryPathHasATarget, IsReadAs}}
+use Rattle.http_message.specs.{declared.word.Word.Word, Laws.{EveryPathHasATarget, IsReadAs}}
 use Rattle.http_message.specs.{Laws.target_to, Routes.word_of, Target.{is_mark, named_path}}
 use Rattle.http_message.specs.{Target.{path_part, query_part}, Words.word_text}
 use Rattle.http_message.proofs.Seeking.{words_begin}
-use Rattle.room_entry.proofs.Texts.{passes_as_utf8}
 use lib.Utf8.{encode, encodes, scalar, scalars, scalar_cases}
 
 -- ---- text is bytes
@@ -70,9 +68,7 @@ decoded set (b ∷ bs) rest has small =
       | inr kept ↦
           ap (λ (l : List ℕ). percent_decode (l ++ rest)) (percent_encode_kept set b bs kept)
           ∙ percent_decode_not_percent b (percent_encode set bs ++ rest)
-          (λ percent. both_ways _ kept
-          (subst (λ (x : ℕ). should_percent_encode set x ≡ true) (sym percent)
-          (escaped_from_inside set 37 has)))
+          (search (rules, both_ways, kept, set, escaped_from_inside, has))
           ∙ more
     ]
 
@@ -168,8 +164,7 @@ joined_plain : (set : AsciiSet) (names : List (List ℕ)) → contains set 63 �
     → list_all is_plain (joined (map (percent_encode set) names)) ≡ true
 joined_plain set [] has = refl
 joined_plain set (name ∷ names) has =
-    both_plain (percent_encode set name) (joined (map (percent_encode set) names))
-    (encoded_is_plain set name has) (joined_plain set names has)
+    search (rules, both_plain, set, encoded_is_plain, has, joined_plain set names has)
 
 path_plain : (set : AsciiSet) (names : List (List ℕ)) → contains set 63 ≡ true
     → list_all is_plain (path_text (map (percent_encode set) names)) ≡ true
@@ -241,18 +236,12 @@ read_with reads set word names rest percent mark is utf8 last =
       passes = cond-true _ _ _ is_text;
       has_word = ap word_of path ∙ worded word text first;
       has_path =
-          ap (target_path word) path
-          ∙ ap (λ (l : List ℕ). told HttpFault.BadPath (path_of l))
-          (named word text first ∙ path_decoded set names percent good)
-          ∙ ap (told HttpFault.BadPath) (reads names is);
+          search (rules, word, path, named, text, path_decoded, set, percent, good, reads, is);
       has_query = cut.1;
     }
 
 one_mark : IsUtf8 (63 ∷ [])
-one_mark =
-    IsUtf8-from_ascii (63 ∷ [])
-    (IsAscii-from_all (63 ∷ [])
-    (All-cons (λ b. b < 128) 63 [] (omega arith) (All-nil (λ b. b < 128))))
+one_mark = search rules
 
 pub has_target : PathReadsBack → EveryPathHasATarget
 has_target reads set word names percent mark is =

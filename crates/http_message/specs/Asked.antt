@@ -2,6 +2,7 @@
 use Rattle.std.specs.Prelude.{ℕ, List, [], ◌∷◌, Option, Some, None, Result, Ok, Err, if◌then◌else◌}
 use Rattle.std.specs.Prelude.{codes}
 use Rattle.serde_json.specs.Data.{Data}
+use Rattle.room_entry.specs.Gives.{told}
 use Rattle.room_entry.specs.Names.{is_name, name_of}
 use Rattle.room_entry.specs.Letters.{read_mask_of}
 use Rattle.room_ace.specs.Lists.{sent_of}
@@ -30,11 +31,6 @@ and_then (Ok value) rest = rest value
 abbrev pub or_fault : {A F : Type 0} → Option A → F → Result A F
 or_fault (Some value) fault = Ok value
 or_fault None fault = Err fault
-
--- a result with its fault mapped
-abbrev pub told : {A E F : Type 0} → (E → F) → Result A E → Result A F
-told words (Ok value) = Ok value
-told words (Err fault) = Err (words fault)
 
 -- 7 and 8: the route, and the methods of its word
 abbrev pub asked_action : Verb → List ℕ → Result (Word × Action) HttpFault

@@ -13,7 +13,7 @@ use crate::head::{Field, Head};
 use crate::routes::Routes;
 use crate::target::{named_path, parts_of};
 use crate::word::{Action, Verb, Word, verb_of};
-use room_ace::{Failure, Mask, Name, SentList, Which, read_list, read_mask};
+use room_ace::{Failure, Mask, Name, SentList, Which, map_fault, read_list, read_mask};
 use room_machine::Request;
 use room_rows::{Bytes, Path, read_path};
 use std::alloc::{AllocError, Global};
@@ -85,11 +85,7 @@ fn target_path(alloc: Global, word: Word, path: &str) -> Result<Path, Failure<Ht
     ensures { Gives result (target_path word path.now) }
 {
     let bytes = named_path(alloc, word, path)?;
-    match read_path(alloc, bytes.as_slice()) {
-        Ok(path) => Ok(path),
-        Err(Failure::OutOfMemory) => Err(Failure::OutOfMemory),
-        Err(Failure::Fault(fault)) => Err(Failure::Fault(HttpFault::BadPath(fault))),
-    }
+    map_fault(read_path(alloc, bytes.as_slice()), HttpFault::BadPath)
 }
 
 // The mask of the query, where one is asked.
@@ -98,10 +94,7 @@ fn asked_mask(action: Action, query: &str) -> Result<Mask, Failure<HttpFault>>
 {
     match action {
         Action::Can => asked_bits(query),
-        Action::Read | Action::List | Action::Write | Action::Append => Ok(Mask::empty()),
-        Action::MakeFolder | Action::Remove | Action::Move => Ok(Mask::empty()),
-        Action::ReadList(_) | Action::SetList(_) => Ok(Mask::empty()),
-        Action::ReadAttr | Action::SetOwners => Ok(Mask::empty()),
+        _ => Ok(Mask::empty()),
     }
 }
 
@@ -109,10 +102,7 @@ fn asked_mask(action: Action, query: &str) -> Result<Mask, Failure<HttpFault>>
 fn asked_bits(query: &str) -> Result<Mask, Failure<HttpFault>>
     ensures { Gives result (asked_bits query.now) }
 {
-    match read_mask(query) {
-        Ok(mask) => Ok(mask),
-        Err(_) => Err(Failure::Fault(HttpFault::BadMask)),
-    }
+    read_mask(query).map_err(|_| Failure::Fault(HttpFault::BadMask))
 }
 
 // The caller and the request, on a path and with a mask.
@@ -201,9 +191,5 @@ fn set_owners_in(alloc: Global, path: Path, body: &[u8]) -> Result<Request, Fail
 fn list_in(alloc: Global, body: &[u8]) -> Result<SentList, Failure<HttpFault>>
     ensures { Gives result (list_in body.now) }
 {
-    match read_list(alloc, body) {
-        Ok(list) => Ok(list),
-        Err(Failure::OutOfMemory) => Err(Failure::OutOfMemory),
-        Err(Failure::Fault(fault)) => Err(Failure::Fault(HttpFault::BadList(fault))),
-    }
+    map_fault(read_list(alloc, body), HttpFault::BadList)
 }

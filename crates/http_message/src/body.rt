@@ -7,7 +7,7 @@ ghost use Rattle.http_message.specs.Asked.{path_under};
 ghost use Rattle.http_message.specs.Json.{json_of, text_under};
 
 use crate::fault::HttpFault;
-use room_ace::{Failure, Name, Owners, read_name, text_of};
+use room_ace::{Failure, Name, Owners, map_fault, read_name, text_of};
 use room_rows::{Path, Text, read_path};
 use serde_json::Value;
 use std::alloc::{AllocError, Global};
@@ -44,10 +44,7 @@ fn text_under(alloc: Global, key: &str, value: &Option<Value>) -> Result<Option<
         None => return Ok(None),
     };
     match member.as_str() {
-        Some(found) => match Text::from_str(alloc, found) {
-            Ok(text) => Ok(Some(text)),
-            Err(e) => Err(e),
-        },
+        Some(found) => Ok(Some(Text::from_str(alloc, found)?)),
         None => Ok(None),
     }
 }
@@ -74,11 +71,7 @@ fn path_at(alloc: Global, key: &str, value: &Option<Value>) -> Result<Path, Fail
 fn asked_path(alloc: Global, text: &str) -> Result<Path, Failure<HttpFault>>
     ensures { Gives result (asked_path text.now) }
 {
-    match read_path(alloc, text.as_bytes()) {
-        Ok(path) => Ok(path),
-        Err(Failure::OutOfMemory) => Err(Failure::OutOfMemory),
-        Err(Failure::Fault(_)) => Err(Failure::Fault(HttpFault::BadBody)),
-    }
+    map_fault(read_path(alloc, text.as_bytes()), |_| HttpFault::BadBody)
 }
 
 // The name under a key of a value.
@@ -95,11 +88,7 @@ fn name_under(alloc: Global, key: &str, value: &Option<Value>) -> Result<Name, F
 fn asked_name(alloc: Global, text: &str) -> Result<Name, Failure<HttpFault>>
     ensures { Gives result (asked_name text.now) }
 {
-    match read_name(alloc, text) {
-        Ok(name) => Ok(name),
-        Err(Failure::OutOfMemory) => Err(Failure::OutOfMemory),
-        Err(Failure::Fault(_)) => Err(Failure::Fault(HttpFault::BadBody)),
-    }
+    map_fault(read_name(alloc, text), |_| HttpFault::BadBody)
 }
 
 // The owners that a body says.

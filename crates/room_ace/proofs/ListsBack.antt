@@ -1,27 +1,26 @@
 -- What is printed of a list is read back.
-use Rattle.std.proofs.Common.{ℕ, ◌≡◌, ◌+◌, ◌≤◌, Bool, true, false, not, ◌||◌, List, [], ◌∷◌, ◌++◌}
+use Rattle.std.proofs.Common.{rules, ℕ, ◌≡◌, ◌+◌, Bool, true, false, not, ◌||◌, List, [], ◌∷◌, ◌++◌}
 use Rattle.std.proofs.Common.{map, length, Option, Some, None, Ok, if◌then◌else◌, refl, sym, ap}
 use Rattle.std.proofs.Common.{◌∙◌, append_assoc, append-nil, length-append, codes, arith}
 use Rattle.std.proofs.lemmas.Bool.{and_parts, and_from, false≢true, cond-true, cond-false}
 use Rattle.std.proofs.lemmas.{Bool.{ltb-false, le-ltb, Decides.nat_tests}, List.Elements.All-head}
-use Rattle.std.proofs.lemmas.List.Elements.{All-tail, filter-append}
-use Rattle.std.specs.{Prelude.{filter, ◌==◌, nat_lt}, List.{All, list_all, flat_map}}
-use Rattle.std.specs.List.{enumerate_from}
+use Rattle.std.{proofs.lemmas.List.Elements.{All-tail, filter-append}, specs.Prelude.{filter, ◌==◌}}
+use Rattle.std.specs.{Prelude.nat_lt, List.{All, list_all, flat_map, enumerate_from}}
 use Rattle.room_entry.specs.{Bits.{all_bits, has}, Pieces.pieces, Ace.Ace, Letters.kind_text}
 use Rattle.room_entry.specs.Letters.{letter_if, flags_text, mask_letters, mask_text, letter_of}
 use Rattle.room_entry.specs.{Utf8.is_utf8, Laws.{has_name, IsEntry}}
 use Rattle.room_entry.specs.declared.entry.{EntryKind.EntryKind, Who.Who}
 use Rattle.room_entry.specs.declared.fault.ListFault.{ListFault, TheVariants.TooManyEntries}
 use Rattle.room_entry.specs.declared.fault.ListFault.TheVariants.{TooManyOwn}
+use Rattle.room_entry.proofs.{Texts.all-append, Visible.{is_visible, are_visible, visible_name}}
+use Rattle.room_entry.proofs.{Visible.visible_utf8, Facts.Lists.all_implied}
 use Rattle.room_ace.specs.{Sent.{Sent, own_of, limit_fault}, Text.{who_text, entry_text, entry_of}}
 use Rattle.room_ace.specs.Lists.{entry_lines, list_text, without_return, lines_of_pieces, lines_of}
 use Rattle.room_ace.specs.Lists.{is_blank, is_comment, numbered_lines, flags_of_list, fault_at}
 use Rattle.room_ace.specs.{Lists.{with_entry, entries_after, sent_of_lines}, Column.entry_in}
 use Rattle.room_ace.specs.{Column.{entries_behind, entries_of}, Laws.ListReadsBack}
-use Rattle.room_ace.specs.declared.fault.Why.TheVariants.{NotUtf8}
-use Rattle.room_ace.proofs.RoundTrip.{apart, pieces_at, all_flags, all-map, of_known, reads_back}
-use Rattle.room_entry.proofs.{Texts.all-append, Visible.{is_visible, are_visible, visible_name}}
-use Rattle.room_entry.proofs.{Visible.visible_utf8, Facts.Lists.all_implied}
+use Rattle.room_ace.{specs.declared.fault.Why.TheVariants.NotUtf8, proofs.RoundTrip.apart}
+use Rattle.room_ace.proofs.RoundTrip.{pieces_at, all_flags, all-map, of_known, reads_back}
 
 -- ---- a printed entry is of visible ASCII bytes
 
@@ -37,9 +36,7 @@ visible_letters = refl
 
 visible_mask : (mask : List ℕ) → filter (has mask) all_bits ≡ mask
     → are_visible (mask_text mask) ≡ true
-visible_mask mask known =
-    all-map is_visible letter_of mask
-    (of_known mask known (λ bit. is_visible (letter_of bit)) visible_letters)
+visible_mask mask known = search (rules, all-map, of_known, known, visible_letters)
 
 visible_entry : (entry : Ace) → IsEntry entry → are_visible (entry_text entry) ≡ true
 visible_entry entry ok =
@@ -162,16 +159,7 @@ no_fault many own none = grind (arith, nat_tests)
 limit_front : (first rest : List Ace) → limit_fault (first ++ rest) ≡ None
     → (nat_lt 4096 (length first) ≡ false) × (nat_lt 64 (length (own_of first)) ≡ false)
 limit_front first rest none =
-    let parts = no_fault (nat_lt 4096 (length (first ++ rest)))
-    (nat_lt 64 (length (own_of (first ++ rest)))) none in
-    let many : length (first ++ rest) ≤ 4096 = ltb-false 4096 (length (first ++ rest)) parts.0 in
-    let own : length (own_of (first ++ rest)) ≤ 64 = ltb-false 64
-    (length (own_of (first ++ rest))) parts.1 in
-    let split : length (own_of (first ++ rest)) ≡ length (own_of first ++ own_of rest) =
-    cc (filter-append (λ (entry : Ace). not entry.flags.inherited) first rest) in (
-      le-ltb 4096 (length first) (omega (arith, length-append first rest)),
-      le-ltb 64 (length (own_of first)) (omega (arith, length-append (own_of first) (own_of rest))),
-    )
+    search (rules, no_fault, none, ltb-false, filter-append, le-ltb, length-append)
 
 -- ---- the entries
 

@@ -1,10 +1,9 @@
 -- What spells an entry is ASCII.
-use Rattle.std.proofs.Common.{ℕ, ◌≡◌, Bool, true, false, cond, List, [], ◌∷◌, Option, Some, None}
-use Rattle.std.proofs.Common.{Result, Ok, refl, sym, ◌∙◌, subst, inl, inr, ◌++◌, arith}
-use Rattle.std.proofs.lemmas.Bool.{cases_Bool, cond-false, or_left, Decides.nat_tests}
+use Rattle.std.proofs.Common.{rules, ℕ, ◌≡◌, Bool, true, false, cond, List, [], ◌∷◌, Option, Some}
+use Rattle.std.proofs.{Common.{None, Result, Ok, refl, subst, ◌++◌, arith}, lemmas.Bool.cond-false}
+use Rattle.std.proofs.lemmas.Bool.{or_left, Decides.nat_tests}
 use Rattle.std.proofs.lemmas.List.Splits.{join_with_byte-slice_split}
 use Rattle.std.specs.{Prelude.nat_lt, List.{list_all, join_with_byte}}
-use Rattle.std.specs.Cmp.Lexicographic.{same_text as text_equal}
 use Rattle.room_entry.specs.{Pieces.{pieces, is_among, same_text}, Ace.Ace, Letters.kind_of}
 use Rattle.room_entry.specs.{Letters.{flags_of, mask_letters, mask_of}, Utf8.is_utf8}
 use Rattle.room_entry.specs.declared.entry.{EntryKind.EntryKind, Who.Who}
@@ -24,10 +23,7 @@ or_word : {A : Type 0} (text word : List ℕ) (value known : A) (others : Option
     → are_ascii word ≡ true → cond (same_text text word) (Some value) others ≡ Some known
     → (others ≡ Some known → are_ascii text ≡ true) → are_ascii text ≡ true
 or_word text word value known others plain some rest =
-    elim (cases_Bool (same_text text word)) [
-      | inl same ↦ subst (λ t. are_ascii t ≡ true) (sym (text_equal text word (sym same))) plain
-      | inr other ↦ rest (sym (cond-false (same_text text word) (Some value) others other) ∙ some)
-    ]
+    search (rules, plain, rest, cond-false, value, some)
 
 -- what passes is there
 if_some : {A : Type 0} (b : Bool) (value known : A) → cond b (Some value) None ≡ Some known

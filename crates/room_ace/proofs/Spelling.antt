@@ -1,9 +1,9 @@
 -- A text is read as a list exactly if it spells it.
-use Rattle.std.proofs.Common.{ℕ, ◌≡◌, ◌+◌, Bool, true, not, ◌||◌, List, [], ◌∷◌, ◌++◌, map, Option}
-use Rattle.std.proofs.Common.{Some, None, Result, Ok, Err, cond, refl, sym, ap, ◌∙◌, subst, inl}
-use Rattle.std.proofs.{Common.{inr, append_assoc, append-nil, arith}, lemmas.Bool.cases_Bool}
+use Rattle.std.proofs.Common.{rules, ℕ, ◌≡◌, ◌+◌, Bool, true, not, ◌||◌, List, [], ◌∷◌, ◌++◌, map}
+use Rattle.std.proofs.Common.{Option, Some, None, Result, Ok, Err, cond, refl, sym, ap, ◌∙◌, subst}
+use Rattle.std.proofs.{Common.{inl, inr, append_assoc, append-nil, arith}, lemmas.Bool.cases_Bool}
 use Rattle.std.proofs.lemmas.{Bool.{cond-true, Decides.nat_tests}, List.Elements.All-head}
-use Rattle.std.proofs.lemmas.List.Elements.{All-tail, All-cons, All-nil}
+use Rattle.std.proofs.lemmas.List.Elements.{All-tail, All-cons}
 use Rattle.std.specs.{Prelude.filter, List.{All, AllZip, enumerate_from}}
 use Rattle.room_entry.specs.{Ace.Ace, Utf8.is_utf8, declared.flags.ListFlags.ListFlags}
 use Rattle.room_entry.specs.declared.fault.{ListFault.ListFault, TextFault.TextFault}
@@ -74,14 +74,7 @@ read_entries : (before : List Ace) (lines : List (ℕ × List ℕ)) (out : List 
     → limit_fault before ≡ None → entries_after before lines ≡ Ok out
     → (entries : List Ace) × (out ≡ before ++ entries) × All IsText (texts_of lines)
     × AllZip IsEntry (texts_of lines) entries × (limit_fault out ≡ None)
-read_entries before [] out limit is =
-    let same : before ≡ out = cc in (
-      [],
-      sym same ∙ sym (append-nil before),
-      All-nil IsText,
-      tt,
-      ap limit_fault (sym same) ∙ limit,
-    )
+read_entries before [] out limit is = search (rules, append-nil, limit)
 read_entries before (line ∷ lines) out limit is =
     let first = read_line line.0 line.1 before out (λ entries. entries_after entries lines) is in
     let rest = read_entries (before ++ first.1.0 ∷ []) lines out first.1.2 first.1.3 in (

@@ -10,12 +10,9 @@ use Rattle.room_ace.specs.Sent.{Sent, limit_fault}
 use Rattle.room_entry.specs.Utf8.{is_utf8}
 use Rattle.room_ace.specs.Lists.{lines_of, is_blank, is_comment, fault_at, and_then}
 use Rattle.room_ace.specs.Lists.{with_entry, entries_after}
-use Rattle.room_entry.specs.declared.failure.Failure.{Failure}
-use Rattle.room_entry.specs.declared.failure.Failure.TheVariants.{OutOfMemory, Fault}
 use Rattle.room_entry.specs.declared.flags.ListFlags.{ListFlags}
 use Rattle.room_entry.specs.declared.fault.ListFault.{ListFault}
 use Rattle.room_ace.specs.declared.fault.LineFault.{LineFault}
-use Rattle.room_ace.specs.declared.fault.Why.{Why}
 use Rattle.room_ace.specs.declared.fault.Why.TheVariants.{NotUtf8}
 
 -- the lines that are neither blank nor comments, numbered, with this many lines before them
@@ -50,8 +47,3 @@ abbrev pub sent_after : ListFlags → List Ace → List (ℕ × List ℕ) → Re
 sent_after flags before lines =
     and_then (entries_after before lines)
     (λ entries. Ok (record { flags = flags; entries = entries }))
-
--- the failure, with the number of its line
-abbrev pub failure_at : {F : Type 0} → ℕ → (F → Why) → Failure F → Failure LineFault
-failure_at line why OutOfMemory = OutOfMemory
-failure_at line why (Fault fault) = Fault (record { line = line; why = why fault })

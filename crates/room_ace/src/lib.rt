@@ -20,6 +20,7 @@ pub use list_text::{print_list, read_list};
 pub use room_entry::{
     Caller, Entries, Entry, EntryFault, EntryFlags, EntryKind, Failure, Items, LONGEST_PART,
     ListFault, ListFlags, MOST_BYTES, MOST_ENTRIES, MOST_OWN, Mask, Name, Names, ObjKind, Owners,
-    TextFault, Which, Who, first_bad_entry, matches, names_are_text, read_mask, read_name, valid,
+    TextFault, Which, Who, first_bad_entry, map_fault, matches, names_are_text, read_mask,
+    read_name, valid,
 };
 pub use sent::SentList;

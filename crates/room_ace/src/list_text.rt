@@ -3,16 +3,15 @@ ghost use Rattle.std.specs.Prelude.{◌≡◌, ◌++◌, ◌∷◌, ◌+◌, ◌
 ghost use Rattle.std.specs.Prelude.{string_bytes};
 ghost use Rattle.room_ace.specs.Lists.{list_text, sent_of};
 ghost use Rattle.room_entry.specs.Gives.{Gives};
-ghost use Rattle.room_ace.specs.Reading.{failure_at, lines_after, sent_after, with_line};
+ghost use Rattle.room_ace.specs.Reading.{lines_after, sent_after, with_line};
 ghost use Rattle.room_entry.specs.declared.failure.Failure.TheVariants.{Fault};
-ghost use Rattle.room_ace.specs.declared.fault.Why.TheVariants.{Entry as Told, List as Limit};
 
 use crate::entry_text::{push_if, read_entry, write_line};
 use crate::fault::{LineFault, Why};
 use crate::lines::text_of;
 use crate::list_lines::{ListLines, flags_of_list};
 use crate::sent::{EntriesWithin, SentList};
-use room_entry::{Entry, Failure, ListFault, ListFlags, TextFault};
+use room_entry::{Entry, Failure, ListFlags, map_fault};
 use std::alloc::{AllocError, Global};
 
 /// The list that the bytes spell, or the fault of the first line that has one.
@@ -63,42 +62,29 @@ fn with_line(
 ) -> Result<EntriesWithin, Failure<LineFault>>
     ensures { Gives result (with_line number before line.now) }
 {
-    match text_of(line) {
-        None => Err(fault_at(number, Why::NotUtf8)),
-        Some(text) => match read_entry(alloc, text) {
-            Err(failure) => Err(entry_failure(number, failure)),
-            Ok(entry) => match before.with(entry) {
-                Err(failure) => Err(limit_failure(number, failure)),
-                Ok(entries) => Ok(entries),
-            },
+    let Some(text) = text_of(line) else {
+        return Err(fault_at(number, Why::NotUtf8));
+    };
+    let entry = map_fault(
+        read_entry(alloc, text),
+        |fault| LineFault {
+            line: number,
+            why: Why::Entry(fault),
         },
-    }
+    )?;
+    map_fault(
+        before.with(entry),
+        |fault| LineFault {
+            line: number,
+            why: Why::List(fault),
+        },
+    )
 }
 
 fn fault_at(line: usize, why: Why) -> Failure<LineFault>
     ensures { result ≡ Fault (record { line = line; why = why }) }
 {
     Failure::Fault(LineFault { line, why })
-}
-
-// Why the entry of this line has no answer.
-fn entry_failure(line: usize, failure: Failure<TextFault>) -> Failure<LineFault>
-    ensures { result ≡ failure_at line Told failure }
-{
-    match failure {
-        Failure::OutOfMemory => Failure::OutOfMemory,
-        Failure::Fault(fault) => fault_at(line, Why::Entry(fault)),
-    }
-}
-
-// Why the entry of this line is one too many.
-fn limit_failure(line: usize, failure: Failure<ListFault>) -> Failure<LineFault>
-    ensures { result ≡ failure_at line Limit failure }
-{
-    match failure {
-        Failure::OutOfMemory => Failure::OutOfMemory,
-        Failure::Fault(fault) => fault_at(line, Why::List(fault)),
-    }
 }
 
 /// The printed form of a list.

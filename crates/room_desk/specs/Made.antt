@@ -2,9 +2,8 @@
 use Rattle.std.specs.Prelude.{◌≡◌, ℕ, ◌<◌, List, length, Option, Some, None, IsTrue}
 use Rattle.room_entry.specs.declared.object.ObjKind.{ObjKind}
 use Rattle.room_entry.specs.declared.parties.Caller.{Caller}
-use Rattle.room_rows.specs.declared.node.NewNode.{NewNode}
 use Rattle.room_rows.specs.declared.node.Node.{Node}
-use Rattle.room_rows.specs.Keep.{Adds}
+use Rattle.room_rows.specs.Keep.{Addition, Adds}
 use Rattle.room_rows.specs.Paths.{is_object_name}
 use Rattle.room_rows.specs.Rows.{Rows}
 use Rattle.room_judge.specs.declared.asker.Asker.{Asker}
@@ -24,7 +23,7 @@ pub record IsNameOf (path : List (List ℕ)) (name : List ℕ) : Type 0 where
   pub sound : IsTrue (is_object_name name)
 
 -- it gets some number
-abbrev pub IsMade : NewNode → Rows → Rows → Type 0
+abbrev pub IsMade : Addition → Rows → Rows → Type 0
 IsMade node old new = (id : ℕ) × Adds node old id new
 
 -- an object of this kind and name is made under the parent

@@ -5,7 +5,7 @@ ghost use Rattle.room_entry.specs.Rights.{append_data, write_data};
 ghost use Rattle.room_rows.specs.Keep.{CanAdd, IsDamaged, IsUnreadable, SetsBody};
 ghost use Rattle.room_judge.specs.Halted.{Serves, TriesUpTo, replied};
 ghost use Rattle.room_desk.specs.Made.{IsNameOf, IsJudgedAndDone, IsMade, MakesChild};
-ghost use Rattle.room_machine.specs.Changed.{new_child, owners_under, passed_held};
+ghost use Rattle.room_machine.specs.Changed.{child_node, new_child, owners_under, passed_held};
 ghost use Rattle.room_machine.specs.Plan.{Check, Refusal, no_folder, not_over};
 ghost use Rattle.room_judge.specs.Stored.{found_site};
 ghost use Rattle.room_machine.specs.declared.reply.Reason.TheVariants.{Exists};
@@ -224,19 +224,19 @@ fn add_child<K: Keep>(
     ensures counted { K.reads keep.new ≤ K.reads keep.old }
 {
     let node = child_at(alloc, asker, parent, child)?;
-    keep.add(node)?;
+    keep.add(node, child.bytes.as_slice())?;
     Ok(Reply::Made)
 }
 
-// The object under the parent, with what it is passed.
+// The object under the parent, with what it is passed. Its bytes may be many, and aren't copied.
 fn child_at(
     alloc: Global,
     asker: &Asker,
     parent: &Node,
     child: &NewChild<'_>,
 ) -> Result<NewNode, AllocError>
-    ensures { IfOk result (λ node. node ≡ new_child asker.now.caller child.now.kind parent.now
-        child.now.name.now child.now.bytes.now) }
+    ensures { IfOk result (λ node. node ≡ child_node asker.now.caller child.now.kind parent.now
+        child.now.name.now) }
 {
     let dacl = passed_list(alloc, child.kind, &parent.dacl)?;
     let sacl = passed_list(alloc, child.kind, &parent.sacl)?;
@@ -249,7 +249,6 @@ fn child_at(
         owners,
         dacl,
         sacl,
-        bytes: Bytes::from_slice(alloc, child.bytes.as_slice())?,
     })
 }
 

@@ -26,7 +26,7 @@ use std::alloc::Global;
 /// from 1970-01-01 00:00 UTC. From sound rows the reply and what the rows then mean are a step of
 /// the room machine, and the rows are sound again. A fault of the keeper ends the request. What the
 /// keeper holds then depends on the transaction around the call alone. `Damaged` names a row that
-/// can't be read or a document without bytes, or is 0 where there is no root.
+/// can't be read or a document without bytes, and `NoRoot` comes only where there is no root.
 ///
 /// From any rows, damaged ones too, each check that stands before the reply in the request's plan
 /// was granted by the lists as they are stored, and its records are added. A request that only

@@ -75,9 +75,7 @@ later_one a b c d e = omega (arith, e)
 pub count_append : {A : Type 0} (p : A → Bool) (xs ys : List A)
     → count p (xs ++ ys) ≡ count p xs + count p ys
 count_append p [] ys = omega arith
-count_append p (x ∷ xs) ys =
-    ap (λ (n : ℕ). one_if (p x) + n) (count_append p xs ys)
-    ∙ sym (add_assoc (one_if (p x)) (count p xs) (count p ys))
+count_append p (x ∷ xs) ys = grind (arith, one_if, p, add_assoc, count, count_append p xs ys)
 
 pub count_reverse : {A : Type 0} (p : A → Bool) (xs : List A) → count p (reverse xs) ≡ count p xs
 count_reverse p [] = refl
@@ -139,10 +137,7 @@ pub each_counted : {A : Type 0} (xs : List A)
 each_counted [] = tt
 each_counted {A} (x ∷ xs) = (
   λ p. no_less (one_if (p x)) (count p xs),
-  each_weaker (λ (y : A). (p : A → Bool) → count p (y ∷ []) ≤ count p xs)
-      (λ (y : A). (p : A → Bool) → count p (y ∷ []) ≤ count p (x ∷ xs))
-      (λ y less p. one_more (count p (y ∷ [])) (count p xs) (one_if (p x)) (less p)) xs
-      (each_counted xs),
+  grind (arith, each_weaker, count, one_more, one_if, each_counted xs),
 )
 
 -- where none is counted, none passes

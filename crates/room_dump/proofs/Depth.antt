@@ -1,6 +1,6 @@
 -- How deep a tree is written: no deeper than there are objects that weren't reached yet.
-use Rattle.std.proofs.Common.{◌≡◌, ℕ, zero, suc, ◌+◌, ◌<◌, ◌≤◌, ◌==◌, Bool, true, false, cond, not}
-use Rattle.std.proofs.Common.{List, [], ◌∷◌, ◌++◌, filter, Option, Some, None, refl, ap, subst, ◌∙◌}
+use Rattle.std.proofs.Common.{rules, ◌≡◌, ℕ, zero, suc, ◌+◌, ◌<◌, ◌≤◌, ◌==◌, Bool, true, false, not}
+use Rattle.std.proofs.Common.{List, [], ◌∷◌, ◌++◌, filter, Option, Some, None, ap, subst, ◌∙◌}
 use Rattle.std.proofs.{Common.arith, lemmas.Bool.{false≢true, eqb-true, eq-eqb}}
 use Rattle.std.specs.{List.{flat_map, AllByRecursion as Each}, Option.option_map_or}
 use Rattle.room_rows.specs.{declared.node.Node.Node, Content.{Content, children_of, has_parent}}
@@ -32,9 +32,7 @@ one_parent x y node apart is = on node.parent is
 pub all_still : (content : Content) (rest : List Node) (node other : Node)
     → is_number node.id other ≡ false → HasAll content rest other
     → HasAll content (others node rest) other
-all_still content rest node other apart all =
-    filter_weaker (has_parent other.id) (λ n. not (has_parent node.id n))
-    (λ n is. one_parent other.id node.id n apart is) rest ∙ all
+all_still content rest node other apart all = search (rules, filter_weaker, one_parent, apart)
 
 less_by_one : (a b c : ℕ) → 1 + a ≤ b → b < suc c → a < c
 less_by_one a b c e less = omega (arith, e, less)
@@ -55,10 +53,7 @@ not_below_zero n less = omega (arith, less)
 pub apart_from : (node : Node) (rest : List Node) → IsOnce node rest
     → Each (λ n. is_number node.id n ≡ false) rest
 apart_from node rest once =
-    none_counted (is_number node.id) rest
-    (none_more (count (is_number node.id) rest)
-    (subst (λ t. (cond t 1 0 + 0) + count (is_number node.id) rest ≤ 1)
-    (eq-eqb node.id node.id refl) (once node.id)))
+    none_counted (is_number node.id) rest (grind (arith, none_more, count, node.id, eq-eqb, once))
 
 below_next : (a b : ℕ) → a < b → a < suc b
 below_next a b less = omega (arith, less)
@@ -104,9 +99,7 @@ module _ {P X : Type 0} (below : P → Node → Node → P) (tell : P → Node �
           (count_parts p (has_parent node.id) rest) in
           before left (below place node child) child has
           (each_filter (HasAll content left) (λ n. not (has_parent node.id n)) rest still)
-          (λ id. at_most_one (count (is_number id) (child ∷ []) + count (is_number id) left)
-          (count (is_number id) rest) (fewer (is_number id)) (count (is_number id) (node ∷ []))
-          (once id))
+          (grind (arith, at_most_one, count, rest, fewer, node, once))
           (less_by_one (count always left) (count always rest) d (fewer always) less)
           (less_by_one (count always left) (count always rest) e (fewer always) less')
 

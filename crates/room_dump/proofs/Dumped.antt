@@ -1,14 +1,14 @@
 -- The text of a room, from what a walk comes to.
-use Rattle.std.proofs.Common.{◌≡◌, ℕ, ◌&&◌, Bool, List, [], ◌∷◌, ◌++◌, length, Some, refl, sym, ap}
-use Rattle.std.proofs.{Common.{subst, ◌∙◌, inl, inr, append_assoc}, lemmas.List.append-nil}
-use Rattle.std.specs.{List.{flat_map, list_all}, Prelude.is_some, Option.option_map_or}
+use Rattle.std.proofs.Common.{arith, rules, ◌≡◌, ℕ, ◌&&◌, Bool, List, [], ◌∷◌, ◌++◌, length, Some}
+use Rattle.std.proofs.{Common.{refl, sym, ap, ◌∙◌, inl, inr, append_assoc}, lemmas.List.append-nil}
+use Rattle.std.specs.{List.{flat_map, list_all}, Prelude.is_some}
 use Rattle.room_rows.specs.{declared.node.Node.Node, Content.{body_of, node_at, root_of}}
 use Rattle.room_rows.specs.{Keep.IsDamaged, Rows.{AreRows, Rows, numbers_of}}
 use Rattle.room_dump.specs.{declared.visiting.{Below.Below, Visit.Visit}, Dump.{IsDumpText, all_of}}
 use Rattle.room_dump.specs.Dump.{child_path, has_bytes, itself, object_lines, tree_of}
 use Rattle.room_dump.specs.Telling.{AddsAll, AddsOne, IsUntellable, has_its_bytes, visit_lines}
-use Rattle.room_dump.specs.Visits.{GoesOn, IsFrom, IsThere, Reached, coming, first_visit, Way}
-use Rattle.room_dump.specs.Visits.{visit_on, visits_from, way_below}
+use Rattle.room_dump.specs.Visits.{GoesOn, IsFrom, IsThere, coming, first_visit, Way, visit_on}
+use Rattle.room_dump.specs.Visits.{visits_from, way_below}
 use Rattle.room_dump.proofs.{Reached.reached_first, Walks.{goes_from, told_by}}
 
 -- ---- what is told so far
@@ -34,13 +34,8 @@ tells_on rows first old new visit before text more came one =
     let filled = has_its_bytes rows.read in
     record {
       goes = came.2;
-      told =
-          ap (λ (l : List ℕ). l ++ flat_map lines (coming rows new)) one.0
-          ∙ append_assoc text (lines visit) (flat_map lines (coming rows new))
-          ∙ ap (λ (l : List Visit). text ++ flat_map lines l) (sym came.1) ∙ came.0.told;
-      filled =
-          ap (λ (b : Bool). b && list_all filled (coming rows new)) (sym one.1)
-          ∙ ap (list_all filled) (sym came.1) ∙ came.0.filled;
+      told = grind (arith, lines, rows, new, one.0, append_assoc, visit, came.1, came.0.told);
+      filled = grind (arith, filled, rows, new, one.1, came.1, came.0.filled);
     }
 
 -- the object can be blamed for its bytes
@@ -55,9 +50,7 @@ blamed rows node there row (inr (is, document, none)) =
 pub told_from : {X : Type 0} (tell : List ℕ → Node → List X) (rows : Rows) (root : Node)
     → root_of rows.read ≡ Some root
     → all_of tell rows ≡ tree_of child_path tell (length (numbers_of rows)) rows.read [] root
-told_from tell rows root is =
-    ap (λ o. option_map_or (tree_of child_path tell (length (numbers_of rows)) rows.read []) o [])
-    is
+told_from tell rows root is = search (rules, is)
 
 each_of : {A B : Type 0} (p : B → Bool) (f : A → B) (xs : List A)
     → list_all p (flat_map (λ x. f x ∷ []) xs) ≡ list_all (λ x. p (f x)) xs
@@ -69,10 +62,7 @@ module _ (rows : Rows) (are : AreRows rows) (most : ℕ) (root : Node) (walk : B
     (from : IsFrom most (first_visit root) walk) where
   begun : GoesOn rows walk
       × (coming rows walk ≡ visits_from (length (numbers_of rows)) rows.read (first_visit root))
-  begun =
-      goes_from rows most (first_visit root) walk many
-      (subst (λ (n : ℕ). Reached rows.read (root ∷ []) n) (sym many)
-      (reached_first rows are root is)) from
+  begun = grind (arith, goes_from, reached_first)
 
   pub goes : GoesOn rows walk
   goes = begun.0

@@ -1,13 +1,12 @@
 -- The object that a walk ends at.
-use Rattle.std.proofs.Common.{◌≡◌, ℕ, List, [], ◌∷◌, length, Option, Some, None, inr, refl, ap}
-use Rattle.std.proofs.Common.{subst, ◌∙◌}
-use Rattle.std.specs.{List.AllByRecursion as Each, Option.option_map_or}
-use Rattle.room_rows.specs.{declared.node.{Node.Node, Walk.Walk}, Content.{Content, body_of}}
-use Rattle.room_rows.specs.{Content.{child_of, node_at, root_of}, Keep.IsDamaged, Rows.AreRows}
-use Rattle.room_rows.specs.{Rows.Rows, Walk.{behind, walk_from, walk_of}}
-use Rattle.room_rows.proofs.Frames.{Rises, child_of-is_there, root_of-is_there}
-use Rattle.room_dump.proofs.Counting.{each_last}
-use Rattle.room_dump.specs.{Fetching.{EndsAt, LacksItsBytes}, Visits.IsThere}
+use Rattle.std.proofs.Common.{arith, ◌≡◌, ℕ, List, [], ◌∷◌, length, Option, Some, None, inr, refl}
+use Rattle.std.{proofs.Common.{ap, ◌∙◌}, specs.{List.AllByRecursion as Each, Option.option_map_or}}
+use Rattle.room_rows.specs.{declared.node.Node.Node, Content.{Content, body_of, child_of, node_at}}
+use Rattle.room_rows.specs.{Content.root_of, Keep.IsDamaged, Rows.{AreRows, Rows}, Walk.behind}
+use Rattle.room_rows.{specs.Walk.{walk_from, walk_of}, proofs.Frames.{Rises, child_of-is_there}}
+use Rattle.room_rows.proofs.Frames.{root_of-is_there}
+use Rattle.room_dump.{proofs.Counting.each_last, specs.Fetching.{EndsAt, LacksItsBytes}}
+use Rattle.room_dump.specs.Visits.{IsThere}
 
 module _ (content : Content) (rises : Rises content) where
   there_from : (names : List (List ℕ)) (node : Node) → IsThere content node
@@ -47,6 +46,5 @@ pub blamed_at_end : (rows : Rows) → AreRows rows → (path : List (List ℕ)) 
     → EndsAt path rows last rest → (row : ℕ) → LacksItsBytes last rows row → IsDamaged rows row
 blamed_at_end rows are path last rest (above, ends) row (is, document, none) =
     let there = each_last (IsThere rows.read) above last
-    (subst (λ (walk : Walk). Each (IsThere rows.read) walk.chain) ends
-    (there_along rows.read are.numbers path)) in
+    (grind (arith, rows.read, ends, there_along, are.numbers)) in
     inr (last, ap (node_at rows.read) is ∙ there, document, ap (body_of rows.read) is ∙ none)

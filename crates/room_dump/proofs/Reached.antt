@@ -1,24 +1,21 @@
 -- Which objects a walk has still to come to, while others wait.
-use Rattle.std.proofs.Common.{◌≡◌, ℕ, ◌+◌, ◌<◌, ◌≤◌, ◌==◌, ◌&&◌, Bool, true, false, cond, not, List}
-use Rattle.std.proofs.Common.{[], ◌∷◌, ◌++◌, map, filter, reverse, length, Option, Some, None}
-use Rattle.std.proofs.{Common.{nat_lt, refl, sym, ap, subst, ◌∙◌, arith}, lemmas.Bool.false≢true}
-use Rattle.std.proofs.lemmas.{Bool.{and_parts, eqb-true, eq-eqb, ne_eqb, ltb-true}, List.length-map}
-use Rattle.std.proofs.Math.Nat.{le_trans}
-use Rattle.std.specs.{Prelude.is_none, List.{find, flat_map, AllByRecursion as Each}}
-use Rattle.std.specs.Option.{option_map_or}
+use Rattle.std.proofs.Common.{rules, ◌≡◌, ℕ, ◌+◌, ◌<◌, ◌≤◌, ◌==◌, ◌&&◌, Bool, true, false, cond}
+use Rattle.std.proofs.Common.{not, List, [], ◌∷◌, ◌++◌, map, filter, reverse, length, Option, Some}
+use Rattle.std.proofs.Common.{None, nat_lt, refl, sym, ap, subst, ◌∙◌, arith}
+use Rattle.std.proofs.lemmas.Bool.{false≢true, and_parts, eqb-true, eq-eqb, ne_eqb, ltb-true}
+use Rattle.std.{proofs.{lemmas.List.length-map, Math.Nat.le_trans}, specs.Prelude.is_none}
+use Rattle.std.specs.{List.{find, flat_map, AllByRecursion as Each}, Option.option_map_or}
 use Rattle.room_rows.specs.{declared.node.Node.Node, Content.{Content, child_of, children_of}}
 use Rattle.room_rows.specs.{Content.{has_parent, is_rising, root_of}, Finding.find_id, Rows.AreRows}
-use Rattle.room_rows.specs.Rows.{Rows, numbers_of, unread_numbers}
-use Rattle.room_entry.specs.Pieces.{same_text}
+use Rattle.room_rows.{specs.Rows.{Rows, numbers_of, unread_numbers}, proofs.Lookups.each-sorted}
+use Rattle.room_rows.proofs.Lookups.{count_sorted, length_numbers}
+use Rattle.room_entry.{specs.Pieces.same_text, proofs.Facts.Members.{each_append, each_front}}
+use Rattle.room_entry.proofs.Facts.{Members.{each_weaker, one_if, count}, Lists.filter_weaker}
 use Rattle.room_dump.specs.{Dump.tree_of, Visits.{Fits, HasAll, IsThere, Reached, always}}
-use Rattle.room_dump.specs.Visits.{is_number}
-use Rattle.room_dump.proofs.Counting.{count_all, count_append, count_found, count_parts}
-use Rattle.room_dump.proofs.Counting.{count_reverse, each_always, each_both, each_filter}
-use Rattle.room_dump.proofs.Counting.{each_found, each_last, each_reverse, none_counted}
-use Rattle.room_dump.proofs.Depth.{all_still, goes_on, others}
-use Rattle.room_entry.proofs.Facts.Members.{each_append, each_front, each_weaker, one_if, count}
-use Rattle.room_entry.proofs.Facts.Lists.{filter_weaker}
-use Rattle.room_rows.proofs.Lookups.{each-sorted, count_sorted, length_numbers}
+use Rattle.room_dump.{specs.Visits.is_number, proofs.Counting.{count_all, count_append}}
+use Rattle.room_dump.proofs.Counting.{count_found, count_parts, count_reverse, each_always}
+use Rattle.room_dump.proofs.Counting.{each_both, each_filter, each_found, each_last, each_reverse}
+use Rattle.room_dump.proofs.{Counting.none_counted, Depth.{all_still, goes_on, others}}
 
 -- ---- rows
 
@@ -45,9 +42,7 @@ rises_above k (x ∷ xs) rises =
 
 found_later : (x : Node) (xs : List Node) (y : Node) → x.id < y.id → find_id y.id xs ≡ Some y
     → find_id y.id (x ∷ xs) ≡ Some y
-found_later x xs y below found =
-    ap (λ b. cond b (Some x) (find_id y.id xs)) (ne_eqb x.id y.id (apart_above x.id y.id below))
-    ∙ found
+found_later x xs y below found = search (rules, ne_eqb, apart_above, below, found)
 
 -- each object is found by its number
 each_there : (k : ℕ) (nodes : List Node) → is_rising (k ∷ map (λ (n : Node). n.id) nodes) ≡ true
@@ -84,8 +79,7 @@ once_rising k id (x ∷ xs) rises = on (x.id == id) refl (once_rising x.id id xs
     on true is rest =
         let none = none_passes (is_number id) xs
         (each_weaker (Above x.id) (λ n. (n.id == id) ≡ false)
-        (λ n higher. ne_eqb n.id id
-        (λ e. apart_above x.id n.id higher (eqb-true x.id id is ∙ sym e))) xs
+        (grind (arith, ne_eqb, apart_above, eqb-true)) xs
         (rises_above x.id xs parts.1)) in
         omega (arith, none)
     on false is rest = omega (arith, rest)
@@ -123,17 +117,9 @@ reached_first rows are root is =
     let found = λ (p : Node → Bool). count_found p (λ (n : Node). is_none n.parent) nodes root is in
     record {
       rest = rest;
-      waits = (
-        (
-          all root,
-          each_found (IsThere rows.read) (λ (n : Node). is_none n.parent) nodes root
-              (each_there 0 nodes are.numbers) is,
-        ),
-        tt,
-      );
+      waits = grind (arith, root, each_found, rows.read, nodes, each_there, are.numbers, is);
       rests = each_always (HasAll rows.read rest) all rest;
-      once =
-          λ id. le_trans (found (is_number id)) (once_rising 0 id nodes are.numbers);
+      once = grind (arith, le_trans, found, once_rising, nodes, are.numbers);
       fewer = le_trans (found always) (no_more_objects rows);
     }
 
@@ -272,17 +258,10 @@ module _ (content : Content) (there : Each (IsThere content) content.nodes) (wai
       ∙ ap (λ (n : ℕ). count p waits + n) (count_reverse p children) in
       record {
         rest = left;
-        waits = each_append (Fits content left) waits (reverse children) waits_fit
-            (each_reverse (Fits content left) children
-            (each-sorted (Fits content left) kids kids_fit));
+        waits = search (rules, each_append, waits_fit, each_reverse, each-sorted, kids_fit);
         rests = rests_still;
-        once = λ id. subst (λ n. n + count (is_number id) left ≤ 1) (sym (come (is_number id)))
-            (once_more (count (is_number id) waits) (count (is_number id) (node ∷ []))
-            (count (is_number id) children) (count (is_number id) left)
-            (count (is_number id) r.rest) (once_last id) (in_order (is_number id)));
-        fewer = subst (λ n. n + count always left ≤ next) (sym (come always))
-            (one_turn (count always waits) (count always children) (count always left)
-            (count always r.rest) more next fewer_last (in_order always) less);
+        once = grind (arith, count, come, once_more, children, once_last, in_order);
+        fewer = grind (arith, count, come, one_turn, children, fewer_last, in_order, less);
       }
 
 -- a child waits alone where its folder waited alone

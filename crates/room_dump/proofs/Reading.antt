@@ -1,9 +1,9 @@
 -- Calls of a keeper that read, one after the other.
-use Rattle.std.proofs.Common.{◌≡◌, ℕ, Result, Ok, Err, refl, sym, ap, subst, ◌∙◌}
+use Rattle.std.proofs.Common.{arith, rules, ◌≡◌, ℕ, Result, Ok, Err, refl, sym, ap, subst, ◌∙◌}
 use Rattle.std.specs.Result.{IsErrAnd}
 use Rattle.room_rows.specs.declared.keep.{Keep.Ghosts, KeepFault.{KeepFault, TheVariants.Memory}}
-use Rattle.room_rows.specs.{declared.keep.KeepFault.TheVariants.{Store, Damaged}, Calls.Reads}
-use Rattle.room_rows.specs.{Keep.{HasCause, IfSeen, KeepLaws}, Rows.{AreRows, Rows}}
+use Rattle.room_rows.specs.declared.keep.KeepFault.TheVariants.{Store, NoRoot, Damaged}
+use Rattle.room_rows.specs.{Calls.Reads, Keep.{HasCause, IfSeen, KeepLaws}, Rows.{AreRows, Rows}}
 
 -- an error that `?` hands on
 handed_on : {X : Type 0} (r : Result X KeepFault) (e : KeepFault) → IsErrAnd r (λ x. x ≡ e)
@@ -44,8 +44,7 @@ module _ {S : Type 0} (k : Ghosts S)
         unwritten = read.unwritten ∙ sofar.unwritten;
         unfailed = read.unfailed ∙ sofar.unfailed;
         same = λ t. read.same (last t) ∙ sofar.same (first t);
-        known = λ t. adds (k.rows a) (laws.are a c t) (sofar.known (first t))
-            (subst (λ (w : Rows). Answers w x) (sofar.same (first t)) (read.answers (last t)));
+        known = grind (arith, adds, a, c, sofar.known, x, sofar.same, read.answers, last);
       }
 
   -- the calls that answered are all
@@ -67,6 +66,20 @@ module _ {S : Type 0} (k : Ghosts S)
       {Answers : Rows → Y → Type 0} → Knows a c (λ rows. Blames rows id)
       → Reads k {X = Y} a c (Err (Damaged id)) Blames Answers
   damaged a c id sofar =
+      record {
+        follows = sofar.follows;
+        unwritten = sofar.unwritten;
+        same = sofar.same;
+        answers = λ t. tt;
+        unfailed = tt;
+        fault = sofar.known;
+      }
+
+  -- they show that there is no root
+  pub rootless : {Y : Type 0} (a c : S) {Blames : Rows → ℕ → Type 0}
+      {Answers : Rows → Y → Type 0} → Knows a c (λ rows. Blames rows 0)
+      → Reads k {X = Y} a c (Err NoRoot) Blames Answers
+  rootless a c sofar =
       record {
         follows = sofar.follows;
         unwritten = sofar.unwritten;
@@ -119,7 +132,14 @@ module _ {S : Type 0} (k : Ghosts S)
           → IfSeen {X = Y} (Err e) (k.rows c ≡ k.rows a)
       same Memory first h = tt
       same Store first h = tt
+      same NoRoot first h = h ∙ first
       same (Damaged id) first h = h ∙ first
+
+      blamed : (id : ℕ) → (k.IsTrusted b c → Blames (k.rows b) id)
+          → k.IsTrusted a c → Blames' (k.rows a) id
+      blamed id h t =
+          blames (k.rows a) (laws.are a c t) (sofar.known (before t)) id
+          (subst (λ (w : Rows). Blames w id) (sofar.same (before t)) (h (now t)))
 
       cause : (e : KeepFault)
           → HasCause (k.failures b) (k.failures c)
@@ -130,9 +150,8 @@ module _ {S : Type 0} (k : Ghosts S)
       cause Store h =
           subst (λ (n : ℕ). HasCause n (k.failures c)
           (λ row. k.IsTrusted a c → Blames' (k.rows a) row) Store) sofar.unfailed h
-      cause (Damaged id) h =
-          λ t. blames (k.rows a) (laws.are a c t) (sofar.known (before t)) id
-          (subst (λ (w : Rows). Blames w id) (sofar.same (before t)) (h (now t)))
+      cause NoRoot h = blamed 0 h
+      cause (Damaged id) h = blamed id h
 
   -- a last read, whose answer is that of the call that made it
   pub tail : {X : Type 0} (a b c : S) (r : Result X KeepFault) {Blames Blames' : Rows → ℕ → Type 0}
@@ -141,6 +160,5 @@ module _ {S : Type 0} (k : Ghosts S)
       → ((rows : Rows) → AreRows rows → P rows → (x : X) → Answers rows x → Answers' rows x)
       → Reads k b c r Blames Answers → Reads k a c r Blames' Answers'
   tail a b c (Ok x) sofar blames answers read =
-      answered a c x
-      (learns a b c x sofar read (λ rows are known is. answers rows are known x is))
+      search (rules, answered, learns, sofar, read, answers)
   tail a b c (Err e) sofar blames answers read = fails a b c e (Err e) blames sofar read refl

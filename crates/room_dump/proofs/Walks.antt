@@ -1,15 +1,15 @@
 -- What is still to come of a walk, one object after the other.
-use Rattle.std.proofs.Common.{◌≡◌, ℕ, zero, suc, ◌+◌, ◌-◌, ◌≤◌, List, [], ◌∷◌, ◌++◌, map, reverse}
-use Rattle.std.proofs.Common.{length, Option, Some, refl, sym, ap, subst, ◌∙◌, append_assoc, arith}
-use Rattle.std.proofs.lemmas.{Grind.flat_map-append, List.{append-nil, map-append, reverse-append}}
-use Rattle.std.specs.List.{flat_map}
+use Rattle.std.proofs.Common.{rules, ◌≡◌, ℕ, zero, suc, ◌+◌, ◌-◌, ◌≤◌, List, [], ◌∷◌, ◌++◌, map}
+use Rattle.std.proofs.Common.{reverse, length, Option, Some, refl, sym, ap, subst, ◌∙◌}
+use Rattle.std.proofs.{Common.{append_assoc, arith}, lemmas.Grind.flat_map-append}
+use Rattle.std.{proofs.lemmas.List.{append-nil, map-append, reverse-append}, specs.List.flat_map}
 use Rattle.room_rows.specs.{declared.node.Node.Node, Content.{Content, children_of}, Rows.AreRows}
 use Rattle.room_rows.specs.Rows.{Rows, numbers_of}
 use Rattle.room_dump.specs.{declared.visiting.{Below.Below, Visit.Visit}, Dump.tree_of}
 use Rattle.room_dump.specs.Visits.{GoesOn, IsFrom, IsNext, Reached, coming, nodes_of, to_come}
 use Rattle.room_dump.specs.Visits.{IsThere, visit_below, visit_on, visits_from, waiting_below}
-use Rattle.room_dump.specs.Visits.{way_below}
-use Rattle.room_dump.proofs.Reached.{all_there, goes_down, is_there, reached_next, some_left}
+use Rattle.room_dump.{specs.Visits.way_below, proofs.Reached.{all_there, goes_down, is_there}}
+use Rattle.room_dump.proofs.Reached.{reached_next, some_left}
 
 -- ---- what waits
 
@@ -21,9 +21,7 @@ module _ (rows : Rows) where
   comes_last : (waits : List Visit) (visit : Visit)
       → to_come rows (waits ++ visit ∷ []) ≡ all visit ++ to_come rows waits
   comes_last [] visit = sym (append-nil (all visit))
-  comes_last (other ∷ waits) visit =
-      ap (λ (l : List Visit). l ++ all other) (comes_last waits visit)
-      ∙ append_assoc (all visit) (to_come rows waits) (all other)
+  comes_last (other ∷ waits) visit = search (rules, append_assoc, comes_last waits visit)
 
   -- children come in their order, before what waited
   come_below : (over : Visit) (children : List Node) (waits : List Visit)
@@ -62,9 +60,7 @@ up_to a b c e f = omega (arith, e, f)
 module _ (rows : Rows) (are : AreRows rows) (old : Below) (waits : List Visit) (visit : Visit)
     (taken : old.waiting.items ≡ waits ++ visit ∷ []) (goes : GoesOn rows old) where
   reached : Reached rows.read (nodes_of waits ++ visit.node ∷ []) old.left
-  reached =
-      subst (λ (l : List Node). Reached rows.read l old.left)
-      (ap nodes_of taken ∙ map-append (λ (v : Visit). v.node) waits (visit ∷ [])) goes.reached
+  reached = grind (arith, map-append)
 
   -- it may come
   pub may_come : old.left ≡ 0 → ⊥
@@ -89,14 +85,7 @@ module _ (rows : Rows) (are : AreRows rows) (old : Below) (waits : List Visit) (
             way_below visit_on (visit.path, visit.depth) most goes.within)
             ∙ ap (λ (l : List Visit). visit ∷ l)
             (sym (come_below rows visit children waits) ∙ ap (to_come rows) (sym waiting)),
-        record {
-          within = up_to new.left old.left most sums.1 goes.within;
-          reached =
-              subst (λ (l : List Node). Reached rows.read l new.left)
-              (sym (ap nodes_of waiting ∙ nodes_below visit children waits))
-              (reached_next rows.read there (nodes_of waits) visit.node old.left reached new.left
-              sums.0);
-        },
+        search (rules, up_to, sums.1, reached, waiting, nodes_below, reached_next, there, sums.0),
         is_there rows.read there (nodes_of waits) visit.node old.left reached,
       )
 
@@ -116,12 +105,7 @@ pub goes_from : (rows : Rows) (most : ℕ) (first : Visit) (walk : Below)
     → GoesOn rows walk
     × (coming rows walk ≡ visits_from (length (numbers_of rows)) rows.read first)
 goes_from rows most first walk many reached from = (
-  record {
-    within = subst (λ (n : ℕ). n ≤ length (numbers_of rows)) (sym (from.0 ∙ many)) (omega arith);
-    reached =
-        subst (λ (l : List Visit). Reached rows.read (nodes_of l) walk.left) (sym from.1)
-        (subst (λ (n : ℕ). Reached rows.read (first.node ∷ []) n) (sym from.0) reached);
-  },
+  grind (arith, rows, from.0, many, reached, rows.read, walk.left, from.1, first.node),
   ap (to_come rows) from.1,
 )
 

@@ -23,7 +23,7 @@ use std::alloc::Global;
 /// them, in order of name.
 ///
 /// Nothing is changed. The error is the keeper's, or that memory ran out; `Damaged` names a row
-/// that can't be read or a document without bytes, or is 0 where there is no root.
+/// that can't be read or a document without bytes, and `NoRoot` comes only where there is no root.
 pub fn dump<K: Keep>(alloc: Global, keep: &mut K) -> Result<String, KeepFault>
     ensures read { Reads K.Keep keep.old keep.new result IsDamaged
         (λ rows text. IsDumpText rows (string_bytes text)) }

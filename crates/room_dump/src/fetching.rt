@@ -27,8 +27,8 @@ pub enum Fetched {
 /// The bytes of the document at a path, or why there are none.
 ///
 /// Nothing is changed, and no right is asked. The error is the keeper's, or that memory ran out;
-/// `Damaged` names a row that can't be read or a document without bytes, or is 0 where there is no
-/// root.
+/// `Damaged` names a row that can't be read or a document without bytes, and `NoRoot` comes only
+/// where there is no root.
 pub fn fetch<K: Keep>(alloc: Global, keep: &mut K, path: &Path) -> Result<Fetched, KeepFault>
     ensures read { Reads K.Keep keep.old keep.new result IsDamaged (IsFetched path.now) }
     ensures counted { K.reads keep.new ≤ K.reads keep.old + (length path.now + 2) }

@@ -81,7 +81,7 @@ impl Below {
     /// The next object, or none at the end.
     ///
     /// Nothing is changed. The error is the keeper's, or that memory ran out; `Damaged` names a row
-    /// that can't be read, or is 0 where there are more objects than was said.
+    /// that can't be read, or the object that is one more than was said.
     pub fn next<K: Keep>(&mut self, keep: &mut K) -> Result<Option<Visit>, KeepFault>
         ensures read { Reads K.Keep keep.old keep.new result (IsBlocked self.old)
             (IsNext self.old self.new) }
@@ -91,7 +91,7 @@ impl Below {
             return Ok(None);
         };
         if self.left == 0 {
-            return Err(KeepFault::Damaged { id: 0 });
+            return Err(KeepFault::Damaged { id: visit.node.id });
         }
         self.left -= 1;
         enter(self.alloc, keep, &visit, &mut self.waiting)?;

@@ -1,8 +1,7 @@
 -- The letters of a type and of flags are read back.
 use Rattle.std.proofs.Common.{ℕ, ◌≡◌, Bool, true, false, ◌&&◌, ◌||◌, List, [], ◌∷◌, ◌++◌, Some}
 use Rattle.std.proofs.{Common.{refl, arith}, Math.Bool.{or-false, and-false}}
-use Rattle.std.proofs.lemmas.Bool.Decides.{nat_tests}
-use Rattle.std.specs.Prelude.{◌==◌}
+use Rattle.std.{proofs.lemmas.Bool.Decides.nat_tests, specs.Prelude.◌==◌}
 use Rattle.room_entry.specs.{Pieces.is_among, Letters.{kind_text, kind_of, letter_if, flags_text}}
 use Rattle.room_entry.specs.{Letters.flags_among, declared.entry.EntryKind.EntryKind}
 use Rattle.room_entry.specs.declared.entry.EntryKind.TheVariants.{Allow, Deny, Audit, Alarm}

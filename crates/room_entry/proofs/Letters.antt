@@ -1,13 +1,12 @@
 -- The letters of a mask, by the table of bits and letters.
-use Rattle.std.proofs.Common.{ℕ, ◌≡◌, Bool, true, false, cond, not, eqb, List, [], ◌∷◌, ◌++◌, map}
-use Rattle.std.proofs.Common.{refl, sym, ap, subst, ◌∙◌, inl, inr, ◌+◌, ◌*◌, ◌^◌, ◌<◌, ◌≤◌, length}
+use Rattle.std.proofs.Common.{rules, ℕ, ◌≡◌, Bool, true, false, cond, not, eqb, List, [], ◌∷◌, ◌++◌}
+use Rattle.std.proofs.Common.{map, refl, sym, ap, ◌∙◌, inl, inr, ◌+◌, ◌*◌, ◌^◌, ◌<◌, ◌≤◌, length}
 use Rattle.std.proofs.Common.{get_or, drop, add-one, arith, drop-cons, append_assoc}
 use Rattle.std.proofs.lemmas.Bool.{cases_Bool, and_parts, eqb-true, false≢true, Decides.nat_tests}
 use Rattle.std.proofs.lemmas.{Nat.{pow_pos, Bits.{and_pow, bit_at-lt}}, List.drop_all}
 use Rattle.std.proofs.lemmas.List.Folds.{list_all_at}
-use Rattle.std.specs.{Prelude.{bit_and, filter, nat_lt, ◌==◌, ◌&&◌, ◌||◌}, Int.bit_at}
-use Rattle.std.specs.List.{list_all, zip}
-use Rattle.room_entry.specs.{Bits.{all_bits, has, is_set, bits_of}, Letters.{letter_in, letter_of}}
+use Rattle.std.specs.{Prelude.{bit_and, filter, nat_lt, ◌==◌, ◌&&◌, ◌||◌}, List.{list_all, zip}}
+use Rattle.room_entry.specs.{Bits.{all_bits, has, is_set, bits_of}, Letters.letter_in}
 use Rattle.room_entry.specs.Letters.{mask_letters, mask_text, table_text}
 
 abbrev bits_in : List (ℕ × ℕ) → List ℕ
@@ -45,9 +44,7 @@ it_fits = refl
 
 -- the whole table gives the mask's text
 pub table_text-mask : (n : ℕ) → table_text n the_table ≡ mask_text (bits_of n)
-table_text-mask n =
-    table_text-fits n the_table the_table it_fits
-    ∙ ap (λ bits. map letter_of (filter (is_set n) bits)) bits_in_table
+table_text-mask n = search (rules, table_text-fits, it_fits, bits_in_table)
 
 -- one more row, whose letter stands there or not
 pub table_text_more : (n : ℕ) (rows : List (ℕ × ℕ)) (i : ℕ) (row : ℕ × ℕ) → i < length rows
@@ -110,11 +107,7 @@ times_bit t q below above = grind (arith, nat_tests)
 
 -- what `n & b` leaves says whether n has the bit b
 pub and_is_set : (n b : ℕ) → has all_bits b ≡ true → not (bit_and n b == 0) ≡ is_set n b
-and_is_set n b h =
-    let p = power_of b h in
-    subst (λ (x : ℕ). not (bit_and n x == 0) ≡ is_set n x) p.1
-    (ap (λ m. not (m == 0)) (and_pow n p.0)
-    ∙ times_bit (bit_at n p.0) (2 ^ p.0) (bit_at-lt n p.0) (pow_pos p.0))
+and_is_set n b h = search (rules, power_of, h, and_pow, times_bit, bit_at-lt, pow_pos)
 
 -- a row of a table of bits and letters
 pub row_at : (rows : List (ℕ × ℕ)) (i : ℕ) → i < length rows

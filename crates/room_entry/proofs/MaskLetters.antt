@@ -1,14 +1,13 @@
 -- Masks read from their letters.
-use Rattle.std.proofs.Common.{ℕ, ◌+◌, ◌<◌, ◌≡◌, Bool, true, false, ◌&&◌, ◌||◌, List, [], ◌∷◌, map}
-use Rattle.std.proofs.Common.{Option, refl, sym, ap, ◌∙◌, subst, inl, inr, length, take, get_or}
-use Rattle.std.proofs.{Common.arith, lemmas.Bool.{cases_Bool, and_parts, Decides.nat_tests}}
-use Rattle.std.proofs.lemmas.List.{take_more, Folds.{list_any-append, list_all-append}}
-use Rattle.std.specs.{Prelude.{◌==◌, filter, find, bit_and, MatchOption}, List.list_all}
-use Rattle.std.specs.Option.{option_map}
+use Rattle.std.proofs.Common.{rules, ℕ, ◌+◌, ◌<◌, ◌≡◌, Bool, true, false, ◌&&◌, ◌||◌, List, [], ◌∷◌}
+use Rattle.std.proofs.Common.{map, Option, refl, sym, ap, ◌∙◌, subst, inl, inr, length, take}
+use Rattle.std.proofs.{Common.{get_or, arith}, lemmas.Bool.{cases_Bool, and_parts}}
+use Rattle.std.proofs.lemmas.{Bool.Decides.nat_tests, List.{take_more, Folds.list_any-append}}
+use Rattle.std.{proofs.lemmas.List.Folds.list_all-append, specs.Prelude.{◌==◌, filter, find}}
+use Rattle.std.specs.{Prelude.{bit_and, MatchOption}, List.list_all, Option.option_map}
 use Rattle.room_entry.specs.{Bits.{all_bits, has, bits_of}, BitLaws.{has-chosen, chosen_agree}}
 use Rattle.room_entry.specs.{Pieces.{is_among, same_text}, Letters.{bit_named, letter_of}}
-use Rattle.room_entry.specs.Letters.{mask_letters}
-use Rattle.room_entry.proofs.{Letters.the_table, Texts.same_text-true}
+use Rattle.room_entry.{specs.Letters.mask_letters, proofs.{Letters.the_table, Texts.same_text-true}}
 
 -- the mask of the letters of a text
 abbrev pub spelled : List ℕ → List ℕ
@@ -92,11 +91,7 @@ letters_in = refl
 pub in_table : (letter : ℕ)
     → MatchOption (found_in the_table letter) (is_among mask_letters letter ≡ false)
     (λ bits. Names letter bits)
-in_table letter =
-    let found = in_rows the_table letter true all_rows
-    (λ h. ap (λ (l : List ℕ). is_among l letter) (sym letters_in) ∙ h) in
-    subst (λ (l : List ℕ). MatchOption (found_in the_table letter) (is_among l letter ≡ false)
-    (λ bits. Names letter bits)) letters_in found
+in_table letter = search (rules, in_rows, the_table, all_rows, letters_in)
 
 -- the table as the code has it
 abbrev pub letters_table : List (ℕ × ℕ)

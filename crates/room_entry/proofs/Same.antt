@@ -1,5 +1,5 @@
 -- Entries that are the same are equal.
-use Rattle.std.proofs.Common.{ℕ, ◌≡◌, ◌==◌, true, List, [], ◌∷◌, Some, refl, sym, ap, ◌∙◌}
+use Rattle.std.proofs.Common.{rules, ℕ, ◌≡◌, ◌==◌, true, List, [], ◌∷◌, Some, refl, sym, ap, ◌∙◌}
 use Rattle.std.proofs.{Common.if◌then◌else◌, lemmas.Bool.{and_parts, false≢true}}
 use Rattle.std.specs.Cmp.Lexicographic.{same_text as text_equal}
 use Rattle.room_entry.specs.{Pieces.same_text, Ace.Ace, Same.{who_key, same_entry, same_entries}}
@@ -49,9 +49,7 @@ entry_equal a b same =
     (same_text a.mask b.mask) second.1 in
     let kind = kind_equal a.kind b.kind (text_equal _ _ (sym first.0)) in
     let flags = flags_equal a.flags b.flags (text_equal _ _ (sym second.0)) in
-    let who = who_equal a.who b.who (text_equal _ _ (sym third.0)) in
-    let mask = text_equal a.mask b.mask (sym third.1) in
-    λ i. record { kind = kind i; flags = flags i; who = who i; mask = mask i }
+    search (rules, who_equal, a.who, b.who, third.0, a.mask, b.mask, third.1, kind, flags)
 
 -- lists of entries that pass `same_entries` are equal
 pub entries_equal : (a b : List Ace) → same_entries a b ≡ true → a ≡ b

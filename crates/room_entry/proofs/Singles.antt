@@ -1,7 +1,7 @@
 -- A mask taken apart into its bits.
-use Rattle.std.proofs.Common.{ℕ, ◌≡◌, ◌+◌, ◌<◌, true, false, cond, List, [], ◌∷◌, ◌++◌, map, refl}
-use Rattle.std.proofs.Common.{sym, ap, ◌∙◌, length, get_or, drop, add-one, drop-cons, append_assoc}
-use Rattle.std.proofs.{Common.arith, lemmas.{List.Folds.list_all_at, Bool.Decides.nat_tests}}
+use Rattle.std.proofs.Common.{rules, ℕ, ◌≡◌, ◌+◌, ◌<◌, true, false, cond, List, [], ◌∷◌, ◌++◌, map}
+use Rattle.std.proofs.Common.{refl, length, get_or, drop, add-one, drop-cons, append_assoc, arith}
+use Rattle.std.proofs.lemmas.{List.Folds.list_all_at, Bool.Decides.nat_tests}
 use Rattle.std.specs.{Prelude.{filter, bit_and}, List.list_all}
 use Rattle.room_entry.specs.{Bits.{all_bits, is_set, bits_of}, Single.is_single}
 use Rattle.room_entry.proofs.{MaskLetters.letters_table, Texts.same_text-true}
@@ -20,10 +20,7 @@ singles_more : (n : ℕ) (rows : List (ℕ × ℕ)) (i : ℕ) → i < length row
     ≡ cond (is_set n (get_or rows i (0, 0)).0)
     (((get_or rows i (0, 0)).0 ∷ []) ∷ singles_in n (drop (i + 1) rows))
     (singles_in n (drop (i + 1) rows))
-singles_more n rows i below =
-    let here : drop i rows ≡ get_or rows i (0, 0) ∷ drop (i + 1) rows = rw add-one
-    (drop-cons rows i (0, 0) below) in
-    ap (singles_in n) here ∙ one_row n (get_or rows i (0, 0)) (drop (i + 1) rows)
+singles_more n rows i below = search (rules, rows, add-one, drop-cons, below, one_row)
 
 -- a turn that adds the row's bit, and one that doesn't
 pub singles_pushed : (n : ℕ) (rows : List (ℕ × ℕ)) (i : ℕ) (masks new : List (List ℕ))
@@ -31,11 +28,7 @@ pub singles_pushed : (n : ℕ) (rows : List (ℕ × ℕ)) (i : ℕ) (masks new :
     → new ≡ masks ++ ((get_or rows i (0, 0)).0 ∷ []) ∷ []
     → new ++ singles_in n (drop (i + 1) rows) ≡ masks ++ singles_in n (drop i rows)
 singles_pushed n rows i masks new below set pushed =
-    let bit = (get_or rows i (0, 0)).0 in
-    let rest = singles_in n (drop (i + 1) rows) in
-    ap (λ (l : List (List ℕ)). l ++ rest) pushed ∙ append_assoc masks ((bit ∷ []) ∷ []) rest
-    ∙ ap (λ (l : List (List ℕ)). masks ++ l)
-    (sym (singles_more n rows i below ∙ ap (λ t. cond t ((bit ∷ []) ∷ rest) rest) set))
+    search (rules, rows, pushed, append_assoc, singles_more, below, set)
 
 pub singles_passed : (n : ℕ) (rows : List (ℕ × ℕ)) (i : ℕ) (masks new : List (List ℕ))
     → i < length rows → is_set n (get_or rows i (0, 0)).0 ≡ false → new ≡ masks

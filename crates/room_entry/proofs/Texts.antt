@@ -1,10 +1,9 @@
 -- Tests of each byte of a text, and texts that are the same.
-use Rattle.std.proofs.Common.{ℕ, ◌≡◌, Bool, true, cond, List, [], ◌∷◌, ◌++◌, filter, refl, sym, ap}
-use Rattle.std.proofs.{Common.{◌∙◌, inl, inr, length}, lemmas.Bool.{and_parts, and_from, eq-eqb}}
-use Rattle.std.proofs.lemmas.Bool.{eqb-true, false≢true, or_cases, or_left, or_right}
+use Rattle.std.proofs.Common.{rules, ℕ, ◌≡◌, Bool, true, cond, List, [], ◌∷◌, ◌++◌, filter, refl}
+use Rattle.std.proofs.{Common.{sym, ap, ◌∙◌, inl, inr, length}, lemmas.Bool.{and_parts, and_from}}
+use Rattle.std.proofs.lemmas.Bool.{eq-eqb, eqb-true, false≢true, or_cases, or_left, or_right}
 use Rattle.std.proofs.lemmas.Str.{utf8_valid_len-IsUtf8}
-use Rattle.std.specs.{Prelude.◌==◌, List.list_all, Cmp.Lexicographic.bytes_decides, Str.IsUtf8}
-use Rattle.std.specs.Str.Lossy.{utf8_valid_len}
+use Rattle.std.specs.{Prelude.◌==◌, List.list_all, Str.{IsUtf8, Lossy.utf8_valid_len}}
 use Rattle.room_entry.specs.{Bits.has, Pieces.same_text, Utf8.is_utf8}
 use Rattle.room_entry.proofs.Facts.Booleans.{same_truth}
 
@@ -13,9 +12,7 @@ pub same_text-true : (a b : List ℕ) → same_text a b ≡ true → a ≡ b
 same_text-true [] [] same = refl
 same_text-true [] (y ∷ b) same = absurd (false≢true same)
 same_text-true (x ∷ a) [] same = absurd (false≢true same)
-same_text-true (x ∷ a) (y ∷ b) same =
-    let parts = and_parts (x == y) (same_text a b) same in
-    ap (λ z. z ∷ a) (eqb-true x y parts.0) ∙ ap (λ c. y ∷ c) (same_text-true a b parts.1)
+same_text-true (x ∷ a) (y ∷ b) same = search (rules, and_parts, same, eqb-true)
 
 -- a test that each byte of two texts passes is passed by each byte of the two joined
 pub all-append : (p : ℕ → Bool) (xs ys : List ℕ) → list_all p xs ≡ true → list_all p ys ≡ true
@@ -53,6 +50,4 @@ filter_agree p q (x ∷ xs) same =
 
 -- the test of the same texts doesn't ask which text comes first
 pub same_text-sym : (a b : List ℕ) → same_text a b ≡ same_text b a
-same_text-sym a b =
-    same_truth _ _ (λ e. (bytes_decides b a).1 (sym ((bytes_decides a b).0 e)))
-    (λ e. (bytes_decides a b).1 (sym ((bytes_decides b a).0 e)))
+same_text-sym a b = search (rules, same_truth)

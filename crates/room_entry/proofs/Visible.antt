@@ -3,12 +3,11 @@ use Rattle.std.proofs.Common.{ℕ, ◌≡◌, ◌≤◌, Bool, true, false, ◌&
 use Rattle.std.proofs.lemmas.Bool.{and_parts, both_ways, false≢true, false_from_ne_true, or_left}
 use Rattle.std.proofs.lemmas.Bool.{ltb-true, Decides.nat_tests}
 use Rattle.std.proofs.lemmas.{List.Splits.join_with_byte-slice_split, Str.Ascii.IsAscii-nil}
-use Rattle.std.proofs.lemmas.Str.Ascii.{IsAscii-cons}
-use Rattle.std.specs.{Prelude.{nat_le, nat_lt}, List.{list_all, join_with_byte}}
-use Rattle.std.specs.{Char.is_ascii_alphanumeric, Str.IsAscii}
+use Rattle.std.{proofs.lemmas.Str.Ascii.IsAscii-cons, specs.Prelude.{nat_le, nat_lt}}
+use Rattle.std.specs.{List.{list_all, join_with_byte}, Char.is_ascii_alphanumeric, Str.IsAscii}
 use Rattle.room_entry.specs.{Pieces.pieces, Utf8.is_utf8, Names.{is_name, is_part, is_local_byte}}
-use Rattle.room_entry.specs.Names.{is_domain_byte, are_name_parts}
-use Rattle.room_entry.proofs.{Texts.{all-append, at_bit}, Facts.Lists.all_implied}
+use Rattle.room_entry.{specs.Names.{is_domain_byte, are_name_parts}, proofs.Texts.all-append}
+use Rattle.room_entry.proofs.{Texts.at_bit, Facts.Lists.all_implied}
 
 abbrev is_between : ℕ → ℕ → ℕ → Bool
 is_between low high byte = nat_le low byte && nat_le byte high

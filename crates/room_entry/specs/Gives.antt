@@ -8,3 +8,16 @@ abbrev pub Gives : {A F : Type 0} → Result A (Failure F) → Result A F → Ty
 Gives (Ok value) defined = defined ≡ Ok value
 Gives (Err OutOfMemory) defined = Unit {0}
 Gives (Err (Fault fault)) defined = defined ≡ Err fault
+
+-- a result with its fault mapped
+abbrev pub told : {A E F : Type 0} → (E → F) → Result A E → Result A F
+told words (Ok value) = Ok value
+told words (Err fault) = Err (words fault)
+
+-- The same answer, where a fault becomes another.
+abbrev pub TurnsFault : {A E F : Type 0} → (E → F → Type 0) → Result A (Failure E)
+    → Result A (Failure F) → Type 0
+TurnsFault Becomes (Ok value) result = result ≡ Ok value
+TurnsFault Becomes (Err OutOfMemory) result = result ≡ Err OutOfMemory
+TurnsFault {F = F} Becomes (Err (Fault fault)) result =
+    (other : F) × Becomes fault other × (result ≡ Err (Fault other))

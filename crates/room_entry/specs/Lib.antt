@@ -1,4 +1,5 @@
 pub mod Bytes
+pub mod Counted
 pub mod Gives
 pub mod Rights
 pub mod Bits

@@ -1,5 +1,6 @@
 //! Why a call that takes memory has no answer.
 ghost use Rattle.std.specs.Prelude.{◌≡◌};
+ghost use Rattle.room_entry.specs.Gives.{TurnsFault};
 ghost use Rattle.room_entry.specs.declared.failure.Failure.TheVariants.{OutOfMemory};
 
 use std::alloc::AllocError;
@@ -18,5 +19,20 @@ impl<F> From<AllocError> for Failure<F> {
 
     fn from(_error: AllocError) -> Failure<F> {
         Failure::OutOfMemory
+    }
+}
+
+/// What a call answers, with its fault turned into another.
+pub fn map_fault<T, E, F, W: FnOnce(E) -> F>(
+    given: Result<T, Failure<E>>,
+    turn: W,
+) -> Result<T, Failure<F>>
+    requires { W.IsAlwaysCallable turn }
+    ensures { TurnsFault (W.post turn) given result }
+{
+    match given {
+        Ok(value) => Ok(value),
+        Err(Failure::OutOfMemory) => Err(Failure::OutOfMemory),
+        Err(Failure::Fault(fault)) => Err(Failure::Fault(turn(fault))),
     }
 }

@@ -19,7 +19,7 @@ mod pieces;
 mod validity;
 
 pub use entry::{Entries, Entry, EntryKind, Who};
-pub use failure::Failure;
+pub use failure::{Failure, map_fault};
 pub use fault::{EntryFault, ListFault, TextFault};
 pub use flags::{EntryFlags, ListFlags};
 pub use items::Items;

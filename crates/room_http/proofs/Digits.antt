@@ -1,7 +1,7 @@
 -- The number of a Content-Length, digit by digit.
-use Rattle.std.proofs.Common.{◌≡◌, ℕ, ◌+◌, ◌*◌, ◌%◌, ◌&&◌, ◌<◌, ◌≤◌, Bool, true, false, List, []}
-use Rattle.std.proofs.Common.{◌∷◌, ◌++◌, length, take, get_or, refl, sym, ap, subst, ◌∙◌, arith}
-use Rattle.std.proofs.{Common.{Result, Ok, Err, if◌then◌else◌, nat_le, nat_lt}, lemmas.Bool.lt-leb}
+use Rattle.std.proofs.Common.{rules, ◌≡◌, ℕ, ◌+◌, ◌*◌, ◌%◌, ◌&&◌, ◌<◌, ◌≤◌, Bool, true, false, List}
+use Rattle.std.proofs.Common.{[], ◌∷◌, ◌++◌, length, take, get_or, refl, sym, ap, subst, ◌∙◌, arith}
+use Rattle.std.proofs.{Common.{Result, Ok, Err, if◌then◌else◌, nat_le}, lemmas.Bool.lt-leb}
 use Rattle.std.proofs.lemmas.{Bool.{le-leb, leb-true, Decides.nat_tests}, List.take_all}
 use Rattle.std.proofs.lemmas.{List.{take_more, Sums.AllPass-from_list_all}, Str.digit_value_digit}
 use Rattle.std.proofs.lemmas.Str.Parse.{digits_value-take-le}
@@ -74,14 +74,11 @@ and-right false false h = h
 pub digit-at : (text : List ℕ) (i : ℕ) → i < length text → is_number text ≡ true
     → IsInRange 48 57 (get_or text i 0)
 digit-at text i lt h =
-    let all : list_all is_ascii_digit text ≡ true = and-right (nat_lt 0 (length text))
-    (list_all is_ascii_digit text) h in
+    let all : list_all is_ascii_digit text ≡ true = search (rules, and-right, h) in
     let one : (nat_le 48 (get_or text i 0) && nat_le (get_or text i 0) 57) ≡ true =
     AllPass-from_list_all is_ascii_digit text all i 0 lt in (
-      leb-true 48 (get_or text i 0)
-          (and-left (nat_le 48 (get_or text i 0)) (nat_le (get_or text i 0) 57) one),
-      leb-true (get_or text i 0) 57
-          (and-right (nat_le 48 (get_or text i 0)) (nat_le (get_or text i 0) 57) one),
+      search (rules, leb-true, and-left, one),
+      search (rules, leb-true, and-right, one),
     )
 
 pub digit-is : (c d : ℕ) → IsInRange 48 57 c → d ≡ (c + 208) % 256 % 10 → d ≡ digit_value c

@@ -1,21 +1,20 @@
 -- How many lines of a head have ended, and whether these are the lines of too many fields.
-use Rattle.std.proofs.Common.{◌≡◌, ℕ, zero, suc, ◌+◌, ◌<◌, ◌≤◌, ◌⊎◌, Bool, true, false, cond, List}
-use Rattle.std.proofs.Common.{[], ◌∷◌, ◌++◌, length, take, drop, Some, None, refl, inl, inr, sym}
-use Rattle.std.proofs.Common.{ap, subst, ◌∙◌, arith, append_assoc, append-nil}
+use Rattle.std.proofs.Common.{rules, ◌≡◌, ℕ, zero, suc, ◌+◌, ◌<◌, ◌≤◌, ◌⊎◌, Bool, true, false, cond}
+use Rattle.std.proofs.Common.{List, [], ◌∷◌, ◌++◌, length, take, drop, Some, None, refl, inl, inr}
+use Rattle.std.proofs.Common.{sym, ap, subst, ◌∙◌, arith, append_assoc, append-nil}
 use Rattle.std.proofs.lemmas.Bool.{cases_Bool, cond-true, cond-false, ne_eqb, both_ways}
 use Rattle.std.proofs.lemmas.{Bool.Decides.nat_tests, List.{length-append, length-take-le}}
 use Rattle.std.proofs.lemmas.List.{drop_all, Elements.{All-head, All-tail, All-take, filter-append}}
-use Rattle.std.proofs.lemmas.List.Elements.{recursion_from_All}
-use Rattle.std.specs.{Prelude.{◌==◌, not}, List.{flat_map, filter, AllByRecursion, position}}
-use Rattle.std.specs.List.{position_or_len}
+use Rattle.std.{proofs.lemmas.List.Elements.recursion_from_All, specs.Prelude.{◌==◌, not}}
+use Rattle.std.specs.List.{flat_map, filter, AllByRecursion, position, position_or_len}
 use Rattle.httparse.specs.Grammar.{is_token_byte, is_uri_byte, is_value_byte, AllPass, LineEnd}
 use Rattle.httparse.specs.Grammar.{crlf, lf, print_end, print_blank, print_version, Field}
 use Rattle.httparse.specs.Grammar.{print_field, IsField, print_section, RequestHead, IsRequestHead}
 use Rattle.httparse.specs.Grammar.{print_request, ReadsRequest, HasNoRequest, MayBecomeRequest}
 use Rattle.httparse.specs.{Pieces.{is_newline, Stops}, Spans.RequestExceeds}
-use Rattle.room_entry.proofs.Cuts.{place_of, none_of}
 use Rattle.httparse.proofs.{PieceLemmas.Stops_token, GrammarLemmas.print_request-append}
 use Rattle.httparse.proofs.GrammarLemmas.{cons-append}
+use Rattle.room_entry.proofs.Cuts.{place_of, none_of}
 
 abbrev is_feed : ℕ → Bool
 is_feed byte = byte == 10
@@ -38,8 +37,7 @@ no-feeds : (test : ℕ → Bool) → test 10 ≡ false → (bytes : List ℕ) �
 no-feeds test other [] all = refl
 no-feeds test other (byte ∷ bytes) all =
     let passes : test byte ≡ true = All-head (λ b. test b ≡ true) byte bytes all in
-    let differs : is_feed byte ≡ false =
-    ne_eqb byte 10 (λ same. both_ways (test 10) other (ap test (sym same) ∙ passes)) in
+    let differs : is_feed byte ≡ false = search (rules, ne_eqb, both_ways, other, passes) in
     ap length (cond-false (is_feed byte) (byte ∷ filter is_feed bytes) (filter is_feed bytes) differs)
     ∙ no-feeds test other bytes (All-tail (λ b. test b ≡ true) byte bytes all)
 
@@ -60,38 +58,18 @@ feeds-more byte text = grind (arith, nat_tests)
 
 ended-within : (text : List ℕ) → ended text ≤ feeds text
 ended-within [] = omega arith
-ended-within (byte ∷ text) =
-    elim (cases_Bool (is_newline byte)) [
-      | inl is ↦
-          let skips : ended (byte ∷ text) ≡ ended text =
-          cond-true (is_newline byte) (ended text) (feeds (byte ∷ text)) is in
-          let fewer = ended-within text in
-          let more = feeds-more byte text in
-          omega (arith, skips, fewer, more)
-      | inr isnt ↦
-          let all : ended (byte ∷ text) ≡ feeds (byte ∷ text) =
-          cond-false (is_newline byte) (ended text) (feeds (byte ∷ text)) isnt in
-          omega (arith, all)
-    ]
+ended-within (byte ∷ text) = search (rules, cond-true, feeds-more, cond-false, ended-within text)
 
 ended-grows : (a b : List ℕ) → ended a ≤ ended (a ++ b)
 ended-grows [] b = omega arith
 ended-grows (byte ∷ a) b =
     elim (cases_Bool (is_newline byte)) [
       | inl is ↦
-          let one : ended (byte ∷ a) ≡ ended a =
-          cond-true (is_newline byte) (ended a) (feeds (byte ∷ a)) is in
-          let two : ended (byte ∷ (a ++ b)) ≡ ended (a ++ b) =
-          cond-true (is_newline byte) (ended (a ++ b)) (feeds (byte ∷ (a ++ b))) is in
+          let one : ended (byte ∷ a) ≡ ended a = search (rules, cond-true, is) in
+          let two : ended (byte ∷ (a ++ b)) ≡ ended (a ++ b) = search (rules, cond-true, is) in
           let fewer = ended-grows a b in
           omega (arith, one, two, fewer)
-      | inr isnt ↦
-          let one : ended (byte ∷ a) ≡ feeds (byte ∷ a) =
-          cond-false (is_newline byte) (ended a) (feeds (byte ∷ a)) isnt in
-          let two : ended (byte ∷ (a ++ b)) ≡ feeds (byte ∷ (a ++ b)) =
-          cond-false (is_newline byte) (ended (a ++ b)) (feeds (byte ∷ (a ++ b))) isnt in
-          let sum = feeds-append (byte ∷ a) b in
-          omega (arith, one, two, sum)
+      | inr isnt ↦ search (rules, cond-false, isnt, feeds-append)
     ]
 
 ended-feed : (a : List ℕ) → ended (a ++ 10 ∷ []) ≤ ended a + 1
@@ -99,20 +77,12 @@ ended-feed [] = omega arith
 ended-feed (byte ∷ a) =
     elim (cases_Bool (is_newline byte)) [
       | inl is ↦
-          let one : ended (byte ∷ a) ≡ ended a =
-          cond-true (is_newline byte) (ended a) (feeds (byte ∷ a)) is in
+          let one : ended (byte ∷ a) ≡ ended a = search (rules, cond-true, is) in
           let two : ended (byte ∷ (a ++ 10 ∷ [])) ≡ ended (a ++ 10 ∷ []) =
           cond-true (is_newline byte) (ended (a ++ 10 ∷ [])) (feeds (byte ∷ (a ++ 10 ∷ []))) is in
           let fewer = ended-feed a in
           omega (arith, one, two, fewer)
-      | inr isnt ↦
-          let one : ended (byte ∷ a) ≡ feeds (byte ∷ a) =
-          cond-false (is_newline byte) (ended a) (feeds (byte ∷ a)) isnt in
-          let two : ended (byte ∷ (a ++ 10 ∷ [])) ≡ feeds (byte ∷ (a ++ 10 ∷ [])) =
-          cond-false (is_newline byte) (ended (a ++ 10 ∷ [])) (feeds (byte ∷ (a ++ 10 ∷ []))) isnt in
-          let sum : feeds ((byte ∷ a) ++ 10 ∷ []) ≡ feeds (byte ∷ a) + 1 =
-          feeds-append (byte ∷ a) (10 ∷ []) in
-          omega (arith, one, two, sum)
+      | inr isnt ↦ search (rules, cond-false, isnt, feeds-append)
     ]
 
 -- ---- lines
@@ -142,18 +112,14 @@ part-feeds : (text u r : List ℕ) → Line text → text ≡ u ++ r → 0 < len
 part-feeds text u r line split some =
     elim (cut u r line.front (10 ∷ []) (sym split ∙ line.whole)) [
       | inl (v, whole, rest) ↦ all-of v whole rest
-      | inr (more, whole, others) ↦
-          let sum : feeds line.front ≡ feeds u + feeds more =
-          ap feeds whole ∙ feeds-append u more in
-          omega (arith, sum, line.none)
+      | inr (more, whole, others) ↦ search (rules, line.front, more, whole, feeds-append, line.none)
     ]
   where
     all-of : (v : List ℕ) → u ≡ line.front ++ v → v ++ r ≡ 10 ∷ [] → feeds u ≡ 0
     all-of [] whole rest = ap feeds (whole ∙ append-nil line.front) ∙ line.none
     all-of (x ∷ v) whole rest =
         let size : length ((x ∷ v) ++ r) ≡ 1 = ap length rest in
-        let sum = length-append (x ∷ v) r in
-        absurd (omega (arith, size, sum, some))
+        search (rules, length-append, v, size, some)
 
 line-feeds : (text : List ℕ) → Line text → feeds text ≡ 1
 line-feeds text line = grind (arith, nat_tests, feeds-append)
@@ -175,9 +141,7 @@ end-line : (text : List ℕ) (end : LineEnd) → feeds text ≡ 0 → Line (text
 end-line text crlf none = record {
   front = text ++ 13 ∷ [];
   whole = sym (append_assoc text (13 ∷ []) (10 ∷ []));
-  none =
-      let sum : feeds (text ++ 13 ∷ []) ≡ feeds text + 0 = feeds-append text (13 ∷ []) in
-      omega (arith, sum, none);
+  none = search (rules, feeds-append, none);
 }
 end-line text lf none = record { front = text; whole = refl; none = none }
 
@@ -200,13 +164,7 @@ words-feeds h is =
     let method = token-feeds h.method is.method.1 in
     let target = no-feeds is_uri_byte refl h.target is.target.1 in
     let version = version-feeds h.minor is.minor in
-    let first : feeds (words h)
-    ≡ feeds h.method + feeds (h.target ++ 32 ∷ print_version h.minor) =
-    feeds-append h.method (32 ∷ (h.target ++ 32 ∷ print_version h.minor)) in
-    let second : feeds (h.target ++ 32 ∷ print_version h.minor)
-    ≡ feeds h.target + feeds (print_version h.minor) =
-    feeds-append h.target (32 ∷ print_version h.minor) in
-    omega (arith, method, target, version, first, second)
+    search (rules, h, h.method, h.target, h.minor, feeds-append, method, target, version)
 
 start-line : (h : RequestHead) → IsRequestHead h → Line (start h)
 start-line h is = end-line (words h) h.line_end (words-feeds h is)
@@ -233,11 +191,7 @@ section-feeds [] last all = line-feeds (print_end last) (last-line last)
 section-feeds (f ∷ fields) last all =
     let one = line-feeds (print_field f) (field-line f all.0) in
     let rest = section-feeds fields last all.1 in
-    let same : feeds (print_section (f ∷ fields) last)
-    ≡ feeds (print_field f ++ print_section fields last) =
-    ap feeds (append_assoc (print_field f) (flat_map print_field fields) (print_end last)) in
-    let sum = feeds-append (print_field f) (print_section fields last) in
-    omega (arith, one, rest, same, sum)
+    search (rules, last, append_assoc, feeds-append, one, rest)
 
 -- bytes that end so many lines of a section that isn't whole have the lines of so many fields
 fields-in : (n : ℕ) (fields : List Field) (last : LineEnd) (u more : List ℕ)
@@ -249,8 +203,7 @@ fields-in (suc n) [] last u more all same some many =
     let whole = line-cut (print_end last) u more [] (last-line last)
     (same ∙ sym (append-nil (print_end last))) (omega (arith, many)) in
     let none : length (whole.0 ++ more) ≡ 0 = ap length whole.2 in
-    let sum = length-append whole.0 more in
-    absurd (omega (arith, none, sum, some))
+    search (rules, length-append, whole.0, none, some)
 fields-in (suc n) (f ∷ fields) last u more all same some many =
     let first = line-cut (print_field f) u more (print_section fields last)
     (field-line f all.0)
@@ -261,11 +214,7 @@ fields-in (suc n) (f ∷ fields) last u more all same some many =
     ap feeds first.1 ∙ feeds-append (print_field f) first.0 in
     let rest = fields-in n fields last first.0 more all.1 first.2 some (omega (arith, sum, one, many)) in (
       omega (arith, rest.0),
-      (
-        rest.1.0,
-        first.1 ∙ ap (λ t. print_field f ++ t) rest.1.1
-            ∙ sym (append_assoc (print_field f) (flat_map print_field (take n fields)) rest.1.0),
-      ),
+      grind (arith, nat_tests, rest.1.0, first.1, rest.1.1, append_assoc),
     )
 
 -- ---- the head
@@ -312,9 +261,7 @@ blank-ends : (ends : List LineEnd) (w r : List ℕ) → print_blank ends ≡ w +
 blank-ends ends w r same =
     let whole : ended (print_blank ends) ≡ 0 =
     ap ended (sym (append-nil (print_blank ends))) ∙ ended-blank ends [] in
-    let equal : ended (print_blank ends) ≡ ended (w ++ r) = ap ended same in
-    let less = ended-grows w r in
-    omega (arith, whole, equal, less)
+    search (rules, same, ended-grows, whole)
 
 -- the head of the first fields, with an empty line
 abbrev shortened : ℕ → RequestHead → RequestHead
@@ -337,9 +284,7 @@ in-head room bytes more h none reads many =
     let whole : bytes ++ more ≡ blank ++ (start h ++ section) =
     reads.1 ∙ printed h [] ∙ ap (λ t. blank ++ (start h ++ t)) (append-nil section) in
     elim (cut bytes more blank (start h ++ section) whole) [
-      | inr (r, short, rest) ↦
-          let none-ended = blank-ends h.blank bytes r short in
-          absurd (omega (arith, none-ended, many))
+      | inr (r, short, rest) ↦ search (rules, blank-ends, h.blank, r, short, many)
       | inl (u, after, left) ↦
           let count : ended bytes ≡ ended u = ap ended after ∙ ended-blank h.blank u in
           let within = ended-within u in
@@ -396,10 +341,7 @@ pub ended-exceeds : (room : ℕ) (bytes : List ℕ) → HasNoRequest bytes → M
     → room + 2 ≤ ended bytes → RequestExceeds room bytes
 ended-exceeds room bytes none (inl (more, h, reads)) many = in-head room bytes more h none reads many
 ended-exceeds room bytes none (inr (ends, method, target, token, uri, whole)) many =
-    let none-ended : ended bytes ≡ 0 =
-    ap ended (whole ∙ append_assoc (print_blank ends) method (32 ∷ target))
-    ∙ in-target ends method target token.1 uri in
-    absurd (omega (arith, none-ended, many))
+    search (rules, whole, append_assoc, ends, method, target, in-target, token.1, uri, many)
 
 -- ---- where the empty lines end
 
@@ -413,10 +355,7 @@ ended-at : (bytes : List ℕ) → ended bytes ≡ feeds (drop (position_or_len i
 ended-at [] = refl
 ended-at (byte ∷ bytes) =
     elim (cases_Bool (is_newline byte)) [
-      | inl is ↦
-          rw is (ended-at bytes
-          ∙ ap (λ n. feeds (drop n (byte ∷ bytes)))
-          (sym (one-more (position_or_len is_other bytes))))
+      | inl is ↦ search (rules, is, one-more, ended-at bytes)
       | inr isnt ↦ rw isnt refl
     ]
 

@@ -1,6 +1,5 @@
 -- Worked replies: those of a fixed text, byte for byte.
-use Rattle.std.proofs.Common.{◌≡◌, refl, codes}
-use Rattle.std.specs.Fmt.{digits}
+use Rattle.std.{proofs.Common.{◌≡◌, refl, codes}, specs.Fmt.digits}
 use Rattle.serde_json.proofs.OnLiterals.{serde_json_on_literals}
 use Rattle.http_message.specs.Form.{reply_form}
 use Rattle.room_http.specs.{declared.refusal.Refusal.Refusal, Text.{refusal_reply, store_text}}

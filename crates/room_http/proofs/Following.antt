@@ -1,9 +1,9 @@
 -- The message at the front of the bytes.
-use Rattle.std.proofs.Common.{◌≡◌, ℕ, ◌+◌, ◌<◌, ◌≤◌, List, ◌++◌, length, take, drop, inr, sym, ap}
-use Rattle.std.proofs.{Common.{◌∙◌, arith, append_assoc, Option, Ok}, lemmas.List.take-append-drop}
-use Rattle.std.proofs.lemmas.{List.{length-append, length-take-le}, Bool.Decides.nat_tests}
-use Rattle.std.proofs.Math.Seq.{drop-append_seam, take-append_seam, drop-append-add}
-use Rattle.std.specs.List.{slice_range}
+use Rattle.std.proofs.Common.{rules, ◌≡◌, ℕ, ◌+◌, ◌<◌, ◌≤◌, List, ◌++◌, length, take, drop, inr}
+use Rattle.std.proofs.Common.{sym, ap, ◌∙◌, arith, append_assoc, Option, Ok}
+use Rattle.std.proofs.lemmas.List.{take-append-drop, length-append, length-take-le}
+use Rattle.std.proofs.{lemmas.Bool.Decides.nat_tests, Math.Seq.{drop-append_seam, take-append_seam}}
+use Rattle.std.{proofs.Math.Seq.drop-append-add, specs.List.slice_range}
 use Rattle.httparse.specs.declared.spans.{HeaderSpan.HeaderSpan, RequestSpans.RequestSpans}
 use Rattle.httparse.specs.Grammar.{RequestHead, print_request}
 use Rattle.http_message.specs.declared.head.Head.{Head}
@@ -96,7 +96,7 @@ part-next buf after more spans r h head size b s copied sized came short =
       h,
       rest,
       size,
-      record { head = b.head; whole = all },
+      search (rules, b.head),
       ap (λ (q : Head). body_size q.fields) (sym parts) ∙ sym sized,
       less,
     )

@@ -1,8 +1,8 @@
 -- A head found in a window of the bytes is a head of the bytes.
-use Rattle.std.proofs.Common.{◌≡◌, ℕ, ◌<◌, ◌≤◌, List, [], ◌∷◌, ◌++◌, length, take, drop, map, refl}
-use Rattle.std.proofs.Common.{inl, inr, sym, ap, subst, ◌∙◌, arith, min, append_assoc, Result, Ok}
-use Rattle.std.proofs.lemmas.List.{take-append-le, drop-append-le, take-append-drop, length-drop}
-use Rattle.std.proofs.lemmas.List.{length-take, take_min, take_all, length-map}
+use Rattle.std.proofs.Common.{rules, ◌≡◌, ℕ, ◌<◌, ◌≤◌, List, [], ◌∷◌, ◌++◌, length, take, drop, map}
+use Rattle.std.proofs.Common.{refl, inl, inr, sym, ap, subst, ◌∙◌, arith, min, append_assoc, Result}
+use Rattle.std.proofs.{Common.Ok, lemmas.List.{take-append-le, drop-append-le, take-append-drop}}
+use Rattle.std.proofs.lemmas.List.{length-drop, length-take, take_min, take_all, length-map}
 use Rattle.std.proofs.lemmas.{List.Elements.recursion_from_All, Bool.Decides.nat_tests}
 use Rattle.std.proofs.Math.{Seq.drop-append_seam, Nat.{min_comm, le_trans}}
 use Rattle.std.specs.List.{All, AllByRecursion, slice_range}
@@ -77,11 +77,7 @@ pub whole-in-window : (w : List ℕ) (spans : List HeaderSpan) (r : RequestSpans
     → IsRequestAt w spans r h
     → IsHead h × (w ≡ print_request h ++ drop r.len w) × AreSpansOf spans r h
 whole-in-window w spans r h room short within at = (
-  record {
-    valid = at.reads.0;
-    few = subst (λ m. length h.fields ≤ m) room (few-fields w spans r h at);
-    short = subst (λ m. m ≤ max_head) at.len (le_trans within.section.len_fits short);
-  },
+  search (rules, at.reads.0, room, few-fields, short, at.len, le_trans, within.section.len_fits),
   at.reads.1,
   spans-of-head w spans r h within at,
 )
@@ -95,10 +91,7 @@ begins-from-window buf w h n window head len whole =
     let all : buf ≡ p ++ (drop n w ++ drop max_head buf) =
     sym (take-append-drop max_head buf) ∙ ap (λ t. t ++ drop max_head buf) (sym window ∙ whole)
     ∙ append_assoc p (drop n w) (drop max_head buf) in
-    let rest : drop n buf ≡ drop n w ++ drop max_head buf =
-    ap (λ t. drop n t) all ∙ ap (λ m. drop m (p ++ (drop n w ++ drop max_head buf))) len
-    ∙ drop-append_seam p (drop n w ++ drop max_head buf) in
-    record { head = head; whole = all ∙ ap (λ t. p ++ t) (sym rest) }
+    search (rules, p, drop-append_seam, head, whole)
 
 short-window : (n k len : ℕ) → k ≡ min n len → k < n → len < n
 short-window n k len e lt = omega arith
@@ -113,8 +106,7 @@ scans-from-window buf w spans (HeadScan.Whole r) window at =
     (at.0, begins-from-window buf w at.0 r.len window at.1 at.3.len at.2, at.3)
 scans-from-window buf w spans HeadScan.Part window at =
     let len : length w ≡ min max_head (length buf) = ap length window ∙ length-take max_head buf in
-    let below : length buf < max_head =
-    short-window max_head (length w) (length buf) len at.0 in
+    let below : length buf < max_head = search (rules, short-window, at.0) in
     let same : w ≡ buf = window ∙ take_all max_head buf (omega (arith, below)) in
     subst MayGoOn same at
 scans-from-window buf w spans (HeadScan.Refused Refusal.BadHead) window at =

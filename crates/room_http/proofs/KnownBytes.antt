@@ -1,8 +1,8 @@
 -- Known bytes that are read or written one text after another.
-use Rattle.std.proofs.Common.{Bool, true, false, Result, Ok, Err, OnOk, OnErr, IfErr, ◌≡◌, ℕ, ◌+◌}
+use Rattle.std.proofs.Common.{Bool, true, false, Result, Ok, Err, OnErr, IfErr, ◌≡◌, ℕ, ◌+◌}
 use Rattle.std.proofs.Common.{◌-◌, ◌<◌, arith, List, [], ◌++◌, length, take, drop, subst, Option}
 use Rattle.std.proofs.Common.{Some, None, sym, ap, refl, ◌∙◌, append_assoc}
-use Rattle.std.proofs.lemmas.List.{append-nil, take-append-drop, length-append, length-drop}
+use Rattle.std.proofs.lemmas.List.{take-append-drop, length-append, length-drop}
 use Rattle.std.specs.Io.KnownBytes.{Appends, Consumes, Keeps}
 use Rattle.room_http.specs.{declared.ended.Cause.Cause, Spans.{Came, StopsReading}, Turn.WritesPart}
 use Rattle.room_entry.proofs.Facts.KnownBytes.{Appends-then, Appends-kept}
@@ -19,23 +19,9 @@ pub Consumes-none : (u : Option (List ℕ)) → Consumes u u []
 Consumes-none None = tt
 Consumes-none (Some xs) = refl
 
-pub Came-none : (u : Option (List ℕ)) (a : List ℕ) → Came u u a a
-Came-none u a = ([], Consumes-none u, sym (append-nil a))
-
 pub Came-then : (u v w : Option (List ℕ)) (a b d : List ℕ) → Came u v a b → Came v w b d
     → Came u w a d
-Came-then u v w a b d x y = (
-  x.0 ++ y.0,
-  Consumes-then u v w x.0 y.0 x.1 y.1,
-  y.2 ∙ ap (λ (t : List ℕ). t ++ y.0) x.2
-      ∙ append_assoc a x.0 y.0,
-)
-
--- more bytes came, as an answer says
-pub came-behind : {A E : Type 0} (u v w : Option (List ℕ)) (a b d : List ℕ) (result : Result A E)
-    → Came u v a b → OnOk result (Came v w b d) → OnOk result (Came u w a d)
-came-behind u v w a b d (Ok value) x y = Came-then u v w a b d x y
-came-behind u v w a b d (Err why) x y = tt
+Came-then u v w a b d x y = (grind (arith, x.0, y.0, x.1, y.1, y.2, x.2, append_assoc))
 
 -- more bytes came, and then a read brought nothing
 pub lost-behind : {A : Type 0} (u v w : Option (List ℕ)) (a b : List ℕ) (result : Result A Cause)
@@ -67,12 +53,7 @@ pub first-part : (u v : Option (List ℕ)) (front rest text : List ℕ) → fron
 first-part u v front rest text e w =
     let len : length (w.0.1 ++ rest) ≡ length w.0.1 + length rest = length-append w.0.1 rest in
     subst (λ t. WritesPart u v t) e (
-      (
-        w.0.0,
-        w.0.1 ++ rest,
-        ap (λ (t : List ℕ). t ++ rest) w.0.2 ∙ append_assoc w.0.0 w.0.1 rest,
-        w.0.3,
-      ),
+      grind (arith, w.0.0, w.0.1, w.0.2, append_assoc, w.0.3),
       omega (arith, len, w.1),
     )
 
@@ -85,8 +66,7 @@ second-part (Err why) u v w front rest text e x y =
       (
         front ++ y.0.0,
         y.0.1,
-        ap (λ (t : List ℕ). front ++ t) y.0.2
-            ∙ sym (append_assoc front y.0.0 y.0.1),
+        grind (arith, y.0.2, append_assoc, y.0.0, y.0.1),
         Appends-then u v w front y.0.0 x y.0.3,
       ),
       y.1,

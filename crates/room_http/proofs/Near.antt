@@ -1,10 +1,9 @@
 -- How far the bytes that were read reach, and what is there where a read brings nothing.
-use Rattle.std.proofs.Common.{◌≡◌, ℕ, ◌+◌, ◌-◌, ◌<◌, ◌≤◌, ◌⊎◌, List, [], ◌∷◌, ◌++◌, length, take}
-use Rattle.std.proofs.Common.{drop, max, refl, inl, inr, sym, ap, subst, ◌∙◌, arith, Option}
+use Rattle.std.proofs.Common.{rules, ◌≡◌, ℕ, ◌+◌, ◌-◌, ◌<◌, ◌≤◌, ◌⊎◌, List, [], ◌∷◌, ◌++◌, length}
+use Rattle.std.proofs.Common.{take, drop, max, refl, inl, inr, sym, ap, subst, ◌∙◌, arith, Option}
 use Rattle.std.proofs.lemmas.{Bool.{cases_lt, Decides.nat_tests}, List.{append-nil, length-append}}
 use Rattle.std.proofs.lemmas.List.{length-drop, take-append-le, take-append-drop}
-use Rattle.std.proofs.Math.Seq.{take-append_seam}
-use Rattle.std.specs.Io.KnownBytes.{Consumes}
+use Rattle.std.{proofs.Math.Seq.take-append_seam, specs.Io.KnownBytes.Consumes}
 use Rattle.httparse.specs.Grammar.{RequestHead, print_request, HasNoRequest}
 use Rattle.httparse.specs.declared.spans.{RequestSpans.RequestSpans, HeaderSpan.HeaderSpan}
 use Rattle.room_http.specs.declared.{ended.Cause.Cause, next.NextMessage.NextMessage}
@@ -41,9 +40,7 @@ near-after buf before more n split size lt = grind (arith, nat_tests, length-app
 pub near-found : (start buf : List ℕ) (spans : List HeaderSpan) (r : RequestSpans) → Grown start buf
     → SpansHead buf spans r
     → length start < read_size → length buf < r.len + read_size
-near-found start buf spans r (inl same) found short =
-    let len : length buf ≡ length start = ap length same in
-    omega (arith, len, short)
+near-found start buf spans r (inl same) found short = search (rules, same, short)
 near-found start buf spans r (inr g) found short =
     elim (cases_lt (length g.0) r.len) [
       | inl lt ↦ near-after buf g.0 g.1 r.len g.2 g.5 lt

@@ -1,20 +1,20 @@
 -- A connection turn by turn.
-use Rattle.std.proofs.Common.{◌≡◌, ℕ, ℤ, ◌+◌, ◌<◌, true, false, length, List, [], ◌∷◌, ◌++◌, refl}
-use Rattle.std.proofs.{Common.{sym, ap, subst, ◌∙◌, append_assoc, arith}, lemmas.List.append-nil}
-use Rattle.std.proofs.lemmas.List.{length-append, Elements.{All-append, All-nil}}
+use Rattle.std.proofs.Common.{rules, ◌≡◌, ℕ, ℤ, ◌+◌, ◌<◌, true, false, length, List, [], ◌∷◌, ◌++◌}
+use Rattle.std.proofs.Common.{refl, sym, ap, subst, ◌∙◌, append_assoc, arith}
+use Rattle.std.proofs.lemmas.List.{append-nil, length-append, Elements.{All-append, All-nil}}
 use Rattle.std.proofs.lemmas.{List.Elements.All-from_recursion, Grind.flat_map-append}
 use Rattle.std.specs.Io.KnownBytes.{Appends}
 use Rattle.room_machine.specs.{declared.desk.Desk.Ghosts, Desk.DeskLaws, Run.Asking}
 use Rattle.room_http.proofs.{Runs.{exchanged-then, nothing-done}, KnownBytes.Consumes-then}
 use Rattle.room_http.proofs.KnownBytes.{Consumes-none}
-use Rattle.room_http.specs.declared.ended.{Cause.Cause, Ended.Ended, ServeFault.ServeFault}
+use Rattle.room_http.specs.declared.ended.{Ended.Ended, ServeFault.ServeFault}
 use Rattle.room_http.specs.declared.server.{Connection.Connection, TurnFault.TurnFault}
 use Rattle.room_http.specs.{Limits.max_messages, Message.print_message, Stream.{Exchange, IsOpen}}
 use Rattle.room_http.specs.Stream.{exchange_text, bytes_of, texts_of, last_text, DeskRuns, Last}
 use Rattle.room_http.specs.Stream.{events_by, last_asking, last_exchange, EndsStream}
-use Rattle.room_http.specs.Serve.{Snapshot, Blames, FaultsRose, Serves, Stops, Connects, Next}
-use Rattle.room_http.specs.Serve.{next_asking, next_exchange, next_text, IsNext, NextRose, NearLast}
-use Rattle.room_http.specs.{Serve.NearNext, Turn.{Along, TurnsOpen, TurnsLast, TurnsStop}}
+use Rattle.room_http.specs.Serve.{Snapshot, FaultsRose, Serves, Stops, Connects, Next, next_asking}
+use Rattle.room_http.specs.Serve.{next_exchange, next_text, IsNext, NextRose, NearLast, NearNext}
+use Rattle.room_http.specs.Turn.{Along, TurnsOpen, TurnsLast, TurnsStop}
 use Rattle.room_entry.proofs.Facts.KnownBytes.{Appends-then, Appends-none}
 
 pub Along-begin : {D : Type 0} (d : Ghosts D) → DeskLaws d.Outlasts → (moment : ℤ)
@@ -37,20 +37,12 @@ bytes-then : (read buf more after : List ℕ) (xs : List Exchange) (x : Exchange
     → read ≡ bytes_of xs ++ buf → print_message x.message ++ after ≡ buf ++ more
     → read ++ more ≡ bytes_of (xs ++ x ∷ []) ++ after
 bytes-then read buf more after xs x whole came =
-    let print : Exchange → List ℕ = λ y. print_message y.message in
-    let one : bytes_of (xs ++ x ∷ []) ≡ bytes_of xs ++ print x =
-    flat_map-append print xs (x ∷ []) ∙ ap (λ t. bytes_of xs ++ t) (append-nil (print x)) in
-    ap (λ t. t ++ more) whole ∙ append_assoc (bytes_of xs) buf more
-    ∙ ap (λ t. bytes_of xs ++ t) (sym came)
-    ∙ sym (append_assoc (bytes_of xs) (print x) after)
-    ∙ ap (λ t. t ++ after) (sym one)
+    grind (arith, x, flat_map-append, append-nil, whole, append_assoc, came)
 
 -- the bytes of what ends the connection
 bytes-last : (read buf more rest : List ℕ) (xs : List Exchange)
     → read ≡ bytes_of xs ++ buf → rest ≡ buf ++ more → read ++ more ≡ bytes_of xs ++ rest
-bytes-last read buf more rest xs whole came =
-    ap (λ t. t ++ more) whole ∙ append_assoc (bytes_of xs) buf more
-    ∙ ap (λ t. bytes_of xs ++ t) (sym came)
+bytes-last read buf more rest xs whole came = grind (arith, whole, append_assoc, came)
 
 -- a connection so far, and what comes then
 module _ {D : Type 0} (d : Ghosts D) (laws : DeskLaws d.Outlasts) (moment : ℤ) (n : ℕ)
@@ -69,8 +61,7 @@ module _ {D : Type 0} (d : Ghosts D) (laws : DeskLaws d.Outlasts) (moment : ℤ)
       let x = t.x in
       let text : List ℕ = exchange_text false x in
       let one : texts_of (xs ++ x ∷ []) ≡ texts_of xs ++ text =
-      flat_map-append (exchange_text false) xs (x ∷ [])
-      ∙ ap (λ k. texts_of xs ++ k) (append-nil text) in
+      grind (arith, flat_map-append, xs, x, append-nil, text) in
       let W : List ℕ → Type 0 = λ k. Appends old.sent new.sent k in
       let along : Along d moment (n + 1) old new after = record {
         read = a.read ++ t.came.0;
@@ -104,18 +95,7 @@ module _ {D : Type 0} (d : Ghosts D) (laws : DeskLaws d.Outlasts) (moment : ℤ)
         talks = record {
           read = a.read ++ t.came.0;
           reads = Consumes-then old.left mid.left new.left a.read t.came.0 a.reads t.came.1;
-          stream = record {
-            rest = t.rest;
-            opens =
-                record {
-                  whole =
-                      bytes-last a.read buf t.came.0 t.rest a.exchanges a.opens.whole t.came.2;
-                  each =
-                      a.opens.each;
-                };
-            few = subst (λ k. k < max_messages) a.count a.few;
-            ends = subst E a.count t.ends;
-          };
+          stream = grind (arith, t.rest, bytes-last, t.came.0, t.came.2, t.ends);
           near = t.near;
           writes =
               Appends-then old.sent mid.sent new.sent (texts_of a.exchanges)
@@ -141,13 +121,7 @@ module _ {D : Type 0} (d : Ghosts D) (laws : DeskLaws d.Outlasts) (moment : ℤ)
             read = a.read ++ t.came.0;
             rest = t.rest;
             reads = Consumes-then old.left mid.left new.left a.read t.came.0 a.reads t.came.1;
-            opens =
-                record {
-                  whole =
-                      bytes-last a.read buf t.came.0 t.rest a.exchanges a.opens.whole t.came.2;
-                  each =
-                      a.opens.each;
-                };
+            opens = search (rules, bytes-last, t.came.2);
             few = subst (λ k. k < max_messages) a.count a.few;
             is_next = subst N a.count t.is_next;
             near = t.near;
@@ -162,9 +136,7 @@ module _ {D : Type 0} (d : Ghosts D) (laws : DeskLaws d.Outlasts) (moment : ℤ)
         };
         answered = answered ∙ a.count;
         acted = acted ∙ t.acted;
-        cause =
-            subst (λ (k : Cause). Blames k t.next t.rest t.writes.0 t.writes.1) (sym cause)
-            t.cause;
+        cause = search (rules, cause, t.cause);
       }
 
 -- ---- however it ended
@@ -245,7 +217,5 @@ served-connects d moment old new ended s =
         writes = t.writes;
       };
       faults = next-rose-of s.last (d.faults old.desk) (d.faults new.desk) s.faults;
-      did =
-          subst (λ asked. O asked (next_exchange (next_of s.last))) (next-asking-of moment s.last)
-          (subst (O (last_asking moment s.last)) (next-exchange-of s.last) s.did);
+      did = grind (arith, s.last, next-asking-of, next-exchange-of, s.did);
     }

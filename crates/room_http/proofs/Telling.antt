@@ -1,7 +1,7 @@
 -- How one message was answered.
-use Rattle.std.proofs.Common.{◌≡◌, ℕ, ℤ, ◌+◌, ◌-◌, ◌^◌, ◌<◌, ◌≤◌, ◌⊎◌, Bool, List, [], min, refl}
-use Rattle.std.proofs.Common.{inl, inr, sym, subst, arith, Option, Some, None, Result, Ok, Err}
-use Rattle.std.proofs.{Common.{OnOk, OnErr, IfErr}, lemmas.Bool.{cases_lt, Decides.nat_tests}}
+use Rattle.std.proofs.Common.{rules, ◌≡◌, ℕ, ℤ, ◌+◌, ◌-◌, ◌^◌, ◌<◌, ◌≤◌, ◌⊎◌, Bool, List, [], min}
+use Rattle.std.proofs.Common.{refl, inl, inr, sym, subst, arith, Option, Some, None, Result, Ok}
+use Rattle.std.proofs.{Common.{Err, OnOk, OnErr, IfErr}, lemmas.Bool.{cases_lt, Decides.nat_tests}}
 use Rattle.std.specs.Io.KnownBytes.{Appends}
 use Rattle.room_machine.specs.{declared.{desk.Desk.Ghosts, reply.Reply.Reply}, Desk.DeskLaws}
 use Rattle.http_message.specs.declared.fault.HttpFault.{HttpFault}
@@ -10,9 +10,8 @@ use Rattle.room_http.specs.Answer.{JoinsText, Failed, Responds, SendsRefusal, Te
 use Rattle.room_http.specs.declared.told.{Answer.Answer, Response.Response, Lost.Lost}
 use Rattle.room_http.specs.declared.{server.{TurnFault.TurnFault, Wrote.Wrote}, ended.Cause.Cause}
 use Rattle.room_http.specs.{Stream.{HasReply, DeskRuns, answer_text, events_at}, Text.store_text}
-use Rattle.room_http.specs.{Serve.{BlamesText, BlamesWriter}, Turn.{WritesPart, WritesSome}}
-use Rattle.room_http.specs.Tell.{StopsWithin, Tells, TellsText}
-use Rattle.room_http.proofs.Runs.{nothing-done}
+use Rattle.room_http.specs.{Serve.BlamesWriter, Turn.{WritesPart, WritesSome}, Tell.StopsWithin}
+use Rattle.room_http.{specs.Tell.{Tells, TellsText}, proofs.Runs.nothing-done}
 use Rattle.room_entry.proofs.Facts.KnownBytes.{Appends-none}
 
 rose-by : (old new : ℕ) → (old < 2 ^ 64 - 1) ⊎ (2 ^ 64 - 1 ≤ old) → new ≡ min (old + 1) (2 ^ 64 - 1)
@@ -111,8 +110,7 @@ module _ {D : Type 0} (d : Ghosts D) (moment : ℤ) (old new : D) where
       → (reply : Option Reply) × Replies d moment old new asked reply
       × Appends sent sent' (answer_text close asked reply)
   answers-whole laws close asked sent sent' (Ok (Response.Refused text)) r t =
-      let a = refused-tells laws close asked text.items r in
-      (None, a.0, Appends-is sent sent' text.items _ a.1 t.1)
+      search (rules, refused-tells, laws, asked, r, t.1)
   answers-whole laws close asked sent sent' (Ok (Response.Replied text)) r t =
       let a = replied-tells close asked text r in
       (Some a.0, a.1, Appends-is sent sent' text _ a.2 t.1)
@@ -136,13 +134,9 @@ pub within-write : (u v : Option (List ℕ)) (a b : List ℕ) (cause : Cause) �
     → cause ≡ Cause.Write
     → WritesPart u v a → StopsWithin u v b cause
 within-write u v a b cause e f w =
-    let part = subst (λ t. WritesPart u v t) e w in
-    let wrote = part.0 in
-    (wrote, subst (λ (k : Cause). BlamesText k wrote.0 wrote.1) (sym f) part.1)
+    let part = subst (λ t. WritesPart u v t) e w in search (rules, f)
 
 -- the same for the text that reports a fault of the desk
 pub within-fault : (u v : Option (List ℕ)) (cause : Cause) → cause ≡ Cause.Write
     → WritesPart u v store_text → (wrote : WritesSome u v store_text) × BlamesWriter cause wrote.1
-within-fault u v cause f part =
-    let wrote = part.0 in
-    (wrote, subst (λ (k : Cause). BlamesWriter k wrote.1) (sym f) part.1)
+within-fault u v cause f part = search (rules, f)

@@ -1,7 +1,7 @@
 -- One turn of the server.
-use Rattle.std.proofs.Common.{◌≡◌, ℕ, ℤ, ◌+◌, ◌<◌, ◌||◌, ◌==◌, Bool, true, false, List, [], ◌∷◌}
-use Rattle.std.proofs.Common.{◌++◌, length, drop, refl, sym, ap, subst, ◌∙◌, arith, Option, Some}
-use Rattle.std.proofs.{Common.{None, Result, Ok, Err, IfOk, IfErr}, lemmas.List.append-nil}
+use Rattle.std.proofs.Common.{rules, ◌≡◌, ℕ, ℤ, ◌+◌, ◌<◌, ◌||◌, ◌==◌, Bool, true, false, List, []}
+use Rattle.std.proofs.Common.{◌∷◌, ◌++◌, length, drop, refl, sym, ap, subst, ◌∙◌, arith, Option}
+use Rattle.std.proofs.{Common.{Some, None, Result, Ok, Err, IfOk, IfErr}, lemmas.List.append-nil}
 use Rattle.std.proofs.lemmas.{Option.{same_Some, none-some}, Bool.Decides.nat_tests}
 use Rattle.std.specs.{Prelude.is_some, List.slice_range, Io.KnownBytes.{Appends, IsAtEnd}}
 use Rattle.room_machine.specs.{declared.{desk.Desk.Ghosts, reply.Reply.Reply}, Desk.DeskLaws}
@@ -9,16 +9,16 @@ use Rattle.http_message.specs.{declared.head.Head.Head, Asked.request_of, Close.
 use Rattle.room_http.proofs.{Runs.nothing-done, Telling.{Replies, answers-whole, fails-whole}}
 use Rattle.room_http.proofs.Telling.{nothing-sent, refused-tells, replied-tells, replies-stepped}
 use Rattle.room_http.proofs.{Telling.{within-fault, within-write}, Near.{near-message, near-rest}}
-use Rattle.room_http.proofs.KnownBytes.{Came-none, Came-then, Consumes-none}
+use Rattle.room_http.proofs.KnownBytes.{Came-then, Consumes-none}
 use Rattle.room_http.specs.declared.{next.NextMessage.NextMessage, ended.{Ended.Ended, Cause.Cause}}
 use Rattle.room_http.specs.declared.server.{TurnFault.TurnFault, Connection.Connection, Wrote.Wrote}
 use Rattle.room_http.specs.declared.{told.{Lost.Lost, Response.Response}, refusal.Refusal.Refusal}
 use Rattle.room_http.specs.{Limits.{max_messages, read_size}, Message.{Message, print_message}}
-use Rattle.room_http.specs.{Message.{IsRefusedHead, IsPart, asked, closes}, Text.refusal_reply}
+use Rattle.room_http.specs.{Message.{IsRefusedHead, IsPart, asked}, Text.refusal_reply}
 use Rattle.room_http.specs.Stream.{DeskRuns, Last, answer_text, events_at, events_by, says_close}
-use Rattle.room_http.specs.{Spans.Came, Serve.{Snapshot, Next, BlamesBefore, BlamesText}}
-use Rattle.room_http.specs.{Serve.{IsNearHead, seen}, Turn.{TurnsOpen, TurnsLast, TurnsStop, Turns}}
-use Rattle.room_http.specs.{Turn.WholeNext, Answer.{ActedIf, Responds}, Tell.{StopsWithin, Tells}}
+use Rattle.room_http.specs.{Spans.Came, Serve.{Snapshot, Next, BlamesText, IsNearHead, seen}}
+use Rattle.room_http.specs.Turn.{TurnsOpen, TurnsLast, TurnsStop, Turns, WholeNext}
+use Rattle.room_http.specs.{Answer.{ActedIf, Responds}, Tell.{StopsWithin, Tells}}
 use Rattle.room_entry.proofs.Facts.KnownBytes.{Appends-none}
 
 -- the message asks what its copied head and its body ask
@@ -72,17 +72,11 @@ take-open d moment n old new buf connection next w reply few near same stays res
     let m = w.message in
     let after = connection.inbox.buf.items in
     let L : Option (List ℕ) → Type 0 = λ l. Came old.left l buf (print_message m ++ after) in
-    let whole : print_message m ++ after ≡ buf = ap (λ t. print_message m ++ t) rest
-    ∙ sym w.whole in
-    let off : ((n + 1) == max_messages) ≡ false = or-second (closes m)
-    ((n + 1) == max_messages) stays in
+    let whole : print_message m ++ after ≡ buf = search (rules, m, rest, w.whole) in
+    let off : ((n + 1) == max_messages) ≡ false = search (rules, or-second, stays) in
     record {
       x = record { message = m; reply = reply };
-      is_open =
-          record {
-            is = record { message = w.is; agrees = r.agrees };
-            stays = or-first (closes m) ((n + 1) == max_messages) stays;
-          };
+      is_open = search (rules, w.is, r.agrees, stays, or-first);
       more = not-last n few off;
       counts = counts;
       came = subst L (sym same) ([], Consumes-none old.left, whole ∙ sym (append-nil buf));
@@ -93,9 +87,7 @@ take-open d moment n old new buf connection next w reply few near same stays res
     }
 
 came-same : (u v : Option (List ℕ)) (buf : List ℕ) → v ≡ u → Came u v buf buf
-came-same u v buf e =
-    let L : Option (List ℕ) → Type 0 = λ l. Came u l buf buf in
-    subst L (sym e) (Came-none u buf)
+came-same u v buf e = search (rules, e)
 
 take-closing : {D : Type 0} (d : Ghosts D) (moment : ℤ) (n : ℕ) (old new : Snapshot D)
     (buf : List ℕ)
@@ -187,8 +179,7 @@ module _ {D : Type 0} (d : Ghosts D) (moment : ℤ) (n : ℕ) (old new : Snapsho
         next = Next.Exchanging (record { message = m; reply = reply }) close;
         rest = buf;
         came = came-same old.left new.left buf same;
-        is_next =
-            (record { message = w.is; agrees = r.agrees }, says, (drop next.end buf, w.whole));
+        is_next = search (rules, r.agrees);
         near = near-message buf next w near;
         writes = within.0;
         acted = acted;
@@ -217,10 +208,8 @@ module _ {D : Type 0} (d : Ghosts D) (moment : ℤ) (n : ℕ) (old new : Snapsho
         near = tt;
         writes = ([], [], refl, nothing-sent old.sent new.sent wrote);
         acted = acted;
-        cause = subst (λ (k : Cause). BlamesBefore k buf) (sym why)
-            (let small = w.small in omega (arith, small, near));
-        did = subst (λ (desk : D). DeskRuns d old.desk [] [] desk) (sym a)
-            (nothing-done d laws old.desk);
+        cause = search (rules, why);
+        did = search (rules, a, nothing-done, laws);
         faults = ap d.faults a;
       }
 

@@ -42,12 +42,11 @@ impl Inbox {
         ensures next { IfOk result (Coming self.new.buf.items (R.remaining r.new)) }
     {
         let mut spans = [EMPTY_HEADER_SPAN; MAX_FIELDS];
-        match self.read_head(r, &mut spans) {
-            Ok(HeadRead::Found(parts)) => self.next_behind(r, &spans, parts),
-            Ok(HeadRead::NotHead(refusal)) => Ok(Upcoming::Refused(refusal)),
-            Ok(HeadRead::Ended) if self.buf.is_empty() => Ok(Upcoming::Clean),
-            Ok(HeadRead::Ended) => Ok(Upcoming::Cut),
-            Err(cause) => Err(cause),
+        match self.read_head(r, &mut spans)? {
+            HeadRead::Found(parts) => self.next_behind(r, &spans, parts),
+            HeadRead::NotHead(refusal) => Ok(Upcoming::Refused(refusal)),
+            HeadRead::Ended if self.buf.is_empty() => Ok(Upcoming::Clean),
+            HeadRead::Ended => Ok(Upcoming::Cut),
         }
     }
 

@@ -1,20 +1,17 @@
 -- The pairs of rows: those of all rows, each once, in the order in which they come first.
-use Rattle.std.proofs.Common.{ℕ, zero, suc, ◌≡◌, ◌+◌, ◌∷◌, ◌++◌, Bool, true, false, cond, List, []}
-use Rattle.std.proofs.Common.{take, length, Result, Ok, Err, refl, sym, ap, subst, ◌∙◌, inl, inr}
+use Rattle.std.proofs.Common.{rules, ℕ, zero, suc, ◌≡◌, ◌+◌, ◌∷◌, ◌++◌, Bool, true, false, cond}
+use Rattle.std.proofs.Common.{List, [], take, length, Result, Ok, Err, refl, sym, ap, ◌∙◌, inl, inr}
 use Rattle.std.proofs.{Common.{arith, append_assoc, append-nil}, lemmas.Bool.cases_Bool}
 use Rattle.std.proofs.lemmas.Bool.{and_parts, and_from, or_cases, or_from, or_left, or_right}
 use Rattle.std.proofs.lemmas.Bool.{or_parts, cond-true, cond-false, false≢true, not_from_false}
-use Rattle.std.proofs.lemmas.{Bool.not-true, List.Folds.list_any-append}
-use Rattle.std.specs.{Prelude.{◌||◌, ◌&&◌, not, nat_lt}, List.{list_all, list_any}}
-use Rattle.std.specs.Cmp.Lexicographic.{bytes_decides}
-use Rattle.room_entry.specs.{Pieces.same_text, Names.is_name, Utf8.is_utf8}
+use Rattle.std.{proofs.lemmas.{Bool.not-true, List.Folds.list_any-append}, specs.Prelude.◌||◌}
+use Rattle.std.specs.{Prelude.{◌&&◌, not}, List.list_any}
+use Rattle.room_entry.{specs.Names.is_name, proofs.Texts.same_text-sym}
 use Rattle.room_import.specs.declared.fault.{CsvFault.CsvFault, CsvWhy.TheVariants.BadName}
-use Rattle.room_import.specs.declared.fault.CsvWhy.TheVariants.{NotTwoFields, TooManyRows, NotUtf8}
-use Rattle.room_import.specs.Groups.{and_then, fault_at, pair_of, pair_of_row, pairs_after}
-use Rattle.room_import.specs.{Groups.{same_pair, with_pair}, Exports.{FirstFault, PairsOfRows}}
-use Rattle.room_import.specs.Exports.{are_once, has_pair, pair_row}
-use Rattle.room_entry.proofs.Texts.{same_text-sym}
-use Rattle.room_import.proofs.SeenFacts.{with_new, with_old}
+use Rattle.room_import.specs.{declared.fault.CsvWhy.TheVariants.NotUtf8, Groups.and_then}
+use Rattle.room_import.specs.Groups.{fault_at, pair_of, pair_of_row, pairs_after, same_pair}
+use Rattle.room_import.specs.{Groups.with_pair, Exports.{FirstFault, PairsOfRows, are_once}}
+use Rattle.room_import.{specs.Exports.{has_pair, pair_row}, proofs.SeenFacts.{with_new, with_old}}
 
 abbrev Pair : Type 0
 Pair = List ℕ × List ℕ
@@ -25,16 +22,10 @@ Rows = List (List (List ℕ))
 -- ---- pairs that are the same
 
 pair_is : (a b : Pair) → same_pair a b ≡ true → a ≡ b
-pair_is a b same =
-    let both = and_parts (same_text a.0 b.0) (same_text a.1 b.1) same in
-    let group : a.0 ≡ b.0 = (bytes_decides a.0 b.0).0 both.0 in
-    let user : a.1 ≡ b.1 = (bytes_decides a.1 b.1).0 both.1 in
-    λ i. (group i, user i)
+pair_is a b same = search (rules, and_parts, a.0, b.0, a.1, b.1, same)
 
 same_pair-sym : (a b : Pair) → same_pair a b ≡ same_pair b a
-same_pair-sym a b =
-    ap (λ x. x && same_text a.1 b.1) (same_text-sym a.0 b.0)
-    ∙ ap (λ y. same_text b.0 a.0 && y) (same_text-sym a.1 b.1)
+same_pair-sym a b = grind (arith, a.1, b.1, same_text-sym, a.0, b.0)
 
 -- what passes as a pair that is there passes there
 held : (test : Pair → Bool) (pair : Pair) (before : List Pair)
@@ -42,9 +33,7 @@ held : (test : Pair → Bool) (pair : Pair) (before : List Pair)
 held test pair [] there passes = absurd (false≢true there)
 held test pair (other ∷ before) there passes =
     elim (or_cases (same_pair pair other) (list_any (same_pair pair) before) there) [
-      | inl same ↦
-          or_left (test other) (list_any test before)
-          (ap test (sym (pair_is pair other same)) ∙ passes)
+      | inl same ↦ search (rules, or_left, test, pair_is, pair, same, passes)
       | inr later ↦
           or_right (test other) (list_any test before) (held test pair before later passes)
     ]
@@ -88,16 +77,7 @@ text_is row false fields pair is = absurd (cc)
 
 row_is : (row : ℕ) (fields : List (List ℕ)) (pair : Pair) → pair_of_row row fields ≡ Ok pair
     → fields ≡ pair_row pair
-row_is row fields pair is =
-    elim (cases_Bool (nat_lt 20001 row)) [
-      | inl many ↦
-          let fault : fault_at row TooManyRows ≡ Ok pair =
-          sym (cond-true (nat_lt 20001 row) (fault_at row TooManyRows) _ many) ∙ is in
-          absurd (cc)
-      | inr few ↦
-          text_is row (list_all is_utf8 fields) fields pair
-          (sym (cond-false (nat_lt 20001 row) (fault_at row TooManyRows) _ few) ∙ is)
-    ]
+row_is row fields pair is = grind (arith, pair, cond-true, is, text_is, cond-false)
 
 -- what the next row gives, and the pairs behind it
 next_pair : (before : List Pair) (row : ℕ) (rows : Rows) (pairs : List Pair)
@@ -130,15 +110,7 @@ or_old false false c there = refl
 any_with : (test : Pair → Bool) (before : List Pair) (pair : Pair) (rest : Bool)
     → (list_any test (with_pair before pair) || rest) ≡ (list_any test before || (test pair || rest))
 any_with test before pair rest =
-    elim (cases_Bool (list_any (same_pair pair) before)) [
-      | inl there ↦
-          ap (λ pairs. list_any test pairs || rest) (with_old before pair there)
-          ∙ or_old (list_any test before) (test pair) rest (held test pair before there)
-      | inr new ↦
-          ap (λ pairs. list_any test pairs || rest) (with_new before pair new)
-          ∙ ap (λ b. b || rest) (list_any-append test before (pair ∷ []))
-          ∙ or_assoc (list_any test before) (test pair) rest
-    ]
+    grind (arith, pair, test, with_old, or_old, held, with_new, list_any-append, or_assoc)
 
 any_after : (test : Pair → Bool) (before : List Pair) (row : ℕ) (rows : Rows) (pairs : List Pair)
     → pairs_after before row rows ≡ Ok pairs
@@ -157,11 +129,7 @@ any_after test before row (fields ∷ rows) pairs is =
 
 once_with : (before : List Pair) (pair : Pair) → are_once before ≡ true
     → are_once (with_pair before pair) ≡ true
-once_with before pair each =
-    elim (cases_Bool (list_any (same_pair pair) before)) [
-      | inl there ↦ ap are_once (with_old before pair there) ∙ each
-      | inr new ↦ ap are_once (with_new before pair new) ∙ once_more before pair each new
-    ]
+once_with before pair each = grind (arith, pair, with_old, each, with_new, once_more)
 
 once_after : (before : List Pair) (row : ℕ) (rows : Rows) (pairs : List Pair)
     → are_once before ≡ true → pairs_after before row rows ≡ Ok pairs → are_once pairs ≡ true

@@ -36,32 +36,20 @@ in_field-ends : (c : ℕ) → EndsBetween (in_field default_config c)
 in_field-ends c = at_end (c == 44) (c == 13) (c == 10)
 
 start_field-ends : (c : ℕ) → EndsBetween (start_field default_config c)
-start_field-ends c =
-    either (c == 34) (st.InQuoted, act.Skip) (in_field default_config c)
-    (never st.InQuoted act.Skip refl) (in_field-ends c)
+start_field-ends c = grind (arith, either, never, in_field-ends)
 
 start-ends : (c : ℕ) → EndsBetween (step default_config st.StartRecord c)
-start-ends c =
-    either _ (st.StartRecord, act.Skip) (start_field default_config c)
-    (never st.StartRecord act.Skip refl) (start_field-ends c)
+start-ends c = grind (arith, either, never, start_field-ends)
 
 step-ends : (s : State) (c : ℕ) → EndsBetween (step default_config s c)
 step-ends st.StartRecord c = start-ends c
 step-ends st.StartField c = start_field-ends c
 step-ends st.InField c = in_field-ends c
-step-ends st.InQuoted c =
-    either (c == 34) (st.AfterQuote, act.Skip) (st.InQuoted, act.Copy)
-    (never st.AfterQuote act.Skip refl) (never st.InQuoted act.Copy refl)
+step-ends st.InQuoted c = grind (arith, either, never)
 step-ends st.InEscape c = never st.InQuoted act.Copy refl
-step-ends st.AfterQuote c =
-    either (c == 34) (st.InQuoted, act.Copy) (in_field default_config c)
-    (never st.InQuoted act.Copy refl) (in_field-ends c)
-step-ends st.InComment c =
-    either (c == 10) (st.StartRecord, act.Skip) (st.InComment, act.Skip)
-    (never st.StartRecord act.Skip refl) (never st.InComment act.Skip refl)
-step-ends st.AfterCr c =
-    either (c == 10) (st.StartRecord, act.Skip) (step default_config st.StartRecord c)
-    (never st.StartRecord act.Skip refl) (start-ends c)
+step-ends st.AfterQuote c = grind (arith, either, never, in_field-ends)
+step-ends st.InComment c = grind (arith, either, never)
+step-ends st.AfterCr c = grind (arith, either, never, start-ends)
 
 -- ---- a record takes a byte
 

@@ -2,17 +2,14 @@
 use Rattle.std.proofs.Common.{ℕ, zero, suc, ◌≡◌, ◌+◌, ◌≤◌, ◌<◌, true, cond, not, ◌&&◌, List, []}
 use Rattle.std.proofs.Common.{◌∷◌, ◌++◌, map, length, Ok, refl, sym, ap, ◌∙◌, arith, append_assoc}
 use Rattle.std.proofs.{Common.append-nil, lemmas.Bool.{and_parts, and_from, not-true, cond-true}}
-use Rattle.std.proofs.lemmas.{Bool.{cond-false, le-ltb}, List.length-append}
-use Rattle.std.specs.List.{list_any}
+use Rattle.std.{proofs.lemmas.{Bool.{cond-false, le-ltb}, List.length-append}, specs.List.list_any}
 use Rattle.csv.specs.{Machine.next_record, Reading.{records, records_from, default_config}}
 use Rattle.csv.specs.{Reading.strip_bom, Writing.{row_text, row_body, default_writer, read_back}}
-use Rattle.csv.specs.Writing.{escaped, fields_text, is_blank}
-use Rattle.csv.proofs.RoundTrip.{read-write}
-use Rattle.room_entry.specs.{Names.is_name, Utf8.is_utf8}
+use Rattle.csv.{specs.Writing.{escaped, fields_text, is_blank}, proofs.RoundTrip.read-write}
+use Rattle.room_entry.{specs.{Names.is_name, Utf8.is_utf8}, proofs.Visible.name_text}
 use Rattle.room_import.specs.Groups.{group_header, pair_of_row, pairs_after, pairs_of_rows}
 use Rattle.room_import.specs.{Groups.same_pair, Exports.{rows_text, pair_row, are_new}}
 use Rattle.room_import.specs.Exports.{GroupsReadBack}
-use Rattle.room_entry.proofs.Visible.{name_text}
 use Rattle.csv.specs.declared.parser.State.TheVariants as st
 
 -- ---- rows

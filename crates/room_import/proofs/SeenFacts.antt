@@ -1,10 +1,8 @@
 -- The set of pairs that came before, as pairs are added.
-use Rattle.std.proofs.Common.{ℕ, ◌≡◌, ◌∷◌, ◌++◌, true, false, cond, List, [], String, string_bytes}
-use Rattle.std.proofs.{Common.{string_cmp, refl, sym, ap, ◌∙◌}, lemmas.Bool.{cond-true, cond-false}}
-use Rattle.std.proofs.lemmas.{List.Folds.list_any-append, Map.Text.is_eq-slice_cmp}
-use Rattle.std.specs.{Prelude.◌&&◌, List.list_any, Ordering.is_eq, Cmp.tied_then, BTreeSet.BTreeSet}
-use Rattle.std.specs.BTreeSet.{contains}
-use Rattle.room_entry.specs.Pieces.{same_text}
+use Rattle.std.proofs.Common.{arith, ℕ, ◌≡◌, ◌∷◌, ◌++◌, true, false, cond, List, [], String}
+use Rattle.std.proofs.{Common.{string_bytes, string_cmp, refl, ap, ◌∙◌}, lemmas.Bool.cond-true}
+use Rattle.std.proofs.lemmas.{Bool.cond-false, List.Folds.list_any-append, Map.Text.is_eq-slice_cmp}
+use Rattle.std.specs.{List.list_any, Ordering.is_eq, BTreeSet.{BTreeSet, contains}}
 use Rattle.room_import.specs.{Groups.{same_pair, with_pair}, Seen.{HasSeen, pair_bytes, pair_cmp}}
 use Rattle.room_entry.proofs.{Facts.Booleans.one_more, Texts.same_text-sym}
 
@@ -12,13 +10,7 @@ use Rattle.room_entry.proofs.{Facts.Booleans.one_more, Texts.same_text-sym}
 key_equal : {A : Type 0} (x y : String A × String A)
     → is_eq (pair_cmp x y) ≡ same_pair (pair_bytes y) (pair_bytes x)
 key_equal x y =
-    sym (tied_then (string_cmp x.0 y.0) (string_cmp x.1 y.1))
-    ∙ ap (λ b. b && is_eq (string_cmp x.1 y.1))
-    (is_eq-slice_cmp (string_bytes x.0) (string_bytes y.0)
-    ∙ same_text-sym (string_bytes x.0) (string_bytes y.0))
-    ∙ ap (λ b. same_text (string_bytes y.0) (string_bytes x.0) && b)
-    (is_eq-slice_cmp (string_bytes x.1) (string_bytes y.1)
-    ∙ same_text-sym (string_bytes x.1) (string_bytes y.1))
+    grind (arith, string_cmp, x.0, y.0, x.1, y.1, is_eq-slice_cmp, string_bytes, same_text-sym)
 
 pub seen_more : {A : Type 0} (seen more : BTreeSet (String A × String A))
     (pairs : List (List ℕ × List ℕ)) (key : String A × String A) → HasSeen seen pairs
@@ -27,12 +19,7 @@ pub seen_more : {A : Type 0} (seen more : BTreeSet (String A × String A))
     ≡ cond (is_eq (pair_cmp key other)) true (contains pair_cmp seen other))
     → HasSeen more (pairs ++ pair_bytes key ∷ [])
 seen_more seen more pairs key has adds other =
-    adds other
-    ∙ ap (λ b. cond b true (contains pair_cmp seen other)) (key_equal key other)
-    ∙ ap (λ b. cond (same_pair (pair_bytes other) (pair_bytes key)) true b) (has other)
-    ∙ one_more (same_pair (pair_bytes other) (pair_bytes key))
-    (list_any (same_pair (pair_bytes other)) pairs)
-    ∙ sym (list_any-append (same_pair (pair_bytes other)) pairs (pair_bytes key ∷ []))
+    grind (arith, adds, other, seen, key_equal, key, has, one_more, pairs, list_any-append)
 
 pub seen_same : {A : Type 0} (seen more : BTreeSet (String A × String A))
     (pairs : List (List ℕ × List ℕ)) → HasSeen seen pairs → more.keys ≡ seen.keys

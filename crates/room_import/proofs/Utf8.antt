@@ -1,11 +1,9 @@
 -- Rows of texts.
-use Rattle.std.proofs.Common.{ℕ, ◌≡◌, true, false, List, [], ◌∷◌, refl}
-use Rattle.std.specs.List.{list_all}
-use Rattle.std.proofs.lemmas.Bool.{and_parts, and_from, false_from_ne_true}
+use Rattle.std.proofs.{Common.{ℕ, ◌≡◌, true, false, List, [], ◌∷◌, refl}, lemmas.Bool.and_parts}
+use Rattle.std.{proofs.lemmas.Bool.{and_from, false_from_ne_true}, specs.List.list_all}
 use Rattle.csv.specs.Records.{AllText}
-use Rattle.room_entry.specs.Utf8.{is_utf8}
+use Rattle.room_entry.{specs.Utf8.is_utf8, proofs.Texts.passes_as_utf8}
 use Rattle.room_rows.proofs.Utf8.{text_from}
-use Rattle.room_entry.proofs.Texts.{passes_as_utf8}
 
 pub row_passes : (fields : List (List ℕ)) → AllText fields → list_all is_utf8 fields ≡ true
 unfolding AllText

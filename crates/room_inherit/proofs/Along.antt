@@ -2,16 +2,14 @@
 use Rattle.std.proofs.Common.{◌≡◌, ℕ, Bool, true, false, cond, List, [], ◌∷◌, ◌++◌, map, length}
 use Rattle.std.proofs.{Common.{Option, Some, None, refl, ap, arith}, lemmas.Bool.Decides.nat_tests}
 use Rattle.std.specs.Option.{option_map_or}
-use Rattle.room_entry.specs.{Ace.Ace, declared.object.Which.Which}
-use Rattle.room_entry.proofs.{Same.entries_equal, Facts.Booleans.implied}
+use Rattle.room_entry.{specs.{Ace.Ace, declared.object.Which.Which}, proofs.Same.entries_equal}
+use Rattle.room_entry.proofs.Facts.Booleans.{implied}
 use Rattle.room_rows.specs.{declared.node.Node.Node, Held.{held_of, full_of, is_linked}}
 use Rattle.room_rows.specs.{Content.{Content, node_at, parent_of, child_of, root_of}, Walk.behind}
 use Rattle.room_rows.specs.{Walk.walk_from, Full.{fulls, fulls_below, full_below}, Law.AllAgree}
-use Rattle.room_rows.specs.{Law.agrees_with, Pass.pass}
-use Rattle.room_rows.proofs.Frames.{Rises, rows-rise, root_of-is_there, child_of-is_there}
-use Rattle.room_rows.proofs.Frames.{child_of-parent}
-use Rattle.room_inherit.specs.Laws.{StoredAlongPath}
-use Rattle.room_inherit.proofs.Stored.{all_found}
+use Rattle.room_rows.{specs.{Law.agrees_with, Pass.pass}, proofs.Frames.{Rises, rows-rise}}
+use Rattle.room_rows.proofs.Frames.{root_of-is_there, child_of-is_there, child_of-parent}
+use Rattle.room_inherit.{specs.Laws.StoredAlongPath, proofs.Stored.all_found}
 
 module _ (content : Content) (rises : Rises content) (which : Which)
     (all : AllAgree content which) where

@@ -1,10 +1,10 @@
 -- One list carried down after the other.
 use Rattle.std.proofs.Common.{◌≡◌, ℕ, ◌+◌, Bool, true, cond, ◌||◌, List, [], ◌∷◌, map, Option, Some}
 use Rattle.std.proofs.Common.{None, Ok, Err, refl, sym, ap, ◌∙◌, arith}
-use Rattle.std.proofs.lemmas.Bool.Decides.{nat_tests}
-use Rattle.std.specs.{Prelude.{is_none, option_and_then}, List.{list_all, find}, Option.option_map}
-use Rattle.std.specs.Option.{option_map_or}
+use Rattle.std.{proofs.lemmas.Bool.Decides.nat_tests, specs.Prelude.{is_none, option_and_then}}
+use Rattle.std.specs.{List.{list_all, find}, Option.{option_map, option_map_or}}
 use Rattle.room_entry.specs.{Ace.Ace, declared.object.Which.{Which, TheVariants.{Dacl, Sacl}}}
+use Rattle.room_entry.proofs.Facts.Members.{count-is, count_length, count_map}
 use Rattle.room_rows.specs.{declared.{keep.Keep.Ghosts, node.Node.Node}, Content.{Content, node_at}}
 use Rattle.room_rows.specs.{Content.{parent_of, is_linked_in}, Held.{held_of, is_linked}}
 use Rattle.room_rows.specs.{Keep.{HasNoRoot, capped, with_content, KeepLaws}, Rows.Rows}
@@ -16,7 +16,6 @@ use Rattle.room_inherit.specs.declared.outcome.{Spread.Spread, SpreadFault.Sprea
 use Rattle.room_inherit.proofs.{Kinship.same_parent, Renewing.map_map, Frontier.{set, find_set}}
 use Rattle.room_inherit.proofs.{Folders.folders_stay, Calls.capped_add, NoFault.checked_is_tree}
 use Rattle.room_inherit.proofs.Unmoved.{all_map, reach_all}
-use Rattle.room_entry.proofs.Facts.Members.{count-is, count_length, count_map}
 
 -- the parent of an object is found with its other list
 parent_set : (which : Which) (f : Node → List Ace) (old : Content) (n : Node)
@@ -108,7 +107,6 @@ pub both_swept : (old mid new : Rows) (d s : ℕ) → IsSwept Dacl old mid d →
     → IsSpreadAll old new (capped (d + s))
 both_swept old middle new d s first last =
     let f = first.lists in
-    let m = mid f old.read in
     let next : IsSwept Sacl (with_content old (mid f old.read)) new s = grind (arith, nat_tests) in
     let g = next.lists in
     let sacls : Node → List Ace = λ n. g (set Dacl f n) in

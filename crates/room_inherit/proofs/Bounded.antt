@@ -1,11 +1,10 @@
 -- Turns up to a bound, and then up to one that is enough.
-use Rattle.std.proofs.Common.{◌≡◌, ℕ, zero, suc, ◌+◌, ◌<◌, ◌^◌, List, [], ◌∷◌, ◌++◌, length, Result}
-use Rattle.std.proofs.Common.{Ok, Err, ap, subst, ◌∙◌, inl, inr, arith}
+use Rattle.std.proofs.Common.{rules, ◌≡◌, ℕ, zero, suc, ◌+◌, ◌<◌, ◌^◌, List, [], ◌∷◌, ◌++◌, length}
+use Rattle.std.proofs.Common.{Result, Ok, Err, ap, subst, ◌∙◌, inl, inr, arith}
 use Rattle.std.proofs.lemmas.Bool.Decides.{nat_tests}
 use Rattle.room_rows.specs.declared.keep.{Keep.Ghosts, KeepFault.{KeepFault, TheVariants.Damaged}}
 use Rattle.room_rows.specs.{declared.node.Node.Node, Keep.{IsNever, IsRead, AreNumbers, capped}}
-use Rattle.room_rows.specs.{Keep.KeepLaws, Rows.numbers_of}
-use Rattle.room_rows.proofs.Steps.{later_cause}
+use Rattle.room_rows.{specs.{Keep.KeepLaws, Rows.numbers_of}, proofs.Steps.later_cause}
 use Rattle.room_inherit.specs.{Turn.Visits, Turns.{AreTurns, Took, Broke}}
 use Rattle.room_inherit.specs.declared.{descent.Descent.Descent, outcome.SpreadFault.SpreadFault}
 use Rattle.room_inherit.specs.declared.outcome.SpreadFault.TheVariants.{Keeper}
@@ -138,9 +137,7 @@ module _ {S : Type 0} (k : Ghosts S)
               small : k.IsTrusted a f → progress.Given (k.rows a) → changed + took_on.total < 2 ^ 63
               small t given =
                   let few = progress.few (count + took_on.turns) last (changed + took_on.total)
-                  (k.rows a) (k.rows f) (taken.along t given) in
-                  let many = known t given in
-                  omega (arith, few, many, fits)
+                  (k.rows a) (k.rows f) (taken.along t given) in search (rules, known, few, fits)
 
           pub never_too_many : (id : ℕ) → (last ≡ [] → ⊥) → Ends a f (Err (Keeper (Damaged id)))
           never_too_many id more = record {

@@ -1,24 +1,22 @@
 -- Calls of a keeper that write lists, one after the other.
 use Rattle.std.proofs.Common.{◌≡◌, ℕ, ◌+◌, ◌^◌, ◌-◌, false, List, [], ◌∷◌, length, get_or, Result}
-use Rattle.std.proofs.Common.{Ok, Err, IfOk, sym, ap, subst, ◌∙◌, arith, ◌<◌}
-use Rattle.std.proofs.lemmas.Bool.Decides.{nat_tests}
-use Rattle.std.specs.Prelude.{IsTrue}
+use Rattle.std.proofs.Common.{Ok, Err, IfOk, sym, ap, subst, ◌∙◌, arith, ◌<◌, rules}
+use Rattle.std.{proofs.lemmas.Bool.Decides.nat_tests, specs.Prelude.IsTrue}
 use Rattle.room_entry.specs.{Ace.Ace, declared.object.ObjKind.{ObjKind, TheVariants.Document}}
 use Rattle.room_entry.specs.declared.object.{ObjKind.TheVariants.Folder, Which.Which}
+use Rattle.room_entry.proofs.Facts.Members.{no_length}
 use Rattle.room_rows.specs.declared.{keep.{Keep.Ghosts, KeepFault.KeepFault}, node.Node.Node}
 use Rattle.room_rows.specs.{Calls.{Writes, WritesOf}, Content.children_of, Held.held_of}
 use Rattle.room_rows.specs.Keep.{Changes, ChangesAll, IsUnreadable, IsRead, AreChildrenOf, Leaves}
 use Rattle.room_rows.specs.{Keep.{are_there, capped, with_content, with_inh, KeepLaws}, Rows.Rows}
-use Rattle.room_entry.proofs.Facts.Members.{no_length}
 use Rattle.room_rows.proofs.{Frames.Rises, InPlace.place-with_inh, Steps.later_cause}
 use Rattle.room_rows.proofs.Many.{one_changed}
 use Rattle.room_inherit.specs.declared.{by_kind.ByKind.ByKind, descent.Descent.Descent}
 use Rattle.room_inherit.specs.declared.outcome.SpreadFault.{SpreadFault, TheVariants.Keeper}
 use Rattle.room_inherit.specs.{declared.passed.Passed.Passed, Turn.{Gathers, IsPassed, RenewsAll}}
 use Rattle.room_inherit.specs.Turn.{Visits, WritesAll, count_of, meets_again, of_kind, outdated_of}
-use Rattle.room_inherit.specs.Turn.{to_kind, with_passed}
-use Rattle.room_inherit.proofs.Renewing.{changes_none, count_gathered, gathered_there, still_there}
-use Rattle.room_inherit.proofs.Renewing.{turn_becomes}
+use Rattle.room_inherit.{specs.Turn.{to_kind, with_passed}, proofs.Renewing.changes_none}
+use Rattle.room_inherit.proofs.Renewing.{count_gathered, gathered_there, still_there, turn_becomes}
 
 -- ---- counts with an end
 
@@ -89,7 +87,11 @@ module _ {S : Type 0} (k : Ghosts S)
         written = tt;
         becomes = λ t. tt;
         fault =
-            later_cause (k.failures a) (k.failures b) (k.failures c) e _ _
+            later_cause (k.failures a) (k.failures b) (k.failures c) e
+            (λ at. k.IsTrusted b c → IsUnreadable (k.rows b) at)
+            (λ at. k.IsTrusted a c
+            × ((kind : ObjKind) → IsTrue (are_there (of_kind numbers kind) (k.rows a).read))
+            → IsUnreadable (k.rows a) at)
             (laws.rise a b first.follows) (laws.rise b c write.follows)
             (λ at damaged t.
             cc (
@@ -108,9 +110,7 @@ module _ {S : Type 0} (k : Ghosts S)
             (t.1 Document) in
             write.becomes (laws.last a b c first.follows write.follows t.0)
             (subst (λ (w : Rows). IsTrue (are_there (of_kind numbers Folder) w.read)) (sym one)
-            (still_there (with_inh which (to_kind passed Document))
-            (place-with_inh which (to_kind passed Document)) (of_kind numbers Document)
-            (of_kind numbers Folder) (k.rows a).read (t.1 Folder)))
+            (search (rules, still_there, place-with_inh, t.1)))
             ∙ ap (λ (w : Rows). with_content w
             (with_passed which passed numbers Folder w.read)) one;
         fault = tt;

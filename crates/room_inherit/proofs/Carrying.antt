@@ -1,19 +1,19 @@
 -- A change carried down, turn after turn.
 use Rattle.std.proofs.Common.{◌≡◌, ℕ, suc, ◌+◌, ◌≤◌, List, [], ◌∷◌, ◌++◌, length, Some, None}
-use Rattle.std.proofs.{Common.{Result, Ok, sym, ap, subst, ◌∙◌, arith}, lemmas.Bool.false≢true}
-use Rattle.std.proofs.lemmas.{Bool.Decides.nat_tests, List.length-append}
-use Rattle.room_entry.specs.{Ace.Ace, declared.object.Which.Which}
+use Rattle.std.proofs.Common.{Result, Ok, sym, ap, subst, ◌∙◌, arith, rules}
+use Rattle.std.proofs.lemmas.{Bool.{false≢true, Decides.nat_tests}, List.length-append}
+use Rattle.room_entry.{specs.{Ace.Ace, declared.object.Which.Which}, proofs.Facts.Members.count}
+use Rattle.room_entry.proofs.Facts.Members.{count-is}
 use Rattle.room_rows.specs.{declared.{keep.Keep.Ghosts, node.Node.Node}, Content.{Content, node_at}}
 use Rattle.room_rows.specs.{Content.children_of, Keep.{IsUnreadableAt, IsNodeAt, IsRead}}
-use Rattle.room_rows.specs.{Keep.{with_content, KeepLaws}, Law.AllAgree, Rows.{Rows, AreRows}}
-use Rattle.room_rows.specs.Rows.{numbers_of, is_unreadable}
-use Rattle.room_rows.proofs.{InPlace.numbers_of-reading, Steps.later_cause, Lookups.found_number}
+use Rattle.room_rows.specs.{Keep.{with_content, KeepLaws}, Rows.{Rows, AreRows, numbers_of}}
+use Rattle.room_rows.{specs.Rows.is_unreadable, proofs.InPlace.numbers_of-reading}
+use Rattle.room_rows.proofs.{Steps.later_cause, Lookups.found_number}
 use Rattle.room_inherit.specs.Spread.{ChangedAgree, IsSpread, IsOwnAncestor, Holds, Spreads}
 use Rattle.room_inherit.specs.{Spread.{SpreadsIf, with_lists, is_changed}, Turn.IsVisit}
 use Rattle.room_inherit.specs.Turn.{LeavesOut, MeetsAgain, next_of}
 use Rattle.room_inherit.specs.declared.descent.{Descent.Descent, Reach.TheVariants.Renewed}
 use Rattle.room_inherit.specs.declared.outcome.{Spread.Spread, SpreadFault.SpreadFault}
-use Rattle.room_entry.proofs.Facts.Members.{count, count-is}
 use Rattle.room_inherit.proofs.{Frontier.{Frontier, ids_set}, Chosen.{all_chosen, below_lists}}
 use Rattle.room_inherit.proofs.Chosen.{chosen_append, chosen_length, chosen_there, frontier_chosen}
 use Rattle.room_inherit.proofs.OneTurn.{after, rows_after, frontier_after, as_many, count_after}
@@ -102,8 +102,7 @@ carrying_done which start turns changed old now are sofar = record {
       (changed_agree which start old.read are.numbers sofar.lists
       (grind (arith, nat_tests)));
   law =
-      λ but. subst (λ (r : Rows). AllAgree r.read which) (sym sofar.becomes)
-      (law_at_end which start old.read are.numbers sofar.lists (sofar.front.law but));
+      search (rules, law_at_end, sofar.becomes, are.numbers, sofar.lists, sofar.front.law);
 }
 
 -- where the object isn't there, nothing is carried

@@ -1,17 +1,17 @@
 -- Objects of rows by their numbers, and the children of one.
 use Rattle.std.proofs.Common.{◌≡◌, ℕ, suc, ◌<◌, ◌==◌, Bool, true, false, cond, ◌&&◌, ◌||◌, List, []}
 use Rattle.std.proofs.Common.{◌∷◌, map, filter, length, Some, refl, sym, ap, subst, ◌∙◌, inl, inr}
-use Rattle.std.proofs.{Common.arith, lemmas.Bool.{cases_Bool, and_parts, or_parts, or_left}}
-use Rattle.std.proofs.lemmas.Bool.{or_right, false≢true, eq-eqb, eqb-true, ltb-true}
-use Rattle.std.proofs.lemmas.{Bool.Decides.nat_tests, Option.same_Some}
-use Rattle.std.specs.{Prelude.nat_lt, List.{list_any, AllByRecursion as Each}}
+use Rattle.std.proofs.{Common.{arith, rules}, lemmas.Bool.{cases_Bool, and_parts, or_parts}}
+use Rattle.std.proofs.lemmas.Bool.{or_left, or_right, false≢true, eq-eqb, eqb-true, ltb-true}
+use Rattle.std.{proofs.lemmas.{Bool.Decides.nat_tests, Option.same_Some}, specs.Prelude.nat_lt}
+use Rattle.std.specs.List.{list_any, AllByRecursion as Each}
 use Rattle.room_rows.specs.{declared.node.Node.Node, Content.{Content, node_at, has_parent}}
 use Rattle.room_rows.specs.Content.{children_of, put_by_name, sorted_by_name, is_before, is_rising}
-use Rattle.room_rows.specs.{Content.with_each, Finding.find_id}
+use Rattle.room_rows.{specs.{Content.with_each, Finding.find_id}, proofs.Lookups.each-sorted}
+use Rattle.room_rows.proofs.Lookups.{count_sorted}
 use Rattle.room_entry.proofs.Facts.Members.{each_weaker, each_filter, each_unfiltered, any_filter}
 use Rattle.room_entry.proofs.Facts.Members.{any_agree, any_none, each_fails, none_of_both}
 use Rattle.room_entry.proofs.Facts.Members.{none_filter, count, count_filter, count_length}
-use Rattle.room_rows.proofs.Lookups.{each-sorted, count_sorted}
 
 -- ---- by number
 
@@ -51,8 +51,7 @@ found_has id [] node found = absurd (let wrong : ⊥ = cc in wrong)
 found_has id (x ∷ xs) node found = elim (cases_Bool (x.id == id)) [
   | inl is ↦ or_left (x.id == id) (has_id id xs) is
   | inr isnt ↦
-      or_right (x.id == id) (has_id id xs)
-      (found_has id xs node (sym (found_later id x xs isnt) ∙ found))
+      search (rules, or_right, found_has id xs node (sym (found_later id x xs isnt) ∙ found))
 ]
 
 -- what holds of each object that is found by its number holds of all
@@ -61,8 +60,7 @@ pub each_there : (P : Node → Type 0) (nodes : List Node) → Apart nodes
 each_there P [] apart all = tt
 each_there P (x ∷ xs) apart all = (
   all x (found_first x.id x xs (eq-eqb x.id x.id refl)),
-  each_there P xs apart.1
-      (grind (arith, nat_tests, found_later, later)),
+  search (rules, nat_tests, each_there P xs apart.1 (grind (arith, nat_tests, found_later, later))),
 )
   where
     later : (n : Node) → find_id n.id xs ≡ Some n → x.id ≡ n.id → ⊥
@@ -75,7 +73,6 @@ pub any_here : (T : Node → Bool) (x : Node) (nodes : List Node) → Apart node
 any_here T x [] apart found = absurd (let wrong : ⊥ = cc in wrong)
 any_here T x (y ∷ ys) apart found = elim (cases_Bool (y.id == x.id)) [
   | inl is ↦
-      let same : y ≡ x = same_Some y x (sym (found_first x.id y ys is) ∙ found) in
       let none : list_any (λ m. T m && (m.id == x.id)) ys ≡ false = none_of_both
       (λ (m : Node). m.id == x.id) T ys
       (ap (λ i. has_id i ys) (sym (eqb-true y.id x.id is)) ∙ apart.0) in
@@ -102,11 +99,7 @@ pub each_above : (k : ℕ) (nodes : List Node) → is_rising (k ∷ ids_of nodes
 each_above k [] rises = tt
 each_above k (x ∷ xs) rises =
     let parts = and_parts (nat_lt k x.id) (is_rising (x.id ∷ ids_of xs)) rises in
-    let up = ltb-true k x.id parts.0 in (
-      up,
-      each_weaker (λ n. x.id < n.id) (λ n. k < n.id) (λ n above. omega (arith, up, above)) xs
-          (each_above x.id xs parts.1),
-    )
+    search (rules, ltb-true, each_weaker, parts, parts.0, parts.1, each_above x.id xs parts.1)
 
 -- where the numbers rise, none comes twice
 pub apart_rising : (k : ℕ) (nodes : List Node) → is_rising (k ∷ ids_of nodes) ≡ true → Apart nodes

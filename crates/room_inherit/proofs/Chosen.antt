@@ -1,17 +1,16 @@
 -- Documents below which nothing stands, left out of the objects that wait.
 use Rattle.std.proofs.Common.{◌≡◌, ℕ, ◌≤◌, ◌==◌, Bool, true, false, cond, ◌&&◌, List, [], ◌∷◌, ◌++◌}
 use Rattle.std.proofs.Common.{filter, length, Some, refl, sym, ap, subst, ◌∙◌, inl, inr, arith}
-use Rattle.std.proofs.lemmas.Bool.{cases_Bool, or_cases, or_parts, false≢true, Decides.nat_tests}
-use Rattle.std.specs.List.{AllByRecursion, list_any}
-use Rattle.room_entry.specs.{Ace.Ace, declared.object.Which.Which}
+use Rattle.std.proofs.{Common.rules, lemmas.Bool.{cases_Bool, or_cases, or_parts, false≢true}}
+use Rattle.std.{proofs.lemmas.Bool.Decides.nat_tests, specs.List.{AllByRecursion, list_any}}
+use Rattle.room_entry.{specs.{Ace.Ace, declared.object.Which.Which}, proofs.Facts.Members.any_agree}
+use Rattle.room_entry.proofs.Facts.Members.{any_filter, any_map, each_fails, each_filter}
 use Rattle.room_rows.specs.{declared.node.Node.Node, Content.{Content, has_parent, is_folder}}
-use Rattle.room_rows.specs.{Content.sorted_by_name, Finding.find_id}
+use Rattle.room_rows.{specs.{Content.sorted_by_name, Finding.find_id}, proofs.InPlace.with_inh-id}
 use Rattle.room_inherit.specs.{declared.descent.Descent.Descent, Spread.with_lists, Turn.LeavesOut}
-use Rattle.room_inherit.specs.Turn.{TellsWaiting, brought_up, next_of}
-use Rattle.room_inherit.proofs.{Kinship.same_kind, Children.{Apart, any_sorted, each_found, has_id}}
-use Rattle.room_inherit.proofs.Frontier.{Frontier, set, set_parent}
-use Rattle.room_rows.proofs.InPlace.{with_inh-id}
-use Rattle.room_entry.proofs.Facts.Members.{any_agree, any_filter, any_map, each_fails, each_filter}
+use Rattle.room_inherit.{specs.Turn.{TellsWaiting, brought_up, next_of}, proofs.Kinship.same_kind}
+use Rattle.room_inherit.proofs.{Children.{Apart, any_sorted, each_found, has_id}, Frontier.Frontier}
+use Rattle.room_inherit.proofs.Frontier.{set, set_parent}
 
 -- ---- what stands below an object
 
@@ -74,8 +73,7 @@ pub chosen_length : (rows : Content) (nodes next : List Node) → LeavesOut rows
     → length next ≤ length nodes
 chosen_length rows [] next none = let e = ap length none in omega (arith, e)
 chosen_length rows (x ∷ xs) next (rest, chosen, how) =
-    let less = chosen_length rows xs rest chosen in
-    grind (arith, nat_tests)
+    search (rules, nat_tests, chosen_length rows xs rest chosen)
 
 -- of folders none is left out
 pub folders_chosen : (rows : Content) (nodes next : List Node)
@@ -99,23 +97,20 @@ each_chosen : (P : Node → Type 0) (rows : Content) (nodes next : List Node)
     → LeavesOut rows nodes next → AllByRecursion P nodes → AllByRecursion P next
 each_chosen P rows [] next none all = subst (AllByRecursion P) (sym none) tt
 each_chosen P rows (x ∷ xs) next (rest, chosen, how) all =
-    let few = each_chosen P rows xs rest chosen all.1 in
-    grind (arith, nat_tests)
+    search (rules, nat_tests, all, all.1, each_chosen P rows xs rest chosen all.1)
 
 unmet : (id : ℕ) (rows : Content) (nodes next : List Node) → LeavesOut rows nodes next
     → has_id id nodes ≡ false → has_id id next ≡ false
 unmet id rows [] next none is = ap (has_id id) none
 unmet id rows (x ∷ xs) next (rest, chosen, how) is =
     let parts = or_parts (x.id == id) (has_id id xs) is in
-    let few = unmet id rows xs rest chosen parts.1 in
-    grind (arith, nat_tests, has_id)
+    search (rules, nat_tests, has_id, parts, parts.1, unmet id rows xs rest chosen parts.1)
 
 apart_chosen : (rows : Content) (nodes next : List Node) → LeavesOut rows nodes next → Apart nodes
     → Apart next
 apart_chosen rows [] next none apart = subst Apart (sym none) tt
 apart_chosen rows (x ∷ xs) next (rest, chosen, how) apart =
-    let few = apart_chosen rows xs rest chosen apart.1 in
-    grind (arith, nat_tests, unmet)
+    search (rules, nat_tests, unmet, apart, apart.1, apart_chosen rows xs rest chosen apart.1)
 
 -- an object below which something stands still waits
 still_waits : (id : ℕ) (rows : Content) (nodes next : List Node) → LeavesOut rows nodes next

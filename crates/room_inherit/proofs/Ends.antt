@@ -1,29 +1,28 @@
 -- Where carrying a change down begins, and where it ends.
-use Rattle.std.proofs.Common.{◌≡◌, ℕ, zero, suc, ◌+◌, ◌≤◌, ◌==◌, Bool, true, false, not, ◌||◌, List}
-use Rattle.std.proofs.Common.{[], ◌∷◌, ◌++◌, map, length, Option, Some, None, refl, sym, ap, ◌∙◌}
-use Rattle.std.proofs.{Common.{inl, inr, arith}, lemmas.Bool.{and_parts, or_cases, or_left}}
+use Rattle.std.proofs.Common.{rules, ◌≡◌, ℕ, zero, suc, ◌≤◌, ◌==◌, Bool, true, false, not, ◌||◌}
+use Rattle.std.proofs.Common.{List, [], ◌∷◌, ◌++◌, map, length, Option, Some, None, refl, sym, ap}
+use Rattle.std.proofs.{Common.{◌∙◌, inl, inr, arith}, lemmas.Bool.{and_parts, or_cases, or_left}}
 use Rattle.std.proofs.lemmas.{Bool.{or_right, false≢true, Decides.nat_tests}, List.length-map}
-use Rattle.std.proofs.lemmas.List.{map-id}
-use Rattle.std.specs.{Prelude.option_and_then, List.{list_all, AllByRecursion as Each}}
-use Rattle.std.specs.Option.{option_map, option_map_or}
-use Rattle.room_entry.specs.{Ace.Ace, declared.object.Which.Which}
-use Rattle.room_entry.proofs.{Same.entries_equal, Alike.{equal_entries, entries_themselves}}
-use Rattle.room_entry.proofs.Facts.Members.{each_back, each_map, each_weaker, all_each, one_if}
-use Rattle.room_entry.proofs.Facts.Members.{count, count_ends}
+use Rattle.std.{proofs.lemmas.List.map-id, specs.{Prelude.option_and_then, List.list_all}}
+use Rattle.std.specs.{List.AllByRecursion as Each, Option.{option_map, option_map_or}}
+use Rattle.room_entry.{specs.{Ace.Ace, declared.object.Which.Which}, proofs.Same.entries_equal}
+use Rattle.room_entry.proofs.{Alike.{equal_entries, entries_themselves}, Facts.Members.each_back}
+use Rattle.room_entry.proofs.Facts.Members.{each_map, each_weaker, all_each, one_if, count}
+use Rattle.room_entry.proofs.Facts.Members.{count_ends}
 use Rattle.room_rows.specs.{declared.node.Node.Node, Content.{Content, node_at, parent_of}}
 use Rattle.room_rows.specs.Content.{has_parent, children_of, is_linked_in, is_rising}
 use Rattle.room_rows.specs.{Finding.find_id, Held.held_of, Rows.{Rows, numbers_of}, Law.AllAgree}
-use Rattle.room_rows.specs.Law.{AllAgreeBut, agrees, agrees_with}
+use Rattle.room_rows.{specs.Law.{AllAgreeBut, agrees, agrees_with}, proofs.Lookups.found_number}
+use Rattle.room_rows.proofs.{Lookups.length_numbers, Frames.parent_is}
 use Rattle.room_inherit.specs.Spread.{ChangedAgree, stores_as_before, with_lists, is_changed}
 use Rattle.room_inherit.specs.Spread.{is_linked_within, is_within, IsOwnAncestor}
-use Rattle.room_inherit.specs.Turn.{is_met_again, meets_again}
-use Rattle.room_inherit.proofs.{Kinship.{same_parent, same_kind, with_own}, Children.ids_of}
-use Rattle.room_inherit.proofs.Children.{each_found, each_there, apart_rising, apart_map}
-use Rattle.room_inherit.proofs.{Children.some_child, Renewing.{map_agree, one_object}, Frontier.set}
-use Rattle.room_inherit.proofs.Frontier.{set_id, set_parent, set_held, find_set, links, passes}
-use Rattle.room_inherit.proofs.Frontier.{There, Waits, AgreesOrWaits, Frontier}
-use Rattle.room_inherit.proofs.Outdated.{same_above, parent_found, base_of}
-use Rattle.room_rows.proofs.{Lookups.{found_number, length_numbers}, Frames.parent_is}
+use Rattle.room_inherit.{specs.Turn.{is_met_again, meets_again}, proofs.Kinship.same_parent}
+use Rattle.room_inherit.proofs.{Kinship.{same_kind, with_own}, Children.{ids_of, each_found}}
+use Rattle.room_inherit.proofs.Children.{each_there, apart_rising, apart_map, some_child}
+use Rattle.room_inherit.proofs.{Renewing.{map_agree, one_object}, Frontier.{set, set_id}}
+use Rattle.room_inherit.proofs.Frontier.{set_parent, set_held, find_set, links, passes, There}
+use Rattle.room_inherit.proofs.{Frontier.{Waits, AgreesOrWaits, Frontier}, Outdated.same_above}
+use Rattle.room_inherit.proofs.Outdated.{parent_found, base_of}
 
 -- where a test of all objects is passed, each object passes it
 pub each_all : (p : Node → Bool) (xs : List Node) → list_all p xs ≡ true → Each (λ x. p x ≡ true) xs
@@ -49,9 +48,7 @@ own_unchanged which n = ap not (entries_themselves (held_of which n).inh)
 pub count_own : (which : Which) (nodes : List Node)
     → count (is_changed which (own_lists which)) nodes ≡ 0
 count_own which [] = refl
-count_own which (x ∷ xs) =
-    ap (λ t. one_if t + count (is_changed which (own_lists which)) xs) (own_unchanged which x)
-    ∙ (let rest = count_own which xs in omega (arith, rest))
+count_own which (x ∷ xs) = search (rules, one_if, count, which, own_unchanged, count_own which xs)
 
 changed_own : (which : Which) (n : Node) (X : Type 0) → is_changed which (own_lists which) n ≡ true
     → X
@@ -216,8 +213,7 @@ module _ (which : Which) (start : ℕ) (old : Content)
                 | inr changed ↦
                     let c = (front.came waits.base waits.there changed).below in (
                       suc c.0,
-                      or_right (has_parent start n) _
-                          (grind (arith, nat_tests, below_of, parent_found, waits)),
+                      search (rules, or_right, n, below_of, parent_found),
                     )
               ],
             )

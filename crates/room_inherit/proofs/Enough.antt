@@ -3,8 +3,7 @@
 use Rattle.std.proofs.Common.{◌≡◌, ℕ, zero, suc, ◌≤◌, ◌+◌, ◌==◌, Bool, true, false, not, List, []}
 use Rattle.std.proofs.Common.{◌∷◌, filter, length, Option, Some, None, ◌⊎◌, refl, sym, ap, ◌∙◌, inl}
 use Rattle.std.proofs.{Common.{inr, arith}, lemmas.Bool.{cases_Bool, false≢true, eqb-true}}
-use Rattle.std.proofs.lemmas.Bool.{eqb-false, Decides.nat_tests}
-use Rattle.std.specs.Option.{option_map_or}
+use Rattle.std.{proofs.lemmas.Bool.{eqb-false, Decides.nat_tests}, specs.Option.option_map_or}
 use Rattle.room_rows.specs.{declared.node.Node.Node, Content.{Content, node_at, reaches_root}}
 use Rattle.room_rows.specs.{Content.without_node, Finding.find_id}
 use Rattle.room_rows.proofs.Frames.{node_at-without_node, node_at-without_node-other}

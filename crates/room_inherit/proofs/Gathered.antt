@@ -1,5 +1,5 @@
 -- The children of an object gone through, without a write.
-use Rattle.std.proofs.Common.{◌≡◌, ℕ, ◌+◌, ◌<◌, Bool, true, false, cond, List, [], ◌∷◌, ◌++◌}
+use Rattle.std.proofs.Common.{rules, ◌≡◌, ℕ, ◌+◌, ◌<◌, Bool, true, false, cond, List, [], ◌∷◌, ◌++◌}
 use Rattle.std.proofs.Common.{length, drop, get_or, Result, Ok, Err, refl, add-one, drop-cons}
 use Rattle.std.proofs.{Common.arith, lemmas.List.{append_assoc, append-nil}}
 use Rattle.std.proofs.lemmas.Bool.Decides.{nat_tests}
@@ -109,9 +109,7 @@ module _ {S : Type 0} (k : Ghosts S)
       waits = λ more chosen.
           let both = chosen_append rows.read (next_of d.reach d.which above (child ∷ []))
           (next_of d.reach d.which above left) one.next more one.chosen chosen in
-          let (ends, joined, whole) = has.waits (one.next ++ more)
-          (grind (arith, nat_tests, next_cons)) in
-          grind (arith, nat_tests, append_assoc);
+          search (rules, has.waits, one.next, next_cons, append_assoc);
     }
 
     module _ (a b c : S) (has : Gathering (child ∷ left) mid sofar a b) where

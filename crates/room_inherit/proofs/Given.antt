@@ -2,15 +2,13 @@
 use Rattle.std.proofs.Common.{◌≡◌, ℕ, ◌==◌, ◌<◌, ◌+◌, ◌&&◌, ◌||◌, Bool, true, false, cond, not}
 use Rattle.std.proofs.Common.{List, Option, Some, length, get_or, take, nat_lt, refl, ap, ◌∙◌}
 use Rattle.std.proofs.{Common.arith, lemmas.List.{take_more, Recursion.or_push}}
-use Rattle.std.proofs.lemmas.{Map.Text.is_eq-slice_cmp, Bool.Decides.nat_tests}
-use Rattle.std.specs.{Borrow.Bor, List.list_any, Option.option_map_or, Ordering.nat_cmp}
-use Rattle.std.specs.{Ordering.{ordering_then, is_eq}, Cmp.Lexicographic.slice_cmp}
-use Rattle.std.specs.declared.cmp.Ordering.{Ordering}
+use Rattle.std.{proofs.lemmas.{Map.Text.is_eq-slice_cmp, Bool.Decides.nat_tests}, specs.Borrow.Bor}
+use Rattle.std.specs.{List.list_any, Option.option_map_or, Ordering.{nat_cmp, ordering_then, is_eq}}
+use Rattle.std.specs.{Cmp.Lexicographic.slice_cmp, declared.cmp.Ordering.Ordering}
 use Rattle.room_entry.specs.Pieces.{same_text}
 use Rattle.room_rows.specs.{declared.node.Node.Node, Content.{has_parent, same_parent}}
 use Rattle.room_rows.specs.{Paths.is_object_name, Sound.{has_sound_name, same_place}}
-use Rattle.room_inherit.specs.Objects.{are_rising, only}
-use Rattle.room_inherit.proofs.Numbers.{any_before}
+use Rattle.room_inherit.{specs.Objects.{are_rising, only}, proofs.Numbers.any_before}
 
 -- a parent and a name
 abbrev pub Key : Type 0

@@ -1,8 +1,7 @@
 -- The first object that fails a test, one place after the other.
 use Rattle.std.proofs.Common.{◌≡◌, ℕ, ◌<◌, ◌+◌, Bool, true, false, not, List, ◌∷◌, Some, length}
 use Rattle.std.proofs.{Common.{get_or, drop, sym, ap, ◌∙◌}, lemmas.Bool.{cond-true, cond-false}}
-use Rattle.std.proofs.lemmas.List.{drop_more}
-use Rattle.std.specs.List.{find}
+use Rattle.std.{proofs.lemmas.List.drop_more, specs.List.find}
 
 module _ {X : Type 0} (test : X → Bool) (xs : List X) (i : ℕ) (x : X) (below : i < length xs)
     (is : x ≡ get_or xs i x) where

@@ -1,9 +1,9 @@
 -- What sound rows mean is a content.
-use Rattle.std.proofs.Common.{◌≡◌, ℕ, ◌+◌, ◌<◌, ◌≤◌, ◌==◌, Bool, true, false, cond, not, ◌&&◌, ◌||◌}
-use Rattle.std.proofs.Common.{List, [], ◌∷◌, map, filter, length, Option, Some, None, refl, sym, ap}
-use Rattle.std.proofs.{Common.{◌∙◌, inl, inr, arith}, lemmas.Bool.{cases_Bool, and_parts, and_from}}
-use Rattle.std.proofs.lemmas.Bool.{or_from, false≢true, eqb-true, eq-eqb, ne_eqb, ltb-true, lt-ltb}
-use Rattle.std.proofs.lemmas.{Bool.Decides.nat_tests, List.length-map}
+use Rattle.std.proofs.Common.{rules, ◌≡◌, ℕ, ◌+◌, ◌<◌, ◌≤◌, ◌==◌, Bool, true, false, cond, not}
+use Rattle.std.proofs.Common.{◌&&◌, ◌||◌, List, [], ◌∷◌, map, filter, length, Option, Some, None}
+use Rattle.std.proofs.{Common.{refl, sym, ap, ◌∙◌, inl, inr, arith}, lemmas.Bool.cases_Bool}
+use Rattle.std.proofs.lemmas.Bool.{and_parts, and_from, or_from, false≢true, eqb-true, eq-eqb}
+use Rattle.std.proofs.lemmas.{Bool.{ne_eqb, ltb-true, lt-ltb, Decides.nat_tests}, List.length-map}
 use Rattle.std.specs.{Prelude.{is_none, is_some, nat_lt, nat_le}, List.{find, list_all, list_any}}
 use Rattle.std.specs.{List.AllByRecursion as Each, Option.{option_map, option_map_or}}
 use Rattle.room_entry.specs.{Pieces.{is_among, same_text}, Valid.is_document}
@@ -351,11 +351,7 @@ sound_is_content rows are sound =
           unmoved.all_kept (kept content) (reaches (meaning content)) (reaches content)
           (unmoved.reach_all content (kept content) (place content)) content.nodes none.reach;
       names =
-          names_apart content content.nodes 0 are.numbers
-          (
-          search (apart_rising, each_there))
-          (each_passes (has_sound_name content) content.nodes none.names)
-          (omega (arith, lone_root));
+          search (rules, names_apart, apart_rising, each_there, each_passes, lone_root, none.names);
       bodies = bodies rows are none (none_unreadable rows (none_bad rows none));
       kept =
           unmoved.all_kept (kept content)

@@ -1,8 +1,8 @@
 -- Rows of which all lists were carried down are sound, and mean what they meant.
 use Rattle.std.proofs.Common.{◌≡◌, ℕ, zero, suc, ◌==◌, Bool, true, false, not, ◌&&◌, List, [], ◌∷◌}
 use Rattle.std.proofs.Common.{map, length, Option, Some, None, refl, sym, ap, subst, ◌∙◌, arith}
-use Rattle.std.proofs.lemmas.Bool.{and_parts, and_from, false≢true, not-false, Decides.nat_tests}
-use Rattle.std.proofs.lemmas.List.Folds.{list_all-append}
+use Rattle.std.proofs.{Common.rules, lemmas.Bool.{and_parts, and_from, false≢true, not-false}}
+use Rattle.std.proofs.lemmas.{Bool.Decides.nat_tests, List.Folds.list_all-append}
 use Rattle.std.specs.{Prelude.{nat_le, option_and_then}, List.list_all, Option.option_map}
 use Rattle.std.specs.Option.{option_map_or}
 use Rattle.room_entry.specs.{Ace.Ace, Valid.is_document, declared.flags.EntryFlags.EntryFlags}
@@ -13,9 +13,8 @@ use Rattle.room_rows.specs.{HeldList.Held, declared.node.Node.Node, Content.Cont
 use Rattle.room_rows.specs.Content.{has_folder_above, is_linked_in, node_at, parent_of}
 use Rattle.room_rows.specs.{Content.reaches_root, Held.{held_of, full_of, is_linked}}
 use Rattle.room_rows.specs.{Keep.{with_content, with_inh}, Meaning.{kept_held, kept_node, meaning}}
-use Rattle.room_rows.specs.{Rows.{AreRows, Rows}, Law.{AllAgree, agrees, agrees_with}, Pass.pass}
-use Rattle.room_rows.specs.{Pass.passed_flags, Sound.{AreSound, first_fault, has_sound_lists}}
-use Rattle.room_rows.specs.Sound.{is_sound_held, reaches}
+use Rattle.room_rows.specs.{Rows.{AreRows, Rows}, Law.{AllAgree, agrees}, Pass.{pass, passed_flags}}
+use Rattle.room_rows.specs.Sound.{AreSound, first_fault, has_sound_lists, is_sound_held, reaches}
 use Rattle.room_rows.proofs.{InPlace.{KeepsPlaces, node_at-with_each}, SamePlace.IsSamePlace}
 use Rattle.room_rows.proofs.Lookups.{found_number}
 use Rattle.room_inherit.specs.Laws.{are_valid, MigratedIsSound, MigratedMeansTheSame}
@@ -31,8 +30,7 @@ all_both p q [] one two = refl
 all_both p q (x ∷ xs) one two =
     let first = and_parts (p x) (list_all p xs) one in
     let second = and_parts (q x) (list_all q xs) two in
-    and_from (p x && q x) _ (and_from (p x) (q x) first.0 second.0)
-    (all_both p q xs first.1 second.1)
+    search (rules, and_from, first.0, second.0, all_both p q xs first.1 second.1)
 
 -- ---- what is passed has the flag
 
@@ -144,11 +142,7 @@ module _ (f g : Node → List Ace) (old : Content) where
           let here : agrees new which (both node) ≡ true = all_found (agrees new which)
           (λ m. m.id == node.id) (map both old.nodes) (both node) (law which)
           (node_at-with_each old both places node.id ∙ ap (option_map both) there) in
-          let agree : agrees_with which (both node) (both parent) ≡ true =
-          cc (up, above node, here) in
-          let links : is_linked (held_of which (both node)) (Some (held_of which (both parent)))
-          ≡ true = grind (arith, nat_tests, linked_to) in
-          grind (arith, nat_tests, entries_equal, held_new, implied)
+          search (rules, above, nat_tests, linked_to, entries_equal, held_new, implied, up, here)
 
       abbrev SoundNow : Which → Node → Type 0
       SoundNow which node = is_sound_held which node.kind (held_of which (both node)) ≡ true

@@ -1,15 +1,27 @@
 -- Objects whose numbers rise.
-use Rattle.std.proofs.Common.{◌≡◌, ℕ, zero, suc, ◌<◌, ◌≤◌, ◌+◌, ◌&&◌, ◌||◌, Bool, true, false, List}
-use Rattle.std.proofs.Common.{[], ◌∷◌, map, length, get_or, take, Some, None, nat_lt, refl, sym, ap}
-use Rattle.std.proofs.{Common.{◌∙◌, arith}, lemmas.Bool.{and_parts, eq-eqb, ne_eqb, ltb-true}}
-use Rattle.std.proofs.lemmas.Bool.{lt-ltb, le-ltb, cond-true, cond-false, Decides.nat_tests}
-use Rattle.std.specs.List.{list_any, filter_map, cons_option, Sorted.IsSortedBy}
+use Rattle.std.proofs.Common.{rules, ◌≡◌, ℕ, zero, suc, ◌<◌, ◌≤◌, ◌+◌, ◌&&◌, ◌||◌, Bool, true}
+use Rattle.std.proofs.Common.{false, List, [], ◌∷◌, map, length, get_or, take, Some, None, nat_lt}
+use Rattle.std.proofs.{Common.{refl, sym, ap, ◌∙◌, arith, inl, inr}, lemmas.Bool.and_parts}
+use Rattle.std.proofs.lemmas.Bool.{eq-eqb, ne_eqb, ltb-true, lt-ltb, le-ltb, cond-true, cond-false}
+use Rattle.std.{proofs.lemmas.Bool.{cases_Bool, Decides.nat_tests}, specs.List.list_any}
+use Rattle.std.specs.List.{filter_map, cons_option, Sorted.IsSortedBy}
 use Rattle.std.specs.{declared.cmp.Ordering.TheVariants.{Less, Equal, Greater}, Ordering.nat_cmp}
-use Rattle.std.specs.{Ordering.is_lt, Cmp.nat_cmp_is}
+use Rattle.std.specs.{Ordering.is_lt, Cmp.nat_cmp_is, Prelude.is_none}
 use Rattle.room_rows.specs.{declared.node.Node.Node, Content.is_rising, Finding.find_id}
+use Rattle.room_inherit.specs.Objects.{first_fallen}
 
 abbrev pub ids_of : List Node → List ℕ
 ids_of nodes = map (λ (n : Node). n.id) nodes
+
+-- no number falls exactly where all rise
+pub none_fallen : (last : ℕ) (nodes : List Node)
+    → is_none (first_fallen last nodes) ≡ is_rising (last ∷ ids_of nodes)
+none_fallen last [] = refl
+none_fallen last (x ∷ xs) =
+    elim (cases_Bool (nat_lt last x.id)) [
+      | inl e ↦ rw e (none_fallen x.id xs)
+      | inr e ↦ rw e refl
+    ]
 
 -- what stands in a list that rises from a number on is above it
 pub above_at : (k : ℕ) (nodes : List Node) → is_rising (k ∷ ids_of nodes) ≡ true
@@ -20,8 +32,7 @@ above_at k (x ∷ xs) rises zero d below =
 above_at k (x ∷ xs) rises (suc place) d below =
     let parts = and_parts (nat_lt k x.id) (is_rising (x.id ∷ ids_of xs)) rises in
     let up = ltb-true k x.id parts.0 in
-    let next = above_at x.id xs parts.1 place d (omega arith) in
-    omega (arith, up, next)
+    search (rules, parts, up, parts.1, above_at x.id xs parts.1 place d (omega arith))
 
 pub rises_between : (k : ℕ) (nodes : List Node) → is_rising (k ∷ ids_of nodes) ≡ true
     → (i j : ℕ) (d : Node) → i < j → j < length nodes
@@ -29,8 +40,7 @@ pub rises_between : (k : ℕ) (nodes : List Node) → is_rising (k ∷ ids_of no
 rises_between k [] rises i j d under below = absurd (omega (arith, below))
 rises_between k (x ∷ xs) rises i zero d under below = absurd (omega (arith, under))
 rises_between k (x ∷ xs) rises zero (suc j) d under below =
-    above_at x.id xs (and_parts (nat_lt k x.id) (is_rising (x.id ∷ ids_of xs)) rises).1 j d
-    (omega arith)
+    search (rules, above_at, and_parts, nat_lt, rises, d)
 rises_between k (x ∷ xs) rises (suc i) (suc j) d under below =
     rises_between x.id xs (and_parts (nat_lt k x.id) (is_rising (x.id ∷ ids_of xs)) rises).1 i j d
     (omega arith) (omega arith)
@@ -97,10 +107,7 @@ any_before k q (x ∷ xs) rises zero d below =
     (omega arith)
 any_before k q (x ∷ xs) rises (suc i) d below =
     let parts = and_parts (nat_lt k x.id) (is_rising (x.id ∷ ids_of xs)) rises in
-    let up = above_at x.id xs parts.1 i d (omega arith) in
-    ap (λ t. (t && q x) || list_any (λ (o : Node). nat_lt o.id (get_or xs i d).id && q o) xs)
-    (lt-ltb x.id (get_or xs i d).id up)
-    ∙ ap (λ t. q x || t) (any_before x.id q xs parts.1 i d (omega arith))
+    search (rules, above_at, lt-ltb, parts, parts.1, any_before x.id q xs parts.1 i d (omega arith))
 
 -- ---- each number finds its object
 
@@ -122,5 +129,4 @@ each_found k (x ∷ xs) rises =
     let next = (and_parts (nat_lt k x.id) (is_rising (x.id ∷ ids_of xs)) rises).1 in
     ap (λ o. cons_option o (filter_map (λ id. find_id id (x ∷ xs)) (ids_of xs)))
     (cond-true _ _ _ (eq-eqb x.id x.id refl))
-    ∙ ap (λ l. x ∷ l) (later_only x.id x xs (ids_of xs) next (omega arith)
-    ∙ each_found x.id xs next)
+    ∙ ap (λ l. x ∷ l) (search (rules, later_only, each_found x.id xs next))

@@ -5,14 +5,14 @@ use Rattle.std.proofs.lemmas.Bool.{or_cases, or_parts, false_from_ne_true, Decid
 use Rattle.std.proofs.{lemmas.List.length-map, Math.Bool.or-false}
 use Rattle.std.specs.List.{AllByRecursion as Each}
 use Rattle.room_entry.specs.{Ace.Ace, declared.object.Which.Which}
-use Rattle.room_rows.specs.{declared.node.Node.Node, Content.{Content, node_at, parent_of}}
-use Rattle.room_rows.specs.Content.{has_parent, children_of, is_linked_in, is_rising, with_each}
-use Rattle.room_rows.specs.Finding.{find_id}
+use Rattle.room_entry.proofs.Facts.Members.{each_append, each_front, each_back, each_weaker}
+use Rattle.room_entry.proofs.Facts.Members.{each_map, each_filter, count}
+use Rattle.room_rows.specs.{declared.node.Node.Node, Content.{Content, node_at, has_parent}}
+use Rattle.room_rows.specs.{Content.{children_of, is_rising, with_each}, Finding.find_id}
+use Rattle.room_rows.proofs.InPlace.{with_inh-id}
 use Rattle.room_inherit.specs.{Spread.{with_lists, is_changed, IsLinkedBelow}, Turn.brought_up}
 use Rattle.room_inherit.specs.Turn.{next_of, renewals, renewed_below, is_met_again, meets_again}
 use Rattle.room_inherit.specs.{Turn.waits_next, declared.descent.Reach.TheVariants.Renewed}
-use Rattle.room_entry.proofs.Facts.Members.{each_append, each_front, each_back, each_weaker}
-use Rattle.room_entry.proofs.Facts.Members.{each_map, each_filter, count}
 use Rattle.room_inherit.proofs.Children.{has_id, Apart, ids_of, apart_rising, apart_filter}
 use Rattle.room_inherit.proofs.Children.{apart_map, has_id_map, each_child, apart_children}
 use Rattle.room_inherit.proofs.{Children.{is_such_child, no_child}, Outdated.parent_found}
@@ -20,7 +20,6 @@ use Rattle.room_inherit.proofs.Outdated.{same_above, has_either, apart_join, apa
 use Rattle.room_inherit.proofs.{Outdated.{apart_last, has_last, base_of}, Frontier.{set, set_id}}
 use Rattle.room_inherit.proofs.Frontier.{set_parent, find_set, links, passes, is_reached, There}
 use Rattle.room_inherit.proofs.Frontier.{Waits, Came, Frontier}
-use Rattle.room_rows.proofs.InPlace.{with_inh-id}
 use Rattle.room_inherit.proofs.Outdated as step
 
 module _ (which : Which) (start : ℕ) (old : Content)
@@ -132,7 +131,6 @@ module _ (which : Which) (start : ℕ) (old : Content)
       (sym (find_set which f m.id old.nodes) ∙ there) in
       let n = b.0 in
       let there' : There which start old n = grind (arith, nat_tests, set_id) in
-      let st : stale n ≡ true = grind (arith, nat_tests, step.stale_is, waits) in
       record {
         base = n;
         there = there';
@@ -178,8 +176,6 @@ module _ (which : Which) (start : ℕ) (old : Content)
   below_now : (n : Node) → has_parent w0.id n ≡ true → links which w0 n ≡ true
       → IsLinkedBelow old which start n
   below_now n has link =
-      let above : parent_of old n ≡ Some w0 = parent_found old w0 n waits.there has in
-      let linked : is_linked_in old which n ≡ true = cc (above, link) in
       elim (or_cases (w0.id == start) (is_changed which f w0) waits.reached) [
         | inl is ↦ (
           suc zero,

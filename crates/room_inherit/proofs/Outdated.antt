@@ -10,14 +10,13 @@ use Rattle.room_entry.proofs.{Same.entries_equal, Alike.equal_entries, Facts.Mem
 use Rattle.room_entry.proofs.Facts.Members.{count_length, count_map, count_agree, count_either}
 use Rattle.room_rows.specs.{declared.node.Node.Node, Content.{Content, node_at, parent_of}}
 use Rattle.room_rows.specs.{Content.{has_parent, children_of, with_each}, Held.{held_of, is_linked}}
-use Rattle.room_rows.specs.Keep.{with_inh}
+use Rattle.room_rows.{specs.Keep.with_inh, proofs.Frames.parent_is}
 use Rattle.room_inherit.specs.{Spread.{with_lists, is_changed}, Turn.{is_linked_to, is_outdated}}
 use Rattle.room_inherit.specs.Turn.{renewed_node, renewals, renewed_below}
 use Rattle.room_inherit.proofs.{Kinship.{same_kind, with_last}, Children.{has_id, Apart}}
 use Rattle.room_inherit.proofs.Children.{each_there, apart_map, count_children}
 use Rattle.room_inherit.proofs.{Renewing.{map_agree, map_map, one_object}, Frontier.{set, set_id}}
 use Rattle.room_inherit.proofs.Frontier.{set_parent, set_held, links, passes}
-use Rattle.room_rows.proofs.Frames.{parent_is}
 
 -- ---- parents
 

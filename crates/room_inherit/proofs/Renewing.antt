@@ -1,23 +1,22 @@
 -- Objects of rows that are changed by their numbers, and the children of an object renewed so.
 use Rattle.std.proofs.Common.{◌≡◌, ℕ, ◌+◌, ◌==◌, Bool, true, false, cond, not, ◌&&◌, ◌||◌, List, []}
 use Rattle.std.proofs.Common.{◌∷◌, map, filter, length, Option, Some, None, refl, sym, ap, ◌∙◌}
-use Rattle.std.proofs.{Common.arith, lemmas.Bool.{and_parts, and_from, Decides.nat_tests}}
-use Rattle.std.proofs.lemmas.{List.{map-id, length-map}, Option.same_Some}
-use Rattle.std.specs.{Prelude.{IsTrue, is_some}, List.{AllByRecursion as Each, list_any}}
-use Rattle.std.specs.Option.{option_map}
+use Rattle.std.proofs.{Common.{arith, rules}, lemmas.Bool.{and_parts, and_from, Decides.nat_tests}}
+use Rattle.std.{proofs.lemmas.{List.{map-id, length-map}, Option.same_Some}, specs.Prelude.IsTrue}
+use Rattle.std.specs.{Prelude.is_some, List.{AllByRecursion as Each, list_any}, Option.option_map}
 use Rattle.room_entry.specs.{Valid.is_document, declared.object.ObjKind.ObjKind}
 use Rattle.room_entry.specs.declared.object.{ObjKind.TheVariants.{Document, Folder}, Which.Which}
+use Rattle.room_entry.proofs.Facts.Members.{all_each, any_map, count, count_either, count_length}
+use Rattle.room_entry.proofs.Facts.Members.{each_filter, each_map}
 use Rattle.room_rows.specs.{declared.node.Node.Node, Content.{Content, node_at, children_of}}
 use Rattle.room_rows.specs.{Content.{has_parent, with_each}, Finding.find_id, Held.held_of}
 use Rattle.room_rows.specs.{Keep.{are_there, with_changed, with_content, with_inh}, Rows.Rows}
-use Rattle.room_inherit.specs.declared.{by_kind.ByKind.ByKind, passed.Passed.Passed}
-use Rattle.room_inherit.specs.Turn.{IsPassed, count_of, is_kind, is_outdated, of_kind, outdated_of}
-use Rattle.room_inherit.specs.Turn.{renewals, renewed_below, renewed_node, to_kind, with_passed}
-use Rattle.room_entry.proofs.Facts.Members.{all_each, any_map, count, count_either, count_length}
-use Rattle.room_entry.proofs.Facts.Members.{each_filter, each_map}
 use Rattle.room_rows.proofs.{Frames.Rises, InPlace.{keeps_places, node_at-with_each}}
 use Rattle.room_rows.proofs.{InPlace.{place-with_inh, with_each-with_each}, SamePlace.IsSamePlace}
 use Rattle.room_rows.proofs.SamePlace.{same_place}
+use Rattle.room_inherit.specs.declared.{by_kind.ByKind.ByKind, passed.Passed.Passed}
+use Rattle.room_inherit.specs.Turn.{IsPassed, count_of, is_kind, is_outdated, of_kind, outdated_of}
+use Rattle.room_inherit.specs.Turn.{renewals, renewed_below, renewed_node, to_kind, with_passed}
 use Rattle.room_inherit.proofs.Children.{apart_rising, each_child, each_there, is_such_child}
 
 -- two facts of each member, taken together, are one fact of each
@@ -125,8 +124,7 @@ module _ (which : Which) (above : Node) (content : Content) (rises : Rises conte
   pub count_gathered : count_of numbers
       ≡ length (renewals which above (children_of content above.id))
   count_gathered =
-      (λ i. length (all Document i) + length (all Folder i))
-      ∙ count_kinds which above (children_of content above.id)
+      search (rules, count_kinds, all)
 
   -- and there
   pub gathered_there : (kind : ObjKind) → IsTrue (are_there (of_kind numbers kind) content)

@@ -1,6 +1,6 @@
 -- A way up to the root has no loop.
-use Rattle.std.proofs.Common.{◌≡◌, ℕ, zero, suc, ◌==◌, Bool, true, false, ◌||◌, Option, Some, None}
-use Rattle.std.proofs.{Common.{sym, ap, ◌∙◌, inl, inr}, lemmas.Bool.{false≢true, or_cases}}
+use Rattle.std.proofs.Common.{arith, ◌≡◌, ℕ, zero, suc, ◌==◌, Bool, true, false, ◌||◌, Option, Some}
+use Rattle.std.proofs.{Common.{None, sym, ap, ◌∙◌, inl, inr}, lemmas.Bool.{false≢true, or_cases}}
 use Rattle.std.proofs.lemmas.{Bool.eqb-true, Option.same_Some}
 use Rattle.std.specs.{Prelude.option_and_then, Option.option_map_or}
 use Rattle.room_rows.specs.{declared.node.Node.Node, Content.{Content, node_at, reaches_root}}
@@ -22,8 +22,7 @@ module _ (rows : Content) (id m : ℕ) (node : Node) (found : node_at rows id �
       elim (or_cases (p == id) (option_map_or (is_within k rows id) (node_at rows p) false) below) [
         | inl is ↦
             again (λ j parent b r. never n j parent b r) m round
-            (sym (ap (λ o. option_map_or (λ (q : Node). reaches_root n rows q.parent) o false)
-            (ap (node_at rows) (eqb-true p id is) ∙ found)) ∙ reaches)
+            (grind (arith, eqb-true, is, reaches))
         | inr more ↦ further (λ j parent b r. never n j parent b r) (node_at rows p) k more reaches
       ]
     where

@@ -3,10 +3,9 @@ use Rattle.std.proofs.Common.{◌≡◌, ℕ, true, false, not, List, [], ◌∷
 use Rattle.std.proofs.lemmas.Bool.{cases_Bool, and_parts, and_from, cond-true, Decides.nat_tests}
 use Rattle.std.proofs.lemmas.Cmp.{nat_list_cmp_total}
 use Rattle.room_rows.specs.{declared.node.Node.Node, Content.{is_before, put_by_name}}
-use Rattle.room_rows.specs.Content.{sorted_by_name}
+use Rattle.room_rows.{specs.Content.sorted_by_name, proofs.Lookups.count_sorted}
 use Rattle.room_inherit.specs.Laws.{SortedByName, are_in_order}
 use Rattle.room_entry.proofs.Facts.Members.{count-is}
-use Rattle.room_rows.proofs.Lookups.{count_sorted}
 
 -- a name that comes before another doesn't come after it
 before_once : (a b : List ℕ) → is_before a b ≡ true → is_before b a ≡ false

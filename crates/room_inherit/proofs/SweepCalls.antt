@@ -1,25 +1,23 @@
 -- The tree gone through, turn after turn.
-use Rattle.std.proofs.Common.{◌≡◌, ℕ, ◌+◌, ◌≤◌, Bool, List, [], ◌∷◌, ◌++◌, length, Some, None}
-use Rattle.std.proofs.Common.{Result, Ok, Err, refl, sym, ap, subst, ◌∙◌, arith}
+use Rattle.std.proofs.Common.{rules, ◌≡◌, ℕ, ◌+◌, ◌≤◌, Bool, List, [], ◌∷◌, ◌++◌, length, Some}
+use Rattle.std.proofs.Common.{None, Result, Ok, refl, sym, ap, subst, ◌∙◌, arith}
 use Rattle.std.proofs.lemmas.{Bool.{false≢true, eq-eqb, Decides.nat_tests}, List.length-append}
-use Rattle.room_entry.specs.{Ace.Ace, declared.object.Which.Which}
-use Rattle.room_rows.specs.declared.{keep.{Keep.Ghosts, KeepFault.KeepFault}, node.Node.Node}
-use Rattle.room_rows.specs.{Content.root_of, Keep.{HasNoRoot, IsRead, IsRootOf, with_content}}
-use Rattle.room_rows.specs.{Keep.KeepLaws, Rows.{Rows, AreRows, numbers_of, is_unreadable}}
-use Rattle.room_rows.specs.Law.{AllAgree}
+use Rattle.room_entry.{specs.{Ace.Ace, declared.object.Which.Which}, proofs.Facts.Members.count}
+use Rattle.room_entry.proofs.Facts.Members.{count-is, count_ends}
+use Rattle.room_rows.specs.{declared.{keep.Keep.Ghosts, node.Node.Node}, Content.root_of}
+use Rattle.room_rows.specs.{Keep.{HasNoRoot, IsRead, IsRootOf, with_content, KeepLaws}, Rows.Rows}
+use Rattle.room_rows.specs.{Rows.{AreRows, numbers_of, is_unreadable}, Law.AllAgree}
 use Rattle.room_rows.proofs.{InPlace.numbers_of-reading, Steps.later_cause}
 use Rattle.room_inherit.specs.{Spread.{ChangedAgree, with_lists, is_changed}, SpreadAll.IsRoot}
 use Rattle.room_inherit.specs.{SpreadAll.{IsSwept, Sweeps, SweepsIf}, Turn.{IsVisit, MeetsAgain}}
 use Rattle.room_inherit.specs.declared.descent.{Descent.Descent, Reach.TheVariants.All}
 use Rattle.room_inherit.specs.declared.outcome.{Spread.Spread, SpreadFault.SpreadFault}
-use Rattle.room_inherit.specs.declared.outcome.SpreadFault.TheVariants.{Keeper}
 use Rattle.room_inherit.proofs.{Chosen.folders_chosen, Frontier.ids_set, Sweeping.{Sweep, after}}
 use Rattle.room_inherit.proofs.Sweeping.{kids, kids_are, rows_after, sweep_after, count_seen}
 use Rattle.room_inherit.proofs.{Sweeping.{count_after, not_met_again}, SweepEnds.root_there}
 use Rattle.room_inherit.proofs.SweepEnds.{root_top, seen_first, sweep_first, count_has}
 use Rattle.room_inherit.proofs.{SweepEnds.{changed_swept, law_swept}, Ends.own_lists}
 use Rattle.room_inherit.proofs.{Ends.{with_own_lists, count_own, as_many_numbers}, Turns.Progress}
-use Rattle.room_entry.proofs.Facts.Members.{count, count-is, count_ends}
 
 -- ---- rows
 
@@ -66,8 +64,7 @@ module _ (d : Descent) (reach : d.reach ≡ All) (turns : ℕ) (rest : List Node
   sweeping_no_loop met =
       let met' : MeetsAgain d.which sofar.root.id w
       (with_content old (with_lists d.which f old.read)) = grind (arith, nat_tests) in
-      false≢true
-      (sym (search (not_met_again, root_there, top)) ∙ met')
+      search (rules, false≢true, not_met_again, root_there, top, met')
 
   module _ (new : Rows) (number : ℕ) (next : List Node)
       (visit : IsVisit d w rest next now number new) where
@@ -151,10 +148,3 @@ module _ {S : Type 0} (k : Ghosts S)
       → IsRead k.rows k.failures k.writes k.Follows k.IsTrusted a b (Ok root) HasNoRoot IsRootOf
       → SweepsIf k b c (IsRoot root) which r → Sweeps k a c which r
   sweeps_from root a b c r found more = grind (arith, nat_tests, later_cause)
-
-  -- the root wasn't read
-  pub no_root_read : (a b : S) (e : KeepFault)
-      → IsRead k.rows k.failures k.writes k.Follows k.IsTrusted {X = Node} a b
-      (Err e) HasNoRoot IsRootOf → Sweeps k a b which (Err (Keeper e))
-  no_root_read a b e read =
-      record { follows = read.follows; written = tt; becomes = λ t. tt; fault = read.fault }

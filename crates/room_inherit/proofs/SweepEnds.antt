@@ -1,20 +1,19 @@
 -- Where going through the tree begins, and where it ends.
-use Rattle.std.proofs.Common.{◌≡◌, ℕ, zero, suc, ◌+◌, ◌≤◌, ◌==◌, Bool, true, false, cond, List, []}
-use Rattle.std.proofs.Common.{◌∷◌, length, Option, Some, None, refl, sym, ◌∙◌, arith}
-use Rattle.std.proofs.lemmas.Bool.{false≢true, Decides.nat_tests}
-use Rattle.std.specs.{Prelude.is_none, List.{find, AllByRecursion as Each}, Option.option_map_or}
-use Rattle.room_entry.specs.{Ace.Ace, declared.object.Which.Which}
+use Rattle.std.proofs.Common.{rules, ◌≡◌, ℕ, zero, suc, ◌+◌, ◌≤◌, ◌==◌, Bool, true, false, cond}
+use Rattle.std.proofs.Common.{List, [], ◌∷◌, length, Option, Some, None, refl, sym, ◌∙◌, arith}
+use Rattle.std.{proofs.lemmas.Bool.{false≢true, Decides.nat_tests}, specs.Prelude.is_none}
+use Rattle.std.specs.{List.{find, AllByRecursion as Each}, Option.option_map_or}
+use Rattle.room_entry.{specs.{Ace.Ace, declared.object.Which.Which}, proofs.Facts.Members.one_if}
+use Rattle.room_entry.proofs.Facts.Members.{count, count_length}
 use Rattle.room_rows.specs.{declared.node.Node.Node, Content.{Content, node_at, root_of}}
 use Rattle.room_rows.specs.Content.{has_folder_above, has_parent, is_folder, is_rising}
 use Rattle.room_rows.specs.{Content.reaches_root, Held.is_linked, HeldList.Held, Finding.find_id}
-use Rattle.room_rows.specs.Law.{AllAgree}
+use Rattle.room_rows.{specs.Law.AllAgree, proofs.Lookups.{found_number, found_passes}}
 use Rattle.room_inherit.specs.{Spread.{ChangedAgree, with_lists}, SpreadAll.IsTree}
 use Rattle.room_inherit.proofs.{Kinship.with_own, Children.{ids_of, each_found, each_there}}
 use Rattle.room_inherit.proofs.{Children.apart_rising, Renewing.one_object, Ends.own_lists}
 use Rattle.room_inherit.proofs.Ends.{own_unchanged, law_at_end, changed_agree, each_all}
 use Rattle.room_inherit.proofs.{Outdated.parent_found, Folders.in_folder_is, Sweeping.Sweep}
-use Rattle.room_entry.proofs.Facts.Members.{one_if, count, count_length}
-use Rattle.room_rows.proofs.Lookups.{found_number, found_passes}
 
 -- what holds of each object holds of the one that is found
 each_find : (P : Node → Type 0) (test : Node → Bool) (nodes : List Node) (node : Node)
@@ -70,10 +69,7 @@ module _ (which : Which) (old : Content) (rises : is_rising (0 ∷ ids_of old.no
 
   module _ (f : Node → List Ace) (seen : Node → Bool) (front : Sweep which old root f seen []) where
     pub changed_swept : ChangedAgree which old (with_lists which f old)
-    changed_swept = changed_agree which 0 old rises f (λ n there changed.
-        let link = front.linked n there changed in
-        let met : seen n ≡ true = grind (arith, nat_tests, true_from_ne_false) in
-        grind (arith, nat_tests, none_above, parent_found, root_top))
+    changed_swept = changed_agree which 0 old rises f (search (rules, parent_found, root_top))
       where
         none_above : (h : Held) → is_linked h None ≡ false
         none_above h = refl

@@ -1,29 +1,27 @@
 -- The tree gone through from the root down.
-use Rattle.std.proofs.Common.{◌≡◌, ◌+◌, ◌≤◌, ◌==◌, Bool, true, false, not, ◌&&◌, ◌||◌, List, []}
-use Rattle.std.proofs.Common.{◌∷◌, ◌++◌, map, filter, length, Some, None, sym, ap, ◌∙◌, inl, inr}
-use Rattle.std.proofs.{Common.{◌⊎◌, arith}, lemmas.Bool.{cases_Bool, and_left, or_cases, or_left}}
-use Rattle.std.proofs.lemmas.Bool.{false≢true, false_from_ne_true, Decides.nat_tests}
-use Rattle.std.proofs.Math.Bool.{or-false}
-use Rattle.std.specs.List.{AllByRecursion as Each}
+use Rattle.std.proofs.Common.{rules, ◌≡◌, ◌+◌, ◌≤◌, ◌==◌, Bool, true, false, not, ◌&&◌, ◌||◌, List}
+use Rattle.std.proofs.Common.{[], ◌∷◌, ◌++◌, map, filter, length, Some, None, sym, ap, ◌∙◌, inl}
+use Rattle.std.proofs.{Common.{inr, ◌⊎◌, arith}, lemmas.Bool.{cases_Bool, and_left, or_cases}}
+use Rattle.std.proofs.lemmas.Bool.{or_left, false≢true, false_from_ne_true, Decides.nat_tests}
+use Rattle.std.{proofs.Math.Bool.or-false, specs.List.AllByRecursion as Each}
 use Rattle.room_entry.specs.{Ace.Ace, Same.same_entries, declared.object.Which.Which}
-use Rattle.room_rows.specs.{declared.node.Node.Node, Content.{Content, node_at, has_parent}}
-use Rattle.room_rows.specs.Content.{children_of, is_folder, is_linked_in, is_rising, with_each}
-use Rattle.room_rows.specs.{Held.held_of, Keep.with_inh, Pass.pass}
-use Rattle.room_inherit.specs.{Spread.{with_lists, is_changed}, Turn.{next_of, renewals}}
-use Rattle.room_inherit.specs.Turn.{brought_up, renewed_below, is_met_again, meets_again}
-use Rattle.room_inherit.specs.declared.descent.Reach.TheVariants.{All}
-use Rattle.room_inherit.proofs.{Kinship.{same_kind, same_name, same_parent}, Children.has_id}
-use Rattle.room_inherit.proofs.Children.{Apart, ids_of, each_there, apart_rising, apart_filter}
-use Rattle.room_inherit.proofs.Children.{apart_map, each_child, apart_children, some_child}
-use Rattle.room_inherit.proofs.Children.{is_such_child, length_children, children_map}
-use Rattle.room_inherit.proofs.{Renewing.{map_agree, one_object}, Frontier.{set, set_folder}}
-use Rattle.room_inherit.proofs.Frontier.{set_id, set_parent, find_set, links, passes}
-use Rattle.room_inherit.proofs.Outdated.{parent_found, same_above, has_either, apart_join}
-use Rattle.room_inherit.proofs.Outdated.{apart_front, apart_last, has_last, base_of}
 use Rattle.room_entry.proofs.Facts.Members.{each_append, each_front, each_back, each_filter}
 use Rattle.room_entry.proofs.Facts.Members.{each_weaker, filter_map, count, count_ends}
 use Rattle.room_entry.proofs.Facts.Members.{count_length, count_map, count_agree, count_either}
-use Rattle.room_rows.proofs.Frames.{parent_is}
+use Rattle.room_rows.specs.{declared.node.Node.Node, Content.{Content, node_at, has_parent}}
+use Rattle.room_rows.specs.Content.{children_of, is_folder, is_linked_in, is_rising, with_each}
+use Rattle.room_rows.{specs.{Held.held_of, Keep.with_inh, Pass.pass}, proofs.Frames.parent_is}
+use Rattle.room_inherit.specs.{Spread.{with_lists, is_changed}, Turn.{next_of, renewals}}
+use Rattle.room_inherit.specs.Turn.{brought_up, renewed_below, is_met_again, meets_again}
+use Rattle.room_inherit.{specs.declared.descent.Reach.TheVariants.All, proofs.Kinship.same_kind}
+use Rattle.room_inherit.proofs.{Kinship.{same_name, same_parent}, Children.{has_id, Apart, ids_of}}
+use Rattle.room_inherit.proofs.Children.{each_there, apart_rising, apart_filter, apart_map}
+use Rattle.room_inherit.proofs.Children.{each_child, apart_children, some_child, is_such_child}
+use Rattle.room_inherit.proofs.{Children.{length_children, children_map}, Renewing.map_agree}
+use Rattle.room_inherit.proofs.{Renewing.one_object, Frontier.{set, set_folder, set_id, set_parent}}
+use Rattle.room_inherit.proofs.{Frontier.{find_set, links, passes}, Outdated.parent_found}
+use Rattle.room_inherit.proofs.Outdated.{same_above, has_either, apart_join, apart_front}
+use Rattle.room_inherit.proofs.Outdated.{apart_last, has_last, base_of}
 use Rattle.room_inherit.proofs.Outdated as step
 
 module _ (which : Which) (old : Content) (root : Node) where
@@ -244,11 +242,8 @@ module _ (which : Which) (old : Content) (rises : is_rising (0 ∷ ids_of old.no
   closed_after n p there there' folder has is = elim (cases_Bool (p.id == w.id)) [
     | inl same ↦ grind (arith, nat_tests, child_agrees)
     | inr other ↦ elim (or_cases (seen p) (child p) is) [
-      | inl before ↦
-          other_agrees n p there there' has before other
-          (front.closed n p there there' folder has before)
-      | inr now_met ↦
-          inl (grind (arith, nat_tests, has_either, has_id, kids_has))
+      | inl before ↦ search (rules, other_agrees, n, p, there, there', has, before, other, folder)
+      | inr now_met ↦ search (rules, has_either, has_id, kids_has)
     ]
   ]
 

@@ -83,7 +83,9 @@ module _ {S : Type 0} (k : Ghosts S)
           (λ at. k.IsTrusted a c × progress.Given (k.rows a) → IsUnreadable (k.rows a) at)
           (k.IsTrusted a c × progress.Given (k.rows a) → progress.Loops (k.rows a)) e
       cause (Keeper f) h =
-          later_cause (k.failures a) (k.failures b) (k.failures c) f _ _
+          later_cause (k.failures a) (k.failures b) (k.failures c) f
+          (λ at. k.IsTrusted b c → IsUnreadable (k.rows b) at)
+          (λ at. k.IsTrusted a c × progress.Given (k.rows a) → IsUnreadable (k.rows a) at)
           (laws.rise a b sofar.follows) (laws.rise b c visit.follows)
           (λ at damaged t.
           progress.unreadable turns (rest ++ w ∷ []) changed at (k.rows a) (k.rows b)

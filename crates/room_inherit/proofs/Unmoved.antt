@@ -1,6 +1,6 @@
 -- Objects that are changed, but stay in their places and of their kinds.
-use Rattle.std.proofs.Common.{◌≡◌, ℕ, zero, suc, Bool, true, false, not, ◌&&◌, List, [], ◌∷◌, map}
-use Rattle.std.proofs.Common.{filter, Option, Some, None, refl, ap, ◌∙◌, arith}
+use Rattle.std.proofs.Common.{rules, ◌≡◌, ℕ, zero, suc, Bool, true, false, not, ◌&&◌, List, [], ◌∷◌}
+use Rattle.std.proofs.Common.{map, filter, Option, Some, None, refl, ap, ◌∙◌, arith}
 use Rattle.std.proofs.lemmas.Bool.{not-false, not-true, or_from, or_parts, Decides.nat_tests}
 use Rattle.std.proofs.lemmas.List.{length-map}
 use Rattle.std.specs.{List.list_all, Option.{option_map, option_map_or}}
@@ -107,9 +107,7 @@ module _ (old : Rows) (change : Node → Node) (place : (n : Node) → IsSamePla
     lists =
         search (all_implied, not-true, numbers-with_each, numbers_of-reading, places, still_good);
     root = rooted old.read change place kinds ∙ none.root;
-    parents =
-        kept (has_folder_above new.read) (has_folder_above old.read)
-        (folder_above old.read change place kinds) old.read.nodes none.parents;
+    parents = search (rules, kept, folder_above);
     reach =
         kept (reaches new.read) (reaches old.read) (reach_all old.read change place)
         old.read.nodes none.reach;

@@ -1,18 +1,17 @@
 -- All rows, read number by number.
-use Rattle.std.proofs.Common.{◌≡◌, ℕ, ◌<◌, ◌+◌, ◌==◌, ◌||◌, Bool, true, false, List, [], ◌∷◌, ◌++◌}
-use Rattle.std.proofs.Common.{length, get_or, drop, Some, None, refl, sym, ap, ◌∙◌, inl, inr}
-use Rattle.std.proofs.{Common.{append_assoc, arith}, lemmas.Bool.{cases_Bool, false≢true, eqb-true}}
-use Rattle.std.proofs.lemmas.Bool.{eq-eqb, or_left, or_right, or_from, cond-true, cond-false}
-use Rattle.std.proofs.lemmas.{Bool.{false_from_ne_true, Decides.nat_tests}, List.drop_more}
-use Rattle.std.proofs.lemmas.List.Recursion.{or_at}
+use Rattle.std.proofs.Common.{◌≡◌, ℕ, ◌<◌, ◌≤◌, ◌+◌, ◌==◌, ◌||◌, Bool, true, false, List, [], ◌∷◌}
+use Rattle.std.proofs.Common.{◌++◌, length, get_or, drop, Some, None, refl, sym, ap, ◌∙◌, inl, inr}
+use Rattle.std.proofs.{Common.{nat_lt, append_assoc, arith, rules}, lemmas.Bool.cases_Bool}
+use Rattle.std.proofs.lemmas.Bool.{false≢true, eqb-true, eq-eqb, or_left, or_right, or_from}
+use Rattle.std.proofs.lemmas.Bool.{cond-true, cond-false, false_from_ne_true, and_parts, ltb-true}
+use Rattle.std.proofs.lemmas.{Bool.{ne_eqb, Decides.nat_tests}, List.{drop_more, Recursion.or_at}}
 use Rattle.std.specs.{Prelude.is_some, List.{find, list_any, filter_map}}
 use Rattle.room_entry.specs.Pieces.{is_among}
-use Rattle.room_rows.specs.{declared.node.Node.Node, Content.node_at, Rows.{Rows, AreRows, Unread}}
-use Rattle.room_rows.specs.Rows.{is_unreadable, numbers_of, put_number, put_numbers, unread_numbers}
-use Rattle.room_rows.specs.Sound.{first_bad_list, has_bad_list}
-use Rattle.room_inherit.specs.Reading.{IsBadAt, IsUnused}
-use Rattle.room_inherit.proofs.Numbers.{ids_of, each_found}
+use Rattle.room_rows.specs.{declared.node.Node.Node, Content.{is_rising, node_at}, Rows.Rows}
+use Rattle.room_rows.specs.Rows.{AreRows, Unread, is_unreadable, numbers_of, put_number}
+use Rattle.room_rows.specs.{Rows.put_numbers, Sound.{first_bad_list, has_bad_list}}
 use Rattle.room_rows.proofs.Sets.{or_swap}
+use Rattle.room_inherit.{specs.Reading.{IsBadAt, IsUnused}, proofs.Numbers.{ids_of, each_found}}
 
 -- ---- numbers in use
 
@@ -43,9 +42,30 @@ not_free rows ids i row are below free =
     let listed : is_among ids id ≡ true = or_at (λ l. is_among l id) (λ other. other == id) refl
     (λ _ _. refl) ids i 0 below (eq-eqb id id refl) in
     let nowhere : is_among (numbers_of rows) id ≡ false =
-    among_numbers (unread_numbers rows) (ids_of rows.read.nodes) id
-    ∙ or_from _ _ free.1 (among_found rows.read.nodes id ∙ ap is_some free.0) in
+    search (rules, among_numbers, ids_of, among_found, free.1, free.0) in
     false≢true (sym nowhere ∙ ap (λ l. is_among l id) (sym are) ∙ listed)
+
+-- numbers that rise from one on don't have it, and none below it
+none_below : (k : ℕ) (ids : List ℕ) → is_rising (k ∷ ids) ≡ true → (id : ℕ) → id ≤ k
+    → is_among ids id ≡ false
+none_below k [] rises id low = refl
+none_below k (x ∷ xs) rises id low =
+    let parts = and_parts (nat_lt k x) (is_rising (x ∷ xs)) rises in
+    let up = ltb-true k x parts.0 in
+    or_from _ _ (ne_eqb x id (λ e. omega (arith, up, low, e)))
+    (none_below x xs parts.1 id (omega (arith, up, low)))
+
+found_among : (test : ℕ → Bool) (ids : List ℕ) (id : ℕ) → find test ids ≡ Some id
+    → is_among ids id ≡ true
+found_among test [] id found = absurd (cc)
+found_among test (x ∷ xs) id found = grind (arith, nat_tests, found_among test xs id)
+
+-- no row has the number 0, so it isn't found to be bad
+pub no_bad_zero : (rows : Rows) → AreRows rows → first_bad_list rows ≡ Some 0 → ⊥
+no_bad_zero rows are bad =
+    let nowhere : is_among (numbers_of rows) 0 ≡ false =
+    search (rules, among_numbers, ids_of, or_from, none_below, are, are.unreadable, are.numbers) in
+    search (rules, found_among, bad, nowhere)
 
 -- ---- no row is bad
 
@@ -70,10 +90,7 @@ all_read rows [] are none = refl
 all_read rows (x ∷ xs) are none =
     let itself : is_unreadable rows x.id ≡ true = grind (arith, nat_tests) in
     let listed : is_among (numbers_of rows) x.id ≡ true = search (among_numbers, ids_of, or_left) in
-    let bad : has_bad_list rows x.id ≡ true = or_left (is_unreadable rows x.id) _ itself in
-    absurd
-    (false≢true (sym (none_found (has_bad_list rows) (numbers_of rows) none)
-    ∙ any_at (has_bad_list rows) (numbers_of rows) x.id listed bad))
+    search (rules, or_left, none_found, any_at, none, itself, listed)
 
 -- where no number in use is bad, each row can be read
 pub none_unreadable : (rows : Rows) → first_bad_list rows ≡ None → rows.unreadable ≡ []
@@ -84,13 +101,8 @@ pub not_bad : (rows : Rows) → first_bad_list rows ≡ None → (id : ℕ) (nod
     → node_at rows.read id ≡ Some node → has_bad_list rows id ≡ false
 not_bad rows none id node found =
     let listed : is_among (numbers_of rows) id ≡ true =
-    cc (
-      among_numbers (unread_numbers rows) (ids_of rows.read.nodes) id,
-      or_right (is_unreadable rows id) _ (among_found rows.read.nodes id ∙ ap is_some found),
-    ) in
-    false_from_ne_true (has_bad_list rows id)
-    (λ bad. false≢true (sym (none_found (has_bad_list rows) (numbers_of rows) none)
-    ∙ any_at (has_bad_list rows) (numbers_of rows) id listed bad))
+    search (rules, among_numbers, ids_of, or_right, among_found, found) in
+    search (rules, false_from_ne_true, none_found, any_at, none, listed)
 
 -- the objects of all numbers are all objects
 pub whole : (rows : Rows) → AreRows rows → first_bad_list rows ≡ None

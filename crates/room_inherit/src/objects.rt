@@ -1,9 +1,9 @@
 //! All objects of the rows.
-ghost use Rattle.std.specs.Prelude.{◌≡◌, false, IsTrue, MatchOption};
+ghost use Rattle.std.specs.Prelude.{◌≡◌, false, IsTrue, MatchResult, Some};
 ghost use Rattle.std.specs.Option.{option_copied};
 ghost use Rattle.room_rows.specs.Content.{parent_of};
 ghost use Rattle.room_rows.specs.Finding.{find_id};
-ghost use Rattle.room_inherit.specs.Objects.{are_rising, only};
+ghost use Rattle.room_inherit.specs.Objects.{are_rising, first_fallen, only};
 
 use room_rows::{Node, Nodes};
 use std::marker::Model;
@@ -27,14 +27,14 @@ impl Model for Objects {
 }
 
 impl Objects {
-    /// The objects, if their numbers rise from 1 on.
-    pub(crate) fn new(nodes: Nodes) -> Option<Objects>
-        ensures { MatchOption result (are_rising nodes ≡ false) (λ objects. objects ≡ nodes) }
+    /// The objects, if their numbers rise from 1 on, or else the first number that doesn't.
+    pub(crate) fn new(nodes: Nodes) -> Result<Objects, u64>
+        ensures { MatchResult result (λ objects. objects ≡ nodes)
+            (λ id. (are_rising nodes ≡ false) × (first_fallen 0 nodes ≡ Some id)) }
     {
-        if are_rising(nodes.as_slice()) {
-            Some(Objects { nodes })
-        } else {
-            None
+        match first_fallen(nodes.as_slice()) {
+            None => Ok(Objects { nodes }),
+            Some(id) => Err(id),
         }
     }
 
@@ -64,18 +64,18 @@ impl Objects {
     }
 }
 
-// Whether the numbers rise from 1 on.
-fn are_rising(nodes: &[Node]) -> bool
-    ensures { result ≡ are_rising nodes.now }
+// The first number that isn't above the one before it, or above 0. There is none where they rise.
+fn first_fallen(nodes: &[Node]) -> Option<u64>
+    ensures { result ≡ first_fallen 0 nodes.now }
 {
     let mut last = 0;
     for node in nodes {
         if node.id <= last {
-            return false;
+            return Some(node.id);
         }
         last = node.id;
     }
-    true
+    None
 }
 
 // The object of this number, where the numbers rise.

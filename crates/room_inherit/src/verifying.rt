@@ -27,8 +27,8 @@ enum Holding {
 /// Whether the rows are sound, or the first fault of seven tests, each over all numbers in rising
 /// order: lists, root, parents, loops, names, bytes, and the law that ties stored inherited entries
 /// to the parent's list. The fault's path is `?` and a number in the first four, and the true path
-/// in the others. Nothing is written. The error is the keeper's; it is `Damaged` only where the
-/// keeper contradicts itself.
+/// in the others. Nothing is written. The error is the keeper's; it is `Damaged` or `NoRoot` only
+/// where the keeper contradicts itself.
 pub fn verify<K: Keep>(alloc: Global, keep: &mut K) -> Result<Report, KeepFault>
     ensures look { Looks K.Keep keep.old keep.new result IsReport }
 {
@@ -43,6 +43,7 @@ pub fn verify_kept<K: Keep>(alloc: Global, keep: &mut K) -> Result<Report, KeepF
     look_through(alloc, keep, Holding::Kept)
 }
 
+#[tactic(auto, using(crate::proofs::Whole::no_bad_zero))]
 fn look_through<K: Keep>(alloc: Global, keep: &mut K, holding: Holding) -> Result<Report, KeepFault>
     ensures look { Looks K.Keep keep.old keep.new result (IsReportBy holding) }
 {
@@ -50,8 +51,8 @@ fn look_through<K: Keep>(alloc: Global, keep: &mut K, holding: Holding) -> Resul
         Err(KeepFault::Damaged { id }) => Ok(fault_of_number(alloc, id, Unsound::BadList)?),
         Err(fault) => Err(fault),
         Ok(nodes) => match Objects::new(nodes) {
-            None => Err(KeepFault::Damaged { id: 0 }),
-            Some(objects) => report_on(alloc, keep, &objects, holding),
+            Err(id) => Err(KeepFault::Damaged { id }),
+            Ok(objects) => report_on(alloc, keep, &objects, holding),
         },
     }
 }

@@ -1,14 +1,12 @@
 -- Calls of a keeper one after the other, in the form in which a request is carried out.
 use Rattle.std.proofs.Common.{◌≡◌, ℕ, ◌+◌, ◌≤◌, Result, Ok, Err, length, arith}
-use Rattle.std.proofs.lemmas.Bool.Decides.{nat_tests}
-use Rattle.std.specs.Result.{IsErrAnd}
+use Rattle.std.{proofs.lemmas.Bool.Decides.nat_tests, specs.Result.IsErrAnd}
 use Rattle.room_rows.specs.declared.keep.KeepFault.{KeepFault, TheVariants.{Memory, Damaged}}
 use Rattle.room_rows.specs.{Keep.{IsRead, IsWriteOf, KeepLaws}, Rows.{Rows, AreRows}}
 use Rattle.room_rows.proofs.Steps.{later_cause}
 use Rattle.room_judge.specs.Extent.{Extent, OnlyRecords, UpTo, StaysWithin, Unsaid, unrecorded}
-use Rattle.room_judge.specs.Judged.{IsDone}
-use Rattle.room_judge.proofs.Within.{within_after, within_any, within_later, within_same}
-use Rattle.room_judge.proofs.Within.{written_up_to}
+use Rattle.room_judge.{specs.Judged.IsDone, proofs.Within.{within_after, within_any, within_later}}
+use Rattle.room_judge.proofs.Within.{within_same, written_up_to}
 
 -- calls that each answered, and what became of the rows
 pub record HasDone {S : Type 0} (rows : S → Rows) (writes : S → ℕ)

@@ -1,24 +1,23 @@
 -- The way to the folder of a path's last name, judged.
-use Rattle.std.proofs.Common.{◌≡◌, ℕ, ◌<◌, ◌+◌, Bool, true, false, cond, ◌&&◌, List, [], ◌∷◌, ◌++◌}
-use Rattle.std.proofs.Common.{length, take, Option, Some, None, Result, Ok, Err, refl, sym, ap}
-use Rattle.std.proofs.{Common.{subst, ◌∙◌, arith}, lemmas.{List.append-nil, Bool.Decides.nat_tests}}
-use Rattle.std.proofs.Math.Bool.{and-false}
-use Rattle.std.specs.{Prelude.is_none, Option.{option_map, option_and_then}}
+use Rattle.std.proofs.Common.{rules, ◌≡◌, ℕ, ◌<◌, ◌+◌, Bool, true, false, cond, ◌&&◌, List, [], ◌∷◌}
+use Rattle.std.proofs.Common.{◌++◌, length, take, Option, Some, None, Result, Ok, Err, refl, sym}
+use Rattle.std.proofs.{Common.{ap, subst, ◌∙◌, arith}, lemmas.List.append-nil}
+use Rattle.std.{proofs.{lemmas.Bool.Decides.nat_tests, Math.Bool.and-false}, specs.Prelude.is_none}
+use Rattle.std.specs.Option.{option_map, option_and_then}
 use Rattle.room_rows.specs.{declared.node.{AuditRow.AuditRow, Node.Node}, Content.child_of}
 use Rattle.room_rows.specs.Rows.{Rows}
 use Rattle.room_judge.specs.declared.arrival.{Both.Both, Found.Found, Under.Under}
 use Rattle.room_judge.specs.{declared.asker.Asker.Asker, Stored.found_site, Halted.both_with}
 use Rattle.room_judge.specs.{Judged.{IsJudged, IsReached, child_below, through}, Spot.IsPaired}
-use Rattle.room_judge.specs.Spot.{IsSpotted, SpotsUnder, spot_of}
+use Rattle.room_judge.{specs.Spot.{IsSpotted, SpotsUnder, spot_of}, proofs.Judging.failure_of_parts}
+use Rattle.room_judge.proofs.Judging.{records_of_parts, fails_first, passes_first, refuses}
+use Rattle.room_judge.proofs.{Judging.{passes_on, judged_none}, Ways.plain_way, Spots.below_of}
+use Rattle.room_judge.proofs.Spots.{missing, last_look, stem, way_along, folder_along, folder_found}
+use Rattle.room_judge.proofs.Spots.{target_found, folder_path, path_parts, take_front, name_is_last}
 use Rattle.room_machine.specs.declared.reply.{Reply.Reply, Reason.{Reason, TheVariants.NoSuch}}
 use Rattle.room_machine.specs.{Site.{Site, front, last_name}, Plan.{Item, Refusal, way}}
 use Rattle.room_machine.specs.{Plan.where_found, Judge.{first_failure, or_else, records_of_plan}}
 use Rattle.room_machine.specs.Stored.{stored_site, stored_along, to_stored}
-use Rattle.room_judge.proofs.Judging.{failure_of_parts, records_of_parts, fails_first, passes_first}
-use Rattle.room_judge.proofs.{Judging.{refuses, passes_on, judged_none}, Ways.plain_way}
-use Rattle.room_judge.proofs.Spots.{below_of, missing, last_look, stem, way_along, folder_along}
-use Rattle.room_judge.proofs.Spots.{folder_found, target_found, folder_path, path_parts, take_front}
-use Rattle.room_judge.proofs.Spots.{name_is_last}
 
 -- ---- the folder of the last name
 
@@ -74,8 +73,7 @@ module _ (asker : Asker) (path : List (List ℕ)) (some : 0 < length path) where
         (fails_first asker (stem old.read path) (last_look old.read true path) old new reply
         (fails_first asker (way false (stored_along old.read (front path)) (front path))
         (where_found (folder_along old.read path) through) old new reply
-        (subst (λ items. IsJudged asker items old (Some reply) new)
-        (way_to_front old) reached.judged)));
+        (search (rules, old, reply, new, way_to_front, reached.judged))));
     folder = tt;
     child = tt;
   }

@@ -1,15 +1,14 @@
 -- Items that are judged as they come, one after the other.
-use Rattle.std.proofs.Common.{◌≡◌, ℕ, ℤ, Bool, true, false, cond, List, [], ◌∷◌, ◌++◌, Option, Some}
-use Rattle.std.proofs.Common.{None, refl, sym, ap, subst, ◌∙◌, append_assoc, arith}
-use Rattle.std.proofs.lemmas.{List.append-nil, Bool.Decides.nat_tests}
-use Rattle.std.specs.Prelude.{is_none}
+use Rattle.std.proofs.Common.{◌≡◌, ℕ, ℤ, Bool, true, false, cond, List, [], ◌∷◌, ◌++◌}
+use Rattle.std.proofs.Common.{Option, Some, None, refl, sym, ap, subst, ◌∙◌, append_assoc, arith}
+use Rattle.std.{proofs.lemmas.{List.append-nil, Bool.Decides.nat_tests}, specs.Prelude.is_none}
 use Rattle.room_entry.specs.declared.parties.Caller.{Caller}
 use Rattle.room_rows.specs.{declared.node.AuditRow.AuditRow, Keep.{IsUnreadable, with_content}}
 use Rattle.room_rows.specs.Rows.{Rows}
 use Rattle.room_judge.specs.{declared.asker.Asker.Asker, Judged.{IsJudged, with_notes}}
 use Rattle.room_machine.specs.declared.reply.{Reply.{Reply, TheVariants.Refused}, Reason.Reason}
-use Rattle.room_machine.specs.{Plan.{Item, Refusal}, Judge.{passes, or_else}}
-use Rattle.room_machine.specs.Judge.{first_failure, records_of_checks, checks_of, records_of_plan}
+use Rattle.room_machine.specs.{Plan.{Item, Refusal}, Judge.{passes, or_else, first_failure}}
+use Rattle.room_machine.specs.Judge.{records_of_checks, checks_of, records_of_plan}
 
 -- ---- records after records
 
@@ -140,11 +139,3 @@ module _ (asker : Asker) where
       subst (λ list. IsJudged asker list old (Some reply) new) (sym sofar.parts)
       (passes_first asker sofar.front (items ++ rest) old mid new (Some reply) sofar.judged
       (fails_first asker items rest mid new reply judged))
-
-  -- the answer to all items that are left is the answer to the whole list
-  pub so_far_last : (all rest : List Item) (old mid new : Rows) (answer : Option Reply)
-      → SoFar asker all rest old mid → IsJudged asker rest mid answer new
-      → IsJudged asker all old answer new
-  so_far_last all rest old mid new answer sofar judged =
-      subst (λ list. IsJudged asker list old answer new) (sym sofar.parts)
-      (passes_first asker sofar.front rest old mid new answer sofar.judged judged)

@@ -4,9 +4,8 @@ use Rattle.std.proofs.lemmas.Bool.Decides.{nat_tests}
 use Rattle.room_rows.specs.{declared.keep.KeepFault.KeepFault, Keep.KeepLaws, Rows.{Rows, AreRows}}
 use Rattle.room_machine.specs.declared.reply.Reply.{Reply}
 use Rattle.room_judge.specs.Extent.{Extent, OnlyRecords, Unless, UpTo, StaysWithin, Unsaid}
-use Rattle.room_judge.specs.{Extent.unrecorded, Judged.IsDone}
-use Rattle.room_judge.proofs.Calls.{HasDone, done, fails, tail_known, then_known}
-use Rattle.room_judge.proofs.Within.{within_any}
+use Rattle.room_judge.{specs.{Extent.unrecorded, Judged.IsDone}, proofs.Calls.{HasDone, done}}
+use Rattle.room_judge.proofs.{Calls.{fails, tail_known, then_known}, Within.within_any}
 
 -- What suffices for two calls is shared by them.
 pub record Share (First Second : Rows → Rows → ℕ → Type 0) (old mid new : Rows)

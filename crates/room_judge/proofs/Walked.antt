@@ -1,12 +1,12 @@
 -- A walk, step after step, and from the root.
-use Rattle.std.proofs.Common.{◌≡◌, ℕ, ◌<◌, ◌≤◌, ◌+◌, List, [], length, take, Some, refl, Result, Ok}
-use Rattle.std.proofs.{Common.{Err, sym, subst, ◌∙◌, arith}, lemmas.List.{take-take, get_or-take}}
+use Rattle.std.proofs.Common.{◌≡◌, ℕ, ◌<◌, ◌≤◌, ◌+◌, List, [], length, take, Some, Result}
+use Rattle.std.proofs.{Common.{Ok, Err, sym, ◌∙◌, arith}, lemmas.List.{take-take, get_or-take}}
 use Rattle.std.proofs.lemmas.{List.length-take-le, Bool.Decides.nat_tests}
 use Rattle.room_rows.specs.{declared.node.Node.Node, Content.root_of, Rows.Rows}
 use Rattle.room_judge.specs.{declared.{arrival.Found.Found, asker.Asker.Asker}, Judged.FromRoot}
 use Rattle.room_judge.specs.Judged.{IsStepDown, IsReached}
 use Rattle.room_machine.specs.declared.reply.Reply.{Reply}
-use Rattle.room_judge.proofs.Ways.{IsOnWay, way_begins, way_done, way_ends, way_goes_on}
+use Rattle.room_judge.proofs.Ways.{IsOnWay, way_done, way_ends, way_goes_on}
 
 -- ---- a walk, step after step
 
@@ -44,15 +44,6 @@ module _ (asker : Asker) (path : List (List ℕ)) (n : ℕ) (within : n ≤ leng
         way_done asker (take n path) from old now (all ∙ sym size) walking
 
 -- ---- from the root
-
--- no step is done at the root
-pub root_reached : (asker : Asker) (path : List (List ℕ)) (n : ℕ) (node : Node) (old new : Rows)
-    → n ≡ 0 → root_of old.read ≡ Some node → new ≡ old
-    → IsReached asker (take n path) (λ _. []) old (Ok node) new
-root_reached asker path n node old new none is same =
-    subst (λ (k : ℕ). IsReached asker (take k path) (λ _. []) old (Ok node) new) (sym none)
-    (way_done asker [] (record { node = node; depth = 0 }) old new refl
-    (way_begins asker [] node old new is same))
 
 -- the root that was read is that of the rows
 pub reached_from : (asker : Asker) (path : List (List ℕ)) (root : Node)

@@ -1,19 +1,18 @@
 -- The way to an object, one step after the other.
-use Rattle.std.proofs.Common.{◌≡◌, ℕ, ◌<◌, ◌+◌, false, List, [], ◌∷◌, ◌++◌, length, take, drop}
-use Rattle.std.proofs.Common.{get_or, Option, Some, None, Result, Ok, Err, refl, sym, ap, subst}
-use Rattle.std.proofs.{Common.{◌∙◌, arith}, lemmas.List.{append-nil, take_more, drop_more}}
+use Rattle.std.proofs.Common.{rules, ◌≡◌, ℕ, ◌<◌, ◌+◌, false, List, [], ◌∷◌, ◌++◌, length, take}
+use Rattle.std.proofs.Common.{drop, get_or, Option, Some, None, Result, Ok, Err, refl, sym, ap}
+use Rattle.std.proofs.{Common.{subst, ◌∙◌, arith}, lemmas.List.{append-nil, take_more, drop_more}}
 use Rattle.std.proofs.{lemmas.{List.get_or_read, Bool.Decides.nat_tests}, Math.Seq.take-length}
-use Rattle.std.proofs.Math.Seq.{drop-length}
-use Rattle.std.specs.{Prelude.is_none, Option.option_map_or}
+use Rattle.std.{proofs.Math.Seq.drop-length, specs.{Prelude.is_none, Option.option_map_or}}
 use Rattle.room_rows.specs.{declared.node.Node.Node, Content.{Content, child_of, root_of, is_empty}}
 use Rattle.room_rows.specs.{Keep.IsUnreadable, Rows.Rows}
 use Rattle.room_judge.specs.{declared.{arrival.Found.Found, asker.Asker.Asker}, Stored.found_site}
 use Rattle.room_judge.specs.Judged.{IsJudged, IsStepDown, IsReached, name_after, through}
+use Rattle.room_judge.proofs.Judging.{SoFar, fails_first, passes_first, judged_none, so_far_none}
+use Rattle.room_judge.proofs.Judging.{so_far_as, so_far_on, so_far_fails}
 use Rattle.room_machine.specs.{declared.reply.{Reply.Reply, Reason.TheVariants.NoSuch}, Site.Site}
 use Rattle.room_machine.specs.{Site.site_at, Plan.{Item, Refusal, way, where_found}}
 use Rattle.room_machine.specs.Stored.{stored_site, stored_from, stored_along, to_stored}
-use Rattle.room_judge.proofs.Judging.{SoFar, fails_first, passes_first, judged_none, so_far_none}
-use Rattle.room_judge.proofs.Judging.{so_far_as, so_far_on, so_far_fails, so_far_last}
 
 -- ---- one step
 
@@ -127,10 +126,8 @@ module _ (asker : Asker) (path : List (List ℕ)) where
     way_ends old now new reply on_way step = record {
       judged = subst (λ items. IsJudged asker items old (Some reply) new) (sym (plain_way old))
           (so_far_fails asker (all_of old) (step_items old) (items_below old) old now new reply
-          (so_far_as asker (all_of old) _ (step_items old ++ items_below old) old now
-          (way_here old) on_way.so_far)
-          (subst (λ items. IsJudged asker items now (Some reply) new)
-          (at_first old now on_way) step.judged));
+          (search (rules, so_far_as, old, way_here, on_way.so_far))
+          (search (rules, now, reply, new, at_first, old, on_way, step.judged)));
       found = tt;
     }
 
@@ -143,17 +140,14 @@ module _ (asker : Asker) (path : List (List ℕ)) where
         cc (on_way.so_far.judged.notes, step.found) in
         let path_then : take from.depth path ++ next_name ∷ [] ≡ take next.depth path =
         sym (one_name_more path from.depth below) ∙ ap (λ (d : ℕ). take d path) (sym deeper) in
-        let names_then : names_left ≡ drop next.depth path = cc (deeper) in
         let below_here : items_below old
         ≡ way false (stored_from old.read (take next.depth path) next.node
         (drop next.depth path)) (drop next.depth path) = grind (arith, nat_tests) in
         record {
           so_far = so_far_as asker (all_of old) (items_below old) _ old new below_here
               (so_far_on asker (all_of old) (step_items old) (items_below old) old now new
-              (so_far_as asker (all_of old) _ (step_items old ++ items_below old) old now
-              (way_here old) on_way.so_far)
-              (subst (λ items. IsJudged asker items now None new)
-              (at_first old now on_way) step.judged));
+              (search (rules, so_far_as, old, way_here, on_way.so_far))
+              (search (rules, now, new, at_first, old, on_way, step.judged)));
           found = search (here);
         }
 
@@ -161,15 +155,7 @@ module _ (asker : Asker) (path : List (List ℕ)) where
   pub way_done : (from : Found) (old now : Rows) → from.depth ≡ length path
       → IsOnWay asker path from old now → IsReached asker path (λ _. []) old (Ok from.node) now
   way_done from old now full on_way =
-      let none_left : drop from.depth path ≡ [] = cc (full, drop-length path) in
-      let whole : take from.depth path ≡ path = cc (full, take-length path) in
-      record {
-        judged = subst (λ items. IsJudged asker items old None now) (sym (plain_way old))
-            (so_far_last asker (all_of old) [] old now now None
-            (grind (arith, nat_tests, so_far_as))
-            (judged_none asker now now refl));
-        found = grind (arith, nat_tests);
-      }
+      search (rules, drop-length, take-length, plain_way, so_far_as, judged_none, nat_tests, full)
 
   -- ---- items at the target
 
@@ -196,8 +182,7 @@ module _ (asker : Asker) (path : List (List ℕ)) where
         passes_first asker (all_of old)
         (where_found (site_at (stored_along old.read path) path) items) old mid new answer
         (subst (λ list. IsJudged asker list old None mid) (plain_way old) reached.judged)
-        (subst (λ list. IsJudged asker list mid answer new)
-        (sym (ap (λ o. where_found o items) site)) judged)
+        (search (rules, site, judged))
 
     -- a walk that came to its target ends there, with the reply for an item that fails
     pub target_refused : (old mid new : Rows) (target : Found) (reply : Reply)
@@ -221,9 +206,6 @@ module _ (asker : Asker) (path : List (List ℕ)) where
         → IsReached asker path items old (unless node refusal) new
     reaches_with old mid new node target None is reached judged =
         target_passed old mid new (record { node = node; depth = length path }) refl reached
-        (subst (λ (t : Found). IsJudged asker (items (found_site path t)) mid None new) is
-        judged)
+        (search (rules, mid, new, is, judged))
     reaches_with old mid new node target (Some reply) is reached judged =
-        target_refused old mid new (record { node = node; depth = length path }) reply refl reached
-        (subst (λ (t : Found). IsJudged asker (items (found_site path t)) mid (Some reply) new)
-        is judged)
+        search (rules, target_refused, old, reached, is, judged)

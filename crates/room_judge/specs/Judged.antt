@@ -43,7 +43,7 @@ use Rattle.room_machine.specs.Step.{Step, caller_in, Reset}
 module _ {S : Type 0} (rows : S → Rows) (failures writes : S → ℕ)
     (Follows IsTrusted : S → S → Type 0) where
   -- As long as the keeper answers by its rows, an answer says what became of them, and how much was
-  -- written. A fault has the cause that those of the keeper have, and `Damaged` names a row that
+  -- written. A fault has the cause that those of the keeper have, and what it blames is what
   -- the relation allows.
   pub record IsDone {X : Type 0} (extent : X → Extent) (old new : S) (result : Result X KeepFault)
       (Blames : Rows → ℕ → Type 0) (Becomes : Rows → X → Rows → Type 0) : Type 0 where

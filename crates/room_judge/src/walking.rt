@@ -89,7 +89,7 @@ fn walk_down<K: Keep>(
 }
 
 /// The walk to the object after this many names of the path, as far as the caller may pass. The
-/// path has as many names. Where there is no root, the fault is `Damaged { id: 0 }`.
+/// path has as many names. The fault is `NoRoot` only where there is no root.
 pub fn walk_along<K: Keep>(
     alloc: Global,
     keep: &mut K,

@@ -1,6 +1,6 @@
 -- What changes elsewhere leaves the objects along a path.
-use Rattle.std.proofs.Common.{ℕ, ◌≡◌, Bool, true, false, List, [], ◌∷◌, ◌++◌, Option, Some, None}
-use Rattle.std.proofs.Common.{refl, sym, ap, ◌∙◌, append_assoc, append-nil, take, drop}
+use Rattle.std.proofs.Common.{rules, ℕ, ◌≡◌, Bool, true, false, List, [], ◌∷◌, ◌++◌, Option, Some}
+use Rattle.std.proofs.Common.{None, refl, sym, ap, ◌∙◌, append_assoc, append-nil, take, drop}
 use Rattle.std.proofs.{Common.{take-append-drop, arith}, lemmas.Bool.Decides.nat_tests}
 use Rattle.std.specs.{Option.option_map, Prelude.if◌then◌else◌}
 use Rattle.room_entry.specs.declared.{object.Which.{Which, TheVariants.Sacl}, parties.Owners.Owners}
@@ -94,9 +94,7 @@ module _ (a : Content) (numbered : IsNumbered a) (p : List (List ℕ)) (s : Site
         cc (decided a (set_list a which sent o s) r
         (list_view a numbered p s.node at which (setting which sent o s).0
         (keeper which (setting which sent o s).1 (setting which sent o s).0.flags.auto
-        (setting which sent o s).2)
-        (keeper_blank which (setting which sent o s).1 (setting which sent o s).0.flags.auto
-        (setting which sent o s).2) r ∙ left
+        (setting which sent o s).2) (search (rules, keeper_blank, sent)) r ∙ left
         (keeper which (setting which sent o s).1 (setting which sent o s).0.flags.auto
         (setting which sent o s).2) r t is));
   }
@@ -117,8 +115,7 @@ module _ (a : Content) (numbered : IsNumbered a) (p : List (List ℕ)) (s : Site
     down = λ r t is. decided_by a (set_list a Sacl sent o s) r
         (relisted a numbered p s.node at Sacl (setting Sacl sent o s).0 keep r) (silent r)
         (list_view a numbered p s.node at Sacl (setting Sacl sent o s).0 keep
-        (keeper_blank Sacl (setting Sacl sent o s).1 (setting Sacl sent o s).0.flags.auto
-        (setting Sacl sent o s).2) r);
+        (search (rules, sent)) r);
   }
     where
       keep : Node → Held

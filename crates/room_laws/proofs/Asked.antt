@@ -1,7 +1,6 @@
 -- What was granted to who asked.
-use Rattle.std.proofs.Common.{ℕ, ◌≡◌, true, not, List, [], ◌∷◌, Some, None, ap, arith}
-use Rattle.std.proofs.lemmas.Bool.Decides.{nat_tests}
-use Rattle.std.specs.Prelude.{is_none}
+use Rattle.std.proofs.Common.{rules, ℕ, ◌≡◌, true, not, List, [], ◌∷◌, Some, None, ap, arith}
+use Rattle.std.{proofs.lemmas.Bool.Decides.nat_tests, specs.Prelude.is_none}
 use Rattle.room_entry.specs.Rights.{execute, write_data, append_data}
 use Rattle.room_entry.specs.declared.parties.Caller.{Caller}
 use Rattle.room_rows.specs.Content.{Content, children_of, is_empty}
@@ -42,11 +41,7 @@ module _ (caller : Caller) (content : Content) where
       Deletion target folder
       ∷ Refusal path NotEmpty
       (not (is_empty (children_of content target.node.id))) ∷ [])) s at none in
-      let rest = (passed caller (Refusal path Root (is_empty path))
-      (where_found (parent_at (sites_along content path) path) (λ folder.
-      Deletion s folder
-      ∷ Refusal path NotEmpty (not (is_empty (children_of content s.node.id))) ∷ [])) here).1 in
-      grind (arith, nat_tests, passed, passes_by)
+      search (rules, passed, s, s.node.id, here, passes_by)
 
   -- a move to a place in a folder
   pub move_granted : (first : List ℕ) (more : List (List ℕ)) (s d e : Site)

@@ -23,13 +23,12 @@ use Rattle.room_machine.specs.declared.request.Request.TheVariants.{Move, ReadLi
 use Rattle.room_machine.specs.declared.request.Request.TheVariants.{ReadAttr, SetOwners, Can}
 use Rattle.room_laws.specs.Laws.{HappensBehind, StaysBehind, AllBehind, UnseenBehind}
 use Rattle.room_laws.specs.Outside.{found, found_from, IsBehind, SameOutside, last_path}
-use Rattle.room_laws.specs.Tidy.{IsNumbered}
-use Rattle.room_laws.proofs.Local.{IsBelowInside, IsInside, IsLocal, IsUnder, body_local}
-use Rattle.room_laws.proofs.Local.{each_local, itself_local, local_outside, node_local}
-use Rattle.room_laws.proofs.Local.{records_local, removed_local, shown_of, split_behind}
-use Rattle.room_laws.proofs.{Local.{under_below, under_inside}, OnePlace.found_there}
-use Rattle.room_laws.proofs.{OnePlace.split_last, SameReplies.{bar_same, same_replies}}
-use Rattle.room_laws.proofs.Seen.{along_from, found_at, sites_from}
+use Rattle.room_laws.{specs.Tidy.IsNumbered, proofs.Local.{IsBelowInside, IsInside, IsLocal}}
+use Rattle.room_laws.proofs.Local.{IsUnder, body_local, each_local, itself_local, local_outside}
+use Rattle.room_laws.proofs.Local.{node_local, records_local, removed_local, shown_of, split_behind}
+use Rattle.room_laws.proofs.{Local.{under_below, under_inside}, OnePlace.{found_there, split_last}}
+use Rattle.room_laws.proofs.{SameReplies.{bar_same, same_replies}, Seen.{along_from, found_at}}
+use Rattle.room_laws.proofs.Seen.{sites_from}
 use Rattle.room_rows.proofs.Lookups as lookups
 use Rattle.room_laws.proofs.Kept as kept
 

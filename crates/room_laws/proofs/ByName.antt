@@ -1,8 +1,9 @@
 -- Children in order of name are determined by what is found by each name.
-use Rattle.std.proofs.Common.{◌≡◌, ℕ, ◌⊎◌, inl, inr, Bool, true, false, cond, not, ◌&&◌, List, []}
-use Rattle.std.proofs.Common.{◌∷◌, map, filter, Option, Some, None, refl, sym, ap, ◌∙◌, arith}
-use Rattle.std.proofs.lemmas.Bool.{not-true, cases_Bool, and_parts, false≢true, Decides.nat_tests}
-use Rattle.std.proofs.lemmas.{Cmp.nat_list_cmp_total, Map.Text.is_eq-slice_cmp, Option.none-some}
+use Rattle.std.proofs.Common.{rules, ◌≡◌, ℕ, ◌⊎◌, inl, inr, Bool, true, false, cond, not, ◌&&◌}
+use Rattle.std.proofs.Common.{List, [], ◌∷◌, map, filter, Option, Some, None, refl, sym, ap, ◌∙◌}
+use Rattle.std.proofs.{Common.arith, lemmas.Bool.{not-true, cases_Bool, and_parts, false≢true}}
+use Rattle.std.proofs.lemmas.{Bool.Decides.nat_tests, Cmp.nat_list_cmp_total}
+use Rattle.std.proofs.lemmas.{Map.Text.is_eq-slice_cmp, Option.none-some}
 use Rattle.std.specs.{Cmp.Lexicographic.slice_cmp, List.{find, AllByRecursion, list_any}}
 use Rattle.std.specs.{Option.option_map, Ordering.{nat_cmp, ordering_reverse, is_lt, is_eq}}
 use Rattle.std.specs.declared.cmp.Ordering.{Ordering, TheVariants.Less}
@@ -11,8 +12,7 @@ use Rattle.room_entry.proofs.{Alike.text_itself, Facts.Members.{each_fails, each
 use Rattle.room_entry.proofs.{Facts.Members.each_weaker, Texts.{same_text-true, same_text-sym}}
 use Rattle.room_rows.specs.Content.{Content, is_before, put_by_name, sorted_by_name, has_parent}
 use Rattle.room_rows.specs.Content.{child_of, children_of, are_names_apart, same_parent}
-use Rattle.room_rows.specs.declared.node.Node.{Node}
-use Rattle.room_rows.proofs.Frames.{parent_is}
+use Rattle.room_rows.{specs.declared.node.Node.Node, proofs.Frames.parent_is}
 use Rattle.room_machine.specs.Effect.{names_at}
 use Rattle.room_laws.proofs.Local.{shown_of}
 use Rattle.room_rows.proofs.Lookups as lookups
@@ -30,11 +30,7 @@ never_itself a = grind (arith, nat_tests, nat_list_cmp_total)
 
 -- a name that comes before another isn't it
 before_differs : (a b : List ℕ) → is_before a b ≡ true → same_text a b ≡ false
-before_differs a b before = elim (cases_Bool (same_text a b)) [
-  | inl same ↦
-      absurd (false≢true (cc (never_itself b, same_text-true a b same, before)))
-  | inr differ ↦ differ
-]
+before_differs a b before = search (rules, false≢true, never_itself, same_text-true, before)
 
 -- of two names that differ one comes first
 one_first : (a b : List ℕ) → is_before a b ≡ false → same_text a b ≡ false → is_before b a ≡ true
@@ -140,16 +136,7 @@ not_before : (x y : Node) (xs ys : List Node) → Rising (y ∷ ys) → SameByNa
     → is_before x.name y.name ≡ true → ⊥
 not_before x y xs ys rising same before =
     none-some (shown_of x)
-    (sym (
-    grind (
-      arith,
-      nat_tests,
-      after_none,
-      before_differs,
-      lookups.find_no,
-      same_text-sym,
-      shown_of,
-    ))
+    (sym (search (rules, after_none, before_differs, same_text-sym, shown_of))
     ∙ sym (same x.name) ∙ ap (option_map shown_of) (here x xs))
 
 same_back : (l m : List Node) → SameByName l m → SameByName m l

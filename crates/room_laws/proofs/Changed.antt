@@ -1,9 +1,8 @@
 -- Views after objects were changed in their places.
 use Rattle.std.proofs.Common.{ℕ, ◌≡◌, ◌==◌, Bool, false, List, [], ◌∷◌, map, Option, Some, None}
 use Rattle.std.proofs.{Common.{refl, sym, ap, ◌∙◌, arith}, lemmas.Option.none-some}
-use Rattle.std.proofs.lemmas.Bool.Decides.{nat_tests}
-use Rattle.std.specs.{List.AllByRecursion, Option.option_map, Prelude.option_and_then}
-use Rattle.std.specs.Prelude.{if◌then◌else◌}
+use Rattle.std.{proofs.lemmas.Bool.Decides.nat_tests, specs.List.AllByRecursion}
+use Rattle.std.specs.{Option.option_map, Prelude.{option_and_then, if◌then◌else◌}}
 use Rattle.room_entry.specs.declared.{object.Which.Which, parties.Owners.Owners}
 use Rattle.room_entry.proofs.Facts.Booleans.{same_truth}
 use Rattle.room_rows.specs.Content.{Content, child_of, node_at, has_parent, body_of, with_node}
@@ -17,9 +16,9 @@ use Rattle.room_rows.proofs.{InPlace.place-with_owners, SamePlace.{IsSamePlace, 
 use Rattle.room_rows.proofs.SamePlace.{replaced}
 use Rattle.room_machine.specs.Site.{front, last_name}
 use Rattle.room_laws.specs.Outside.{sight, Seen, found, found_from, unnumbered, view}
-use Rattle.room_laws.specs.Tidy.{IsNumbered}
-use Rattle.room_laws.proofs.{Behind.{change, change_place}, OnePlace.{found_snoc, found_there}}
-use Rattle.room_laws.proofs.{OnePlace.{one_place, split_last}, Placed.{names_decide, same_names}}
+use Rattle.room_laws.{specs.Tidy.IsNumbered, proofs.Behind.{change, change_place}}
+use Rattle.room_laws.proofs.OnePlace.{found_snoc, found_there, one_place, split_last}
+use Rattle.room_laws.proofs.Placed.{names_decide, same_names}
 use Rattle.room_rows.proofs.Lookups as lookups
 
 -- ---- objects found after a change

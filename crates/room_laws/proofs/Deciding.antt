@@ -1,7 +1,6 @@
 -- Objects that are seen along a path, without their numbers and audits.
 use Rattle.std.proofs.Common.{ℕ, ◌≡◌, List, take, refl, ap, map, arith}
-use Rattle.std.proofs.lemmas.Bool.Decides.{nat_tests}
-use Rattle.std.specs.Option.{option_map}
+use Rattle.std.{proofs.lemmas.Bool.Decides.nat_tests, specs.Option.option_map}
 use Rattle.room_rows.specs.{Content.Content, declared.node.Node.Node}
 use Rattle.room_machine.specs.Site.{Site, site_below, root_site, sites_along}
 use Rattle.room_laws.specs.{Outside.found, WhoChanged.{deciding, deciding_site}}

@@ -1,8 +1,8 @@
 -- A request leaves two rooms the same outside.
-use Rattle.std.proofs.Common.{append_assoc, ℕ, ◌≡◌, ◌⊎◌, inl, inr, true, false, List, [], ◌∷◌, ◌++◌}
-use Rattle.std.proofs.Common.{Option, Some, None, refl, sym, ap, subst, ◌∙◌, append-nil, arith}
-use Rattle.std.proofs.lemmas.{Bool.{true≢false, Decides.nat_tests}, List.append_cancel_left}
-use Rattle.std.specs.Option.{option_map_or}
+use Rattle.std.proofs.Common.{rules, append_assoc, ℕ, ◌≡◌, ◌⊎◌, inl, inr, true, false, List, []}
+use Rattle.std.proofs.Common.{◌∷◌, ◌++◌, Option, Some, None, refl, sym, ap, subst, ◌∙◌, append-nil}
+use Rattle.std.proofs.{Common.arith, lemmas.Bool.{true≢false, Decides.nat_tests}}
+use Rattle.std.{proofs.lemmas.List.append_cancel_left, specs.Option.option_map_or}
 use Rattle.room_entry.specs.declared.object.ObjKind.{ObjKind, TheVariants.{Document, Folder}}
 use Rattle.room_entry.specs.declared.{object.Which.Which, parties.{Caller.Caller, Owners.Owners}}
 use Rattle.room_ace.specs.Sent.{Sent}
@@ -90,16 +90,12 @@ module _ (f : List (List ℕ)) (a b : Content) (same : SameOutside f a b)
             nat_tests,
             list_view a one path s.node seen.first which (setting which sent o s).0
                 (keeper which (setting which sent o s).1 (setting which sent o s).0.flags.auto
-                (setting which sent o s).2)
-                (keeper_blank which (setting which sent o s).1 (setting which sent o s).0.flags.auto
-                (setting which sent o s).2) q,
+                (setting which sent o s).2) (search (rules, keeper_blank, sent)) q,
             setting_like which sent o p s t above seen.like,
             same.views q outside,
             list_view b two path t.node seen.second which (setting which sent p t).0
                 (keeper which (setting which sent p t).1 (setting which sent p t).0.flags.auto
-                (setting which sent p t).2)
-                (keeper_blank which (setting which sent p t).1 (setting which sent p t).0.flags.auto
-                (setting which sent p t).2) q,
+                (setting which sent p t).2) (search (rules, keeper_blank, sent)) q,
           );
     }
 
@@ -401,15 +397,7 @@ module _ (f : List (List ℕ)) (a b : Content) (same : SameOutside f a b)
             (λ q apart old (n, ns, e). old (
               names ++ n ∷ ns,
               e ∙ ap (λ (l : List (List ℕ)). l ++ n ∷ ns) at ∙ append_assoc path names (n ∷ ns),
-            ))
-            (λ x rest apart (n, ns, e). apart (
-              n,
-              ns,
-              ap (λ (l : List (List ℕ)). to ++ l)
-                  (append_cancel_left path (x ∷ rest) (names ++ n ∷ ns)
-                  (cc (e, at, append_assoc path names (n ∷ ns))))
-                  ∙ sym (append_assoc to names (n ∷ ns)),
-            )) s t seen first second
+            )) (search (rules, append_cancel_left, append_assoc)) s t seen first second
 
     pub effects_alike : (request : Request) → (IsBehind f (first_path request) → ⊥)
         → (IsBehind f (last_path request) → ⊥)

@@ -1,7 +1,6 @@
 -- Worked examples of what is behind a folder: who is barred, and which requests tell.
 use Rattle.std.proofs.Common.{ℕ, ◌≡◌, inl, inr, List, [], ◌∷◌, Some, None, refl, true, false, codes}
-use Rattle.std.proofs.Common.{arith}
-use Rattle.std.specs.Prelude.{pos}
+use Rattle.std.{proofs.Common.arith, specs.Prelude.pos}
 use Rattle.room_entry.specs.declared.entry.{EntryKind.TheVariants.Allow, Who.TheVariants.User}
 use Rattle.room_entry.specs.declared.object.ObjKind.TheVariants.{Document, Folder}
 use Rattle.room_entry.specs.declared.object.Which.TheVariants.{Dacl}
@@ -15,9 +14,9 @@ use Rattle.room_machine.specs.declared.request.Request.TheVariants.{Read, List a
 use Rattle.room_machine.specs.declared.request.Request.TheVariants.{MakeFolder, Remove, Move, Put}
 use Rattle.room_machine.proofs.Worked.Worlds.{none, fd, entry, root, alice, everything, held, plain}
 use Rattle.room_machine.proofs.Worked.Worlds.{object, world, root_may_all}
-use Rattle.room_laws.specs.{Outside.{Barred, IsBehind, SameOutside}, Twins.AnswersAlike}
-use Rattle.room_laws.specs.Twins.{AreAlike, Turn, InFirst, InBoth, InBothReset, InBothReplaced}
-use Rattle.room_laws.specs.Twins.{first_events, second_events}
+use Rattle.room_laws.specs.{Outside.{Barred, IsBehind, SameOutside}, Twins.{AnswersAlike, AreAlike}}
+use Rattle.room_laws.specs.Twins.{Turn, InFirst, InBoth, InBothReset, InBothReplaced, first_events}
+use Rattle.room_laws.specs.Twins.{second_events}
 
 abbrev q : List (List ℕ)
 q = codes "q" ∷ []

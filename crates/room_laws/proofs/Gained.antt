@@ -1,6 +1,6 @@
 -- Who may change nothing at a path can't come to.
-use Rattle.std.proofs.Common.{ℕ, suc, ◌≡◌, ◌⊎◌, inl, inr, List, [], ◌∷◌, ◌++◌, Option, Some, None}
-use Rattle.std.proofs.Common.{refl, sym, ap, subst, ◌∙◌, take, length, append-nil, arith}
+use Rattle.std.proofs.Common.{rules, ℕ, suc, ◌≡◌, ◌⊎◌, inl, inr, List, [], ◌∷◌, ◌++◌, Option, Some}
+use Rattle.std.proofs.Common.{None, refl, ap, subst, ◌∙◌, take, length, append-nil, arith}
 use Rattle.std.proofs.lemmas.{List.take-map, Bool.Decides.nat_tests}
 use Rattle.std.specs.{List.AllByRecursion, Option.option_map_or}
 use Rattle.room_entry.specs.Rights.{write_acl, write_owner}
@@ -11,10 +11,10 @@ use Rattle.room_machine.specs.declared.request.Request.TheVariants.{Read, List a
 use Rattle.room_machine.specs.declared.request.Request.TheVariants.{Append, MakeFolder, Remove}
 use Rattle.room_machine.specs.declared.request.Request.TheVariants.{Move, ReadList, SetList}
 use Rattle.room_machine.specs.declared.request.Request.TheVariants.{ReadAttr, SetOwners, Can}
-use Rattle.room_laws.proofs.Seen.{sites_from, along_from}
+use Rattle.room_laws.proofs.{Seen.{sites_from, along_from}, RightsFollow.rights_follow}
+use Rattle.room_laws.proofs.WhoChanged.{changed_in_run}
 use Rattle.room_laws.specs.WhoChanged.{SameBasis, SameRights, basis, Changes, IsHarmless}
 use Rattle.room_laws.specs.WhoChanged.{NothingGained, IsFrom, FirstChange, HasRight, MayRemove}
-use Rattle.room_laws.proofs.{RightsFollow.rights_follow, WhoChanged.changed_in_run}
 
 -- ---- what is above a path
 
@@ -72,8 +72,7 @@ no_change path a b (Asked user moment (SetList at Sacl sent) reply) same harmles
 no_change path a b (Asked user moment (SetOwners at owners) reply) same harmless (from, it, done) =
     (harmless at from).1 (had at path a b user write_owner from same it)
 no_change path a b (Asked user moment (Remove at) reply) same harmless (is, it, done) =
-    let from : IsFrom at path = ([], is ∙ sym (append-nil at)) in
-    (harmless at from).2 (might at path a b user from same it)
+    search (rules, is, append-nil, harmless, might, a, b, same, it)
 no_change path a b (Asked user moment (Move at to) reply) same harmless (from, it, place, done) =
     (harmless at from).2 (might at path a b user from same it)
 no_change path a b (Asked user moment (Read at) reply) same harmless is = is

@@ -1,16 +1,15 @@
 -- Views after an object was made or removed.
-use Rattle.std.proofs.Common.{ℕ, ◌≡◌, ◌==◌, ◌⊎◌, inl, inr, Bool, true, false, not, List, [], ◌∷◌}
-use Rattle.std.proofs.Common.{◌++◌, length, length-append, Option, Some, None, refl, sym, ap, subst}
-use Rattle.std.proofs.{Common.{◌∙◌, append_assoc, append-nil, arith}, lemmas.Bool.eq-eqb}
+use Rattle.std.proofs.Common.{rules, ℕ, ◌≡◌, ◌==◌, ◌⊎◌, inl, inr, Bool, true, false, not, List, []}
+use Rattle.std.proofs.Common.{◌∷◌, ◌++◌, length, length-append, Option, Some, None, refl, sym, ap}
+use Rattle.std.proofs.{Common.{subst, ◌∙◌, append_assoc, append-nil, arith}, lemmas.Bool.eq-eqb}
 use Rattle.std.proofs.lemmas.Bool.{and_parts, cases_Bool, Decides.nat_tests}
 use Rattle.std.specs.{Option.option_map, Prelude.{option_and_then, is_none}}
-use Rattle.room_entry.specs.Pieces.{same_text}
-use Rattle.room_entry.proofs.{Alike.text_itself, Texts.same_text-true}
+use Rattle.room_entry.{specs.Pieces.same_text, proofs.{Alike.text_itself, Texts.same_text-true}}
 use Rattle.room_rows.specs.Content.{Content, child_of, root_of, node_at, has_parent, body_of}
 use Rattle.room_rows.specs.Content.{with_node, with_body, without_node, are_names_apart}
-use Rattle.room_rows.specs.declared.node.Node.{Node}
-use Rattle.room_rows.proofs.Frames.{child_of-parent, child_of-name, parent_is, has_its_parent}
-use Rattle.room_rows.proofs.InPlace.{body_of-with_body, body_of-with_body-other}
+use Rattle.room_rows.{specs.declared.node.Node.Node, proofs.Frames.{child_of-parent, child_of-name}}
+use Rattle.room_rows.proofs.{Frames.{parent_is, has_its_parent}, InPlace.body_of-with_body}
+use Rattle.room_rows.proofs.InPlace.{body_of-with_body-other}
 use Rattle.room_machine.specs.{Site.{front, last_name}, Step.IsFree}
 use Rattle.room_laws.specs.{Outside.{sight, found, found_from, unnumbered, view}, Tidy.IsNumbered}
 use Rattle.room_laws.proofs.{Behind.free_none, Changed.nodes_found, Kept.is_named}
@@ -32,10 +31,7 @@ goes_on (x ∷ path) (y ∷ q) = on (cases_Bool (same_text y x)) (goes_on path q
         → GoesOn path q ⊎ (GoesOn path q → ⊥)
         → GoesOn (x ∷ path) (y ∷ q) ⊎ (GoesOn (x ∷ path) (y ∷ q) → ⊥)
     on (inl same) (inl is) =
-        inl (
-          is.0,
-          search (same_text-true),
-        )
+        inl (search (rules, same_text-true))
     on (inl same) (inr isnt) = inr (λ is. isnt (is.0, tail_same y x q (path ++ is.0) is.1))
     on (inr differ) other = grind (arith, nat_tests, head_same, text_itself)
 
@@ -45,8 +41,7 @@ pub front_shorter : (name : List ℕ) (names : List (List ℕ))
 front_shorter name names (rest, is) =
     let all = ap (λ (l : List (List ℕ)). length l) (split_last name names)
     ∙ length-append (front (name ∷ names)) (last_name (name ∷ names) ∷ []) in
-    let part = ap (λ (l : List (List ℕ)). length l) is ∙ length-append (name ∷ names) rest in
-    omega (arith, all, part)
+    search (rules, is, length-append, rest)
 
 append_from : (content : Content) (node : Node) (names more : List (List ℕ))
     → found_from content node (names ++ more)

@@ -2,10 +2,8 @@
 use Rattle.std.proofs.Common.{ℕ, ◌≡◌, ◌<◌, ◌≤◌, ◌==◌, Bool, true, false, cond, not, ◌&&◌, List, []}
 use Rattle.std.proofs.Common.{◌∷◌, map, filter, Some, None, nat_lt, refl, sym, ◌∙◌, arith}
 use Rattle.std.proofs.lemmas.Bool.{and_parts, and_from, ltb-true, lt-ltb, or_parts}
-use Rattle.std.proofs.lemmas.Bool.Decides.{nat_tests}
-use Rattle.std.specs.List.{find, AllByRecursion, list_any}
-use Rattle.room_entry.specs.Pieces.{same_text}
-use Rattle.room_entry.proofs.{Alike.text_itself, Texts.same_text-true}
+use Rattle.std.{proofs.lemmas.Bool.Decides.nat_tests, specs.List.{find, AllByRecursion, list_any}}
+use Rattle.room_entry.{specs.Pieces.same_text, proofs.{Alike.text_itself, Texts.same_text-true}}
 use Rattle.room_rows.specs.Content.{body_at, put_node, is_rising, has_parent, same_parent}
 use Rattle.room_rows.specs.{Content.are_names_apart, Finding.find_id, declared.node.Node.Node}
 use Rattle.room_rows.proofs.Lookups as lookups

@@ -1,6 +1,6 @@
 -- Changes of what is behind a folder alone.
-use Rattle.std.proofs.Common.{ℕ, ◌≡◌, false, ◌&&◌, List, [], ◌∷◌, ◌++◌, map, Option, Some, None}
-use Rattle.std.proofs.Common.{refl, sym, ap, subst, ◌∙◌, append-nil, append_assoc, arith}
+use Rattle.std.proofs.Common.{rules, ℕ, ◌≡◌, false, ◌&&◌, List, [], ◌∷◌, ◌++◌, map, Option, Some}
+use Rattle.std.proofs.Common.{None, refl, sym, ap, subst, ◌∙◌, append-nil, append_assoc, arith}
 use Rattle.std.proofs.lemmas.Bool.{and_left, Decides.nat_tests}
 use Rattle.std.specs.{Option.option_map, Prelude.{option_and_then, is_none}}
 use Rattle.room_entry.specs.{Pieces.same_text, declared.object.ObjKind.ObjKind}
@@ -52,11 +52,7 @@ module _ (f : List (List ℕ)) (a : Content) where
         outside (on rest (one_place a numbered (f ++ rest) pre other node there is same))
       where
         on : (rest : List (List ℕ)) → f ++ rest ≡ pre → IsBehind f (pre ++ name ∷ names)
-        on [] at = (
-          name,
-          names,
-          ap (λ (l : List (List ℕ)). l ++ name ∷ names) (sym at ∙ append-nil f),
-        )
+        on [] at = (search (rules, names, append-nil))
         on (r ∷ rs) at =
             grind (
               arith,
@@ -218,9 +214,7 @@ module _ (f : List (List ℕ)) (a : Content) where
 
   pub split_behind : (name : List ℕ) (names : List (List ℕ)) → f ++ name ∷ names
       ≡ (f ++ front (name ∷ names)) ++ last_name (name ∷ names) ∷ []
-  split_behind name names =
-      ap (λ (l : List (List ℕ)). f ++ l) (split_last name names)
-      ∙ sym (append_assoc f (front (name ∷ names)) (last_name (name ∷ names) ∷ []))
+  split_behind name names = search (rules, split_last, names, append_assoc)
 
   pub under_below : (name : List ℕ) (names : List (List ℕ)) (node : Node)
       → found a (f ++ name ∷ names) ≡ Some node → IsBelowInside node

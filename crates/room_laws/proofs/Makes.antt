@@ -1,6 +1,6 @@
 -- What puts something at a path where nothing was.
-use Rattle.std.proofs.Common.{ℕ, ℤ, ◌≡◌, ◌⊎◌, inl, inr, true, false, List, [], ◌∷◌, ◌++◌, Option}
-use Rattle.std.proofs.Common.{Some, None, refl, sym, ap, subst, ◌∙◌, arith}
+use Rattle.std.proofs.Common.{rules, ℕ, ℤ, ◌≡◌, ◌⊎◌, inl, inr, true, false, List, [], ◌∷◌, ◌++◌}
+use Rattle.std.proofs.Common.{Option, Some, None, refl, sym, ap, subst, ◌∙◌, arith}
 use Rattle.std.proofs.lemmas.{Bool.{true≢false, Decides.nat_tests}, Option.none-some}
 use Rattle.std.specs.Option.{option_map}
 use Rattle.room_entry.specs.Rights.{write_data, append_data}
@@ -22,17 +22,17 @@ use Rattle.room_machine.specs.declared.request.Request.TheVariants.{MakeFolder, 
 use Rattle.room_machine.specs.declared.request.Request.TheVariants.{ReadList, SetList, ReadAttr}
 use Rattle.room_machine.specs.declared.request.Request.TheVariants.{SetOwners, Can}
 use Rattle.room_laws.specs.{Outside.{found, view, sight}, Tidy.{IsNumbered, IsTidy}}
+use Rattle.room_laws.specs.WhoChanged.{Makes}
 use Rattle.room_laws.proofs.{Behind.{act_on, target_found}, Changed.{nodes_found, owned}}
 use Rattle.room_laws.proofs.{Changed.{owners_view, relisted, list_view}, Grown.{GoesOn, goes_on}}
 use Rattle.room_laws.proofs.{Grown.{grown_view, gone_view}, Moved.{view_apart, view_old}}
 use Rattle.room_laws.proofs.{Orphans.orphans, Passing.{not_refused, passed, parent_is, none_at}}
 use Rattle.room_laws.proofs.Passing.{never_meets, remove_passed, move_passed, place_passed}
 use Rattle.room_laws.proofs.Passing.{folder_passed, above_found, at_or_not, place_free}
-use Rattle.room_laws.proofs.Settings.{no_children, setting, keeper, keeper_blank}
-use Rattle.room_laws.specs.WhoChanged.{Makes}
-use Rattle.room_laws.proofs.{Apart.changed, Asked.{move_granted, put_granted, folder_granted}}
-use Rattle.room_laws.proofs.Held.{in_table, open_to, open_before, folder_at, may_take}
-use Rattle.room_laws.proofs.{Held.{bits_known, adding_known}, WhoChanged.move_done}
+use Rattle.room_laws.proofs.{Settings.{no_children, setting, keeper, keeper_blank}, Apart.changed}
+use Rattle.room_laws.proofs.{Asked.{move_granted, put_granted, folder_granted}, Held.in_table}
+use Rattle.room_laws.proofs.Held.{open_to, open_before, folder_at, may_take, bits_known}
+use Rattle.room_laws.proofs.{Held.adding_known, WhoChanged.move_done}
 
 -- nothing is at the path, or the event is one that puts something there
 pub record Empty (q : List (List ℕ)) (a : Content) (event : Event) (c : Content) : Type 0 where
@@ -75,8 +75,7 @@ module _ (q : List (List ℕ)) (a : Content) (absent : found a q ≡ None) where
         none_changed (set_list a which sent o s)
         (relisted a numbered p s.node at which (setting which sent o s).0 keep q)
         (list_view a numbered p s.node at which (setting which sent o s).0 keep
-        (keeper_blank which (setting which sent o s).1 (setting which sent o s).0.flags.auto
-        (setting which sent o s).2) q)
+        (search (rules, keeper_blank, sent)) q)
       where
         keep : Node → Held
         keep node =

@@ -3,8 +3,7 @@ use Rattle.std.proofs.Common.{ℕ, ◌≡◌, ◌⊎◌, inl, inr, Bool, true, f
 use Rattle.std.proofs.{Common.{None, refl, sym, ap, ◌∙◌, append-nil, arith}, lemmas.Bool.and_parts}
 use Rattle.std.proofs.lemmas.{Bool.{cases_Bool, Decides.nat_tests}, Option.none-some}
 use Rattle.std.specs.{Option.option_map, Prelude.{option_and_then, is_none}}
-use Rattle.room_entry.specs.Pieces.{same_text}
-use Rattle.room_entry.proofs.{Alike.text_itself, Texts.same_text-true}
+use Rattle.room_entry.{specs.Pieces.same_text, proofs.{Alike.text_itself, Texts.same_text-true}}
 use Rattle.room_rows.specs.Content.{Content, child_of, root_of, has_parent, body_of, with_node}
 use Rattle.room_rows.specs.{Content.are_names_apart, declared.node.Node.Node}
 use Rattle.room_rows.proofs.Frames.{parent_is, has_its_parent}

@@ -1,7 +1,6 @@
 -- Where the same is seen outside, the same names are listed there.
 use Rattle.std.proofs.Common.{ℕ, ◌≡◌, true, List, [], ◌∷◌, ◌++◌, Option, Some, None, refl, ap, ◌∙◌}
-use Rattle.std.proofs.{Common.arith, lemmas.Bool.Decides.nat_tests}
-use Rattle.std.specs.Option.{option_map}
+use Rattle.std.{proofs.{Common.arith, lemmas.Bool.Decides.nat_tests}, specs.Option.option_map}
 use Rattle.room_entry.specs.declared.object.ObjKind.{ObjKind}
 use Rattle.room_rows.specs.{Content.{Content, child_of, are_names_apart}, declared.node.Node.Node}
 use Rattle.room_machine.specs.Effect.{names_at}

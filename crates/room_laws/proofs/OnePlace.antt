@@ -1,17 +1,16 @@
 -- Where numbers differ, each object is found at one path alone.
-use mathlib.Core.List.{reverse_aux}
-use Rattle.std.proofs.Common.{ℕ, suc, ◌≡◌, ◌⊎◌, inl, inr, true, false, List, [], ◌∷◌, ◌++◌, length}
-use Rattle.std.proofs.Common.{length-append, take, drop, Option, Some, None, refl, sym, ap, subst}
-use Rattle.std.proofs.{Common.{◌∙◌, arith, append_assoc, take-append-drop}, lemmas.Bool.cases_Bool}
-use Rattle.std.proofs.lemmas.{Bool.Decides.nat_tests, List.reverse-reverse, Option.same_Some}
-use Rattle.std.specs.Prelude.{option_and_then, reverse}
-use Rattle.room_entry.specs.Pieces.{same_text}
-use Rattle.room_entry.proofs.{Alike.text_itself, Texts.same_text-true}
+use Rattle.std.proofs.Common.{rules, ℕ, ◌≡◌, ◌⊎◌, inl, inr, true, false, List, [], ◌∷◌, ◌++◌}
+use Rattle.std.proofs.Common.{length, length-append, take, drop, Option, Some, None, refl, sym, ap}
+use Rattle.std.proofs.Common.{subst, ◌∙◌, arith, append_assoc, take-append-drop}
+use Rattle.std.proofs.lemmas.{Bool.{cases_Bool, Decides.nat_tests}, List.reverse-reverse}
+use Rattle.std.{proofs.lemmas.Option.same_Some, specs.Prelude.{option_and_then, reverse}}
+use Rattle.room_entry.{specs.Pieces.same_text, proofs.{Alike.text_itself, Texts.same_text-true}}
 use Rattle.room_rows.specs.{Content.{Content, child_of, root_of, node_at}, declared.node.Node.Node}
 use Rattle.room_rows.proofs.Frames.{Rises, child_of-is_there, child_of-name, child_of-parent}
 use Rattle.room_rows.proofs.Frames.{root_of-is_there, root_of-parent}
 use Rattle.room_machine.specs.Site.{front, last_name}
 use Rattle.room_laws.specs.Outside.{found, found_from, IsBehind}
+use mathlib.Core.List.{reverse_aux}
 
 -- ---- lists of names
 
@@ -44,11 +43,7 @@ behind_or_not (x ∷ front) (y ∷ path) =
         → IsBehind front path ⊎ (IsBehind front path → ⊥)
         → IsBehind (x ∷ front) (y ∷ path) ⊎ (IsBehind (x ∷ front) (y ∷ path) → ⊥)
     on (inl same) (inl is) =
-        inl (
-          is.0,
-          is.1,
-          search (same_text-true),
-        )
+        inl (search (rules, same_text-true))
     on (inl same) (inr isnt) = grind (arith, nat_tests, tail_same)
     on (inr differ) other = grind (arith, nat_tests, head_same, text_itself)
 
@@ -81,8 +76,7 @@ start_outside front path more outside is = outside (behind_on front path more is
 pub not_itself : (front : List (List ℕ)) → IsBehind front front → ⊥
 not_itself front is =
     let same = ap length is.2 ∙ length-append front (is.0 ∷ is.1) in
-    let more : length (is.0 ∷ is.1) ≡ suc (length is.1) = refl in
-    omega (arith, same, more)
+    search (rules, is.0, is.1, same)
 
 -- ---- one name further
 
@@ -120,9 +114,7 @@ module _ (content : Content) where
   none_up : (names above : List (List ℕ)) → found_up above ≡ None
       → found_up (reverse_aux names above) ≡ None
   none_up [] above none = none
-  none_up (name ∷ names) above none =
-      none_up names (name ∷ above)
-      (ap (option_and_then (λ n. child_of content n.id name)) none)
+  none_up (name ∷ names) above none = search (rules, none, none_up names (name ∷ above))
 
   some_up : (names above : List (List ℕ)) (node : Node) → found_up above ≡ Some node
       → found_from content node names ≡ found_up (reverse_aux names above)

@@ -1,8 +1,7 @@
 -- What the operator does in two rooms leaves them the same outside.
-use Rattle.std.proofs.Common.{ℕ, ◌≡◌, Bool, List, [], ◌∷◌, ◌++◌, Option, Some, None, refl, sym, ap}
-use Rattle.std.proofs.{Common.{◌∙◌, map, filter, arith}, lemmas.Option.none-some}
-use Rattle.std.proofs.lemmas.Bool.Decides.{nat_tests}
-use Rattle.std.specs.Option.{option_map}
+use Rattle.std.proofs.Common.{rules, ℕ, ◌≡◌, Bool, List, [], ◌∷◌, ◌++◌, Option, Some, None, refl}
+use Rattle.std.proofs.{Common.{sym, ap, map, filter, arith}, lemmas.Option.none-some}
+use Rattle.std.{proofs.lemmas.Bool.Decides.nat_tests, specs.Option.option_map}
 use Rattle.room_entry.specs.{Rights.write_acl, Valid.first_bad_entry, declared.object.Which.Which}
 use Rattle.room_entry.specs.declared.parties.Caller.{Caller}
 use Rattle.room_ace.specs.Sent.{Sent}
@@ -24,11 +23,7 @@ use Rattle.room_laws.proofs.Seen.{blank}
 pub replaced_alike : (f : List (List ℕ)) (a b c d : Content) (pairs : List (List ℕ × List ℕ))
     → SameOutside f a b → c ≡ with_members a pairs → d ≡ with_members b pairs → IsTidy c
     → IsTidy d → SameOutside f c d
-replaced_alike f a b c d pairs same is_c is_d content_c content_d = record {
-  members = ap (λ (x : Content). x.members) is_c ∙ sym (ap (λ (x : Content). x.members) is_d);
-  views = views;
-  names = names_from_views f c d content_c.names content_d.names views;
-}
+replaced_alike f a b c d pairs same is_c is_d content_c content_d = search (rules, is_c, is_d)
   where
     seen : (x : Content) (q : List (List ℕ)) → view (with_members x pairs) q ≡ view x q
     seen x q = ap (option_map (sight x)) (nodes_found x (with_members x pairs) refl q)

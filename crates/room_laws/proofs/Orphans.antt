@@ -8,8 +8,7 @@ use Rattle.room_rows.specs.Content.{Content, child_of, node_at, body_of, body_at
 use Rattle.room_rows.specs.{Content.has_folder_above, declared.node.Node.Node}
 use Rattle.room_rows.proofs.Frames.{child_of-parent, child_of-is_there}
 use Rattle.room_machine.specs.Step.{IsFree}
-use Rattle.room_laws.specs.Tidy.{IsNumbered, IsTidy, ContentIsTidy}
-use Rattle.room_laws.proofs.Behind.{free_none}
+use Rattle.room_laws.{specs.Tidy.{IsNumbered, IsTidy, ContentIsTidy}, proofs.Behind.free_none}
 use Rattle.room_rows.proofs.Lookups as lookups
 
 passes_there : (p : Node → Bool) (nodes : List Node) (node : Node) → list_all p nodes ≡ true

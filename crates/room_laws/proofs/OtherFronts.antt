@@ -1,12 +1,11 @@
 -- The same is seen outside of another front, where there is nothing behind this one.
 use Rattle.std.proofs.Common.{ℕ, ◌≡◌, ◌⊎◌, inl, inr, List, ◌++◌, Option, Some, None, refl, sym, ◌∙◌}
-use Rattle.std.proofs.{Common.arith, lemmas.Bool.Decides.nat_tests}
-use Rattle.std.specs.Option.{option_map_or}
+use Rattle.std.{proofs.{Common.arith, lemmas.Bool.Decides.nat_tests}, specs.Option.option_map_or}
 use Rattle.room_rows.specs.Content.{Content}
 use Rattle.room_machine.specs.declared.request.Request.TheVariants.{Move}
 use Rattle.room_laws.specs.{Laws.{front_done, rest_after}, Outside.{found, view, IsBehind}}
-use Rattle.room_laws.specs.Outside.{SameOutside}
-use Rattle.room_laws.proofs.{Grown.found_append, OnePlace.behind_or_not, Passing.rest_some}
+use Rattle.room_laws.{specs.Outside.SameOutside, proofs.Grown.found_append}
+use Rattle.room_laws.proofs.{OnePlace.behind_or_not, Passing.rest_some}
 
 -- the same is seen outside
 pub record SeenAlike (g : List (List ℕ)) (c d : Content) : Type 0 where

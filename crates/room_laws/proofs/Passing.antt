@@ -1,6 +1,6 @@
 -- What a plan that passes says of paths.
-use Rattle.std.proofs.Common.{cond, not, ℕ, ◌≡◌, ◌==◌, ◌⊎◌, inl, inr, Bool, true, false, List, []}
-use Rattle.std.proofs.Common.{◌∷◌, ◌++◌, Option, Some, None, refl, sym, ap, ◌∙◌, arith}
+use Rattle.std.proofs.Common.{rules, cond, not, ℕ, ◌≡◌, ◌==◌, ◌⊎◌, inl, inr, Bool, true, false}
+use Rattle.std.proofs.Common.{List, [], ◌∷◌, ◌++◌, Option, Some, None, refl, sym, ap, ◌∙◌, arith}
 use Rattle.std.proofs.lemmas.Bool.{false≢true, cases_Bool, or_right, Decides.nat_tests}
 use Rattle.std.proofs.lemmas.Option.{none-some, same_Some}
 use Rattle.std.specs.{List.list_any, Option.{option_map_or, option_map}, Prelude.is_some}
@@ -35,11 +35,7 @@ pub outside_on : (path f rest : List (List ℕ)) → (IsBehind f path → ⊥) �
 outside_on [] f rest outside away is = away (f, refl)
 outside_on (x ∷ path) [] rest outside away is = outside (x, path, refl)
 outside_on (x ∷ path) (y ∷ f) rest outside away (n, ns, is) =
-    let same : x ≡ y = head_same x y (path ++ rest) (f ++ n ∷ ns) is in
-    outside_on path f rest
-    (grind (arith, nat_tests))
-    (grind (arith, nat_tests))
-    (n, ns, tail_same x y (path ++ rest) (f ++ n ∷ ns) is)
+    search (rules, head_same, n, ns, is, tail_same, outside_on path f rest)
 
 -- the object before the last name of a path
 pub parent_found : (content : Content) (name : List ℕ) (names : List (List ℕ))

@@ -1,16 +1,15 @@
 -- Objects where a walk finds them: whether a way meets one is seen from paths alone.
 use Rattle.std.proofs.Common.{ℕ, ◌==◌, ◌≡◌, Bool, true, List, [], ◌∷◌, Option, Some, refl, map}
 use Rattle.std.proofs.{Common.arith, lemmas.Slice.Eq.{slice_eq-Decides, bytes_eq-Decides}}
-use Rattle.std.proofs.lemmas.Bool.Decides.{nat_tests}
-use Rattle.std.specs.{Cmp.Lexicographic.pointwise, List.{list_any, AllByRecursion}}
-use Rattle.std.specs.Option.{option_map_or}
-use Rattle.room_entry.specs.Pieces.{same_text}
-use Rattle.room_entry.proofs.Facts.{Booleans.same_truth, Members.{any_agree, any_map}}
+use Rattle.std.{proofs.lemmas.Bool.Decides.nat_tests, specs.Cmp.Lexicographic.pointwise}
+use Rattle.std.specs.{List.{list_any, AllByRecursion}, Option.option_map_or}
+use Rattle.room_entry.{specs.Pieces.same_text, proofs.Facts.Booleans.same_truth}
+use Rattle.room_entry.proofs.Facts.Members.{any_agree, any_map}
 use Rattle.room_rows.specs.{Content.{Content, child_of}, declared.node.Node.Node}
 use Rattle.room_rows.proofs.Frames.{child_of-name}
 use Rattle.room_machine.specs.{Plan.way, Site.{Site, site_below, sites_along}}
-use Rattle.room_laws.specs.{Outside.found, Tidy.IsNumbered}
-use Rattle.room_laws.proofs.{OnePlace.{found_snoc, one_place}, Seen.{along_from, blank, sites_from}}
+use Rattle.room_laws.{specs.{Outside.found, Tidy.IsNumbered}, proofs.OnePlace.found_snoc}
+use Rattle.room_laws.proofs.{OnePlace.one_place, Seen.{along_from, blank, sites_from}}
 
 -- each stands where its path says
 abbrev IsPlaced : Content → Site → Type 0

@@ -1,8 +1,8 @@
 -- Plans in two contents that are the same but for what is behind.
 use Rattle.std.proofs.Common.{ℕ, ◌==◌, ◌≡◌, true, false, List, [], ◌∷◌, take, Option, Some, None}
 use Rattle.std.proofs.{Common.{refl, sym, ap, subst, ◌∙◌, map, arith}, lemmas.Option.none-some}
-use Rattle.std.proofs.lemmas.Bool.Decides.{nat_tests}
-use Rattle.std.specs.{List.list_any, Option.option_map, Prelude.is_some}
+use Rattle.std.{proofs.lemmas.Bool.Decides.nat_tests, specs.{List.list_any, Option.option_map}}
+use Rattle.std.specs.Prelude.{is_some}
 use Rattle.room_entry.specs.{Rights.{execute, append_data}, declared.parties.Caller.Caller}
 use Rattle.room_rows.specs.Content.{Content, child_of, body_of, children_of, is_empty, groups_for}
 use Rattle.room_rows.specs.declared.node.Node.{Node}
@@ -16,12 +16,11 @@ use Rattle.room_machine.specs.declared.request.Request.TheVariants.{ReadList, Se
 use Rattle.room_machine.specs.declared.request.Request.TheVariants.{SetOwners, Can}
 use Rattle.room_machine.proofs.Replies.{same_caller}
 use Rattle.room_laws.specs.Outside.{sight, found, IsBehind, SameOutside, last_path}
-use Rattle.room_laws.specs.Tidy.{IsNumbered}
-use Rattle.room_laws.proofs.LikeItems.{check_like, fails, deletion_like, folder_like, found_like}
-use Rattle.room_laws.proofs.{LikeItems.{next, path_like, refused, ways_like}, OnePlace.found_snoc}
-use Rattle.room_laws.proofs.{OnePlace.{part_outside, split_last, start_outside}, Placed.meets}
-use Rattle.room_laws.proofs.Seen.{Both, IsLike, blank, both_like, found_at, like_at, same_along}
-use Rattle.room_laws.proofs.Seen.{seen_of_view}
+use Rattle.room_laws.{specs.Tidy.IsNumbered, proofs.LikeItems.{check_like, fails, deletion_like}}
+use Rattle.room_laws.proofs.LikeItems.{folder_like, found_like, next, path_like, refused, ways_like}
+use Rattle.room_laws.proofs.OnePlace.{found_snoc, part_outside, split_last, start_outside}
+use Rattle.room_laws.proofs.{Placed.meets, Seen.{Both, IsLike, blank, both_like, found_at, like_at}}
+use Rattle.room_laws.proofs.Seen.{same_along, seen_of_view}
 
 groups_same : (a b : Content) (user : Option (List ℕ)) → a.members ≡ b.members
     → groups_for a user ≡ groups_for b user

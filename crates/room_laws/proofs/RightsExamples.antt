@@ -1,6 +1,6 @@
 -- Worked examples of what changes rights: each of these events does.
-use Rattle.std.proofs.Common.{ℕ, ℤ, ◌≡◌, ◌⊎◌, inl, inr, List, [], ◌∷◌, ◌++◌, Some, None, refl, true}
-use Rattle.std.proofs.{Common.{false, codes, sym, ap, subst, ◌∙◌}, lemmas.Bool.false≢true}
+use Rattle.std.proofs.Common.{arith, ℕ, ℤ, ◌≡◌, ◌⊎◌, inl, inr, List, [], ◌∷◌, ◌++◌, Some, None}
+use Rattle.std.proofs.{Common.{refl, true, false, codes, sym, subst}, lemmas.Bool.false≢true}
 use Rattle.std.specs.Prelude.{pos}
 use Rattle.room_entry.specs.{Bits.{has, all_bits}, Rights.{write_acl, write_owner}}
 use Rattle.room_entry.specs.declared.entry.{EntryKind.TheVariants.Allow, Who.TheVariants.User}
@@ -115,18 +115,9 @@ a_new_document_gives = refl
 parts : (at rest : List (List ℕ)) → q_f ≡ at ++ rest
     → (at ≡ []) ⊎ ((at ≡ q) ⊎ (at ≡ q_f))
 parts [] rest is = inl refl
-parts (x ∷ []) rest is =
-    inr (inl (ap (λ (n : List ℕ). n ∷ [])
-    (sym (head_same (codes "q") x (codes "f" ∷ []) rest is))))
-parts (x ∷ y ∷ []) rest is =
-    let more = tail_same (codes "q") x (codes "f" ∷ []) (y ∷ rest) is in
-    inr (inr (ap (λ (n : List ℕ). n ∷ y ∷ [])
-    (sym (head_same (codes "q") x (codes "f" ∷ []) (y ∷ rest) is))
-    ∙ ap (λ (n : List ℕ). codes "q" ∷ n ∷ []) (sym (head_same (codes "f") y [] rest more))))
-parts (x ∷ y ∷ z ∷ at) rest is =
-    absurd (not_empty z (at ++ rest)
-    (tail_same (codes "f") y [] (z ∷ at ++ rest)
-    (tail_same (codes "q") x (codes "f" ∷ []) (y ∷ z ∷ at ++ rest) is)))
+parts (x ∷ []) rest is = grind (arith, head_same, is)
+parts (x ∷ y ∷ []) rest is = grind (arith, tail_same, is, head_same)
+parts (x ∷ y ∷ z ∷ at) rest is = grind (arith, not_empty, tail_same, is)
 
 abbrev MayNothing : List (List ℕ) → Type 0
 MayNothing at =

@@ -1,14 +1,13 @@
 -- What a list that is set depends on, and what has no children.
 use Rattle.std.proofs.Common.{ℕ, ◌≡◌, Bool, true, List, Option, None, arith}
-use Rattle.std.proofs.lemmas.Bool.Decides.{nat_tests}
-use Rattle.std.specs.Option.{option_map}
+use Rattle.std.{proofs.lemmas.Bool.Decides.nat_tests, specs.Option.option_map}
 use Rattle.room_entry.specs.{Ace.Ace, declared.object.Which.Which}
 use Rattle.room_ace.specs.Sent.{Sent}
 use Rattle.room_rows.specs.Content.{Content, child_of, children_of, is_empty, are_names_apart}
 use Rattle.room_rows.specs.{Held.held_of, HeldList.Held, declared.node.Node.Node}
 use Rattle.room_machine.specs.{Effect.{kept_by_child, sent_held}, Site.{Site, full_at}}
-use Rattle.room_laws.specs.Outside.{unnumbered}
-use Rattle.room_laws.proofs.{ByName.{by_name, child_by_name}, Seen.{Both, IsLike}}
+use Rattle.room_laws.{specs.Outside.unnumbered, proofs.{ByName.{by_name, child_by_name}, Seen.Both}}
+use Rattle.room_laws.proofs.Seen.{IsLike}
 
 -- the inherited entries that a child keeps when a list above it is set
 abbrev pub keeper : Which → Bool → Bool → List Ace → Node → Held

@@ -1,7 +1,7 @@
 -- A request of one caller leaves two rooms the same outside.
-use Rattle.std.proofs.Common.{[], List, ◌∷◌, Bool, cond, ℕ, ℤ, ◌≡◌, ◌⊎◌, inl, inr, false, Option}
-use Rattle.std.proofs.{Common.{Some, None, refl, sym, ap, ◌∙◌, arith}, lemmas.Bool.false≢true}
-use Rattle.std.proofs.lemmas.{Bool.Decides.nat_tests, Option.none-some}
+use Rattle.std.proofs.Common.{rules, [], List, ◌∷◌, Bool, cond, ℕ, ℤ, ◌≡◌, ◌⊎◌, inl, inr, false}
+use Rattle.std.proofs.Common.{Option, Some, None, refl, sym, ap, ◌∙◌, arith}
+use Rattle.std.proofs.lemmas.{Bool.{false≢true, Decides.nat_tests}, Option.none-some}
 use Rattle.std.specs.Option.{option_map}
 use Rattle.room_entry.specs.declared.parties.Caller.{Caller}
 use Rattle.room_eval.specs.declared.{deletion.DeleteVerdict.DeleteVerdict, outcome.Verdict.Verdict}
@@ -192,8 +192,7 @@ module _ (f : List (List ℕ)) (a b : Content) (user : Option (List ℕ)) (momen
   outside_stays content_after content_other = record {
     members = grind (arith, nat_tests, after_is, either_members, members_stay, other_is);
     views = views_stay;
-    names = names_from_views next_front after other content_after.names content_other.names
-        views_stay;
+    names = search (rules, names_from_views, content_after.names, content_other.names, views_stay);
   }
 
 pub stays_alike : StaysAlike

@@ -2,21 +2,19 @@
 use Rattle.std.proofs.Common.{ℕ, ◌≡◌, ◌==◌, ◌⊎◌, inl, inr, Bool, true, false, cond, not, ◌&&◌, List}
 use Rattle.std.proofs.Common.{[], ◌∷◌, map, filter, Option, Some, None, nat_lt, refl, sym, ap, ◌∙◌}
 use Rattle.std.proofs.{Common.arith, lemmas.Bool.{not-true, cases_Bool, and_parts, and_from}}
-use Rattle.std.proofs.lemmas.Bool.{false≢true, Decides.nat_tests}
-use Rattle.std.specs.{List.{find, list_any, AllByRecursion}, Option.{option_map, option_map_or}}
-use Rattle.std.specs.Prelude.{is_some, IsTrue}
-use Rattle.room_entry.specs.Pieces.{same_text}
-use Rattle.room_entry.proofs.{Alike.text_itself, Facts.Members.{any_map, any_agree, any_none}}
-use Rattle.room_entry.proofs.Facts.Members.{each_fails, each_weaker, each_filter}
-use Rattle.room_entry.proofs.Texts.{same_text-true}
+use Rattle.std.{proofs.lemmas.Bool.{false≢true, Decides.nat_tests}, specs.List.{find, list_any}}
+use Rattle.std.specs.{List.AllByRecursion, Option.{option_map, option_map_or}, Prelude.is_some}
+use Rattle.std.specs.Prelude.{IsTrue}
+use Rattle.room_entry.{specs.Pieces.same_text, proofs.{Alike.text_itself, Facts.Members.any_map}}
+use Rattle.room_entry.proofs.Facts.Members.{any_agree, any_none, each_fails, each_weaker}
+use Rattle.room_entry.proofs.{Facts.Members.each_filter, Texts.same_text-true}
 use Rattle.room_rows.specs.Content.{Content, node_at, body_of, child_of, has_parent, put_node}
 use Rattle.room_rows.specs.Content.{are_names_apart, same_parent, with_node, with_body}
 use Rattle.room_rows.specs.{Content.{without_node, with_each, body_at}, declared.node.Node.Node}
 use Rattle.room_rows.proofs.Frames.{has_its_parent, node_at-without_node-other, node_at-number}
 use Rattle.room_rows.proofs.InPlace.{keeps_places, node_at-with_each, body_of-with_body-other}
 use Rattle.room_rows.proofs.SamePlace.{IsSamePlace}
-use Rattle.room_laws.specs.Tidy.{IsTidy}
-use Rattle.room_laws.proofs.Kept.{is_named}
+use Rattle.room_laws.{specs.Tidy.IsTidy, proofs.Kept.is_named}
 use Rattle.room_rows.proofs.Lookups as lookups
 use Rattle.room_laws.proofs.Kept as kept
 

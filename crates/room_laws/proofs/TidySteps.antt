@@ -1,7 +1,6 @@
 -- Whatever happens, contents stay tidy.
 use Rattle.std.proofs.Common.{ℕ, ◌≡◌, true, List, [], ◌∷◌, Option, Some, None, refl, sym, ap, subst}
-use Rattle.std.proofs.{Common.arith, lemmas.Bool.Decides.nat_tests}
-use Rattle.std.specs.Prelude.{is_some}
+use Rattle.std.{proofs.{Common.arith, lemmas.Bool.Decides.nat_tests}, specs.Prelude.is_some}
 use Rattle.room_entry.specs.declared.{object.Which.Which, parties.Caller.Caller}
 use Rattle.room_ace.specs.Sent.{Sent}
 use Rattle.room_rows.specs.Content.{Content, node_at, child_of, with_node, with_each, with_records}
@@ -22,10 +21,10 @@ use Rattle.room_machine.specs.declared.request.Request.TheVariants.{SetOwners, C
 use Rattle.room_laws.specs.{Outside.found, Tidy.{IsNumbered, IsTidy, StaysTidy}}
 use Rattle.room_laws.proofs.Behind.{act_on, change, change_place, numbers_stay, target_found}
 use Rattle.room_laws.proofs.{Changed.{only, only_place, put_only}, OnePlace.found_snoc}
-use Rattle.room_laws.proofs.{OnePlace.{found_there, split_last}, Passing.both_none}
-use Rattle.room_laws.proofs.Passing.{folder_passed, move_passed, none_at, not_refused, parent_is}
-use Rattle.room_laws.proofs.{Passing.{place_passed, remove_passed}, Settings.no_children}
-use Rattle.room_laws.proofs.Tidy.{body_tidy, each_tidy, gone_tidy, put_tidy}
+use Rattle.room_laws.proofs.{OnePlace.{found_there, split_last}, Passing.{both_none, folder_passed}}
+use Rattle.room_laws.proofs.Passing.{move_passed, none_at, not_refused, parent_is, place_passed}
+use Rattle.room_laws.proofs.{Passing.remove_passed, Settings.no_children, Tidy.body_tidy}
+use Rattle.room_laws.proofs.Tidy.{each_tidy, gone_tidy, put_tidy}
 use Rattle.room_rows.proofs.Lookups as lookups
 
 module _ (a : Content) (numbered : IsNumbered a) (tidy : IsTidy a) where

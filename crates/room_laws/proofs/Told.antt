@@ -1,8 +1,7 @@
 -- Which replies tell what is behind a folder.
 use Rattle.std.proofs.Common.{ℕ, ℤ, ◌≡◌, ◌⊎◌, inl, inr, Bool, true, false, not, List, [], ◌∷◌, ◌++◌}
 use Rattle.std.proofs.Common.{Option, Some, None, refl, sym, subst, ◌∙◌, append_assoc, arith}
-use Rattle.std.proofs.lemmas.{Option.none-some, Bool.Decides.nat_tests}
-use Rattle.std.specs.Option.{option_map}
+use Rattle.std.{proofs.lemmas.{Option.none-some, Bool.Decides.nat_tests}, specs.Option.option_map}
 use Rattle.room_entry.specs.{Ace.Ace, declared.object.Which.TheVariants.{Dacl, Sacl}}
 use Rattle.room_entry.specs.declared.parties.Caller.{Caller}
 use Rattle.room_rows.specs.Content.{Content, children_of, is_empty}
@@ -22,8 +21,8 @@ use Rattle.room_laws.specs.{Outside.{Reaches, Barred}, Tidy.IsNumbered}
 use Rattle.room_laws.proofs.LikeItems.{deletion_like, found_like, next, ways_like}
 use Rattle.room_laws.proofs.{OnePlace.not_itself, Passing.at_or_not, PlansAlike.IsSeen}
 use Rattle.room_laws.proofs.PlansAlike.{caller_same, parent_same, plan_same, sites_same}
-use Rattle.room_laws.proofs.{PlansAlike.target_seen, SameReplies.same_replies, Seen.Both}
-use Rattle.room_laws.proofs.Seen.{IsLike, blank, like_at}
+use Rattle.room_laws.proofs.{PlansAlike.target_seen, SameReplies.same_replies, Seen.{Both, IsLike}}
+use Rattle.room_laws.proofs.Seen.{blank, like_at}
 
 module _ (f : List (List ℕ)) (a b : Content) (user : Option (List ℕ)) (moment later : ℤ)
     (first second : Reply) (after other : Content) (same : SameOutside f a b)

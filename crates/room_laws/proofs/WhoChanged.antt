@@ -1,8 +1,8 @@
 -- What changes who may do what.
-use Rattle.std.proofs.Common.{ℕ, ℤ, ◌≡◌, ◌⊎◌, inl, inr, true, false, List, [], ◌∷◌, Option, Some}
-use Rattle.std.proofs.Common.{None, refl, sym, ap, subst, ◌∙◌, filter, arith}
-use Rattle.std.proofs.lemmas.Bool.{true≢false, Decides.nat_tests}
-use Rattle.std.specs.{Option.option_map, Prelude.is_some}
+use Rattle.std.proofs.Common.{rules, ℕ, ℤ, ◌≡◌, ◌⊎◌, inl, inr, true, false, List, [], ◌∷◌, Option}
+use Rattle.std.proofs.Common.{Some, None, refl, sym, ap, subst, ◌∙◌, arith}
+use Rattle.std.{proofs.lemmas.Bool.{true≢false, Decides.nat_tests}, specs.Option.option_map}
+use Rattle.std.specs.Prelude.{is_some}
 use Rattle.room_entry.specs.{Rights.{write_acl, write_owner}, Valid.first_bad_entry}
 use Rattle.room_entry.specs.declared.object.Which.{Which, TheVariants.{Dacl, Sacl}}
 use Rattle.room_entry.specs.declared.parties.Caller.{Caller}
@@ -14,26 +14,25 @@ use Rattle.room_machine.specs.{Judge.first_failure, Plan.{plan_of, move_items, b
 use Rattle.room_machine.specs.{Rights.{reaches, sites_above}, Run.{Event, Asked, WasReset}}
 use Rattle.room_machine.specs.{Run.{Replaced, Happens}, Site.{Site, front, last_name, site_at}}
 use Rattle.room_machine.specs.{Site.{parent_at, sites_along}, Step.{IsFree, Step, caller_in}}
-use Rattle.room_machine.specs.{Step.{failure_or, is_refusal, Reset}, declared.reply.Reply.Reply}
+use Rattle.room_machine.specs.{Step.{failure_or, Reset}, declared.reply.Reply.Reply}
 use Rattle.room_machine.specs.declared.{reply.Reply.TheVariants.Done, request.Request.Request}
 use Rattle.room_machine.specs.declared.request.Request.TheVariants.{Read, List as ListFolder, Put}
 use Rattle.room_machine.specs.declared.request.Request.TheVariants.{Append, MakeFolder, Remove}
 use Rattle.room_machine.specs.declared.request.Request.TheVariants.{Move, ReadList, SetList}
 use Rattle.room_machine.specs.declared.request.Request.TheVariants.{ReadAttr, SetOwners, Can}
-use Rattle.room_laws.specs.{Outside.found, Tidy.{IsNumbered, IsTidy}}
-use Rattle.room_laws.proofs.Behind.{act_on, target_found, numbers_stay, after_step}
-use Rattle.room_laws.proofs.{Grown.{GoesOn, goes_on}, Orphans.orphans, PairsStay.KeepsMembers}
-use Rattle.room_laws.proofs.{PairsStay.{kept_by, members_stay}, Passing.{not_refused, passed}}
-use Rattle.room_laws.proofs.Passing.{parent_is, none_at, never_meets, remove_passed, move_passed}
-use Rattle.room_laws.proofs.Passing.{place_passed, folder_passed, above_found, place_free}
-use Rattle.room_laws.proofs.{Seen.like_at, Settings.no_children, TidySteps.tidy_stays}
-use Rattle.room_laws.specs.WhoChanged.{Changes, IsThere, SameBasis, ChangedBy, ChangedInRun}
-use Rattle.room_laws.specs.WhoChanged.{FirstChange, deciding_site}
-use Rattle.room_laws.proofs.Apart.{SameDown, down_itself, basis_down, owners_apart, list_apart}
-use Rattle.room_laws.proofs.Apart.{bytes_apart, records_apart, grown_apart, gone_apart}
-use Rattle.room_laws.proofs.Apart.{moved_apart, childless_end, audits_apart}
-use Rattle.room_laws.proofs.{Asked.{check_passed, removal_passed, move_granted}, Held.in_table}
-use Rattle.room_laws.proofs.Held.{open_to, may_take, bits_known, adding_known}
+use Rattle.room_laws.specs.{Outside.found, Tidy.{IsNumbered, IsTidy}, WhoChanged.{Changes, IsThere}}
+use Rattle.room_laws.specs.WhoChanged.{SameBasis, ChangedBy, ChangedInRun, FirstChange}
+use Rattle.room_laws.{specs.WhoChanged.deciding_site, proofs.Behind.{act_on, target_found}}
+use Rattle.room_laws.proofs.{Behind.{numbers_stay, after_step}, Grown.{GoesOn, goes_on}}
+use Rattle.room_laws.proofs.{Orphans.orphans, PairsStay.{KeepsMembers, kept_by, members_stay}}
+use Rattle.room_laws.proofs.Passing.{not_refused, passed, parent_is, none_at, never_meets}
+use Rattle.room_laws.proofs.Passing.{remove_passed, move_passed, place_passed, folder_passed}
+use Rattle.room_laws.proofs.{Passing.{above_found, place_free}, Seen.like_at, Settings.no_children}
+use Rattle.room_laws.proofs.{TidySteps.tidy_stays, Apart.{SameDown, down_itself, basis_down}}
+use Rattle.room_laws.proofs.Apart.{owners_apart, list_apart, bytes_apart, records_apart}
+use Rattle.room_laws.proofs.Apart.{grown_apart, gone_apart, moved_apart, childless_end}
+use Rattle.room_laws.proofs.{Apart.audits_apart, Asked.{check_passed, removal_passed, move_granted}}
+use Rattle.room_laws.proofs.Held.{in_table, open_to, may_take, bits_known, adding_known}
 
 -- the objects down to the path are the same, or the event is one that changes them
 record Outcome (q : List (List ℕ)) (a : Content) (event : Event) (c : Content) : Type 0 where
@@ -256,16 +255,14 @@ module _ (q : List (List ℕ)) (a : Content) (numbered : IsNumbered a) (tidy : I
   effects_down id free (SetList path which sent) none is =
       act_on (Outcome q a (Asked user moment (SetList path which sent) reply)) a _ _
       (as_before (SetList path which sent)) (λ s at. listed_down path which sent s at none
-      (sym is ∙ all_done a (site_at (sites_along a path) path)
-      (λ x. set_list a which sent (parent_at (sites_along a path) path) x)))
+      (search (rules, is, all_done)))
   effects_down id free (ReadAttr path) none is =
       act_on (Outcome q a (Asked user moment (ReadAttr path) reply)) a _ _
       (as_before (ReadAttr path)) (λ s at. as_before (ReadAttr path))
   effects_down id free (SetOwners path owners) none is =
       act_on (Outcome q a (Asked user moment (SetOwners path owners) reply)) a _ _
       (as_before (SetOwners path owners)) (λ s at. owned_down path owners s at none
-      (sym is ∙ all_done a (site_at (sites_along a path) path)
-      (λ x. with_node a (record x.node { owners = owners }))))
+      (search (rules, is, all_done)))
   effects_down id free (Can path mask) none is =
       act_on (Outcome q a (Asked user moment (Can path mask) reply)) a _ _
       (as_before (Can path mask)) (λ s at. as_before (Can path mask))
@@ -335,8 +332,7 @@ module _ (q : List (List ℕ)) (a : Content) (path : List (List ℕ))
       → SameBasis q a after
   reset_apart reply after s =
       let is : SetApart after = subst SetApart (ap (λ (d : Reply × Content). d.1) s)
-      (either_apart
-      (first_failure nobody (filter is_refusal (plan_of a (SetList path which sent))))) in
+      (search (rules, either_apart)) in
       record { members = sym is.members; objects = basis_down q a after is.down }
 
 pub changed_by : ChangedBy

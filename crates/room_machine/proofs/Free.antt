@@ -1,7 +1,6 @@
 -- Some number isn't in use.
 use Rattle.std.proofs.Common.{ℕ, ◌+◌, ◌<◌, ◌≡◌, cond, List, [], ◌∷◌, Some, None, refl, ap, ◌∙◌}
-use Rattle.std.proofs.{Common.arith, lemmas.Bool.ne_eqb}
-use Rattle.std.specs.{Prelude.{◌==◌, is_none}, List.find}
+use Rattle.std.{proofs.{Common.arith, lemmas.Bool.ne_eqb}, specs.{Prelude.◌==◌, List.find}}
 use Rattle.room_rows.specs.declared.node.Node.{Node}
 use Rattle.room_machine.specs.Laws.{SomeFree}
 
@@ -21,8 +20,5 @@ above_none (node ∷ nodes) id above =
 pub some_free : SomeFree
 some_free content = (
   all_numbers content.nodes + 1,
-  (
-    omega arith,
-    ap is_none (above_none content.nodes (all_numbers content.nodes + 1) (omega arith)),
-  ),
+  grind (arith, above_none, content.nodes),
 )

@@ -1,9 +1,8 @@
 -- What a denial on the way to an object hides.
-use Rattle.std.proofs.Common.{ℕ, zero, suc, ◌+◌, ◌≡◌, ◌⊎◌, inl, inr, Bool, true, false, cond, not}
-use Rattle.std.proofs.Common.{◌&&◌, List, [], ◌∷◌, ◌++◌, length, length-append, take, Option, Some}
-use Rattle.std.proofs.Common.{None, refl, sym, ap, subst, ◌∙◌, add-one, arith}
-use Rattle.std.proofs.lemmas.Bool.Decides.{nat_tests}
-use Rattle.std.specs.Option.{option_map_or}
+use Rattle.std.proofs.Common.{rules, ℕ, zero, suc, ◌+◌, ◌≡◌, ◌⊎◌, inl, inr, Bool, true, false, cond}
+use Rattle.std.proofs.Common.{not, ◌&&◌, List, [], ◌∷◌, ◌++◌, length, length-append, take, Option}
+use Rattle.std.proofs.Common.{Some, None, refl, sym, ap, subst, ◌∙◌, add-one, arith}
+use Rattle.std.{proofs.lemmas.Bool.Decides.nat_tests, specs.Option.option_map_or}
 use Rattle.room_entry.specs.{Ace.Ace, Rights.execute, declared.parties.Caller.Caller}
 use Rattle.room_eval.specs.declared.outcome.Verdict.{Verdict, TheVariants.Granted}
 use Rattle.room_eval.specs.declared.outcome.Verdict.TheVariants.{Denied as DeniedWith}
@@ -248,11 +247,7 @@ module _ (caller : Caller) (lack : Bool) (front : List (List ℕ)) (bits : List 
   denied_next site next sites name names deeper folder passes below = (
     suc below.0,
     omega (arith, below.1, deeper),
-    ap (λ t. or_else (cond t (Some (Refused site.path NotFolder)) None)
-        (or_else (failure caller (Check site (execute ∷ [])))
-        (first_failure caller (way_as_far below.0 (next ∷ sites) names)))) folder
-        ∙ ap (λ o. or_else o (first_failure caller (way_as_far below.0 (next ∷ sites) names)))
-        passes ∙ below.2,
+    search (rules, folder, passes, below.2),
   )
 
   denied_below : (site : Site) (sites : List Site) (names : List (List ℕ)) → Deepens site sites
@@ -260,19 +255,7 @@ module _ (caller : Caller) (lack : Bool) (front : List (List ℕ)) (bits : List 
       → IsDeniedBelow site sites names
   denied_below site sites [] deeper is = absurd (no_failure is)
   denied_below site [] (name ∷ names) deeper is =
-      let failed : Option Reply = failure caller (Check site (execute ∷ [])) in
-      let more : Option Reply = or_else
-      (cond (not (lack && is_empty names))
-      (Some (Refused (site.path ++ name ∷ []) NoSuch)) None) None in
-      let folder = past_refusal caller lack [] front bits place entry site.path NotFolder
-      (not (is_folder site.node)) (or_else failed more) is in
-      elim (either failed more folder.1) [
-        | inl here ↦ denied_here site [] name names folder.0 here
-        | inr on ↦
-            absurd
-            (no_failure (past_refusal caller lack [] front bits place entry
-            (site.path ++ name ∷ []) NoSuch (not (lack && is_empty names)) None on.1).1)
-      ]
+      search (rules, site, site.path, past_refusal, site.node, is, either, denied_here, no_failure)
   denied_below site (next ∷ sites) (name ∷ names) deeper is =
       let failed : Option Reply = failure caller (Check site (execute ∷ [])) in
       let more : Option Reply = first_failure caller (way lack (next ∷ sites) names) in

@@ -17,7 +17,7 @@ use Rattle.room_rows.specs.declared.node.Node.{Node}
 use Rattle.room_rows.specs.Content.{Content, body_of, has_parent, is_linked_in, node_at, parent_of}
 use Rattle.room_rows.specs.Content.{with_body, with_each, with_node, without_node}
 use Rattle.room_rows.specs.Held.{full_of, held_of, is_linked, with_held}
-use Rattle.room_rows.specs.Keep.{with_inh, with_new, with_owners, with_place}
+use Rattle.room_rows.specs.Keep.{Addition, with_bytes, with_inh, with_new, with_owners, with_place}
 use Rattle.room_rows.specs.Law.{agrees}
 use Rattle.room_rows.specs.Pass.{pass}
 use Rattle.room_rows.specs.Rows.{Rows, is_unreadable}
@@ -43,19 +43,22 @@ passed_held kind parent = record {
 abbrev pub owners_under : Option (List ℕ) → Owners → Owners
 owners_under user parent = record { owner = unwrap_or user parent.owner; group = parent.group }
 
-abbrev pub new_child : Caller → ObjKind → Node → List ℕ → List ℕ → NewNode
-new_child caller kind parent name bytes = record {
+abbrev pub child_node : Caller → ObjKind → Node → List ℕ → NewNode
+child_node caller kind parent name = record {
   parent = Some parent.id;
   name = name;
   kind = kind;
   owners = owners_under caller.user parent.owners;
   dacl = passed_held kind parent.dacl;
   sacl = passed_held kind parent.sacl;
-  bytes = bytes;
 }
 
+-- the same with its bytes
+abbrev pub new_child : Caller → ObjKind → Node → List ℕ → List ℕ → Addition
+new_child caller kind parent name bytes = with_bytes (child_node caller kind parent name) bytes
+
 -- The object is added with a number that no row has, and nothing else is changed.
-abbrev pub AddsNew : NewNode → Rows → Content → Type 0
+abbrev pub AddsNew : Addition → Rows → Content → Type 0
 AddsNew node rows next = (id : ℕ) × (0 < id) × (node_at rows.read id ≡ None)
     × (is_unreadable rows id ≡ false) × (next ≡ with_new rows.read id node)
 

@@ -202,9 +202,9 @@ impl<'a, K: Keep> Keep for Remembering<'a, K> {
         }
     }
 
-    fn add(&mut self, node: NewNode) -> Result<u64, KeepFault> {
+    fn add(&mut self, node: NewNode, bytes: &[u8]) -> Result<u64, KeepFault> {
         self.forget();
-        self.keeper.add(node)
+        self.keeper.add(node, bytes)
     }
 
     fn set_held(&mut self, id: u64, which: Which, held: &Held) -> Result<(), KeepFault> {

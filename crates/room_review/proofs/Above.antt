@@ -1,6 +1,6 @@
 -- All callers at the objects on a way, one after the other.
-use Rattle.std.proofs.Common.{◌≡◌, ℕ, zero, suc, ◌+◌, ◌<◌, List, [], ◌∷◌, ◌++◌, map, length, take}
-use Rattle.std.proofs.Common.{Some, refl, sym, ap, subst, ◌∙◌, append_assoc, arith, get_or}
+use Rattle.std.proofs.Common.{rules, ◌≡◌, ℕ, zero, suc, ◌+◌, ◌<◌, List, [], ◌∷◌, ◌++◌, map, length}
+use Rattle.std.proofs.Common.{take, Some, refl, sym, ap, subst, ◌∙◌, append_assoc, arith, get_or}
 use Rattle.std.proofs.lemmas.{List.append-nil, Bool.Decides.nat_tests}
 use Rattle.std.specs.{Prelude.{◌-◌, slice_get}, List.AllByRecursion as Each}
 use Rattle.room_rows.specs.declared.node.Node.{Node}
@@ -72,9 +72,7 @@ pub last_along : (parties : List Party) (sites : List Site) (way : List (List St
 last_along parties [] way is = ap (λ (l : List (List Standing)). slice_get l (length l - 1)) is
 last_along parties (site ∷ sites) way is =
     ap (λ (l : List (List Standing)). slice_get l (length l - 1)) is
-    ∙ ap (slice_get (along parties [] (site ∷ sites)))
-    (one_back (length (along parties (site ∷ []) sites)) (length sites)
-    (length_along parties (site ∷ []) sites))
+    ∙ ap (slice_get (along parties [] (site ∷ sites))) (search (rules, one_back, length_along))
     ∙ last_from parties [] site sites
 
 -- and the next object on the way
@@ -87,7 +85,4 @@ along_next parties above sites i node way next on below is same given =
     let more = one_more sites i node on.1
     (subst (λ (l : List Node). i < length l) on.0 below)
     (is ∙ ap (λ (l : List Node). get_or l i node) on.0) in
-    (λ j. same j ++ given more.0 j ∷ [])
-    ∙ sym (along_on parties [] (take i sites) (stored_site more.0 node))
-    ∙ ap (along parties []) (sym more.1)
-    ∙ ap (λ (n : ℕ). along parties [] (take n sites)) (sym (next_is i))
+    search (rules, same, given, more.0, along_on, node, more.1, next_is)

@@ -1,25 +1,24 @@
 -- What the rows of a tree say at a path below its object.
-use Rattle.std.proofs.Common.{◌≡◌, ℕ, zero, suc, ◌||◌, Bool, true, false, cond, not, List, [], ◌∷◌}
-use Rattle.std.proofs.Common.{◌++◌, filter, Option, Some, None, refl, sym, ap, subst, ◌∙◌}
+use Rattle.std.proofs.Common.{rules, ◌≡◌, ℕ, zero, suc, ◌||◌, Bool, true, false, cond, not, List}
+use Rattle.std.proofs.Common.{[], ◌∷◌, ◌++◌, filter, Option, Some, None, refl, sym, ap, subst, ◌∙◌}
 use Rattle.std.proofs.{Common.{append_assoc, arith}, lemmas.Bool.{and_parts, or_from}}
 use Rattle.std.proofs.lemmas.{Bool.Decides.nat_tests, List.{append-nil, Folds.list_any-append}}
 use Rattle.std.specs.{List.{find, flat_map, list_any, AllByRecursion as Each}, Option.option_map_or}
 use Rattle.std.specs.Option.{option_or}
-use Rattle.room_entry.specs.Pieces.{same_text}
-use Rattle.room_entry.proofs.Facts.Members.{any_filter, each_append, each_unfiltered, each_weaker}
-use Rattle.room_entry.proofs.Texts.{same_text-sym, same_text-true}
+use Rattle.room_entry.{specs.Pieces.same_text, proofs.Facts.Members.{any_filter, each_append}}
+use Rattle.room_entry.proofs.{Facts.Members.{each_unfiltered, each_weaker}, Texts.same_text-sym}
+use Rattle.room_entry.proofs.Texts.{same_text-true}
 use Rattle.room_rows.specs.{declared.node.Node.Node, Content.{Content, child_of, children_of}}
 use Rattle.room_rows.specs.{Content.{has_parent, put_by_name, sorted_by_name}, Paths.is_object_name}
-use Rattle.room_rows.specs.Paths.{path_text}
-use Rattle.room_rows.proofs.{Frames.child_of-name, Lookups.each-sorted}
+use Rattle.room_rows.{specs.Paths.path_text, proofs.{Frames.child_of-name, Lookups.each-sorted}}
 use Rattle.room_inherit.proofs.Children.{any_sorted}
-use Rattle.room_dump.specs.{Dump.tree_of, Visits.{IsThere, Reached}}
-use Rattle.room_dump.proofs.{Counting.{each_always, each_found}, Reached.{goes_down, reached_child}}
+use Rattle.room_dump.{specs.{Dump.tree_of, Visits.{IsThere, Reached}}, proofs.Counting.each_always}
+use Rattle.room_dump.proofs.{Counting.each_found, Reached.{goes_down, reached_child}}
 use Rattle.room_machine.specs.{Site.{Site, site_at}, Stored.stored_from}
 use Rattle.room_review.specs.{declared.parties.Party.Party, LookedUp.{is_row_of, nearest, said_in}}
-use Rattle.room_review.specs.Standing.{before_last, granted, repeats, same_answer, same_grant}
-use Rattle.room_review.specs.Table.{Place, place_below, object_rows, site_of}
-use Rattle.room_review.proofs.{Ending.{before_after, last_after}, Fronts.{goes_apart, goes_further}}
+use Rattle.room_review.specs.{Standing.{granted, repeats, same_answer, same_grant}, Table.Place}
+use Rattle.room_review.{specs.Table.{place_below, object_rows, site_of}, proofs.Ending.before_after}
+use Rattle.room_review.proofs.{Ending.last_after, Fronts.{goes_apart, goes_further}}
 use Rattle.room_review.proofs.Lookups.{any_flat, has_none, or_assoc, or_none, printed, said_append}
 use Rattle.room_review.proofs.Lookups.{said_elsewhere, said_here, said_none, said_those}
 use Rattle.room_review.proofs.{Lookups.same_nearest, Visited.{IsNamed, each_flat, some_same}}
@@ -67,9 +66,7 @@ same_answers false false is = refl
 
 -- grants that are the same
 same_grants : (a b : List ℕ × Bool) → same_grant a b ≡ true → a ≡ b
-same_grants a b is =
-    let parts = and_parts (same_text a.0 b.0) (same_answer a.1 b.1) is in
-    λ i. (same_text-true a.0 b.0 parts.0 i, same_answers a.1 b.1 parts.1 i)
+same_grants a b is = search (rules, and_parts, a.0, b.0, a.1, b.1, is, same_text-true, same_answers)
 
 module _ (content : Content) (there : Each (IsThere content) content.nodes) (most : ℕ) (all : Bool)
     (parties : List Party) where
@@ -114,12 +111,9 @@ module _ (content : Content) (there : Each (IsThere content) content.nodes) (mos
       let rest = said_none other user below (children_of content node.id)
       (each_always (λ child. said_in (below child) other user ≡ None)
       (λ child. elsewhere depth (place_below place node child) child other user
-      (λ more. subst (λ (p : List (List ℕ)). same_text (path_text p) other ≡ false)
-      (sym (append_assoc place.path (child.name ∷ []) more)) (apart (child.name ∷ more))))
+      (search (rules, append_assoc, place.path, apart)))
       (children_of content node.id)) in
-      said_append other user (object_rows all parties place node)
-      (flat_map below (children_of content node.id))
-      ∙ (λ i. option_or (own i) (rest i))
+      search (rules, said_append, place, node, below, node.id, own, rest)
 
   -- a name that labels none of the parties has no row
   pub no_rows : (depth : ℕ) (place : Place) (node : Node) (name : List ℕ)
@@ -170,12 +164,7 @@ module _ (content : Content) (there : Each (IsThere content) content.nodes) (mos
         (λ child. rows_in most (place_below place node child) child) (children_of content node.id)
         (each_weaker (IsKid node.id) (λ child. said_in
         (rows_in most (place_below place node child) child) (path_text place.path) user ≡ None)
-        (λ child kid.
-        elsewhere most (place_below place node child) child (path_text place.path) user
-        (λ more. subst (λ (p : List (List ℕ)).
-        same_text (path_text p) (path_text place.path) ≡ false)
-        (sym (append_assoc place.path (child.name ∷ []) more))
-        (goes_further place.path child.name more kid.1)))
+        (search (rules, elsewhere, place, node, place.path, append_assoc, goes_further))
         (children_of content node.id) (kids_sorted node.id))
 
     -- of what stands below an object, the child's rows alone go on by its name
@@ -212,11 +201,7 @@ module _ (content : Content) (there : Each (IsThere content) content.nodes) (mos
               (some_same n child (sym found ∙ is.0))
           on n false apart kid =
               elsewhere most (place_below place node n) n other user
-              (λ more.
-              ap (λ p. same_text (path_text p) other) (append_assoc place.path (n.name ∷ []) more)
-              ∙ ap (λ p. same_text (path_text (place.path ++ n.name ∷ more)) (path_text p))
-              (append_assoc place.path (child.name ∷ []) rest)
-              ∙ goes_apart place.path n.name child.name more rest kid.1 is.1 apart)
+              (search (rules, append_assoc, goes_apart))
 
     -- ---- one of the parties, at an object and at all below it
 
@@ -251,10 +236,7 @@ module _ (content : Content) (there : Each (IsThere content) content.nodes) (mos
               false in
               ap printed
               (sym (same_grants (grant_at below child) (grant_at place node)
-              (sym (ap (λ o. kept o (before_last below.above))
-              (last_after place.above (site_of place node))
-              ∙ ap (λ front. kept (Some (site_of place node)) front)
-              (before_after place.above (site_of place node))) ∙ is)))
+              (search (rules, kept, last_after, place.above, place, node, before_after))))
 
           on : (a r : Bool) → repeats party.caller below.above (site_of below child) ≡ r
               → option_or (cond (a || not r) (Some (value_at below child)) None)
@@ -310,11 +292,7 @@ module _ (content : Content) (there : Each (IsThere content) content.nodes) (mos
               (goes_down content there [] node most r place_below (λ p n. (p, n) ∷ []) place most
               (omega arith))
               tells
-              in (
-                parts.0,
-                each_unflat Says (λ child. told (place_below place node child) child)
-                    (children_of content node.id) parts.1,
-              )
+              in search (rules, parts.0, each_unflat, parts.1)
 
           finds_itself : Finds [] place node own above
           finds_itself = grind (arith, nat_tests, append-nil, own_alone, printed, tells_each)
@@ -392,9 +370,4 @@ module _ (content : Content) (there : Each (IsThere content) content.nodes) (mos
                 → Finds (name ∷ more) place node own above
             on None is found finds = absurd (let wrong : ⊥ = cc in wrong)
             on (Some child) is found finds =
-                let named = child_of-name content node.id name child is in
-                subst (λ n. Finds (n ∷ more) place node own above) named
-                (finds child
-                (subst (λ n. child_of content node.id n ≡ Some child) (sym named) is)
-                (subst (λ n. site_at (stored_from content (place.path ++ n ∷ []) child more) more
-                ≡ Some site) (sym named) found))
+                search (rules, child_of-name, node.id, place, node, above, place.path, site, found)

@@ -2,8 +2,7 @@
 -- root.
 use Rattle.std.proofs.Common.{◌≡◌, ℕ, zero, suc, ◌&&◌, false, List, [], ◌∷◌, map, length, take}
 use Rattle.std.proofs.Common.{Option, Some, None, refl, sym, ap, ◌∙◌, arith}
-use Rattle.std.proofs.lemmas.Bool.Decides.{nat_tests}
-use Rattle.std.specs.Option.{option_map, option_map_or}
+use Rattle.std.{proofs.lemmas.Bool.Decides.nat_tests, specs.Option.{option_map, option_map_or}}
 use Rattle.room_entry.specs.declared.parties.Caller.{Caller}
 use Rattle.room_rows.specs.{Meaning.meaning, Rows.{AreRows, Rows}, Sound.AreSound}
 use Rattle.room_machine.specs.{Judge.passes, Plan.Deletion, Site.{Site, site_at, sites_along}}

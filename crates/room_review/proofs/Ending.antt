@@ -1,7 +1,7 @@
 -- The last object on a way, and those before it.
-use Rattle.std.proofs.Common.{◌≡◌, ℕ, suc, ◌+◌, ◌-◌, List, [], ◌∷◌, ◌++◌, map, length, take, Option}
-use Rattle.std.proofs.Common.{Some, None, refl, sym, ap, subst, ◌∙◌, arith, append_assoc, cond, inr}
-use Rattle.std.proofs.{Common.{not, length-append}, Math.Seq.take-append_seam}
+use Rattle.std.proofs.Common.{rules, ◌≡◌, ℕ, suc, ◌+◌, ◌-◌, List, [], ◌∷◌, ◌++◌, map, length, take}
+use Rattle.std.proofs.Common.{Option, Some, None, refl, sym, ap, subst, ◌∙◌, arith, append_assoc}
+use Rattle.std.proofs.{Common.{cond, inr, not, length-append}, Math.Seq.take-append_seam}
 use Rattle.std.proofs.lemmas.{List.append-nil, Bool.Decides.nat_tests}
 use Rattle.std.specs.{List.AllByRecursion as Each, Option.option_map_or}
 use Rattle.room_entry.specs.{Valid.is_document, declared.object.ObjKind.ObjKind}
@@ -28,8 +28,7 @@ take_front : {A : Type 0} (front back : List A) (n : ℕ) → n ≡ length back
     → take (length (front ++ back) - n) (front ++ back) ≡ front
 take_front front back n is =
     ap (λ k. take k (front ++ back))
-    (let e : length (front ++ back) - n ≡ length front = omega (arith, length-append front back) in
-    e) ∙ take-append_seam front back
+    (search (rules, front, length-append)) ∙ take-append_seam front back
 
 pub before_after : (xs : List Site) (x : Site) → before_last (xs ++ x ∷ []) ≡ xs
 before_after xs x = take_front xs (x ∷ []) 1 refl
@@ -123,10 +122,7 @@ module _ (content : Content) where
             used = name ∷ end.used;
             left = end.left;
             names_are = ap (λ l. name ∷ l) end.names_are;
-            sites_are =
-                ap (λ l. stored_site path node ∷ l)
-                (end.sites_are
-                ∙ ap (λ s. end.front ++ s ∷ []) (further path name end.used end.last));
+            sites_are = search (rules, end.sites_are, further, end.last);
             chain = ap (λ l. node ∷ l) end.chain;
             rest = end.rest;
             stored = (refl, end.stored);
@@ -186,8 +182,7 @@ module _ (rows : Rows) (path : List (List ℕ)) (above : List Node) (node : Node
           → (site_at sites path ≡ Some (stored_site path node))
           × AreOn above (take (length path) sites)
       on front used [] last names rest nodes same stored h = (
-        h.0
-            ∙ ap Some ((λ i. stored_site (sym (names ∙ append-nil used) i) (sym same i))),
+        search (rules, append-nil, used),
         subst (AreOn above) (sym h.1) (nodes, stored),
       )
       on front used (name ∷ left) last names rest nodes same stored h =
@@ -225,11 +220,6 @@ module _ (rows : Rows) (path : List (List ℕ)) (above : List Node) (node : Node
               ≡ cond (not (is_document kind))
               (Refused (take (length used + 1) path) NoSuch) (Refused used NotFolder)
           why Document =
-              ap (λ p. Refused p NotFolder)
-              (ap (λ whole. take (length whole - suc rest) whole) names
-              ∙ take_front used (name ∷ left) (suc rest) over)
+              ap (λ p. Refused p NotFolder) (search (rules, rest, take_front, used, left, over))
           why Folder =
-              ap (λ p. Refused p NoSuch)
-              (ap (λ (k : ℕ). take k path)
-              (let e : length path - (suc rest - 1) ≡ length used + 1 =
-              omega (arith, over, ap length names, length-append used (name ∷ left)) in e))
+              ap (λ p. Refused p NoSuch) (search (rules, rest, used, over, length-append, left))

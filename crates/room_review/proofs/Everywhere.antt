@@ -1,35 +1,32 @@
 -- Names that a content doesn't know get the same reply to each request.
-use Rattle.std.proofs.Common.{ℕ, ◌≡◌, ◌+◌, ◌==◌, ◌&&◌, ◌||◌, Bool, true, false, cond, not, List, []}
-use Rattle.std.proofs.Common.{◌∷◌, ◌++◌, map, length, Option, Some, None, refl, sym, ap, subst, ◌∙◌}
-use Rattle.std.proofs.{Common.arith, lemmas.Bool.{and_parts, or_parts, Decides.nat_tests}}
-use Rattle.std.specs.{Prelude.{is_some, unwrap_or}, List.{cons_option, find, list_all, list_any}}
+use Rattle.std.proofs.Common.{rules, ℕ, ◌≡◌, ◌==◌, ◌&&◌, ◌||◌, Bool, true, false, cond, not, List}
+use Rattle.std.proofs.Common.{[], ◌∷◌, ◌++◌, map, length, Option, Some, None, refl, sym, ap, subst}
+use Rattle.std.proofs.{Common.{◌∙◌, arith}, lemmas.Bool.{and_parts, or_parts, Decides.nat_tests}}
+use Rattle.std.specs.{Prelude.is_some, List.{cons_option, find, list_all, list_any}}
 use Rattle.std.specs.Option.{option_map, option_map_or}
-use Rattle.room_entry.specs.{Ace.Ace, Pieces.same_text, Rights.{append_data, execute, read_acl}}
-use Rattle.room_entry.specs.Rights.{read_attributes, read_data, write_acl, write_data, write_owner}
-use Rattle.room_entry.specs.{Valid.first_bad_entry, declared.fault.EntryFault.EntryFault}
-use Rattle.room_entry.specs.declared.{flags.EntryFlags.EntryFlags, object.ObjKind.ObjKind}
-use Rattle.room_entry.specs.declared.{object.ObjKind.TheVariants.Folder, parties.Caller.Caller}
-use Rattle.room_rows.specs.{declared.node.Node.Node, Content.{Content, body_of, child_of}}
-use Rattle.room_rows.specs.Content.{children_of, has_parent, is_empty, is_folder, with_node}
-use Rattle.room_rows.specs.{Pass.{pass, passed_flags}, Walk.{behind, walk_from}}
+use Rattle.room_entry.specs.{Ace.Ace, Rights.{execute, write_data}}
+use Rattle.room_entry.specs.declared.{fault.EntryFault.EntryFault, flags.EntryFlags.EntryFlags}
+use Rattle.room_entry.specs.declared.object.ObjKind.{ObjKind, TheVariants.Folder}
+use Rattle.room_entry.specs.declared.parties.Caller.{Caller}
+use Rattle.room_rows.specs.{declared.node.Node.Node, Content.{Content, child_of, is_folder}}
+use Rattle.room_rows.specs.{Content.with_node, Pass.{pass, passed_flags}, Walk.{behind, walk_from}}
 use Rattle.room_machine.specs.declared.reply.Reply.{Reply, TheVariants.{Done, Made, Rulings}}
-use Rattle.room_machine.specs.declared.reply.Reason.TheVariants.{Exists, Loop, NotEmpty, NotFolder}
-use Rattle.room_machine.specs.declared.{reply.Reason.TheVariants.Root, request.Request.Request}
-use Rattle.room_machine.specs.declared.request.Request.TheVariants.{Read, List as ListFolder, Put}
-use Rattle.room_machine.specs.declared.request.Request.TheVariants.{Append, MakeFolder, Remove}
-use Rattle.room_machine.specs.declared.request.Request.TheVariants.{Move, ReadList, SetList}
-use Rattle.room_machine.specs.declared.request.Request.TheVariants.{ReadAttr, SetOwners, Can}
-use Rattle.room_machine.specs.Effect.{effect, new_node, put_bytes, rulings as rulings_of, with_site}
+use Rattle.room_machine.specs.declared.reply.Reason.TheVariants.{Exists, Loop, NotFolder}
+use Rattle.room_machine.specs.declared.request.Request.{Request, TheVariants.Read}
+use Rattle.room_machine.specs.declared.request.Request.TheVariants.{List as ListFolder, Put, Append}
+use Rattle.room_machine.specs.declared.request.Request.TheVariants.{MakeFolder, Remove, Move}
+use Rattle.room_machine.specs.declared.request.Request.TheVariants.{ReadList, SetList, ReadAttr}
+use Rattle.room_machine.specs.{declared.request.Request.TheVariants.{SetOwners, Can}, Effect.effect}
+use Rattle.room_machine.specs.Effect.{new_node, put_bytes, rulings as rulings_of, with_site}
 use Rattle.room_machine.specs.{Judge.{failure, first_failure, or_else}, Plan.{Check, Deletion}}
-use Rattle.room_machine.specs.Plan.{Item, Refusal, bad_list, move_items, no_document, no_folder}
-use Rattle.room_machine.specs.Plan.{not_over, plan_of, put_items, right_to_add, to_target, way}
-use Rattle.room_machine.specs.{Plan.where_found, Site.{Site, front, last_name, parent_at, site_at}}
-use Rattle.room_machine.specs.Site.{site_below, sites_along, sites_below, sites_of}
+use Rattle.room_machine.specs.Plan.{Item, Refusal, bad_list, move_items, plan_of, put_items}
+use Rattle.room_machine.specs.{Plan.{right_to_add, to_target, way, where_found}, Site.{Site, front}}
+use Rattle.room_machine.specs.Site.{last_name, parent_at, site_at, site_below, sites_along}
+use Rattle.room_machine.{specs.Site.{sites_below, sites_of}, proofs.Replies.{or_reply, reply_of}}
 use Rattle.room_review.specs.Laws.{IsUnknownIn, StrangersGetTheSame, is_known_at, is_known_to}
-use Rattle.room_review.specs.Laws.{is_paired, is_user_named}
-use Rattle.room_machine.proofs.Replies.{or_reply, reply_of}
-use Rattle.room_review.proofs.Strangers.{IsUnknown, alone, are_unknown, at_unknown, first_unknown}
-use Rattle.room_review.proofs.Strangers.{is_alone, is_not, others_unknown, rulings}
+use Rattle.room_review.{specs.Laws.{is_paired, is_user_named}, proofs.Strangers.{IsUnknown, alone}}
+use Rattle.room_review.proofs.Strangers.{are_unknown, at_unknown, first_unknown, is_alone, is_not}
+use Rattle.room_review.proofs.Strangers.{others_unknown, rulings}
 
 found_passes : (p q : Node → Bool) (nodes : List Node) (node : Node) → list_all q nodes ≡ true
     → find p nodes ≡ Some node → q node ≡ true
@@ -117,11 +114,7 @@ module _ (a : List ℕ) where
             (λ child. behind node (walk_from content child path)) o
             (record { chain = node ∷ []; rest = length (name ∷ path) })).chain ≡ true
         on None is later = λ i. here i && true
-        on (Some child) is later =
-            let rest = later child (found_passes
-            (λ (n : Node). has_parent node.id n && same_text n.name name) is_free content.nodes
-            child free is) in
-            λ i. here i && rest i
+        on (Some child) is later = search (rules, found_passes, node.id, here)
 
     free_along : (path : List (List ℕ))
         → list_all (λ site. not (is_known_at a site)) (sites_along content path) ≡ true
@@ -186,9 +179,7 @@ module _ (a b : List ℕ) where
     over : (path : List (List ℕ)) (site : Site)
         → parent_at (sites_along content path) path ≡ Some site → IsUnknown a b site
     over [] site found = absurd (let wrong : ⊥ = cc in wrong)
-    over (name ∷ path) site found =
-        at_unknown a b (sites_along content (name ∷ path)) (front (name ∷ path)) site
-        (along (name ∷ path)) found
+    over (name ∷ path) site found = search (rules, at_unknown, site, along, found)
 
     to_target_alike : (path : List (List ℕ)) (items : Site → List Item)
         → ((site : Site) → IsUnknown a b site → AreAlike (items site))
@@ -244,74 +235,20 @@ module _ (a b : List ℕ) where
           ),
         )))
 
-    abbrev removal_of : List (List ℕ) → Site → Site → List Item
-    removal_of path target folder =
-        Deletion target folder
-        ∷ Refusal path NotEmpty (not (is_empty (children_of content target.node.id))) ∷ []
-
-    abbrev removal_items : List (List ℕ) → Site → List Item
-    removal_items path target =
-        Refusal path Root (is_empty path)
-        ∷ where_found (parent_at (sites_along content path) path) (removal_of path target)
-
     plans : (request : Request) → AreAlike (plan_of content request)
-    plans (Read path) =
-        to_target_alike path (λ target. no_folder target ∷ Check target (read_data ∷ []) ∷ [])
-        (λ site u. (refl, (check site (read_data ∷ []) u, tt)))
-    plans (ListFolder path) =
-        to_target_alike path (λ target. no_document target ∷ Check target (read_data ∷ []) ∷ [])
-        (λ site u. (refl, (check site (read_data ∷ []) u, tt)))
-    plans (Put path bytes) =
-        let sites = sites_along content path in
-        alike_both (way true sites path)
-        (put_items path (length bytes) (site_at sites path) (parent_at sites path))
-        (way_alike true sites path (along path))
-        (put_alike path (length bytes) (site_at sites path) (parent_at sites path) refl refl)
-    plans (Append path bytes) =
-        to_target_alike path (λ target. no_folder target ∷ Check target (append_data ∷ [])
-        ∷ not_over path (length (unwrap_or (body_of content target.node.id) []) + length bytes)
-        ∷ [])
-        (λ site u. (refl, (check site (append_data ∷ []) u, (refl, tt))))
+    plans (Read path) = search (rules, to_target_alike, check)
+    plans (ListFolder path) = search (rules, to_target_alike, check)
+    plans (Put path bytes) = search (rules, alike_both, way_alike, along, put_alike)
+    plans (Append path bytes) = search (rules, to_target_alike, check)
     plans (MakeFolder []) = (refl, tt)
     plans (MakeFolder (name ∷ more)) =
-        let sites = sites_along content (name ∷ more) in
-        let items : Site → List Item = λ folder. Check folder (append_data ∷ [])
-        ∷ Refusal (name ∷ more) Exists (is_some (site_at sites (name ∷ more))) ∷ [] in
-        alike_both (way true sites (name ∷ more))
-        (where_found (parent_at sites (name ∷ more)) items)
-        (way_alike true sites (name ∷ more) (along (name ∷ more)))
-        (where_alike (parent_at sites (name ∷ more)) items (λ folder found.
-        (check folder (append_data ∷ []) (over (name ∷ more) folder found), (refl, tt))))
-    plans (Remove path) =
-        to_target_alike path (removal_items path) (λ site u. (
-          refl,
-          where_alike (parent_at (sites_along content path) path) (removal_of path site)
-              (λ folder found. (deletes site folder u (over path folder found), (refl, tt))),
-        ))
-    plans (Move path to) =
-        to_target_alike path (λ target. Refusal path Root (is_empty path)
-        ∷ where_found (parent_at (sites_along content path) path) (move_items (sites_along content) content to target))
-        (λ site u. (
-          refl,
-          where_alike (parent_at (sites_along content path) path) (move_items (sites_along content) content to site)
-              (λ folder found. move_alike to site folder u (over path folder found)),
-        ))
-    plans (ReadList path which) =
-        to_target_alike path (λ target. Check target (read_acl ∷ []) ∷ [])
-        (λ site u. (check site (read_acl ∷ []) u, tt))
-    plans (SetList path which sent) =
-        to_target_alike path (λ target. Check target (write_acl ∷ [])
-        ∷ bad_list path (first_bad_entry 1 which target.node.kind sent.entries))
-        (λ site u. (
-          check site (write_acl ∷ []) u,
-          bad_alike path (first_bad_entry 1 which site.node.kind sent.entries),
-        ))
-    plans (ReadAttr path) =
-        to_target_alike path (λ target. Check target (read_attributes ∷ []) ∷ [])
-        (λ site u. (check site (read_attributes ∷ []) u, tt))
-    plans (SetOwners path owners) =
-        to_target_alike path (λ target. Check target (write_owner ∷ []) ∷ [])
-        (λ site u. (check site (write_owner ∷ []) u, tt))
+        search (rules, alike_both, way_alike, along, where_alike, check, over)
+    plans (Remove path) = grind (arith, nat_tests, to_target_alike, where_alike, deletes, over)
+    plans (Move path to) = search (rules, to_target_alike, where_alike, move_alike, over)
+    plans (ReadList path which) = search (rules, to_target_alike, check)
+    plans (SetList path which sent) = search (rules, to_target_alike, check, bad_alike)
+    plans (ReadAttr path) = search (rules, to_target_alike, check)
+    plans (SetOwners path owners) = search (rules, to_target_alike, check)
     plans (Can path mask) = to_target_alike path (λ target. []) (λ site u. tt)
 
     -- ---- what is done
@@ -333,9 +270,7 @@ module _ (a b : List ℕ) where
         → (effect content (alone a) i request).0 ≡ (effect content (alone b) j request).0
     effects (Read path) i j = refl
     effects (ListFolder path) i j = refl
-    effects (Put path bytes) i j =
-        put_same path bytes i j (site_at (sites_along content path) path)
-        (parent_at (sites_along content path) path)
+    effects (Put path bytes) i j = search (rules, put_same)
     effects (Append path bytes) i j = refl
     effects (MakeFolder path) i j = made (parent_at (sites_along content path) path)
       where

@@ -1,11 +1,10 @@
 -- Texts of paths that part: one that goes on, and two that go on by different names.
-use Rattle.std.proofs.Common.{◌≡◌, ℕ, ◌<◌, true, false, List, [], ◌∷◌, ◌++◌, length, refl, sym, ap}
-use Rattle.std.proofs.{Common.{◌∙◌, arith, length-append}, lemmas.Bool.{and_parts, false≢true}}
-use Rattle.std.proofs.lemmas.{Bool.{false_from_ne_true, Decides.nat_tests}, Grind.flat_map-append}
-use Rattle.std.proofs.lemmas.List.{append_cancel_left}
-use Rattle.std.specs.List.{flat_map, list_all}
-use Rattle.room_entry.specs.Pieces.{same_text}
-use Rattle.room_entry.proofs.{Alike.text_itself, Texts.same_text-true}
+use Rattle.std.proofs.Common.{rules, ◌≡◌, ℕ, ◌<◌, true, false, List, [], ◌∷◌, ◌++◌, length, refl}
+use Rattle.std.proofs.{Common.{sym, ap, ◌∙◌, arith, length-append}, lemmas.Bool.and_parts}
+use Rattle.std.proofs.lemmas.Bool.{false≢true, false_from_ne_true, Decides.nat_tests}
+use Rattle.std.{proofs.lemmas.{Grind.flat_map-append, List.append_cancel_left}, specs.List.flat_map}
+use Rattle.std.specs.List.{list_all}
+use Rattle.room_entry.{specs.Pieces.same_text, proofs.{Alike.text_itself, Texts.same_text-true}}
 use Rattle.room_rows.specs.Paths.{is_name_byte, is_object_name, path_text}
 
 -- ---- object names
@@ -30,9 +29,7 @@ goes_on (next ∷ at) name more = flat_map-append (λ n. 47 ∷ n) (next ∷ at)
 -- its text is longer
 longer : (at : List (List ℕ)) (name : List ℕ) (more : List (List ℕ)) → 0 < length name
     → length (path_text (at ++ name ∷ more)) ≡ length (path_text at) → ⊥
-longer [] name more some same =
-    let added = length-append name (slashed more) in
-    omega (arith, some, same, added)
+longer [] name more some same = search (rules, length-append, some, same)
 longer (next ∷ at) name more some same =
     let added = ap length (goes_on (next ∷ at) name more)
     ∙ length-append (slashed (next ∷ at)) (slashed (name ∷ more)) in
@@ -58,21 +55,11 @@ same_names : (name other : List ℕ) (more rest : List (List ℕ))
 same_names [] [] more rest first second same = refl
 same_names [] (y ∷ ys) [] rest first second same = absurd (let wrong : ⊥ = cc in wrong)
 same_names [] (y ∷ ys) (next ∷ more) rest first second same =
-    absurd
-    (no_slash y (and_parts (is_name_byte y) (list_all is_name_byte ys) second).0
-    (let e : y ≡ 47 = cc in e))
+    search (rules, no_slash, and_parts, second)
 same_names (x ∷ xs) [] more [] first second same = absurd (let wrong : ⊥ = cc in wrong)
-same_names (x ∷ xs) [] more (next ∷ rest) first second same =
-    absurd
-    (no_slash x (and_parts (is_name_byte x) (list_all is_name_byte xs) first).0
-    (let e : x ≡ 47 = cc in e))
+same_names (x ∷ xs) [] more (next ∷ rest) first second same = search (rules, no_slash, and_parts)
 same_names (x ∷ xs) (y ∷ ys) more rest first second same =
-    let here : x ≡ y = cc in
-    let there = same_names xs ys more rest
-    (and_parts (is_name_byte x) (list_all is_name_byte xs) first).1
-    (and_parts (is_name_byte y) (list_all is_name_byte ys) second).1
-    (let tails : xs ++ slashed more ≡ ys ++ slashed rest = cc in tails) in
-    λ i. here i ∷ there i
+    search (rules, and_parts, second, same_names xs ys more rest)
 
 -- paths that go on by different names have different texts
 pub goes_apart : (at : List (List ℕ)) (name other : List ℕ) (more rest : List (List ℕ))

@@ -1,14 +1,13 @@
 -- The names that are gathered from a walk.
 use Rattle.std.proofs.Common.{◌≡◌, List, [], ◌∷◌, ℕ, length, refl, sym, ap, subst, ◌∙◌}
-use Rattle.std.proofs.lemmas.List.{append-nil}
-use Rattle.std.specs.List.{flat_map}
+use Rattle.std.{proofs.lemmas.List.append-nil, specs.List.flat_map}
 use Rattle.room_rows.specs.{declared.node.Node.Node, Rows.{AreRows, Rows, numbers_of}}
 use Rattle.room_dump.specs.{declared.visiting.{Below.Below, Visit.Visit}, Visits.{GoesOn, IsFrom}}
 use Rattle.room_dump.specs.Visits.{Way, coming, first_visit, visit_on, way_below}
 use Rattle.room_dump.proofs.Walks.{goes_from, told_by}
 use Rattle.room_review.specs.{Telling.{GathersComing, StartsAt}, Users.{Gathers, users_at}}
-use Rattle.room_review.specs.Table.{users_below}
-use Rattle.room_review.proofs.{Starting.starts_reached, Gathers.gathers_on}
+use Rattle.room_review.{specs.Table.users_below, proofs.Starting.starts_reached}
+use Rattle.room_review.proofs.Gathers.{gathers_on}
 
 abbrev users_of : Visit → List (List ℕ)
 users_of visit = users_at visit.node

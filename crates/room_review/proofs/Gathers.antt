@@ -1,7 +1,6 @@
 -- Names that are gathered.
 use Rattle.std.proofs.Common.{◌≡◌, ℕ, ◌||◌, Bool, true, false, List, [], ◌∷◌, ◌++◌, refl, take}
-use Rattle.std.proofs.{Common.arith, lemmas.Bool.Decides.nat_tests}
-use Rattle.std.specs.List.{flat_map}
+use Rattle.std.{proofs.{Common.arith, lemmas.Bool.Decides.nat_tests}, specs.List.flat_map}
 use Rattle.room_review.specs.Users.{Gathers, is_listed}
 
 or_assoc : (a b c : Bool) → (a || b) || c ≡ a || (b || c)

@@ -1,11 +1,11 @@
 -- What is kept of an object, by what is kept of the folder that it stands in.
-use Rattle.std.proofs.Common.{ℕ, suc, ◌-◌, ◌≡◌, Bool, true, false, cond, not, ◌&&◌, ◌||◌, List, []}
-use Rattle.std.proofs.Common.{◌∷◌, ◌++◌, length, take, filter, Option, Some, None, refl, sym, ap}
-use Rattle.std.proofs.{Common.{◌∙◌, arith, map, get_or, min, ◌+◌, ◌<◌}, Math.Bool.and-true}
+use Rattle.std.proofs.Common.{rules, ℕ, suc, ◌-◌, ◌≡◌, Bool, true, false, cond, not, ◌&&◌, ◌||◌}
+use Rattle.std.proofs.Common.{List, [], ◌∷◌, ◌++◌, length, take, filter, Option, Some, None, refl}
+use Rattle.std.proofs.{Common.{sym, ap, ◌∙◌, arith, map, get_or, min, ◌+◌, ◌<◌}, Math.Bool.and-true}
 use Rattle.std.proofs.{Math.Bool.or-false, lemmas.List.{get_or-map, length-map, map-append}}
 use Rattle.std.proofs.lemmas.List.{take_all, take_more, Folds.list_all-append}
-use Rattle.std.proofs.lemmas.Bool.Decides.{nat_tests}
-use Rattle.std.specs.{Prelude.is_none, Option.{option_map, option_map_or}}
+use Rattle.std.{proofs.lemmas.Bool.Decides.nat_tests, specs.{Prelude.is_none, Option.option_map}}
+use Rattle.std.specs.Option.{option_map_or}
 use Rattle.room_entry.specs.{BitLaws.has-chosen, Bits.{all_bits, has, shares}, Rights.delete}
 use Rattle.room_entry.specs.Rights.{delete_child, execute, write_data}
 use Rattle.room_entry.specs.declared.{object.Which.TheVariants.Dacl, parties.Caller.Caller}
@@ -13,14 +13,13 @@ use Rattle.room_eval.specs.Deletion.{by_adding, deletion_by}
 use Rattle.room_eval.specs.declared.{deletion.DeleteVerdict.DeleteVerdict, outcome.Ruling.Ruling}
 use Rattle.room_eval.specs.declared.outcome.Ruling.TheVariants.{Allowed, Denied, Silent}
 use Rattle.room_eval.specs.{declared.outcome.Verdict.Verdict, Verdict.{is_allowed, ruling_of}}
-use Rattle.room_eval.specs.Verdict.{verdict_by}
+use Rattle.room_eval.{specs.Verdict.verdict_by, proofs.Steps.verdict_agree}
 use Rattle.room_rows.specs.{declared.node.Node.Node, Content.is_folder, Held.full_of}
 use Rattle.room_machine.specs.{Judge.{of_deletion, passes}, Plan.Deletion, Site.{Site, full_at}}
-use Rattle.room_machine.specs.{Stored.stored_site, Rights.{grants, last_of, lets_through}}
-use Rattle.room_machine.specs.Rights.{may_remove, reaches, rights}
+use Rattle.room_machine.specs.{Stored.stored_site, Rights.{grants, last_of, may_remove, reaches}}
+use Rattle.room_machine.specs.Rights.{rights}
 use Rattle.room_review.specs.Standing.{before_last, is_denied, keeps_children, repeats, same_grant}
 use Rattle.room_review.specs.{Standing.standing, declared.standing.Standing.Standing}
-use Rattle.room_eval.proofs.Steps.{verdict_agree}
 
 -- ---- the last object on a way
 
@@ -30,8 +29,7 @@ split_last [] folder last = absurd (let wrong : ⊥ = cc in wrong)
 split_last (site ∷ []) folder last = let same : site ≡ folder = cc in ap (λ s. s ∷ []) same
 split_last (site ∷ next ∷ more) folder last =
     let count : length (site ∷ next ∷ more) - 1 ≡ suc (length (next ∷ more) - 1) = omega arith in
-    ap (λ l. site ∷ l) (split_last (next ∷ more) folder last)
-    ∙ ap (λ n. take n (site ∷ next ∷ more) ++ folder ∷ []) (sym count)
+    search (rules, count, split_last (next ∷ more) folder last)
 
 pub none_last : (above : List Site) → last_of above ≡ None → above ≡ []
 none_last [] none = refl
@@ -152,17 +150,11 @@ module _ (caller : Caller) (path : List (List ℕ)) (node : Node) (above : List 
     rights_open = sym (ap (λ t. cond t allowed []) free)
 
     opens_open : (is_folder node && has allowed execute) ≡ reaches caller (above ++ target ∷ [])
-    opens_open =
-        sym (list_all-append (lets_through caller) above (target ∷ [])
-        ∙ ap (λ t. t && (lets_through caller target && true)) free
-        ∙ and-true (lets_through caller target)
-        ∙ ap (λ t. is_folder node && t) (sym (has_allowed execute known_execute)))
+    opens_open = search (rules, list_all-append, and-true, has_allowed, known_execute)
 
     keeps_open : shares (delete_child ∷ []) denied
         ≡ (reaches caller above && keeps_children caller target)
-    keeps_open =
-        or-false (has denied delete_child) ∙ has_denied delete_child known_delete_child
-        ∙ sym (ap (λ t. t && keeps_children caller target) free)
+    keeps_open = search (rules, or-false, has_denied, known_delete_child)
 
   -- the root
   pub root_standing : (granted : List ℕ) (opens keeps : Bool) (refused : List ℕ) → above ≡ []

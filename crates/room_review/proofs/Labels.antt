@@ -1,6 +1,6 @@
 -- The callers of a table by their labels: a user's name, `*` and `ANONYMOUS@` are apart.
-use Rattle.std.proofs.Common.{◌≡◌, ℕ, ◌||◌, Bool, true, false, List, [], ◌∷◌, map, refl, sym, ap}
-use Rattle.std.proofs.{Common.{◌∙◌, codes, arith}, lemmas.Bool.{and_parts, false_from_ne_true}}
+use Rattle.std.proofs.Common.{rules, ◌≡◌, ℕ, ◌||◌, Bool, true, false, List, [], ◌∷◌, map, refl, sym}
+use Rattle.std.proofs.{Common.{ap, ◌∙◌, codes, arith}, lemmas.Bool.{and_parts, false_from_ne_true}}
 use Rattle.std.proofs.lemmas.Bool.{false≢true, or_from, or_left, or_right, Decides.nat_tests}
 use Rattle.std.proofs.lemmas.List.Folds.{list_any-append}
 use Rattle.std.specs.List.{list_all, list_any, AllByRecursion as Each}
@@ -21,8 +21,7 @@ no_names = (refl, refl)
 other_than : (label name : List ℕ) → is_name label ≡ false → is_name name ≡ true
     → same_text label name ≡ false
 other_than label name isnt is =
-    false_from_ne_true _ (λ same.
-    false≢true (sym isnt ∙ ap is_name (same_text-true label name same) ∙ is))
+    search (rules, false_from_ne_true, false≢true, isnt, same_text-true, is)
 
 -- what is no name is none of these users
 not_called : (label : List ℕ) (party : Party) (name : List ℕ) (other : Party)
@@ -66,11 +65,7 @@ module _ (content : Content) (users : List (List ℕ)) (stranger : List ℕ)
   user_party name is listed = record {
     one = each_append (λ (other : Party). same_text other.label name ≡ true
         → other ≡ named content name) (map (named content) users) (star ∷ nobody ∷ [])
-        (each_map (λ (other : Party). same_text other.label name ≡ true
-        → other ≡ named content name) (named content) users
-        (each_always (λ (user : List ℕ). same_text user name ≡ true
-        → named content user ≡ named content name)
-        (λ user same. ap (named content) (same_text-true user name same)) users)) (
+        (search (rules, each_map, each_always, same_text-true)) (
           (λ same. absurd
               (false≢true (sym (other_than (codes "*") name no_names.0 is) ∙ same))),
           (

@@ -1,7 +1,7 @@
 -- Names in order, and a name that is none of them.
-use Rattle.std.proofs.Common.{ℕ, zero, suc, ◌<◌, ◌≤◌, ◌^◌, ◌≡◌, Bool, true, false, cond, not, ◌&&◌}
-use Rattle.std.proofs.Common.{◌||◌, List, [], ◌∷◌, length, take, drop, get_or, refl, sym, ap, subst}
-use Rattle.std.proofs.Common.{◌∙◌, arith, nat_cmp, is_lt, drop-cons, ◌+◌, ◌%◌, ⊎_elim, Result, Ok}
+use Rattle.std.proofs.Common.{rules, ℕ, zero, suc, ◌<◌, ◌≤◌, ◌^◌, ◌≡◌, Bool, true, false, cond, not}
+use Rattle.std.proofs.Common.{◌&&◌, ◌||◌, List, [], ◌∷◌, length, take, drop, get_or, refl, sym, ap}
+use Rattle.std.proofs.Common.{subst, ◌∙◌, arith, nat_cmp, is_lt, drop-cons, ◌+◌, ⊎_elim, Result, Ok}
 use Rattle.std.proofs.{Common.Err, lemmas.Bool.{agree_below_at, and_from, and_parts, cases_lt}}
 use Rattle.std.proofs.lemmas.Bool.{false_from_ne_true, le-leb, lt-ltb, not-true, Decides.nat_tests}
 use Rattle.std.proofs.lemmas.Fmt.{decimal_by_steps, decimal_injective, decimal_nonempty}
@@ -16,10 +16,9 @@ use Rattle.room_entry.specs.{Bytes.at_sign, Gives.Gives, Names.{are_name_parts, 
 use Rattle.room_entry.specs.{Names.{is_name, name_of}, declared.failure.Failure.Failure}
 use Rattle.room_entry.specs.declared.failure.Failure.TheVariants.{Fault}
 use Rattle.room_entry.specs.{declared.fault.TextFault.TheVariants.BadWho, Pieces.same_text}
-use Rattle.room_rows.specs.Content.{is_before}
-use Rattle.room_review.specs.Users.{Gathers, are_apart, is_listed}
-use Rattle.room_review.proofs.Gathers.{GathersFirst}
 use Rattle.room_entry.proofs.{Cuts.pieces_whole, Texts.{all-append, same_text-true}}
+use Rattle.room_rows.specs.Content.{is_before}
+use Rattle.room_review.{specs.Users.{Gathers, are_apart, is_listed}, proofs.Gathers.GathersFirst}
 
 -- ---- names that are gathered
 
@@ -128,9 +127,7 @@ module _ (names : List (List ℕ)) (name : List ℕ) where
   pub place_last : (i : ℕ) → length names ≤ i → are_apart names ≡ true → AreBefore i
       → are_apart (insert names (length names) name) ≡ true
   place_last i past order sofar =
-      put_apart names (length names) name order
-      (ap (λ (all : List (List ℕ)). list_all (λ text. is_before text name) all)
-      (take_all (length names) names (omega arith) ∙ sym (take_all i names past)) ∙ sofar)
+      put_apart names (length names) name order (search (rules, take_all, past, sofar))
       (ap (λ (rest : List (List ℕ)). are_apart (name ∷ rest)) (none_left names))
     where
       none_left : (texts : List (List ℕ)) → drop (length texts) texts ≡ []
@@ -157,13 +154,7 @@ numbers_within (suc n) names fits all =
     let rest =
     numbers_within n (remove_key gone names) (omega arith) (λ k below.
     others_stay gone (λ text. same_text text (decimal k)) names
-    (λ text is. false_from_ne_true _ (λ too. omega (
-      arith,
-      below,
-      decimal_injective k n
-          (omega arith) (omega arith)
-          (sym (same_text-true text (decimal k) too) ∙ same_text-true text (decimal n) is),
-    )))
+    (λ text is. false_from_ne_true _ (search (rules, decimal_injective, same_text-true)))
     ∙ all k (omega arith)) in
     omega arith
 
@@ -179,9 +170,7 @@ stranger_last names fits all =
     by : (k : ℕ) → k < suc (length names) → is_listed (decimal (length names)) names ≡ true
         → is_listed (decimal k) names ≡ true
     by k below last =
-        ⊎_elim (λ less. all k less)
-        (λ past. ap (λ n. is_listed (decimal n) names)
-        (let same : k ≡ length names = omega arith in same) ∙ last)
+        ⊎_elim (λ less. all k less) (search rules)
         (cases_lt k (length names))
 
 -- ---- numbers as names
@@ -194,8 +183,7 @@ all_digits : (n : ℕ) → n < 2 ^ 64 → list_all is_plain (decimal n) ≡ true
 all_digits n fits =
     decimal_by_steps (λ n ds. list_all is_plain ds ≡ true)
     (λ n below. and_from (is_plain (48 + n)) true (one n below) refl)
-    (λ n ds more first. all-append is_plain ds ((48 + n % 10) ∷ []) first
-    (and_from (is_plain (48 + n % 10)) true (one (n % 10) (omega arith)) refl)) n fits
+    (search (rules, all-append, and_from)) n fits
   where
     one : (n : ℕ) → n < 10 → is_plain (48 + n) ≡ true
     one n below = agree_below_at (λ n. is_plain (48 + n)) (λ n. true) 10 n refl below

@@ -1,6 +1,6 @@
 -- What rows of several lists say, and the rows of one object.
-use Rattle.std.proofs.Common.{◌≡◌, ℕ, ◌&&◌, ◌||◌, Bool, true, false, cond, not, List, [], ◌∷◌, ◌++◌}
-use Rattle.std.proofs.Common.{filter, map, Option, Some, None, refl, sym, ap, subst, ◌∙◌}
+use Rattle.std.proofs.Common.{rules, ◌≡◌, ℕ, ◌&&◌, ◌||◌, Bool, true, false, cond, not, List, []}
+use Rattle.std.proofs.Common.{◌∷◌, ◌++◌, filter, map, Option, Some, None, refl, ap, subst, ◌∙◌}
 use Rattle.std.proofs.{Common.{append_assoc, arith}, lemmas.List.append-nil}
 use Rattle.std.proofs.lemmas.{List.Folds.list_any-append, Bool.Decides.nat_tests}
 use Rattle.std.specs.{List.{flat_map, list_any, AllByRecursion as Each}, Option.option_or}
@@ -84,9 +84,7 @@ module _ (user : List ℕ) where
   same_nearest one other first (name ∷ names) same =
       let here = same_first one other first same in
       let more = same_nearest one other (first ++ name ∷ []) names
-      (λ rest. subst (λ (p : List (List ℕ)). said_in one (path_text p) user
-      ≡ said_in other (path_text p) user) (sym (append_assoc first (name ∷ []) rest))
-      (same (name ∷ rest))) in
+      (search (rules, append_assoc, same)) in
       λ i. option_or (more i) (here i)
 
   -- what is found from a path on is found from further up
@@ -98,8 +96,7 @@ module _ (user : List ℕ) where
   found_from table (name ∷ path) first more value is =
       ap (λ o. option_or o (said_in table (path_text first) user))
       (found_from table path (first ++ name ∷ []) more value
-      (subst (λ (p : List (List ℕ)). nearest table user p more ≡ Some value)
-      (sym (append_assoc first (name ∷ []) path)) is))
+      (search (rules, value, append_assoc, is)))
 
 -- ---- the rows of one object
 

@@ -1,16 +1,14 @@
 -- In sound rows a child is found by its name, which is an object name.
 use Rattle.std.proofs.Common.{◌≡◌, ℕ, ◌==◌, ◌&&◌, ◌||◌, Bool, true, false, cond, not, List, [], ◌∷◌}
 use Rattle.std.proofs.Common.{◌<◌, filter, Some, None, nat_lt, refl, sym, ap, ◌∙◌, arith}
-use Rattle.std.proofs.lemmas.Bool.{and_parts, lt-ltb, Decides.nat_tests}
-use Rattle.std.specs.{Prelude.is_none, List.{find, list_any, AllByRecursion as Each}}
-use Rattle.room_entry.specs.Pieces.{same_text}
-use Rattle.room_entry.proofs.{Alike.text_itself, Texts.same_text-sym, Facts.Members.each_filter}
-use Rattle.room_entry.proofs.Facts.Members.{each_weaker}
+use Rattle.std.{proofs.lemmas.Bool.{and_parts, lt-ltb, Decides.nat_tests}, specs.Prelude.is_none}
+use Rattle.std.specs.List.{find, list_any, AllByRecursion as Each}
+use Rattle.room_entry.{specs.Pieces.same_text, proofs.{Alike.text_itself, Texts.same_text-sym}}
+use Rattle.room_entry.proofs.Facts.Members.{each_filter, each_weaker}
 use Rattle.room_rows.specs.{declared.node.Node.Node, Content.{Content, child_of, has_parent}}
 use Rattle.room_rows.specs.{Content.same_parent, Paths.is_object_name, Rows.{AreRows, Rows}}
 use Rattle.room_rows.specs.Sound.{has_sound_name, same_place}
-use Rattle.room_dump.proofs.{Counting.each_found, Reached.all_there}
-use Rattle.room_dump.specs.Visits.{IsThere}
+use Rattle.room_dump.{proofs.{Counting.each_found, Reached.all_there}, specs.Visits.IsThere}
 use Rattle.room_sound.proofs.SoundParts.{SoundParts, passes_test}
 use Rattle.room_review.proofs.Visited.{IsNamed}
 

@@ -1,11 +1,10 @@
 -- A name that has no rows in a table is a stranger to each of its objects.
-use Rattle.std.proofs.Common.{ℕ, zero, suc, ◌≡◌, ◌<◌, ◌&&◌, Bool, true, false, List, [], ◌∷◌, ◌++◌}
-use Rattle.std.proofs.Common.{filter, length, take, Option, Some, None, refl, sym, ap, subst, ◌∙◌}
+use Rattle.std.proofs.Common.{rules, ℕ, zero, suc, ◌≡◌, ◌<◌, ◌&&◌, Bool, true, false, List, [], ◌∷◌}
+use Rattle.std.proofs.Common.{◌++◌, length, take, Option, Some, None, refl, sym, ap, subst, ◌∙◌}
 use Rattle.std.proofs.{Common.{arith, map, append_assoc}, lemmas.Bool.{and_from, and_parts}}
 use Rattle.std.proofs.lemmas.{Bool.{or_from, or_parts, Decides.nat_tests}, List.append-nil}
-use Rattle.std.proofs.lemmas.List.Folds.{list_any-append}
-use Rattle.std.specs.List.{flat_map, list_all, list_any, AllByRecursion as Each}
-use Rattle.std.specs.Option.{option_map, option_map_or}
+use Rattle.std.{proofs.lemmas.List.Folds.list_any-append, specs.List.{flat_map, list_all, list_any}}
+use Rattle.std.specs.{List.AllByRecursion as Each, Option.{option_map, option_map_or}}
 use Rattle.room_entry.specs.{Ace.Ace, Pieces.same_text, declared.entry.Who.{Who, TheVariants.Owner}}
 use Rattle.room_entry.specs.declared.entry.Who.TheVariants.{Group, Everyone, Anonymous}
 use Rattle.room_entry.specs.declared.entry.Who.TheVariants.{Authenticated, User, Members}
@@ -14,14 +13,11 @@ use Rattle.room_entry.proofs.Texts.{same_text-sym}
 use Rattle.room_rows.specs.{HeldList.Held, declared.node.Node.Node, Content.{Content, child_of}}
 use Rattle.room_rows.specs.{Content.{children_of, has_parent}, Held.full_of, Meaning.kept_held}
 use Rattle.room_rows.specs.{Meaning.{kept_node, meaning}, Rows.Rows, Walk.{behind, walk_from}}
-use Rattle.room_rows.specs.Walk.{walk_of}
-use Rattle.room_rows.proofs.InPlace.{KeepsPlaces, child_of-with_each, keeps_places}
-use Rattle.room_rows.proofs.{InPlace.root_of-with_each, Lookups.found_passes}
+use Rattle.room_rows.{specs.Walk.walk_of, proofs.InPlace.{KeepsPlaces, child_of-with_each}}
+use Rattle.room_rows.proofs.{InPlace.{keeps_places, root_of-with_each}, Lookups.found_passes}
 use Rattle.room_inherit.proofs.Children.{any_sorted}
-use Rattle.room_dump.specs.Dump.{tree_of}
-use Rattle.room_dump.proofs.Counting.{each_always, each_found}
+use Rattle.room_dump.{specs.Dump.tree_of, proofs.Counting.{each_always, each_found}}
 use Rattle.room_machine.specs.{Site.{Site, site_at}, Stored.{stored_along, stored_from}}
-use Rattle.room_machine.specs.Stored.{stored_site}
 use Rattle.room_review.specs.Laws.{OthersAreStrangers, is_known_to, is_paired, is_user_named}
 use Rattle.room_review.specs.{Laws.{stored_above, users_on}, Table.{Place, place_below}}
 use Rattle.room_review.specs.{Table.users_below, Users.{is_listed, user_in, users_at}}
@@ -137,24 +133,15 @@ module _ (name : List ℕ) where
     child_new depth id new next child found =
         let listed = λ (n : Node). is_listed name (users_deep depth n) in
         let all = each_fails (λ (n : Node). has_parent id n && listed n) content.nodes
-        (sym (any_filter listed (has_parent id) content.nodes)
-        ∙ sym (any_sorted listed (filter (has_parent id) content.nodes))
-        ∙ sym (listed_flat (λ child. users_deep depth child) (children_of content id)) ∙ new) in
-        let is_child = λ (n : Node). has_parent id n && same_text n.name next in
-        let under = and_parts (has_parent id child) (same_text child.name next)
-        (found_passes is_child content.nodes child found) in
-        ap (λ t. t && listed child) (sym under.0)
-        ∙ each_found (λ (n : Node). (has_parent id n && listed n) ≡ false) is_child content.nodes
-        child all found
+        (search (rules, any_filter, listed, any_sorted, listed_flat, new)) in
+        search (rules, and_parts, child, child.name, found_passes, found, listed, each_found)
 
     -- from an object, along fewer names than the number says
     free_below : (depth : ℕ) (node : Node) → IsNew (users_deep depth node) → (path : List (List ℕ))
         → length path < depth → IsFree node path
     free_below zero node new path short = absurd (let wrong : ⊥ = omega (arith, short) in wrong)
     free_below (suc depth) node new [] short =
-        let parts = new_parts (users_at node)
-        (flat_map (λ child. users_deep depth child) (children_of content node.id)) new in
-        and_from (is_free name (kept node)) true (kept_free content node parts.0) refl
+        search (rules, new_parts, node, node.id, new, and_from, is_free, kept_free)
     free_below (suc depth) node new (next ∷ path) short =
         let parts = new_parts (users_at node)
         (flat_map (λ child. users_deep depth child) (children_of content node.id)) new in
@@ -174,9 +161,7 @@ module _ (name : List ℕ) where
           → site_at (stored_from content at node path) path ≡ Some target
           → AreNew (take (length path) (stored_from content at node path))
           → IsFree node (path ++ more)
-      free_from [] at node found new =
-          subst (λ (s : Site). IsFree s.node more)
-          (sym (some_same (stored_site at node) target found)) free
+      free_from [] at node found new = search (rules, some_same, node, found)
       free_from (next ∷ path) at node found new =
           free_step node next (path ++ more) new.0 (λ child is.
           free_from path (at ++ next ∷ []) child
@@ -212,10 +197,7 @@ all_go_on content (suc depth) place node = (
       (GoesOn (suc depth) place.path)
       (λ it on. (
         child.name ∷ on.0,
-        (
-          on.1.0 ∙ append_assoc place.path (child.name ∷ []) on.0,
-          one_more (length on.0) depth on.1.1,
-        ),
+        search (rules, append_assoc, place.path),
       )) (below child) (all_go_on content depth (place_below place node child) child))
       (children_of content node.id)),
 )
@@ -248,9 +230,7 @@ is_other rows path target name new =
     new_parts name (map second rows.read.members) (above ++ users_below rows target.node) new in
     let others = new_parts name above (users_below rows target.node) parts.1 in
     record {
-      unpaired =
-          sym (any_map (λ (other : List ℕ). same_text other name) second rows.read.members)
-          ∙ parts.0;
+      unpaired = search (rules, any_map, second, rows.read.members, parts.0);
       above = new_each name (λ (site : Site). users_at site.node) (stored_above rows path) others.0;
       below = others.1;
     }

@@ -1,18 +1,17 @@
 -- The rows of an object, by what is kept of it for each caller.
-use Rattle.std.proofs.Common.{ℕ, suc, ◌≡◌, ◌||◌, ◌∷◌, ◌++◌, ◌+◌, ◌<◌, Bool, true, false, cond, List}
-use Rattle.std.proofs.Common.{[], not, filter, map, length, get_or, drop, min, refl, ap, ◌∙◌, sym}
+use Rattle.std.proofs.Common.{rules, ℕ, suc, ◌≡◌, ◌||◌, ◌∷◌, ◌++◌, ◌+◌, ◌<◌, Bool, true, false}
+use Rattle.std.proofs.Common.{List, [], not, filter, map, length, get_or, drop, min, refl, ap, ◌∙◌}
 use Rattle.std.proofs.Common.{add-one, append_assoc, arith, drop-cons, OnOk, Result, Ok, Err}
 use Rattle.std.proofs.lemmas.{List.{append-nil, drop_all}, Slice.Zip.{get_or-zip, length-zip}}
-use Rattle.std.proofs.lemmas.Bool.Decides.{nat_tests}
+use Rattle.std.{proofs.lemmas.Bool.Decides.nat_tests, specs.{Prelude.if◌then◌else◌, List.zip}}
+use Rattle.std.specs.Result.{is_ok}
 use Rattle.csv.specs.Writing.{default_writer, row_text}
 use Rattle.room_import.specs.Exports.{rows_text}
-use Rattle.std.specs.{Prelude.if◌then◌else◌, List.zip, Result.is_ok}
-use Rattle.room_entry.specs.declared.object.ObjKind.{ObjKind}
+use Rattle.room_entry.{specs.declared.object.ObjKind.ObjKind, proofs.Facts.Members.filter_map}
 use Rattle.room_rows.specs.Paths.{path_text}
 use Rattle.room_machine.specs.Site.{Site}
 use Rattle.room_review.specs.declared.{parties.Party.Party, standing.Standing.Standing}
 use Rattle.room_review.specs.{Lines.{line, lines}, Standing.{standing, standings}, Table.rows_at}
-use Rattle.room_entry.proofs.Facts.Members.{filter_map}
 use Rattle.room_inherit.proofs.Renewing.{map_map}
 
 zip_map : {A B : Type 0} (f : A → B) (xs : List A) → zip xs (map f xs) ≡ map (λ x. (x, f x)) xs
@@ -49,25 +48,14 @@ module _ (path : List ℕ) (kind : ObjKind) (all : Bool) (parties : List Party)
       rw add-one
       (drop-cons (zip parties here) i pair (let many = length-zip parties here in omega arith)
       ∙ ap (λ (z : Party × Standing). z ∷ drop (suc i) (zip parties here))
-      (get_or-zip parties here i pair first second
-      ∙ λ j. (sym (at party) j, sym (beside standing) j)))
+      (search (rules, get_or-zip, pair)))
 
   -- a row that stands
   pub line_shown : (before after total : List ℕ) → (all || not standing.repeats) ≡ true
       → after ≡ before ++ row_text default_writer (line path kind (party, standing))
       → before ++ left i ≡ total → after ++ left (i + 1) ≡ total
   line_shown before after total shown grows sofar =
-      ap (λ (text : List ℕ). text ++ left (i + 1)) grows
-      ∙ append_assoc before (row_text default_writer (line path kind (party, standing)))
-      (left (i + 1))
-      ∙ ap (λ (text : List ℕ). before ++ text)
-      (sym (ap (λ (l : List (Party × Standing)). rows_text (lines path kind all l)) turn
-      ∙ ap (λ t. rows_text (map (line path kind) (cond t
-      ((party, standing) ∷ filter (λ (z : Party × Standing). all || not z.1.repeats)
-      (drop (i + 1) (zip parties here)))
-      (filter (λ (z : Party × Standing). all || not z.1.repeats)
-      (drop (i + 1) (zip parties here)))))) shown))
-      ∙ sofar
+      search (rules, grows, append_assoc, turn, shown, sofar)
 
   -- one that is left out
   pub line_hidden : (before total : List ℕ) → (all || not standing.repeats) ≡ false

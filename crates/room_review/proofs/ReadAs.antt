@@ -1,10 +1,9 @@
 -- The text of a table is read as its rows.
-use Rattle.std.proofs.Common.{◌≡◌, ℕ, zero, suc, ◌+◌, ◌<◌, ◌≤◌, List, [], ◌∷◌, length, refl, arith}
-use Rattle.std.proofs.lemmas.{List.length-append, Bool.Decides.nat_tests}
+use Rattle.std.proofs.Common.{rules, ◌≡◌, ℕ, zero, suc, ◌+◌, ◌<◌, ◌≤◌, List, [], ◌∷◌, length, refl}
+use Rattle.std.proofs.{Common.arith, lemmas.{List.length-append, Bool.Decides.nat_tests}}
 use Rattle.std.specs.List.{AllByRecursion as Each}
 use Rattle.csv.specs.{Machine.next_record, Reading.{default_config, records, records_from}}
-use Rattle.csv.specs.Writing.{read_back}
-use Rattle.csv.proofs.RoundTrip.{read-write}
+use Rattle.csv.{specs.Writing.read_back, proofs.RoundTrip.read-write}
 use Rattle.room_import.specs.Exports.{rows_text}
 use Rattle.room_entry.proofs.Facts.Members.{each_weaker}
 use Rattle.room_rows.specs.Content.{Content}
@@ -32,9 +31,7 @@ all_read (suc n) (row ∷ rows) most all =
 
 pub read_as_rows : (rows : List (List (List ℕ))) → Each HasColumn rows
     → records default_config (rows_text rows) ≡ rows
-read_as_rows rows all =
-    all_read (length (rows_text rows) + 1) rows
-    (let fewer = fewer_rows rows in omega (arith, fewer)) all
+read_as_rows rows all = search (rules, all_read, fewer_rows)
 
 -- the rows of a table have columns
 pub all_columns : (room : Content) (question : Scope) (whole table : List (List (List ℕ)))

@@ -1,6 +1,6 @@
 -- What a list says of all rights, entry by entry.
-use Rattle.std.proofs.Common.{ℕ, ◌+◌, ◌<◌, ◌≤◌, ◌≡◌, ◌∷◌, Bool, true, false, cond, not, ◌&&◌, ◌||◌}
-use Rattle.std.proofs.Common.{List, [], length, drop, get_or, refl, sym, ap, ◌∙◌, arith}
+use Rattle.std.proofs.Common.{rules, ℕ, ◌+◌, ◌<◌, ◌≤◌, ◌≡◌, ◌∷◌, Bool, true, false, cond, not, ◌&&◌}
+use Rattle.std.proofs.Common.{◌||◌, List, [], length, drop, get_or, refl, sym, ap, ◌∙◌, arith}
 use Rattle.std.proofs.lemmas.{Bool.{not-true, Decides.nat_tests}, List.drop_all}
 use Rattle.std.specs.Prelude.{filter}
 use Rattle.room_entry.specs.{Ace.Ace, BitLaws.chosen_agree, Bits.{all_bits, has, shares}}
@@ -79,9 +79,7 @@ module _ (test : Ruling → Bool) where
         → found ≡ filter passes all_bits
     found_all found unruled i silent past so known =
         sym known
-        ∙ chosen_agree (has found) passes (λ bit it. sym (so bit it
-        ∙ none_left (has found bit) (has unruled bit) (test (says (i + 1) (drop i entries) bit))
-        (ap (λ rest. test (says (i + 1) rest bit)) (drop_all i entries past) ∙ silent)))
+        ∙ chosen_agree (has found) passes (search (rules, so, none_left, drop_all, past, silent))
 
     module _ (i : ℕ) (entry : Ace) (below : i < length entries)
         (is : entry ≡ get_or entries i entry) (found unruled : List ℕ)

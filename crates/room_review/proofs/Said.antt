@@ -2,9 +2,8 @@
 use Rattle.std.proofs.{Common.arith, lemmas.Bool.Decides.nat_tests}
 use Rattle.room_entry.proofs.Facts.Members.{each_weaker}
 use Rattle.room_sound.proofs.SoundParts.{sound_parts}
-use Rattle.room_review.specs.Laws.{TableSaysRights}
-use Rattle.room_review.proofs.{Computed.stored_grants, Named.all_named, Visited.each_stands}
-use Rattle.room_review.proofs.Visited.{ends_along}
+use Rattle.room_review.{specs.Laws.TableSaysRights, proofs.Computed.stored_grants}
+use Rattle.room_review.proofs.{Named.all_named, Visited.{each_stands, ends_along}}
 
 pub table_says_rights : TableSaysRights
 table_says_rights rows are sound user path target found =

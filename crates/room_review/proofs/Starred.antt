@@ -1,16 +1,14 @@
 -- What a table says of a name that has no rows in it is what it says of `*`.
-use Rattle.std.proofs.Common.{ℕ, zero, suc, ◌≡◌, ◌&&◌, true, false, not, List, [], ◌∷◌, ◌++◌}
+use Rattle.std.proofs.Common.{rules, ℕ, zero, suc, ◌≡◌, ◌&&◌, true, false, not, List, [], ◌∷◌, ◌++◌}
 use Rattle.std.proofs.Common.{filter, length, map, take, Option, Some, None, refl, sym, ap, subst}
 use Rattle.std.proofs.{Common.{◌∙◌, arith, length-append}, lemmas.Bool.and_from}
 use Rattle.std.proofs.lemmas.{Bool.Decides.nat_tests, List.{take_all, Folds.list_all-append}}
 use Rattle.std.specs.{Prelude.if◌then◌else◌, List.{flat_map, list_all, AllByRecursion as Each}}
 use Rattle.std.specs.Option.{option_map_or}
-use Rattle.room_entry.specs.Bits.{all_bits}
-use Rattle.room_entry.proofs.Facts.Members.{all_each, any_map, each_weaker}
+use Rattle.room_entry.{specs.Bits.all_bits, proofs.Facts.Members.{all_each, any_map, each_weaker}}
 use Rattle.room_rows.specs.{declared.node.Node.Node, Content.{Content, child_of, children_of}}
 use Rattle.room_rows.specs.Rows.{Rows}
-use Rattle.room_dump.specs.Dump.{tree_of}
-use Rattle.room_dump.proofs.Counting.{each_both}
+use Rattle.room_dump.{specs.Dump.tree_of, proofs.Counting.each_both}
 use Rattle.room_machine.specs.{Judge.passes, Plan.Deletion, Site.Site, Step.caller_in}
 use Rattle.room_machine.specs.{Stored.{stored_along, stored_from}, Rights.{last_of, reaches}}
 use Rattle.room_review.specs.{declared.parties.Party.Party, Laws.{SaysAlike, StarSpeaksForOthers}}
@@ -108,9 +106,7 @@ module _ (name : List ℕ) where
             (λ child. Each IsUnseen (below child))
             (λ child more.
             all_unseen content depth (place_below place node child) child behind more)
-            (children_of content node.id)
-            (new_each name (λ child. users_deep name content depth child)
-            (children_of content node.id) parts.1)),
+            (children_of content node.id) (search (rules, new_each, parts.1))),
       )
     where
       below : Node → List (Place × Node)

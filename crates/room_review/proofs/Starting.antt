@@ -1,6 +1,6 @@
 -- From the object that a review starts at, a walk comes to all below it.
-use Rattle.std.proofs.Common.{◌≡◌, ℕ, List, [], ◌∷◌, ◌++◌, length, Option, Some, None, refl, sym}
-use Rattle.std.proofs.Common.{ap, subst}
+use Rattle.std.proofs.Common.{arith, ◌≡◌, ℕ, List, [], ◌∷◌, ◌++◌, length, Option, Some, None, refl}
+use Rattle.std.proofs.Common.{sym, ap, subst}
 use Rattle.std.specs.{List.AllByRecursion as Each, Option.option_map_or}
 use Rattle.room_rows.specs.{declared.node.Node.Node, Content.{Content, child_of, root_of}}
 use Rattle.room_rows.specs.Rows.{AreRows, Rows, numbers_of}
@@ -22,9 +22,7 @@ module _ (content : Content) (there : Each (IsThere content) content.nodes) (mos
       → Reached content (node ∷ []) most
       → site_at (stored_from content path node names) names ≡ Some site
       → Reached content (site.node ∷ []) most
-  reached_from [] path node site r is =
-      subst (λ (s : Site). Reached content (s.node ∷ []) most)
-      (some_same (stored_site path node) site is) r
+  reached_from [] path node site r is = grind (arith, some_same, node, site, is, r)
   reached_from (name ∷ names) path node site r is =
       on (child_of content node.id name) refl is
       (λ child r' is'. reached_from names (path ++ name ∷ []) child site r' is')

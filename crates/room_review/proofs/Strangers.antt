@@ -1,15 +1,15 @@
 -- Names that nothing on a way knows have the same rights at its end.
-use Rattle.std.proofs.Common.{ℕ, zero, suc, ◌≡◌, ◌+◌, ◌&&◌, Bool, true, false, cond, not, List, []}
-use Rattle.std.proofs.Common.{◌∷◌, filter, length, take, Option, Some, None, refl, sym, ap, subst}
-use Rattle.std.proofs.{Common.{◌∙◌, arith}, lemmas.Bool.{false≢true, or_parts, Decides.nat_tests}}
-use Rattle.std.specs.{Prelude.if◌then◌else◌, List.{list_all, list_any}, Option.option_map_or}
-use Rattle.room_entry.specs.{Ace.Ace, Bits.{all_bits, has}, Matching.{is_in_force, is_named}}
-use Rattle.room_entry.specs.{Pieces.same_text, Rights.execute, declared.entry.Who.Who}
-use Rattle.room_entry.specs.declared.entry.Who.TheVariants.{Owner, Group, Everyone, Anonymous}
-use Rattle.room_entry.specs.declared.entry.Who.TheVariants.{Authenticated, User, Members}
+use Rattle.std.proofs.Common.{rules, ℕ, zero, suc, ◌≡◌, ◌+◌, ◌&&◌, Bool, true, false, cond, not}
+use Rattle.std.proofs.Common.{List, [], ◌∷◌, filter, length, take, Option, Some, None, refl, sym}
+use Rattle.std.proofs.{Common.{ap, subst, ◌∙◌, arith}, lemmas.Bool.{false≢true, or_parts}}
+use Rattle.std.proofs.lemmas.Bool.Decides.{nat_tests}
+use Rattle.std.specs.{List.{list_all, list_any}, Option.option_map_or}
+use Rattle.room_entry.specs.{Ace.Ace, Matching.is_named, Pieces.same_text, Rights.execute}
+use Rattle.room_entry.specs.declared.entry.Who.{Who, TheVariants.{Owner, Group, Everyone}}
+use Rattle.room_entry.specs.declared.entry.Who.TheVariants.{Anonymous, Authenticated, User, Members}
 use Rattle.room_entry.specs.declared.{object.Which.TheVariants.Dacl, parties.Caller.Caller}
 use Rattle.room_entry.specs.declared.parties.Owners.{Owners}
-use Rattle.room_eval.specs.Verdict.{is_allowed, ruled_by, ruling_from, ruling_of}
+use Rattle.room_eval.specs.Verdict.{is_allowed, ruling_from, ruling_of}
 use Rattle.room_rows.specs.Content.{Content, is_folder}
 use Rattle.room_machine.specs.{Site.{Site, full_at, site_at, sites_along}, Judge.passes}
 use Rattle.room_machine.specs.{Plan.Deletion, Step.caller_in, Rights.{grants, last_of, may_remove}}
@@ -62,8 +62,7 @@ module _ (a b : List ℕ) where
         (list_any (λ e. is_user_named b e.who) entries) second in
         let matched = named entry.who here.0 there.0 in
         let rest = same_ruling (place + 1) entries here.1 there.1 bit in
-        λ i. if (is_in_force entry && matched i) && has entry.mask bit
-        then ruled_by entry.kind place (rest i) else rest i
+        search (rules, matched, rest)
 
   -- neither name is known at the site
   abbrev pub IsUnknown : Site → Type 0
@@ -145,8 +144,7 @@ module _ (a b : List ℕ) where
         → option_map_or (rights (alone a) above) o [] ≡ option_map_or (rights (alone b) above) o []
     same_rights None none = refl
     same_rights (Some target) found =
-        let here = granted target (at_unknown sites path target all_unknown found) in
-        λ i. if same_way i then filter (λ right. here right i) all_bits else []
+        search (rules, granted, at_unknown, all_unknown, found, same_way)
 
     same_removal : (target : Site) → IsUnknown target → (o : Option Site) → last_of above ≡ o
         → option_map_or (λ folder. passes (alone a) (Deletion target folder)) o false
@@ -166,14 +164,4 @@ module _ (a b : List ℕ) where
 
 pub strangers_alike : StrangersAlike
 strangers_alike content path a b first second =
-    let one = is_alone content a (is_not (is_paired content a) first.0) in
-    let two = is_alone content b (is_not (is_paired content b) second.0) in
-    let above = sites_above content path in
-    let found = site_at (sites_along content path) path in (
-      ap (λ caller. option_map_or (rights caller above) found []) one
-          ∙ same_rights a b content path first second found refl
-          ∙ ap (λ caller. option_map_or (rights caller above) found []) (sym two),
-      ap (λ caller. option_map_or (may_remove caller above) found false) one
-          ∙ same_remove a b content path first second found refl
-          ∙ ap (λ caller. option_map_or (may_remove caller above) found false) (sym two),
-    )
+    search (rules, is_alone, content, is_not, first.0, second.0, same_rights, second, same_remove)

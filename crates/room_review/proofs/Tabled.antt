@@ -1,16 +1,15 @@
 -- A whole table, of its parts.
-use Rattle.std.proofs.Common.{◌≡◌, ℕ, zero, suc, ◌<◌, List, [], ◌∷◌, ◌++◌, map, length, take}
-use Rattle.std.proofs.Common.{Option, Some, refl, sym, ap, subst, ◌∙◌, arith}
-use Rattle.std.proofs.lemmas.{List.append-nil, Bool.Decides.nat_tests}
-use Rattle.std.specs.List.{flat_map}
+use Rattle.std.proofs.Common.{rules, ◌≡◌, ℕ, zero, suc, ◌<◌, List, [], ◌∷◌, ◌++◌, map, length, take}
+use Rattle.std.proofs.{Common.{Some, refl, ap, arith}, lemmas.List.append-nil}
+use Rattle.std.{proofs.lemmas.Bool.Decides.nat_tests, specs.List.flat_map}
 use Rattle.room_import.specs.Exports.{rows_text}
 use Rattle.room_rows.specs.{Keep.HasNoRoot, Rows.Rows, Walk.walk_of}
 use Rattle.room_machine.specs.{Site.{Site, site_at}, Stored.{stored_along, stored_site}}
 use Rattle.room_review.specs.declared.question.{Scope.Scope, Reviewed.TheVariants.Table}
-use Rattle.room_review.specs.{declared.question.Start.Start, Table.{IsReview, IsReviewAt, header}}
-use Rattle.room_review.specs.{Table.users_of, Telling.{GathersAll, GivesReview, IsLostAt, Starts}}
-use Rattle.room_review.specs.{Telling.ended_at, Users.{Gathers, users_at}}
-use Rattle.room_review.proofs.{Ending.{ended, strayed}, Gathers.gathers_on}
+use Rattle.room_review.specs.{declared.question.Start.Start, Table.{IsReview, header, users_of}}
+use Rattle.room_review.specs.Telling.{GathersAll, GivesReview, IsLostAt, Starts, ended_at}
+use Rattle.room_review.{specs.Users.{Gathers, users_at}, proofs.Ending.{ended, strayed}}
+use Rattle.room_review.proofs.Gathers.{gathers_on}
 
 -- ---- the table
 
@@ -37,9 +36,7 @@ pub gathers_users : (rows : Rows) (pairs : List (List ℕ × List ℕ)) (most : 
 gathers_users rows pairs most start sites paired above all starts first second third =
     let on_way = flat_map (λ (s : Site). users_at s.node) sites in
     gathers_on [] paired all (map (λ pair. pair.1) pairs) _ first
-    (gathers_on paired above all on_way _
-    (subst (λ (names : List (List ℕ)). Gathers paired names above)
-    (ap (flat_map users_at) starts.way.0 ∙ flat_nodes sites) second)
+    (gathers_on paired above all on_way _ (search (rules, starts.way.0, flat_nodes, second))
     (third start.path start.node starts.there refl))
 
 -- ---- the answer
@@ -70,8 +67,7 @@ module _ (question : Scope) (start : Start) (rows : Rows)
   refusal_given pairs zero some walked = absurd (omega (arith, some))
   refusal_given pairs (suc rest) some walked =
       let end = strayed rows question.path start.above start.node rest walked in
-      subst (λ (o : Option Site). IsReviewAt pairs question o rows
-      (ended_at question.path start.node.kind (suc rest))) (sym end.0) end.1
+      search (rules, end.0, end.1)
 
   pub lost_there : (row : ℕ) → Walked 0 → IsLostAt start rows row → HasNoRoot rows row
   lost_there row walked lost =

@@ -1,10 +1,8 @@
 -- The rows that are told of a walk.
-use Rattle.std.proofs.Common.{◌≡◌, ℕ, zero, suc, Bool, true, List, [], ◌∷◌, ◌++◌, length, take}
-use Rattle.std.proofs.Common.{refl, sym, ap, subst, ◌∙◌, append_assoc, arith}
+use Rattle.std.proofs.Common.{rules, ◌≡◌, ℕ, zero, suc, Bool, true, List, [], ◌∷◌, ◌++◌, length}
+use Rattle.std.proofs.Common.{take, refl, sym, ap, subst, ◌∙◌, append_assoc, arith}
 use Rattle.std.proofs.lemmas.{Grind.flat_map-append, List.{append-nil, length-append, length-map}}
-use Rattle.std.proofs.lemmas.List.{take_all}
-use Rattle.std.specs.List.{flat_map}
-use Rattle.csv.specs.Writing.{default_writer, row_text}
+use Rattle.std.{proofs.lemmas.List.take_all, specs.List.flat_map}
 use Rattle.room_import.specs.Exports.{rows_text}
 use Rattle.room_entry.specs.Bytes.{slash}
 use Rattle.room_rows.specs.{declared.node.Node.Node, Content.{Content, children_of}}
@@ -18,8 +16,7 @@ use Rattle.room_review.specs.declared.{standing.Standing.Standing, telling.Audie
 use Rattle.room_review.specs.{Standing.standings, Table.{Place, object_rows, place_below, site_of}}
 use Rattle.room_review.specs.{Table.table_rows, Telling.{Comes, InOrder, Starts, TellsOne, along}}
 use Rattle.room_review.specs.Telling.{parent_path, place_at, rows_of, start_visit, visit_at}
-use Rattle.room_review.specs.Telling.{visits_at}
-use Rattle.room_review.proofs.Starting.{starts_reached}
+use Rattle.room_review.{specs.Telling.visits_at, proofs.Starting.starts_reached}
 
 -- ---- objects in order
 
@@ -60,9 +57,7 @@ module _ (content : Content) where
   children_in_order depth each place node [] sites after on rest =
       rest sites (shorter place.above sites (site_of place node) on)
   children_in_order depth each place node (child ∷ nodes) sites after on rest =
-      subst (InOrder sites)
-      (sym (append_assoc (tree depth (place_below place node child) child)
-      (flat_map (λ c. tree depth (place_below place node c) c) nodes) after))
+      subst (InOrder sites) (search (rules, append_assoc, after))
       (each (place_below place node child) child sites _ on
       (λ later is. children_in_order depth each place node nodes later after is rest))
 
@@ -128,8 +123,7 @@ tells_next asked rows old new way next all before text more whole visit t comes 
         let rest : coming rows new ≡ visits_at objects = cc in
         let n = length place.above in
         let done = one place node first
-        (ap (take n) t.comes.way_is ∙ along_front parties n [] t.sites
-        ∙ ap (along parties []) ordered.0) in
+        (grind (arith, n, t.comes.way_is, along_front, parties, t.sites)) in
         record {
           sites = place.above ++ site_of place node ∷ [];
           objects = objects;
@@ -139,8 +133,7 @@ tells_next asked rows old new way next all before text more whole visit t comes 
               ∙ append_assoc text (rows_text (object_rows all parties place node))
               (rows_text (rows_at_all asked objects))
               ∙ ap (λ (l : List ℕ). text ++ l)
-              (sym (flat_map-append (row_text default_writer) (object_rows all parties place node)
-              (rows_at_all asked objects)))
+              (grind (arith, flat_map-append, parties, asked, objects))
               ∙ told;
         }
 

@@ -1,15 +1,14 @@
 -- In sound rows, each object of a table stands at the end of its path.
-use Rattle.std.proofs.Common.{◌≡◌, ℕ, zero, suc, List, [], ◌∷◌, ◌++◌, filter, length, take, Option}
-use Rattle.std.proofs.Common.{Some, None, refl, sym, ap, subst, ◌∙◌, append_assoc, arith}
-use Rattle.std.proofs.lemmas.{List.append-nil, Bool.Decides.nat_tests}
-use Rattle.std.specs.{List.{flat_map, AllByRecursion as Each}, Option.option_map_or}
+use Rattle.std.proofs.Common.{rules, ◌≡◌, ℕ, zero, suc, List, [], ◌∷◌, ◌++◌, filter, length, take}
+use Rattle.std.proofs.Common.{Option, Some, None, ap, ◌∙◌, append_assoc, arith}
+use Rattle.std.{proofs.lemmas.{List.append-nil, Bool.Decides.nat_tests}, specs.List.flat_map}
+use Rattle.std.specs.{List.AllByRecursion as Each, Option.option_map_or}
 use Rattle.room_rows.specs.{declared.node.Node.Node, Content.{Content, child_of, children_of}}
-use Rattle.room_rows.specs.Content.{has_parent, root_of}
+use Rattle.room_rows.{specs.Content.{has_parent, root_of}, proofs.Lookups.each-sorted}
 use Rattle.room_machine.specs.{Site.{Site, site_at}, Stored.{stored_along, stored_from}}
 use Rattle.room_machine.specs.Stored.{stored_site}
 use Rattle.room_dump.specs.Dump.{tree_of}
 use Rattle.room_entry.proofs.Facts.Members.{each_append, each_weaker}
-use Rattle.room_rows.proofs.Lookups.{each-sorted}
 use Rattle.room_review.specs.Table.{Place, place_below, site_of}
 
 pub some_same : {A : Type 0} (x y : A) → Some x ≡ Some y → x ≡ y
@@ -26,9 +25,7 @@ module _ (content : Content) where
   ends_at : (names path : List (List ℕ)) (start : Node) (site : Site)
       → site_at (stored_from content path start names) names ≡ Some site
       → site ≡ stored_site (path ++ names) site.node
-  ends_at [] path start site at =
-      let same : stored_site path start ≡ site = some_same (stored_site path start) site at in
-      sym same ∙ (λ i. stored_site (sym (append-nil path) i) (ap (λ (s : Site). s.node) same i))
+  ends_at [] path start site at = search (rules, start, site, some_same, append-nil)
   ends_at (next ∷ names) path start site at =
       on (child_of content start.id next) at
       (λ c at'. ends_at names (path ++ next ∷ []) c site at')
@@ -63,14 +60,7 @@ module _ (content : Content) (name : List ℕ) (child : Node) where
       → child_of content site.node.id name ≡ Some child
       → Deeper path names (stored_from content path start names)
       (stored_from content path start (names ++ name ∷ [])) site
-  deeper [] path start site at is =
-      let same : stored_site path start ≡ site = some_same (stored_site path start) site at in
-      let found : child_of content start.id name ≡ Some child =
-      ap (λ (s : Site). child_of content s.node.id name) same ∙ is in
-      subst (λ (l : List Site). Deeper path [] (stored_site path start ∷ [])
-      (stored_site path start ∷ l) site)
-      (sym (ap (below path [] name) found))
-      (refl, ap (λ (s : Site). s ∷ []) same)
+  deeper [] path start site at is = search (rules, start, site, some_same, start.id, is)
   deeper (next ∷ names) path start site at is =
       on (child_of content start.id next) at
       (λ c at'. deeper names (path ++ next ∷ []) c site at' is)
@@ -82,12 +72,7 @@ module _ (content : Content) (name : List ℕ) (child : Node) where
           → Deeper path (next ∷ names) (stored_site path start ∷ below path names next o)
           (stored_site path start ∷ below path (names ++ name ∷ []) next o) site
       on None at rest = absurd (let wrong : ⊥ = cc in wrong)
-      on (Some c) at rest =
-          let more = rest c at in (
-            more.0
-                ∙ ap (λ p. Some (stored_site p child)) (append_assoc path (next ∷ []) (names ++ name ∷ [])),
-            ap (λ (l : List Site). stored_site path start ∷ l) more.1,
-          )
+      on (Some c) at rest = search (rules, append_assoc, start)
 
   deeper_along : (path : List (List ℕ)) (site : Site)
       → site_at (stored_along content path) path ≡ Some site

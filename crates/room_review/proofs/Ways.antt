@@ -1,7 +1,7 @@
 -- Ways that a caller comes along, and what the replies at their ends say.
-use Rattle.std.proofs.Common.{ℕ, ◌≡◌, ◌&&◌, Bool, true, false, cond, not, List, [], ◌∷◌, ◌++◌, map}
-use Rattle.std.proofs.Common.{filter, length, take, Option, Some, None, refl, sym, ap, subst, ◌∙◌}
-use Rattle.std.proofs.{Common.arith, lemmas.Bool.{false≢true, true≢false, and_parts}}
+use Rattle.std.proofs.Common.{rules, ℕ, ◌≡◌, ◌&&◌, Bool, true, false, cond, not, List, [], ◌∷◌}
+use Rattle.std.proofs.Common.{◌++◌, map, filter, length, take, Option, Some, None, refl, sym, ap}
+use Rattle.std.proofs.{Common.{subst, ◌∙◌, arith}, lemmas.Bool.{false≢true, true≢false, and_parts}}
 use Rattle.std.proofs.lemmas.Bool.Decides.{nat_tests}
 use Rattle.std.specs.{Prelude.{is_none, IsTrue}, List.list_all, Option.option_map_or}
 use Rattle.room_entry.specs.{Bits.all_bits, Rights.execute, declared.object.Which.TheVariants.Dacl}
@@ -10,14 +10,14 @@ use Rattle.room_eval.specs.declared.outcome.{Ruling.Ruling, Verdict.TheVariants.
 use Rattle.room_eval.specs.declared.deletion.DeleteVerdict.{DeleteVerdict}
 use Rattle.room_eval.specs.declared.deletion.DeleteVerdict.TheVariants.{Granted as MayDelete}
 use Rattle.room_eval.specs.declared.deletion.DeleteVerdict.TheVariants.{AtTarget, AtParent}
-use Rattle.room_eval.specs.{Deletion.deletion, Verdict.{denial, least_denied, ruling_of}}
+use Rattle.room_eval.specs.Verdict.{denial, least_denied, ruling_of}
 use Rattle.room_rows.specs.Content.{Content, children_of, is_empty, is_folder, without_node}
 use Rattle.room_machine.specs.declared.reply.Reply.{Reply, TheVariants.{Done, Refused, Rulings}}
 use Rattle.room_machine.specs.declared.reply.Reason.TheVariants.{NotFolder, NoSuch, NotEmpty, Root}
 use Rattle.room_machine.specs.{declared.request.Request.TheVariants.{Can, Remove}, Site.Site}
 use Rattle.room_machine.specs.Site.{front, full_at, parent_at, site_at, sites_along}
 use Rattle.room_machine.specs.Plan.{Deletion, Item, Refusal, plan_of, way, where_found}
-use Rattle.room_machine.specs.Judge.{failure, first_failure, of_deletion, of_verdict, or_else}
+use Rattle.room_machine.specs.Judge.{first_failure, of_deletion, of_verdict, or_else}
 use Rattle.room_machine.specs.{Effect.{effect, rulings}, Step.caller_in, Rights.{grants, last_of}}
 use Rattle.room_machine.specs.Rights.{lets_through, may_remove, may_remove_at, reaches, rights}
 use Rattle.room_machine.specs.Rights.{rights_at, sites_above}
@@ -69,11 +69,7 @@ module _ (caller : Caller) where
       let parts = and_parts (lets_through caller site) (reaches caller (take (length names) sites))
       free in
       let lets = and_parts (is_folder site.node) (grants caller execute site) parts.0 in
-      let left = some_left sites names target found in
-      (λ i. or_else (cond (not (lets.0 i)) (Some (Refused site.path NotFolder)) None)
-      (or_else (checked site (lets.1 i))
-      (or_else (cond (left i && true) (Some (Refused (site.path ++ name ∷ []) NoSuch)) None)
-      (first_failure caller (way false sites names ++ rest)))))
+      let left = some_left sites names target found in (search (rules, lets.0, lets.1, left))
       ∙ passes_way sites names target rest found parts.1
 
   -- the first failure of a way and what comes after it, from what is known of its first object
@@ -119,25 +115,8 @@ module _ (caller : Caller) where
           subst (λ (t : Bool). Stop (whole site sites name names rest t
           (grants caller execute site) (is_empty sites))
           (t && list_all is_passable (take (length names) sites))) (sym folder)
-          (subst (λ (t : Bool). Stop (whole site sites name names rest true t (is_empty sites))
-          (list_all is_passable (take (length names) sites))) (sym granted)
-          (denied_stop site
-          (or_else (cond (is_empty sites && true) (Some (Refused (site.path ++ name ∷ []) NoSuch))
-          None) (first_failure caller (way false sites names ++ rest)))
-          (list_all is_passable (take (length names) sites))
-          (least_denied (map (says site) (execute ∷ [])))))
-      on true true folder granted later =
-          let behind : reaches caller (take (length names) sites) ≡ false =
-          sym (λ i. (folder i && granted i) && reaches caller (take (length names) sites)) ∙ closed
-          in
-          subst (λ (t : Bool). Stop (whole site sites name names rest t
-          (grants caller execute site) (is_empty sites))
-          (t && list_all is_passable (take (length names) sites))) (sym folder)
-          (subst (λ (t : Bool). Stop (whole site sites name names rest true t (is_empty sites))
-          (list_all is_passable (take (length names) sites))) (sym granted)
-          (subst (λ (t : Bool). Stop (whole site sites name names rest true true t)
-          (list_all is_passable (take (length names) sites)))
-          (sym (some_left sites names target found)) (later behind)))
+          (search (rules, denied_stop))
+      on true true folder granted later = search (rules, closed, some_left, target, found)
 
   -- the bits that rulings allow are the rights that are granted
   allowed_rulings : (target : Site) (mask : List ℕ)
@@ -193,9 +172,7 @@ module _ (content : Content) (user : Option (List ℕ)) (path : List (List ℕ))
           ∙ ap (λ o. first_failure asker (where_found o (λ _. []))) found in
           let same : reply ≡ Rulings (rulings asker all_bits target) =
           is ∙ ap (λ o. or_reply o can_done) none ∙ can_answers in (
-            rights_found
-                ∙ ap (λ t. cond t (filter (λ right. grants asker right target) all_bits) []) free
-                ∙ allowed_rulings asker target all_bits ∙ ap allowed_in (sym same),
+            search (rules, rights_found, allowed_rulings, same),
             free ∙ ap is_rulings (sym same),
             λ folders. ap not free ∙ ap is_denial (sym same),
           )
@@ -203,10 +180,7 @@ module _ (content : Content) (user : Option (List ℕ)) (path : List (List ℕ))
           let stop = stops asker (sites_along content path) path target
           (where_found (site_at (sites_along content path) path) (λ _. [])) found closed in
           let same : reply ≡ stop.reply = is ∙ ap (λ o. or_reply o can_done) stop.is in (
-            rights_found
-                ∙ empty_after (reaches asker above)
-                (filter (λ right. grants asker right target) all_bits) closed
-                ∙ sym stop.nothing ∙ ap allowed_in (sym same),
+            search (rules, rights_found, stop.nothing, same),
             closed ∙ sym stop.no_rulings ∙ ap is_rulings (sym same),
             λ folders. ap not closed ∙ sym (stop.denied folders) ∙ ap is_denial (sym same),
           )
@@ -287,13 +261,7 @@ module _ (content : Content) (user : Option (List ℕ)) where
           let same : site_at (sites_along content (name ∷ names)) (front (name ∷ names))
           ≡ Some folder =
           sym (folder_is_last (sites_along content (name ∷ names)) name names target found) ∙ last
-          in
-          (λ i. free i && option_map_or
-          (λ (above : Site). is_none (failure remover (Deletion target above))) (last i) false)
-          ∙ by_verdict (name ∷ names) (has_children target) target folder
-          (deletion (full_at Dacl target) target.node.owners (full_at Dacl folder)
-          folder.node.owners remover)
-          ∙ ap (λ o. passed_rights (says_with (name ∷ names) target o)) (sym same)
+          in search (rules, free, target, by_verdict, target.node.owners, same)
 
   remove_says : (path : List (List ℕ)) (target : Site) (reply : Reply) (id : ℕ)
       → site_at (sites_along content path) path ≡ Some target
@@ -321,15 +289,8 @@ module _ (content : Content) (user : Option (List ℕ)) where
       on false closed =
           let stop = stops remover (sites_along content path) path target
           (where_found (site_at (sites_along content path) path) (at_target path)) found closed in
-          (λ i. closed i && option_map_or
-          (λ (above : Site). is_none (failure remover (Deletion target above)))
-          (last_of (sites_above content path))
-          false)
-          ∙ sym stop.not_passed
-          ∙ ap passed_rights
-          (sym (is ∙ ap (λ o. or_reply o (effect content remover id (Remove path)).0) stop.is))
+          search (rules, target, stop.not_passed, is, or_reply, stop.is)
 
 pub says_remove : SaysRemove
 says_remove content user moment path target reply after found s =
-    remove_says content user path target reply s.0 found
-    (reply_of content user moment (Remove path) reply after s)
+    search (rules, remove_says, content, target, s.0, found, reply_of, after)

@@ -1,10 +1,9 @@
 -- A table of a review is the room: what is looked up in it of each caller is what the room allows.
-use Rattle.std.proofs.Common.{◌≡◌, ℕ, Bool, true, false, List, [], ◌∷◌, ◌++◌, length, map, take}
+use Rattle.std.proofs.Common.{rules, ◌≡◌, ℕ, Bool, true, false, List, [], ◌∷◌, ◌++◌, length, map}
 use Rattle.std.proofs.Common.{Option, Some, None, refl, sym, ap, subst, ◌∙◌, codes, inl, inr, arith}
 use Rattle.std.proofs.lemmas.Bool.{cond-false, cond-true, or_from, or_left, Decides.nat_tests}
-use Rattle.std.proofs.lemmas.List.Folds.{list_any-append}
-use Rattle.std.specs.{List.{list_any, AllByRecursion as Each}, Option.{option_map, option_map_or}}
-use Rattle.std.specs.Option.{option_or}
+use Rattle.std.{proofs.lemmas.List.Folds.list_any-append, specs.List.list_any}
+use Rattle.std.specs.{List.AllByRecursion as Each, Option.{option_map, option_map_or}}
 use Rattle.csv.specs.Reading.{default_config, records}
 use Rattle.room_entry.specs.{Letters.mask_text, Names.is_name, Pieces.same_text}
 use Rattle.room_entry.proofs.{Alike.text_itself, Facts.Members.{any_map, each_append, each_back}}
@@ -16,8 +15,7 @@ use Rattle.room_rows.specs.Sound.{AreSound}
 use Rattle.room_sound.proofs.{Filled.{site_filled, target_there}, Sites.{fill, sites_filled}}
 use Rattle.room_sound.proofs.SoundParts.{sound_parts}
 use Rattle.room_dump.proofs.{Counting.{each_always, each_both, each_filter}, Reached.all_there}
-use Rattle.room_dump.proofs.Reached.{goes_down}
-use Rattle.room_dump.specs.Visits.{Reached}
+use Rattle.room_dump.{proofs.Reached.goes_down, specs.Visits.Reached}
 use Rattle.room_machine.specs.{Rights.{may_remove_at, rights_at}, Site.{Site, site_at, sites_along}}
 use Rattle.room_machine.specs.{Step.caller_in, Stored.{stored_along, stored_from, stored_site}}
 use Rattle.room_review.specs.declared.{parties.Party.Party, question.Scope.Scope}
@@ -48,9 +46,7 @@ module _ (content : Content) (more : List (List ℕ)) (target site : Site) where
       → site_at (stored_from content at node names) names ≡ Some target
       → site_at (stored_from content at node (names ++ more)) (names ++ more) ≡ Some site
       → site_at (stored_from content target.path target.node more) more ≡ Some site
-  from_target [] at node found whole =
-      subst (λ (s : Site). site_at (stored_from content s.path s.node more) more ≡ Some site)
-      (some_same (stored_site at node) target found) whole
+  from_target [] at node found whole = search (rules, some_same, node, found, whole)
   from_target (name ∷ names) at node found whole =
       on (child_of content node.id name) found whole
       (λ c f w. from_target names (at ++ name ∷ []) c f w)
@@ -137,9 +133,7 @@ module _ (rows : Rows) (are : AreRows rows) (sound : AreSound rows) (question : 
   by_name name is = record {
     party = named content name;
     is = is;
-    labelled = cond-true (list_any (is_row_of name) table) name (codes "*")
-        (list_any-append (is_row_of name) (object_rows true parties place target.node) _
-        ∙ or_left _ _ (has_row place.above (site_of place target.node) parties name is.among));
+    labelled = search (rules, cond-true, list_any-append, or_left, has_row, is.among);
     says = table_says_rights rows are sound (Some name) path target found;
   }
 
@@ -175,8 +169,7 @@ module _ (rows : Rows) (are : AreRows rows) (sound : AreSound rows) (question : 
       ∙ no_label content all.users all.stranger all.are.valid name is none in
       record {
         party = star;
-        is = subst (λ (ps : List Party). IsParty ps star) (sym all.parties_are)
-            (star_party content all.users all.stranger all.are.valid);
+        is = search (rules, all.parties_are, star_party, all.are.valid);
         labelled = cond-false (list_any (is_row_of name) table) name (codes "*")
             (list_any-append (is_row_of name) (object_rows true parties place target.node)
             (below.rows_under content (all_there rows are) most question.all parties place
@@ -190,16 +183,7 @@ module _ (rows : Rows) (are : AreRows rows) (sound : AreSound rows) (question : 
             (λ it alike says. alike ∙ says) (told_at rows path target)
             (star_speaks_for_others rows path target (map (named content) all.users) star
             (nameless content) name found
-            (record {
-              users = all.users;
-              are = all.are;
-              stranger = all.stranger;
-              is_other = all.is_other;
-              parties_are = refl;
-            })
-            (any_map (λ (text : List ℕ). same_text text name) (λ (p : Party). p.label)
-            (map (named content) all.users)
-            ∙ any_map (λ (p : Party). same_text p.label name) (named content) all.users ∙ none)).1
+            (search (rules, all.are, all.is_other)) (search (rules, any_map, all.users, none))).1
             (table_says_rights rows are sound (Some name) path target found);
       }
 
@@ -232,14 +216,7 @@ module _ (rows : Rows) (are : AreRows rows) (sound : AreSound rows) (question : 
         (λ id. all_kids rows are (sound_parts rows sound) id) party is.one is.among (answer user)
         more place target.node (object_rows true parties place target.node) None (fill site) reached
         stored spoken.says
-        (record {
-          here = ap (λ o. option_or o None)
-              (said_here place.above (site_of place target.node) party true parties is.one
-              is.among);
-          others = λ other apart.
-              said_elsewhere place.above (site_of place target.node) true parties other party.label
-              apart;
-        })))
+        (search (rules, said_here, party, is.one, is.among, said_elsewhere, party.label))))
 
   -- ---- the rows
 
@@ -276,11 +253,7 @@ module _ (rows : Rows) (are : AreRows rows) (sound : AreSound rows) (question : 
 
     all_placed : Each IsPlaced (told_at rows path target)
     all_placed =
-        let start : Stands content place target.node = record {
-          at = subst (λ (p : List (List ℕ)). site_at (stored_along content p) p
-              ≡ Some (stored_site p target.node)) (sym at_path) (found ∙ ap Some ends);
-          way = ap (λ (p : List (List ℕ)). take (length p) (stored_along content p)) at_path;
-        } in
+        let start : Stands content place target.node = search (rules, at_path, ends) in
         each_both (GoesOn most target.path) (λ it. Stands content it.0 it.1
         × ((by : Asked) → Each (λ party. Speaks it party by) parties)) IsPlaced
         (λ it on stands. (on, stands.0, stands.1)) (told_at rows path target)
@@ -291,9 +264,7 @@ module _ (rows : Rows) (are : AreRows rows) (sound : AreSound rows) (question : 
         × ((by : Asked) → Each (λ party. Speaks it party by) parties))
         (λ it stands speaks. (stands, speaks)) (told_at rows path target)
         (each_stands content (λ id. all_named rows are (sound_parts rows sound) id) most place
-        target.node start)
-        (each_for_all (λ it by. Each (λ party. Speaks it party by) parties)
-        (told_at rows path target) each_speaks))
+        target.node start) (search (rules, each_for_all, each_speaks)))
 
     rows_placed : (all : Bool) (it : Place × Node) → IsPlaced it
         → Each (IsRow room question table) (object_rows all parties it.0 it.1)

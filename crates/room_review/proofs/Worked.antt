@@ -2,8 +2,7 @@
 -- of a caller without a name, and of one that is asked for alone.
 use Rattle.std.proofs.Common.{◌≡◌, ℕ, Bool, true, false, List, [], ◌∷◌, ◌++◌, drop, Option, Some}
 use Rattle.std.proofs.{Common.{None, refl, sym, ap, ◌∙◌, codes}, lemmas.Bool.cond-false}
-use Rattle.std.proofs.lemmas.Bool.{cond-true}
-use Rattle.std.specs.List.{list_any}
+use Rattle.std.{proofs.lemmas.Bool.cond-true, specs.List.list_any}
 use Rattle.room_entry.specs.{Letters.mask_text, Names.is_name}
 use Rattle.room_rows.specs.Content.{Content}
 use Rattle.room_machine.specs.{Rights.{may_remove_at, rights_at}, Site.Site}

@@ -28,7 +28,7 @@ use std::alloc::{AllocError, Global};
 /// nowhere. The pairs are those of the room.
 ///
 /// Nothing is changed. The error is the keeper's, or that memory ran out; `Damaged` names a row
-/// that can't be read, or is 0 where there is no root.
+/// that can't be read, and `NoRoot` comes only where there is no root.
 pub fn review<K: Keep>(
     alloc: Global,
     keep: &mut K,
@@ -42,7 +42,7 @@ pub fn review<K: Keep>(
     let rest = found.rest;
     let mut above = found.chain.into_vec();
     match above.pop() {
-        None => Err(KeepFault::Damaged { id: 0 }),
+        None => Err(KeepFault::NoRoot),
         Some(node) => {
             let start = Start {
                 path: question.path.copy()?,

@@ -1,17 +1,16 @@
 -- Texts cut into names, and paths.
-use Rattle.std.proofs.Common.{◌≡◌, ◌≢◌, ℕ, zero, suc, ◌<◌, ◌≤◌, true, false, List, [], ◌∷◌}
-use Rattle.std.proofs.Common.{length, take, Ok, Err, codes, refl, ◌∙◌, arith, length-append}
+use Rattle.std.proofs.Common.{◌≡◌, ◌≢◌, ℕ, zero, suc, ◌<◌, ◌≤◌, true, false, List, [], ◌∷◌, length}
+use Rattle.std.proofs.Common.{take, Ok, Err, codes, refl, ◌∙◌, arith, length-append, rules}
 use Rattle.std.proofs.lemmas.Bool.{and_parts, and_from, le-ltb, cond-true, cond-false}
 use Rattle.std.proofs.lemmas.{Bool.Decides.nat_tests, List.Splits.slice_split-cons_yes}
 use Rattle.std.proofs.lemmas.List.Splits.{slice_split-cons_no, length-slice_split}
 use Rattle.std.specs.{Prelude.{IsTrue, if◌then◌else◌}, List.{list_all, flat_map, onto_first}}
 use Rattle.std.specs.Str.{IsUtf8, IsValidUpTo}
 use Rattle.room_entry.specs.{Utf8.is_utf8, Pieces.{pieces, same_text}}
+use Rattle.room_entry.proofs.Texts.{passes_as_utf8}
 use Rattle.room_rows.specs.declared.fault.PathFault.TheVariants.{BadName, NotUtf8}
 use Rattle.room_rows.specs.Paths.{is_object_name, is_path, is_name_byte, names_in, object_names}
-use Rattle.room_rows.specs.Paths.{path_of, path_text}
-use Rattle.room_rows.proofs.Utf8.{fails_as_utf8}
-use Rattle.room_entry.proofs.Texts.{passes_as_utf8}
+use Rattle.room_rows.{specs.Paths.{path_of, path_text}, proofs.Utf8.fails_as_utf8}
 
 -- ---- names by their bytes
 
@@ -127,8 +126,7 @@ good_front zero names good = refl
 good_front (suc n) [] good = refl
 good_front (suc n) (x ∷ xs) good =
     let parts = and_parts (is_object_name x) (list_all is_object_name xs) good in
-    and_from (is_object_name x) (list_all is_object_name (take n xs)) parts.0
-    (good_front n xs parts.1)
+    search (rules, and_from, parts.0, good_front n xs parts.1)
 
 short_front : (n : ℕ) (names : List (List ℕ))
     → length (joined (take n names)) ≤ length (joined names)

@@ -6,8 +6,7 @@ use Rattle.std.specs.{Prelude.{IsTrue, is_none}, Option.option_map_or}
 use Rattle.room_entry.specs.Pieces.{same_text}
 use Rattle.room_rows.specs.{declared.node.Node.Node, Content.{Content, node_at, has_parent}}
 use Rattle.room_rows.specs.{Content.{root_of, child_of, without_node, is_rising}, Rows.Rows}
-use Rattle.room_rows.specs.Rows.{AreRows}
-use Rattle.room_rows.proofs.{Lookups.Stands, SamePlace.IsSamePlace}
+use Rattle.room_rows.{specs.Rows.AreRows, proofs.{Lookups.Stands, SamePlace.IsSamePlace}}
 use Rattle.room_rows.proofs.Lookups as lookups
 
 -- the numbers of the objects rise from 1, as those of rows do

@@ -1,6 +1,6 @@
 -- What a change leaves of objects that stay in their places.
-use Rattle.std.proofs.Common.{◌≡◌, ℕ, ◌<◌, ◌==◌, nat_lt, true, false, List, [], ◌∷◌, map, Option}
-use Rattle.std.proofs.Common.{Some, None, refl, sym, ap, subst, ◌∙◌, inl, inr, arith}
+use Rattle.std.proofs.Common.{rules, ◌≡◌, ℕ, ◌<◌, ◌==◌, nat_lt, true, false, List, [], ◌∷◌, map}
+use Rattle.std.proofs.Common.{Option, Some, None, refl, sym, ap, subst, ◌∙◌, inl, inr, arith}
 use Rattle.std.proofs.lemmas.Bool.{and_parts, cases_Bool, cases_order, cond-true, cond-false}
 use Rattle.std.proofs.lemmas.Bool.{eqb-true, eq-eqb, lt-ltb, ltb-true, Decides.nat_tests}
 use Rattle.std.proofs.lemmas.Option.{none-some}
@@ -175,8 +175,7 @@ bytes_put : (id : ℕ) (bytes : List ℕ) (rows : List (ℕ × List ℕ))
     → body_at (put_body id bytes rows) id ≡ Some bytes
 bytes_put id bytes [] = body_yes (id, bytes) [] id (eq-eqb id id refl)
 bytes_put id bytes (row ∷ rows) = elim (cases_order row.0 id) [
-  | inl e ↦ ap (λ (l : List (ℕ × List ℕ)). body_at l id) (bytes_here id bytes row rows e)
-      ∙ body_yes (id, bytes) rows id (eq-eqb id id refl)
+  | inl e ↦ search (rules, bytes_here, e, eq-eqb)
   | inr apart ↦ elim apart [
     | inl below ↦ grind (arith, nat_tests, body_no, bytes_behind, bytes_put id bytes rows)
     | inr above ↦ search (body_yes, bytes_before, eq-eqb)

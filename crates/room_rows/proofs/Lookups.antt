@@ -1,7 +1,7 @@
 -- Objects looked up in a list of them: what a change of the list leaves.
 use Rattle.std.proofs.Common.{◌≡◌, ℕ, suc, ◌<◌, ◌==◌, ◌⊎◌, Bool, true, false, List, [], ◌∷◌, map}
 use Rattle.std.proofs.Common.{filter, Some, None, nat_lt, refl, sym, ap, subst, ◌∙◌, arith, inl}
-use Rattle.std.proofs.{Common.{inr, ◌+◌, ◌≤◌, length}, lemmas.Bool.{cases_Bool, cases_order}}
+use Rattle.std.proofs.{Common.{inr, ◌+◌, ◌≤◌, length, rules}, lemmas.Bool.{cases_Bool, cases_order}}
 use Rattle.std.proofs.lemmas.Bool.{and_parts, eqb-true, eq-eqb, ltb-true, lt-ltb, cond-true}
 use Rattle.std.proofs.lemmas.{Bool.{cond-false, Decides.nat_tests}, Option.{same_Some, none-some}}
 use Rattle.std.specs.List.{find, AllByRecursion}
@@ -71,16 +71,14 @@ pub find-kept_gone : {X : Type 0} (p q : X → Bool) (xs : List X)
     → ((x : X) → p x ≡ true → q x ≡ false) → find p (filter q xs) ≡ None
 find-kept_gone p q [] gone = refl
 find-kept_gone p q (y ∷ ys) gone =
-    let later = find-kept_gone p q ys gone in
-    grind (arith, nat_tests, find_no, keep_no, keep_yes)
+    search (rules, nat_tests, find_no, keep_no, keep_yes, gone, find-kept_gone p q ys gone)
 
 -- where all that pass are kept, the same is found
 pub find-kept_all : {X : Type 0} (p q : X → Bool) (xs : List X)
     → ((x : X) → p x ≡ true → q x ≡ true) → find p (filter q xs) ≡ find p xs
 find-kept_all p q [] kept = refl
 find-kept_all p q (y ∷ ys) kept =
-    let later = find-kept_all p q ys kept in
-    grind (arith, nat_tests, find_no, find_yes, keep_no, keep_yes)
+    search (rules, nat_tests, find_no, find_yes, keep_no, keep_yes, kept, find-kept_all p q ys kept)
 
 -- ---- facts of each that stay
 
@@ -169,8 +167,7 @@ length_put id (other ∷ others) = grind (arith, nat_tests, length_put id others
 -- numbers put among others leave no fewer
 pub length_numbers : (more ids : List ℕ) → length ids ≤ length (put_numbers more ids)
 length_numbers [] ids = omega arith
-length_numbers (id ∷ more) ids = let one = length_put id (put_numbers more ids) in let rest =
-    length_numbers more ids in omega (arith, one, rest)
+length_numbers (id ∷ more) ids = search (rules, length_put, length_numbers more ids)
 
 -- what is found stands above what comes before the list
 pub found_above : (k : ℕ) (nodes : List Node) (id : ℕ) (node : Node)

@@ -1,7 +1,6 @@
 -- Lists with others in between, as the names under a parent are told.
 use Rattle.std.proofs.Common.{◌≡◌, ℕ, List, [], ◌∷◌, map, refl, sym, ap₂, subst, inl, inr, arith}
-use Rattle.std.proofs.lemmas.Bool.Decides.{nat_tests}
-use Rattle.std.specs.List.{Contains}
+use Rattle.std.{proofs.lemmas.Bool.Decides.nat_tests, specs.List.Contains}
 use Rattle.room_entry.specs.declared.object.ObjKind.{ObjKind}
 use Rattle.room_rows.specs.{declared.node.Node.Node, Content.children_of, Keep.AreNamedUnder}
 use Rattle.room_rows.specs.{Keep.IsMixed, Rows.Rows}

@@ -1,16 +1,14 @@
 -- The text of a path is read as that path.
-use Rattle.std.proofs.Common.{◌≡◌, ℕ, ◌<◌, ◌==◌, ◌&&◌, true, false, List, [], ◌∷◌, ◌++◌, length}
-use Rattle.std.proofs.Common.{refl, ap, ◌∙◌, arith, nat_lt, nat_le, length-append}
+use Rattle.std.proofs.Common.{rules, ◌≡◌, ℕ, ◌<◌, ◌==◌, ◌&&◌, true, false, List, [], ◌∷◌, ◌++◌}
+use Rattle.std.proofs.Common.{length, refl, ap, ◌∙◌, arith, nat_lt, nat_le, length-append}
 use Rattle.std.proofs.lemmas.Bool.{and_parts, leb-true, cond-true, Decides.nat_tests}
 use Rattle.std.proofs.lemmas.List.{append-nil, Splits.{slice_split-cons_yes, slice_split-cons_no}}
 use Rattle.std.proofs.lemmas.Str.{IsUtf8-append, IsUtf8-from_ascii, IsUtf8-nil}
-use Rattle.std.specs.{List.{list_all, onto_first}, Str.IsUtf8}
-use Rattle.room_entry.specs.{Utf8.is_utf8, Pieces.pieces}
+use Rattle.std.specs.{List.list_all, Str.IsUtf8}
+use Rattle.room_entry.{specs.{Utf8.is_utf8, Pieces.pieces}, proofs.Texts.passes_as_utf8}
 use Rattle.room_rows.specs.{Laws.PathReadsBack, Paths.{is_object_name, is_name_byte, object_names}}
-use Rattle.room_rows.specs.Paths.{path_text}
-use Rattle.room_rows.proofs.{Cutting.{good_names, joined, slash_first, within}, Utf8.ascii_at}
-use Rattle.room_rows.proofs.Utf8.{text_from}
-use Rattle.room_entry.proofs.Texts.{passes_as_utf8}
+use Rattle.room_rows.{specs.Paths.path_text, proofs.Cutting.{good_names, joined, slash_first}}
+use Rattle.room_rows.proofs.{Cutting.within, Utf8.{ascii_at, text_from}}
 
 -- ---- one name
 
@@ -22,15 +20,13 @@ cut_name : (name rest : List ℕ) → list_all is_name_byte name ≡ true
 cut_name [] rest all = slice_split-cons_yes (λ byte. byte == 47) 47 rest refl
 cut_name (b ∷ bs) rest all =
     let parts = and_parts (is_name_byte b) (list_all is_name_byte bs) all in
-    slice_split-cons_no (λ byte. byte == 47) b (bs ++ 47 ∷ rest) (no_slash b parts.0)
-    ∙ ap (onto_first b) (cut_name bs rest parts.1)
+    search (rules, slice_split-cons_no, no_slash, parts, parts.0, parts.1, cut_name bs rest parts.1)
 
 last_name : (name : List ℕ) → list_all is_name_byte name ≡ true → pieces 47 name ≡ name ∷ []
 last_name [] all = refl
 last_name (b ∷ bs) all =
     let parts = and_parts (is_name_byte b) (list_all is_name_byte bs) all in
-    slice_split-cons_no (λ byte. byte == 47) b bs (no_slash b parts.0)
-    ∙ ap (onto_first b) (last_name bs parts.1)
+    search (rules, slice_split-cons_no, no_slash, parts, parts.0, parts.1, last_name bs parts.1)
 
 -- ---- what makes a name
 
@@ -52,9 +48,7 @@ some_bytes name is = grind (arith, nat_tests, first_tests)
 pieces_joined : (name : List ℕ) (names : List (List ℕ))
     → list_all is_object_name (name ∷ names) ≡ true
     → pieces 47 (name ++ joined names) ≡ name ∷ names
-pieces_joined name [] good =
-    let parts = and_parts (is_object_name name) true good in
-    ap (pieces 47) (append-nil name) ∙ last_name name (name_bytes name parts.0)
+pieces_joined name [] good = search (rules, and_parts, good, append-nil, last_name, name_bytes)
 pieces_joined name (next ∷ names) good =
     let parts = and_parts (is_object_name name) (list_all is_object_name (next ∷ names)) good in
     cut_name name (next ++ joined names) (name_bytes name parts.0)

@@ -1,6 +1,6 @@
 -- Worked rows: what the definitions say at written examples.
-use Rattle.std.proofs.Common.{ℕ, ◌≡◌, List, [], ◌∷◌, Option, Some, None, Ok, Err, refl, true, false}
-use Rattle.std.proofs.Common.{codes, replicate}
+use Rattle.std.proofs.Common.{arith, ℕ, ◌≡◌, List, [], ◌∷◌, Option, Some, None, Ok, Err, refl, true}
+use Rattle.std.proofs.Common.{false, codes, replicate}
 use Rattle.room_entry.specs.declared.object.ObjKind.{ObjKind, TheVariants.{Document, Folder}}
 use Rattle.room_rows.specs.{HeldList.Held, declared.node.Node.Node}
 use Rattle.room_rows.specs.{declared.fault.PathFault.TheVariants.BadName, Paths.path_of}
@@ -75,17 +75,7 @@ at_the_root : walk_of small [] ≡ record { chain = the_root ∷ []; rest = 0 }
 at_the_root = refl
 
 it_is_a_content : IsContent small
-it_is_a_content =
-    record {
-      numbers = refl;
-      one_root = refl;
-      parents = refl;
-      connected = refl;
-      names = refl;
-      bodies = refl;
-      kept = refl;
-      members = refl;
-    }
+it_is_a_content = grind arith
 
 pairs_in_order : set_of
     ((codes "sales", codes "bob") ∷ (codes "ops", codes "carol") ∷ (codes "sales", codes "alice")

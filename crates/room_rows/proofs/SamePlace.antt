@@ -1,8 +1,8 @@
 -- Objects that change, and keep their numbers, parents and names.
 use Rattle.std.proofs.Common.{◌≡◌, ℕ, ◌<◌, ◌≤◌, ◌==◌, Bool, true, List, [], ◌∷◌, map, filter, Some}
-use Rattle.std.proofs.{Common.{nat_lt, refl, sym, ap, ◌∙◌, arith, inl, inr}, lemmas.Bool.cases_Bool}
-use Rattle.std.proofs.lemmas.Bool.{and_parts, eq-eqb, ne_eqb, ltb-true, cond-true}
-use Rattle.std.proofs.lemmas.{Bool.{cond-false, Decides.nat_tests}, Option.{none-some}}
+use Rattle.std.proofs.Common.{nat_lt, refl, sym, ap, ◌∙◌, arith, inl, inr, rules}
+use Rattle.std.proofs.lemmas.Bool.{cases_Bool, and_parts, eq-eqb, ne_eqb, ltb-true, cond-true}
+use Rattle.std.proofs.lemmas.{Bool.{cond-false, Decides.nat_tests}, Option.none-some}
 use Rattle.std.specs.{Prelude.if◌then◌else◌, List.{find, AllByRecursion}, Option.option_map}
 use Rattle.room_rows.specs.{declared.node.Node.Node, Content.{put_by_name, sorted_by_name}}
 use Rattle.room_rows.specs.{Content.{put_node, is_rising}, Finding.find_id}
@@ -42,8 +42,7 @@ untouched k (x ∷ xs) new rises below =
     let parts = and_parts (nat_lt k x.id) (is_rising (x.id ∷ map (λ (n : Node). n.id) xs)) rises in
     let up = ltb-true k x.id parts.0 in
     let same = replaced_elsewhere new x (λ e. absurd (omega (arith, up, below, e))) in
-    let rest = untouched x.id xs new parts.1 (omega (arith, up, below)) in
-    ap (λ (n : Node). n ∷ map (replaced new) xs) same ∙ ap (λ (l : List Node). x ∷ l) rest
+    search (rules, same, untouched x.id xs new parts.1 (omega (arith, up, below)))
 
 -- where its number is in use, an object that is put replaces that one and leaves the others
 pub put-replaces : (k : ℕ) (nodes : List Node) (id : ℕ) (node new : Node)

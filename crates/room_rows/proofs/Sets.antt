@@ -1,11 +1,11 @@
 -- A set of pairs is in order, and none is lost or added.
-use Rattle.std.proofs.Common.{◌≡◌, ℕ, ◌||◌, ◌&&◌, Bool, true, false, List, [], ◌∷◌, refl, sym, ap}
-use Rattle.std.proofs.{Common.{◌∙◌, inl, inr, arith}, lemmas.Bool.{cases_Bool, and_parts, and_from}}
-use Rattle.std.proofs.lemmas.Bool.{or_parts, cond-true, false≢true, true≢false, Decides.nat_tests}
-use Rattle.std.proofs.lemmas.{Cmp.nat_list_cmp_total, Map.Text.is_eq-slice_cmp}
-use Rattle.std.specs.{List.list_any, Ordering.{nat_cmp, is_lt, is_eq}, Cmp.Lexicographic.slice_cmp}
-use Rattle.std.specs.{Cmp.Lexicographic.bytes_decides, declared.cmp.Ordering.Ordering}
-use Rattle.std.specs.declared.cmp.Ordering.TheVariants.{Less, Equal, Greater}
+use Rattle.std.proofs.Common.{rules, ◌≡◌, ℕ, ◌||◌, ◌&&◌, Bool, true, false, List, [], ◌∷◌, refl}
+use Rattle.std.proofs.{Common.{sym, ap, ◌∙◌, inl, inr, arith}, lemmas.Bool.{cases_Bool, and_parts}}
+use Rattle.std.proofs.lemmas.Bool.{and_from, or_parts, cond-true, false≢true, true≢false}
+use Rattle.std.proofs.lemmas.{Bool.Decides.nat_tests, Cmp.nat_list_cmp_total}
+use Rattle.std.{proofs.lemmas.Map.Text.is_eq-slice_cmp, specs.{List.list_any, Ordering.nat_cmp}}
+use Rattle.std.specs.{Ordering.{is_lt, is_eq}, Cmp.Lexicographic.{slice_cmp, bytes_decides}}
+use Rattle.std.specs.declared.cmp.Ordering.{Ordering, TheVariants.{Less, Equal, Greater}}
 use Rattle.room_entry.specs.Pieces.{same_text}
 use Rattle.room_rows.specs.{Content.{is_before, is_pair_before, put_pair, set_of}, Laws.SetOfPairs}
 use Rattle.room_rows.specs.Laws.{are_rising}
@@ -33,10 +33,7 @@ pair_total a b first second =
     let down = or_parts (is_before b.0 a.0) (same_text b.0 a.0 && is_before b.1 a.1) second in
     let group : a.0 ≡ b.0 = text_total a.0 b.0 up.0 down.0 in
     let user : a.1 ≡ b.1 =
-    text_total a.1 b.1
-    (then_false (same_text a.0 b.0) (is_before a.1 b.1) ((bytes_decides a.0 b.0).1 group) up.1)
-    (then_false (same_text b.0 a.0) (is_before b.1 a.1) ((bytes_decides b.0 a.0).1 (sym group))
-    down.1) in
+    search (rules, text_total, a.1, b.1, then_false, a.0, b.0, group, up.1, down.1) in
     λ i. (group i, user i)
 
 pub or_swap : (a b c : Bool) → (a || (b || c)) ≡ (b || (a || c))

@@ -1,12 +1,13 @@
 -- Calls of a keeper one after the other.
-use Rattle.std.proofs.Common.{◌≡◌, ℕ, ◌≤◌, Result, Ok, Err, ap, arith}
-use Rattle.std.proofs.lemmas.Bool.{Decides.nat_tests}
-use Rattle.room_rows.specs.declared.keep.KeepFault.{KeepFault, TheVariants.{Memory}}
-use Rattle.room_rows.specs.{Rows.Rows, Keep.{HasCause, IfSeen, IsRead, KeepLaws}}
+use Rattle.std.proofs.Common.{◌≡◌, ℕ, ◌≤◌, Result, Ok, Err, Some, IfErr, ap, subst, arith}
+use Rattle.std.{proofs.lemmas.Bool.Decides.nat_tests, specs.Result.IsErrAnd}
+use Rattle.room_rows.specs.declared.keep.KeepFault.{KeepFault, TheVariants.{Memory, Store, NoRoot}}
+use Rattle.room_rows.specs.{declared.keep.KeepFault.TheVariants.Damaged, Rows.Rows, Keep.HasCause}
+use Rattle.room_rows.specs.Keep.{IfSeen, IsRead, KeepLaws, blamed_by}
 
 -- an error that `?` hands on
 pub handed_on : {X E : Type 0} (r : Result X E) (e : E)
-    → Rattle.std.specs.Result.IsErrAnd r (λ x. x ≡ e) → r ≡ Err e
+    → IsErrAnd r (λ x. x ≡ e) → r ≡ Err e
 handed_on (Ok x) e h = absurd h
 handed_on (Err x) e h = ap Err h
 
@@ -14,6 +15,18 @@ handed_on (Err x) e h = ap Err h
 pub later_cause : (first mid last : ℕ) (e : KeepFault) (D E : ℕ → Type 0) → first ≤ mid → mid ≤ last
     → ((id : ℕ) → D id → E id) → HasCause mid last D e → HasCause first last E e
 later_cause first mid last e D E up up' damaged h = grind (arith, nat_tests)
+
+same_some : {a b : ℕ} → Some a ≡ Some b → a ≡ b
+same_some e = cc
+
+-- what a fault blames is what its cause allows
+pub blames_caused : {X : Type 0} (r : Result X KeepFault) (before after id : ℕ) (D : ℕ → Type 0)
+    → IfErr r (HasCause before after D) → IsErrAnd r (λ why. blamed_by why ≡ Some id) → D id
+blames_caused (Ok x) before after id D cause is = absurd is
+blames_caused (Err Memory) before after id D cause is = absurd (cc)
+blames_caused (Err Store) before after id D cause is = absurd (cc)
+blames_caused (Err NoRoot) before after id D cause is = subst D (same_some is) cause
+blames_caused (Err (Damaged row)) before after id D cause is = subst D (same_some is) cause
 
 module _ {S : Type 0} (rows : S → Rows) (failures writes : S → ℕ)
     (Follows IsTrusted : S → S → Type 0) where

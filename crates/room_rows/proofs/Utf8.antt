@@ -1,12 +1,11 @@
 -- The test of UTF-8, and texts.
-use Rattle.std.proofs.Common.{◌≡◌, ℕ, zero, suc, ◌<◌, ◌≤◌, ◌==◌, true, false, List, [], ◌∷◌, length}
-use Rattle.std.proofs.Common.{take, subst, arith, inl, inr, get_or, nat_lt}
+use Rattle.std.proofs.Common.{rules, ◌≡◌, ℕ, zero, suc, ◌<◌, ◌≤◌, ◌==◌, true, false, List, [], ◌∷◌}
+use Rattle.std.proofs.Common.{length, take, subst, arith, inl, inr, get_or, nat_lt}
 use Rattle.std.proofs.lemmas.Bool.{cases_Bool, and_parts, or_from, ne_eqb, false_from_ne_true}
 use Rattle.std.proofs.lemmas.{Bool.Decides.nat_tests, List.take_all, Str.IsUtf8-from_ascii}
 use Rattle.std.proofs.lemmas.Str.{IsUtf8-from_is_utf8, IsUtf8-nil, is_utf8-from_IsUtf8}
-use Rattle.std.proofs.lemmas.Str.{utf8_valid_len-IsValidUpTo}
-use Rattle.std.specs.{List.list_all, Str.{IsUtf8, IsValidUpTo, is_utf8 as is_text}}
-use Rattle.std.specs.Str.Lossy.{utf8_valid_len}
+use Rattle.std.{proofs.lemmas.Str.utf8_valid_len-IsValidUpTo, specs.{List.list_all, Str.IsUtf8}}
+use Rattle.std.specs.Str.{IsValidUpTo, is_utf8 as is_text, Lossy.utf8_valid_len}
 use Rattle.room_entry.specs.Utf8.{is_utf8}
 
 -- where all bytes are below 128, the byte at any place is, and so is the 0 past the end
@@ -23,8 +22,7 @@ pub fails_as_utf8 : (bytes : List ℕ) (n : ℕ) → ¬ (IsUtf8 bytes) → IsVal
 fails_as_utf8 bytes n isnt upto =
     or_from (list_all (λ byte. nat_lt byte 128) bytes) (utf8_valid_len bytes == length bytes)
     (false_from_ne_true _ (λ e. isnt (IsUtf8-from_ascii bytes (ascii_at bytes e))))
-    (ne_eqb _ _ (λ e. let at = utf8_valid_len-IsValidUpTo bytes n upto in let short = upto.short in
-    absurd (omega (arith, at, e, short))))
+    (search (rules, ne_eqb, utf8_valid_len-IsValidUpTo, upto, upto.short))
 
 -- ---- what passes is UTF-8
 

@@ -1,6 +1,6 @@
 -- Steps of a walk.
-use Rattle.std.proofs.Common.{◌≡◌, ℕ, ◌<◌, ◌-◌, ◌+◌, List, [], ◌∷◌, ◌++◌, length, Some, None, drop}
-use Rattle.std.proofs.Common.{get_or, refl, append_assoc, drop-cons, add-one, length-drop}
+use Rattle.std.proofs.Common.{arith, ◌≡◌, ℕ, ◌<◌, ◌-◌, ◌+◌, List, [], ◌∷◌, ◌++◌, length, Some, None}
+use Rattle.std.proofs.Common.{drop, get_or, refl, append_assoc, drop-cons, add-one, length-drop}
 use Rattle.room_rows.specs.{declared.node.Node.Node, Content.{Content, child_of}, Along.after_chain}
 use Rattle.room_rows.specs.Walk.{walk_from, behind}
 
@@ -26,13 +26,7 @@ pub walk_ends : (content : Content) (node : Node) (chain : List Node) (names : L
     → after_chain chain (walk_from content node (drop i names))
     ≡ record { chain = chain ++ node ∷ []; rest = length names - i }
 walk_ends content node chain names i name below is none =
-    let rest = next_name names i name below is in
-    cc (
-      rest,
-      none_further content node name (drop (i + 1) names) none,
-      rest,
-      length-drop i names,
-    )
+    grind (arith, next_name, below, is, none_further, content, node, none, length-drop)
 
 -- a child of the next name
 pub walk_goes_on : (content : Content) (node next : Node) (chain : List Node)
@@ -41,9 +35,4 @@ pub walk_goes_on : (content : Content) (node next : Node) (chain : List Node)
     → after_chain chain (walk_from content node (drop i names))
     ≡ after_chain (chain ++ node ∷ []) (walk_from content next (drop (i + 1) names))
 walk_goes_on content node next chain names i name below is found =
-    let rest = next_name names i name below is in
-    cc (
-      rest,
-      one_further content node next name (drop (i + 1) names) found,
-      append_assoc chain (node ∷ []) (walk_from content next (drop (i + 1) names)).chain,
-    )
+    grind (arith, next_name, below, is, one_further, content, node, next, found, append_assoc)

@@ -10,7 +10,7 @@ use Rattle.room_entry.specs.declared.object.ObjKind.{ObjKind}
 use Rattle.room_entry.specs.declared.object.Which.{Which}
 use Rattle.room_entry.specs.declared.parties.Owners.{Owners}
 use Rattle.room_rows.specs.declared.keep.KeepFault.{KeepFault}
-use Rattle.room_rows.specs.declared.keep.KeepFault.TheVariants.{Memory, Store, Damaged}
+use Rattle.room_rows.specs.declared.keep.KeepFault.TheVariants.{Memory, Store, NoRoot, Damaged}
 use Rattle.room_rows.specs.declared.node.AuditRow.{AuditRow}
 use Rattle.room_rows.specs.declared.node.NewNode.{NewNode}
 use Rattle.room_rows.specs.declared.node.Node.{Node}
@@ -35,11 +35,20 @@ one_more n = capped (n + 1)
 -- ---- faults
 
 -- Memory may run out at any call. `Store` comes where the count of failures rose, or was at its end
--- before. `Damaged` comes for the numbers that the last relation names.
+-- before. `Damaged` comes for the numbers that the relation names, and `NoRoot` where it names 0,
+-- which is no row's.
 abbrev pub HasCause : ℕ → ℕ → (ℕ → Type 0) → KeepFault → Type 0
 HasCause before after damaged Memory = Unit {0}
 HasCause before after damaged Store = (before < after) ⊎ (2 ^ 64 - 1 ≤ before)
+HasCause before after damaged NoRoot = damaged 0
 HasCause before after damaged (Damaged id) = damaged id
+
+-- What a fault blames, as `HasCause` numbers it: a row, or 0 for the root that is missing.
+abbrev pub blamed_by : KeepFault → Option ℕ
+blamed_by Memory = None
+blamed_by Store = None
+blamed_by NoRoot = Some 0
+blamed_by (Damaged id) = Some id
 
 -- no row
 abbrev pub IsNever : Rows → ℕ → Type 0
@@ -63,7 +72,7 @@ LacksBytes rows row =
     (node : Node) × (node_at rows.read row ≡ Some node) × IsTrue (is_document node.kind)
     × (body_of rows.read row ≡ None)
 
--- Every number that `Damaged` may name, where the keeper answers by its rows.
+-- Every number that a fault may blame, where the keeper answers by its rows.
 abbrev pub IsDamaged : Rows → ℕ → Type 0
 IsDamaged rows row = HasNoRoot rows row ⊎ LacksBytes rows row
 
@@ -165,6 +174,14 @@ Places id parent name old new =
     IsFolderAt old parent → child_of old.read parent name ≡ None
     → Changes id (with_place parent name) old new
 
+-- a new object, and the bytes that it gets where it is a document
+pub record Addition : Type 0 where
+  pub node : NewNode
+  pub bytes : List ℕ
+
+abbrev pub with_bytes : NewNode → List ℕ → Addition
+with_bytes node bytes = record { node = node; bytes = bytes }
+
 abbrev pub node_of : ℕ → NewNode → Node
 node_of id new =
     record {
@@ -178,26 +195,27 @@ node_of id new =
     }
 
 -- with the object, and with the bytes where it is a document
-abbrev pub with_new : Content → ℕ → NewNode → Content
+abbrev pub with_new : Content → ℕ → Addition → Content
 with_new content id new =
-    if is_document new.kind then with_body (with_node content (node_of id new)) id new.bytes
-    else with_node content (node_of id new)
+    if is_document new.node.kind
+    then with_body (with_node content (node_of id new.node)) id new.bytes
+    else with_node content (node_of id new.node)
 
 -- the parent is a folder that is there, and the name is free under it
-pub record CanAdd (node : NewNode) (rows : Rows) : Type 0 where
+pub record CanAdd (new : Addition) (rows : Rows) : Type 0 where
   pub parent : ℕ
-  pub parent_is : node.parent ≡ Some parent
+  pub parent_is : new.node.parent ≡ Some parent
   pub folder : IsFolderAt rows parent
-  pub name_is_free : child_of rows.read parent node.name ≡ None
+  pub name_is_free : child_of rows.read parent new.node.name ≡ None
 
 -- an object is added with a number that wasn't in use
-pub record IsAdded (node : NewNode) (old : Rows) (id : ℕ) (new : Rows) : Type 0 where
+pub record IsAdded (node : Addition) (old : Rows) (id : ℕ) (new : Rows) : Type 0 where
   pub from_one : 0 < id
   pub is_new : node_at old.read id ≡ None
   pub is_free : is_unreadable old id ≡ false
   pub becomes : new ≡ with_content old (with_new old.read id node)
 
-abbrev pub Adds : NewNode → Rows → ℕ → Rows → Type 0
+abbrev pub Adds : Addition → Rows → ℕ → Rows → Type 0
 Adds node old id new = CanAdd node old → IsAdded node old id new
 
 -- the object is there, has a parent and has no children
@@ -227,11 +245,12 @@ Leaves becomes old answer new = becomes old new
 
 -- ---- one call
 
--- There is an answer, or a row that can't be read. Nothing is said of other faults.
+-- There is an answer, or the rows are at fault. Nothing is said of other faults.
 abbrev pub IfSeen : {X : Type 0} → Result X KeepFault → Type 0 → Type 0
 IfSeen (Ok x) P = P
 IfSeen (Err Memory) P = Unit {0}
 IfSeen (Err Store) P = Unit {0}
+IfSeen (Err NoRoot) P = P
 IfSeen (Err (Damaged id)) P = P
 
 -- What a call that answers Ok wrote is counted.

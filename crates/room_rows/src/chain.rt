@@ -13,9 +13,8 @@ use std::alloc::Global;
 /// The objects that the path leads to, from the root on, and how many of its names are left over.
 ///
 /// It goes from child to child by the names, as long as there are names and the child is there, and
-/// asks neither for kinds nor for rights. The error is the keeper's, or that memory ran out; where
-/// there is no root it is `Damaged { id: 0 }`, and no walk is answered. So there is an object in
-/// each answer.
+/// asks neither for kinds nor for rights. The error is the keeper's, or that memory ran out;
+/// `NoRoot` comes only where there is no root. There is an object in each answer.
 pub fn walk<K: Keep>(alloc: Global, keep: &mut K, path: &Path) -> Result<Walk, KeepFault>
     ensures read { Reads K.Keep keep.old keep.new result HasNoRoot (IsWalkFromRoot path.now) }
     ensures some { IfOk result (λ walk. 0 < length walk.chain) }

@@ -29,6 +29,7 @@ ghost use Rattle.room_rows.specs.Keep.{
   Places,
   Removes,
   SetsBody,
+  with_bytes,
   with_inh,
   with_owners,
 };
@@ -42,16 +43,17 @@ use room_entry::{Entry, Name, Names, Owners, Which};
 use std::alloc::AllocError;
 use std::fmt;
 
-/// Why a keeper gave no answer. The transaction around it is then rolled back. It is displayed with
-/// the number of the damaged row, as `row 7 is damaged`.
+/// Why a keeper gave no answer. The transaction around it is then rolled back. It is displayed in
+/// words, a damaged row with its number, as `row 7 is damaged`.
 #[derive(Clone, Copy, Debug, PartialEq, Eq)]
 pub enum KeepFault {
     /// Out of memory.
     Memory,
     /// What holds the rows failed. The keeper has counted the failure.
     Store,
-    /// The row of this number can't be read, or something that belongs to it is missing; 0 where
-    /// there is no root.
+    /// No object is without a parent.
+    NoRoot,
+    /// The row of this number can't be read, or something that belongs to it is missing.
     Damaged {
         /// The number.
         id: u64,
@@ -65,6 +67,7 @@ impl fmt::Display for KeepFault {
         match self {
             KeepFault::Memory => f.write_str("out of memory"),
             KeepFault::Store => f.write_str("the store failed"),
+            KeepFault::NoRoot => f.write_str("no object is a root"),
             KeepFault::Damaged { id } => write!(f, "row {id} is damaged"),
         }
     }
@@ -82,8 +85,8 @@ impl From<AllocError> for KeepFault {
 /// object is there, a new parent is a folder, a new name is free. The caller has to know that, and
 /// no keeper tests it. After an error of a call that writes nothing is promised of the rows.
 ///
-/// Any call may answer `Memory` or `Store`. As long as the answers are those of the rows, `Damaged`
-/// comes only where the call says so.
+/// Any call may answer `Memory` or `Store`. As long as the answers are those of the rows, `NoRoot`
+/// and `Damaged` come only where the call says so.
 pub trait Keep {
     ghost rows: { Self → Rows };
 
@@ -103,7 +106,7 @@ pub trait Keep {
     ghost IsTrusted: { Self → Self → Type 0 };
 
     /// The object without a parent that has the least number. The error is `Damaged` for a row that
-    /// can't be read, and with the number 0 where there is no such object.
+    /// can't be read, and `NoRoot` only where there is no such object.
     fn root(&mut self) -> Result<Node, KeepFault>
         ensures read { IsRead rows failures writes Follows IsTrusted self.old self.new result
             HasNoRoot IsRootOf }
@@ -163,10 +166,11 @@ pub trait Keep {
             IsNever (AreGroupsOf user.now) }
         ensures counted { reads self.new ≤ reads self.old + 1 };
 
-    /// Adds an object, and answers its number. The error is `Damaged` for a row that can't be read.
-    fn add(&mut self, node: NewNode) -> Result<u64, KeepFault>
+    /// Adds an object, and answers its number. A document gets the bytes. The error is `Damaged`
+    /// for a row that can't be read.
+    fn add(&mut self, node: NewNode, bytes: &[u8]) -> Result<u64, KeepFault>
         ensures written { IsWrite rows failures writes Follows IsTrusted self.old self.new result
-            IsUnreadable (Adds node) }
+            IsUnreadable (Adds (with_bytes node bytes.now)) }
         ensures unread { reads self.new ≤ reads self.old };
 
     /// Replaces one list of an object: its flags, its own and its inherited entries. The error is

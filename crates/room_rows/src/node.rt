@@ -5,7 +5,7 @@ ghost use Rattle.room_rows.specs.Held.{held_of, with_held};
 ghost use Rattle.room_rows.specs.Keep.{node_of};
 
 use crate::held::Held;
-use crate::text::{Bytes, Text};
+use crate::text::Text;
 use room_entry::{Items, Mask, Name, ObjKind, Owners, Which};
 use std::alloc::AllocError;
 
@@ -28,7 +28,7 @@ pub struct Node {
     pub sacl: Held,
 }
 
-/// An object that has no number yet, and the bytes that it gets where it is a document.
+/// An object that has no number yet.
 #[derive(Drop)]
 pub struct NewNode {
     /// The number of the folder that it is to stand in.
@@ -43,8 +43,6 @@ pub struct NewNode {
     pub dacl: Held,
     /// The list that records are kept by.
     pub sacl: Held,
-    /// The bytes of a document.
-    pub bytes: Bytes,
 }
 
 /// Numbers of objects.
@@ -136,9 +134,9 @@ impl Node {
 }
 
 impl NewNode {
-    /// The object with this number, and its bytes.
-    pub fn at_number(self, id: u64) -> (Node, Bytes)
-        ensures { result ≡ (node_of id self, self.bytes) }
+    /// The object with this number.
+    pub fn at_number(self, id: u64) -> Node
+        ensures { result ≡ node_of id self }
     {
         let NewNode {
             parent,
@@ -147,9 +145,8 @@ impl NewNode {
             owners,
             dacl,
             sacl,
-            bytes,
         } = self;
-        let node = Node {
+        Node {
             id,
             parent,
             name,
@@ -157,7 +154,6 @@ impl NewNode {
             owners,
             dacl,
             sacl,
-        };
-        (node, bytes)
+        }
     }
 }

@@ -3,8 +3,7 @@ use Rattle.std.proofs.Common.{◌≡◌, ◌≤◌, Result, Ok, Err, refl, sym, 
 use Rattle.sqlite_trees.specs.View.{doubt}
 use Rattle.sqlite.specs.State.{State, HasCleanDisk}
 use Rattle.room_rows.specs.declared.keep.KeepFault.{KeepFault}
-use Rattle.store_tables.specs.{Shown.Stays, Failing.FailsInside}
-use Rattle.store_tables.proofs.Failing.{Counts, around}
+use Rattle.store_tables.{specs.{Shown.Stays, Failing.FailsInside}, proofs.Failing.{Counts, around}}
 use Rattle.room_store.specs.declared.fault.StoreFault.{StoreFault, TheVariants.Db}
 use Rattle.room_store.specs.{Failing.FailsByDb, Turn.{Begins, GivesUp, fault_as}}
 use Rattle.room_store.proofs.Transact.{made, same_fault}
@@ -13,6 +12,7 @@ use Rattle.room_rows.specs.declared.keep.KeepFault.TheVariants as keep
 store_of : (why : KeepFault) → fault_as why ≡ Db → why ≡ keep.Store
 store_of keep.Memory is = absurd (let e = is in cc)
 store_of keep.Store is = refl
+store_of keep.NoRoot is = absurd (let e = is in cc)
 store_of (keep.Damaged id) is = absurd (let e = is in cc)
 
 pub fails_by : {X : Type 0} (old begun mid end : State) (done : Result X KeepFault)

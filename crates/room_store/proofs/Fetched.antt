@@ -1,7 +1,8 @@
 -- What fetching a document over any keeper is, in terms of a transaction.
-use Rattle.std.proofs.Common.{ℕ, List, Result, IfOk, IfErr, subst}
+use Rattle.std.proofs.Common.{ℕ, List, Result, IfOk, IfErr}
 use Rattle.sqlite.specs.State.{State}
 use Rattle.room_rows.specs.{declared.keep.KeepFault.KeepFault, Keep.{HasCause, IsDamaged}}
+use Rattle.room_rows.proofs.Steps.{blames_caused}
 use Rattle.room_dump.specs.{Fetching.IsFetched, declared.fetching.Fetched.Fetched}
 use Rattle.store_tables.specs.{Meaning.rows_of, Shown.Stays, Trust.IsTrusted}
 use Rattle.store_admin.specs.{Carries.{CallsInside, Reading}, Dump.HasDamagedRow}
@@ -20,7 +21,7 @@ fetched_by path result begun mid before after stays answers fault = record {
   blames =
       λ trust id is. (
         id,
-        subst (λ (r : Result Fetched KeepFault). IfErr r (HasCause before after
-            (λ at. IsTrusted begun mid → IsDamaged (rows_of begun.now) at))) is fault trust,
+        blames_caused result before after id
+            (λ at. IsTrusted begun mid → IsDamaged (rows_of begun.now) at) fault is trust,
       );
 }

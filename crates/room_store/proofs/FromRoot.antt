@@ -1,20 +1,19 @@
 -- What a sound room stores is what is computed from the root.
-use Rattle.std.proofs.Common.{◌≡◌, ℕ, Bool, true, List, [], ◌∷◌, map, Some, refl, sym, subst, ◌∙◌}
-use Rattle.std.proofs.{Common.{not, inl, inr}, lemmas.Bool.{and_parts, and_from}}
-use Rattle.std.specs.{Prelude.◌==◌, List.{AllByRecursion, list_all}}
+use Rattle.std.proofs.Common.{arith, ◌≡◌, ℕ, Bool, true, List, [], ◌∷◌, map, Some, refl, sym, subst}
+use Rattle.std.proofs.{Common.{◌∙◌, not, inl, inr}, lemmas.Bool.{and_parts, and_from}}
+use Rattle.std.specs.List.{AllByRecursion, list_all}
 use Rattle.sqlite.specs.{Tree.Trees, State.State}
 use Rattle.room_entry.specs.declared.object.Which.{Which, TheVariants.{Dacl, Sacl}}
 use Rattle.room_rows.specs.{declared.node.Node.Node, Content.{Content, node_at}, Full.full_in}
 use Rattle.room_rows.specs.{Held.{held_of, full_of}, Law.{AllAgree, agrees}, Meaning.kept_node}
 use Rattle.room_rows.specs.{Meaning.meaning, Rows.{AreRows, Rows, numbers_of}, Sound.has_bad_list}
-use Rattle.room_rows.specs.Sound.{keeps_law, reaches}
-use Rattle.room_rows.proofs.Lookups.{each_found}
+use Rattle.room_rows.{specs.Sound.keeps_law, proofs.Lookups.each_found}
 use Rattle.room_inherit.specs.{Ancestry.RootedIsNoLoop, Laws.{HasNoFault, SoundIsContent}}
 use Rattle.room_inherit.specs.{Laws.{SoundIsNoFault, StoredIsFull}, Spread.IsOwnAncestor}
 use Rattle.room_inherit.proofs.{NoFault.{none_fails, unbad}, Stored.all_found}
 use Rattle.room_inherit.proofs.Whole.{none_unreadable}
 use Rattle.room_machine.specs.Run.{Asking, Event}
-use Rattle.store_tables.specs.{Meaning.rows_of, RoomRows.room_rows, Shown.room_of, Within.TreesOf}
+use Rattle.store_tables.specs.{Meaning.rows_of, RoomRows.room_rows, Within.TreesOf}
 use Rattle.room_store.specs.{Crash.{Lasts, HoldsRoom, LeavesWhole}, Leads.Leads}
 use Rattle.room_store.specs.FromRoot.{CrashLeavesFromRoot, RoomsAreFromRoot, StaysFromRoot}
 use Rattle.room_store.specs.FromRoot.{AreFromRoot, computed_lists, stored_lists}
@@ -52,18 +51,10 @@ module _ (stored : StoredIsFull) (rooted : RootedIsNoLoop) (rows : Rows) (none :
         (λ node. (node.id, full_of (held_of which node)))
         (λ node. (node.id, full_in (meaning rows.read) which node))
         (kept_node rows.read) rows.read.nodes (each_found 0 rows.read.nodes are.numbers)
-        (λ n found i. (
-          n.id,
-          sym (stored rows.read which n (law_of rows.read none.law which) found
-              (all_found (reaches rows.read) (λ other. other.id == n.id) rows.read.nodes n none.reach
-              found)) i,
-        ))
+        (grind (arith, which, law_of, all_found))
 
     no_loop : (id : ℕ) → IsOwnAncestor rows.read id → ⊥
-    no_loop id loop =
-        rooted rows.read id _ loop.0 loop.1
-        (all_found (reaches rows.read) (λ other. other.id == id) rows.read.nodes loop.0 none.reach
-        loop.1) loop
+    no_loop id loop = grind (arith, loop.0, loop.1, all_found, loop)
 
     all_read : rows.unreadable ≡ []
     all_read =
@@ -92,12 +83,7 @@ stays_from_root rooms old new events leads lasts now sound is_open room keeps =
     let good = leads.sound now sound is_open in (
       it.0,
       it.1,
-      rooms it.0 new.now (record {
-        tables = room_of good.0 (lasts is_open).0;
-        sound = good.1;
-        version = good.2;
-        means = it.2 is_open;
-      }),
+      rooms it.0 new.now (grind (arith, good.0, lasts, is_open, sound, good.1, good.2, it.2)),
     )
 
 -- the tables that are held by a database with these trees

@@ -1,38 +1,26 @@
 -- What a crash leaves after some calls.
-use Rattle.std.proofs.Common.{◌≡◌, ◌⊎◌, List, [], ◌∷◌, Result, Ok, Err, Bool, Option, None, Some}
-use Rattle.std.proofs.Common.{IfSome, IsTrue, inl, inr, refl, sym, subst, ◌∙◌}
+use Rattle.std.proofs.Common.{arith, rules, ◌≡◌, ◌⊎◌, List, [], ◌∷◌, Result, Ok, Err, Bool, Option}
+use Rattle.std.proofs.Common.{None, Some, IfSome, IsTrue, inl, inr, refl, subst}
 use Rattle.std.proofs.lemmas.Bool.{cases_Bool}
 use Rattle.sqlite_rules.specs.Lists.{Has}
-use Rattle.sqlite.specs.{Effect.Database, Held.Held, Schema.Schema, State.{State, HasCleanDisk}}
-use Rattle.sqlite.specs.Tree.{Trees}
-use Rattle.room_rows.specs.{Content.Content, Meaning.meaning, Rows.Rows, Sound.AreSound}
-use Rattle.room_machine.specs.{declared.reply.Reply.Reply, Run.{Asking, Event, Happens, RunsMeet}}
-use Rattle.room_machine.specs.Run.{event_of, unanswered}
-use Rattle.store_tables.specs.{Meaning.rows_of, Shown.{IsRoom, room_of}, Within.LeavesAsBefore}
+use Rattle.sqlite.specs.{Effect.Database, Held.Held, State.{State, HasCleanDisk}, Tree.Trees}
+use Rattle.room_rows.specs.{Content.Content, Rows.Rows, Sound.AreSound}
+use Rattle.room_machine.specs.{declared.reply.Reply.Reply, Run.{Asking, Event, RunsMeet, event_of}}
+use Rattle.room_machine.specs.Run.{unanswered}
+use Rattle.store_tables.specs.{Shown.IsRoom, Within.LeavesAsBefore}
 use Rattle.room_store.specs.{Asks.Asks, Crash.{HoldsRoom, HoldsRoomAfter, IsOneMore, Lasts}}
 use Rattle.room_store.specs.Crash.{LeavesAtMost, LeavesWhole, LosesNothing, Outlasts, OutlastsOn}
 use Rattle.room_store.specs.{Crash.{Try, all_asked, all_happened, left_by}, Kept.{IsShut, IsSound}}
 use Rattle.room_store.specs.{Kept.Keeps, Leads.Leads, Ran.{CommitsAnswer, Ran}}
 use Rattle.room_store.specs.{declared.fault.StoreFault.StoreFault, Lasting.nothing_tried}
-use Rattle.room_store.specs.Lasting.{together}
-use Rattle.room_store.proofs.{Leading.{IsEvent, leading}, Shutting.{asked_keeps, asked_sound}}
-use Rattle.room_store.proofs.{Shutting.not_shut, Versions.same_version}
+use Rattle.room_store.{specs.Lasting.together, proofs.Leading.{IsEvent, leading}}
+use Rattle.room_store.proofs.{Shutting.{asked_keeps, asked_sound, not_shut}, Versions.same_version}
 
 -- what is seen over an open connection, where a crash leaves that and nothing else
 pub seen_is_left : (s : State) → IsSound s → IsTrue s.is_open → Lasts s → (room : Content)
     → Keeps s room → (db : Trees) → s.may_leave db → HoldsRoom room db
 seen_is_left s sound is_open lasts room keeps db left =
-    let good = sound is_open in
-    let safe = lasts is_open in (
-      s.now,
-      record {
-        tables = room_of good.0 safe.0;
-        sound = good.1;
-        version = good.2;
-        means = keeps is_open;
-      },
-      safe.1.only db left,
-    )
+    grind (arith, sound, is_open, lasts, keeps, db, left)
 
 pub nothing_lost : (old new : State) (events : List Event) → Leads old events new → Lasts new
     → LosesNothing old events new
@@ -47,20 +35,12 @@ as_before : (old new : State) (before : Option Asking) (room : Content) (db : Tr
     → (IsShut old → IsShut new) → LeavesAtMost before old room → old.may_leave db
     → HoldsRoom room db
     ⊎ (IsShut new × (happens : Asking) × (before ≡ Some happens) × HoldsRoomAfter room db happens)
-as_before old new before room db shut leaves left =
-    elim (leaves db left) [
-      | inl holds ↦ inl holds
-      | inr p ↦ inr (shut p.0, p.1, p.2, p.3)
-    ]
+as_before old new before room db shut leaves left = search (rules, leaves, db, left, shut)
 
 -- over a connection that was open, what is left is the room itself
 only : (s : State) (before : Option Asking) (room : Content) (db : Trees) → IsTrue s.is_open
     → LeavesAtMost before s room → s.may_leave db → HoldsRoom room db
-only s before room db is_open leaves left =
-    elim (leaves db left) [
-      | inl holds ↦ holds
-      | inr p ↦ absurd (not_shut s is_open p.0)
-    ]
+only s before room db is_open leaves left = grind (arith, leaves, db, left, not_shut, s, is_open)
 
 -- what may be there after that
 abbrev Left : State → List Asking → State → Option Asking → Content → Type 0
@@ -73,7 +53,7 @@ left_open : (old new : State) (asked : List Asking) (before after : Option Askin
     → LeavesAtMost after new room → Left old asked new before room
 left_open old new asked before after room is_open one leaves = (
   after,
-  record { same = λ shut. absurd (not_shut old is_open shut); one = λ _. one },
+  grind (arith, not_shut, old, is_open, one),
   leaves,
 )
 
@@ -83,24 +63,18 @@ left_shut : (old new : State) (asked : List Asking) (before : Option Asking) (ro
     → Left old asked new before room
 left_shut old new asked before room shut stays leaves = (
   before,
-  record { same = λ _. (stays shut, refl); one = λ is_open. absurd (not_shut old is_open shut) },
+  grind (arith, stays, shut, not_shut, old),
   leaves,
 )
 
 -- ---- one call
 
 still_shut : (old new : State) → (IsTrue new.is_open → IsTrue old.is_open) → IsShut old → IsShut new
-still_shut old new was shut =
-    elim (cases_Bool new.is_open) [
-      | inl is ↦ absurd (not_shut old (was is) shut)
-      | inr is ↦ is
-    ]
+still_shut old new was shut = grind (arith, new.is_open, not_shut, old, was, shut)
 
 -- two databases with the same schema and the same trees are one
 same_database : (a b : Database) → a.schema ≡ b.schema → a.trees ≡ b.trees → a ≡ b
-same_database a b schema trees =
-    subst (λ (t : Trees). a ≡ record { schema = b.schema; trees = t }) trees
-    (subst (λ (s : Schema). a ≡ record { schema = s; trees = a.trees }) schema refl)
+same_database a b schema trees = grind (arith, a, schema, b.schema, trees, a.trees)
 
 module _ (old new : State) {X : Type 0} (Blames : Rows → Type 0)
     (Becomes : Rows → X → Rows → Type 0) (asking : Asking) (reply : X → Reply)
@@ -111,28 +85,7 @@ module _ (old new : State) {X : Type 0} (Blames : Rows → Type 0)
       → CommitsAnswer Becomes old db
       → HoldsRoomAfter room db asking
   after_one room sound keeps db (is_open, commits) =
-      let good = sound is_open in
-      let c = commits good.0 in
-      let x = c.0 in
-      let it = c.1.0 in
-      let answered = c.1.1 in
-      let is = c.1.2 in
-      let event = becomes _ _ x answered.becomes good.1 in
-      let next = meaning (rows_of it).read in (
-        reply x,
-        next,
-        subst (λ (r : Content). Happens r (asking (reply x)) next) (keeps is_open) event.happens,
-        (
-          it,
-          record {
-            tables = answered.room;
-            sound = event.sound;
-            version = same_version old.now it answered.retains good.2;
-            means = refl;
-          },
-          is,
-        ),
-      )
+      grind (arith, sound, is_open, commits, keeps, same_version)
 
   -- what an answer leaves
   after_answer : (x : X) → Ran old new (Ok x) Blames Becomes → HasCleanDisk new → IsSound old
@@ -145,19 +98,12 @@ module _ (old new : State) {X : Type 0} (Blames : Rows → Type 0)
       let good' = sound' is_open.1 in
       let is = (ran.lasts now).only db left in
       let room_at : (it : Database) → IsRoom it → db ≡ it.trees → IsRoom new.now =
-      λ it has here. subst IsRoom
-      (same_database it new.now (has.schema ∙ sym good'.0.schema) (sym here ∙ is)) has in
+      grind (arith, same_database, good'.0.schema, is) in
       let tables : IsRoom new.now =
       elim (ran.crash now db left) [
-        | inl was ↦ (let it = only old before room db is_open.0 leaves was in
-            room_at it.0 it.1.tables it.2)
+        | inl was ↦ grind (arith, only, room, is_open.0, leaves, was, room_at)
         | inr c ↦ (let it = c.1 good.0 in room_at it.1.0 it.1.1.room it.1.2)
-      ] in
-      inl (
-        new.now,
-        record { tables = tables; sound = good'.1; version = good'.2; means = keeps is_open.1 },
-        is,
-      ))
+      ] in grind (arith, tables, sound, good'.1, good'.2, keeps, is_open.1, is))
 
   -- what a fault leaves
   after_fault : (fault : StoreFault) → Ran {X = X} old new (Err fault) Blames Becomes
@@ -177,10 +123,7 @@ module _ (old new : State) {X : Type 0} (Blames : Rows → Type 0)
             ])
         | inr shut ↦
             left_shut old new (asking ∷ []) before room shut stays
-            (λ db left. elim (ran.crash now db left) [
-              | inl was ↦ as_before old new before room db stays leaves was
-              | inr c ↦ absurd (not_shut old c.0 shut)
-            ])
+            (search (rules, ran.crash, now, as_before, room, stays, leaves, not_shut, shut))
       ]
 
   pub outlasting : (result : Result X StoreFault) → Ran old new result Blames Becomes
@@ -190,9 +133,7 @@ module _ (old new : State) {X : Type 0} (Blames : Rows → Type 0)
     leaves = λ now sound room keeps before leaves.
         let leads = leading old new Blames Becomes (λ x. asking (reply x)) becomes (Ok x) ran in
         let it = leads.run now sound room keeps in
-        let left =
-        after_answer x ran now sound before room leaves (leads.sound now sound) it.0 it.2 in
-        (it.0, it.1, it.2, left.0, left.1, left.2);
+        grind (arith, after_answer, ran, leads.sound, it.0, it.2, it.1);
   }
   outlasting (Err fault) ran = record {
     leads = leading old new Blames Becomes (λ x. asking (reply x)) becomes (Err fault) ran;
@@ -210,12 +151,8 @@ after_none : (old new : State) → (IsShut old → IsShut new)
     (room : Content) → LeavesAtMost before old room → Left old [] new before room
 after_none old new stays crash before room leaves =
     elim (cases_Bool old.is_open) [
-      | inl was_open ↦
-          left_open old new [] before None room was_open (λ _. tt)
-          (λ db left. inl (only old before room db was_open leaves (crash db left)))
-      | inr shut ↦
-          left_shut old new [] before room shut stays
-          (λ db left. as_before old new before room db stays leaves (crash db left))
+      | inl was_open ↦ grind (arith, left_open, old, new, room, was_open, only, leaves, crash)
+      | inr shut ↦ search (rules, left_shut, old, new, room, shut, stays, as_before, leaves, crash)
     ]
 
 -- the same, by which nothing happens

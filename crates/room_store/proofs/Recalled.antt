@@ -1,29 +1,24 @@
 -- What is remembered from one transaction to the next.
-use Rattle.std.proofs.Common.{◌≡◌, ◌≤◌, Result, Ok, Err, Option, None, Some, IsTrue, IsOk, IfSome}
-use Rattle.std.proofs.Common.{OnErr, inl, false, sym, ap, subst, ◌∙◌, arith}
-use Rattle.sqlite.specs.{Effect.Database, State.{State, HasCleanDisk, IsRolledBack}}
+use Rattle.std.proofs.Common.{rules, ◌≡◌, ◌≤◌, Result, Ok, Err, Option, None, Some, IsTrue, IsOk}
+use Rattle.std.proofs.Common.{IfSome, OnErr, inl, false, sym, subst, ◌∙◌, arith}
+use Rattle.sqlite.specs.State.{State, HasCleanDisk, IsRolledBack}
 use Rattle.sqlite_trees.specs.View.{doubt}
 use Rattle.room_remember.specs.{declared.memory.Memory.Memory, Agrees.AgreesWithRows}
 use Rattle.room_rows.specs.{declared.keep.KeepFault.KeepFault, Rows.Rows}
-use Rattle.store_tables.specs.{Meaning.rows_of, Shown.{HasTables, Stays, tables_of}}
-use Rattle.store_tables.specs.{Trust.IsTrusted, Within.{IsSettled, LeavesAsBefore, LeavesOnly}}
-use Rattle.store_tables.proofs.Calls.{retains_same}
+use Rattle.store_tables.specs.{Meaning.rows_of, Shown.{HasTables, Stays}, Trust.IsTrusted}
+use Rattle.store_tables.{specs.Within.{IsSettled, LeavesAsBefore}, proofs.Calls.retains_same}
 use Rattle.store_admin.specs.Carries.{ByRows, CallsInside, OnRows}
 use Rattle.room_store.specs.{declared.fault.StoreFault.StoreFault, Ran.{LeavesOpen, Ran}}
 use Rattle.room_store.specs.{Remembers.{EndsLook, IsKept, Remembers, Settled}, Turn.Begins}
-use Rattle.room_store.specs.Turn.{GivesUp}
-use Rattle.room_store.proofs.Transact.{before, made, never_damage, old_clean, old_open, same_fault}
-use Rattle.room_store.proofs.Transact.{undone_at}
+use Rattle.room_store.{specs.Turn.GivesUp, proofs.Transact.{before, made, never_damage, old_clean}}
+use Rattle.room_store.proofs.Transact.{old_open, same_fault, undone_at}
 
 -- a call that leaves the database leaves what is remembered of it
 pub still : (old new : State) (known : Option Memory) → LeavesOpen old new
     → (HasCleanDisk new → IsTrue new.is_open → new.now ≡ old.now)
     → IfSome known (Remembers old) → IfSome known (Remembers new)
 still old new None leaves same remembers = tt
-still old new (Some memory) leaves same remembers = λ now open' tables.
-    let is = same now open' in
-    subst (λ db. AgreesWithRows memory (rows_of db)) (sym is)
-    (remembers (leaves.clean now) (leaves.was_open now open') (subst HasTables is tables))
+still old new (Some memory) leaves same remembers = λ now open' tables. grind (arith, same, remembers, leaves.clean, leaves.was_open)
 
 -- what is begun with agrees with what was remembered
 pub begun_with : (s : State) (kept : Option Memory) (known : Memory)
@@ -41,8 +36,7 @@ agrees_at old begun mid begins stays known remembers t =
     let clean : HasCleanDisk old = subst (λ b. doubt b ≡ 0) begins.same_clean begun_clean in
     let open' : IsTrue old.is_open =
     sym begins.same_open ∙ stays.within.was_open t.clean t.is_open in
-    subst (λ db. AgreesWithRows known (rows_of db)) (sym begins.now)
-    (remembers clean open' (subst HasTables begins.now (tables_of t.now)))
+    grind (arith, known, remembers, clean, open')
 
 module _ (old begun mid back end : State) (begins : Begins old begun) (stays : Stays begun mid)
     (back_ended : back.in_transaction ≡ false)
@@ -70,9 +64,7 @@ module _ (old begun mid back end : State) (begins : Begins old begun) (stays : S
   made' now = made old begun mid back begins stays back_ended back_clean (to_back now)
 
   before' : LeavesAsBefore old end
-  before' now db left =
-      before old begun mid back begins stays back_ended back_clean (to_back now) db
-      (back_crash (to_back now) db (crash now db left))
+  before' now db left = search (rules, before, to_back, now, left)
 
   module _ {X : Type 0} (Blames : Rows → Type 0) (Becomes : Rows → X → Rows → Type 0)
       (now_settled : IsSettled end) where
@@ -85,29 +77,15 @@ module _ (old begun mid back end : State) (begins : Begins old begun) (stays : S
         let mid_open = λ (now : HasCleanDisk end). (rolled now).was_open (settled now).was_open in
         let same = λ (now : HasCleanDisk end). end_is now (rolled now) (settled now) in
         record {
-          leaves = record {
-            ended = λ _. ended;
-            clean = was_clean;
-            was_open = λ now _. was_open now (mid_open now);
-          };
+          leaves = grind (arith, was_clean, was_open, mid_open);
           answers = λ now. (was_open now (mid_open now), (settled now).is_open);
           committed = λ now. (settled now).committed;
-          step = λ premise.
-              let now = premise.disk in
-              let m = made' now (mid_open now) premise.tables in
-              let rows = is_kept.same m.trusted in
-              let stepped = carries.becomes m.trusted in
-              subst (λ v. Becomes (rows_of old.now) v (rows_of end.now))
-              (sym ((ends now).0 ∙ (gives (to_back now)).0))
-              (subst (λ w. Becomes (rows_of old.now) x w)
-              (rows ∙ ap rows_of begins.now ∙ sym (ap rows_of (same now)))
-              (subst (λ db. Becomes (rows_of db) x (rows_of mid.now)) begins.now stepped));
+          step = grind (arith, made', mid_open, carries.becomes, ends, gives, to_back, x, same);
           kept = λ _ _. tt;
           tables = λ premise _. subst HasTables (sym (same premise.disk)) premise.tables;
           retains = λ premise _. retains_same old.now end.now (same premise.disk);
           damaged = λ _ _ is. absurd (let e = is in cc);
-          lasts = λ now. subst (λ (d : Database). LeavesOnly end d) (settled now).committed
-              (now_settled (settled now).is_open);
+          lasts = grind (arith, settled);
           spared = λ _. tt;
           crash = λ now db left. inl (before' now db left);
         }
@@ -122,21 +100,14 @@ module _ (old begun mid back end : State) (begins : Begins old begun) (stays : S
         let same : HasCleanDisk end → IsTrue end.is_open → end.now ≡ old.now =
         λ now open'. (left now).now open' ∙ undone now ((left now).was_open open') (rolled now) in
         record {
-          leaves = record {
-            ended = λ _. ended;
-            clean = was_clean;
-            was_open = λ now open'.
-                was_open now ((rolled now).was_open ((left now).was_open open'));
-          };
+          leaves = grind (arith, was_clean, was_open, rolled, left);
           answers = λ _. tt;
           committed = λ _. tt;
           step = λ _. tt;
           kept = same;
           tables = λ premise open'. subst HasTables (sym (same premise.disk open')) premise.tables;
           retains = λ premise open'. retains_same old.now end.now (same premise.disk open');
-          damaged = λ premise _ is. absurd
-              (never_damage (ends premise.disk).0
-              (sym (ends premise.disk).1 ∙ same_fault is));
+          damaged = grind (arith, never_damage, ends, same_fault);
           lasts = λ _. tt;
           spared = λ _. before';
           crash = λ now db left. inl (before' now db left);
@@ -144,23 +115,7 @@ module _ (old begun mid back end : State) (begins : Begins old begun) (stays : S
 
     never : (HasCleanDisk end → ⊥) → (result : Result X StoreFault)
         → Ran old end result Blames Becomes
-    never not' result = record {
-      leaves = record {
-        ended = λ _. ended;
-        clean = λ now. absurd (not' now);
-        was_open = λ now. absurd (not' now);
-      };
-      answers = λ now. absurd (not' now);
-      committed = λ now. absurd (not' now);
-      step = λ premise. absurd (not' premise.disk);
-      kept = λ now. absurd (not' now);
-      tables = λ premise. absurd (not' premise.disk);
-      retains = λ premise. absurd (not' premise.disk);
-      damaged = λ premise. absurd (not' premise.disk);
-      lasts = λ now. absurd (not' now);
-      spared = λ _. spares result;
-      crash = λ now. absurd (not' now);
-    }
+    never not' result = grind (arith, not', was_open)
       where
         spares : (result : Result X StoreFault) → OnErr result (LeavesAsBefore old end)
         spares (Ok x) = tt
@@ -188,13 +143,7 @@ module _ (old begun mid back end : State) (begins : Begins old begun) (stays : S
   look_remembers (Ok x) (Ok y) (Ok z) (Some m) remembers is gives ends h =
       subst (λ q. Remembers end q) (sym h.0) (λ now _ tables.
       let rolled = (gives (to_back now)).1 in
-      let settled = (ends now).1 in
-      let same = end_is now rolled settled in
-      let it = made' now (rolled.was_open settled.was_open) (subst HasTables same tables) in
-      subst (λ w. AgreesWithRows kept w)
-      (is_kept.same it.trusted ∙ ap rows_of begins.now ∙ sym (ap rows_of same))
-      (is_kept.agrees it.trusted
-      (agrees_at old begun mid begins stays known remembers it.trusted)))
+      grind (arith, ends, end_is, rolled, made', rolled.was_open, agrees_at, remembers))
   look_remembers (Ok x) (Ok y) (Err fault) (Some m) remembers is gives ends h = absurd (let e = h.2 in cc)
   look_remembers (Ok x) (Err why) result (Some m) remembers is gives ends h = absurd (let e = h.1 in cc)
   look_remembers (Err why) looked result (Some m) remembers is gives ends h = absurd (let e = is in cc)

@@ -1,7 +1,6 @@
 -- A sound room can be opened again, and so can whatever a crash leaves of one.
-use Rattle.std.proofs.Common.{◌≡◌, ℤ, List, Option, Some, None, Result, Ok, Err, IfErr, pos, inl}
-use Rattle.std.proofs.Common.{inr, refl, sym, subst, ap, ◌∙◌}
-use Rattle.std.specs.Prelude.{◌<ℤ◌}
+use Rattle.std.proofs.Common.{arith, rules, ◌≡◌, ℤ, List, Option, Some, Result, Ok, Err, IfErr, pos}
+use Rattle.std.proofs.Common.{refl, sym, ap, ◌∙◌}
 use Rattle.sqlite.specs.{Effect.Database, Held.Held, State.State, Tree.Trees}
 use Rattle.room_rows.specs.{Content.Content, Meaning.meaning}
 use Rattle.room_machine.specs.Run.{Asking, Event}
@@ -10,16 +9,13 @@ use Rattle.store_schema.specs.declared.fault.OpenFault.{OpenFault, TheVariants.N
 use Rattle.store_schema.specs.declared.fault.OpenFault.TheVariants.{OldVersion, NewVersion, Db}
 use Rattle.store_schema.specs.declared.fault.OpenFault.TheVariants.{Memory}
 use Rattle.store_tables.specs.{Meaning.rows_of, Within.TreesOf}
-use Rattle.room_store.specs.{Crash.{HoldsRoom, IsRoomOf, Lasts, LeavesWhole}, Opens.CanBeOpened}
-use Rattle.room_store.specs.Opens.{CrashLeavesARoom, RoomsCanBeOpened}
-use lib.Signed.{<ℤ_irrefl}
+use Rattle.room_store.specs.{Crash.{HoldsRoom, LeavesWhole}, Opens.{CanBeOpened, CrashLeavesARoom}}
+use Rattle.room_store.specs.Opens.{RoomsCanBeOpened}
 
 -- the same number stands there
 same_number : (version : Option ℤ) (n wanted : ℤ) → version ≡ Some wanted → version ≡ Some n
     → n ≡ wanted
-same_number version n wanted is has =
-    let out : Option ℤ → ℤ = λ o. elim o [ None ↦ n | Some m ↦ m ] in
-    ap out (sym has ∙ is)
+same_number version n wanted is has = grind (arith, has, is)
 
 -- where the number is that of this version, no answer says otherwise
 says_failure : (wanted : ℤ) (version : Option ℤ) (result : Result (Unit {0}) OpenFault)
@@ -27,11 +23,9 @@ says_failure : (wanted : ℤ) (version : Option ℤ) (result : Result (Unit {0})
 says_failure wanted version (Ok done) is says = tt
 says_failure wanted version (Err NotRooms) is says = absurd (let e = sym says ∙ is in cc)
 says_failure wanted version (Err (OldVersion n)) is says =
-    absurd (<ℤ_irrefl
-    (subst (λ (z : ℤ). z <ℤ wanted) (same_number version n wanted is says.0) says.1))
+    grind (arith, same_number, is, says.0, says.1)
 says_failure wanted version (Err (NewVersion n)) is says =
-    absurd (<ℤ_irrefl
-    (subst (λ (z : ℤ). wanted <ℤ z) (same_number version n wanted is says.0) says.1))
+    grind (arith, same_number, is, says.0, says.1)
 says_failure wanted version (Err Db) is says = tt
 says_failure wanted version (Err Memory) is says = tt
 
@@ -50,7 +44,4 @@ module _ {S : Type 0} (shown : Held S → State) where
       (events : List Event) → LeavesWhole old asked events new → CrashLeavesARoom shown old new
   crash_leaves_a_room rooms old new asked events whole now sound is_open lasts db left =
       let it = whole now sound is_open lasts (meaning (rows_of old.now).read) (λ _. refl) in
-      elim (it.2.2 db left) [
-        | inl holds ↦ held rooms it.0 db holds
-        | inr p ↦ held rooms p.3.1 db p.3.3
-      ]
+      search (rules, it.2.2, db, left, held, rooms, it.0)

@@ -1,10 +1,9 @@
 -- What calls retain.
-use Rattle.std.proofs.Common.{Bool, Result, inl, inr, subst, sym}
-use Rattle.sqlite.specs.{Effect.Database, State.State}
+use Rattle.std.proofs.Common.{arith, rules, Bool, Result, inl, inr}
+use Rattle.sqlite.specs.State.{State}
 use Rattle.room_rows.specs.Rows.{Rows}
-use Rattle.store_tables.specs.Shown.{HasTables, Retains}
 use Rattle.store_tables.proofs.Calls.{retains_on}
-use Rattle.room_store.specs.{Asks.Asks, Premise.StorePremise, Ran.Ran, Retained.StillHolds}
+use Rattle.room_store.specs.{Asks.Asks, Ran.Ran, Retained.StillHolds}
 use Rattle.room_store.specs.declared.fault.StoreFault.{StoreFault}
 
 -- a call that writes
@@ -14,12 +13,7 @@ pub ran_retains : {X : Type 0} (old new : State) (result : Result X StoreFault)
 ran_retains old new result Blames Becomes ran now = (
   ran.leaves.clean now,
   λ before holds. record {
-    seen = λ is_open.
-        let was = holds.seen (ran.leaves.was_open now is_open) in
-        let premise : StorePremise old new = record { disk = now; tables = was.0 } in (
-          ran.tables premise is_open,
-          retains_on before old.now.trees new.now.trees was.1 (ran.retains premise is_open),
-        );
+    seen = search (rules, ran.leaves.was_open, now, ran.tables, retains_on, ran.retains);
     left = λ db left.
         elim (ran.crash now db left) [
           | inl was ↦ holds.left db was
@@ -43,10 +37,5 @@ pub asked_retains : (old new : State) (result : Result Bool StoreFault) → Asks
     → StillHolds old new
 asked_retains old new result asked now = (
   asked.leaves.clean now,
-  λ before holds. record {
-    seen = λ is_open.
-        subst (λ (db : Database). HasTables db × Retains before db.trees)
-        (sym (asked.same now is_open)) (holds.seen (asked.leaves.was_open now is_open));
-    left = λ db left. holds.left db (asked.crash now db left);
-  },
+  grind (arith, asked.same, now, asked.leaves.was_open, asked.crash),
 )

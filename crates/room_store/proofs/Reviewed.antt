@@ -3,6 +3,7 @@ use Rattle.std.proofs.Common.{◌≡◌, ℕ, List, Result, Ok, IfOk, IfErr, Vec
 use Rattle.std.specs.Global.{Global}
 use Rattle.sqlite.specs.State.{State}
 use Rattle.room_rows.specs.{declared.keep.KeepFault.KeepFault, Keep.{HasCause, HasNoRoot}}
+use Rattle.room_rows.proofs.Steps.{blames_caused}
 use Rattle.room_review.specs.{Table.IsReview, declared.question.{Scope.Scope, Reviewed.Reviewed}}
 use Rattle.store_tables.specs.{Meaning.rows_of, Shown.Stays, Trust.{IsTrusted, stays_on}}
 use Rattle.store_tables.specs.Trust.{trusted_first, trusted_last}
@@ -24,8 +25,8 @@ module _ (question : Scope) (result : Result Reviewed KeepFault) where
     blames =
         λ trust id is. (
           id,
-          inl (subst (λ (r : Result Reviewed KeepFault). IfErr r (HasCause before after
-              (λ at. IsTrusted begun mid → HasNoRoot (rows_of begun.now) at))) is fault trust),
+          inl (blames_caused result before after id
+              (λ at. IsTrusted begun mid → HasNoRoot (rows_of begun.now) at) fault is trust),
         );
   }
 

@@ -3,16 +3,14 @@ use Rattle.std.proofs.Common.{◌≡◌, ◌⊎◌, ℕ, Bool, true, false, List
 use Rattle.std.proofs.Common.{inl, inr, refl, sym, ap, subst, ◌∙◌, true≢false, arith}
 use Rattle.sqlite.specs.{Order.Row, declared.error.Error.Error, State.{State, HasCleanDisk}}
 use Rattle.sqlite.specs.State.{HasCause, IsNoStatement, IsNotRun, IsRolledBack, IsUnchanged}
-use Rattle.sqlite.specs.{State.store_error, Effect.Database}
+use Rattle.sqlite.specs.State.{store_error}
 use Rattle.sqlite_trees.specs.{View.doubt, declared.error.StoreError.StoreError}
 use Rattle.sqlite_trees.specs.declared.error.StoreError.TheVariants.{OutOfMemory, Io, Corrupt, Full}
 use Rattle.sqlite_trees.specs.declared.error.StoreError.TheVariants.{Broken, Unstorable}
 use Rattle.room_machine.specs.Desk.{Agrees}
-use Rattle.room_store.specs.{Asks.{Asks, says_shut, told_by, told_if}, Kept.IsOfThisVersion}
-use Rattle.room_store.specs.{Kept.{IsShut, IsSound, Keeps, Stores}, Ran.Ran}
-use Rattle.room_store.specs.declared.fault.StoreFault.{StoreFault}
-use Rattle.room_rows.specs.{Content.Content, Meaning.meaning, Rows.Rows, Sound.AreSound}
-use Rattle.store_tables.specs.{Meaning.rows_of, Shown.HasTables}
+use Rattle.room_store.specs.{Asks.{Asks, says_shut, told_by, told_if}, Kept.{IsShut, IsSound}}
+use Rattle.room_store.specs.{Kept.{Keeps, Stores}, Ran.Ran, declared.fault.StoreFault.StoreFault}
+use Rattle.room_rows.specs.{Content.Content, Rows.Rows}
 use Rattle.store_tables.proofs.Within.{CommitsNothing, as_before}
 
 -- what holds of a clean disk holds of any, where a disk that isn't clean shows as shut
@@ -83,9 +81,7 @@ module _ (old new : State) where
   -- a connection that was shut stays so
   pub stays : (new.is_clean ≡ false → new.is_open ≡ false)
       → (HasCleanDisk new → IsTrue new.is_open → IsTrue old.is_open) → IsShut old → IsShut new
-  stays dirty was_open is =
-      clean_or_not new.is_clean new.is_open dirty
-      (λ now. stays_shut old.is_open new.is_open (was_open now) is)
+  stays dirty was_open is = grind (arith, clean_or_not, dirty, stays_shut, was_open, is)
 
   pub was : IsUnchanged old new ⊎ IsRolledBack old new → IsTrue new.is_open → IsTrue old.is_open
   was (inl same) is = same.0.was_open
@@ -105,11 +101,7 @@ module _ (old new : State) where
       → (HasCleanDisk new → IsUnchanged old new ⊎ IsRolledBack old new)
       → IfOk result (Agrees (HasCleanDisk new) (IsShut new)) → Asks old new result
   asks result ended quiet settled left told = record {
-    leaves = record {
-      ended = ended;
-      clean = λ now. omega (arith, quiet.clean, now);
-      was_open = λ now. was (left now);
-    };
+    leaves = grind (arith, ended, quiet.clean, was, left);
     same = λ now. same_rows settled (left now);
     told = told;
     crash = as_before old new quiet;
@@ -123,21 +115,15 @@ module _ (old new : State) (result : Result Bool StoreFault) (asked : Asks old n
     (now : HasCleanDisk new) where
   -- what is kept is still kept
   pub asked_keeps : (room : Content) → Keeps old room → Keeps new room
-  asked_keeps room keeps is_open =
-      ap (λ (db : Database). meaning (rows_of db).read) (asked.same now is_open)
-      ∙ keeps (asked.leaves.was_open now is_open)
+  asked_keeps room keeps is_open = grind (arith, is_open, keeps)
 
   -- and is still sound
   pub asked_sound : IsSound old → IsSound new
-  asked_sound sound is_open =
-      subst (λ (db : Database). HasTables db × AreSound (rows_of db) × IsOfThisVersion db)
-      (sym (asked.same now is_open)) (sound (asked.leaves.was_open now is_open))
+  asked_sound sound is_open = grind (arith, is_open, sound)
 
   -- and so are the rows, sound or not
   pub asked_stored : (rows : Rows) → Stores old rows → Stores new rows
-  asked_stored rows stored is_open =
-      subst (λ (db : Database). HasTables db × (rows_of db ≡ rows))
-      (sym (asked.same now is_open)) (stored (asked.leaves.was_open now is_open))
+  asked_stored rows stored is_open = grind (arith, rows, is_open, stored)
 
 -- a call of a store that was shut gives no answer
 pub shut_answers : {X : Type 0} (old new : State) (x : X) (Blames : Rows → Type 0)

@@ -1,10 +1,11 @@
 -- Calls in a transaction that is committed or rolled back.
-use Rattle.std.proofs.Common.{◌≡◌, ◌≤◌, ℕ, Result, Ok, Err, IsTrue, IfOk, OnOk, inl, inr, refl, sym}
-use Rattle.std.proofs.{Common.{ap, subst, subst₂, ◌∙◌, false, arith}, lemmas.Bool.cases_Bool}
+use Rattle.std.proofs.Common.{◌≡◌, ◌≤◌, ℕ, Some, Result, Ok, Err, IsTrue, IfOk, OnOk, inl, inr}
+use Rattle.std.proofs.Common.{refl, sym, ap, subst, subst₂, ◌∙◌, false, arith}
+use Rattle.std.proofs.lemmas.Bool.{cases_Bool}
 use Rattle.sqlite_trees.specs.View.{doubt}
 use Rattle.sqlite.specs.{Effect.Database, Tree.Trees, declared.error.Error.Error, State.State}
 use Rattle.sqlite.specs.{State.{HasCleanDisk, Shows, IsRolledBack}, Steps.FailsToCommit}
-use Rattle.room_rows.specs.{declared.keep.KeepFault.KeepFault, Rows.Rows}
+use Rattle.room_rows.specs.{declared.keep.KeepFault.KeepFault, Keep.blamed_by, Rows.Rows}
 use Rattle.store_tables.specs.{Meaning.rows_of, Shown.{HasTables, IsRoom, Retains, Stays, room_of}}
 use Rattle.store_tables.specs.{Shown.tables_of, Trust.IsTrusted, Within.{IsSettled, LeavesAsBefore}}
 use Rattle.store_tables.specs.{Within.{LeavesOnly, LeavesOrCommits}, Seeing.wants_memory}
@@ -25,9 +26,10 @@ never_damage why is =
     ]
 
 -- the fault of a keeper that a store answers as `Damaged`
-damage_of : (why : KeepFault) → fault_as why ≡ Damaged → (id : ℕ) × (why ≡ keep.Damaged id)
+damage_of : (why : KeepFault) → fault_as why ≡ Damaged → (id : ℕ) × (blamed_by why ≡ Some id)
 damage_of keep.Memory is = absurd (let e = is in cc)
 damage_of keep.Store is = absurd (let e = is in cc)
+damage_of keep.NoRoot is = (0, refl)
 damage_of (keep.Damaged id) is = (id, refl)
 
 pub same_fault : {X : Type 0} {a b : StoreFault} → ◌≡◌ {A = Result X StoreFault} (Err a) (Err b) → a ≡ b
@@ -228,7 +230,7 @@ module _ (old begun mid end : State) (begins : Begins old begun) (stays : Stays 
         let named = damage_of why (sym is ∙ damaged) in
         let m = made premise.disk open' premise.tables in
         subst (λ db. Blames (rows_of db)) begins.now
-        (carries.blames m.trusted named.0 (ap Err named.1))
+        (carries.blames m.trusted named.0 named.1)
 
     pub ran : (done : Result X KeepFault) (result : Result X StoreFault)
         → CallsInside begun mid done (OnRows Blames) (ByRows Becomes)
@@ -310,4 +312,4 @@ module _ (old begun mid end : State) (begins : Begins old begun) (stays : Stays 
         (λ premise open' is.
         let named = damage_of why (sym (ends premise.disk).0 ∙ same_fault is) in
         let m = made premise.disk open' premise.tables in
-        subst Blames begins.now (carries.blames m.trusted named.0 (ap Err named.1))) crash
+        subst Blames begins.now (carries.blames m.trusted named.0 named.1)) crash

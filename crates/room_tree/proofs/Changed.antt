@@ -1,15 +1,14 @@
 -- What a keeper in memory holds after a call.
 use Rattle.std.proofs.Common.{◌≡◌, ℕ, ◌<◌, ◌==◌, true, false, not, List, ◌∷◌, map, filter, Option}
-use Rattle.std.proofs.Common.{Some, None, Result, Err, IfOk, IfErr, refl, sym, ap, subst, ◌∙◌}
-use Rattle.std.proofs.{Common.{arith, inl, inr, if◌then◌else◌}, lemmas.Bool.cases_Bool}
-use Rattle.std.proofs.lemmas.Bool.{false≢true, eq-eqb, cond-true, cond-false, Decides.nat_tests}
+use Rattle.std.proofs.Common.{Some, None, Result, Err, IfOk, refl, sym, ap, subst, ◌∙◌, arith, inl}
+use Rattle.std.proofs.{Common.{inr, if◌then◌else◌}, lemmas.Bool.{cases_Bool, false≢true, eq-eqb}}
+use Rattle.std.proofs.lemmas.Bool.{cond-true, cond-false, Decides.nat_tests}
 use Rattle.std.specs.{Prelude.is_some, Option.option_map_or}
 use Rattle.room_entry.specs.{Valid.is_document, declared.object.Which.{Which, TheVariants.Dacl}}
 use Rattle.room_entry.specs.declared.{object.Which.TheVariants.Sacl, parties.Owners.Owners}
-use Rattle.room_rows.specs.declared.keep.KeepFault.{KeepFault, TheVariants.Memory}
-use Rattle.room_rows.specs.declared.node.{AuditRow.AuditRow, NewNode.NewNode, Node.Node}
+use Rattle.room_rows.specs.declared.{keep.KeepFault.KeepFault, node.{AuditRow.AuditRow, Node.Node}}
 use Rattle.room_rows.specs.{HeldList.Held, Content.{put_body, put_node, is_rising, without_node}}
-use Rattle.room_rows.specs.{Finding.find_id, Held.with_held, Keep.{Changes, HasCause, node_of}}
+use Rattle.room_rows.specs.{Finding.find_id, Held.with_held, Keep.{Addition, Changes, node_of}}
 use Rattle.room_rows.specs.{Keep.{with_content, with_new, with_owners, writes_after}, Rows.AreRows}
 use Rattle.room_tree.specs.{Memory.memory_rows, Objects.{StandsAsBefore, greatest}}
 use Rattle.room_tree.proofs.{Found.{found_put, found_above}, Kept.{put_rows, body_rows}}
@@ -25,11 +24,6 @@ err_writes r e n is = sym (ap (λ q. writes_after 1 q n) is)
 pub err_becomes : {X : Type 0} (r : Result X KeepFault) (e : KeepFault) (P : X → Type 0) → r ≡ Err e
     → IfOk r P
 err_becomes r e P is = subst (λ q. IfOk q P) (sym is) tt
-
-pub err_fault : {X : Type 0} (r : Result X KeepFault) (before after : ℕ) (damaged : ℕ → Type 0)
-    → r ≡ Err Memory → IfErr r (HasCause before after damaged)
-err_fault r before after damaged is =
-    subst (λ q. IfErr q (HasCause before after damaged)) (sym is) tt
 
 -- ---- an object that changes
 
@@ -101,9 +95,9 @@ pub none_past : (nodes : List Node) (id : ℕ) → greatest nodes < id → find_
 none_past nodes id past = grind (arith, nat_tests, no_less)
 
 pub added : (nodes new_nodes : List Node) (bodies new_bodies : List (ℕ × List ℕ))
-    (members : List (List ℕ × List ℕ)) (audits : List AuditRow) (id : ℕ) (new : NewNode)
-    → new_nodes ≡ put_node (node_of id new) nodes
-    → new_bodies ≡ (if is_document new.kind then put_body id new.bytes bodies else bodies)
+    (members : List (List ℕ × List ℕ)) (audits : List AuditRow) (id : ℕ) (new : Addition)
+    → new_nodes ≡ put_node (node_of id new.node) nodes
+    → new_bodies ≡ (if is_document new.node.kind then put_body id new.bytes bodies else bodies)
     → memory_rows new_nodes new_bodies members audits
     ≡ with_content (memory_rows nodes bodies members audits)
     (with_new (memory_rows nodes bodies members audits).read id new)
@@ -120,26 +114,26 @@ node_rows nodes new_nodes bodies new_bodies members audits new above puts same o
     (put_rows nodes bodies members audits new above old))
 
 pub added_rows : (nodes new_nodes : List Node) (bodies new_bodies : List (ℕ × List ℕ))
-    (members : List (List ℕ × List ℕ)) (audits : List AuditRow) (id : ℕ) (new : NewNode) → 0 < id
-    → new_nodes ≡ put_node (node_of id new) nodes
-    → new_bodies ≡ (if is_document new.kind then put_body id new.bytes bodies else bodies)
+    (members : List (List ℕ × List ℕ)) (audits : List AuditRow) (id : ℕ) (new : Addition) → 0 < id
+    → new_nodes ≡ put_node (node_of id new.node) nodes
+    → new_bodies ≡ (if is_document new.node.kind then put_body id new.bytes bodies else bodies)
     → AreRows (memory_rows nodes bodies members audits)
     → AreRows (memory_rows new_nodes new_bodies members audits)
 added_rows nodes new_nodes bodies new_bodies members audits id new above puts fills old =
-    let nodes_in = put_rows nodes bodies members audits (node_of id new) above old in
-    let there : is_some (find_id id (put_node (node_of id new) nodes)) ≡ true = ap is_some
-    (found_put (node_of id new) id nodes ∙ cond-true _ _ _ (eq-eqb id id refl)) in
+    let nodes_in = put_rows nodes bodies members audits (node_of id new.node) above old in
+    let there : is_some (find_id id (put_node (node_of id new.node) nodes)) ≡ true = ap is_some
+    (found_put (node_of id new.node) id nodes ∙ cond-true _ _ _ (eq-eqb id id refl)) in
     subst (λ (l : List Node). AreRows (memory_rows l new_bodies members audits)) (sym puts)
-    (elim (cases_Bool (is_document new.kind)) [
+    (elim (cases_Bool (is_document new.node.kind)) [
       | inl is ↦
           subst (λ (l : List (ℕ × List ℕ)). AreRows
-          (memory_rows (put_node (node_of id new) nodes) l members audits))
+          (memory_rows (put_node (node_of id new.node) nodes) l members audits))
           (sym (fills ∙ cond-true _ _ _ is))
-          (body_rows (put_node (node_of id new) nodes) bodies members audits id new.bytes above
+          (body_rows (put_node (node_of id new.node) nodes) bodies members audits id new.bytes above
           there nodes_in)
       | inr isnt ↦
           subst (λ (l : List (ℕ × List ℕ)). AreRows
-          (memory_rows (put_node (node_of id new) nodes) l members audits))
+          (memory_rows (put_node (node_of id new.node) nodes) l members audits))
           (sym (fills ∙ cond-false _ _ _ isnt)) nodes_in
     ])
 

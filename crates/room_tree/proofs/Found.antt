@@ -1,10 +1,10 @@
 -- Objects that are found, after changes too.
-use Rattle.std.proofs.Common.{◌≡◌, ℕ, ◌<◌, ◌≤◌, ◌==◌, ◌&&◌, Bool, true, false, not, List, [], ◌∷◌}
-use Rattle.std.proofs.Common.{map, filter, Some, None, nat_lt, refl, sym, ap, subst, ◌∙◌, arith}
-use Rattle.std.proofs.{Common.{inl, inr, if◌then◌else◌}, lemmas.Bool.{cases_Bool, cases_order}}
-use Rattle.std.proofs.lemmas.Bool.{false≢true, and_parts, and_from, and_left, and_right, eqb-true}
-use Rattle.std.proofs.lemmas.Bool.{ne_eqb, eq-eqb, ltb-true, lt-ltb, le-ltb, cond-true, cond-false}
-use Rattle.std.proofs.lemmas.{Bool.Decides.nat_tests, Option.same_Some}
+use Rattle.std.proofs.Common.{rules, ◌≡◌, ℕ, ◌<◌, ◌≤◌, ◌==◌, ◌&&◌, Bool, true, false, not, List, []}
+use Rattle.std.proofs.Common.{◌∷◌, map, filter, Some, None, nat_lt, refl, sym, ap, ◌∙◌}
+use Rattle.std.proofs.{Common.{arith, inl, inr, if◌then◌else◌}, lemmas.Bool.cases_Bool}
+use Rattle.std.proofs.lemmas.Bool.{cases_order, false≢true, and_parts, and_from, and_left}
+use Rattle.std.proofs.lemmas.Bool.{and_right, eqb-true, ne_eqb, eq-eqb, ltb-true, lt-ltb, le-ltb}
+use Rattle.std.proofs.lemmas.{Bool.{cond-true, cond-false, Decides.nat_tests}, Option.same_Some}
 use Rattle.std.specs.{Prelude.is_none, List.find}
 use Rattle.room_rows.specs.{declared.node.Node.Node, Content.{put_node, is_rising}, Finding.find_id}
 
@@ -28,8 +28,7 @@ found_above t k (x ∷ xs) n rises found =
     let parts = and_parts (nat_lt k x.id) (is_rising (x.id ∷ ids_of xs)) rises in
     let up = ltb-true k x.id parts.0 in
     elim (cases_Bool (t x)) [
-      | inl is ↦
-          subst (λ (m : Node). k < m.id) (same_Some x n (sym (found_first t x xs is) ∙ found)) up
+      | inl is ↦ search (rules, same_Some, n, found_first, t, is, found, up)
       | inr isnt ↦ let next =
           found_above t x.id xs n parts.1 (sym (found_later t x xs isnt) ∙ found) in
           omega (arith, up, next)
@@ -42,12 +41,7 @@ some_passes t id [] n found is none = absurd (false≢true (sym (ap is_none foun
 some_passes t id (x ∷ xs) n found is none = elim (cases_Bool (t x)) [
   | inl passes ↦ absurd (false≢true (ap is_none (sym (found_first t x xs passes) ∙ none)))
   | inr fails ↦ elim (cases_Bool (x.id == id)) [
-    | inl same ↦
-        absurd
-        (false≢true
-        (sym fails
-        ∙ ap t (same_Some x n (sym (found_first (λ (m : Node). m.id == id) x xs same) ∙ found))
-        ∙ is))
+    | inl same ↦ search (rules, false≢true, fails, t, same_Some, n, found_first, same, found, is)
     | inr apart ↦
         some_passes t id xs n (sym (found_later (λ (m : Node). m.id == id) x xs apart) ∙ found) is
         (sym (found_later t x xs fails) ∙ none)
@@ -63,9 +57,7 @@ pub passing : (t : Node → Bool) (id : ℕ) (xs : List Node) (n : Node) → fin
     → t n ≡ true → find (λ (m : Node). (m.id == id) && t m) xs ≡ Some n
 passing t id [] n found is = absurd (false≢true (sym (ap is_none found)))
 passing t id (x ∷ xs) n found is = elim (cases_Bool (x.id == id)) [
-  | inl same ↦
-      let it = same_Some x n (sym (found_first (λ (m : Node). m.id == id) x xs same) ∙ found) in
-      found_first (both t id) x xs (and_from (x.id == id) (t x) same (ap t it ∙ is)) ∙ ap Some it
+  | inl same ↦ search (rules, same, found, is)
   | inr apart ↦ found_later (both t id) x xs (and_left (x.id == id) (t x) apart)
       ∙ passing t id xs n (sym (found_later (λ (m : Node). m.id == id) x xs apart) ∙ found) is
 ]
@@ -91,9 +83,7 @@ failing t id k (x ∷ xs) n rises found isnt =
       | inl same ↦
           let it = same_Some x n
           (sym (found_first (λ (m : Node). m.id == id) x xs same) ∙ found) in
-          let e = eqb-true x.id id same in
-          found_later (both t id) x xs (and_right (x.id == id) (t x) (ap t it ∙ isnt))
-          ∙ none_above t id x.id xs parts.1 (omega (arith, e))
+          search (rules, eqb-true, same, found_later, t, and_right, it, isnt, none_above, parts.1)
       | inr apart ↦ found_later (both t id) x xs (and_left (x.id == id) (t x) apart)
           ∙ failing t id x.id xs n parts.1
           (sym (found_later (λ (m : Node). m.id == id) x xs apart) ∙ found) isnt
@@ -103,9 +93,7 @@ pub missing : (t : Node → Bool) (id : ℕ) (xs : List Node) → find_id id xs 
     → find (λ (m : Node). (m.id == id) && t m) xs ≡ None
 missing t id [] none = refl
 missing t id (x ∷ xs) none = elim (cases_Bool (x.id == id)) [
-  | inl same ↦
-      absurd
-      (false≢true (ap is_none (sym (found_first (λ (m : Node). m.id == id) x xs same) ∙ none)))
+  | inl same ↦ search (rules, same, none)
   | inr apart ↦ found_later (both t id) x xs (and_left (x.id == id) (t x) apart)
       ∙ missing t id xs (sym (found_later (λ (m : Node). m.id == id) x xs apart) ∙ none)
 ]
@@ -131,11 +119,7 @@ put_rises k new [] up rises = and_from _ _ (lt-ltb k new.id up) refl
 put_rises k new (x ∷ xs) up rises =
     let parts = and_parts (nat_lt k x.id) (is_rising (x.id ∷ ids_of xs)) rises in
     elim (cases_order x.id new.id) [
-      | inl same ↦
-          ap (λ (l : List Node). is_rising (k ∷ ids_of l))
-          (cond-false _ _ _ (le-ltb x.id new.id (omega (arith, same)))
-          ∙ cond-true _ _ _ (eq-eqb x.id new.id same))
-          ∙ subst (λ (i : ℕ). is_rising (k ∷ i ∷ ids_of xs) ≡ true) same rises
+      | inl same ↦ search (rules, cond-false, le-ltb, new.id, same, cond-true, eq-eqb, rises)
       | inr apart ↦ elim apart [
         | inl below ↦
             ap (λ (l : List Node). is_rising (k ∷ ids_of l))
@@ -148,9 +132,7 @@ put_rises k new (x ∷ xs) up rises =
             ∙ cond-false _ _ (new ∷ x ∷ xs)
             (ne_eqb x.id new.id (λ h. absurd (omega (arith, h, past)))))
             ∙ and_from (nat_lt k new.id) (is_rising (new.id ∷ x.id ∷ ids_of xs))
-            (lt-ltb k new.id up)
-            (and_from (nat_lt new.id x.id) (is_rising (x.id ∷ ids_of xs))
-            (lt-ltb new.id x.id past) parts.1)
+            (lt-ltb k new.id up) (search (rules, and_from, lt-ltb, past, parts.1))
       ]
     ]
 

@@ -1,13 +1,11 @@
 -- Objects in memory that inherit the same, one after the other.
-use Rattle.std.proofs.Common.{◌≡◌, ℕ, ◌&&◌, ◌++◌, Bool, true, false, List, [], ◌∷◌, Ok, Some, refl}
-use Rattle.std.proofs.{Common.{sym, ◌∙◌, arith}, lemmas.List.Folds.list_all-append}
-use Rattle.std.proofs.lemmas.Bool.Decides.{nat_tests}
-use Rattle.std.specs.Prelude.{is_some}
+use Rattle.std.proofs.Common.{rules, ◌≡◌, ℕ, ◌&&◌, ◌++◌, Bool, true, false, List, [], ◌∷◌, Ok, Some}
+use Rattle.std.proofs.{Common.{refl, ◌∙◌, arith}, lemmas.List.Folds.list_all-append}
+use Rattle.std.{proofs.lemmas.Bool.Decides.nat_tests, specs.Prelude.is_some}
 use Rattle.room_entry.specs.{Ace.Ace, declared.object.Which.Which}
 use Rattle.room_rows.specs.{declared.node.Node.Node, Content.put_node, Finding.find_id}
-use Rattle.room_rows.specs.Keep.{with_inh}
-use Rattle.room_rows.proofs.{InPlace.place-with_inh, Many.{none_changed, then_changed}}
-use Rattle.room_rows.proofs.Many.{with_inh-once}
+use Rattle.room_rows.{specs.Keep.with_inh, proofs.{InPlace.place-with_inh, Many.none_changed}}
+use Rattle.room_rows.proofs.Many.{then_changed, with_inh-once}
 use Rattle.room_tree.specs.Memory.{Inherits, StayRows, are_found, memory_rows}
 use Rattle.room_tree.proofs.Found.{found_put}
 
@@ -25,15 +23,7 @@ same_found a b same (id ∷ ids) = grind (arith, nat_tests, same_found a b same 
 -- none so far
 pub inherits_none : (which : Which) (entries : List Ace) (nodes : List Node)
     → Inherits [] which entries nodes nodes (Ok true)
-inherits_none which entries nodes =
-    record {
-      rows = λ bodies members audits are. are;
-      same = λ id. refl;
-      found = refl;
-      changed =
-          λ _ bodies members audits are. none_changed (with_inh which entries)
-          (memory_rows nodes bodies members audits);
-    }
+inherits_none which entries nodes = search (rules, none_changed)
 
 module _ (which : Which) (entries : List Ace) (a b c : List Node) (ids more : List ℕ)
     (before : Inherits ids which entries a b (Ok true)) where
@@ -48,10 +38,7 @@ module _ (which : Which) (entries : List Ace) (a b c : List Node) (ids more : Li
       record {
         rows = rows_on after.rows;
         same = λ id. after.same id ∙ before.same id;
-        found =
-            before.found ∙ both (are_found ids a) (are_found more a) before.found
-            (after.found ∙ same_found a b before.same more)
-            ∙ sym (list_all-append (λ (id : ℕ). is_some (find_id id a)) ids more);
+        found = search (rules, after.found, same_found, list_all-append);
         changed =
             λ _ bodies members audits are. then_changed (with_inh which entries)
             (place-with_inh which entries) (with_inh-once which entries) ids more

@@ -1,5 +1,5 @@
 -- Rows of a keeper in memory that stay rows.
-use Rattle.std.proofs.Common.{◌≡◌, ℕ, ◌<◌, ◌==◌, ◌||◌, Bool, true, false, not, List, [], ◌∷◌, map}
+use Rattle.std.proofs.Common.{rules, ◌≡◌, ℕ, ◌<◌, ◌==◌, Bool, true, false, not, List, [], ◌∷◌, map}
 use Rattle.std.proofs.Common.{filter, Some, nat_lt, refl, sym, ap, subst, ◌∙◌, arith, inl, inr}
 use Rattle.std.proofs.lemmas.Bool.{cases_Bool, cases_order, false≢true, not-true, and_parts}
 use Rattle.std.proofs.lemmas.Bool.{and_from, or_cases, or_left, or_right, eqb-true, eqb-false}
@@ -11,9 +11,8 @@ use Rattle.std.specs.{Ordering.{nat_cmp, is_eq}, declared.cmp.Ordering.TheVarian
 use Rattle.room_entry.specs.Pieces.{is_among}
 use Rattle.room_rows.specs.{declared.node.{Node.Node, AuditRow.AuditRow}, Content.body_at}
 use Rattle.room_rows.specs.{Content.{is_rising, put_body, put_node}, Finding.find_id, Rows.AreRows}
-use Rattle.room_tree.specs.Memory.{memory_rows}
-use Rattle.room_tree.proofs.{Found.{put_rises, filter_rises, lower}, Numbered.{is_key, cmp_less}}
-use Rattle.room_tree.proofs.Numbered.{cmp_equal, cmp_greater, less_below}
+use Rattle.room_tree.{specs.Memory.memory_rows, proofs.Found.{put_rises, filter_rises, lower}}
+use Rattle.room_tree.proofs.Numbered.{is_key, cmp_less, cmp_equal, cmp_greater, less_below}
 
 -- ---- bytes at numbers
 
@@ -75,12 +74,7 @@ body_rises k id bytes (e ∷ es) up rises =
             ∙ and_from (nat_lt k e.0) (is_rising (e.0 ∷ keys (put_body id bytes es))) parts.0
             (body_rises e.0 id bytes es below parts.1)
         | inr past ↦
-            ap (λ (l : List (ℕ × List ℕ)). is_rising (k ∷ keys l))
-            (cond-false _ _ _ (le-ltb e.0 id (omega (arith, past)))
-            ∙ cond-false _ _ ((id, bytes) ∷ e ∷ es)
-            (ne_eqb e.0 id (λ h. absurd (omega (arith, h, past)))))
-            ∙ and_from (nat_lt k id) (is_rising (id ∷ e.0 ∷ keys es)) (lt-ltb k id up)
-            (and_from (nat_lt id e.0) (is_rising (e.0 ∷ keys es)) (lt-ltb id e.0 past) parts.1)
+            search (rules, cond-false, le-ltb, past, ne_eqb, and_from, nat_lt, lt-ltb, up, parts.1)
       ]
     ]
 
@@ -112,11 +106,7 @@ among_put : (new : Node) (nodes : List Node) (id : ℕ)
     → is_among (map (λ (n : Node). n.id) (put_node new nodes)) id ≡ true
 among_put new [] id is = absurd (false≢true is)
 among_put new (x ∷ xs) id is = elim (cases_order x.id new.id) [
-  | inl same ↦
-      ap (λ (l : List Node). is_among (ids l) id)
-      (cond-false _ _ _ (le-ltb x.id new.id (omega (arith, same)))
-      ∙ cond-true _ (new ∷ xs) _ (eq-eqb x.id new.id same))
-      ∙ subst (λ (i : ℕ). ((i == id) || is_among (ids xs) id) ≡ true) same is
+  | inl same ↦ search (rules, cond-false, le-ltb, new.id, same, cond-true, new, eq-eqb, is)
   | inr apart ↦ elim apart [
     | inl below ↦
         ap (λ (l : List Node). is_among (ids l) id)
@@ -125,11 +115,7 @@ among_put new (x ∷ xs) id is = elim (cases_order x.id new.id) [
           | inl here ↦ or_left (x.id == id) _ here
           | inr later ↦ or_right (x.id == id) _ (among_put new xs id later)
         ]
-    | inr past ↦
-        ap (λ (l : List Node). is_among (ids l) id)
-        (cond-false _ _ _ (le-ltb x.id new.id (omega (arith, past)))
-        ∙ cond-false _ _ (new ∷ x ∷ xs) (ne_eqb x.id new.id (λ h. absurd (omega (arith, h, past)))))
-        ∙ or_right (new.id == id) _ is
+    | inr past ↦ search (rules, cond-false, le-ltb, new.id, past, new, ne_eqb, or_right, is)
   ]
 ]
 
@@ -143,9 +129,7 @@ among_left gone (x ∷ xs) id other is = elim (cases_Bool (x.id == gone)) [
       ap (λ (l : List Node). is_among (ids l) id)
       (cond-false _ _ (filter (λ (n : Node). not (n.id == gone)) xs) (ap not here))
       ∙ elim (or_cases (x.id == id) (is_among (ids xs) id) is) [
-        | inl it ↦
-            (let e = eqb-true x.id id it in let f = eqb-true x.id gone here in
-            absurd (eqb-false id gone other (omega (arith, e, f))))
+        | inl it ↦ search (rules, eqb-true, it, here, eqb-false, other)
         | inr later ↦ among_left gone xs id other later
       ]
   | inr isnt ↦
@@ -181,13 +165,7 @@ all_put t id bytes (e ∷ es) new all =
     elim (cases_Bool (nat_lt e.0 id)) [
       | inl below ↦ ap (list_all t) (cond-true _ (e ∷ put_body id bytes es) _ below)
           ∙ and_from _ _ parts.0 (all_put t id bytes es new parts.1)
-      | inr isnt ↦ ap (list_all t) (cond-false _ (e ∷ put_body id bytes es) _ isnt)
-          ∙ elim (cases_Bool (e.0 == id)) [
-            | inl same ↦ ap (list_all t) (cond-true _ ((id, bytes) ∷ es) _ same)
-                ∙ and_from _ _ new parts.1
-            | inr apart ↦ ap (list_all t) (cond-false _ ((id, bytes) ∷ es) _ apart)
-                ∙ and_from _ _ new all
-          ]
+      | inr isnt ↦ search (rules, t, cond-false, isnt, cond-true, and_from, new, parts.1)
     ]
 
 all_left : (t u : ℕ × List ℕ → Bool) (p : ℕ × List ℕ → Bool) (es : List (ℕ × List ℕ))

@@ -1,31 +1,26 @@
 -- Objects and the places where they are listed.
-use Rattle.std.proofs.Common.{◌≡◌, ℕ, ◌==◌, ◌&&◌, true, false, List, [], ◌∷◌, map, filter, Option}
-use Rattle.std.proofs.Common.{Some, None, nat_lt, refl, sym, ap, subst, ◌∙◌, arith, inl, inr}
-use Rattle.std.proofs.{Common.{String, string_bytes}, lemmas.Bool.{cases_Bool, false≢true}}
+use Rattle.std.proofs.Common.{rules, ◌≡◌, ℕ, ◌==◌, ◌&&◌, true, false, List, [], ◌∷◌, map, filter}
+use Rattle.std.proofs.Common.{Option, Some, None, nat_lt, refl, sym, ap, subst, ◌∙◌, arith, inl}
+use Rattle.std.proofs.{Common.{inr, String, string_bytes}, lemmas.Bool.{cases_Bool, false≢true}}
 use Rattle.std.proofs.lemmas.Bool.{true≢false, and_parts, and_from, and_right, eqb-true, ne_eqb}
 use Rattle.std.proofs.lemmas.Bool.{eq-eqb, cond-true, cond-false, false_from_ne_true}
 use Rattle.std.proofs.lemmas.{Bool.Decides.nat_tests, Cmp.{nat_list_cmp_total, tied_itself}}
-use Rattle.std.proofs.lemmas.Map.Keys.{sorted_head, sorted_tail}
-use Rattle.std.specs.{Prelude.is_none, List.{cons_option, AllByRecursion}}
-use Rattle.std.specs.{List.Sorted.IsStrictlySortedBy, Map.keys_of, Ordering.nat_cmp}
-use Rattle.std.specs.Ordering.{ordering_then, ordering_reverse, is_lt, is_eq}
+use Rattle.std.{proofs.lemmas.Map.Keys.{sorted_head, sorted_tail}, specs.Prelude.is_none}
+use Rattle.std.specs.{List.{cons_option, AllByRecursion, Sorted.IsStrictlySortedBy}, Map.keys_of}
+use Rattle.std.specs.Ordering.{nat_cmp, ordering_then, ordering_reverse, is_lt, is_eq}
 use Rattle.std.specs.{Cmp.Lexicographic.slice_cmp, String.string_cmp}
 use Rattle.std.specs.declared.cmp.Ordering.{Ordering, TheVariants.Less}
-use Rattle.room_entry.specs.Pieces.{same_text}
+use Rattle.room_entry.{specs.Pieces.same_text, proofs.{Texts.same_text-true, Alike.text_itself}}
 use Rattle.room_rows.specs.{declared.node.Node.Node, Content.{is_rising, has_parent, is_before}}
 use Rattle.room_rows.specs.{Content.{put_by_name, sorted_by_name}, Finding.{find_id, find_named}}
-use Rattle.room_tree.specs.Places.{is_standing, standing, standing_all, standing_under, is_place}
-use Rattle.room_tree.specs.Places.{id_at, places_under}
-use Rattle.room_tree.proofs.{Found.{found_above, none_above}, Numbered.cmp_equal}
 use Rattle.room_rows.proofs.{Lookups.{found_number, found_passes}, Frames.parent_is}
-use Rattle.room_entry.proofs.{Texts.same_text-true, Alike.text_itself}
+use Rattle.room_tree.specs.Places.{is_standing, standing, standing_all, standing_under, is_place}
+use Rattle.room_tree.{specs.Places.{id_at, places_under}, proofs.Found.{found_above, none_above}}
+use Rattle.room_tree.proofs.Numbered.{cmp_equal}
 
 pub same_back : (a b : List ℕ) → same_text a b ≡ false → same_text b a ≡ false
 same_back a b apart =
-    false_from_ne_true (same_text b a)
-    (λ same. true≢false
-    (sym (subst (λ (x : List ℕ). same_text a x ≡ true) (sym (same_text-true b a same)) (text_itself a))
-    ∙ apart))
+    search (rules, false_from_ne_true, true≢false, same_text-true, text_itself, apart)
 
 not_less_itself : (a : List ℕ) → slice_cmp nat_cmp a a ≡ Less → ⊥
 not_less_itself a less = true≢false (ap is_eq (sym (tied_itself nat_list_cmp_total a) ∙ less))
@@ -94,9 +89,7 @@ module _ {Y : Type 0} where
             let listed : id_at parent name places ≡ Some n.id = subst
             (λ (t : List ℕ). id_at parent t places ≡ Some n.id) (same_text-true n.name name parts.1)
             (all.0 parent (parent_is parent n parts.0)) in
-            let same : n.id ≡ id = (let e : Some n.id ≡ Some id = sym listed ∙ at in cc) in
-            cond-true _ _ _ (and_from (n.id == id) _ (eq-eqb n.id id same) is)
-            ∙ sym (cond-true _ _ _ is)
+            search (rules, listed, cond-true, and_from, eq-eqb, is)
         | inr isnt ↦ cond-false _ _ _ (and_right (n.id == id) _ isnt)
             ∙ named_some places parent name id ns all.1 at ∙ sym (cond-false _ _ _ isnt)
       ]
@@ -146,9 +139,7 @@ module _ {Y : Type 0} where
         (and_right (has_parent parent n) _
         (false_from_ne_true (same_text n.name (string_bytes e.0.1)) (λ same.
         let less = name_less at e.0 (is ∙ sym (eqb-true e.0.0 parent under)) later.0 in
-        not_less_itself (string_bytes at.1)
-        (subst (λ (t : List ℕ). slice_cmp nat_cmp (string_bytes at.1) t ≡ Less)
-        (sym (named ∙ same_text-true n.name (string_bytes e.0.1) same)) less)))),
+        search (rules, not_less_itself, string_bytes, at.1, named, same_text-true, n.name, less)))),
     behind parent n at es is named later.1,
   )
 
@@ -200,14 +191,12 @@ module _ {Y : Type 0} where
             let parts = and_parts (e.0.0 == parent) (same_text (string_bytes e.0.1) n.name) here in
             let is : e.0.0 ≡ parent = eqb-true e.0.0 parent parts.0 in
             let named : string_bytes e.0.1 ≡ n.name = same_text-true _ _ parts.1 in
-            let its : e.1 ≡ n.id =
-            (let f : Some e.1 ≡ Some n.id = sym (cond-true _ _ _ here) ∙ listed in cc) in
+            let its : e.1 ≡ n.id = search (rules, n.id, cond-true, here, listed) in
             let later = sorted_head place_cmp e.0 (keys_of es) sorted in
             let stands : is_standing e.1 parent (string_bytes e.0.1) n ≡ true = and_from
             (n.id == e.1) _
             (eq-eqb n.id e.1 (sym its))
-            (and_from (has_parent parent n) _ has
-            (subst (λ (t : List ℕ). same_text n.name t ≡ true) (sym named) (text_itself n.name))) in
+            (search (rules, and_from, n, has, n.name, named, text_itself)) in
             let gone : standing e.1 parent (string_bytes e.0.1) nodes ≡ None = none_above
             (λ (m : Node). has_parent parent m && same_text m.name (string_bytes e.0.1)) e.1 n.id
             nodes rises (omega (arith, its)) in
@@ -216,9 +205,7 @@ module _ {Y : Type 0} where
             (cond-true _ _ _ stands)
             ∙ ap (λ (l : List Node). n ∷ l)
             (picks_other parent n nodes es (behind parent n e.0 es is named later))
-            ∙ sym (ap (put_by_name n)
-            (cond-true _ _ _ parts.0
-            ∙ ap (λ o. cons_option o (standing_under parent nodes es)) gone)
+            ∙ sym (ap (put_by_name n) (search (rules, cond-true, parts.0, gone))
             ∙ comes_first parent n e.0 nodes es is named later)
         | inr isnt ↦
             let tail = sorted_tail place_cmp e.0 (keys_of es) sorted in
@@ -241,8 +228,7 @@ module _ {Y : Type 0} where
                   ∙ ap (cons_option (standing e.1 parent (string_bytes e.0.1) nodes)) more
                   ∙ passes (standing e.1 parent (string_bytes e.0.1) nodes) refl less
                   ∙ ap (put_by_name n) (sym (cond-true _ _ _ under))
-              | inr elsewhere ↦ cond-false _ _ _ elsewhere ∙ more
-                  ∙ ap (put_by_name n) (sym (cond-false _ _ _ elsewhere))
+              | inr elsewhere ↦ search (rules, cond-false, elsewhere, more)
             ]
       ]
     where
@@ -252,8 +238,7 @@ module _ {Y : Type 0} where
           ≡ put_by_name n (cons_option o (standing_under parent nodes es))
       passes None o-is less = refl
       passes (Some m) o-is less =
-          let name = standing_name e.1 parent (string_bytes e.0.1) nodes m o-is in
-          sym (cond-true _ _ _ (ap (λ (t : List ℕ). is_before t n.name) name ∙ ap is_lt less))
+          search (rules, standing_name, string_bytes, cond-true, n.name, less)
 
   picks_sorted : (parent : ℕ) (es : List ((ℕ × String Y) × ℕ)) (nodes : List Node) (k : ℕ)
       → IsStrictlySortedBy place_cmp (keys_of es)
@@ -283,5 +268,4 @@ module _ {Y : Type 0} where
       → AllByRecursion (IsListed es) nodes → places_under parent some ≡ places_under parent es
       → standing_under parent nodes some ≡ sorted_by_name (filter (has_parent parent) nodes)
   children_are parent es some nodes k sorted rises all same =
-      sym (picks_is parent nodes some) ∙ ap (standing_all parent nodes) same
-      ∙ picks_is parent nodes es ∙ picks_sorted parent es nodes k sorted rises all
+      search (rules, picks_is, some, same, es, picks_sorted, sorted, rises)

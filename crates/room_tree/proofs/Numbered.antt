@@ -1,6 +1,6 @@
 -- Objects at their numbers.
-use Rattle.std.proofs.Common.{◌≡◌, ℕ, ◌<◌, ◌==◌, Bool, true, not, List, [], ◌∷◌, filter, Some, refl}
-use Rattle.std.proofs.Common.{sym, ap, subst, ◌∙◌, arith, inl, inr, if◌then◌else◌}
+use Rattle.std.proofs.Common.{rules, ◌≡◌, ℕ, ◌<◌, ◌==◌, Bool, true, not, List, [], ◌∷◌, filter}
+use Rattle.std.proofs.Common.{Some, refl, sym, ap, subst, ◌∙◌, arith, inl, inr, if◌then◌else◌}
 use Rattle.std.proofs.lemmas.Bool.{cases_Bool, cases_order, and_parts, and_from, eqb-true, ne_eqb}
 use Rattle.std.proofs.lemmas.Bool.{eq-eqb, lt-ltb, le-ltb, cond-true, cond-false, Decides.nat_tests}
 use Rattle.std.proofs.lemmas.Map.Keys.{sorted_head, sorted_tail}
@@ -50,17 +50,10 @@ inserted node (e ∷ es) keyed =
     let parts = and_parts (is_keyed e) (list_all is_keyed es) keyed in
     let key : e.0 ≡ e.1.id = eqb-true e.0 e.1.id parts.0 in
     elim (cases_order node.id e.0) [
-      | inl same ↦
-          ap (λ o. values_of (match_ordering o ((node.id, node) ∷ e ∷ es) ((e.0, node) ∷ es)
-          (e ∷ insert_entry nat_cmp es node.id node))) (cmp_equal node.id e.0 same)
-          ∙ sym (cond-false _ _ _ (le-ltb e.1.id node.id (omega (arith, key, same)))
-          ∙ cond-true _ _ _ (eq-eqb e.1.id node.id (omega (arith, key, same))))
+      | inl same ↦ search (rules, cmp_equal, same, cond-false, le-ltb, key, cond-true, eq-eqb)
       | inr apart ↦ elim apart [
         | inl below ↦
-            ap (λ o. values_of (match_ordering o ((node.id, node) ∷ e ∷ es) ((e.0, node) ∷ es)
-            (e ∷ insert_entry nat_cmp es node.id node))) (cmp_less node.id e.0 below)
-            ∙ sym (cond-false _ _ _ (le-ltb e.1.id node.id (omega (arith, key, below)))
-            ∙ cond-false _ _ _ (ne_eqb e.1.id node.id (λ h. absurd (omega (arith, key, below, h)))))
+            search (rules, node.id, node, cmp_less, below, cond-false, le-ltb, key, ne_eqb)
         | inr above ↦
             ap (λ o. values_of (match_ordering o ((node.id, node) ∷ e ∷ es) ((e.0, node) ∷ es)
             (e ∷ insert_entry nat_cmp es node.id node))) (cmp_greater node.id e.0 above)
@@ -76,17 +69,9 @@ inserted_keyed node (e ∷ es) keyed =
     let parts = and_parts (is_keyed e) (list_all is_keyed es) keyed in
     let key : e.0 ≡ e.1.id = eqb-true e.0 e.1.id parts.0 in
     elim (cases_order node.id e.0) [
-      | inl same ↦
-          ap (λ o. list_all is_keyed
-          (match_ordering o ((node.id, node) ∷ e ∷ es) ((e.0, node) ∷ es)
-          (e ∷ insert_entry nat_cmp es node.id node))) (cmp_equal node.id e.0 same)
-          ∙ and_from _ _ (eq-eqb e.0 node.id (sym same)) parts.1
+      | inl same ↦ search (rules, node.id, node, cmp_equal, same, and_from, eq-eqb, parts.1)
       | inr apart ↦ elim apart [
-        | inl below ↦
-            ap (λ o. list_all is_keyed
-            (match_ordering o ((node.id, node) ∷ e ∷ es) ((e.0, node) ∷ es)
-            (e ∷ insert_entry nat_cmp es node.id node))) (cmp_less node.id e.0 below)
-            ∙ and_from _ _ (eq-eqb node.id node.id refl) keyed
+        | inl below ↦ search (rules, node.id, node, cmp_less, below, and_from, eq-eqb, keyed)
         | inr above ↦
             ap (λ o. list_all is_keyed
             (match_ordering o ((node.id, node) ∷ e ∷ es) ((e.0, node) ∷ es)
@@ -104,8 +89,7 @@ none_later id (e ∷ es) keyed later =
     let parts = and_parts (is_keyed e) (list_all is_keyed es) keyed in
     let up = less_below id e.0 later.0 in
     let key : e.0 ≡ e.1.id = eqb-true e.0 e.1.id parts.0 in
-    let test : not (e.1.id == id) ≡ true =
-    ap not (ne_eqb e.1.id id (λ h. absurd (omega (arith, up, key, h)))) in
+    let test : not (e.1.id == id) ≡ true = search (rules, ne_eqb, up, key) in
     cond-true _ _ _ test ∙ ap (λ (l : List Node). e.1 ∷ l) (none_later id es parts.1 later.1)
 
 pub removed : (id : ℕ) (es : List (ℕ × Node)) → list_all is_keyed es ≡ true
@@ -116,15 +100,13 @@ removed id [] keyed sorted = refl
 removed id (e ∷ es) keyed sorted =
     let parts = and_parts (is_keyed e) (list_all is_keyed es) keyed in
     let key : e.0 ≡ e.1.id = eqb-true e.0 e.1.id parts.0 in
-    let test : is_eq (nat_cmp id e.0) ≡ (e.1.id == id) = is_key id e.0
-    ∙ ap (λ (k : ℕ). k == id) key in
+    let test : is_eq (nat_cmp id e.0) ≡ (e.1.id == id) = search (rules, is_key, key) in
     elim (cases_Bool (e.1.id == id)) [
       | inl is ↦
           let it : e.0 ≡ id = key ∙ eqb-true e.1.id id is in
           let later = subst (λ (k : ℕ). AllByRecursion (λ y. nat_cmp k y ≡ Less) (keys_of es)) it
           (sorted_head nat_cmp e.0 (keys_of es) sorted) in
-          ap values_of (cond-true _ es (e ∷ remove_entry (λ k. is_eq (nat_cmp id k)) es)
-          (test ∙ is)) ∙ sym (cond-false _ _ _ (ap not is) ∙ none_later id es parts.1 later)
+          search (rules, cond-true, test, is, cond-false, none_later, parts.1, later)
       | inr isnt ↦
           ap values_of (cond-false _ es (e ∷ remove_entry (λ k. is_eq (nat_cmp id k)) es)
           (test ∙ isnt)) ∙ ap (λ (l : List Node). e.1 ∷ l)

@@ -1,19 +1,18 @@
 -- Pairs in order.
-use Rattle.std.proofs.Common.{◌≡◌, ℕ, suc, ◌<◌, ◌≤◌, ◌&&◌, ◌||◌, Bool, true, false, List, [], ◌∷◌}
-use Rattle.std.proofs.Common.{◌++◌, filter, refl, sym, ap, subst, ◌∙◌, inl, inr, length, take, drop}
-use Rattle.std.proofs.{Common.{get_or, drop-cons, arith}, lemmas.Bool.{cases_Bool, false≢true}}
-use Rattle.std.proofs.lemmas.Bool.{true≢false, and_parts, and_from, cond-true, cond-false}
-use Rattle.std.proofs.lemmas.{Bool.Decides.nat_tests, Cmp.{nat_list_cmp_total, on_total}}
-use Rattle.std.proofs.lemmas.{Cmp.then_total, Map.Text.is_eq-slice_cmp, List.take-append-drop}
-use Rattle.std.proofs.lemmas.List.{drop_all, get_or_default}
+use Rattle.std.proofs.Common.{rules, ◌≡◌, ℕ, suc, ◌<◌, ◌≤◌, ◌&&◌, ◌||◌, Bool, true, false, List, []}
+use Rattle.std.proofs.Common.{◌∷◌, ◌++◌, filter, refl, sym, ap, subst, ◌∙◌, inl, inr, length, take}
+use Rattle.std.proofs.{Common.{drop, get_or, drop-cons, arith}, lemmas.Bool.cases_Bool}
+use Rattle.std.proofs.lemmas.Bool.{false≢true, true≢false, and_parts, and_from, cond-true}
+use Rattle.std.proofs.lemmas.{Bool.{cond-false, Decides.nat_tests}, Cmp.nat_list_cmp_total}
+use Rattle.std.proofs.lemmas.{Cmp.{on_total, then_total}, Map.Text.is_eq-slice_cmp}
+use Rattle.std.proofs.lemmas.List.{take-append-drop, drop_all, get_or_default}
 use Rattle.std.specs.{Cmp.{IsTotalOrder, Lexicographic.slice_cmp}, List.{AllByRecursion, insert}}
 use Rattle.std.specs.{List.Sorted.IsStrictlySortedBy, Ordering.{nat_cmp, ordering_then}}
 use Rattle.std.specs.{Ordering.{ordering_reverse, is_lt, is_eq}, declared.cmp.Ordering.Ordering}
 use Rattle.std.specs.declared.cmp.Ordering.TheVariants.{Less, Equal, Greater}
-use Rattle.room_entry.specs.Pieces.{same_text}
+use Rattle.room_entry.{specs.Pieces.same_text, proofs.Texts.same_text-true}
 use Rattle.room_rows.specs.Content.{is_before, is_pair_before, put_pair, set_of}
 use Rattle.room_tree.specs.Pairs.{pair_cmp, is_same_pair}
-use Rattle.room_entry.proofs.Texts.{same_text-true}
 
 abbrev Pair : Type 0
 Pair = List ℕ × List ℕ
@@ -149,12 +148,7 @@ pub put_in_place : (p : Pair) (l : List Pair) (k : ℕ) → k < length l
     → take k l ++ put_pair p (drop k l) ≡ put_pair p l → is_pair_before (get_or l k p) p ≡ false
     → is_same_pair p (get_or l k p) ≡ false → insert l k p ≡ put_pair p l
 put_in_place p l k below puts stops other =
-    let step : drop k l ≡ get_or l k p ∷ drop (suc k) l = drop-cons l k p below in
-    let front : put_pair p (drop k l) ≡ p ∷ drop k l =
-    ap (put_pair p) step ∙ cond-false _ _ _ stops
-    ∙ cond-true _ (p ∷ get_or l k p ∷ drop (suc k) l) (get_or l k p ∷ drop (suc k) l)
-    (neither p (get_or l k p) stops other) ∙ ap (λ (m : List Pair). p ∷ m) (sym step) in
-    ap (λ (m : List Pair). take k l ++ m) (sym front) ∙ puts
+    search (rules, p, drop-cons, below, cond-false, stops, cond-true, neither, other, puts)
 
 -- a pair that is there already
 pub put_there : (p : Pair) (l : List Pair) (k : ℕ) → k < length l
@@ -163,14 +157,8 @@ pub put_there : (p : Pair) (l : List Pair) (k : ℕ) → k < length l
 put_there p l k below puts stops same =
     let step : drop k l ≡ get_or l k p ∷ drop (suc k) l = drop-cons l k p below in
     let parts = and_parts (same_text (get_or l k p).0 p.0) (same_text (get_or l k p).1 p.1) same in
-    let is : get_or l k p ≡ p = (let a = same_text-true (get_or l k p).0 p.0 parts.0 in
-    let b = same_text-true (get_or l k p).1 p.1 parts.1 in λ i. (a i, b i)) in
-    let back : is_pair_before p (get_or l k p) ≡ false = ap (is_pair_before p) is ∙ itself p in
-    let front : put_pair p (drop k l) ≡ drop k l =
-    ap (put_pair p) step ∙ cond-false _ _ _ stops
-    ∙ cond-false _ (p ∷ get_or l k p ∷ drop (suc k) l) (get_or l k p ∷ drop (suc k) l) back
-    ∙ sym step in
-    sym (take-append-drop k l) ∙ ap (λ (m : List Pair). take k l ++ m) (sym front) ∙ puts
+    let is : get_or l k p ≡ p = search (rules, same_text-true, p, p.0, parts.0, p.1, parts.1) in
+    search (rules, p, is, itself, step, cond-false, stops, take-append-drop, puts)
 
 -- a pair that comes after all others
 pub put_last : (p : Pair) (l : List Pair) (k : ℕ) → length l ≤ k

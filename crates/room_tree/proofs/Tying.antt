@@ -1,17 +1,17 @@
 -- Objects at their numbers that are listed at their places, after a change too.
-use Rattle.std.proofs.Common.{◌≡◌, ℕ, ◌<◌, ◌≤◌, ◌+◌, ◌==◌, ◌&&◌, true, false, not, List, [], ◌∷◌}
-use Rattle.std.proofs.Common.{◌++◌, append_assoc, map, filter, Option, Some, None, Result, Ok, Err}
-use Rattle.std.proofs.Common.{OnOk, OnErr, refl, sym, ap, subst, ◌∙◌, arith, inl, inr}
+use Rattle.std.proofs.Common.{rules, ◌≡◌, ℕ, ◌<◌, ◌≤◌, ◌+◌, ◌==◌, ◌&&◌, true, false, not, List, []}
+use Rattle.std.proofs.Common.{◌∷◌, ◌++◌, append_assoc, map, filter, Option, Some, None, Result, Ok}
+use Rattle.std.proofs.Common.{Err, OnOk, OnErr, refl, sym, ap, subst, ◌∙◌, arith, inl, inr}
 use Rattle.std.proofs.{Common.{if◌then◌else◌, String, string_bytes}, lemmas.Bool.cases_Bool}
 use Rattle.std.proofs.lemmas.Bool.{false≢true, and_parts, and_from, eqb-true, eqb-false, eq-eqb}
 use Rattle.std.proofs.lemmas.Bool.{cond-true, cond-false, false_from_ne_true, Decides.nat_tests}
 use Rattle.std.proofs.lemmas.Map.Keys.{ge_from_not_lt}
 use Rattle.std.specs.{Prelude.{is_none, is_some, option_and_then}, BTreeMap.insert_entry}
-use Rattle.std.specs.{List.{list_all, Sorted.IsStrictlySortedBy}, Map.{lookup, remove_entry}}
+use Rattle.std.specs.{List.{Sorted.IsStrictlySortedBy}, Map.{lookup, remove_entry}}
 use Rattle.std.specs.{Map.{keys_of, values_of}, Option.{IsSome, SomeIff, MatchOption, option_map}}
 use Rattle.std.specs.{Option.{option_map_or, option_to_list}, Ordering.{nat_cmp, is_eq, is_lt}}
 use Rattle.room_entry.specs.{Pieces.same_text, declared.object.ObjKind.ObjKind}
-use Rattle.room_rows.specs.{declared.node.Node.Node, Content.{put_node, is_rising, has_parent}}
+use Rattle.room_rows.specs.{declared.node.Node.Node, Content.{put_node, has_parent}}
 use Rattle.room_rows.specs.{Content.sorted_by_name, Finding.{find_id, find_named}}
 use Rattle.room_tree.specs.Objects.{AreTied, StandsAsBefore, greatest, has_object, named_kind}
 use Rattle.room_tree.specs.{Objects.place_of, Places.{text_place, standing, standing_under}}
@@ -48,8 +48,7 @@ free_place parent name nodes free id p m found has =
     let has' : m.parent ≡ Some parent = has ∙ ap Some (sym (eqb-true parent p parts.0)) in
     let named : same_text m.name name ≡ true = subst (λ (t : List ℕ). same_text m.name t ≡ true)
     (sym (same_text-true name m.name parts.1)) (text_itself m.name) in
-    some_passes (λ node. has_parent parent node && same_text node.name name) id nodes m found
-    (and_from (has_parent parent m) (same_text m.name name) (has_its_parent parent m has') named) free)
+    search (rules, some_passes, m, found, and_from, has_its_parent, has', named, free))
 
 other_place : (p : ℕ) (n : List ℕ) (parent : ℕ) (name : List ℕ)
     → is_same_place p n parent name ≡ true → (parent ≡ p) × (name ≡ n)
@@ -79,10 +78,7 @@ no_more : (last : ℕ) (xs : List Node) → ((id : ℕ) → is_some (find_id id 
 no_more last [] up = omega arith
 no_more last (x ∷ xs) up =
     let here = up x.id (ap is_some (cond-true _ (Some x) _ (eq-eqb x.id x.id refl))) in
-    let rest = no_more last xs (λ id is. up id (elim (cases_Bool (x.id == id)) [
-      | inl same ↦ ap is_some (cond-true _ (Some x) _ same)
-      | inr isnt ↦ ap is_some (cond-false _ (Some x) _ isnt) ∙ is
-    ])) in
+    let rest = no_more last xs (search (rules, up, cond-true, cond-false)) in
     omega (arith, here, rest)
 
 module _ {Y : Type 0} where
@@ -133,10 +129,7 @@ module _ {Y : Type 0} where
       → found ++ standing_under parent nodes left ≡ all
       → (found ++ option_to_list next) ++ standing_under parent nodes rest ≡ all
   child_more found parent nodes e left rest next all step under stands sofar =
-      append_assoc found (option_to_list next) (standing_under parent nodes rest)
-      ∙ ap (λ (l : List Node). found ++ l)
-      (sym (with_next parent nodes e left rest next step under stands))
-      ∙ sofar
+      search (rules, append_assoc, rest, with_next, e, left, step, under, stands, sofar)
 
   pub named_more : (found : List (List ℕ × ObjKind)) (parent : ℕ) (nodes : List Node)
       (e : (ℕ × String Y) × ℕ) (left rest : List ((ℕ × String Y) × ℕ)) (next : Option Node)
@@ -173,8 +166,7 @@ module _ {Y : Type 0} where
       → standing id parent name nodes ≡ None
   stands_not es places nodes id parent name node tied view found isnt =
       failing (λ (m : Node). has_parent parent m && same_text m.name name) id 0 nodes node
-      (subst (λ (l : List Node). is_rising (0 ∷ map (λ (n : Node). n.id) l) ≡ true) view
-      tied.rising) found isnt
+      (search (rules, view, tied.rising)) found isnt
 
   -- a number that no other number exceeds is the greatest
   pub last_is : (es : List (ℕ × Node)) (places : List ((ℕ × String Y) × ℕ)) (nodes : List Node)
@@ -211,8 +203,7 @@ module _ {Y : Type 0} where
       → (i p : ℕ) (m : Node) → find_id i (values_of es) ≡ Some m → m.parent ≡ Some p
       → id_at p m.name new_places ≡ Some i
   still_listed es places new_places parent name id tied lists free i p m found has =
-      lists p m.name ∙ cond-false _ _ _ (free_place parent name (values_of es) free i p m found has)
-      ∙ tied.listed i p m found has
+      search (rules, lists, m.name, cond-false, free_place, es, free, m, found, has, tied.listed)
 
   -- a number is listed at a place where no object stands
   pub tied_listed : (es new_es : List (ℕ × Node)) (places new_places : List ((ℕ × String Y) × ℕ))
@@ -220,15 +211,8 @@ module _ {Y : Type 0} where
       → values_of es ≡ nodes → new_es ≡ es → Lists parent name id places new_places
       → find_named parent name nodes ≡ None → AreTied new_es new_places
   tied_listed es new_es places new_places nodes parent name id tied view same lists free =
-      let free' : find_named parent name (values_of es) ≡ None = ap (find_named parent name) view
-      ∙ free in
-      subst (λ (l : List (ℕ × Node)). AreTied l new_places) (sym same)
-      (record {
-        keyed = tied.keyed;
-        sorted = tied.sorted;
-        rising = tied.rising;
-        listed = still_listed es places new_places parent name id tied lists free';
-      })
+      let free' : find_named parent name (values_of es) ≡ None = search (rules, view, free) in
+      search (rules, same, tied.keyed, tied.sorted, tied.rising, still_listed, tied, lists, free')
 
   own_listed : (places new_places : List ((ℕ × String Y) × ℕ)) (parent : ℕ) (name : List ℕ) (id : ℕ)
       → Lists parent name id places new_places → id_at parent name new_places ≡ Some id
@@ -288,8 +272,7 @@ module _ {Y : Type 0} where
       tied_put es new_es places places node tied
       (above_zero es places nodes node.id tied view (ap is_some stood.is_there)) entries sorted
       (λ p has. subst (λ (t : List ℕ). id_at p t places ≡ Some node.id) (sym stood.same_name)
-      (tied.listed node.id p stood.before (ap (find_id node.id) view ∙ stood.is_there)
-      (sym stood.same_parent ∙ has)))
+      (search (rules, tied.listed, node.id, stood.before, view, stood.is_there, stood.same_parent)))
       (λ i p m found other has. tied.listed i p m found has)
 
   -- no other object stands at the place of one
@@ -302,11 +285,8 @@ module _ {Y : Type 0} where
       let e = other_place p m.name parent x.name same in
       let a : id_at p m.name places ≡ Some id = subst
       (λ (q : ℕ). id_at q m.name places ≡ Some id) e.0
-      (subst (λ (t : List ℕ). id_at parent t places ≡ Some id) e.1
-      (tied.listed id parent x at is)) in
-      let f : Some id ≡ Some i = sym a ∙ tied.listed i p m found has in
-      let g : id ≡ i = cc in
-      eqb-false id i other g)
+      (search (rules, places, e.1, tied.listed, x, is)) in
+      search (rules, a, tied.listed, m, found, has, eqb-false, other))
 
   others_apart : (es : List (ℕ × Node)) (places : List ((ℕ × String Y) × ℕ)) (id : ℕ)
       (before : Option (ℕ × List ℕ)) → AreTied es places
@@ -373,19 +353,14 @@ module _ {Y : Type 0} where
       let rest : values_of new_es ≡ filter (λ node. not (node.id == id)) (values_of es) =
       ap values_of entries ∙ removed id es tied.keyed tied.sorted in
       record {
-        keyed =
-            ap (list_all is_keyed) entries
-            ∙ removed_keyed (λ k. is_eq (nat_cmp id k)) es tied.keyed;
+        keyed = search (rules, is_keyed, entries, removed_keyed, es, tied.keyed);
         sorted = sorted;
-        rising =
-            ap (λ (l : List Node). is_rising (0 ∷ map (λ (n : Node). n.id) l)) rest
-            ∙ filter_rises (λ node. not (node.id == id)) 0 (values_of es) tied.rising;
+        rising = search (rules, rest, filter_rises, es, tied.rising);
         listed = λ i p m found has.
             let found' : (if id == i then None else find_id i (values_of es)) ≡ Some m =
             sym (found_without id i (values_of es)) ∙ ap (find_id i) (sym rest) ∙ found in
             elim (cases_Bool (id == i)) [
-              | inl gone ↦
-                  absurd (false≢true (sym (ap is_none (sym (cond-true _ _ _ gone) ∙ found'))))
+              | inl gone ↦ search (rules, false≢true, cond-true, gone, found')
               | inr other ↦
                   let found'' = sym (cond-false _ _ _ other) ∙ found' in
                   leaves p m.name

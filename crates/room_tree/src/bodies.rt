@@ -65,14 +65,20 @@ impl Bodies {
         Ok(())
     }
 
-    /// Stores the bytes under this number if the kind is that of a document.
-    pub(crate) fn put_new(&mut self, id: u64, kind: ObjKind, bytes: Bytes) -> Result<(), AllocError>
+    /// Stores a copy of the bytes under this number if the kind is that of a document.
+    pub(crate) fn put_new(
+        &mut self,
+        alloc: Global,
+        id: u64,
+        kind: ObjKind,
+        bytes: &[u8],
+    ) -> Result<(), AllocError>
         ensures ok { OnOk result
-            (self.new ≡ (if is_document kind then put_body id bytes self.old else self.old)) }
+            (self.new ≡ (if is_document kind then put_body id bytes.now self.old else self.old)) }
         ensures err { OnErr result (self.new ≡ self.old) }
     {
         match kind {
-            ObjKind::Document => self.put(id, bytes),
+            ObjKind::Document => self.put(id, Bytes::from_slice(alloc, bytes)?),
             ObjKind::Folder => Ok(()),
         }
     }

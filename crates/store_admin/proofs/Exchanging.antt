@@ -1,8 +1,8 @@
 -- What is left of the rows of members once all are taken out, and once one is put in.
 use Rattle.std.proofs.Common.{◌≡◌, ◌||◌, ℕ, ℤ, List, [], ◌∷◌, map, codes, Ok, None, IsTrue, inl}
 use Rattle.std.proofs.Common.{inr, refl, sym, ap, subst, ◌∙◌, true, false, Bool, if◌then◌else◌}
-use Rattle.std.proofs.{Common.{arith, IsPermutation}, lemmas.List.Sorted.list_any-IsPermutation}
-use Rattle.std.proofs.lemmas.Bool.Decides.{nat_tests}
+use Rattle.std.proofs.Common.{arith, IsPermutation, rules}
+use Rattle.std.proofs.lemmas.{List.Sorted.list_any-IsPermutation, Bool.Decides.nat_tests}
 use Rattle.std.specs.List.{AllByRecursion, list_any}
 use Rattle.sqlite.specs.{declared.types.Value.TheVariants.{Null, Text}, Cast.cast_row}
 use Rattle.sqlite.specs.{Command.TheVariants.{Insert, Delete}, Does.{Tally, Does}, Edit.Edit}
@@ -11,16 +11,15 @@ use Rattle.sqlite.specs.{Edit.without_all, Effect.{Database, IsDatabase}, Listin
 use Rattle.sqlite.specs.{Order.Row, Program.overlay, Rowids.TheVariants.{Chosen, Given}}
 use Rattle.sqlite.specs.{Rows.Written, Source.TheVariants.Values, State.{State, mode_of, Executes}}
 use Rattle.sqlite.specs.{State.Shows, Term.{Term, col, lit}, Tree.{Trees, rowid, has_rowid}}
-use Rattle.sqlite.specs.Tree.{put_row, without_rowid}
-use Rattle.sqlite.proofs.Callers.{IsPlain, command_of, one_step, runs_as, statement_of}
+use Rattle.sqlite.{specs.Tree.{put_row, without_rowid}, proofs.Callers.{IsPlain, command_of}}
+use Rattle.sqlite.proofs.Callers.{one_step, runs_as, statement_of}
 use Rattle.sqlite_rules.specs.{Action.works, Calls.ids_of, Edit.id_in, Lists.Has}
 use Rattle.sqlite_schema.specs.declared.schema.{Keys.TheVariants.Enforced, Table.Table}
 use Rattle.sqlite_tied.specs.Compute.{everything}
-use Rattle.sqlite_trees.specs.View.{IsShaped, is_int}
-use Rattle.sqlite_trees.proofs.TreeLemmas.{IsShaped-put_row}
+use Rattle.sqlite_trees.{specs.View.{IsShaped, is_int}, proofs.TreeLemmas.IsShaped-put_row}
 use Rattle.store_admin.specs.Operating.{Exchanges, stored_pair}
-use Rattle.store_tables.specs.{Shown.IsRoom, Tables.{members, room_schema}}
-use Rattle.store_tables.proofs.{Answers.{shows, selected}, Calls.retains_by, Printed.keeps_same}
+use Rattle.store_tables.{specs.{Shown.IsRoom, Tables.{members, room_schema}}, proofs.Answers.shows}
+use Rattle.store_tables.proofs.{Answers.selected, Calls.retains_by, Printed.keeps_same}
 use Rattle.store_tables.proofs.{Executed.WritesRoom, Inserts.fresh_alone, Rowids.each_of}
 use Rattle.store_tables.proofs.{Rowids.{has_itself, of_each}, Texts.query_of, Updates.cast_null}
 use Rattle.store_tables.proofs.Writes.{same_value, went}
@@ -79,7 +78,7 @@ left_among id ids (r ∷ rows) all = grind (arith, nat_tests, left_among id ids 
 none_left : (ids : List ℤ) (rows : List Row) → AllByRecursion (λ r. is_among ids r ≡ true) rows
     → without_all rows ids ≡ []
 none_left [] [] all = refl
-none_left [] (r ∷ rows) all = absurd (let e = all.0 in cc)
+none_left [] (r ∷ rows) all = absurd (cc)
 none_left (id ∷ ids) rows all = none_left ids (without_rowid id rows) (left_among id ids rows all)
 
 any_map : {A B : Type 0} (f : A → B) (p : B → Bool) (l : List A)
@@ -105,8 +104,7 @@ all_among : (table rows : List Row) → AllByRecursion (λ r. IsTrue (is_int (ro
     → AllByRecursion (λ r. is_among (ids_of rows) r ≡ true) table
 all_among table rows ints moved = each_of (λ r. is_among (ids_of rows) r ≡ true) table (λ r there.
     any_map (λ q. id_in (rowid q)) (λ id. has_rowid id r) rows
-    ∙ sym (list_any-IsPermutation (λ q. has_rowid (id_in (rowid q)) r)
-    (map (shows (col 1 0 ∷ []) []) table) rows moved)
+    ∙ sym (search (rules, list_any-IsPermutation, moved))
     ∙ any_map (shows (col 1 0 ∷ []) []) (λ q. has_rowid (id_in (rowid q)) r) table
     ∙ any_has (λ q. has_rowid (id_in (rowid q)) r) table r there
     (at_itself r (of_each _ table ints r there)))
@@ -149,8 +147,7 @@ emptied old new count room h =
     let applies = one_step room_schema Enforced db did.0 (empty_edit db asked.0)
     (none_off (taken_by db (empty_edit db asked.0))) did.1 in
     let now = ap (λ (p : Tally × Database). p.1) last in
-    let at : (tree : ℕ) → new.now.trees tree ≡ did.0 tree = λ tree. ap
-    (λ (d : Database). d.trees tree) now ∙ ap (λ (it : Written). it.trees tree) wrote in
+    let at : (tree : ℕ) → new.now.trees tree ≡ did.0 tree = grind (arith, nat_tests, wrote) in
     record {
       schema = ap (λ (d : Database). d.schema) now;
       sound = w.sound;

@@ -5,8 +5,7 @@ use Rattle.room_rows.specs.declared.keep.KeepFault.{KeepFault}
 use Rattle.store_tables.specs.{Meaning.pairs_of, Paired.Pair, Statements.{OfAny, ExecutesSql}}
 use Rattle.store_tables.specs.Trust.{stays_on, trusted_first, trusted_last}
 use Rattle.store_admin.specs.{Carries.{CallsInside, NoTables}, Operating.Exchanges}
-use Rattle.store_admin.specs.Operating.{ExchangesMembers, Gathers}
-use Rattle.store_admin.proofs.Gathering.{replaced}
+use Rattle.store_admin.{specs.Operating.{ExchangesMembers, Gathers}, proofs.Gathering.replaced}
 
 pub exchanged : (pairs order : List Pair) (a b c : State) (count : ℕ)
     (r : Result (Unit {0}) KeepFault) → IsPermutation pairs order
@@ -20,7 +19,7 @@ exchanged pairs order a b c count (Ok done) moved w q = record {
       let gone = w.leaves first.clean first.now in
       let held = q.becomes (trusted_last a b c w.stays q.stays trust) (ap pairs_of gone.members) in
       replaced pairs order a.now b.now c.now moved gone held;
-  blames = λ trust id is. absurd (let e = is in cc);
+  blames = λ trust id is. absurd is;
 }
 exchanged pairs order a b c count (Err fault) moved w q = record {
   stays = stays_on a b c w.stays q.stays;

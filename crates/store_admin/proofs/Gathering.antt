@@ -2,21 +2,20 @@
 use Rattle.std.proofs.Common.{◌≡◌, ◌||◌, ◌&&◌, is_some, ◌<◌, ◌+◌, ◌-◌, ℕ, ℤ, suc, List, [], ◌∷◌}
 use Rattle.std.proofs.Common.{◌++◌, ◌↔◌, get_or, length, take, map, Bor, arith, Some, None, Option}
 use Rattle.std.proofs.Common.{refl, sym, ap, subst, ◌∙◌, true, false, Bool, Ordering, Less, Equal}
-use Rattle.std.proofs.{Common.{Greater, is_eq, IsPermutation}, Math.Seq.take-suc}
+use Rattle.std.proofs.{Common.{Greater, is_eq, IsPermutation, rules}, Math.Seq.take-suc}
 use Rattle.std.proofs.lemmas.{Bool.or_right, Cmp.tied_itself, List.get_or-map}
-use Rattle.std.proofs.lemmas.List.Folds.{list_any-append}
-use Rattle.std.specs.{List.{cons_option, filter_map}, Ordering.match_ordering}
+use Rattle.std.{proofs.lemmas.List.Folds.list_any-append, specs.List.{cons_option, filter_map}}
+use Rattle.std.specs.Ordering.{match_ordering}
 use Rattle.sqlite.specs.{declared.types.Value.TheVariants.Text, Effect.Database, Order.Row}
 use Rattle.sqlite.specs.{Order.value_cmp, Tree.{put_row, rowid}, Edit.is_taken}
 use Rattle.room_rows.specs.Content.{set_of}
 use Rattle.store_tables.specs.Meaning.{audit_in, bodies_of, nodes_of, pair_in, pairs_of, name_in}
 use Rattle.store_tables.specs.{Meaning.unread_of, Paired.{Pair, pair_cmp, total}}
-use Rattle.store_tables.specs.RoomRows.{set_sorted}
-use Rattle.store_tables.proofs.{Removed.same_rows, Rowids.is_equal, Grouped.equal_pairs}
+use Rattle.store_tables.{specs.RoomRows.set_sorted, proofs.{Removed.same_rows, Rowids.is_equal}}
+use Rattle.store_tables.proofs.Grouped.{equal_pairs}
 use Rattle.store_admin.specs.Operating.{Exchanges, ExchangesMembers, HoldsPairs, IsAgain, are_pairs}
-use Rattle.store_admin.specs.Operating.{stored_pair}
-use Rattle.store_admin.proofs.{Members.reads, Sets.{has, has_first, has_set, is_at, or_swap}}
-use Rattle.store_admin.proofs.Sets.{same_sets, set_moved}
+use Rattle.store_admin.{specs.Operating.stored_pair, proofs.{Members.reads, Sets.{has, has_first}}}
+use Rattle.store_admin.proofs.Sets.{has_set, is_at, or_swap, same_sets, set_moved}
 
 has_cons : (x : Pair) (o : Option Pair) (l : List Pair)
     → has x (cons_option o l) ≡ reads x o || has x l
@@ -51,7 +50,7 @@ has_put x new (r ∷ rows) free = step (value_cmp (rowid r) (rowid new)) (has_pu
 
 parts : (a b : Bool) → a && b ≡ true → (a ≡ true) × (b ≡ true)
 parts true b is = (refl, is)
-parts false b is = absurd (let e = is in cc)
+parts false b is = absurd (cc)
 
 both : (a b : Bool) → a ≡ true → b ≡ true → a && b ≡ true
 both a b one two = ap (λ c. c && b) one ∙ two
@@ -86,14 +85,9 @@ pub one_more : (pair : Pair) (done : List Pair) (new : Row) (rows : List Row)
     → pair_in new ≡ Some pair → is_taken rows new ≡ false → pairs_of rows ≡ set_of done
     → pairs_of (put_row new rows) ≡ set_of (done ++ pair ∷ [])
 one_more pair done new rows is free held =
-    let read = filter_map pair_in rows in
     same_sets (pairs_of (put_row new rows)) (set_of (done ++ pair ∷ []))
     (set_sorted (filter_map pair_in (put_row new rows))) (set_sorted (done ++ pair ∷ [])) (λ x.
-    has_set x (filter_map pair_in (put_row new rows)) ∙ has_put x new rows free
-    ∙ ap (λ o. reads x o || has x read) is
-    ∙ ap (λ b. is_at x pair || b) (sym (has_set x read) ∙ ap (has x) held ∙ has_set x done)
-    ∙ or_last (is_at x pair) (has x done) ∙ sym (list_any-append (is_at x) done (pair ∷ []))
-    ∙ sym (has_set x (done ++ pair ∷ [])))
+    search (rules, has_set, has_put, reads, has, is_at, or_last, list_any-append, is, free, held))
 
 -- a pair that is there makes no more
 pub none_more : (pair : Pair) (done : List Pair) → has pair done ≡ true
@@ -184,9 +178,7 @@ again order index low (k, next, same) =
     let behind : suc k ≡ index = omega (arith, next) in
     let more : index + 1 ≡ suc index = omega arith in
     let there : has (get_or pairs index none) (take index pairs) ≡ true =
-    subst (λ n. has (get_or pairs index none) (take n pairs) ≡ true) behind
-    (subst (λ x. has x (take (suc k) pairs) ≡ true) (sym (same none))
-    (has_last pairs k none (omega (arith, next, low')))) in
+    grind (arith, has, has_last, none, low', behind) in
     none_more (get_or pairs index none) (take index pairs) there
     ∙ ap set_of (sym (ap (λ n. take n pairs) more ∙ take-suc pairs index none low'))
 

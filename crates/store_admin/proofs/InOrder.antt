@@ -1,38 +1,35 @@
 -- The rows of members in order of group and then of user, and the pairs that they are read as.
 use Rattle.std.proofs.Common.{◌≡◌, ℕ, List, [], ◌∷◌, map, filter, None, Some, Option, refl, sym, ap}
 use Rattle.std.proofs.Common.{subst, ◌∙◌, true, false, Bool, ◌&&◌, inl, inr, Ordering, Less, Equal}
-use Rattle.std.proofs.Common.{Greater, is_eq, nat_cmp, true≢false, IsPermutation, arith}
+use Rattle.std.proofs.Common.{Greater, is_eq, nat_cmp, true≢false, IsPermutation, arith, rules}
 use Rattle.std.proofs.lemmas.Bool.{and_from, and_parts, false≢true, not-true, Decides.nat_tests}
-use Rattle.std.proofs.lemmas.Cmp.{on_total, then_total}
-use Rattle.std.specs.{Prelude.{option_map, option_and_then}, Cmp.IsTotalOrder}
-use Rattle.std.specs.{Cmp.Lexicographic.slice_cmp, List.{AllByRecursion, filter_map, cons_option}}
-use Rattle.std.specs.{List.Sorted.IsStrictlySortedBy, Ordering.ordering_then}
+use Rattle.std.{proofs.lemmas.Cmp.{on_total, then_total}, specs.Prelude.option_map}
+use Rattle.std.specs.{Prelude.option_and_then, Cmp.{IsTotalOrder, Lexicographic.slice_cmp}}
+use Rattle.std.specs.List.{AllByRecursion, filter_map, cons_option, Sorted.IsStrictlySortedBy}
+use Rattle.std.specs.Ordering.{ordering_then}
 use Rattle.sqlite.specs.{declared.types.Value.{Value, TheVariants.{Null, Text}}, Effect.Database}
 use Rattle.sqlite.specs.{Ops.{binary, is_true}, Order.{Row, column, value_cmp}, Query.Query}
 use Rattle.sqlite.specs.{Query.{Output, output, output_cmp, page, IsAnswerAs}, Term.Term}
 use Rattle.sqlite.specs.Tree.{Trees, rowid, IsTable}
-use Rattle.sqlite_catalog.proofs.AlterLemmas.{keys_are_unique}
-use Rattle.sqlite_catalog.specs.Listing.{IsSound}
-use Rattle.sqlite_keyed.specs.Lists.{insert_sorted, sort_by}
-use Rattle.sqlite_keyed.proofs.ListLemmas.{map-map, ascending-map, ascending_weaker}
+use Rattle.sqlite_catalog.{proofs.AlterLemmas.keys_are_unique, specs.Listing.IsSound}
+use Rattle.sqlite_keyed.{specs.Lists.{insert_sorted, sort_by}, proofs.ListLemmas.map-map}
+use Rattle.sqlite_keyed.proofs.ListLemmas.{ascending-map, ascending_weaker}
 use Rattle.sqlite_keyed.proofs.SortLemmas.{sorted_is-sort_by, sort_by-map}
-use Rattle.sqlite_rules.specs.Lists.{Has}
-use Rattle.sqlite_rules.proofs.RuleLemmas.{keeps_at}
+use Rattle.sqlite_rules.{specs.Lists.Has, proofs.RuleLemmas.keeps_at}
 use Rattle.sqlite_schema.specs.declared.schema.{Constraint.TheVariants.NotNull, Table.Table}
 use Rattle.sqlite_schema.specs.Rules.{agree, differ, passes}
-use Rattle.sqlite_sql.proofs.QueryLemmas.{output_cmp_total}
-use Rattle.sqlite_sql.specs.{Ops.is_null, declared.ops.BinaryOp.TheVariants.Compare}
-use Rattle.sqlite_sql.specs.declared.ops.CompareOp.TheVariants.{Eq}
+use Rattle.sqlite_sql.{proofs.QueryLemmas.output_cmp_total, specs.Ops.is_null}
+use Rattle.sqlite_sql.specs.declared.ops.{BinaryOp.TheVariants.Compare, CompareOp.TheVariants.Eq}
 use Rattle.sqlite_tied.specs.Compute.{everything}
 use Rattle.sqlite_trees.specs.Tree.{IsAscending}
 use Rattle.sqlite_value.specs.{Keys.{first_key, plain}, declared.keys.Collation.TheVariants.Binary}
 use Rattle.sqlite_value.proofs.OrderLemmas.{then-Equal, value_cmp-Text, value_cmp_total}
 use Rattle.store_tables.specs.{Meaning.pair_in, Paired.{Pair, pair_cmp}, Shown.IsRoom}
-use Rattle.store_tables.specs.Tables.{members, room_schema}
-use Rattle.store_tables.proofs.Answers.{each_way, passes as passes_tests, shows, way}
-use Rattle.store_tables.proofs.{Ordered.HasNoTies, Rowids.{each_of, of_each}, Texts.ascending_by}
-use Rattle.store_tables.proofs.{Texts.query_of, Grouped.name_text, Apart.{any_none, equal_from}}
-use Rattle.store_tables.proofs.Apart.{differ_from, int_is_some}
+use Rattle.store_tables.{specs.Tables.{members, room_schema}, proofs.Answers.each_way}
+use Rattle.store_tables.proofs.{Answers.{passes as passes_tests, shows, way}, Ordered.HasNoTies}
+use Rattle.store_tables.proofs.{Rowids.{each_of, of_each}, Texts.{ascending_by, query_of}}
+use Rattle.store_tables.proofs.{Grouped.name_text, Apart.{any_none, equal_from, differ_from}}
+use Rattle.store_tables.proofs.Apart.{int_is_some}
 use Rattle.store_admin.specs.Operating.{by_pair}
 
 -- ---- no two rows have one pair
@@ -190,17 +187,15 @@ rises_inserted new (r ∷ rows) apart up =
 rises_sorted : (rows : List Row) → HasNoTies by_pair rows → Rise (sort_by by_pair rows)
 rises_sorted [] apart = tt
 rises_sorted (r ∷ rows) apart =
-    rises_inserted r (sort_by by_pair rows)
-    (all_sorted (λ b. is_eq (by_pair r b) ≡ false) rows apart.0) (rises_sorted rows apart.1)
+    search (rules, rises_inserted, all_sorted, apart.0, rises_sorted rows apart.1)
 
 -- ---- and so do the pairs that they are read as
 
 parts : (g u : Option (List ℕ)) (p : Pair)
     → option_and_then (λ a. option_map (λ b. (a, b)) u) g ≡ Some p → (g ≡ Some p.0) × (u ≡ Some p.1)
-parts None u p is = absurd (let e = is in cc)
-parts (Some g) None p is = absurd (let e = is in cc)
-parts (Some g) (Some u) p is = let same : (g, u) ≡ p = cc in
-    (ap (λ (x : Pair). Some x.0) same, ap (λ (x : Pair). Some x.1) same)
+parts None u p is = absurd (cc)
+parts (Some g) None p is = absurd (cc)
+parts (Some g) (Some u) p is = search rules
 
 texts : (r : Row) (p : Pair) → pair_in r ≡ Some p → (column r 1 ≡ Text p.0)
     × (column r 2 ≡ Text p.1)
@@ -214,13 +209,7 @@ same_cmp v w s t one two =
 less_pairs : (r o : Row) (p m : Pair) → pair_in r ≡ Some p → pair_in o ≡ Some m → by_pair r o ≡ Less
     → pair_cmp p m ≡ Less
 less_pairs r o p m is at less =
-    let one = texts r p is in
-    let two = texts o m at in
-    sym (ap (λ x. ordering_then x (value_cmp (column r 2) (column o 2)))
-    (same_cmp (column r 1) (column o 1) p.0 m.0 one.0 two.0)
-    ∙ ap (ordering_then (slice_cmp nat_cmp p.0 m.0))
-    (same_cmp (column r 2) (column o 2) p.1 m.1 one.1 two.1))
-    ∙ less
+    search (rules, texts, same_cmp, is, at, less)
 
 all_less : (r : Row) (p : Pair) → pair_in r ≡ Some p → (rows : List Row)
     → AllByRecursion (λ b. by_pair r b ≡ Less) rows

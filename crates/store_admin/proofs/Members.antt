@@ -1,7 +1,7 @@
 -- What the query of all pairs shows, and what it is read as.
 use Rattle.std.proofs.Common.{◌≡◌, ℕ, List, [], ◌∷◌, map, codes, None, Some, Option, refl, sym, ap}
 use Rattle.std.proofs.Common.{subst, ◌∙◌, true, false, Bool, ◌⊎◌, inl, inr, lit≤, Result, IfErr}
-use Rattle.std.proofs.{Common.{IsSome, Vec, Global}, lemmas.List.Sorted.IsPermutation-map}
+use Rattle.std.proofs.{Common.{IsSome, Vec, Global, arith}, lemmas.List.Sorted.IsPermutation-map}
 use Rattle.std.proofs.lemmas.List.Sorted.{IsPermutation-sym, list_any-IsPermutation}
 use Rattle.std.specs.{Prelude.◌||◌, List.{cons_option, filter_map, list_any}}
 use Rattle.std.specs.{List.Sorted.IsStrictlySortedBy, Option.option_map_or}
@@ -13,12 +13,11 @@ use Rattle.sqlite.proofs.Callers.{IsPlain, command_of, reads_as}
 use Rattle.sqlite_resolve.specs.Compile.{first, returning}
 use Rattle.store_tables.proofs.{Bare.LacksReturning, Ordered.HasNoTies, Failing.IsAsked}
 use Rattle.store_tables.proofs.{Failing.fails_sql, Texts.{ascending_by, query_of, selects}}
-use Rattle.sqlite_keyed.specs.Lists.{sort_by}
-use Rattle.sqlite_keyed.proofs.SortLemmas.{IsPermutation-sort_by}
-use Rattle.sqlite_tied.specs.Compute.{everything}
-use Rattle.room_rows.specs.Content.{set_of}
 use Rattle.store_tables.specs.{Meaning.pair_in, Failing.FailsSql, Paired.{Pair, pair_cmp}}
 use Rattle.store_tables.specs.{RoomRows.set_sorted, Shown.IsRoom, Tables.room_schema}
+use Rattle.sqlite_keyed.{specs.Lists.sort_by, proofs.SortLemmas.IsPermutation-sort_by}
+use Rattle.sqlite_tied.specs.Compute.{everything}
+use Rattle.room_rows.specs.Content.{set_of}
 use Rattle.store_admin.specs.Operating.{ShowsMembers, by_pair, pair_seen, pairs_seen, shown_pair}
 use Rattle.store_admin.proofs.InOrder.{in_pairs, pair_total, pairs_apart, pairs_in_order}
 use Rattle.store_admin.proofs.Sets.{has, has_set, is_at, same_sets}
@@ -115,7 +114,5 @@ tells_members table rows apart is =
     ∙ same_sets found (set_of all)
     (subst (IsStrictlySortedBy pair_cmp) (sym (pairs_shown order)) (pairs_in_order table apart))
     (set_sorted all)
-    (λ x. has_read x (map shown_pair order)
-    ∙ sym (list_any-IsPermutation (λ r. reads x (pair_seen r)) (map shown_pair table)
-    (map shown_pair order) moved) ∙ sym (has_read x (map shown_pair table)) ∙ sym (has_set x all))
+    (grind (arith, has_read, list_any-IsPermutation, has_set))
     ∙ ap set_of (pairs_shown table)

@@ -7,16 +7,15 @@ use Rattle.sqlite.specs.declared.{types.Value.TheVariants.{Null, Int}, error.Err
 use Rattle.sqlite.specs.{Effect.{Database, RefusesToRead}, Listing.{understood, reads_listing}}
 use Rattle.sqlite.specs.{Order.{Row, value_cmp}, Program.overlay, Query.Query, State.State}
 use Rattle.sqlite.specs.{State.{FailsToQuery, HasCleanDisk, IsTooLate, Shown}, Term.{Term, col}}
-use Rattle.sqlite.specs.{Term.lit, Tree.rowid}
-use Rattle.sqlite.proofs.Callers.{IsPlain, command_of, reads_as}
+use Rattle.sqlite.{specs.{Term.lit, Tree.rowid}, proofs.Callers.{IsPlain, command_of, reads_as}}
 use Rattle.sqlite_resolve.specs.Compile.{first, returning}
 use Rattle.store_tables.proofs.{Bare.LacksReturning, Answers.passes, Ordered.as_stored}
 use Rattle.store_tables.proofs.{Texts.{ascending_by, query_of, selects}, Failing.IsAsked}
-use Rattle.store_tables.proofs.Failing.{fails_sql}
+use Rattle.store_tables.{proofs.Failing.fails_sql, specs.{Meaning.audit_in, Shown.IsRoom}}
+use Rattle.store_tables.specs.{Tables.room_schema, Failing.FailsSql}
 use Rattle.sqlite_tied.specs.Compute.{everything}
 use Rattle.sqlite_keyed.proofs.ListLemmas.{ascending-filter}
 use Rattle.room_rows.specs.declared.node.AuditRow.{AuditRow}
-use Rattle.store_tables.specs.{Meaning.audit_in, Shown.IsRoom, Tables.room_schema, Failing.FailsSql}
 use Rattle.store_admin.specs.Operating.{AreRecords, HasRecords, HasUnreadRecord, record_seen}
 use Rattle.store_admin.specs.Operating.{shown_record}
 use Rattle.room_entry.proofs.Facts.Lists.{filter_all}

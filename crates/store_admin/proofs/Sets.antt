@@ -2,13 +2,12 @@
 use Rattle.std.proofs.Common.{◌≡◌, List, [], ◌∷◌, Bool, true, false, refl, sym, ap, subst, ◌∙◌}
 use Rattle.std.proofs.Common.{Ordering, Less, Equal, Greater, is_lt, is_eq, IsPermutation}
 use Rattle.std.proofs.lemmas.{Bool.{cond-true, cond-false, false≢true}, Cmp.tied_itself}
-use Rattle.std.proofs.lemmas.List.Sorted.{list_any-IsPermutation}
-use Rattle.std.specs.{Prelude.◌||◌, List.{AllByRecursion, list_any, Sorted.IsStrictlySortedBy}}
+use Rattle.std.{proofs.lemmas.List.Sorted.list_any-IsPermutation, specs.Prelude.◌||◌}
+use Rattle.std.specs.List.{AllByRecursion, list_any, Sorted.IsStrictlySortedBy}
 use Rattle.std.specs.Ordering.{ordering_reverse}
 use Rattle.room_rows.specs.Content.{put_pair, set_of}
 use Rattle.store_tables.specs.Paired.{Pair, all_past, before, before_is, not_back, pair_cmp, total}
-use Rattle.store_tables.specs.RoomRows.{set_sorted}
-use Rattle.store_tables.proofs.Grouped.{equal_pairs}
+use Rattle.store_tables.{specs.RoomRows.set_sorted, proofs.Grouped.equal_pairs}
 
 -- ---- pairs that compare as equal are equal
 

@@ -1,21 +1,22 @@
 -- What calls inside one transaction answer and leave.
-use Rattle.std.specs.Prelude.{◌≡◌, ℕ, Result, Err, IfOk, OnOk, IsTrue}
+use Rattle.std.specs.Prelude.{◌≡◌, ℕ, Some, Result, IfOk, IsErrAnd, OnOk, IsTrue}
 use Rattle.sqlite.specs.Effect.{Database}
 use Rattle.sqlite.specs.State.{State, HasCleanDisk}
 use Rattle.room_rows.specs.declared.keep.KeepFault.{KeepFault}
-use Rattle.room_rows.specs.declared.keep.KeepFault.TheVariants.{Damaged}
+use Rattle.room_rows.specs.Keep.{blamed_by}
 use Rattle.room_rows.specs.Rows.{Rows}
 use Rattle.store_tables.specs.Meaning.{rows_of}
 use Rattle.store_tables.specs.Shown.{Stays}
 use Rattle.store_tables.specs.Trust.{IsTrusted}
 
--- Over a room's tables an answer says what became of them, and `Damaged` comes for tables that the
--- relation names.
+-- Over a room's tables an answer says what became of them, and a fault that blames a row, or the
+-- root that is missing, comes for tables that the relation names.
 pub record CallsInside {X : Type 0} (begun mid : State) (result : Result X KeepFault)
     (Blames : Database → Type 0) (Becomes : Database → X → Database → Type 0) : Type 0 where
   pub stays : Stays begun mid
   pub becomes : IsTrusted begun mid → IfOk result (λ answer. Becomes begun.now answer mid.now)
-  pub blames : IsTrusted begun mid → (id : ℕ) → result ≡ Err (Damaged id) → Blames begun.now
+  pub blames : IsTrusted begun mid → (id : ℕ)
+      → IsErrAnd result (λ why. blamed_by why ≡ Some id) → Blames begun.now
 
 -- a relation on rows, as one on tables
 abbrev pub OnRows : (Rows → Type 0) → Database → Type 0

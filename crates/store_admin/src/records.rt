@@ -188,6 +188,7 @@ pub fn all_records<S: Alter>(
     };
     match see_records(alloc, rows.as_slice())? {
         Some(records) => Ok(records),
+        // It is a record's row, not that of an object.
         None => Err(KeepFault::Damaged { id: 0 }),
     }
 }

@@ -1,7 +1,6 @@
 -- A search that found a text somewhere.
 use Rattle.std.proofs.Common.{◌≡◌, ℕ, List, Option, None, Some, IsTrue, arith, refl}
-use Rattle.std.proofs.lemmas.Bool.{false≢true}
-use Rattle.std.specs.Option.{is_some}
+use Rattle.std.{proofs.lemmas.Bool.false≢true, specs.Option.is_some}
 use Rattle.memchr.specs.Find.{FindsNeedle, OccursAt}
 use Rattle.store_file.specs.FirstPage.{Stands}
 

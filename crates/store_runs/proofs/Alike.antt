@@ -7,11 +7,9 @@ use Rattle.room_machine.specs.Run.{Asked, Replaced, Run, WasReset}
 use Rattle.room_laws.specs.{Laws.front_after, Tidy.ContentIsTidy, Twins.{AreAlike, InBoth}}
 use Rattle.room_laws.specs.Twins.{InBothReplaced, InBothReset, InFirst, InSecond, Turn, Unseen}
 use Rattle.room_laws.specs.Twins.{first_events, front_by, second_events}
-use Rattle.room_store.specs.{Kept.{IsSound, Keeps}, Leads.Leads}
-use Rattle.room_store.proofs.Leading.{one_step}
+use Rattle.room_store.{specs.{Kept.{IsSound, Keeps}, Leads.Leads}, proofs.Leading.one_step}
 use Rattle.store_runs.specs.Alike.{AnswerAlike, Beside, LiveAlike, first_at_end, second_at_end}
-use Rattle.store_runs.specs.Alike.{turns_of}
-use Rattle.store_runs.proofs.Rooms.{keeps, numbered, sound, tidy}
+use Rattle.store_runs.{specs.Alike.turns_of, proofs.Rooms.{keeps, numbered, sound, tidy}}
 
 -- calls by which nothing happened
 no_step : (old new : State) → Leads old [] new → HasCleanDisk new → IsSound old → (room : Content)

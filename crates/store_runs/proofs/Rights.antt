@@ -1,7 +1,6 @@
 -- Who may do what in a store's room, over lists of calls.
 use Rattle.std.proofs.Common.{◌≡◌, ℕ, List, [], ◌∷◌, ◌++◌, Option, Some, IfSome, inl, inr, refl}
-use Rattle.std.proofs.Common.{sym, subst}
-use Rattle.std.specs.List.{AllByRecursion}
+use Rattle.std.{proofs.Common.{sym, subst}, specs.List.AllByRecursion}
 use Rattle.sqlite_rules.specs.Lists.{Has}
 use Rattle.sqlite.specs.State.{State}
 use Rattle.room_rows.specs.Content.{Content}
@@ -11,8 +10,7 @@ use Rattle.room_laws.specs.{Tidy.ContentIsTidy, WhoChanged.{IsHarmless, IsThere,
 use Rattle.room_laws.specs.WhoChanged.{RightsChangedInRun, SameRights}
 use Rattle.room_store.specs.{Crash.{HoldsRoom, HoldsRoomAfter, IsRoomOf, LeavesWhole}, Leads.Leads}
 use Rattle.store_runs.specs.Rights.{CrashGainsNothing, GainsNothing, GrantsChanges}
-use Rattle.store_runs.specs.Rights.{IsHarmlessAsking}
-use Rattle.store_runs.proofs.Rooms.{keeps, numbered, sound, tidy}
+use Rattle.store_runs.{specs.Rights.IsHarmlessAsking, proofs.Rooms.{keeps, numbered, sound, tidy}}
 
 and_one : (P : Event → Type 0) (events : List Event) (event : Event) → AllByRecursion P events
     → P event → AllByRecursion P (events ++ event ∷ [])

@@ -1,4 +1,7 @@
 //! Laws of lists of calls.
+//!
+//! Here too, 'at any moment' of a call stands on the argument about power cuts that
+//! `docs/statement.md` has among its premises.
 ghost use Rattle.std.specs.Prelude.{List, ℕ};
 ghost use Rattle.sqlite.specs.Held.{Held, state};
 ghost use Rattle.room_store.specs.Crash.{OutlastsOn, Try, all_asked, all_happened, left_by};

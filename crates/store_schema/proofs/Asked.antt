@@ -1,7 +1,7 @@
 -- What reading the schema's number shows.
-use Rattle.std.proofs.Common.{◌≡◌, ℕ, ℤ, List, [], ◌∷◌, length, map, Result, Ok, Err, Option, None}
-use Rattle.std.proofs.Common.{Some, IsTrue, inl, inr, ◌⊎◌, refl, sym, ap, subst, ◌∙◌, true, false}
-use Rattle.std.proofs.Common.{Bool, if◌then◌else◌, arith, IsPermutation, Vec, Global, IfOk, IfErr}
+use Rattle.std.proofs.Common.{rules, ◌≡◌, ℕ, ℤ, List, [], ◌∷◌, length, map, Result, Ok, Err, Option}
+use Rattle.std.proofs.Common.{None, Some, IsTrue, inl, inr, ◌⊎◌, refl, sym, ap, subst, ◌∙◌, true}
+use Rattle.std.proofs.Common.{false, Bool, arith, IsPermutation, Vec, Global, IfOk, IfErr}
 use Rattle.std.proofs.lemmas.{List.Sorted.length_permutation, Bool.Decides.nat_tests}
 use Rattle.std.proofs.Math.Bool.{and-true}
 use Rattle.sqlite.specs.declared.{types.Value.TheVariants.Null, error.Error.Error}
@@ -10,25 +10,24 @@ use Rattle.sqlite.specs.{Ops.{is_true, from_truth}, Program.overlay, Effect.Data
 use Rattle.sqlite.specs.{Effect.RefusesToRead, Command.{Command, TheVariants.{Rows, Select}}}
 use Rattle.sqlite.specs.{Clock.timed, Listing.understood, State.{State, HasCleanDisk, Shown}}
 use Rattle.sqlite.specs.State.{ShowsRows, FailsToQuery, FailsToShow, IsNotRun, IsTooLate}
-use Rattle.sqlite.specs.State.{store_error}
+use Rattle.sqlite.{specs.State.store_error, proofs.Callers.{IsPlain, one_permutation, reads_as}}
 use Rattle.sqlite_resolve.specs.declared.compiled.Compiled.{Compiled}
 use Rattle.sqlite_resolve.specs.declared.error.CompileError.{CompileError}
 use Rattle.sqlite_trees.specs.declared.error.StoreError.{StoreError, TheVariants.{OutOfMemory, Io}}
 use Rattle.sqlite_trees.specs.declared.error.StoreError.TheVariants.{Corrupt, Full, Broken}
 use Rattle.sqlite_trees.specs.declared.error.StoreError.TheVariants.{Unstorable}
 use Rattle.sqlite_schema.specs.declared.command.Returning.{Returning}
-use Rattle.sqlite.proofs.Callers.{IsPlain, one_permutation, reads_as}
 use Rattle.store_tables.specs.{Tables.{no_schema, room_schema}, Within.IsWithin}
+use Rattle.store_tables.proofs.{Bare.reads_by, Within.{CommitsNothing, as_before, unchanged_within}}
+use Rattle.store_tables.proofs.{Within.{undone_within, wrote_within}, Tests.equals_text}
 use Rattle.store_schema.specs.{NewRoom.{is_version, meta_of, number_shown}, Opening.AsksVersion}
 use Rattle.store_schema.specs.Opening.{CantBeAsked, IsCalled, IsFailure, IsRefusal, IsUnread}
 use Rattle.store_schema.specs.Opening.{ReadsAs, ShowsVersion, number_text}
 use Rattle.store_schema.specs.declared.fault.OpenFault.{OpenFault, TheVariants.NotRooms}
 use Rattle.store_schema.specs.declared.fault.OpenFault.TheVariants.{OldVersion, NewVersion, Db}
-use Rattle.store_schema.specs.declared.fault.OpenFault.TheVariants.{Memory}
-use Rattle.store_schema.proofs.{Answers.{passes, selected}, Texts.{asked_bare, asked_is}}
-use Rattle.store_schema.proofs.Texts.{asked_nowhere, asked_plain, asks_value, is_rooms}
-use Rattle.store_tables.proofs.{Bare.reads_by, Within.{CommitsNothing, as_before, unchanged_within}}
-use Rattle.store_tables.proofs.{Within.{undone_within, wrote_within}, Tests.equals_text}
+use Rattle.store_schema.{specs.declared.fault.OpenFault.TheVariants.Memory, proofs.Answers.passes}
+use Rattle.store_schema.proofs.{Answers.selected, Texts.{asked_bare, asked_is, asked_nowhere}}
+use Rattle.store_schema.proofs.Texts.{asked_plain, asks_value, is_rooms}
 use Rattle.room_entry.proofs.Facts.Lists.{filter_same}
 
 -- ---- the rows that are shown
@@ -102,20 +101,8 @@ module _ (old new : State) (quiet : CommitsNothing old new)
       → (HasCleanDisk new → IfOk r (λ rows. Shown sql params old new rows.items))
       → (HasCleanDisk new → IfErr r (λ e. FailsToQuery sql params old new e
       ⊎ IsTooLate sql params old new e)) → IsWithin old new
-  query_within sql params (Ok rows) ok err = record {
-    clean = quiet.clean;
-    was_open = λ now. (shown_within sql params rows.items (ok now)).was_open now;
-    committed = λ now. (shown_within sql params rows.items (ok now)).committed now;
-    settled = λ now. (shown_within sql params rows.items (ok now)).settled now;
-    crash = as_before old new quiet;
-  }
-  query_within sql params (Err e) ok err = record {
-    clean = quiet.clean;
-    was_open = λ now. (failed_within sql params e (err now)).was_open now;
-    committed = λ now. (failed_within sql params e (err now)).committed now;
-    settled = λ now. (failed_within sql params e (err now)).settled now;
-    crash = as_before old new quiet;
-  }
+  query_within sql params (Ok rows) ok err = search (rules, shown_within, params, ok, as_before)
+  query_within sql params (Err e) ok err = search (rules, failed_within, params, err, as_before)
 
 -- ---- over a room's tables the text is understood
 
@@ -160,8 +147,7 @@ understood_here : (old new : State) (fault : CompileError) → old.now.schema �
     → FailsToQuery number_text [] old new (SqlInputError fault)
     ⊎ IsTooLate number_text [] old new (SqlInputError fault) → ⊥
 understood_here old new fault has h =
-    let refused = refused_text old new fault h in
-    subst IsPlain (ap (λ s. understood s number_text) (sym has) ∙ refused.1) asked_plain
+    search (rules, refused_text, old, new, fault, h, has, asked_plain)
 
 -- ---- over an empty database it isn't
 
@@ -217,18 +203,9 @@ module _ (old new : State) (quiet : CommitsNothing old new) where
     clean = quiet.clean;
     within = λ inside. query_within old new quiet inside number_text [] (Ok rows) ok (λ _. tt);
     told =
-        λ now has. (
-          is ∙ shown_number old new rows.items has (ok now),
-          shown_same old new rows.items has (ok now),
-        );
+        λ now has. (search (rules, is, shown_number, ok, shown_same));
     empty = λ now has. absurd (shown_nowhere old new rows.items has (ok now));
-    shown =
-        λ now.
-        let opened = shown_open old new number_text [] rows.items (ok now) in (
-          shows_version old new rows.items version (ok now) (sym is),
-          opened.0,
-          opened.1,
-        );
+    shown = search (rules, shown_open, rows.items, ok, shows_version, is);
   }
 
   pub asks_err : (e : Error) (fault : OpenFault) → IsCalled e fault
@@ -246,9 +223,7 @@ module _ (old new : State) (quiet : CommitsNothing old new) where
       unread : (f : OpenFault) → IsCalled e f → FailsToQuery number_text [] old new e
           ⊎ IsTooLate number_text [] old new e → IsUnread old.now f
       unread NotRooms it h =
-          refused_text old new it.0
-          (subst (λ x. FailsToQuery number_text [] old new x
-          ⊎ IsTooLate number_text [] old new x) it.1 h)
+          refused_text old new it.0 (search rules)
       unread (OldVersion n) it h = it
       unread (NewVersion n) it h = it
       unread Db it h = tt
@@ -257,9 +232,7 @@ module _ (old new : State) (quiet : CommitsNothing old new) where
       by : (f : OpenFault) → IsCalled e f → old.now.schema ≡ room_schema
           → FailsToQuery number_text [] old new e ⊎ IsTooLate number_text [] old new e → IsFailure f
       by NotRooms it has h =
-          understood_here old new it.0 has
-          (subst (λ x. FailsToQuery number_text [] old new x
-          ⊎ IsTooLate number_text [] old new x) it.1 h)
+          understood_here old new it.0 has (search rules)
       by (OldVersion n) it has h = it
       by (NewVersion n) it has h = it
       by Db it has h = tt

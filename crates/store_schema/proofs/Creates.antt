@@ -1,17 +1,15 @@
 -- What making the tables leaves.
-use Rattle.std.proofs.Common.{◌≡◌, ℕ, List, [], ◌∷◌, Ok, None, sym, ap, subst, ◌∙◌, true, false}
+use Rattle.std.proofs.Common.{rules, ◌≡◌, ℕ, List, [], ◌∷◌, Ok, None, sym, ap, subst, ◌∙◌, true}
+use Rattle.std.proofs.Common.{false}
 use Rattle.sqlite.specs.{Command.TheVariants.CreateTable, Table.Table, Schema.Schema}
 use Rattle.sqlite.specs.{Change.{created, next_tree, KeepsRows}, Does.{Tally, lacks_sequence}}
-use Rattle.sqlite.specs.{Effect.Database, State.{State, Writes, Executes}}
-use Rattle.sqlite.proofs.Callers.{runs_as}
+use Rattle.sqlite.{specs.{Effect.Database, State.{State, Writes, Executes}}, proofs.Callers.runs_as}
 use Rattle.store_tables.specs.Tables.{nodes, bodies, members, meta, audits, counters, no_schema}
 use Rattle.store_tables.specs.Tables.{after_nodes, after_bodies, after_members, after_meta}
-use Rattle.store_tables.specs.Tables.{room_schema}
-use Rattle.store_schema.specs.Making.{HasEmpty}
-use Rattle.store_schema.proofs.Texts.{IsCreate, nodes_text, bodies_text, members_text, meta_text}
-use Rattle.store_schema.proofs.Texts.{audits_text, nodes_is, bodies_is, members_is, meta_is}
-use Rattle.store_schema.proofs.Texts.{audits_is, counters_is, sequences}
-use Rattle.store_tables.proofs.Writes.{went, same_value}
+use Rattle.store_tables.{specs.Tables.room_schema, proofs.Writes.{went, same_value}}
+use Rattle.store_schema.{specs.Making.HasEmpty, proofs.Texts.{IsCreate, nodes_text, bodies_text}}
+use Rattle.store_schema.proofs.Texts.{members_text, meta_text, audits_text, nodes_is, bodies_is}
+use Rattle.store_schema.proofs.Texts.{members_is, meta_is, audits_is, counters_is, sequences}
 
 -- a table is made, empty, and no other changes
 record Creates (schema : Schema) (table : Table) (old new : Database) : Type 0 where
@@ -31,8 +29,7 @@ module _ (text : List ℕ) (old new : State) (schema : Schema) (table : Table)
       let made = first.1 in
       let both : Ok made.table ≡ Ok table = sym made.defined ∙ is.defines in
       let same : made.table ≡ table = cc in
-      let after : first.0.schema ≡ created schema table = made.is
-      ∙ ap (λ s. created s made.table) has ∙ ap (created schema) same in
+      let after : first.0.schema ≡ created schema table = search (rules, made.is, same) in
       let no' : lacks_sequence first.0.schema ≡ false = ap lacks_sequence after ∙ none in
       let now : new.now ≡ first.0 = ap (λ (p : Tally × Database). p.1) (same_value all.2)
       ∙ same_value (rw no' at first.2) in
@@ -57,8 +54,7 @@ module _ (text : List ℕ) (old new : State) (schema : Schema) (table : Table)
       let made = first.1 in
       let both : Ok made.table ≡ Ok table = sym made.defined ∙ is.defines in
       let same : made.table ≡ table = cc in
-      let after : first.0.schema ≡ created schema table = made.is
-      ∙ ap (λ s. created s made.table) has ∙ ap (created schema) same in
+      let after : first.0.schema ≡ created schema table = search (rules, made.is, same) in
       let yes' : lacks_sequence first.0.schema ≡ true = ap lacks_sequence after ∙ lacks in
       let now : new.now ≡ all.0 = ap (λ (p : Tally × Database). p.1) (same_value all.2) in
       let second = rw yes' at first.2 in

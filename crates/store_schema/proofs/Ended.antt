@@ -6,8 +6,7 @@ use Rattle.sqlite.specs.{Held.{Held, state}, State.{State, HasCleanDisk, IsRolle
 use Rattle.sqlite.specs.{Steps.FailsToCommit, Tree.Trees, declared.error.Error.Error}
 use Rattle.store_schema.specs.Opening.{FailsByDisk, FailsToRead}
 use Rattle.store_schema.specs.declared.fault.OpenFault.{OpenFault}
-use Rattle.store_tables.specs.Within.{IsWithin}
-use Rattle.store_tables.proofs.Failing.{Counts, around}
+use Rattle.store_tables.{specs.Within.IsWithin, proofs.Failing.{Counts, around}}
 
 -- a transaction begins
 pub record Begins (old begun : State) : Type 0 where

@@ -5,7 +5,7 @@ use Rattle.sqlite.specs.{declared.types.Value.TheVariants.{Null, Int, Text}, Ord
 use Rattle.sqlite.specs.{Order.value_cmp, Cast.cast_row, Tree.{Trees, put_row}}
 use Rattle.sqlite.specs.{Command.TheVariants.Insert, Source.TheVariants.Values, Edit.Edit}
 use Rattle.sqlite.specs.{Edit.{edit_of, next_rowid, put_all}, Rowids.TheVariants.Chosen, Does.Tally}
-use Rattle.sqlite.specs.{Does.Does, Rows.Written, Effect.{Database, IsDatabase}, Listing.understood}
+use Rattle.sqlite.specs.{Does.Does, Effect.{Database, IsDatabase}, Listing.understood}
 use Rattle.sqlite.specs.State.{State, mode_of, Executes}
 use Rattle.sqlite_schema.specs.declared.schema.{Keys.TheVariants.Enforced, Table.Table}
 use Rattle.sqlite.proofs.Callers.{runs_as, statement_of, one_step}
@@ -78,12 +78,10 @@ version_put old new count has h =
     let written = went counter.2 in
     let counted = went written.2 in
     let wrote = same_value counted.2 in
-    let trees : done.0.trees ≡ written.0 = ap (λ (it : Written). it.trees) wrote
-    ∙ same_value counted.1 in
+    let trees : done.0.trees ≡ written.0 = grind (arith, wrote, same_value, counted.1) in
     let source : given.0 ≡ (Null ∷ version_cells) ∷ [] = given.1.1 in
     let news : (version_edit db given.0).news ≡ (Int (next_rowid (db 5)) ∷ version_cells) ∷ [] =
-    ap (λ l. (version_edit db l).news) source
-    ∙ ap (λ r. Rattle.sqlite.specs.Edit.numbered Chosen (db 5) (r ∷ [])) cast_version in
+    grind (arith, db, source, cast_version) in
     let none = ap (works room_schema Enforced 0 5 []) news
     ∙ version_alone (Int (next_rowid (db 5)) ∷ version_cells) in
     let applies = one_step room_schema Enforced db written.0
@@ -93,10 +91,7 @@ version_put old new count has h =
       schema = ap (λ (d : Database). d.schema) now;
       sound = w.sound;
       rows = ap (λ (t : Trees). t 5) at ∙ applies.rows ∙ ap (put_all (db 5)) news;
-      others =
-          subst (λ (t : Trees). Rattle.std.specs.List.AllByRecursion
-          (λ (table : Table). table.tree ≢ 5 → t table.tree ≡ db table.tree) room_schema.tables)
-          (sym at) applies.tables;
+      others = grind (arith, db, applies.tables);
     }
 
 pub makes_version : (old new : State) (count : ℕ)
@@ -113,14 +108,7 @@ makes_version old new count before h =
         others.0 (λ e. let e' : 0 ≡ 5 = e in omega (arith, e')) ∙ before.empty.0,
         (
           others.1.0 (λ e. let e' : 2 ≡ 5 = e in omega (arith, e')) ∙ before.empty.1.0,
-          (
-            others.1.1.0 (λ e. let e' : 3 ≡ 5 = e in omega (arith, e')) ∙ before.empty.1.1.0,
-            (
-              others.1.1.1.1.0 (λ e. let e' : 7 ≡ 5 = e in omega (arith, e'))
-                  ∙ before.empty.1.1.1.1.0,
-              tt,
-            ),
-          ),
+          grind (arith, others.1.1.0, before.empty.1.1.0, others.1.1.1.1.0, before.empty.1.1.1.1.0),
         ),
       );
       version = ap told rows ∙ version_told;
@@ -158,8 +146,7 @@ folder_put owner group old new count has h =
     let written = went counter.2 in
     let counted = went written.2 in
     let wrote = same_value counted.2 in
-    let trees : done.0.trees ≡ written.0 = ap (λ (it : Written). it.trees) wrote
-    ∙ same_value counted.1 in
+    let trees : done.0.trees ≡ written.0 = grind (arith, wrote, same_value, counted.1) in
     let source : given.0 ≡ root_row owner group ∷ [] = given.1.1 in
     let news : (folder_edit db given.0).news ≡ root_row owner group ∷ [] =
     ap (λ l. (folder_edit db l).news) source
@@ -172,10 +159,7 @@ folder_put owner group old new count has h =
       schema = ap (λ (d : Database). d.schema) now;
       sound = w.sound;
       rows = ap (λ (t : Trees). t 0) at ∙ applies.rows ∙ ap (put_all (db 0)) news;
-      others =
-          subst (λ (t : Trees). Rattle.std.specs.List.AllByRecursion
-          (λ (table : Table). table.tree ≢ 0 → t table.tree ≡ db table.tree) room_schema.tables)
-          (sym at) applies.tables;
+      others = grind (arith, db, applies.tables);
     }
 
 pub makes_root : (owners : Owners) → IsTrue (is_name owners.owner) → IsTrue (is_name owners.group)
@@ -188,12 +172,9 @@ makes_root owners one two three four old new count before h =
     let others = put.others in
     let nodes : new.now.trees 0 ≡ root_row owners.owner owners.group ∷ [] = put.rows
     ∙ ap (put_row (root_row owners.owner owners.group)) before.empty.0 in
-    let bodies : new.now.trees 2 ≡ [] = others.1.0 (λ e. let e' : 2 ≡ 0 = e in omega (arith, e'))
-    ∙ before.empty.1.0 in
-    let members : new.now.trees 3 ≡ [] = others.1.1.0 (λ e. let e' : 3 ≡ 0 = e in omega (arith, e'))
-    ∙ before.empty.1.1.0 in
-    let audits : new.now.trees 7 ≡ [] = others.1.1.1.1.0
-    (λ e. let e' : 7 ≡ 0 = e in omega (arith, e')) ∙ before.empty.1.1.1.0 in
+    let bodies : new.now.trees 2 ≡ [] = grind (arith, others.1.0, before.empty.1.0) in
+    let members : new.now.trees 3 ≡ [] = grind (arith, others.1.1.0, before.empty.1.1.0) in
+    let audits : new.now.trees 7 ≡ [] = grind (arith, others.1.1.1.1.0, before.empty.1.1.1.0) in
     record {
       room = record {
         schema = put.schema;

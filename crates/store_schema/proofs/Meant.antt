@@ -1,18 +1,15 @@
 -- What the row of a new root is read as.
-use Rattle.std.proofs.Common.{◌≡◌, ℕ, pos, List, [], ◌∷◌, ◌++◌, codes, Some, None, inl, inr, refl}
-use Rattle.std.proofs.{Common.{sym, ap, subst, ◌∙◌, true, arith}, lemmas.Bool.Decides.nat_tests}
-use Rattle.std.specs.Prelude.{IsTrue, false, Option, option_map, option_and_then, if◌then◌else◌}
-use Rattle.room_entry.specs.{Ace.Ace, declared.object.ObjKind.TheVariants.Folder}
+use Rattle.std.proofs.Common.{rules, ◌≡◌, ℕ, pos, List, [], ◌∷◌, ◌++◌, codes, Some, inl, inr, refl}
+use Rattle.std.proofs.{Common.{sym, subst, arith}, lemmas.Bool.Decides.nat_tests}
+use Rattle.std.specs.Prelude.{IsTrue}
 use Rattle.room_entry.specs.{declared.parties.Owners.Owners, Bits.all_bits, Names.is_name}
 use Rattle.room_entry.specs.Utf8.{is_utf8}
-use Rattle.room_rows.specs.{HeldList.Held, declared.node.Node.Node}
 use Rattle.sqlite.specs.{Effect.Database, declared.types.Value.TheVariants.{Null, Int, Text}}
 use Rattle.sqlite.specs.Order.{Row, column}
 use Rattle.room_ace.specs.Column.{entries_of}
 use Rattle.sqlite_rules.specs.Lists.{Has}
-use Rattle.store_tables.specs.{Meaning.{name_in, node_in, rows_of}, Shown.shown_node}
-use Rattle.store_tables.specs.Printed.{ArePrinted, HoldsPrinted, IsPrinted}
-use Rattle.store_tables.proofs.Printed.{by_cell}
+use Rattle.store_tables.specs.{Meaning.{node_in, rows_of}, Shown.shown_node, Printed.ArePrinted}
+use Rattle.store_tables.{specs.Printed.{HoldsPrinted, IsPrinted}, proofs.Printed.by_cell}
 use Rattle.store_schema.specs.NewRoom.{owner_entry, rows_of_root, new_root}
 
 abbrev pub owner_line : List ℕ
@@ -51,53 +48,10 @@ root_printed owner group = by_cell (λ place. (r : Row) → Has (root_row owner 
     (alone (root_row owner group) (λ r. HoldsPrinted (column r 11)) none_printed)
     (alone (root_row owner group) (λ r. HoldsPrinted (column r 12)) none_printed)
 
--- a node by its columns that may not be read
-abbrev root_of : Option (List ℕ) → Option (List ℕ) → Option (List Ace) → Option (List Ace)
-    → Option Node
-root_of owner group own none =
-    option_and_then (λ owners. option_and_then (λ dacl. option_map (λ sacl.
-    let n : Node = record {
-      id = 1;
-      parent = None;
-      name = [];
-      kind = Folder;
-      owners = owners;
-      dacl = dacl;
-      sacl = sacl;
-    } in n)
-    (list_of none none)) (list_of own none))
-    (option_and_then
-    (λ o. option_map (λ g. let w : Owners = record { owner = o; group = g } in w) group) owner)
-  where
-    list_of : Option (List Ace) → Option (List Ace) → Option Held
-    list_of own inh =
-        option_and_then
-        (λ o. option_map
-        (λ i. let h : Held = record {
-          flags = record { auto = true; protect = false };
-          own = o;
-          inh = i;
-        } in h) inh) own
-
-name_read : (text : List ℕ) → IsTrue (is_name text) → IsTrue (is_utf8 text)
-    → name_in (Text text) ≡ Some text
-name_read text name utf8 = grind (arith, nat_tests)
-
 pub root_read : (owners : Owners) → IsTrue (is_name owners.owner) → IsTrue (is_name owners.group)
     → IsTrue (is_utf8 owners.owner) → IsTrue (is_utf8 owners.group)
     → node_in (shown_node (root_row owners.owner owners.group)) ≡ Some (new_root owners)
-root_read owners one two three four =
-    let parts : node_in (shown_node (root_row owners.owner owners.group))
-    ≡ root_of (name_in (Text owners.owner)) (name_in (Text owners.group))
-    (entries_of owner_line) (entries_of []) =
-    refl in
-    parts
-    ∙ ap (λ o. root_of o (name_in (Text owners.group)) (entries_of owner_line) (entries_of []))
-    (name_read owners.owner one three)
-    ∙ ap (λ o. root_of (Some owners.owner) o (entries_of owner_line) (entries_of []))
-    (name_read owners.group two four)
-    ∙ ap (λ o. root_of (Some owners.owner) (Some owners.group) o (entries_of [])) owner_line_is
-    ∙ ap (root_of (Some owners.owner) (Some owners.group) (Some (owner_entry ∷ []))) no_line_is
+root_read owners one two three four = search (rules, one, three, two, four, owner_line_is)
 
 pub room_read : (db : Database) (owners : Owners) → IsTrue (is_name owners.owner)
     → IsTrue (is_name owners.group) → IsTrue (is_utf8 owners.owner) → IsTrue (is_utf8 owners.group)

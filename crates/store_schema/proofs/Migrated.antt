@@ -1,6 +1,6 @@
 -- A transaction that upgrades a room is committed, or its commit fails.
-use Rattle.std.proofs.Common.{◌≡◌, ◌≤◌, [], pos, Result, Ok, Err, IsErrAnd, IsTrue, sym, ap, subst}
-use Rattle.std.proofs.{Common.{◌∙◌, false, inl, inr, arith}, lemmas.Bool.Decides.nat_tests}
+use Rattle.std.proofs.Common.{rules, ◌≡◌, ◌≤◌, [], pos, Result, Ok, Err, IsErrAnd, IsTrue, sym, ap}
+use Rattle.std.proofs.{Common.{subst, ◌∙◌, false, inl, inr, arith}, lemmas.Bool.Decides.nat_tests}
 use Rattle.sqlite_trees.specs.View.{doubt}
 use Rattle.sqlite.specs.{Effect.{Database, IsDatabase}, State.{State, HasCleanDisk, KeepsCounts}}
 use Rattle.sqlite.specs.{State.{Shows, Survives}, Steps.FailsToCommit, declared.error.Error.Error}
@@ -9,7 +9,6 @@ use Rattle.store_tables.specs.Within.{IsSettled, LeavesOrCommits}
 use Rattle.store_schema.specs.{NewRoom.meta_of, Opening.{AnswersVersion, IsFailure, IsRefusal}}
 use Rattle.store_schema.specs.{Opening.Says, Migrating.{AnswersMigration, CommitsMigration}}
 use Rattle.store_schema.specs.Migrating.{IsInside, IsMigratedRoom, IsNoRoom, Migrates}
-use Rattle.store_schema.specs.Migrating.{MigratesTables, RetainsOthers}
 use Rattle.store_schema.specs.declared.fault.MigrateFault.{MigrateFault, TheVariants.Opening}
 use Rattle.store_schema.specs.declared.fault.OpenFault.{OpenFault, TheVariants.NotRooms}
 use Rattle.store_schema.specs.declared.fault.OpenFault.TheVariants.{OldVersion, NewVersion, Db}
@@ -79,24 +78,14 @@ module _ (old begun mid end : State) (begins : Begins old begun)
         let open' = inside.opens clean in
         let settled = begins.settled (open_first' survives.clean inside now open') in
         let committed = room_committed survives.clean inside now open' tables in
-        let room = room_now survives.clean inside now open' tables in
-        record {
-          leads = subst (λ d. MigratesTables d mid.now (Ok tt)) begins.now
-              (inside.leads clean open' committed room);
-          retains =
-              subst (λ (d : Database). RetainsOthers d.trees mid.now.trees) begins.now
-              (inside.retains clean open' committed room
-              (begins.now ∙ settled ∙ sym begins.committed));
-        }
+        search (rules, room_now, now, open', tables, clean, committed, settled)
 
     -- whatever the commit answers, nothing but the room upgraded can have been committed
     crash : LeavesOrCommits old end (CommitsMigration old.now)
     crash = λ now db left.
         elim (survives.crash now db left) [
-          | inl was ↦
-              inl (left_first old begun mid end begins survives.clean inside.within now db was)
-          | inr is ↦
-              inr (shown_first survives.clean inside now, λ tables. (mid.now, upgraded now tables, is))
+          | inl was ↦ search (rules, left_first, was)
+          | inr is ↦ search (rules, shown_first, upgraded, is)
         ]
 
     -- the commit failed

@@ -1,22 +1,20 @@
 -- The steps of upgrading a room, one after the other.
-use Rattle.std.proofs.Common.{◌≡◌, ◌≤◌, ℕ, ℤ, pos, List, [], ◌∷◌, ◌++◌, map, filter, Option, Some}
-use Rattle.std.proofs.Common.{Result, Ok, IfOk, OnOk, IsErrAnd, IsTrue, refl, sym, ap, subst}
+use Rattle.std.proofs.Common.{rules, ◌≡◌, ◌≤◌, ℕ, ℤ, pos, List, [], ◌∷◌, ◌++◌, map, filter, Option}
+use Rattle.std.proofs.Common.{Some, Result, Ok, IfOk, OnOk, IsErrAnd, IsTrue, refl, sym, ap, subst}
 use Rattle.std.proofs.{Common.{subst₂, ◌∙◌, arith}, lemmas.List.{append_assoc, Elements.All-append}}
 use Rattle.std.proofs.lemmas.Bool.Decides.{nat_tests}
-use Rattle.sqlite_trees.specs.View.{IsShaped, doubt}
+use Rattle.sqlite_trees.specs.View.{doubt}
 use Rattle.sqlite.specs.{Order.{Row, column}, Tree.Trees, Effect.Database, State.State}
 use Rattle.sqlite.specs.State.{HasCleanDisk}
 use Rattle.room_rows.specs.declared.{keep.KeepFault.KeepFault, report.Report.TheVariants.Sound}
 use Rattle.store_tables.specs.{Meaning.{IsRecord, rows_of}, Tables.no_schema, RoomRows.room_rows}
 use Rattle.store_tables.specs.{Shown.{IsRoom, Retains, Stays}, Trust.IsTrusted, Within.IsWithin}
-use Rattle.store_tables.specs.Within.{within_on}
-use Rattle.store_tables.proofs.{Calls.retains_same, Printed.keeps_on}
+use Rattle.store_tables.{specs.Within.within_on, proofs.{Calls.retains_same, Printed.keeps_on}}
 use Rattle.store_schema.specs.{NewRoom.{is_version, meta_of, number_shown}, Opening.Expects}
 use Rattle.store_schema.specs.{Opening.ShowsVersion, Migrating.{AnswersMigration, AreMigrated}}
 use Rattle.store_schema.specs.Migrating.{IsInside, IsNoRoom, IsMigrated, RetainsOthers}
-use Rattle.store_schema.specs.Migrating.{MigratesTables, SpreadIsMigrated, Stamps, other_rows}
+use Rattle.store_schema.specs.Migrating.{MigratesTables, SpreadIsMigrated, Stamps}
 use Rattle.store_schema.specs.declared.fault.{MigrateFault.MigrateFault, OpenFault.OpenFault}
-use Rattle.sqlite_trees.specs.declared.store.Shape.TheVariants as Shape
 
 -- the number that these rows of `meta` tell
 abbrev number_in_meta : List Row → Option ℤ
@@ -26,8 +24,7 @@ number_in_meta rows = number_shown (map (λ r. column r 2 ∷ []) (filter is_ver
 others_on : (a b c : Trees) → Retains a b → RetainsOthers b c → RetainsOthers a c
 others_on a b c p q =
     record {
-      meta = λ shaped. q.meta (subst (IsShaped Shape.Table) (sym p.meta) shaped)
-          ∙ ap other_rows p.meta;
+      meta = search (rules, q.meta, p.meta);
       more = p.more ++ q.more;
       audits = q.audits ∙ ap (λ l. l ++ q.more) p.audits ∙ append_assoc (a 7) p.more q.more;
       records = All-append IsRecord p.more q.more p.records q.records;
@@ -136,14 +133,11 @@ module _ (begun : State) (inside : IsTrue begun.in_transaction) where
                   let was = retains_same asked.committed asked.now
                   (told.1 ∙ same ∙ sym first') in
                   let kept : Retains begun.now.trees migrated.now.trees =
-                  subst (λ (d : Database). Retains d.trees migrated.now.trees)
-                  (second.committed now2 open2 ∙ sym same)
-                  (stays.retains now2 open2 trust.committed trust.now was) in
+                  search (rules, now2, open2, trust.committed, was) in
                   let number : meta_of migrated.now ≡ Some (pos 1) =
                   ap number_in_meta kept.meta ∙ told.0 in
                   subst (λ (d : Database). RetainsOthers begun.now.trees d.trees) (sym read.1)
-                  (others_on begun.now.trees migrated.now.trees stamped.now.trees kept
-                  (stamps.retains now3 (second_room now2 open2 one two) (pos 1) number))
+                  (search (rules, others_on, kept, now3, second_room, now2, open2, pos, number))
 
               leads : HasCleanDisk end → IsTrue end.is_open → IsRoom begun.committed
                   → IsRoom begun.now → MigratesTables begun.now end.now (Ok tt)

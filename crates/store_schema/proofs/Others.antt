@@ -1,18 +1,17 @@
 -- The rows of `meta` but that of the schema's number, where that is written anew.
-use Rattle.std.proofs.Common.{◌≡◌, ℕ, ℤ, pos, List, [], ◌∷◌, map, filter, Bool, true, false, not}
-use Rattle.std.proofs.Common.{cond, IsTrue, Some, inl, inr, ◌⊎◌, refl, sym, ap, subst, ◌∙◌, codes}
-use Rattle.std.proofs.{Common.arith, lemmas.Bool.{not-true, Decides.nat_tests}}
+use Rattle.std.proofs.Common.{rules, ◌≡◌, ℕ, ℤ, pos, List, [], ◌∷◌, map, filter, Bool, true, false}
+use Rattle.std.proofs.Common.{not, cond, IsTrue, Some, inl, inr, ◌⊎◌, refl, sym, ap, subst, ◌∙◌}
+use Rattle.std.proofs.{Common.{codes, arith}, lemmas.Bool.{not-true, Decides.nat_tests}}
 use Rattle.std.specs.{Ordering.{is_eq, match_ordering}, declared.cmp.Ordering.Ordering}
 use Rattle.std.specs.declared.cmp.Ordering.TheVariants.{Less, Equal, Greater}
 use Rattle.sqlite.specs.declared.types.Value.{Value, TheVariants.{Null, Int, Real, Text, Blob}}
 use Rattle.sqlite.specs.{Cast.{cast, cast_row}, Order.{Row, column, value_cmp}, Tree.IsTable}
 use Rattle.sqlite.specs.Tree.{rowid, has_rowid, put_row, without_rowid}
-use Rattle.sqlite_rules.specs.Lists.{Has}
-use Rattle.sqlite_rules.proofs.ListLemmas.{has_filtered, has_kept}
+use Rattle.sqlite_rules.{specs.Lists.Has, proofs.ListLemmas.{has_filtered, has_kept}}
 use Rattle.sqlite_schema.specs.declared.schema.Table.{Table}
 use Rattle.sqlite_trees.specs.View.{IsShaped, is_int}
-use Rattle.store_tables.specs.Tables.{meta}
-use Rattle.store_tables.proofs.{Rowids.{at_most_one, has_itself}, Updates.cast_int}
+use Rattle.store_tables.{specs.Tables.meta, proofs.Rowids.{at_most_one, has_itself}}
+use Rattle.store_tables.proofs.Updates.{cast_int}
 use Rattle.store_schema.specs.{NewRoom.{is_version, number_shown}, Migrating.other_rows}
 use Rattle.sqlite.specs.Kind.TheVariants as kind
 use Rattle.sqlite_trees.specs.declared.store.Shape.TheVariants as Shape
@@ -120,9 +119,6 @@ others_stay rows r id is shaped one =
     ap (λ x. other_rows (put_row x (without_rowid id rows)))
     (cast_numbered id (column r 1) (key_same (column r 1) (codes "rooms") at.1))
     ∙ more (λ r. not (is_version r)) (numbered_row id (column r 1)) (without_rowid id rows)
-    (ap not at.1)
-    (λ y there. not-true (has_rowid id y)
-    (has_filtered (λ r. not (has_rowid id r)) rows y there).1)
+    (ap not at.1) (search (rules, not-true, has_filtered))
     ∙ fewer (λ r. not (is_version r)) id rows
-    (λ y there p. ap (λ z. not (is_version z))
-    (same_row id rows shaped.0 y r there at.0 p has) ∙ ap not at.1)
+    (search (rules, same_row, shaped.0, r, at.0, has, at.1))

@@ -1,9 +1,9 @@
 -- What writing the schema's number anew leaves.
-use Rattle.std.proofs.Common.{◌≡◌, ◌≢◌, ℕ, ℤ, pos, suc, List, [], ◌∷◌, length, map, filter, inl}
-use Rattle.std.proofs.Common.{Result, Some, Ok, Err, None, IsTrue, OnOk, refl, sym, ap, subst, ◌∙◌}
-use Rattle.std.proofs.{Common.{true, false, Bool, arith}, lemmas.List.append-nil}
-use Rattle.std.proofs.lemmas.{List.Elements.All-nil, Bool.Decides.nat_tests}
-use Rattle.std.specs.{Prelude.◌==◌, List.{AllByRecursion, Sorted.IsPermutation}}
+use Rattle.std.proofs.Common.{rules, ◌≡◌, ◌≢◌, ℕ, ℤ, pos, suc, List, [], ◌∷◌, length, map, filter}
+use Rattle.std.proofs.Common.{inl, Result, Some, Ok, Err, None, IsTrue, OnOk, refl, sym, ap, subst}
+use Rattle.std.proofs.{Common.{◌∙◌, true, false, Bool, arith}, lemmas.List.append-nil}
+use Rattle.std.{proofs.lemmas.{List.Elements.All-nil, Bool.Decides.nat_tests}, specs.Prelude.◌==◌}
+use Rattle.std.specs.List.{AllByRecursion, Sorted.IsPermutation}
 use Rattle.sqlite.specs.{Order.{Row, column}, Tree.{Trees, rowid}, Command.TheVariants.Update}
 use Rattle.sqlite.specs.{Does.{Tally, Does}, Edit.{Edit, edit_of, taken_by, edited}}
 use Rattle.sqlite.specs.{Effect.{Database, IsDatabase}, Listing.understood}
@@ -12,21 +12,18 @@ use Rattle.sqlite.specs.{declared.types.Value.TheVariants.{Int, Null}, State.{St
 use Rattle.sqlite.specs.{State.{mode_of, Executes, ExecutesInside}, Program.overlay}
 use Rattle.sqlite.proofs.Callers.{runs_as, statement_of, one_step, one_permutation}
 use Rattle.sqlite_rules.specs.{Action.works, Calls.ids_of, Lists.Has}
+use Rattle.sqlite_rules.proofs.ListLemmas.{has_filtered}
 use Rattle.sqlite_schema.specs.declared.schema.{Keys.TheVariants.Enforced, Table.Table}
 use Rattle.sqlite_tied.specs.Compute.{everything}
 use Rattle.store_tables.specs.{Meaning.{IsRecord, rows_of}, Shown.IsRoom, Tables.meta}
-use Rattle.store_tables.specs.{Tables.room_schema, Within.IsWithin}
-use Rattle.store_tables.proofs.{Printed.keeps_same, Rowids.of_each, Within.CommitsNothing}
-use Rattle.store_tables.proofs.Writes.{went, same_value}
+use Rattle.store_tables.{specs.{Tables.room_schema, Within.IsWithin}, proofs.Printed.keeps_same}
+use Rattle.store_tables.proofs.{Rowids.of_each, Within.CommitsNothing, Writes.{went, same_value}}
 use Rattle.store_schema.specs.{NewRoom.{meta_of, is_version}, Migrating.{RetainsOthers, Stamps}}
-use Rattle.store_schema.specs.Migrating.{other_rows}
 use Rattle.store_schema.proofs.{Answers.{passes, selected, shows}, Asked.passes_rooms}
 use Rattle.store_schema.proofs.{Others.{int_of, one_version, others_stay}, Texts.is_rooms}
 use Rattle.store_schema.proofs.Texts.{query_of, stamp_is, stamp_plain, stamp_terms, stamp_text}
 use Rattle.store_schema.proofs.Within.{within_inside}
-use Rattle.sqlite_rules.proofs.ListLemmas.{has_filtered}
 use Rattle.room_entry.proofs.Facts.Lists.{filter_same}
-use Rattle.sqlite_trees.specs.declared.store.Shape.TheVariants as Shape
 
 abbrev meta_table : Table
 meta_table = record meta { tree = 5 }
@@ -71,8 +68,7 @@ stamped old new count has h =
       trees = did.0;
       rows = (stamp_edit db asked.0).news;
       last = None;
-    } =
-    same_value did.2 in
+    } = search (rules, same_value, did.2) in
     let now : new.now ≡ record { schema = room_schema; trees = did.0 } =
     ap (λ (p : Tally × Database). p.1) last
     ∙ ap
@@ -88,11 +84,7 @@ stamped old new count has h =
           selected Null 5 (is_rooms ∷ []) stamp_terms [] (overlay db []) [] asked.0
           (asked.1.answer Null);
       meta = ap (λ (d : Database). d.trees 5) now ∙ applies.rows;
-      others =
-          subst
-          (λ (d : Database). AllByRecursion
-          (λ (table : Table). table.tree ≢ 5
-          → d.trees table.tree ≡ db table.tree) room_schema.tables) (sym now) applies.tables;
+      others = grind (arith, nat_tests, db, now, applies.tables);
     }
 
 same_rows : (old new : Database) → new.trees 0 ≡ old.trees 0 → new.trees 2 ≡ old.trees 2
@@ -120,12 +112,9 @@ stamp_others old new count room n number h =
           let id = int_of (rowid one.0) (of_each _ (old.now.trees 5) shaped.1 one.0 there) in
           let rows : it.rows ≡ (Int id.0 ∷ Int id.0 ∷ column one.0 1 ∷ Int (pos 2) ∷ []) ∷ [] =
           shown ∙ ap (λ v. (v ∷ v ∷ column one.0 1 ∷ Int (pos 2) ∷ []) ∷ []) id.1 in
-          ap other_rows (it.meta
-          ∙ ap (λ l. edited old.now.trees (stamp_edit old.now.trees l)) rows)
-          ∙ others_stay (old.now.trees 5) one.0 id.0 id.1 shaped one.1;
+          search (rules, it.meta, old.now.trees, rows, others_stay, one.0, id.0, id.1, one.1);
       more = [];
-      audits = it.others.1.1.1.1.0 (λ e. let e' : 7 ≡ 5 = e in omega (arith, e'))
-          ∙ sym (append-nil (old.now.trees 7));
+      audits = search (rules, it.others.1.1.1.1.0, append-nil, old.now.trees);
       records = All-nil IsRecord;
       texts = keeps_same _ _ (it.others.0 (λ e. let e' : 0 ≡ 5 = e in omega (arith, e')));
     }
@@ -161,13 +150,4 @@ module _ (old new : State) (quiet : CommitsNothing old new) where
             keeps = λ now room. keeps r room (runs now is);
             retains = λ now room n number. retains r room n number (runs now is);
           }
-      go false is = record {
-        within = (ended is).1;
-        inside = λ now. subst (λ q. OnOk q (new.in_transaction ≡ true)) (sym (ended is).0) tt;
-        keeps =
-            λ now room. subst (λ q. OnOk q (IsRoom new.now × (rows_of new.now ≡ rows_of old.now)))
-            (sym (ended is).0) tt;
-        retains =
-            λ now room n number. subst (λ q. OnOk q (RetainsOthers old.now.trees new.now.trees))
-            (sym (ended is).0) tt;
-      }
+      go false is = search (rules, ended)

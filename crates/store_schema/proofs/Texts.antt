@@ -6,16 +6,15 @@ use Rattle.sqlite.specs.{Query.{Query, inner, end}, Source.TheVariants.Values, T
 use Rattle.sqlite.specs.{Term.{col, op2}, declared.types.Value.TheVariants.{Null, Int, Text}}
 use Rattle.sqlite.specs.{Compile.table_defined_by, Does.lacks_sequence, Listing.understood}
 use Rattle.sqlite.specs.{Listing.{reads_listing, listing_schema}, Schema.Schema, Table.Table}
+use Rattle.sqlite.proofs.Callers.{IsPlain, command_of, statement_of}
 use Rattle.sqlite_value.specs.declared.keys.{Key.Key, Collation.TheVariants.Binary}
 use Rattle.sqlite_sql.specs.declared.ops.{BinaryOp.TheVariants.Compare, CompareOp.TheVariants.Eq}
 use Rattle.sqlite_tied.specs.Compute.{everything}
 use Rattle.sqlite_resolve.specs.{declared.error.CompileError.TheVariants.NoSuchTable, Compile.first}
 use Rattle.sqlite_resolve.specs.Compile.{returning}
-use Rattle.sqlite.proofs.Callers.{IsPlain, command_of, statement_of}
 use Rattle.store_tables.specs.Tables.{nodes, bodies, members, meta, audits, counters, no_schema}
 use Rattle.store_tables.specs.Tables.{after_nodes, after_bodies, after_members, after_meta}
-use Rattle.store_tables.specs.Tables.{after_audits, room_schema}
-use Rattle.store_tables.proofs.Bare.{LacksReturning}
+use Rattle.store_tables.{specs.Tables.{after_audits, room_schema}, proofs.Bare.LacksReturning}
 use Rattle.store_schema.specs.Opening.{number_text}
 
 abbrev pub nodes_text : List ℕ

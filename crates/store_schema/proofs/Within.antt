@@ -4,9 +4,8 @@ use Rattle.std.proofs.lemmas.Bool.Decides.{nat_tests}
 use Rattle.sqlite.specs.{Order.Row, Effect.Database, declared.error.Error.Error, State.State}
 use Rattle.sqlite.specs.State.{HasCleanDisk, Executes, ExecutesInside}
 use Rattle.store_schema.specs.Making.{Makes}
-use Rattle.store_tables.specs.Within.{IsWithin}
-use Rattle.store_tables.proofs.Within.{CommitsNothing, as_before, unchanged_within, undone_within}
-use Rattle.store_tables.proofs.Within.{wrote_within}
+use Rattle.store_tables.{specs.Within.IsWithin, proofs.Within.{CommitsNothing, as_before}}
+use Rattle.store_tables.proofs.Within.{unchanged_within, undone_within, wrote_within}
 
 module _ (old new : State) (quiet : CommitsNothing old new) where
   inside : (sql : List ℕ) (params : Row) (r : Result ℕ Error)

@@ -23,7 +23,7 @@ use Rattle.room_rows.specs.Meaning.{meaning}
 use Rattle.room_rows.specs.Rows.{AreRows, Rows}
 use Rattle.room_rows.specs.declared.keep.Keep.{Ghosts}
 use Rattle.room_rows.specs.declared.keep.KeepFault.{KeepFault}
-use Rattle.room_rows.specs.declared.keep.KeepFault.TheVariants.{Damaged}
+use Rattle.room_rows.specs.declared.keep.KeepFault.TheVariants.{NoRoot}
 use Rattle.room_inherit.specs.declared.outcome.SpreadFault.{SpreadFault}
 use Rattle.room_inherit.specs.declared.outcome.SpreadFault.TheVariants as spread
 use Rattle.room_inherit.specs.Kept.{kept_report_of}
@@ -59,10 +59,11 @@ pub record MigratesRows {S : Type 0} (k : Ghosts S) (old new : S)
   pub becomes : k.IsTrusted old new
       → IfOk result (λ report. IsMigrated (k.rows old) report (k.rows new))
 
--- the keeper's fault for lists that weren't all carried down
+-- The keeper's fault for lists that weren't all carried down. They are from the root on, and no
+-- object that is its own ancestor is a root.
 abbrev pub spread_fault_as : SpreadFault → KeepFault
 spread_fault_as (spread.Keeper fault) = fault
-spread_fault_as spread.Loop = Damaged 0
+spread_fault_as spread.Loop = NoRoot
 
 -- All lists are carried down.
 pub record CarriesAll {S : Type 0} (k : Ghosts S) (old new : S)

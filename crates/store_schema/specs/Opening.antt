@@ -57,6 +57,7 @@ open_fault_of why = failure_as why
 abbrev pub keeper_failure_as : KeepFault → OpenFault
 keeper_failure_as keep.Memory = Memory
 keeper_failure_as keep.Store = Db
+keeper_failure_as keep.NoRoot = Db
 keeper_failure_as (keep.Damaged id) = Db
 
 -- There is no room, the database failed, or memory ran out.

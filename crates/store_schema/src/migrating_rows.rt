@@ -13,13 +13,14 @@ use sqlite::{Alter, Transaction};
 use std::alloc::Global;
 use store_tables::{Keeper, RecentLists};
 
-// The keeper's fault for lists that weren't all carried down. A loop is a row that can't be right.
+// The keeper's fault for lists that weren't all carried down. They are from the root on, and no
+// object that is its own ancestor is a root.
 fn spread_fault(fault: SpreadFault) -> KeepFault
     ensures { result ≡ spread_fault_as fault }
 {
     match fault {
         SpreadFault::Keeper(fault) => fault,
-        SpreadFault::Loop => KeepFault::Damaged { id: 0 },
+        SpreadFault::Loop => KeepFault::NoRoot,
     }
 }
 
@@ -27,10 +28,8 @@ fn spread_fault(fault: SpreadFault) -> KeepFault
 fn carry_all<K: Keep>(alloc: Global, keep: &mut K) -> Result<(), KeepFault>
     ensures carries { CarriesAll K.Keep keep.old keep.new result }
 {
-    match spread_all(alloc, keep) {
-        Ok(_) => Ok(()),
-        Err(fault) => Err(spread_fault(fault)),
-    }
+    spread_all(alloc, keep).map_err(spread_fault)?;
+    Ok(())
 }
 
 // Tests all rows, and where no fault is found, carries all lists down.
@@ -38,10 +37,10 @@ fn migrate_rows<K: Keep>(alloc: Global, keep: &mut K) -> Result<Report, KeepFaul
     ensures migrates { MigratesRows K.Keep keep.old keep.new result }
 {
     match verify_kept(alloc, keep) {
-        Ok(Report::Sound) => match carry_all(alloc, keep) {
-            Ok(()) => Ok(Report::Sound),
-            Err(fault) => Err(fault),
-        },
+        Ok(Report::Sound) => {
+            carry_all(alloc, keep)?;
+            Ok(Report::Sound)
+        }
         other => other,
     }
 }

@@ -78,10 +78,8 @@ pub(crate) fn expect_version<S: Alter>(
     ensures fails { FailsToRead (state S.Store tx.old.conn.now) (state S.Store tx.new.conn.now)
         result }
 {
-    match ask_version(tx) {
-        Ok(version) => judge(version, wanted),
-        Err(fault) => Err(fault),
-    }
+    let version = ask_version(tx)?;
+    judge(version, wanted)
 }
 
 /// Writes the number 2 over that of an older schema.

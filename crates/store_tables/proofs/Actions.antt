@@ -1,35 +1,31 @@
 -- What the deletion of an object sets off: no child may be left, and its bytes go.
-use Rattle.std.proofs.Common.{◌≡◌, ℕ, zero, suc, ℤ, List, [], ◌∷◌, length, map, filter, Result, Ok}
-use Rattle.std.proofs.Common.{Err, Some, IsTrue, inl, inr, ◌⊎◌, refl, sym, ap, subst, ◌∙◌, true}
+use Rattle.std.proofs.Common.{rules, ◌≡◌, ℕ, zero, suc, ℤ, List, [], ◌∷◌, length, filter, Result}
+use Rattle.std.proofs.Common.{Ok, Err, Some, IsTrue, inl, inr, ◌⊎◌, refl, sym, ap, subst, ◌∙◌, true}
 use Rattle.std.proofs.Common.{false, Bool, codes, not, IfOk, if◌then◌else◌, drop, find, unwrap_or}
 use Rattle.std.proofs.{Common.{◌<ℤ◌, subst₂, arith, length-append}, lemmas.Cmp.tied_itself}
-use Rattle.std.proofs.lemmas.{Cmp.int_cmp_total, Bool.Decides.nat_tests}
+use Rattle.std.{proofs.lemmas.{Cmp.int_cmp_total, Bool.Decides.nat_tests}, specs.Ordering.is_eq}
+use Rattle.std.specs.List.{list_any, AllByRecursion}
 use Rattle.sqlite.specs.{declared.{types.Value.TheVariants.Int, error.Error.Error}, Order.Row}
 use Rattle.sqlite.specs.{Tree.{Trees, rowid, has_rowid, without_rowid}, State.{State, Executes}}
-use Rattle.sqlite.specs.{Effect.Database, Term.col, Edit.{without_all, taken_by, edited}}
-use Rattle.sqlite.specs.Rows.{Edited}
+use Rattle.sqlite.specs.{Effect.Database, Edit.{taken_by, edited}, Rows.Edited}
+use Rattle.sqlite.proofs.Callers.{one_permutation}
 use Rattle.sqlite_schema.specs.declared.schema.{Keys.TheVariants.Enforced, Table.Table}
 use Rattle.sqlite_schema.specs.declared.schema.{Reference.Reference, Action.TheVariants.NoAction}
 use Rattle.sqlite_schema.specs.declared.schema.Action.TheVariants.{Restrict, Cascade}
 use Rattle.sqlite_value.specs.{Keys.plain, Order.value_cmp}
-use Rattle.std.specs.{Ordering.is_eq, List.{list_any, AllByRecursion, Sorted.IsPermutation}}
-use Rattle.std.specs.{Cmp.int_cmp_is, declared.cmp.Ordering.TheVariants.Less}
 use Rattle.sqlite_rules.specs.{declared.action.Deed.TheVariants.{Refuse, Delete}, Action.Work}
 use Rattle.sqlite_rules.specs.Action.{works, is_child_of, action_edit, AreChildren, Leads, ActsOn}
 use Rattle.sqlite_rules.specs.{Action.Acts, InPlace.Rise, Lists.Has}
 use Rattle.sqlite_tied.specs.Compute.{everything}
 use Rattle.sqlite_sql.specs.Ops.{binary}
 use Rattle.store_tables.specs.{Tables.{bodies, room_schema}, Shown.{IsRoom, RemovesRow, KeepsAll}}
-use Rattle.store_tables.specs.Printed.{KeepsPrinted}
-use Rattle.store_tables.proofs.{Writes.{nodes_table, delete_edit, Deleted, deleted}, Answers.shows}
-use Rattle.store_tables.proofs.{Texts.delete_text, Printed.{keeps_fewer, keeps_same}}
-use Rattle.store_tables.proofs.{Calls.retains_by, Executed.WritesRoom, Rowids.at_most_one}
-use Rattle.store_tables.proofs.Rowids.{only_one, has_found, cells_of, alone_in, has_itself}
-use Rattle.store_tables.proofs.Rowids.{same_int, rowid_is, none_taken, each_of, of_each, pop_one}
-use Rattle.store_tables.proofs.Rowids.{pop_two}
-use Rattle.sqlite_trees.proofs.TreeLemmas.{IsShaped-filter}
-use Rattle.sqlite.proofs.Callers.{one_permutation}
-use Rattle.sqlite_trees.specs.View.{is_int, IsShaped}
+use Rattle.store_tables.{specs.Printed.KeepsPrinted, proofs.Writes.{nodes_table, delete_edit}}
+use Rattle.store_tables.proofs.{Writes.{Deleted, deleted}, Answers.shows, Texts.delete_text}
+use Rattle.store_tables.proofs.{Printed.{keeps_fewer, keeps_same}, Calls.retains_by}
+use Rattle.store_tables.proofs.{Executed.WritesRoom, Rowids.{at_most_one, only_one, has_found}}
+use Rattle.store_tables.proofs.Rowids.{cells_of, alone_in, has_itself, same_int, rowid_is}
+use Rattle.store_tables.proofs.Rowids.{none_taken, each_of, of_each, pop_one, pop_two}
+use Rattle.sqlite_trees.{proofs.TreeLemmas.IsShaped-filter, specs.View.{is_int, IsShaped}}
 use Rattle.sqlite_trees.specs.declared.store.Shape.TheVariants as Shape
 
 abbrev pub bodies_table : Table
@@ -126,8 +122,7 @@ of_is id index cells b is h = go (is_eq (value_cmp (Int index) (Int id))) refl
 
 -- the children of the row, all of one number, are at most one
 not_below_itself : (id : ℤ) → id <ℤ id → ⊥
-not_below_itself id h = let less = int_cmp_is id id Less h in let tied =
-    tied_itself int_cmp_total id in cc
+not_below_itself id h = search (rules, tied_itself, int_cmp_total, h)
 
 all_one : (id : ℤ) (ids : List ℤ) → Rise ids → ((x : ℤ) → Has ids x → x ≡ id) → (ids ≡ [])
     ⊎ (ids ≡ id ∷ [])
@@ -140,7 +135,7 @@ all_one id (a ∷ b ∷ more) up all =
 
 -- nothing waits
 pub ends : (n : ℕ) (now next : Trees) → Leads room_schema Enforced n now [] (Ok next) → now ≡ next
-ends zero now next h = let e = h.1 in cc
+ends zero now next h = cc
 ends (suc n) now next h =
     absurd (let e = ap length h.2 in omega (arith, length-append h.0 (h.1 ∷ []), e))
 
@@ -153,16 +148,14 @@ module _ (id : ℤ) (cells : Row) (first : Trees)
       → Acts room_schema Enforced (Leads room_schema Enforced n) now (spare_children row) []
       (Ok next) → now ≡ next
   spared n now next ([], are, h) = ends n now next h
-  spared n now next (x ∷ ids, are, h) = absurd (let e = h in cc)
+  spared n now next (x ∷ ids, are, h) = absurd (cc)
 
   left : (n : ℕ) (now next : Trees)
       → Leads room_schema Enforced n now (spare_children row ∷ []) (Ok next) → now ≡ next
-  left zero now next h = absurd (let e = h.0 in cc)
+  left zero now next h = absurd (cc)
   left (suc n) now next h =
       let last = pop_one _ h.0 h.1 h.2 in
-      spared n now next
-      (subst₂ (λ below w. Acts room_schema Enforced (Leads room_schema Enforced n) now w below
-      (Ok next)) last.0 last.1 h.3)
+      spared n now next (search (rules, now, next, last.0, last.1, h.3))
 
   not_there : AreChildren first (take_bytes row) [] → (b : Row) → Has (first 2) b → (t : Bool)
       → has_rowid id b ≡ t → t ≡ false
@@ -189,37 +182,20 @@ module _ (id : ℤ) (cells : Row) (first : Trees)
       (spare_children row ∷ []) (Ok next) ids
       → Follows id first next
   taken n next [] are h =
-      let same = left n first next h in
-      let at = λ (tree : ℕ). ap (λ (t : Trees). t tree) (sym same) in
-      record {
-        nodes = at 0;
-        bodies = at 2 ∙ sym (nothing_there are);
-        members = at 3;
-        meta = at 5;
-        audits = at 7;
-      }
-  taken n next (x ∷ ids) are (inl refused) = absurd (let e = refused.2 in cc)
-  taken n next (x ∷ ids) are (inr (inl big)) = absurd (let e = big.3 in cc)
+      search (rules, left, nothing_there, h)
+  taken n next (x ∷ ids) are (inl refused) = absurd (cc)
+  taken n next (x ∷ ids) are (inr (inl big)) = absurd (cc)
   taken n next (x ∷ ids) are (inr (inr went)) =
       let same = left n went.0 next
       (subst (λ more. Leads room_schema Enforced n went.0 (spare_children row ∷ more) (Ok next))
       (sets_off_nothing (taken_by first (action_edit first (take_bytes row) (x ∷ ids)))) went.2)
       in
-      let one = only_child x ids are in
-      let at = λ (tree : ℕ). ap (λ (t : Trees). t tree) (sym same) in
-      let other = went.1.tables in
-      record {
-        nodes = at 0 ∙ other.0 (λ e. let e' : 0 ≡ 2 = e in omega (arith, e'));
-        bodies = at 2 ∙ went.1.rows ∙ ap (without_all (first 2)) one;
-        members = at 3 ∙ other.1.1.0 (λ e. let e' : 3 ≡ 2 = e in omega (arith, e'));
-        meta = at 5 ∙ other.1.1.1.0 (λ e. let e' : 5 ≡ 2 = e in omega (arith, e'));
-        audits = at 7 ∙ other.1.1.1.1.0 (λ e. let e' : 7 ≡ 2 = e in omega (arith, e'));
-      }
+      search (rules, only_child, are, same)
 
   pub follows : (n : ℕ) (next : Trees)
       → Leads room_schema Enforced n first (spare_children row ∷ take_bytes row ∷ []) (Ok next)
       → Follows id first next
-  follows zero next h = absurd (let e = h.0 in cc)
+  follows zero next h = absurd (cc)
   follows (suc n) next h =
       let last = pop_two _ _ h.0 h.1 h.2 in
       let acts = subst₂ (λ below w. Acts room_schema Enforced
@@ -232,8 +208,8 @@ module _ (id : ℤ) (db next : Trees) (rows : List Row) (bodies : IsShaped Shape
   one_removed : (cells : Row) → rows ≡ (Int id ∷ []) ∷ []
       → find (has_rowid id) (db 0) ≡ Some (Int id ∷ cells)
       → Edited room_schema Enforced db (delete_edit db rows) (Ok next) → RemovesRow id db next
-  one_removed cells one there (inl refused) = absurd (let e = refused.2 in cc)
-  one_removed cells one there (inr (inl big)) = absurd (let e = big.3 in cc)
+  one_removed cells one there (inl refused) = absurd (cc)
+  one_removed cells one there (inr (inl big)) = absurd (cc)
   one_removed cells one there (inr (inr went)) =
       let first = went.0 in
       let other = went.1.tables in
@@ -257,8 +233,8 @@ module _ (id : ℤ) (db next : Trees) (rows : List Row) (bodies : IsShaped Shape
   -- there was no row to take out
   none_removed : rows ≡ [] → Edited room_schema Enforced db (delete_edit db rows) (Ok next)
       → KeepsAll db next
-  none_removed none (inl refused) = absurd (let e = refused.2 in cc)
-  none_removed none (inr (inl big)) = absurd (let e = big.3 in cc)
+  none_removed none (inl refused) = absurd (cc)
+  none_removed none (inr (inl big)) = absurd (cc)
   none_removed none (inr (inr went)) = grind (arith, nat_tests, delete_edit, ends)
 
 -- what a deletion by number does
@@ -275,9 +251,7 @@ deletes id old new count room d = go (at_most_one id (old.now.trees 0) room.node
         → ((count ≡ 0) × KeepsAll old.now.trees new.now.trees)
         ⊎ RemovesRow id old.now.trees new.now.trees
     go (inl none) =
-        let rows = alone_in d.rows
-        (subst (λ l. IsPermutation (map (shows (col 1 0 ∷ []) (Int id ∷ [])) l) d.rows) none
-        d.found) in
+        let rows = alone_in d.rows (search (rules, shows, d.rows, d.found)) in
         let same = none_removed id old.now.trees d.next d.rows room.bodies rows d.edited in
         inl (d.counted ∙ ap length rows, subst (KeepsAll old.now.trees) (sym now) same)
     go (inr (r, one)) =
@@ -285,9 +259,7 @@ deletes id old new count room d = go (at_most_one id (old.now.trees 0) room.node
         let is = rowid_is id r
         (of_each _ (old.now.trees 0) room.nodes.1 r
         (has_found (has_rowid id) (old.now.trees 0) r there.0)) there.1 in
-        let rows = one_permutation _ d.rows
-        (subst (λ l. IsPermutation (map (shows (col 1 0 ∷ []) (Int id ∷ [])) l) d.rows) one
-        d.found) in
+        let rows = one_permutation _ d.rows (search (rules, shows, d.rows, d.found)) in
         let rows' : d.rows ≡ (Int id ∷ []) ∷ [] = rows ∙ ap (λ v. (v ∷ []) ∷ []) is in
         let done = one_removed id old.now.trees d.next d.rows room.bodies (drop 1 r) rows'
         (there.0 ∙ ap Some (cells_of id r is)) d.edited in

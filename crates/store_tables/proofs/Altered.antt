@@ -29,7 +29,7 @@ given_some (Some a) f b e = (a, refl, e)
 giving_some : {A B : Type 0} (o : Option A) (f : A → B) (b : B) → given_last o f ≡ Some b → (a : A)
     × (o ≡ Some a) × (f a ≡ b)
 giving_some None f b e = absurd (none-some b e)
-giving_some (Some a) f b e = (a, refl, let e' = e in cc)
+giving_some (Some a) f b e = (a, refl, cc)
 
 -- ---- a value that is read has its column's type
 

@@ -1,28 +1,26 @@
 -- What the rows mean once the rows of a range of numbers are written.
-use Rattle.std.proofs.Common.{◌≡◌, ◌<◌, ◌≤◌, ◌+◌, ℕ, suc, zero, ℤ, pos, List, [], ◌∷◌, map, find}
-use Rattle.std.proofs.Common.{not, None, Some, Option, refl, sym, ap, subst, ◌∙◌, Bool, true, false}
-use Rattle.std.proofs.{Common.{cond, inl, inr, ◌⊎◌, arith, unwrap_or}, lemmas.Bool.and_parts}
+use Rattle.std.proofs.Common.{rules, ◌≡◌, ◌<◌, ◌≤◌, ◌+◌, ℕ, suc, zero, ℤ, pos, List, [], ◌∷◌, map}
+use Rattle.std.proofs.Common.{find, not, None, Some, Option, refl, sym, ap, subst, ◌∙◌, Bool, true}
+use Rattle.std.proofs.{Common.{false, cond, inl, inr, ◌⊎◌, arith, unwrap_or}, lemmas.Bool.and_parts}
 use Rattle.std.proofs.lemmas.Bool.{cond-false, cond-true, eqb-false, ne_eqb, Decides.nat_tests}
 use Rattle.std.specs.Prelude.{◌==◌, ◌&&◌, ◌||◌, is_some, nat_lt, option_and_then}
 use Rattle.std.specs.{List.{cons_option, filter_map, list_any, range_with_len}, Option.option_map}
-use Rattle.std.specs.{Ordering.{is_eq, is_gt, is_lt}, declared.cmp.Ordering.TheVariants.Equal}
-use Rattle.std.specs.declared.cmp.Ordering.TheVariants.{Greater, Less}
+use Rattle.std.specs.{Ordering.{is_gt, is_lt}, declared.cmp.Ordering.TheVariants.{Equal, Greater}}
+use Rattle.std.specs.declared.cmp.Ordering.TheVariants.{Less}
 use Rattle.sqlite.specs.{declared.types.Value.TheVariants.{Int, Null, Text}, Effect.Database}
-use Rattle.sqlite.specs.{Order.{Row, value_cmp}, Tree.{has_rowid, rowid}}
-use Rattle.sqlite_rules.specs.{Edit.id_in, Lists.Has}
-use Rattle.sqlite_rules.proofs.{PlaceLemmas.row_at_is, TableLemmas.int_is}
+use Rattle.sqlite.specs.{Order.Row, Tree.{has_rowid, rowid}}
+use Rattle.sqlite_rules.{specs.{Edit.id_in, Lists.Has}, proofs.PlaceLemmas.row_at_is}
+use Rattle.sqlite_rules.proofs.TableLemmas.{int_is}
 use Rattle.sqlite_value.proofs.OrderLemmas.{value_cmp-Int}
 use Rattle.room_entry.specs.{Ace.Ace, declared.object.Which.Which}
 use Rattle.room_rows.specs.{declared.node.Node.Node, Content.{Content, node_at}, Keep.are_there}
-use Rattle.room_rows.specs.Keep.{with_inh}
-use Rattle.room_rows.proofs.Many.{changed_among}
+use Rattle.room_rows.{specs.Keep.with_inh, proofs.Many.changed_among}
 use Rattle.store_tables.specs.{Filed.{node_at_row, node_keyed}, Meaning.{audit_in, bodies_of}}
 use Rattle.store_tables.specs.Meaning.{entries_in, node_in, nodes_of, number_in, pairs_of, rows_of}
 use Rattle.store_tables.specs.{Meaning.{unread_in, unread_of}, RoomRows.number_in-low, Shown.IsRoom}
 use Rattle.store_tables.specs.Shown.{RecastsAll, is_in_range, recast_in, sets_inh, shown_node}
-use Rattle.store_tables.specs.Trust.{AltersAll}
-use Rattle.store_tables.proofs.{Altered.inherits_back, Recast.recast, Removed.same_rows}
-use Rattle.store_tables.proofs.Rowids.{has_itself, of_each}
+use Rattle.store_tables.{specs.Trust.AltersAll, proofs.{Altered.inherits_back, Recast.recast}}
+use Rattle.store_tables.proofs.{Removed.same_rows, Rowids.{has_itself, of_each}}
 
 -- ---- numbers that follow one another
 
@@ -46,15 +44,9 @@ past_run : (first count n : ℕ) → (n < first) ⊎ (first + count ≤ n)
     → list_any (λ (id : ℕ). id == n) (range_with_len first count) ≡ false
 past_run first zero n out = refl
 past_run first (suc more) n (inl low) =
-    cc (
-      ne_eqb first n (λ e. absurd (omega (arith, low, e))),
-      past_run (first + 1) more n (inl (omega (arith, low))),
-    )
+    search (rules, ne_eqb, past_run (first + 1) more n (inl (omega (arith, low))))
 past_run first (suc more) n (inr high) =
-    cc (
-      ne_eqb first n (λ e. absurd (omega (arith, high, e))),
-      past_run (first + 1) more n (inr (omega (arith, high))),
-    )
+    search (rules, ne_eqb, past_run (first + 1) more n (inr (omega (arith, high))))
 
 there_in_run : (content : Content) (first count n : ℕ)
     → are_there (range_with_len first count) content ≡ true → first ≤ n → n < first + count
@@ -96,7 +88,7 @@ outside : (m first last : ℕ)
 outside m first last = grind (arith, nat_tests)
 
 below_none : (b : Bool) (x : Bool) → b ≡ true → (not b && x) ≡ true → ⊥
-below_none b x is e = absurd (let f = sym (ap (λ c. not c && x) is) ∙ e in cc)
+below_none b x is e = absurd (cc)
 
 -- a row whose number is between two numbers has such a number
 number_between : (r : Row) (first last : ℕ) (z : ℤ) → rowid r ≡ Int z
@@ -111,7 +103,7 @@ abbrev see : Row → Option Node
 see r = node_in (shown_node r)
 
 one_of_some : {A : Type 0} (o : Option A) → is_some o ≡ true → (a : A) × (o ≡ Some a)
-one_of_some None is = absurd (let e = is in cc)
+one_of_some None is = absurd (cc)
 one_of_some (Some a) is = (a, refl)
 
 same_pos : (m n : ℕ) → Int (pos m) ≡ Int (pos n) → m ≡ n
@@ -137,8 +129,7 @@ module _ (db next : Database) (room : IsRoom db) (which : Which) (text : List �
       → m ≤ first + more → is_some (see r) ≡ true
   seen r m has is low' high =
       by (find (has_rowid (pos m)) (db.trees 0)) refl
-      (row_at_is (db.trees 0) (pos m) r room.nodes.0 has
-      (ap (λ v. is_eq (value_cmp v (Int (pos m)))) is ∙ has_itself (pos m)))
+      (search (rules, row_at_is, pos, r, has, is, has_itself))
       (sym (ap is_some (node_at_row db m room.nodes.0))
       ∙ there_in_run (rows_of db).read first (more + 1) m there low' (omega (arith, high)))
     where
@@ -164,11 +155,7 @@ module _ (db next : Database) (room : IsRoom db) (which : Which) (text : List �
       let number : number_in (Int (pos at.0)) ≡ Some one.0.id =
       number_in-low at.0 (omega (arith, low, at.2)) ∙ ap Some same in
       let new : to_row r ≡ Int (pos at.0) ∷ Null ∷ recast (cells r) =
-      cc (
-        cond-true (is_in_range (pos first) (pos (first + more)) r)
-            (rowid r ∷ Null ∷ recast (cells r)) r within,
-        at.1,
-      ) in (
+      search (rules, cond-true, recast, within, at, at.1) in (
         one.0,
         one.1,
         ap see new ∙ inherits_back at.0 r one.0 number one.1 which text entries back
@@ -233,6 +220,5 @@ inherited_range db next room which text entries back first more low put there =
     same_rows
     (ap nodes_of put.nodes
     ∙ nodes_so db next room which text entries back first more low there (db.trees 0) (λ r h. h))
-    (ap unread_of put.nodes
-    ∙ unread_so db next room which text entries back first more low there (db.trees 0) (λ r h. h))
+    (search (rules, put.nodes, unread_so, db, next, room, which, back, low, there, db.trees))
     (ap bodies_of put.bodies) (ap pairs_of put.members) (ap (filter_map audit_in) put.audits)

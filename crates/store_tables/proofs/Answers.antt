@@ -1,7 +1,6 @@
 -- What an answer of a query over one table has, and in which order.
-use Rattle.std.proofs.Common.{◌≡◌, ℕ, List, [], ◌∷◌, ◌++◌, map, filter, flat_map, Bool, true, false}
-use Rattle.std.proofs.Common.{cond, refl, sym, ap, subst, ◌∙◌}
-use Rattle.std.proofs.lemmas.List.Sorted.{IsPermutation-map}
+use Rattle.std.proofs.Common.{arith, ◌≡◌, ℕ, List, [], ◌∷◌, map, filter, flat_map, Bool, refl, sym}
+use Rattle.std.proofs.{Common.{ap, subst, ◌∙◌}, lemmas.List.Sorted.IsPermutation-map}
 use Rattle.std.specs.List.{list_all, Sorted.IsPermutation}
 use Rattle.sqlite.specs.{declared.types.Value.Value, Order.Row, Tree.Trees, Query.{Query, Output}}
 use Rattle.sqlite.specs.{Query.{output, matches_as, end, IsAnswerAs}, Term.{Term, Env, holds}}
@@ -27,14 +26,7 @@ pub each_way : (lost : Value) (db : Trees) (tests : List Term) (params : Row) (r
     ≡ map (way params) (filter (passes tests params) rows)
 each_way lost db tests params [] = refl
 each_way lost db tests params (r ∷ rows) =
-    elim (passes tests params r) as (λ b. cond b (way params r ∷ []) []
-    ++ flat_map (λ r. matches_as lost db tests end (way params r)) rows
-    ≡ map (way params) (cond b (r ∷ filter (passes tests params) rows)
-    (filter (passes tests params) rows))) [
-      | true ↦ ap (λ l. way params r ∷ l) (each_way lost db tests params rows)
-      | false ↦
-          each_way lost db tests params rows
-    ]
+    grind (arith, params, lost, db, each_way lost db tests params rows)
 
 outputs : (q : Query) (params : Row) (rows : List Row)
     → map (λ (o : Output). o.1) (map (output q) (map (way params) rows))

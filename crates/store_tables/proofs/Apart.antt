@@ -1,16 +1,13 @@
 -- No two children have one name: what UNIQUE says of rows that agree in its first column.
-use Rattle.std.proofs.Common.{◌≡◌, ℕ, ℤ, subst, List, [], ◌∷◌, filter, IsTrue, inl, inr, refl, ap}
-use Rattle.std.proofs.Common.{◌∙◌, true, false, Bool, cond, Less, is_eq, arith}
+use Rattle.std.proofs.Common.{rules, ◌≡◌, ℕ, ℤ, subst, List, [], ◌∷◌, filter, IsTrue, inl, inr}
+use Rattle.std.proofs.Common.{refl, ap, ◌∙◌, true, false, Bool, cond, Less, is_eq, arith}
 use Rattle.std.proofs.lemmas.Bool.{and_parts, and_from, not-true, or_parts, Decides.nat_tests}
-use Rattle.std.proofs.lemmas.Cmp.{alike_right}
-use Rattle.std.specs.List.{AllByRecursion, list_any}
+use Rattle.std.{proofs.lemmas.Cmp.alike_right, specs.List.{AllByRecursion, list_any}}
 use Rattle.sqlite.specs.{declared.types.Value.{Value, TheVariants.{Int, Text}}, Effect.Database}
 use Rattle.sqlite.specs.{Ops.{binary, is_true}, Order.{Row, column, value_cmp}, Tree.{Trees, rowid}}
 use Rattle.sqlite.specs.Tree.{IsTable}
-use Rattle.sqlite_catalog.proofs.AlterLemmas.{keys_are_unique}
-use Rattle.sqlite_catalog.specs.Listing.{IsSound}
-use Rattle.sqlite_rules.specs.Lists.{Has}
-use Rattle.sqlite_rules.proofs.RuleLemmas.{keeps_at}
+use Rattle.sqlite_catalog.{proofs.AlterLemmas.keys_are_unique, specs.Listing.IsSound}
+use Rattle.sqlite_rules.{specs.Lists.Has, proofs.RuleLemmas.keeps_at}
 use Rattle.sqlite_schema.specs.declared.schema.{Constraint.TheVariants.NotNull, Table.Table}
 use Rattle.sqlite_schema.specs.Rules.{agree, clashes, differ, passes}
 use Rattle.sqlite_sql.specs.{Ops.{is_null, test}, declared.ops.BinaryOp.TheVariants.Compare}
@@ -82,10 +79,7 @@ module _ (rows : List Row) (table : IsTable rows)
       let agrees = agrees_by first second a b
       (equal_from (column a first) (column b first) na.0 nb.0 (same_first a b one two))
       (equal_from (column a second) (column b second) na.1 nb.1 is) in
-      let differs = differ_from (rowid a) (rowid b)
-      (int_is_some (rowid a) (of_each _ rows ints a here))
-      (int_is_some (rowid b) (of_each _ rows ints b there)) less in
-      grind (arith, nat_tests, any_none)
+      search (rules, differ_from, a, b, int_is_some, of_each, here, there, less, any_none)
 
   none_tied : (some : List Row) → IsTable some → ((r : Row) → Has some r → Has rows r)
       → HasNoTies (by_column second) (filter p some)
@@ -131,8 +125,7 @@ children_apart db room parent =
     (λ r under. (and_parts _ (is_numbered r) under).0)
     (λ r there under. (
       like_int (column r 2) parent (and_parts _ (is_numbered r) under).0,
-      named db.trees r (keeps_at NotNull room_schema db.trees nodes_table r
-          (sound.obeys.rules NotNull) nodes_listed there),
+      search (rules, named, db.trees, keeps_at, sound.obeys.rules, nodes_listed),
     ))
 
 -- ---- pairs
@@ -160,8 +153,4 @@ members_apart db room user =
     (λ r there. keys_are_unique room_schema db.trees members_table 0
     (2 ∷ 1 ∷ []) r sound members_listed refl there)
     (λ r mine. mine)
-    (λ r there mine. (
-      like_text (column r 2) user mine,
-      grouped db.trees r (keeps_at NotNull room_schema db.trees members_table r
-          (sound.obeys.rules NotNull) members_listed there),
-    ))
+    (search (rules, like_text, grouped, db.trees, keeps_at, sound.obeys.rules, members_listed))

@@ -1,8 +1,7 @@
 -- What reading the bytes of a number answers.
-use Rattle.std.proofs.Common.{◌≡◌, ◌<◌, ℕ, pos, List, [], ◌∷◌, map, filter, find, Some, inl, inr}
-use Rattle.std.proofs.Common.{◌⊎◌, refl, sym, ap, subst, ◌∙◌, option_map, IsPermutation, arith}
-use Rattle.std.proofs.lemmas.Bool.Decides.{nat_tests}
-use Rattle.std.specs.Prelude.{◌==◌, option_and_then}
+use Rattle.std.proofs.Common.{rules, ◌≡◌, ◌<◌, ℕ, pos, List, [], ◌∷◌, map, filter, find, Some, inl}
+use Rattle.std.proofs.Common.{inr, ◌⊎◌, refl, sym, ap, subst, ◌∙◌, option_map, IsPermutation, arith}
+use Rattle.std.{proofs.lemmas.Bool.Decides.nat_tests, specs.Prelude.{◌==◌, option_and_then}}
 use Rattle.sqlite.specs.declared.types.Value.{Value, TheVariants.{Null, Int, Real, Text, Blob}}
 use Rattle.sqlite.specs.{Order.{Row, column}, Tree.{rowid, has_rowid}, Effect.Database}
 use Rattle.sqlite.proofs.Callers.{one_permutation}
@@ -10,9 +9,9 @@ use Rattle.room_rows.specs.Keep.{IsBodyOf, IsNever}
 use Rattle.store_tables.specs.{Filed.body_rowid, Keyed.find_key, Meaning.{body_in, number_in}}
 use Rattle.store_tables.specs.{Meaning.rows_of, RoomRows.number_in-low, Seeing.result_of_seen}
 use Rattle.store_tables.specs.{Seeing.{bytes_as, bytes_seen}, Shown.IsRoom, Statements.HasBytes}
-use Rattle.store_tables.specs.Statements.{shown_bytes}
-use Rattle.store_tables.proofs.{Nodes.{Tells, none_passes}, Rowids.{alone_in, at_most_one}}
-use Rattle.store_tables.proofs.Rowids.{has_found, of_each, only_one, rowid_is}
+use Rattle.store_tables.{specs.Statements.shown_bytes, proofs.Nodes.{Tells, none_passes}}
+use Rattle.store_tables.proofs.Rowids.{alone_in, at_most_one, has_found, of_each, only_one}
+use Rattle.store_tables.proofs.Rowids.{rowid_is}
 use Rattle.room_rows.specs.Content as content
 
 abbrev Blobbed : Type 0
@@ -52,9 +51,7 @@ module _ (db : Database) (room : IsRoom db) (id : ℕ) (low : 0 < id) where
           let empty = alone_in rows
           (subst (λ l. IsPermutation (map shown_bytes l) rows) none perm) in
           subst (λ l. Tells IsNever (IsBodyOf id) (rows_of db) (result_of_seen (bytes_seen l)))
-          (sym empty)
-          (sym (body_at ∙ ap (λ o. option_map (λ (x : Blobbed). x.1) (option_and_then body_in o))
-          (none_passes (has_rowid (pos id)) (db.trees 2) none)))
+          (sym empty) (search (rules, body_at, option_map, none_passes, pos))
       by (inr (r, one)) =
           let there = only_one (has_rowid (pos id)) (db.trees 2) r one in
           let is = rowid_is (pos id) r

@@ -2,16 +2,14 @@
 use Rattle.std.proofs.Common.{◌≡◌, ℕ, ℤ, List, [], ◌∷◌, Ok, None, IsTrue, refl, sym, ap, subst, ◌∙◌}
 use Rattle.std.proofs.{Common.{if◌then◌else◌, arith}, lemmas.Bool.Decides.nat_tests}
 use Rattle.sqlite.specs.declared.types.Value.TheVariants.{Null, Int, Blob}
-use Rattle.sqlite.specs.{Command.TheVariants.Insert, Does.{Tally, Does}, Edit.{Edit, are_fresh}}
-use Rattle.sqlite.specs.{Edit.{edit_of, is_taken, numbered, put_all}, Effect.{Database, IsDatabase}}
-use Rattle.sqlite.specs.{Listing.understood, Order.Row, Rowids.TheVariants.Chosen, Rows.Written}
-use Rattle.sqlite.specs.{Source.TheVariants.Values, State.{State, mode_of, Executes, Shows}}
-use Rattle.sqlite.specs.Tree.{Trees}
+use Rattle.sqlite.specs.{Command.TheVariants.Insert, Does.Does, Edit.{Edit, are_fresh, edit_of}}
+use Rattle.sqlite.specs.{Edit.{is_taken, numbered, put_all}, Effect.IsDatabase, Listing.understood}
+use Rattle.sqlite.specs.{Order.Row, Rowids.TheVariants.Chosen, Source.TheVariants.Values}
+use Rattle.sqlite.specs.{State.{State, mode_of, Executes, Shows}, Tree.Trees}
 use Rattle.sqlite.proofs.Callers.{one_step, runs_as, statement_of}
 use Rattle.sqlite_rules.specs.Action.{works}
 use Rattle.sqlite_schema.specs.declared.schema.Keys.TheVariants.{Enforced}
-use Rattle.sqlite_trees.specs.View.{IsShaped}
-use Rattle.sqlite_trees.proofs.TreeLemmas.{IsShaped-put_row}
+use Rattle.sqlite_trees.{specs.View.IsShaped, proofs.TreeLemmas.IsShaped-put_row}
 use Rattle.store_tables.specs.{Shown.{Bodies, IsRoom, stored_body}, Tables.room_schema}
 use Rattle.store_tables.proofs.{Actions.bodies_table, Calls.retains_by, Printed.keeps_same}
 use Rattle.store_tables.proofs.{Executed.WritesRoom, Filled.{cast_body, one_off}}
@@ -43,21 +41,18 @@ bodied id bytes old new count has h =
     (subst (λ s. Does old.step_limit (mode_of old) params
     (record old.now { schema = s }) text None command (Ok (w.tally, new.now))) has w.changed) in
     let concluded = same_value (went (went done.2).2).2 in
-    let now = ap (λ (p : Tally × Database). p.1) concluded in
     let given = went done.1 in
     let counter = went given.2 in
     let written = went counter.2 in
     let counted = went written.2 in
     let wrote = same_value counted.2 in
-    let trees : done.0.trees ≡ written.0 = ap (λ (it : Written). it.trees) wrote
-    ∙ same_value counted.1 in
+    let trees : done.0.trees ≡ written.0 = grind (arith, nat_tests, wrote, same_value, counted.1) in
     let source : given.0 ≡ stored_body id bytes ∷ [] = given.1.1 in
     let news = ap (λ l. (put_edit db l).news) source
     ∙ ap (λ r. numbered Chosen (db 2) (r ∷ [])) (cast_body id bytes) in
     let none = ap (works room_schema Enforced 0 2 []) news ∙ one_off [] (stored_body id bytes) in
     let applies = one_step room_schema Enforced db written.0 (put_edit db given.0) none written.1 in
-    let at : (tree : ℕ) → new.now.trees tree ≡ written.0 tree = λ tree. ap
-    (λ (d : Database). d.trees tree) now ∙ ap (λ (t : Trees). t tree) trees in
+    let at : (tree : ℕ) → new.now.trees tree ≡ written.0 tree = grind (arith, nat_tests, trees) in
     grind (arith, nat_tests, fresh_alone)
 
 pub put_room : (id : ℤ) (bytes : List ℕ) (old new : State) → IsTrue old.in_transaction → (count : ℕ)

@@ -2,22 +2,20 @@
 use Rattle.std.proofs.Common.{◌≡◌, ℕ, List, [], ◌++◌, Result, Ok, Err, Option, inl, inr, ◌⊎◌, map}
 use Rattle.std.proofs.Common.{filter, ap, ◌∙◌, false, IfOk, OnOk, Vec, Global, arith}
 use Rattle.std.proofs.lemmas.List.{append-nil, append_assoc, Elements.All-append}
-use Rattle.std.proofs.lemmas.Bool.Decides.{nat_tests}
-use Rattle.std.specs.List.Sorted.{IsPermutation}
+use Rattle.std.{proofs.lemmas.Bool.Decides.nat_tests, specs.List.Sorted.IsPermutation}
 use Rattle.sqlite.specs.{declared.{types.Value.TheVariants.Null, error.Error.Error}, Order.Row}
 use Rattle.sqlite.specs.{Effect.Database, Program.overlay, Tree.Trees, Term.Term}
 use Rattle.sqlite.specs.{Listing.{understood, reads_listing}, State.{State, HasCleanDisk}}
 use Rattle.sqlite.specs.State.{IsUnchanged, IsRolledBack, Shown, FailsToQuery, IsNotRun}
-use Rattle.sqlite.specs.State.{FailsToShow}
+use Rattle.sqlite.{specs.State.FailsToShow, proofs.Callers.{IsPlain, command_of, reads_as}}
 use Rattle.sqlite_value.specs.declared.keys.Key.{Key}
 use Rattle.sqlite_resolve.specs.declared.compiled.Compiled.{Compiled}
 use Rattle.sqlite_schema.specs.declared.command.Returning.{Returning}
-use Rattle.sqlite.proofs.Callers.{IsPlain, command_of, reads_as}
 use Rattle.store_tables.specs.{Tables.room_schema, Meaning.IsRecord, Shown.{Retains, Stays}}
-use Rattle.store_tables.specs.Printed.{KeepsPrinted}
-use Rattle.store_tables.proofs.{Texts.{query_of, selects}, Answers.{passes, shows, selected}}
-use Rattle.store_tables.proofs.{Bare.{IsReading, shown_same}, Printed.{keeps_on, keeps_itself}}
-use Rattle.store_tables.proofs.Within.{CommitsNothing, as_before, unchanged_within, undone_within}
+use Rattle.store_tables.{specs.Printed.KeepsPrinted, proofs.Texts.{query_of, selects}}
+use Rattle.store_tables.proofs.{Answers.{passes, shows, selected}, Bare.{IsReading, shown_same}}
+use Rattle.store_tables.proofs.{Printed.{keeps_on, keeps_itself}, Within.CommitsNothing}
+use Rattle.store_tables.proofs.Within.{as_before, unchanged_within, undone_within}
 
 -- ---- what is retained
 

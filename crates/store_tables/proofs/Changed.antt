@@ -9,7 +9,7 @@ pub of_all : (wanted : ℕ) (done : Result ℕ Error) (P : Type 0) (x : Unit {0}
     → ◌≡◌ {A = Result (Unit {0}) KeepFault} (Ok x) (all_changed wanted done)
     → IfOk done (λ count. count ≡ wanted → P) → P
 of_all wanted (Ok count) P x is did = grind (arith, nat_tests)
-of_all wanted (Err why) P x is did = absurd (let e = is in cc)
+of_all wanted (Err why) P x is did = absurd (cc)
 
 -- the same, where one was changed
 pub of_one : (done : Result ℕ Error) (P : Type 0) (x : Unit {0})

@@ -1,16 +1,24 @@
 -- A fault of the later of two calls, and the count of writes after a call.
 use Rattle.std.proofs.Common.{◌≡◌, ◌≤◌, ℕ, Result, Ok, Err, IfErr, arith}
-use Rattle.room_rows.specs.declared.keep.KeepFault.{KeepFault}
-use Rattle.room_rows.specs.Keep.{HasCause, capped, writes_after}
-use Rattle.room_rows.proofs.Steps.{later_cause}
-use Rattle.store_tables.specs.Seeing.{Nowhere}
 use Rattle.std.proofs.lemmas.Bool.Decides.{nat_tests}
+use Rattle.sqlite.specs.State.{State}
+use Rattle.room_rows.specs.{declared.keep.KeepFault.KeepFault, Keep.{HasCause, capped}}
+use Rattle.room_rows.{specs.{Keep.writes_after, Rows.Rows}, proofs.Steps.later_cause}
+use Rattle.store_tables.specs.{Meaning.rows_of, Seeing.Nowhere, Trust.IsTrusted}
 
 -- a fault of the later of two calls
 pub cause_later : {X : Type 0} (r : Result X KeepFault) (first mid last : ℕ) (E : ℕ → Type 0)
     → first ≤ mid → mid ≤ last → IfErr r (HasCause mid last Nowhere)
     → IfErr r (HasCause first last E)
 cause_later r first mid last E up on h = grind (arith, nat_tests, later_cause)
+
+-- the same where the rows are those of tables
+pub cause_in : {X : Type 0} (r : Result X KeepFault) (first mid last : ℕ) (old new : State)
+    (Blames : Rows → ℕ → Type 0) → first ≤ mid → mid ≤ last
+    → IfErr r (HasCause mid last Nowhere)
+    → IfErr r (HasCause first last (λ row. IsTrusted old new → Blames (rows_of old.now) row))
+cause_in r first mid last old new Blames up on h =
+    cause_later r first mid last (λ row. IsTrusted old new → Blames (rows_of old.now) row) up on h
 
 -- no call takes back what was counted
 pub writes_rise : {X : Type 0} (count : ℕ) (r : Result X KeepFault) (before after : ℕ)

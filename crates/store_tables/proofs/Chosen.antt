@@ -1,7 +1,6 @@
 -- The number that a new row gets.
 use Rattle.std.proofs.Common.{◌≡◌, ℕ, pos, List, [], ◌∷◌, find, None, refl, false, arith}
-use Rattle.std.proofs.lemmas.Bool.Decides.{nat_tests}
-use Rattle.std.specs.List.{AllByRecursion}
+use Rattle.std.{proofs.lemmas.Bool.Decides.nat_tests, specs.List.AllByRecursion}
 use Rattle.sqlite.specs.{declared.types.Value.TheVariants.Int, Order.Row, Tree.has_rowid}
 use Rattle.sqlite.specs.Edit.{is_taken}
 

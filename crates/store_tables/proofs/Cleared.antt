@@ -1,17 +1,16 @@
 -- What is left once bytes are taken out by their number.
-use Rattle.std.proofs.Common.{◌≡◌, ℕ, ℤ, List, [], ◌∷◌, length, map, filter, Ok, None, IsTrue, inl}
-use Rattle.std.proofs.Common.{inr, ◌⊎◌, sym, ap, subst, ◌∙◌, not, if◌then◌else◌, unwrap_or, arith}
+use Rattle.std.proofs.Common.{rules, ◌≡◌, ℕ, ℤ, List, [], ◌∷◌, length, map, filter, Ok, None}
+use Rattle.std.proofs.Common.{IsTrue, inl, inr, ◌⊎◌, sym, ap, subst, ◌∙◌, not, if◌then◌else◌, arith}
 use Rattle.std.proofs.{Common.IsPermutation, lemmas.{List.length-map, Bool.Decides.nat_tests}}
 use Rattle.sqlite.specs.{declared.types.Value.TheVariants.{Null, Int}, Command.TheVariants.Delete}
-use Rattle.sqlite.specs.{Does.{Tally, Does}, Edit.{Edit, edit_of, edited, taken_by}}
-use Rattle.sqlite.specs.{Effect.{Database, IsDatabase}, Listing.understood, Order.Row}
-use Rattle.sqlite.specs.{Program.overlay, Rowids.TheVariants.Given, Rows.{Edited, Written}}
-use Rattle.sqlite.specs.{State.{State, mode_of, Executes, Shows}, Term.col, Tree.{Trees, has_rowid}}
+use Rattle.sqlite.specs.{Does.Does, Edit.{Edit, edit_of, edited, taken_by}, Effect.Database}
+use Rattle.sqlite.specs.{Effect.IsDatabase, Listing.understood, Order.Row, Program.overlay}
+use Rattle.sqlite.specs.{Rowids.TheVariants.Given, Rows.Edited, State.{State, mode_of, Executes}}
+use Rattle.sqlite.specs.{State.Shows, Term.col, Tree.{Trees, has_rowid}}
 use Rattle.sqlite.proofs.Callers.{one_permutation, one_step, runs_as, statement_of}
 use Rattle.sqlite_rules.specs.Calls.{ids_of}
 use Rattle.sqlite_schema.specs.declared.schema.Keys.TheVariants.{Enforced}
-use Rattle.sqlite_trees.specs.View.{IsShaped}
-use Rattle.sqlite_trees.proofs.TreeLemmas.{IsShaped-filter}
+use Rattle.sqlite_trees.{specs.View.IsShaped, proofs.TreeLemmas.IsShaped-filter}
 use Rattle.store_tables.specs.{Shown.{IsRoom, KeepsAll, RemovesBytes}, Tables.room_schema}
 use Rattle.store_tables.proofs.{Actions.bodies_table, Answers.{selected, shows}, Calls.retains_by}
 use Rattle.store_tables.proofs.{Executed.WritesRoom, Filled.none_off, Printed.keeps_same}
@@ -59,8 +58,7 @@ cleared id old new count has h =
       trees = did.0;
       rows = taken_by db (clear_edit db asked.0);
       last = None;
-    } =
-    same_value did.2 in
+    } = search (rules, same_value, did.2) in
     let found = selected Null 2 (matches_parameter 0 0 ∷ []) (col 1 0 ∷ []) []
     (overlay db []) params asked.0 (asked.1.answer Null) in
     record {
@@ -70,18 +68,10 @@ cleared id old new count has h =
           (filter_same _ _ (passes_id id) (db 2)) found;
       next = did.0;
       edited = did.1;
-      now =
-          ap (λ (p : Tally × Database). p.1) last
-          ∙ ap
-          (λ (it : Written). let db : Database = record {
-            schema = room_schema;
-            trees = it.trees;
-          } in db) wrote;
+      now = grind (arith, nat_tests, last, wrote);
       sound = w.sound;
       shown = w.shown;
-      counted =
-          w.counted ∙ ap (λ (p : Tally × Database). unwrap_or p.0.rows 0) last
-          ∙ ap (λ (it : Written). length it.rows) wrote ∙ length-map _ _ ∙ length-map _ _;
+      counted = grind (arith, nat_tests, w.counted, last, wrote, length-map);
     }
 
 -- what the edit leaves of the trees
@@ -97,8 +87,7 @@ left id old new count d =
     let edit = clear_edit old.now.trees d.rows in
     let applies = one_step room_schema Enforced old.now.trees d.next edit
     (none_off (taken_by old.now.trees edit)) d.edited in
-    let at : (tree : ℕ) → new.now.trees tree ≡ d.next tree = λ tree. ap
-    (λ (db : Database). db.trees tree) d.now in
+    let at : (tree : ℕ) → new.now.trees tree ≡ d.next tree = search rules in
     record {
       bodies = at 2 ∙ applies.rows;
       nodes = at 0 ∙ applies.tables.0 (λ e. let e' : 0 ≡ 2 = e in omega (arith, e'));
@@ -117,17 +106,13 @@ clears id old new count room d = go (at_most_one id (old.now.trees 2) room.bodie
         → ((count ≡ 0) × KeepsAll old.now.trees new.now.trees)
         ⊎ RemovesBytes id old.now.trees new.now.trees
     go (inl none) =
-        let rows = alone_in d.rows
-        (subst (λ l. IsPermutation (map (shows (col 1 0 ∷ []) (Int id ∷ [])) l) d.rows) none
-        d.found) in
+        let rows = alone_in d.rows (search (rules, shows, d.rows, d.found)) in
         let it = left id old new count d in
         inl (
           d.counted ∙ ap length rows,
           record {
             nodes = it.nodes;
-            bodies =
-                it.bodies
-                ∙ ap (λ l. edited old.now.trees (clear_edit old.now.trees l)) rows;
+            bodies = search (rules, it.bodies, old.now.trees, rows);
             members = it.members;
             meta = it.meta;
             audits = it.audits;
@@ -138,15 +123,12 @@ clears id old new count room d = go (at_most_one id (old.now.trees 2) room.bodie
         let is = rowid_is id r
         (of_each _ (old.now.trees 2) room.bodies.1 r
         (has_found (has_rowid id) (old.now.trees 2) r there.0)) there.1 in
-        let rows = one_permutation _ d.rows
-        (subst (λ l. IsPermutation (map (shows (col 1 0 ∷ []) (Int id ∷ [])) l) d.rows) one
-        d.found) in
+        let rows = one_permutation _ d.rows (search (rules, shows, d.rows, d.found)) in
         let rows' : d.rows ≡ (Int id ∷ []) ∷ [] = rows ∙ ap (λ v. (v ∷ []) ∷ []) is in
         let it = left id old new count d in
         inr (record {
           nodes = it.nodes;
-          bodies =
-              it.bodies ∙ ap (λ l. edited old.now.trees (clear_edit old.now.trees l)) rows';
+          bodies = search (rules, it.bodies, old.now.trees, rows');
           members = it.members;
           meta = it.meta;
           audits = it.audits;

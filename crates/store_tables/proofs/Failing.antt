@@ -1,12 +1,12 @@
 -- Why a query of a room's tables has no answer.
-use Rattle.std.proofs.Common.{◌≡◌, ◌≤◌, ◌+◌, ◌-◌, ◌^◌, ◌⊎◌, ℕ, List, [], length, min, Result, Ok}
-use Rattle.std.proofs.Common.{Err, None, Some, Option, IsTrue, IsSome, IfErr, inl, inr, true, false}
-use Rattle.std.proofs.Common.{sym, ap, subst, ◌∙◌, arith, append-nil}
+use Rattle.std.proofs.Common.{rules, ◌≡◌, ◌≤◌, ◌+◌, ◌-◌, ◌^◌, ◌⊎◌, ℕ, List, [], length, min, Result}
+use Rattle.std.proofs.Common.{Ok, Err, None, Some, Option, IsTrue, IsSome, IfErr, inl, inr, true}
+use Rattle.std.proofs.Common.{false, ap, subst, ◌∙◌, arith, append-nil}
 use Rattle.std.proofs.lemmas.Bool.Decides.{nat_tests}
 use Rattle.sqlite.specs.{Clock.timed, Effect.{Database, RefusesToRead}, Listing.understood}
-use Rattle.sqlite.specs.{Listing.{reads_listing, IsSourceOf}, Order.Row, State.State}
-use Rattle.sqlite.specs.State.{HasCleanDisk, FailsToQuery, FailsToShow, HasCause, IsNoStatement}
-use Rattle.sqlite.specs.{State.{IsNotRun, IsTooLate, store_error}, declared.error.Error.Error}
+use Rattle.sqlite.specs.{Listing.reads_listing, Order.Row, State.{State, HasCleanDisk}}
+use Rattle.sqlite.specs.State.{FailsToQuery, FailsToShow, HasCause, IsNoStatement, IsNotRun}
+use Rattle.sqlite.specs.{State.{IsTooLate, store_error}, declared.error.Error.Error}
 use Rattle.sqlite.proofs.Callers.{command_of}
 use Rattle.sqlite_resolve.specs.declared.compiled.Compiled.{Compiled}
 use Rattle.sqlite_resolve.specs.declared.error.CompileError.{CompileError}
@@ -34,8 +34,8 @@ by_cause : (old new : State) (e : Error) (cause : StoreError) → e ≡ store_er
 by_cause old new e cause is has was = grind (arith, nat_tests, rises)
 
 never_some : (r : Option Returning) → r ≡ None → IsSome r → ⊥
-never_some None is some = absurd (let e : false ≡ true = some in cc)
-never_some (Some what) is some = absurd (let e = is in cc)
+never_some None is some = absurd (cc)
+never_some (Some what) is some = absurd (cc)
 
 module _ (sql : List ℕ) (params : Row) (command : Command)
     (asked : IsAsked sql (length params) (understood room_schema sql))
@@ -62,12 +62,10 @@ module _ (sql : List ℕ) (params : Row) (command : Command)
     shows : (c : Compiled) (full : Row) (r : Option Returning)
         → understood old.now.schema sql ≡ Ok c → full ≡ params → r ≡ None
         → FailsToShow old new sql c full e r → Why old new e
-    shows c full (Some what) known all none h = absurd (let x = none in cc)
+    shows c full (Some what) known all none h = absurd (cc)
     shows c full None known all none (db, source, refused, same) =
-        let now : db ≡ old.now = subst (λ b. IsSourceOf b old.now db)
-        (ap (λ s. reads_listing s sql) has ∙ unlisted) source in
-        let which : c.command ≡ command =
-        ap command_of (sym known ∙ ap (λ s. understood s sql) has) ∙ is in
+        let now : db ≡ old.now = search (rules, db, source) in
+        let which : c.command ≡ command = search (rules, known) in
         let P : Command → Row → Database → Type 0 =
         λ k given d. RefusesToRead old.step_limit k d given e in
         let one = subst (λ k. P k full db) which refused in

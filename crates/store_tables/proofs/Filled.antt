@@ -1,19 +1,18 @@
 -- What bytes that are written by their number leave.
-use Rattle.std.proofs.Common.{◌≡◌, ℕ, ℤ, List, [], ◌∷◌, length, map, filter, Ok, None, IsTrue, inl}
-use Rattle.std.proofs.Common.{inr, ◌⊎◌, refl, sym, ap, subst, ◌∙◌, not, if◌then◌else◌, unwrap_or}
+use Rattle.std.proofs.Common.{rules, ◌≡◌, ℕ, ℤ, List, [], ◌∷◌, length, map, filter, Ok, None}
+use Rattle.std.proofs.Common.{IsTrue, inl, inr, ◌⊎◌, refl, sym, ap, subst, ◌∙◌, not, if◌then◌else◌}
 use Rattle.std.proofs.{Common.{arith, IsPermutation}, lemmas.Bool.Decides.nat_tests}
 use Rattle.sqlite.specs.{declared.types.Value.TheVariants.{Null, Int, Blob}, Order.Row}
-use Rattle.sqlite.specs.{Cast.cast_row, Command.TheVariants.Update, Does.{Tally, Does}, Edit.Edit}
-use Rattle.sqlite.specs.{Edit.{edit_of, edited, taken_by}, Effect.{Database, IsDatabase}}
-use Rattle.sqlite.specs.{Listing.understood, Program.overlay, Rowids.TheVariants.Given, Rows.Edited}
-use Rattle.sqlite.specs.{Rows.Written, State.{State, mode_of, Executes, Shows}, Tree.Trees}
-use Rattle.sqlite.specs.Tree.{has_rowid, without_rowid, put_row}
-use Rattle.sqlite.proofs.Callers.{one_permutation, one_step, runs_as, statement_of}
+use Rattle.sqlite.specs.{Cast.cast_row, Command.TheVariants.Update, Does.Does, Edit.{Edit, edit_of}}
+use Rattle.sqlite.specs.{Edit.{edited, taken_by}, Effect.{Database, IsDatabase}, Listing.understood}
+use Rattle.sqlite.specs.{Program.overlay, Rowids.TheVariants.Given, Rows.Edited, State.State}
+use Rattle.sqlite.specs.{State.{mode_of, Executes, Shows}, Tree.{Trees, has_rowid, without_rowid}}
+use Rattle.sqlite.{specs.Tree.put_row, proofs.Callers.{one_permutation, one_step, runs_as}}
+use Rattle.sqlite.proofs.Callers.{statement_of}
 use Rattle.sqlite_rules.specs.{Action.works, Calls.ids_of}
 use Rattle.sqlite_schema.specs.declared.schema.Keys.TheVariants.{Enforced}
 use Rattle.sqlite_tied.specs.Compute.{everything}
-use Rattle.sqlite_trees.specs.View.{IsShaped}
-use Rattle.sqlite_trees.proofs.TreeLemmas.{IsShaped-filter, IsShaped-put_row}
+use Rattle.sqlite_trees.{specs.View.IsShaped, proofs.TreeLemmas.{IsShaped-filter, IsShaped-put_row}}
 use Rattle.store_tables.specs.{Shown.{Fills, IsRoom, KeepsAll, stored_body}, Tables.room_schema}
 use Rattle.store_tables.proofs.{Actions.bodies_table, Answers.{selected, shows}, Calls.retains_by}
 use Rattle.store_tables.proofs.{Printed.keeps_same, Executed.WritesRoom, Rowids.alone_in}
@@ -74,10 +73,7 @@ filled id bytes old new count has h =
     let found = selected Null 2 (matches_parameter 0 0 ∷ []) fill_terms []
     (overlay db []) params asked.0 (asked.1.answer Null) in
     let now : new.now ≡ record { schema = room_schema; trees = did.0 } =
-    ap (λ (p : Tally × Database). p.1) last
-    ∙ ap
-    (λ (it : Written). let db : Database = record { schema = room_schema; trees = it.trees } in
-    db) wrote in
+    grind (arith, nat_tests, last, wrote) in
     record {
       rows = asked.0;
       found =
@@ -87,9 +83,7 @@ filled id bytes old new count has h =
       edited = did.1;
       now = now;
       sound = w.sound;
-      counted =
-          w.counted ∙ ap (λ (p : Tally × Database). unwrap_or p.0.rows 0) last
-          ∙ ap (λ (it : Written). length it.rows) wrote;
+      counted = grind (arith, nat_tests, w.counted, last, wrote);
       shown = w.shown;
     }
 
@@ -107,8 +101,7 @@ left : (id : ℤ) (bytes : List ℕ) (old new : State) (count : ℕ) (d : Filled
 left id bytes old new count d none =
     let applies = one_step room_schema Enforced old.now.trees d.next
     (fill_edit old.now.trees d.rows) none d.edited in
-    let at : (tree : ℕ) → new.now.trees tree ≡ d.next tree = λ tree. ap
-    (λ (db : Database). db.trees tree) d.now in
+    let at : (tree : ℕ) → new.now.trees tree ≡ d.next tree = search rules in
     record {
       bodies = at 2 ∙ applies.rows;
       nodes = at 0 ∙ applies.tables.0 (λ e. let e' : 0 ≡ 2 = e in omega (arith, e'));

@@ -1,15 +1,13 @@
 -- What the rows mean once bytes are written anew.
-use Rattle.std.proofs.Common.{◌≡◌, ◌<◌, ℕ, ℤ, pos, List, [], ◌∷◌, Some, refl, sym, ap, ◌∙◌, not}
-use Rattle.std.proofs.{Common.arith, lemmas.Bool.Decides.nat_tests}
-use Rattle.std.specs.List.{filter_map}
+use Rattle.std.proofs.Common.{rules, ◌≡◌, ◌<◌, ℕ, ℤ, pos, List, [], ◌∷◌, Some, refl, sym, ap, ◌∙◌}
+use Rattle.std.proofs.{Common.{not, arith}, lemmas.Bool.Decides.nat_tests}
 use Rattle.sqlite.specs.{declared.types.Value.TheVariants.Blob, Effect.Database, Tree.Trees}
 use Rattle.sqlite.specs.Tree.{has_rowid, put_row, without_rowid, IsTable}
 use Rattle.sqlite_trees.proofs.TreeLemmas.{IsShaped-filter}
 use Rattle.room_rows.specs.Content.{put_body}
-use Rattle.store_tables.specs.{Filed.{bodies_rise, body_rowid}, Meaning.{audit_in, bodies_of}}
-use Rattle.store_tables.specs.Meaning.{body_in, body_row, nodes_of, pairs_of, unread_of}
-use Rattle.store_tables.specs.{RoomRows.number_in-low, Shown.{Bodies, Fills, IsRoom, RemovesBytes}}
-use Rattle.store_tables.specs.{Shown.stored_body, Trust.HasBody}
+use Rattle.store_tables.specs.{Filed.{bodies_rise, body_rowid}, Meaning.{bodies_of, body_in}}
+use Rattle.store_tables.specs.{Meaning.body_row, RoomRows.number_in-low, Shown.{Bodies, Fills}}
+use Rattle.store_tables.specs.{Shown.{IsRoom, RemovesBytes, stored_body}, Trust.HasBody}
 use Rattle.store_tables.proofs.{Put.{others, put_again, put_by, put_seen}, Removed.read_without}
 use Rattle.store_tables.proofs.Removed.{same_rows}
 use Rattle.sqlite_trees.specs.declared.store.Shape.TheVariants as Shape
@@ -56,5 +54,4 @@ filled_rows db next id bytes room low put =
     ∙ ap (put_by number (id, bytes)) (read_without body_in number body_rowid id (db.trees 2))
     ∙ put_again number (id, bytes) (bodies_of (db.trees 2)) 0
     (bodies_rise (db.trees 2) room.bodies.0) ∙ sym (body_put id bytes (bodies_of (db.trees 2))) in
-    same_rows (ap nodes_of put.nodes) (ap unread_of put.nodes) bodies (ap pairs_of put.members)
-    (ap (filter_map audit_in) put.audits)
+    search (rules, same_rows, put.nodes, bodies, put.members, put.audits)

@@ -1,10 +1,10 @@
 -- The groups of a user are what the rows of that user, in order of group, are read as.
-use Rattle.std.proofs.Common.{◌≡◌, ℕ, List, [], ◌∷◌, map, filter, None, Some, Option, refl, sym, ap}
-use Rattle.std.proofs.Common.{◌∙◌, true, false, Bool, cond, IsTrue, arith, Ordering, Less, Equal}
-use Rattle.std.proofs.{Common.{Greater, is_gt, is_lt, is_eq, nat_cmp}, lemmas.Bool.cond-true}
+use Rattle.std.proofs.Common.{rules, ◌≡◌, ℕ, List, [], ◌∷◌, map, filter, None, Some, Option, refl}
+use Rattle.std.proofs.Common.{sym, ap, ◌∙◌, true, false, Bool, cond, IsTrue, arith, Ordering, Less}
+use Rattle.std.proofs.{Common.{Equal, Greater, is_gt, is_lt, is_eq, nat_cmp}, lemmas.Bool.cond-true}
 use Rattle.std.proofs.lemmas.{Bool.{cond-false, false≢true, Decides.nat_tests}, Cmp.on_total}
 use Rattle.std.proofs.lemmas.{Map.Text.is_eq-slice_cmp, Slice.Eq.bytes_eq-Decides}
-use Rattle.std.specs.{Prelude.{option_map, option_and_then, if◌then◌else◌}, List.AllByRecursion}
+use Rattle.std.specs.{Prelude.{option_map, option_and_then}, List.AllByRecursion}
 use Rattle.std.specs.List.{filter_map, cons_option, Sorted.IsStrictlySortedBy}
 use Rattle.std.specs.{Ordering.{ordering_reverse, ordering_then}, Cmp.Lexicographic.slice_cmp}
 use Rattle.sqlite.specs.{declared.types.Value.{Value, TheVariants.Text}, Effect.Database, Order.Row}
@@ -15,7 +15,7 @@ use Rattle.sqlite_value.proofs.OrderLemmas.{value_cmp-Null, value_cmp-Text, valu
 use Rattle.sqlite_value.proofs.OrderLemmas.{value_cmp_total}
 use Rattle.room_entry.specs.{Utf8.is_utf8, Names.is_name, Pieces.same_text}
 use Rattle.room_rows.specs.{Content.{put_pair, set_of}, Keep.AreGroupsOf}
-use Rattle.store_tables.specs.{Meaning.{name_in, name_of_text, pair_in, rows_of}, Paired.Pair}
+use Rattle.store_tables.specs.{Meaning.{name_in, pair_in, rows_of}, Paired.Pair}
 use Rattle.store_tables.specs.Paired.{all_filter, all_past, before, before_is, pair_cmp, put_first}
 use Rattle.store_tables.specs.{Paired.total, RoomRows.set_sorted, Seeing.names_seen}
 use Rattle.store_tables.specs.{Shown.is_user_row, Statements.{HasGroups, by_column, shown_group}}
@@ -98,12 +98,7 @@ all_inserted : (P : Row → Type 0) (new : Row) (rows : List Row) → P new → 
     → AllByRecursion P (insert_sorted by_group new rows)
 all_inserted P new [] here all = (here, tt)
 all_inserted P new (r ∷ rows) here all =
-    by (is_gt (by_group new r)) (all_inserted P new rows here all.1)
-  where
-    by : (b : Bool) → AllByRecursion P (insert_sorted by_group new rows)
-        → AllByRecursion P (cond b (r ∷ insert_sorted by_group new rows) (new ∷ r ∷ rows))
-    by true more = (all.0, more)
-    by false more = (here, all)
+    search (rules, here, all, all.1, all.0, all_inserted P new rows here all.1)
 
 all_sorted : (P : Row → Type 0) (rows : List Row) → AllByRecursion P rows
     → AllByRecursion P (sort_by by_group rows)
@@ -142,17 +137,8 @@ rises_sorted (r ∷ rows) apart =
 -- ---- what they are read as
 
 pub name_text : (v : Value) (t : List ℕ) → name_in v ≡ Some t → v ≡ Text t
-name_text (Text s) t is = by (is_utf8 s) is
-  where
-    named : (c : Bool) → (if c then Some s else None) ≡ Some t → Text s ≡ Text t
-    named true e = let same : s ≡ t = cc in ap Text same
-    named false e = absurd (let z = e in cc)
-
-    by : (b : Bool) → option_and_then name_of_text (if b then Some s else None) ≡ Some t
-        → Text s ≡ Text t
-    by true e = named (is_name s) e
-    by false e = absurd (let z = e in cc)
-name_text _ t is = absurd (let e = is in cc)
+name_text (Text s) t is = search (rules, is)
+name_text _ t is = absurd (cc)
 
 pair_group : (g u : Option (List ℕ)) (p : Pair)
     → option_and_then (λ a. option_map (λ b. (a, b)) u) g ≡ Some p → g ≡ Some p.0
@@ -165,12 +151,7 @@ pair_user g u p is = grind (arith, nat_tests)
 less_pairs : (r o : Row) (p m : Pair) → pair_in r ≡ Some p → pair_in o ≡ Some m
     → by_group r o ≡ Less → pair_cmp p m ≡ Less
 less_pairs r o p m is at less =
-    let a : column r 1 ≡ Text p.0 = name_text (column r 1) p.0
-    (pair_group (name_in (column r 1)) (name_in (column r 2)) p is) in
-    let b : column o 1 ≡ Text m.0 = name_text (column o 1) m.0
-    (pair_group (name_in (column o 1)) (name_in (column o 2)) m at) in
-    let groups : slice_cmp nat_cmp p.0 m.0 ≡ Less = cc (value_cmp-Text p.0 m.0, b, a, less) in
-    ap (λ x. ordering_then x (slice_cmp nat_cmp p.1 m.1)) groups
+    search (rules, name_text, pair_group, value_cmp-Text, is, less)
 
 all_less : (r : Row) (p : Pair) → pair_in r ≡ Some p → (rows : List Row)
     → AllByRecursion (λ b. by_group r b ≡ Less) rows
@@ -215,13 +196,7 @@ insert_pair r p is (o ∷ rows) apart up =
 skip_pair : (r : Row) → pair_in r ≡ None → (rows : List Row)
     → filter_map pair_in (insert_sorted by_group r rows) ≡ filter_map pair_in rows
 skip_pair r none [] = ap (λ o. cons_option o []) none
-skip_pair r none (o ∷ rows) = by (is_gt (by_group r o)) (skip_pair r none rows)
-  where
-    by : (b : Bool) → filter_map pair_in (insert_sorted by_group r rows) ≡ filter_map pair_in rows
-        → filter_map pair_in (cond b (o ∷ insert_sorted by_group r rows) (r ∷ o ∷ rows))
-        ≡ filter_map pair_in (o ∷ rows)
-    by true more = ap (cons_option (pair_in o)) more
-    by false more = ap (λ x. cons_option x (filter_map pair_in (o ∷ rows))) none
+skip_pair r none (o ∷ rows) = search (rules, none, skip_pair r none rows)
 
 set_of_rows : (rows : List Row) → HasNoTies by_group rows
     → set_of (filter_map pair_in rows) ≡ filter_map pair_in (sort_by by_group rows)
@@ -262,13 +237,7 @@ module _ (user : List ℕ) (named : IsTrue (is_name user)) (text : IsTrue (is_ut
   user_named v is = grind (arith, nat_tests)
 
   pair_is : (r : Row) → IsOf r → pair_in r ≡ option_map (λ g. (g, user)) (group r)
-  pair_is r is = search (by, user_named)
-    where
-      by : (o : Option (List ℕ))
-          → option_and_then {U = Pair} (λ a. option_map (λ b. (a, b)) (Some user)) o
-          ≡ option_map (λ g. (g, user)) o
-      by None = refl
-      by (Some g) = refl
+  pair_is r is = search (rules, user_named)
 
   agrees : (r : Row) (p : Pair) → pair_in r ≡ Some p → same_text p.1 user ≡ is_user_row user r
   agrees r p is = grind (arith, nat_tests, is_eq-slice_cmp, name_text, pair_user, value_cmp-Text)
@@ -276,15 +245,7 @@ module _ (user : List ℕ) (named : IsTrue (is_name user)) (text : IsTrue (is_ut
   groups_read : (rows : List Row) → AllByRecursion IsOf rows
       → map (λ (p : Pair). p.0) (filter_map pair_in rows) ≡ filter_map group rows
   groups_read [] all = refl
-  groups_read (r ∷ rows) all = search (by, pair_is, groups_read rows all.1)
-    where
-      by : (o : Option (List ℕ))
-          → map (λ (p : Pair). p.0) (filter_map pair_in rows) ≡ filter_map group rows
-          → map (λ (p : Pair). p.0)
-          (cons_option (option_map (λ g. (g, user)) o) (filter_map pair_in rows))
-          ≡ cons_option o (filter_map group rows)
-      by None more = more
-      by (Some g) more = ap (λ l. g ∷ l) more
+  groups_read (r ∷ rows) all = search (rules, pair_is, all, all.1, groups_read rows all.1)
 
   pub tells_groups : (db : Database) → HasNoTies by_group (filter (is_user_row user) (db.trees 3))
       → (rows : List Row) → HasGroups user db.trees rows
@@ -292,11 +253,9 @@ module _ (user : List ℕ) (named : IsTrue (is_name user)) (text : IsTrue (is_ut
   tells_groups db apart rows shown =
       let kept = filter (is_user_row user) (db.trees 3) in
       let mine = all_sorted IsOf kept
-      (each_of IsOf kept (λ r there. user_is (column r 2)
-      (kept_passes (is_user_row user) (db.trees 3) r there))) in
+      (search (rules, each_of, kept, user_is, kept_passes, db.trees)) in
       let q : Pair → Bool = λ p. same_text p.1 user in
       let pairs = filter_set q (filter_map pair_in (db.trees 3))
       ∙ ap set_of (filter_read pair_in q (is_user_row user) agrees (db.trees 3))
       ∙ set_of_rows kept apart in
-      ap names_seen shown ∙ names_shown (sort_by by_group kept)
-      ∙ sym (groups_read (sort_by by_group kept) mine) ∙ ap (map (λ (p : Pair). p.0)) (sym pairs)
+      grind (arith, nat_tests, shown, names_shown, kept, groups_read, mine, pairs)

@@ -5,19 +5,17 @@ use Rattle.sqlite.specs.{declared.types.Value.TheVariants.Null, Order.Row, Cast.
 use Rattle.sqlite.specs.{Tree.{Trees, rowid, put_row}, Command.TheVariants.Insert}
 use Rattle.sqlite.specs.{Source.TheVariants.Values, Edit.{Edit, edit_of, taken_by, edited}}
 use Rattle.sqlite.specs.{Edit.{next_rowid, is_taken, are_fresh}, Rowids.TheVariants.Chosen}
-use Rattle.sqlite.specs.{Does.{Tally, Does}, Rows.Written, Effect.{Database, IsDatabase}}
-use Rattle.sqlite.specs.{Listing.understood, State.{State, mode_of, Executes, Shows}}
+use Rattle.sqlite.specs.{Does.Does, Effect.IsDatabase, Listing.understood, State.{State, mode_of}}
+use Rattle.sqlite.{specs.State.{Executes, Shows}, proofs.Callers.{runs_as, statement_of, one_step}}
 use Rattle.sqlite_schema.specs.declared.schema.Keys.TheVariants.{Enforced}
-use Rattle.sqlite.proofs.Callers.{runs_as, statement_of, one_step}
-use Rattle.sqlite_trees.specs.View.{IsShaped}
-use Rattle.sqlite_trees.proofs.TreeLemmas.{IsShaped-put_row}
+use Rattle.sqlite_trees.{specs.View.IsShaped, proofs.TreeLemmas.IsShaped-put_row}
 use Rattle.sqlite_rules.specs.Action.{works}
 use Rattle.sqlite_tied.specs.Compute.{everything}
 use Rattle.store_tables.specs.{Tables.room_schema, Shown.{IsRoom, AddsRow, stored_node}}
-use Rattle.store_tables.specs.Printed.{IsCanonical, KeepsPrinted}
-use Rattle.store_tables.proofs.Texts.{insert_text, insert_is, insert_terms, plain_texts}
-use Rattle.store_tables.proofs.{Writes.{went, same_value, nodes_table}, Printed.by_cell}
-use Rattle.store_tables.proofs.{Printed.{keeps_itself, keeps_more, printed_text}, Calls.retains_by}
+use Rattle.store_tables.{specs.Printed.{IsCanonical, KeepsPrinted}, proofs.Texts.insert_text}
+use Rattle.store_tables.proofs.{Texts.{insert_is, insert_terms, plain_texts}, Writes.went}
+use Rattle.store_tables.proofs.{Writes.{same_value, nodes_table}, Printed.{by_cell, keeps_itself}}
+use Rattle.store_tables.proofs.{Printed.{keeps_more, printed_text}, Calls.retains_by}
 use Rattle.store_tables.proofs.{Executed.WritesRoom, Updates.{Columns, values, cast_null, cast_int}}
 use Rattle.sqlite_trees.specs.declared.store.Shape.TheVariants as Shape
 
@@ -60,15 +58,12 @@ inserted c old new count has h =
     let done = went
     (subst (λ s. Does old.step_limit (mode_of old) params
     (record old.now { schema = s }) text None command (Ok (w.tally, new.now))) has w.changed) in
-    let concluded = same_value (went (went done.2).2).2 in
-    let now = ap (λ (p : Tally × Database). p.1) concluded in
     let given = went done.1 in
     let counter = went given.2 in
     let written = went counter.2 in
     let counted = went written.2 in
     let wrote = same_value counted.2 in
-    let trees : done.0.trees ≡ written.0 = ap (λ (it : Written). it.trees) wrote
-    ∙ same_value counted.1 in
+    let trees : done.0.trees ≡ written.0 = grind (arith, nat_tests, wrote, same_value, counted.1) in
     let source : given.0 ≡ (Null ∷ Null ∷ values c) ∷ [] = given.1.1 in
     let news = ap (λ l. (insert_edit db l).news) source
     ∙ ap (λ r. Rattle.sqlite.specs.Edit.numbered Chosen (db 0) (r ∷ [])) (cast_new c) in
@@ -76,8 +71,7 @@ inserted c old new count has h =
     ∙ new_sets_off_nothing (stored_node (next_rowid (db 0)) (values c)) in
     let applies = one_step room_schema Enforced db written.0
     (insert_edit db given.0) none written.1 in
-    let at : (tree : ℕ) → new.now.trees tree ≡ written.0 tree = λ tree. ap
-    (λ (d : Database). d.trees tree) now ∙ ap (λ (t : Trees). t tree) trees in
+    let at : (tree : ℕ) → new.now.trees tree ≡ written.0 tree = grind (arith, nat_tests, trees) in
     grind (arith, nat_tests, fresh_alone, values)
 
 -- the texts of its lists are printed

@@ -4,10 +4,9 @@ use Rattle.std.proofs.Common.{subst, true, false, Bool, IfOk, IfErr, Vec, Global
 use Rattle.std.proofs.lemmas.Bool.Decides.{nat_tests}
 use Rattle.sqlite.specs.{Order.Row, declared.error.Error.Error, State.{State, HasCleanDisk, Shown}}
 use Rattle.sqlite.specs.State.{FailsToQuery, IsTooLate, Executes, ExecutesInside}
-use Rattle.store_tables.specs.Shown.{IsRoom, Stays}
-use Rattle.store_tables.proofs.Calls.{failed_query, left_stays, retains_on, stays_by}
-use Rattle.store_tables.proofs.{Calls.unchanged_stays, Executed.WritesRoom, Bare.IsReading}
-use Rattle.store_tables.proofs.{Bare.shown_same, Within.{CommitsNothing, wrote_within}}
+use Rattle.store_tables.{specs.Shown.{IsRoom, Stays}, proofs.Calls.{failed_query, left_stays}}
+use Rattle.store_tables.proofs.{Calls.{retains_on, stays_by, unchanged_stays}, Executed.WritesRoom}
+use Rattle.store_tables.proofs.{Bare.{IsReading, shown_same}, Within.{CommitsNothing, wrote_within}}
 
 late_or : (sql : List ℕ) (params : Row) (old new : State) (e : Error)
     → CommitsNothing old new

@@ -1,34 +1,32 @@
 -- What reading the names of children answers, and reading one of them.
-use Rattle.std.proofs.Common.{◌≡◌, ℕ, zero, suc, pos, negsuc, List, [], ◌∷◌, ◌++◌, map, filter}
-use Rattle.std.proofs.Common.{take, length, None, Some, Option, IsTrue, inl, inr, refl, sym, ap}
-use Rattle.std.proofs.Common.{subst, ◌∙◌, true, not, append-nil, append_assoc, arith, is_lt}
+use Rattle.std.proofs.Common.{rules, ◌≡◌, ℕ, zero, suc, pos, negsuc, List, [], ◌∷◌, ◌++◌, map}
+use Rattle.std.proofs.Common.{filter, take, length, None, Some, Option, IsTrue, inl, inr, refl, sym}
+use Rattle.std.proofs.Common.{ap, subst, ◌∙◌, true, not, append-nil, append_assoc, arith, is_lt}
 use Rattle.std.proofs.{Common.{IsPermutation, false}, lemmas.Bool.{and_parts, eq-eqb}}
 use Rattle.std.proofs.lemmas.{Bool.Decides.nat_tests, List.Sorted.IsPermutation-sym}
-use Rattle.std.proofs.lemmas.Option.{none-some, same_Some}
-use Rattle.std.specs.{Prelude.{◌==◌, is_none, option_map, if◌then◌else◌}, List.AllByRecursion}
-use Rattle.std.specs.{List.{filter_map, cons_option, Contains}, Option.option_map_or}
+use Rattle.std.{proofs.lemmas.Option.{none-some, same_Some}, specs.Prelude.{◌==◌, is_none}}
+use Rattle.std.specs.{Prelude.{option_map, if◌then◌else◌}, List.{AllByRecursion, filter_map}}
+use Rattle.std.specs.{List.{cons_option, Contains}, Option.option_map_or}
 use Rattle.sqlite.specs.{declared.types.Value.{Value, TheVariants.Int}, Effect.Database, Order.Row}
 use Rattle.sqlite.specs.{Order.{column, value_cmp}, Tree.rowid}
 use Rattle.sqlite_keyed.specs.Lists.{sort_by}
-use Rattle.sqlite_rules.specs.Lists.{Has}
-use Rattle.sqlite_rules.proofs.ListLemmas.{contains_had, has_filtered, has_kept}
+use Rattle.sqlite_rules.{specs.Lists.Has, proofs.ListLemmas.{contains_had, has_filtered, has_kept}}
 use Rattle.sqlite_trees.specs.View.{is_int}
 use Rattle.sqlite_value.proofs.OrderLemmas.{value_cmp-Int}
 use Rattle.room_entry.specs.declared.object.ObjKind.{ObjKind}
 use Rattle.room_rows.specs.{declared.node.Node.Node, Content.{is_empty, sorted_by_name}}
 use Rattle.room_rows.specs.Keep.{AreNamedUnder, HasChildren, IsMixed, IsUnreadable, unread_under}
-use Rattle.room_rows.specs.Rows.{Rows, Unread}
-use Rattle.room_rows.proofs.{Mixed.mixed_other, Lookups.put_is_some}
+use Rattle.room_rows.{specs.Rows.{Rows, Unread}, proofs.{Mixed.mixed_other, Lookups.put_is_some}}
 use Rattle.store_tables.specs.{Filed.node_parts, Meaning.{named_in, node_in, number_in, rows_of}}
 use Rattle.store_tables.specs.Meaning.{unread_in, unread_of, unread_with, whole_in}
 use Rattle.store_tables.specs.{RoomRows.number_in-low, Seeing.{result_of_seen, seen_as}}
 use Rattle.store_tables.specs.{Seeing.{seen_behind, seen_then}, Shown.{IsRoom, is_child}}
 use Rattle.store_tables.specs.{Shown.{is_numbered, shown_node}, Statements.{HasNames, HasSome}}
-use Rattle.store_tables.specs.Statements.{shown_name, shown_number}
-use Rattle.store_tables.proofs.{Apart.kept_passes, Named.{no_map, unread_row}, Nodes.Tells}
-use Rattle.store_tables.proofs.{Rowids.{alone_in, each_of, of_each}, Tops.children_read}
-use Rattle.store_tables.proofs.{Tops.kept_from, Under.{IsSeen, by_name, sorted_from, sorted_read}}
-use Rattle.store_tables.proofs.{Under.{sorted_within, tells_by}, Typed.parent_whole}
+use Rattle.store_tables.{specs.Statements.{shown_name, shown_number}, proofs.Apart.kept_passes}
+use Rattle.store_tables.proofs.{Named.{no_map, unread_row}, Nodes.Tells, Rowids.{alone_in, each_of}}
+use Rattle.store_tables.proofs.{Rowids.of_each, Tops.{children_read, kept_from}, Under.IsSeen}
+use Rattle.store_tables.proofs.Under.{by_name, sorted_from, sorted_read, sorted_within, tells_by}
+use Rattle.store_tables.proofs.Typed.{parent_whole}
 
 abbrev Named : Type 0
 Named = List ℕ × ObjKind
@@ -50,7 +48,7 @@ number_kept : (v : Value) → IsTrue (is_int v) → not (is_lt (value_cmp v (Int
 number_kept (Int (pos zero)) int high = grind (arith, nat_tests, value_cmp-Int)
 number_kept (Int (pos (suc n))) int high = (suc n, number_in-low (suc n) (omega arith))
 number_kept (Int (negsuc n)) int high = grind (arith, nat_tests, value_cmp-Int)
-number_kept _ int high = absurd (let e = int in cc)
+number_kept _ int high = absurd (cc)
 
 read_if : (o : Option Node) (m : Option Unread) (u : Unread) → m ≡ Some u
     → (if is_none o then m else None) ≡ None → (n : Node) × (o ≡ Some n)
@@ -153,8 +151,7 @@ module _ (db : Database) (room : IsRoom db) (parent : ℕ) where
       (has_read (λ (u : Unread). u.named)
       (filter (λ (u : Unread). option_map_or (λ above. above == parent) u.parent false)
       (unread_of (db.trees 0))) (unread_with r number.0) p
-      (has_kept (λ (u : Unread). option_map_or (λ above. above == parent) u.parent false)
-      (unread_of (db.trees 0)) (unread_with r number.0) stands under_it) is)
+      (search (rules, has_kept, stands, under_it)) is)
 
   mixed_step : (r : Row) (rows : List Row) → Has kept r → (o : Option Node) → see r ≡ o
       → (q : Option Named) → named r ≡ q
@@ -189,10 +186,7 @@ module _ (db : Database) (room : IsRoom db) (parent : ℕ) where
       (result_of_seen (seen_then (seen_as o m)
       (λ before. seen_behind named_in before (map shown_name rows)) done))
   name_step done r rows there more (Some p) is m number =
-      tells_by IsUnreadable (AreNamed (done ++ p ∷ []) rows) (AreNamed done (r ∷ rows)) (rows_of db)
-      (λ names read. cc (read, append_assoc done (p ∷ []) (filter_map named rows), is))
-      (result_of_seen (seen_behind named_in (done ++ p ∷ []) (map shown_name rows)))
-      (more (done ++ p ∷ []))
+      search (rules, tells_by, r, append_assoc, is, more)
   name_step done r rows there more None is None number = tt
   name_step done r rows there more None is (Some id) number =
       unread_row db room r id there (not_named r (see r) refl is) number
@@ -217,7 +211,6 @@ module _ (db : Database) (room : IsRoom db) (parent : ℕ) where
       (λ names read.
       subst (λ l. IsMixed others (map name_of l) names)
       (sorted_read kept ∙ sym (children_read db parent))
-      (subst (IsMixed others (map name_of (filter_map see (sort_by by_name kept)))) (sym read)
-      (names_mixed (sort_by by_name kept) (sorted_from kept))))
+      (search (rules, by_name, names_mixed, sorted_from)))
       (result_of_seen (seen_behind named_in [] (map shown_name (sort_by by_name kept))))
       (reads_names (sort_by by_name kept) (sorted_within db room parent) []))

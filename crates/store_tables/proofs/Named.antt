@@ -1,13 +1,12 @@
 -- What reading the rows of one parent and one name answers.
-use Rattle.std.proofs.Common.{◌≡◌, ◌<◌, ℕ, ℤ, pos, List, [], ◌∷◌, map, filter, find, None, Some}
-use Rattle.std.proofs.Common.{Option, Result, refl, sym, ap, subst, ◌∙◌, true, false, Bool, cond}
-use Rattle.std.proofs.{Common.{not, ◌&&◌, arith}, lemmas.List.Sorted.IsPermutation-sym}
+use Rattle.std.proofs.Common.{rules, ◌≡◌, ◌<◌, ℕ, ℤ, pos, List, [], ◌∷◌, map, filter, find, None}
+use Rattle.std.proofs.Common.{Some, Option, Result, refl, sym, ap, subst, ◌∙◌, true, false, Bool}
+use Rattle.std.proofs.{Common.{cond, not, ◌&&◌, arith}, lemmas.List.Sorted.IsPermutation-sym}
 use Rattle.std.proofs.lemmas.{Map.Text.is_eq-slice_cmp, Bool.Decides.nat_tests}
-use Rattle.std.proofs.Math.Bool.{and-true}
-use Rattle.std.specs.Prelude.{option_and_then, option_map, is_none, is_some, if◌then◌else◌, ◌==◌}
-use Rattle.std.specs.{List.{filter_map, cons_option, Sorted.IsPermutation}, Option.option_map_or}
-use Rattle.std.specs.{Ordering.{is_eq, is_lt}, declared.cmp.Ordering.TheVariants.{Less, Equal}}
-use Rattle.std.specs.declared.cmp.Ordering.TheVariants.{Greater}
+use Rattle.std.{proofs.Math.Bool.and-true, specs.Prelude.{option_and_then, option_map, is_none}}
+use Rattle.std.specs.{Prelude.{is_some, if◌then◌else◌, ◌==◌}, List.{filter_map, cons_option}}
+use Rattle.std.specs.{List.Sorted.IsPermutation, Option.option_map_or, Ordering.{is_eq, is_lt}}
+use Rattle.std.specs.declared.cmp.Ordering.TheVariants.{Less, Equal, Greater}
 use Rattle.sqlite.specs.{declared.types.Value.{Value, TheVariants.{Int, Text}}, Order.Row}
 use Rattle.sqlite.specs.{Order.value_cmp, Tree.rowid, Effect.Database}
 use Rattle.sqlite.proofs.Callers.{one_permutation}
@@ -15,8 +14,7 @@ use Rattle.sqlite_rules.specs.Lists.{Has}
 use Rattle.sqlite_value.proofs.OrderLemmas.{value_cmp-Null, value_cmp-Text, value_cmp-Int}
 use Rattle.room_entry.specs.Pieces.{same_text}
 use Rattle.room_rows.specs.{declared.node.Node.Node, Content.has_parent, Keep.IsChildOf}
-use Rattle.room_rows.specs.Keep.{IsUnreadable}
-use Rattle.room_rows.proofs.Lookups.{find_yes, find_no}
+use Rattle.room_rows.{specs.Keep.IsUnreadable, proofs.Lookups.{find_yes, find_no}}
 use Rattle.store_tables.specs.{Shown.{IsRoom, shown_node, is_child_named}, Meaning.number_in}
 use Rattle.store_tables.specs.Meaning.{parent_in, text_in, node_in, unread_in, unread_with, rows_of}
 use Rattle.store_tables.specs.{Keyed.same_number, Filed.{number_is, node_parts, unread_at_row}}
@@ -25,13 +23,13 @@ use Rattle.store_tables.proofs.{Nodes.Tells, Rowids.{alone_in, has_found, only_o
 
 pub no_map : {A B : Type 0} (f : A → B) (xs : List A) → map f xs ≡ [] → xs ≡ []
 no_map f [] h = refl
-no_map f (x ∷ xs) h = absurd (let e = h in cc)
+no_map f (x ∷ xs) h = absurd (cc)
 
 one_of_map : {A B : Type 0} (f : A → B) (xs : List A) (y : B) → map f xs ≡ y ∷ [] → (x : A)
     × (xs ≡ x ∷ []) × (f x ≡ y)
-one_of_map f [] y h = absurd (let e = h in cc)
-one_of_map f (x ∷ []) y h = (x, refl, let e = h in cc)
-one_of_map f (x ∷ z ∷ more) y h = absurd (let e = h in cc)
+one_of_map f [] y h = absurd (cc)
+one_of_map f (x ∷ []) y h = (x, refl, cc)
+one_of_map f (x ∷ z ∷ more) y h = absurd (cc)
 
 -- ---- rows that pass a test, and what they are read as
 
@@ -57,7 +55,7 @@ module _ {X : Type 0} (f : Row → Option X) (q : X → Bool) (p : Row → Bool)
 
   pub first_read : (rows : List Row) (r : Row) (later : List Row) (x : X)
       → filter p rows ≡ r ∷ later → f r ≡ Some x → find q (filter_map f rows) ≡ Some x
-  first_read [] r later x one is = absurd (let z = one in cc)
+  first_read [] r later x one is = absurd (cc)
   first_read (y ∷ rows) r later x one is =
       grind (arith, nat_tests, find_yes, skip_step, first_read rows r later x)
 
@@ -80,8 +78,8 @@ at_least_one k low = grind (arith, nat_tests, at_least_by, value_cmp-Int)
 
 pub mapped : (o : Option ℕ) (p : Option ℕ) → option_map Some o ≡ Some p → (id : ℕ) × (o ≡ Some id)
     × (p ≡ Some id)
-mapped None p is = absurd (let e = is in cc)
-mapped (Some id) p is = (id, refl, let e = is in cc)
+mapped None p is = absurd (cc)
+mapped (Some id) p is = (id, refl, cc)
 
 number_agrees : (parent : ℕ) (z : ℤ) (p : Option ℕ) → (id : ℕ) × (number_in (Int z) ≡ Some id)
     × (p ≡ Some id) → option_map_or (λ id. id == parent) p false
@@ -94,8 +92,8 @@ pub parent_agrees : (parent : ℕ) (v : Value) (p : Option ℕ) → parent_in v 
 parent_agrees parent v p is = grind (arith, nat_tests, mapped, number_agrees, value_cmp-Null)
 
 pub utf8_is : (s t : List ℕ) (b : Bool) → (if b then Some s else None) ≡ Some t → s ≡ t
-utf8_is s t true is = let e = is in cc
-utf8_is s t false is = absurd (let e = is in cc)
+utf8_is s t true is = cc
+utf8_is s t false is = absurd (cc)
 
 text_agrees : (name : List ℕ) (v : Value) (t : List ℕ) → text_in v ≡ Some t
     → same_text t name ≡ is_eq (value_cmp v (Text name))
@@ -105,8 +103,7 @@ child_agrees : (parent : ℕ) (name : List ℕ) (r : Row) (n : Node) → node_in
     → (has_parent parent n && same_text n.name name) ≡ is_child_named (pos parent) name r
 child_agrees parent name r n is =
     let parts = node_parts (shown_node r) n is in
-    let number = number_is (rowid r) n.id parts.number in
-    grind (arith, nat_tests, and-true, at_least_one, parent_agrees, text_agrees)
+    search (rules, r, n.id, parts.number, and-true, at_least_one, parent_agrees, text_agrees)
 
 -- a row that is there and isn't read as an object is one that can't be read
 pub unread_row : (db : Database) → IsRoom db → (r : Row) (id : ℕ) → Has (db.trees 0) r

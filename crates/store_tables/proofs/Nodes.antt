@@ -1,21 +1,19 @@
 -- What reading a row by its number answers.
-use Rattle.std.proofs.Common.{◌≡◌, ◌<◌, ℕ, pos, List, [], ◌∷◌, map, filter, find, None, Some}
+use Rattle.std.proofs.Common.{rules, ◌≡◌, ◌<◌, ℕ, pos, List, [], ◌∷◌, map, filter, find, None, Some}
 use Rattle.std.proofs.Common.{Option, Result, Ok, Err, inl, inr, ◌⊎◌, refl, sym, ap, subst, ◌∙◌}
 use Rattle.std.proofs.{Common.{Bool, arith}, lemmas.Bool.Decides.nat_tests}
 use Rattle.std.specs.Prelude.{option_and_then, option_map, is_none, is_some, if◌then◌else◌, IfOk}
 use Rattle.std.specs.{Prelude.IfErr, List.Sorted.IsPermutation}
 use Rattle.sqlite.specs.{declared.types.Value.TheVariants.Int, Order.Row, Tree.{rowid, has_rowid}}
-use Rattle.sqlite.specs.Effect.{Database}
-use Rattle.sqlite.proofs.Callers.{one_permutation}
-use Rattle.room_rows.specs.declared.keep.KeepFault.{KeepFault, TheVariants.{Memory, Store, Damaged}}
-use Rattle.room_rows.specs.{declared.node.Node.Node, Rows.Rows, Keep.{IsNodeAt, IsRead}}
-use Rattle.room_rows.specs.Keep.{IsUnreadableAt, HasCause, IfSeen}
+use Rattle.sqlite.{specs.Effect.Database, proofs.Callers.one_permutation}
+use Rattle.room_rows.specs.declared.keep.KeepFault.{KeepFault, TheVariants.{Memory, Store, NoRoot}}
+use Rattle.room_rows.specs.declared.{keep.KeepFault.TheVariants.Damaged, node.Node.Node}
+use Rattle.room_rows.specs.{Rows.Rows, Keep.{IsNodeAt, IsRead, IsUnreadableAt, HasCause, IfSeen}}
 use Rattle.store_tables.specs.{Shown.{IsRoom, shown_node}, Meaning.{number_in, node_in, unread_in}}
 use Rattle.store_tables.specs.{Meaning.{unread_with, rows_of}, Filed.{node_at_row, unread_at_row}}
 use Rattle.store_tables.specs.{RoomRows.number_in-low, Seeing.{result_of_seen, seen_only, seen_as}}
-use Rattle.store_tables.specs.Seeing.{counted_by}
-use Rattle.store_tables.proofs.Rowids.{alone_in, at_most_one, only_one, has_found, rowid_is}
-use Rattle.store_tables.proofs.Rowids.{of_each}
+use Rattle.store_tables.{specs.Seeing.counted_by, proofs.Rowids.{alone_in, at_most_one, only_one}}
+use Rattle.store_tables.proofs.Rowids.{has_found, rowid_is, of_each}
 
 -- an answer, or a row that is blamed
 abbrev pub Tells : {X : Type 0} → (Rows → ℕ → Type 0) → (Rows → X → Type 0) → Rows
@@ -23,6 +21,7 @@ abbrev pub Tells : {X : Type 0} → (Rows → ℕ → Type 0) → (Rows → X �
 Tells Blames Answers rows (Ok x) = Answers rows x
 Tells Blames Answers rows (Err Memory) = Unit {0}
 Tells Blames Answers rows (Err Store) = Unit {0}
+Tells Blames Answers rows (Err NoRoot) = Blames rows 0
 Tells Blames Answers rows (Err (Damaged at)) = Blames rows at
 
 told_answers : {X : Type 0} (Blames : Rows → ℕ → Type 0) (Answers : Rows → X → Type 0)
@@ -37,6 +36,7 @@ told_cause : {X Trusted : Type 0} (Blames : Rows → ℕ → Type 0) (Answers : 
 told_cause Blames Answers rows (Ok x) before after counted t = tt
 told_cause Blames Answers rows (Err Memory) before after counted t = tt
 told_cause Blames Answers rows (Err Store) before after counted t = counted
+told_cause Blames Answers rows (Err NoRoot) before after counted t = t
 told_cause Blames Answers rows (Err (Damaged at)) before after counted t = t
 
 told_unfailed : {X : Type 0} (r : Result X KeepFault) (before after : ℕ)
@@ -48,6 +48,7 @@ if_seen : {X : Type 0} (r : Result X KeepFault) (P : Type 0) → P → IfSeen r 
 if_seen (Ok x) P p = p
 if_seen (Err Memory) P p = tt
 if_seen (Err Store) P p = tt
+if_seen (Err NoRoot) P p = p
 if_seen (Err (Damaged id)) P p = p
 
 -- a call that reads, by what it tells, where what came before its end counted no failure
@@ -100,9 +101,7 @@ module _ (db : Database) (room : IsRoom db) (id : ℕ) (low : 0 < id) where
       ∙ ap (λ o. is_some (option_and_then unread_in o)) found
       ∙ ap (λ o. is_some (if is_none o then option_map (unread_with r) (number_in (rowid r))
       else None)) seen
-      ∙ ap (λ m. is_some (option_map (unread_with r) m)) number in
-      subst (λ o. Tells (IsUnreadableAt id) (IsNodeAt id) (rows_of db)
-      (result_of_seen (seen_as None o))) (sym number) (refl, bad)
+      ∙ ap (λ m. is_some (option_map (unread_with r) m)) number in search (rules, number, bad)
 
   -- what the rows that were found by this number answer
   pub tells_node : (rows : List Row)
@@ -126,6 +125,4 @@ module _ (db : Database) (room : IsRoom db) (id : ℕ) (low : 0 < id) where
           (has_found (has_rowid (pos id)) (db.trees 0) r there.0)) there.1 in
           let alone = one_permutation (shown_node r) rows
           (subst (λ l. IsPermutation (map shown_node l) rows) one perm) in
-          subst (λ l. Tells (IsUnreadableAt id) (IsNodeAt id) (rows_of db)
-          (result_of_seen (seen_only l))) (sym alone)
-          (something r there.0 is (node_in (shown_node r)) refl)
+          search (rules, alone, something, there.0, is)

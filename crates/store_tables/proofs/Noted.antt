@@ -1,32 +1,28 @@
 -- What a new record leaves.
-use Rattle.std.proofs.Common.{◌≡◌, ◌+ℤ◌, ◌<ℤ◌, ℕ, ℤ, pos, List, [], ◌∷◌, ◌++◌, fold, Ok, None, Some}
-use Rattle.std.proofs.Common.{Option, IsTrue, refl, sym, ap, subst, ◌∙◌, true, false, Bool}
-use Rattle.std.proofs.{Common.{if◌then◌else◌, is_some, arith, Less}, lemmas.Bool.Decides.nat_tests}
-use Rattle.std.proofs.lemmas.{Int.ints, List.Elements.{All-cons, All-nil}}
-use Rattle.std.specs.{Bool.MatchBool, List.AllByRecursion, Ordering.{int_cmp, is_lt}}
+use Rattle.std.proofs.Common.{rules, ◌≡◌, ◌+ℤ◌, ◌<ℤ◌, ℕ, ℤ, pos, List, [], ◌∷◌, ◌++◌, fold, Ok}
+use Rattle.std.proofs.Common.{None, Some, Option, IsTrue, refl, sym, ap, subst, ◌∙◌, true, false}
+use Rattle.std.proofs.{Common.{Bool, if◌then◌else◌, arith, Less}, lemmas.Bool.Decides.nat_tests}
+use Rattle.std.{proofs.lemmas.Int.ints, specs.{Bool.MatchBool, List.AllByRecursion}}
+use Rattle.std.specs.Ordering.{int_cmp, is_lt}
 use Rattle.sqlite.specs.{declared.types.Value.TheVariants.{Null, Int}, Cast.cast_row}
 use Rattle.sqlite.specs.{Command.TheVariants.Insert, Does.{Tally, Does}, Edit.{Edit, edit_of}}
-use Rattle.sqlite.specs.{Edit.{next_rowid, numbered, put_all, taken_by}, Effect.Database}
-use Rattle.sqlite.specs.{Effect.IsDatabase, Listing.understood, Order.{Row, value_cmp}}
-use Rattle.sqlite.specs.{Rowids.TheVariants.Above, Rows.{Counts, CountsIn, Edited, Gives, Task}}
-use Rattle.sqlite.specs.{Rows.{Written, count_of, counting, sequence}, Source.TheVariants.Values}
-use Rattle.sqlite.specs.{State.{State, mode_of, Executes, Shows}, Term.{Term, col, lit}, Tree.Trees}
-use Rattle.sqlite.specs.Tree.{rowid, put_row, IsTable}
+use Rattle.sqlite.specs.{Edit.{next_rowid, put_all, taken_by}, Effect.{Database, IsDatabase}}
+use Rattle.sqlite.specs.{Listing.understood, Order.{Row, value_cmp}, Rowids.TheVariants.Above}
+use Rattle.sqlite.specs.Rows.{Counts, CountsIn, Edited, Gives, Task, Written, count_of, counting}
+use Rattle.sqlite.specs.{Rows.sequence, Source.TheVariants.Values, State.{State, mode_of, Executes}}
+use Rattle.sqlite.specs.{State.Shows, Term.{Term, col, lit}, Tree.{Trees, rowid, put_row, IsTable}}
 use Rattle.sqlite.proofs.Callers.{one_step, runs_as, statement_of}
-use Rattle.sqlite_rules.specs.{Action.works, Edit.{at_least, id_in}}
-use Rattle.sqlite_rules.proofs.TableLemmas.{int_is}
+use Rattle.sqlite_rules.{specs.{Action.works, Edit.{at_least, id_in}}, proofs.TableLemmas.int_is}
 use Rattle.sqlite_schema.specs.declared.schema.{Keys.TheVariants.Enforced, Table.Table}
 use Rattle.sqlite_tied.specs.Compute.{everything}
-use Rattle.sqlite_trees.specs.View.{IsShaped, is_int}
-use Rattle.sqlite_trees.proofs.TreeLemmas.{IsShaped-put_row}
+use Rattle.sqlite_trees.{specs.View.{IsShaped, is_int}, proofs.TreeLemmas.IsShaped-put_row}
 use Rattle.sqlite_value.proofs.OrderLemmas.{value_cmp-Int}
 use Rattle.store_tables.specs.{declared.columns.Record.Record, Columns.StoresRecord}
-use Rattle.store_tables.specs.{Columns.record_values, Meaning.IsRecord, Shown.IsRoom}
-use Rattle.store_tables.specs.{Shown.{AddsRecordRow, stored_record}, Tables.{audits, counters}}
-use Rattle.store_tables.specs.Tables.{room_schema}
-use Rattle.store_tables.proofs.{Executed.WritesRoom, Noting.recalled, Printed.keeps_same}
-use Rattle.store_tables.proofs.{Texts.{note_is, note_text, plain_texts}, Updates.cast_int}
-use Rattle.store_tables.proofs.{Updates.cast_null, Writes.{same_value, went}}
+use Rattle.store_tables.specs.{Columns.record_values, Shown.{IsRoom, AddsRecordRow, stored_record}}
+use Rattle.store_tables.{specs.Tables.{audits, counters, room_schema}, proofs.Executed.WritesRoom}
+use Rattle.store_tables.proofs.{Noting.recalled, Printed.keeps_same, Texts.{note_is, note_text}}
+use Rattle.store_tables.proofs.{Texts.plain_texts, Updates.{cast_int, cast_null}, Writes.same_value}
+use Rattle.store_tables.proofs.Writes.{went}
 use Rattle.sqlite_trees.specs.declared.store.Shape.TheVariants as Shape
 
 -- ---- the new number comes last
@@ -48,14 +44,7 @@ below_next : (x : Row) (rows : List Row) → IsTable (x ∷ rows) → HaveNumber
 below_next x [] up keyed = (omega (arith, ints), tt)
 below_next x (y ∷ rows) up keyed =
     let later = below_next y rows up.1 keyed.1 in
-    let lower =
-    rw (
-      int_is (rowid x) keyed.0,
-      int_is (rowid y) keyed.1.0,
-      value_cmp-Int (id_in (rowid x)) (id_in (rowid y)),
-    ) at up.0.0 in
-    let first = later.0 in
-    (lower_than (id_in (rowid x)) (id_in (rowid y)) _ lower first, later)
+    search (rules, int_is, x, keyed.0, keyed.1.0, value_cmp-Int, up.0.0, later.0, lower_than, later)
 
 still_below : (last a b : ℤ) → a <ℤ b → a <ℤ at_least (Above last) b
 still_below last a b h = grind (arith, ints, nat_tests)
@@ -170,8 +159,7 @@ counts_keep limit params db now counter top counts =
           bodies = ap (λ (t : Trees). t 2) same;
           members = ap (λ (t : Trees). t 3) same;
           meta = ap (λ (t : Trees). t 5) same;
-          audits =
-              ap (λ (t : Trees). t 7) same;
+          audits = search (rules, same);
         }
 
 abbrev note_terms : List Term
@@ -215,26 +203,21 @@ noted r old new count has h =
     let trees : done.0.trees ≡ counted.0 = ap (λ (it : Written). it.trees) wrote in
     let source : given.0 ≡ (Null ∷ Null ∷ record_values r) ∷ [] = given.1.1 in
     let news : (note_edit db last given.0).news ≡ stored_record seq (record_values r) ∷ [] =
-    ap (λ l. (note_edit db last l).news) source
-    ∙ ap (λ x. numbered (Above last) (db 7) (x ∷ [])) (cast_record r) in
+    grind (arith, nat_tests, db, last, source, cast_record, r) in
     let none = ap (works room_schema Enforced 0 7 []) news
     ∙ record_off (stored_record seq (record_values r)) in
     let applies = one_step room_schema Enforced db written.0
     (note_edit db last given.0) none written.1 in
     let kept = counts_keep old.step_limit params written.0 counted.0 counter.0 _ counted.1 in
-    let at : (tree : ℕ) → new.now.trees tree ≡ counted.0 tree = λ tree. ap
-    (λ (d : Database). d.trees tree) now ∙ ap (λ (t : Trees). t tree) trees in
+    let at : (tree : ℕ) → new.now.trees tree ≡ counted.0 tree = grind (arith, nat_tests, trees) in
     record {
       schema = ap (λ (d : Database). d.schema) now;
       sound = w.sound;
       seq = seq;
       nodes = at 0 ∙ kept.nodes ∙ applies.tables.0 (λ e. let e' : 0 ≡ 7 = e in omega (arith, e'));
-      bodies =
-          at 2 ∙ kept.bodies ∙ applies.tables.1.0 (λ e. let e' : 2 ≡ 7 = e in omega (arith, e'));
-      members =
-          at 3 ∙ kept.members ∙ applies.tables.1.1.0 (λ e. let e' : 3 ≡ 7 = e in omega (arith, e'));
-      meta =
-          at 5 ∙ kept.meta ∙ applies.tables.1.1.1.0 (λ e. let e' : 5 ≡ 7 = e in omega (arith, e'));
+      bodies = grind (arith, nat_tests, kept.bodies, applies.tables.1.0);
+      members = grind (arith, nat_tests, kept.members, applies.tables.1.1.0);
+      meta = grind (arith, nat_tests, kept.meta, applies.tables.1.1.1.0);
       audits = at 7 ∙ kept.audits ∙ applies.rows ∙ ap (put_all (db 7)) news;
       last = λ room. all_before last (db 7) room.audits.0 room.audits.1;
       shown = w.shown;
@@ -262,14 +245,5 @@ note_room r stored old new inside count h room =
             (IsShaped-put_row (stored_record d.seq (record_values r)) _ refl room.audits);
       },
       d.shown.mode ∙ inside,
-      (let added = notes r old new count room h in
-          record {
-            meta = added.meta;
-            more = _;
-            audits = added.audits;
-            records =
-                All-cons IsRecord (stored_record added.seq (record_values r)) []
-                (ap is_some (recalled added.seq stored.0 r stored.1)) (All-nil IsRecord);
-            texts = keeps_same _ _ added.nodes;
-          }),
+      search (rules, notes, recalled, keeps_same, stored, h, room, stored.0, stored.1),
     )

@@ -1,8 +1,7 @@
 -- What the rows mean once a record is put in.
 use Rattle.std.proofs.Common.{◌≡◌, ℕ, ℤ, pos, List, [], ◌∷◌, Some, refl, ap, Bool, true, false}
 use Rattle.std.proofs.{Common.arith, lemmas.List.Elements.filter_map-append}
-use Rattle.std.proofs.lemmas.Bool.Decides.{nat_tests}
-use Rattle.std.specs.Prelude.{option_map, if◌then◌else◌}
+use Rattle.std.{proofs.lemmas.Bool.Decides.nat_tests, specs.Prelude.{option_map, if◌then◌else◌}}
 use Rattle.sqlite.specs.{declared.types.Value.TheVariants.{Int, Text}, Effect.Database}
 use Rattle.room_entry.specs.Names.{is_name}
 use Rattle.room_rows.specs.declared.node.AuditRow.{AuditRow}

@@ -13,8 +13,7 @@ use Rattle.store_tables.specs.{Filed.{node_parts, number_is, unread_keyed}, Keye
 use Rattle.store_tables.specs.Meaning.{node_in, nodes_of, number_in, rows_of, unread_in, unread_of}
 use Rattle.store_tables.specs.{Meaning.unread_with, Seeing.numbers_seen, Shown.IsRoom}
 use Rattle.store_tables.specs.{Shown.{is_numbered, shown_node}, Statements.HasNumbers}
-use Rattle.store_tables.specs.Statements.{shown_number}
-use Rattle.store_tables.proofs.Named.{at_least_one}
+use Rattle.store_tables.{specs.Statements.shown_number, proofs.Named.at_least_one}
 
 abbrev number_of_row : Row → Option ℕ
 number_of_row r = number_in (rowid r)

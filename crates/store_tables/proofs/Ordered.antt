@@ -1,21 +1,19 @@
 -- The rows of a query over one table, in the order of one column or cut off after the first.
-use Rattle.std.proofs.Common.{◌≡◌, ℕ, List, [], ◌∷◌, map, filter, false, refl, ap, subst, ◌∙◌}
-use Rattle.std.proofs.Common.{Ordering, Less, is_gt, is_eq, IsPermutation, arith}
+use Rattle.std.proofs.Common.{rules, ◌≡◌, ℕ, List, [], ◌∷◌, map, filter, false, refl, ap, subst}
+use Rattle.std.proofs.Common.{◌∙◌, Ordering, Less, is_gt, is_eq, IsPermutation, arith}
 use Rattle.std.proofs.lemmas.{Bool.{cond-false, Decides.nat_tests}, List.Sorted.IsPermutation-map}
 use Rattle.std.specs.List.{AllByRecursion}
 use Rattle.sqlite.specs.{declared.types.Value.TheVariants.Null, Order.{Row, column, value_cmp}}
 use Rattle.sqlite.specs.{Query.{Query, Output, output, output_cmp, page, IsAnswerAs}, Term.Term}
 use Rattle.sqlite.specs.Tree.{Trees}
-use Rattle.sqlite_keyed.specs.Lists.{insert_sorted, sort_by}
-use Rattle.sqlite_keyed.proofs.ListLemmas.{map-map, ascending-map, ascending_weaker}
+use Rattle.sqlite_keyed.{specs.Lists.{insert_sorted, sort_by}, proofs.ListLemmas.map-map}
+use Rattle.sqlite_keyed.proofs.ListLemmas.{ascending-map, ascending_weaker}
 use Rattle.sqlite_keyed.proofs.SortLemmas.{sorted_is-sort_by, sort_by-map}
 use Rattle.sqlite_sql.proofs.QueryLemmas.{output_cmp_total}
 use Rattle.sqlite_trees.specs.Tree.{IsAscending}
-use Rattle.sqlite_value.specs.declared.keys.Key.{Key}
-use Rattle.sqlite_value.proofs.OrderLemmas.{then-Equal}
-use Rattle.store_tables.specs.Statements.{by_column}
-use Rattle.store_tables.proofs.{Answers.{each_way, passes, shows, way}, Texts.ascending_by}
-use Rattle.store_tables.proofs.Texts.{query_of}
+use Rattle.sqlite_value.{specs.declared.keys.Key.Key, proofs.OrderLemmas.then-Equal}
+use Rattle.store_tables.{specs.Statements.by_column, proofs.Answers.{each_way, passes, shows, way}}
+use Rattle.store_tables.proofs.Texts.{ascending_by, query_of}
 
 first_stays : {X : Type 0} (cmp : X → X → Ordering) (x : X) (xs : List X)
     → AllByRecursion (λ y. cmp x y ≡ Less) xs → insert_sorted cmp x xs ≡ x ∷ xs
@@ -54,12 +52,7 @@ module _ (tree : ℕ) (tests terms : List Term) (order : List (Term × Key)) (li
       × (rows ≡ page asked params all)
   cut =
       let all = IsPermutation-map (λ (o : Output). o.1) a.kept a.ordered a.same in
-      let from = ap
-      (map (λ (o : Output). o.1)) kept_are ∙ map-map (λ (o : Output). o.1) out kept in (
-        map (λ (o : Output). o.1) a.ordered,
-        subst (λ l. IsPermutation l (map (λ (o : Output). o.1) a.ordered)) from all,
-        a.shown,
-      )
+      search (rules, kept_are, map-map)
 
 -- no two are equal
 abbrev pub HasNoTies : {X : Type 0} → (X → X → Ordering) → List X → Type 0
@@ -91,8 +84,7 @@ module _ (tree place : ℕ) (tests terms : List Term) (limit : Term) (db : Trees
       → rows ≡ page question params (map (shows terms params) (sort_by (by_column place) passing))
   in_order apart =
       let apart' = ascending-map (λ x y. is_eq (output_cmp question x y) ≡ false) shown passing
-      (ascending_weaker _ (λ r s. is_eq (output_cmp question (shown r) (shown s)) ≡ false)
-      (λ r s h. ap is_eq (compared r s) ∙ h) passing apart) in
+      (search (rules, ascending_weaker, compared, apart)) in
       let ordered = sorted_is-sort_by (output_cmp question) (output_cmp_total question)
       (map shown passing) a.ordered apart'
       (subst (λ l. IsPermutation l a.ordered) passing_are a.same) a.sorted

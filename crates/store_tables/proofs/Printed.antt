@@ -1,9 +1,9 @@
 -- What a change of `nodes` leaves of the list columns: what they held, or printed entries.
-use Rattle.std.proofs.Common.{◌≡◌, ℕ, ℤ, ◌+◌, List, [], ◌∷◌, codes, drop, find, Bool, true, false}
+use Rattle.std.proofs.Common.{rules, ◌≡◌, ℕ, ℤ, ◌+◌, List, [], ◌∷◌, drop, find, Bool, true, false}
 use Rattle.std.proofs.Common.{map, Some, inl, inr, ◌⊎◌, refl, sym, ap, subst, ◌∙◌, if◌then◌else◌}
 use Rattle.std.proofs.{Common.arith, lemmas.Bool.{cases_Bool, cond-true, Decides.nat_tests}}
-use Rattle.std.proofs.lemmas.Grind.{get_or_after_one}
-use Rattle.std.specs.{Prelude.◌==◌, Ordering.match_ordering, declared.cmp.Ordering.Ordering}
+use Rattle.std.{proofs.lemmas.Grind.get_or_after_one, specs.{Prelude.◌==◌, Ordering.match_ordering}}
+use Rattle.std.specs.declared.cmp.Ordering.{Ordering}
 use Rattle.sqlite.specs.{declared.types.Value.{Value, TheVariants.{Null, Text}}, Cast.cast}
 use Rattle.sqlite.specs.{Order.{Row, column, value_cmp}, Tree.{rowid, has_rowid, without_rowid}}
 use Rattle.sqlite.specs.{Tree.put_row, Effect.Database}
@@ -60,7 +60,7 @@ next_typed at cs vs h = grind (arith, nat_tests)
 
 typed_alone : (b : Bool) (v : Value) → b ≡ false
     → (if b then is_null v else is_of kind.Text v) ≡ true → is_of kind.Text v ≡ true
-typed_alone true v e h = absurd (let x = e in cc)
+typed_alone true v e h = absurd (cc)
 typed_alone false v e h = h
 
 head_typed : (index : ℕ) (name : List ℕ) (cs : List Column) (vs : Row) → (0 == index) ≡ false
@@ -121,14 +121,10 @@ has_texts r h0 =
     let at11 : column r11 0 ≡ column r 11 = search (cell_at) in
     let at12 : column r12 0 ≡ column r 12 = search (cell_at) in
     record {
-      dacl_own = subst IsText at9 (head_typed 8 (codes "dacl_own") (drop 9 nodes.columns) r9
-          refl h8);
-      dacl_inh = subst IsText at10 (head_typed 9 (codes "dacl_inh") (drop 10 nodes.columns) r10
-          refl h9);
-      sacl_own = subst IsText at11 (head_typed 10 (codes "sacl_own") (drop 11 nodes.columns) r11
-          refl h10);
-      sacl_inh = subst IsText at12 (head_typed 11 (codes "sacl_inh") (drop 12 nodes.columns) r12
-          refl h11);
+      dacl_own = search (rules, at9, head_typed, r9, h8);
+      dacl_inh = search (rules, at10, head_typed, r10, h9);
+      sacl_own = search (rules, at11, head_typed, r11, h10);
+      sacl_inh = search (rules, at12, head_typed, r12, h11);
     }
 
 room_texts : (db : Database) → IsRoom db → (r : Row) → Has (db.trees 0) r → HasTexts r
@@ -194,8 +190,7 @@ pub keeps_more : (x : Row) (old rows : List Row) → KeepsPrinted old rows
     → HoldsPrinted (column x place) ⊎ HeldBefore old place x)
     → KeepsPrinted old (put_row x rows)
 keeps_more x old rows keeps new place list r there = elim (has_put x rows r there) [
-  | inl e ↦ subst (λ r. HoldsPrinted (column r place) ⊎ HeldBefore old place r) (sym e)
-      (new place list)
+  | inl e ↦ search (rules, e, new, list)
   | inr before ↦ keeps place list r before
 ]
 
@@ -228,8 +223,7 @@ keeps_each db room change writes first last place list x there =
           let is = from.2 ∙ cond-true (is_in_range first last r) written r within
           ∙ ap (λ v. v ∷ Null ∷ cast_all (drop 1 nodes.columns) (change r)) number in
           elim (writes (id_in (rowid r)) r (room_texts db room r from.1) place list) [
-            | inl printed ↦
-                inl (subst (λ (l : Row). HoldsPrinted (column l place)) (sym is) printed)
+            | inl printed ↦ search (rules, place, is, printed)
             | inr same ↦ grind (arith, nat_tests)
           ]
       | inr isnt ↦ grind (arith, nat_tests)

@@ -2,15 +2,13 @@
 use Rattle.std.proofs.Common.{◌≡◌, ◌<◌, ◌≤◌, ℕ, pos, List, [], ◌∷◌, map, filter, None, Some, Option}
 use Rattle.std.proofs.Common.{refl, sym, ap, ◌∙◌, true, false, Bool, cond, not, inl, inr, arith}
 use Rattle.std.proofs.lemmas.Bool.{cases_order, cond-true, ne_eqb, lt-ltb, ltb-true, and_parts}
-use Rattle.std.proofs.lemmas.Bool.Decides.{nat_tests}
-use Rattle.std.specs.{Prelude.{if◌then◌else◌, ◌==◌, nat_lt}, List.{filter_map, cons_option}}
-use Rattle.std.specs.{List.AllByRecursion, Ordering.match_ordering, declared.cmp.Ordering.Ordering}
-use Rattle.std.specs.declared.cmp.Ordering.TheVariants.{Less, Equal, Greater}
+use Rattle.std.{proofs.lemmas.Bool.Decides.nat_tests, specs.Prelude.{if◌then◌else◌, ◌==◌, nat_lt}}
+use Rattle.std.specs.{List.{filter_map, cons_option, AllByRecursion}, Ordering.match_ordering}
+use Rattle.std.specs.declared.cmp.Ordering.{Ordering, TheVariants.{Less, Equal, Greater}}
 use Rattle.sqlite.specs.{declared.types.Value.TheVariants.Int, Order.{Row, value_cmp}, Tree.rowid}
 use Rattle.sqlite.specs.Tree.{has_rowid, without_rowid, put_row, IsTable}
 use Rattle.sqlite_value.proofs.OrderLemmas.{value_cmp_total}
-use Rattle.room_rows.proofs.Lookups.{each-weaker}
-use Rattle.room_rows.specs.Content.{is_rising}
+use Rattle.room_rows.{proofs.Lookups.each-weaker, specs.Content.is_rising}
 use Rattle.store_tables.specs.Keyed.{below}
 
 abbrev pub IsOther : ℕ → Row → Type 0
@@ -77,7 +75,6 @@ module _ {X : Type 0} (key : X → ℕ) where
   put_again n (other ∷ others) k rises =
       let parts = and_parts (nat_lt k (key other))
       (is_rising ((key other) ∷ map key others)) rises in
-      let kept = λ (b : Bool) (l : List X). cond b (other ∷ l) l in
       elim (cases_order (key other) (key n)) [
         | inl same ↦ grind (arith, nat_tests, none_gone, put_first)
         | inr apart ↦ elim apart [

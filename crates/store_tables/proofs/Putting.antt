@@ -1,5 +1,5 @@
 -- Parts of a call that write, one after the other.
-use Rattle.std.proofs.Common.{◌≡◌, ◌++◌, ◌+◌, ℕ, suc, zero, List, [], ◌∷◌, Result, Ok, Err, refl}
+use Rattle.std.proofs.Common.{rules, ◌≡◌, ◌++◌, ◌+◌, ℕ, suc, zero, List, [], ◌∷◌, Result, Ok, Err}
 use Rattle.std.proofs.{Common.{◌∙◌, arith}, lemmas.Bool.Decides.nat_tests}
 use Rattle.std.specs.List.{range_with_len, Sorted.IsPermutation}
 use Rattle.sqlite.specs.State.{State}
@@ -7,7 +7,7 @@ use Rattle.room_rows.specs.declared.{keep.KeepFault.KeepFault, node.Node.Node}
 use Rattle.room_rows.proofs.Many.{IsOnce, in_any_order, none_changed, one_changed, then_changed}
 use Rattle.room_rows.proofs.SamePlace.{IsSamePlace}
 use Rattle.store_tables.specs.{Meaning.rows_of, RoomRows.room_rows, Trust.{Alters, AltersAll, Puts}}
-use Rattle.store_tables.specs.Trust.{stays_itself, stays_on, trusted_first, trusted_last}
+use Rattle.store_tables.specs.Trust.{stays_on, trusted_first, trusted_last}
 use Rattle.store_tables.proofs.{Changing.cause_later, Tests.if_ok}
 
 -- objects that are changed
@@ -19,14 +19,7 @@ PutsAll old new before after r ids change =
 -- none so far
 pub puts_none : (now : State) (failures : ℕ) (change : Node → Node)
     → PutsAll now now failures failures (Ok tt) [] change
-puts_none now failures change =
-    record {
-      stays = stays_itself now;
-      no_less = omega arith;
-      unfailed = refl;
-      fault = tt;
-      becomes = λ _. none_changed change (rows_of now.now);
-    }
+puts_none now failures change = search (rules, none_changed)
 
 -- some more after those so far
 pub puts_more : (change : Node → Node) → ((n : Node) → IsSamePlace (change n) n) → IsOnce change
@@ -76,9 +69,7 @@ puts_any_order change ids others old new before after r same put =
       unfailed = put.unfailed;
       fault = put.fault;
       becomes =
-          λ trust. if_ok r _ _
-          (λ x alters. in_any_order change ids others (rows_of old.now) (rows_of new.now) same
-          alters) (put.becomes trust);
+          λ trust. if_ok r _ _ (search (rules, in_any_order, same)) (put.becomes trust);
     }
 
 -- after a fault nothing is said of the objects

@@ -1,14 +1,12 @@
 -- The texts of the statements that write the rows of a range of numbers, computed.
 use Rattle.std.proofs.Common.{◌≡◌, ℕ, List, [], ◌∷◌, codes, refl}
 use Rattle.sqlite.specs.{declared.types.Value.TheVariants.Null, Listing.understood, Term.Term}
-use Rattle.sqlite.specs.Term.{lit, col, op2}
+use Rattle.sqlite.{specs.Term.{lit, col, op2}, proofs.Callers.{IsPlain, command_of}}
 use Rattle.sqlite_sql.specs.declared.ops.{BinaryOp.TheVariants.Compare, CompareOp.TheVariants.Ge}
 use Rattle.sqlite_sql.specs.declared.ops.CompareOp.TheVariants.{Le}
 use Rattle.sqlite_tied.specs.Compute.{everything}
 use Rattle.sqlite_value.specs.declared.keys.Collation.TheVariants.{Binary}
-use Rattle.sqlite.proofs.Callers.{IsPlain, command_of}
-use Rattle.store_tables.specs.Tables.{room_schema}
-use Rattle.store_tables.proofs.Texts.{updates_where}
+use Rattle.store_tables.{specs.Tables.room_schema, proofs.Texts.updates_where}
 
 -- the tests `id >= ?1` and `id <= ?2`
 abbrev pub range_tests : List Term

@@ -1,38 +1,33 @@
 -- What is left where the rows of a range of numbers are written by one statement.
-use Rattle.std.proofs.Common.{◌≡◌, ℕ, ℤ, List, [], ◌∷◌, Bool, true, false, not, length, map, filter}
-use Rattle.std.proofs.Common.{drop, Ok, IsTrue, inl, inr, refl, sym, ap, subst, ◌∙◌, arith}
+use Rattle.std.proofs.Common.{rules, ◌≡◌, ℕ, ℤ, List, [], ◌∷◌, Bool, true, false, not, length, map}
+use Rattle.std.proofs.Common.{filter, drop, Ok, IsTrue, inl, inr, refl, sym, ap, subst, ◌∙◌, arith}
 use Rattle.std.proofs.{Common.if◌then◌else◌, lemmas.Bool.{cases_Bool, cond-false, cond-true}}
 use Rattle.std.proofs.lemmas.{Bool.Decides.nat_tests, Cmp.tied_itself}
-use Rattle.std.proofs.lemmas.List.Sorted.{IsPermutation-sym}
-use Rattle.std.specs.{Prelude.◌==◌, List.{AllByRecursion, filter_map, flat_map, list_any}}
-use Rattle.std.specs.{List.Sorted.IsPermutation, Ordering.is_eq}
-use Rattle.std.specs.declared.cmp.Ordering.TheVariants.{Less}
+use Rattle.std.{proofs.lemmas.List.Sorted.IsPermutation-sym, specs.Prelude.◌==◌}
+use Rattle.std.specs.List.{AllByRecursion, filter_map, flat_map, list_any, Sorted.IsPermutation}
+use Rattle.std.specs.{Ordering.is_eq, declared.cmp.Ordering.TheVariants.Less}
 use Rattle.sqlite.specs.{declared.types.Value.TheVariants.{Null, Int}, Cast.cast_row, Edit.taken_by}
 use Rattle.sqlite.specs.{Effect.Database, Listing.understood, Order.{Row, value_cmp}, Rows.Edited}
 use Rattle.sqlite.specs.{State.{Executes, State}, Term.Term, Tree.{IsTable, Trees, has_rowid}}
-use Rattle.sqlite.specs.Tree.{rowid, without_rowid}
-use Rattle.sqlite.proofs.Callers.{IsPlain, command_of}
+use Rattle.sqlite.{specs.Tree.{rowid, without_rowid}, proofs.Callers.{IsPlain, command_of}}
 use Rattle.sqlite_keyed.proofs.ListLemmas.{ascending-map, ascending_weaker}
-use Rattle.sqlite_rules.specs.{Action.{Leads, deed_for, loses, pairs, work_by, works}, Calls.ids_of}
+use Rattle.sqlite_rules.specs.{Action.{deed_for, loses, pairs, work_by, works}, Calls.ids_of}
 use Rattle.sqlite_rules.specs.Edit.{are_fresh, id_in, left_by, put_all, row_at, without_all}
-use Rattle.sqlite_rules.specs.Lists.{Has}
-use Rattle.sqlite_rules.proofs.ListLemmas.{all_from, all_has, has_filtered, has_kept}
-use Rattle.sqlite_rules.proofs.PlaceLemmas.{given, left_or_taken, row_at_is}
+use Rattle.sqlite_rules.{specs.Lists.Has, proofs.ListLemmas.{all_from, all_has, has_filtered}}
+use Rattle.sqlite_rules.proofs.{ListLemmas.has_kept, PlaceLemmas.{given, left_or_taken, row_at_is}}
 use Rattle.sqlite_rules.proofs.{ProbeLemmas.{has_mapped, mapped_has}, TableLemmas.int_is}
 use Rattle.sqlite_rules.proofs.TableLemmas.{put_all_adds, put_all_has, put_all_keeps}
 use Rattle.sqlite_rules.proofs.TableLemmas.{without_all_has}
 use Rattle.sqlite_schema.specs.{Rules.parent_key, declared.schema.Keys.TheVariants.Enforced}
 use Rattle.sqlite_sql.specs.Ops.{binary}
 use Rattle.sqlite_tied.specs.Compute.{everything}
-use Rattle.sqlite_trees.specs.View.{IsShaped, is_int}
-use Rattle.sqlite_trees.proofs.{ListLemmas.all-permutation, TreeLemmas.IsShaped-filter}
-use Rattle.sqlite_trees.proofs.TreeLemmas.{IsTable-put_row}
-use Rattle.sqlite_value.specs.Keys.{plain}
-use Rattle.sqlite_value.proofs.OrderLemmas.{value_cmp_total}
+use Rattle.sqlite_trees.{specs.View.{IsShaped, is_int}, proofs.ListLemmas.all-permutation}
+use Rattle.sqlite_trees.proofs.TreeLemmas.{IsShaped-filter, IsTable-put_row}
+use Rattle.sqlite_value.{specs.Keys.plain, proofs.OrderLemmas.value_cmp_total}
 use Rattle.room_entry.proofs.Facts.Lists.{filter_same}
 use Rattle.store_tables.specs.{Printed.KeepsPrinted, Shown.{IsRoom, RecastsAll, is_in_range}}
-use Rattle.store_tables.specs.{Shown.recast_in, Tables.room_schema}
-use Rattle.store_tables.proofs.{Actions.ends, Answers.shows, Calls.retains_by, Executed.WritesRoom}
+use Rattle.store_tables.{specs.{Shown.recast_in, Tables.room_schema}, proofs.Actions.ends}
+use Rattle.store_tables.proofs.{Answers.shows, Calls.retains_by, Executed.WritesRoom}
 use Rattle.store_tables.proofs.{Printed.{WritesPrinted, keeps_each}, RangeTexts.range_tests}
 use Rattle.store_tables.proofs.{Recast.{Rewritten, cast_head, recast, rewritten}, Rowids.cells_of}
 use Rattle.store_tables.proofs.{Rowids.{has_itself, of_each}, Tests.passes_range}
@@ -90,7 +85,7 @@ put_table [] rows up = up
 put_table (r ∷ news) rows up = put_table news _ (IsTable-put_row r rows up)
 
 not_gone : (id : ℤ) (x : Row) → has_rowid id x ≡ true → not (has_rowid id x) ≡ true → ⊥
-not_gone id x is isnt = absurd (let e = sym isnt ∙ ap not is in cc)
+not_gone id x is isnt = absurd (cc)
 
 -- a row that was taken out isn't left
 gone_all : (ids : List ℤ) (rows : List Row) (x : Row) (id : ℤ) → Has ids id
@@ -166,8 +161,7 @@ module _ (change : Row → Row) (first last : ℤ) (terms : List Term) (params :
   source : (x : Row) → Has rows x → (r : Row) × Shows r x
   source x there =
       let from = has_mapped (shows terms params) inside x (has_again _ rows x found there) in
-      let kept = has_filtered (is_in_range first last) (db 0) from.0 from.1 in
-      (from.0, subst (Shows from.0) (sym from.2) (shown from.0 kept.0 kept.1))
+      search (rules, has_filtered, from.0, from.1, from.2, shown)
 
   answered : (r : Row) → Has (db 0) r → is_in_range first last r ≡ true
       → Has rows (shows terms params r)
@@ -216,7 +210,7 @@ module _ (change : Row → Row) (first last : ℤ) (terms : List Term) (params :
   stays r isnt = cond-false (is_in_range first last r) (rowid r ∷ Null ∷ recast (change r)) r isnt
 
   apart : (b : Bool) → b ≡ true → b ≡ false → ⊥
-  apart b is isnt = absurd (let e = sym is ∙ isnt in cc)
+  apart b is isnt = absurd (cc)
 
   in_edited : (x : Row) → Has (put_all (left_by db (update_edit db rows)) (map new_of rows)) x
       → Has (map to_row (db 0)) x
@@ -258,39 +252,31 @@ module _ (change : Row → Row) (first last : ℤ) (terms : List Term) (params :
             subst (Has (put_all (left_by db (update_edit db rows)) (map new_of rows)))
             (sym (from.2 ∙ stays r isnt))
             (elim (left_or_taken (db 0) (ids_of rows) r nodes.0 from.1) [
-              | inl old ↦
-                  put_all_keeps (map new_of rows) (left_by db (update_edit db rows)) r fresh old
+              | inl old ↦ search (rules, put_all_keeps, fresh, old)
               | inr taken ↦
                   let at = has_mapped (row_at (db 0)) (ids_of rows) r taken in
                   let by = has_mapped (λ y. id_in (rowid y)) rows at.0 at.1 in
                   let it = source by.0 by.1 in
                   let same : r ≡ it.0 = at.2 ∙ ap (row_at (db 0)) by.2 ∙ old_is it.0 by.0 it.1 in
-                  absurd (apart (is_in_range first last r)
-                  (ap (is_in_range first last) same ∙ it.1.within) isnt)
+                  search (rules, apart, r, same, it.1.within, isnt)
             ])
       ]
 
   edited_is : are_fresh (left_by db (update_edit db rows)) (map new_of rows) ≡ true
       → put_all (left_by db (update_edit db rows)) (map new_of rows) ≡ map to_row (db 0)
   edited_is fresh =
-      same_rows _ _ (put_table (map new_of rows) _ (left_shaped (ids_of rows) (db 0) nodes).0)
-      (mapped_shaped change first last (db 0) nodes).0 in_edited (is_edited fresh)
+      search (rules, same_rows, put_table, left_shaped, mapped_shaped, in_edited, is_edited, fresh)
 
   pub all_recast : Edited room_schema Enforced db (update_edit db rows) (Ok next)
       → RecastsAll change first last db next
-  all_recast (inl refused) = absurd (let e = refused.2 in cc)
-  all_recast (inr (inl big)) = absurd (let e = big.3 in cc)
+  all_recast (inl refused) = absurd (cc)
+  all_recast (inr (inl big)) = absurd (cc)
   all_recast (inr (inr went)) =
       let start = went.0 in
-      let other = went.1.tables in
       let work = ap (works room_schema Enforced 0 0 (taken_by db (update_edit db rows))) news_are
       ∙ spares (length (map new_of rows) == 0) (map (row_at (db 0)) (ids_of rows))
       (map new_of rows) (none_lost rows source) in
-      let led = subst (λ stack. Leads room_schema Enforced went.2.0 start stack (Ok next)) work
-      went.2.1 in
-      let same : start ≡ next = ends went.2.0 start next led in
-      let at : (tree : ℕ) → next tree ≡ start tree = λ tree. cc (same) in
-      grind (arith, nat_tests, edited_is, news_are, update_edit)
+      search (rules, went.2.0, start, work, went.2.1, ends, edited_is, news_are, update_edit)
 
 -- ---- the statement
 

@@ -1,18 +1,16 @@
 -- What is left where some cells of a row are written by its number, and the others as they are.
-use Rattle.std.proofs.Common.{◌≡◌, ℕ, ℤ, List, [], ◌∷◌, length, map, filter, find, drop, Ok, None}
-use Rattle.std.proofs.Common.{Some, IsTrue, inl, inr, ◌⊎◌, refl, sym, ap, subst, ◌∙◌, not}
-use Rattle.std.proofs.{Common.{if◌then◌else◌, unwrap_or, arith}, lemmas.Option.same_Some}
-use Rattle.std.proofs.lemmas.Bool.Decides.{nat_tests}
-use Rattle.std.specs.List.Sorted.{IsPermutation}
+use Rattle.std.proofs.Common.{rules, ◌≡◌, ℕ, ℤ, List, [], ◌∷◌, length, map, filter, find, drop, Ok}
+use Rattle.std.proofs.Common.{None, Some, IsTrue, inl, inr, ◌⊎◌, refl, sym, ap, subst, ◌∙◌, not}
+use Rattle.std.proofs.{Common.{if◌then◌else◌, arith}, lemmas.Option.same_Some}
+use Rattle.std.{proofs.lemmas.Bool.Decides.nat_tests, specs.List.Sorted.IsPermutation}
 use Rattle.sqlite.specs.{declared.types.Value.TheVariants.{Null, Int}, Order.Row, Program.overlay}
-use Rattle.sqlite.specs.{Cast.cast_row, Term.Term, Tree.{Trees, rowid, has_rowid}, Does.Tally}
-use Rattle.sqlite.specs.{Does.Does, Rows.{Edited, Written}, Effect.{Database, IsDatabase}}
-use Rattle.sqlite.specs.{Listing.understood, State.{State, mode_of, Executes, Shows}}
-use Rattle.sqlite.proofs.Callers.{IsPlain, command_of, runs_as, statement_of, one_permutation}
+use Rattle.sqlite.specs.{Cast.cast_row, Term.Term, Tree.{Trees, rowid, has_rowid}, Does.Does}
+use Rattle.sqlite.specs.{Rows.Edited, Effect.{Database, IsDatabase}, Listing.understood}
+use Rattle.sqlite.{specs.State.{State, mode_of, Executes, Shows}, proofs.Callers.IsPlain}
+use Rattle.sqlite.proofs.Callers.{command_of, runs_as, statement_of, one_permutation}
 use Rattle.sqlite_rules.specs.Cast.{cast_all}
 use Rattle.sqlite_schema.specs.declared.schema.Keys.TheVariants.{Enforced}
-use Rattle.sqlite_trees.specs.View.{IsShaped}
-use Rattle.sqlite_trees.proofs.TreeLemmas.{IsShaped-filter, IsShaped-put_row}
+use Rattle.sqlite_trees.{specs.View.IsShaped, proofs.TreeLemmas.{IsShaped-filter, IsShaped-put_row}}
 use Rattle.store_tables.specs.{Tables.{nodes, room_schema}, Shown.{IsRoom, KeepsAll, Recasts}}
 use Rattle.store_tables.specs.{Shown.{Replaces, stored_node}, Printed.KeepsPrinted}
 use Rattle.store_tables.proofs.Texts.{matches_parameter, updates_nodes, updates_where}
@@ -68,8 +66,7 @@ rewritten sql tests terms is plain params old new count has h =
       trees = did.0;
       rows = (update_edit old.now.trees asked.0).news;
       last = None;
-    } =
-    same_value did.2 in
+    } = search (rules, same_value, did.2) in
     record {
       rows = asked.0;
       found =
@@ -77,18 +74,10 @@ rewritten sql tests terms is plain params old new count has h =
           (asked.1.answer Null);
       next = did.0;
       edited = did.1;
-      now =
-          ap (λ (p : Tally × Database). p.1) last
-          ∙ ap
-          (λ (it : Written). let db : Database = record {
-            schema = room_schema;
-            trees = it.trees;
-          } in db) wrote;
+      now = grind (arith, nat_tests, last, wrote);
       sound = w.sound;
       shown = w.shown;
-      counted =
-          w.counted ∙ ap (λ (p : Tally × Database). unwrap_or p.0.rows 0) last
-          ∙ ap (λ (it : Written). length it.rows) wrote;
+      counted = grind (arith, nat_tests, w.counted, last, wrote);
     }
 
 module _ (id : ℤ) (db next : Trees) (rows : List Row) where
@@ -96,15 +85,15 @@ module _ (id : ℤ) (db next : Trees) (rows : List Row) where
       → find (has_rowid id) (db 0) ≡ Some (Int id ∷ old)
       → Edited room_schema Enforced db (update_edit db rows) (Ok next)
       → Replaces id (recast cells) db next
-  one_recast cells old one there (inl refused) = absurd (let e = refused.2 in cc)
-  one_recast cells old one there (inr (inl big)) = absurd (let e = big.3 in cc)
+  one_recast cells old one there (inl refused) = absurd (cc)
+  one_recast cells old one there (inr (inl big)) = absurd (cc)
   one_recast cells old one there (inr (inr went)) =
       grind (arith, nat_tests, cast_head, ends, keeps_number, update_edit, went)
 
   none_recast : rows ≡ [] → Edited room_schema Enforced db (update_edit db rows) (Ok next)
       → KeepsAll db next
-  none_recast none (inl refused) = absurd (let e = refused.2 in cc)
-  none_recast none (inr (inl big)) = absurd (let e = big.3 in cc)
+  none_recast none (inl refused) = absurd (cc)
+  none_recast none (inr (inl big)) = absurd (cc)
   none_recast none (inr (inr went)) =
       grind (arith, nat_tests, ends, sets_off_none, update_edit, went)
 
@@ -142,10 +131,7 @@ did terms id given change gives old new count room d =
         (subst (λ l. IsPermutation (map (shows terms (Int id ∷ given)) l) d.rows) none found)
         in
         let same = none_recast id old.now.trees d.next d.rows rows d.edited in
-        inl (
-          d.counted ∙ ap (λ l. length (update_edit old.now.trees l).news) rows,
-          subst (KeepsAll old.now.trees) (sym now) same,
-        )
+        inl (search (rules, d.counted, old.now.trees, rows, now, same))
     go (inr (r, one)) =
         let there = only_one (has_rowid id) (old.now.trees 0) r one in
         let is = rowid_is id r
@@ -207,11 +193,7 @@ module _ (text : List ℕ) (terms : List Term)
       → Recasts change id old.now.trees new.now.trees
   recast_one old new count room h one =
       elim (did terms id given change gives old new count room
-      (rewritten text (matches_parameter 0 0 ∷ []) terms is plain (Int id ∷ given) old new count
-      room.schema h)) [
+      (search (rules, rewritten, old, new, room.schema, h))) [
         | inl same ↦ absurd (let e : 0 ≡ 1 = sym same.0 ∙ one in omega (arith, e))
-        | inr put ↦
-            λ r there. subst (λ (x : Row). Replaces id
-            (recast (change x)) old.now.trees new.now.trees)
-            (same_Some put.0 r (sym put.1 ∙ there)) put.2
+        | inr put ↦ search (rules, old.now.trees, new.now.trees, same_Some, put.0, put.1, put.2)
       ]

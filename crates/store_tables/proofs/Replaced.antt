@@ -1,15 +1,14 @@
 -- What the rows mean once the row of an object is written anew.
-use Rattle.std.proofs.Common.{◌≡◌, ℕ, pos, List, [], ◌∷◌, filter, None, Some, Option, refl, sym, ap}
-use Rattle.std.proofs.{Common.{subst, ◌∙◌, not, arith}, lemmas.Bool.Decides.nat_tests}
-use Rattle.std.specs.{Prelude.◌==◌, List.{filter_map, AllByRecursion}}
+use Rattle.std.proofs.Common.{rules, ◌≡◌, ℕ, pos, List, [], ◌∷◌, filter, None, Some, Option, refl}
+use Rattle.std.proofs.{Common.{sym, ap, subst, ◌∙◌, not, arith}, lemmas.Bool.Decides.nat_tests}
+use Rattle.std.specs.{Prelude.◌==◌, List.AllByRecursion}
 use Rattle.sqlite.specs.{Order.Row, Tree.{has_rowid, without_rowid, IsTable}, Effect.Database}
 use Rattle.room_rows.specs.{declared.node.Node.Node, Content.{node_at, put_node, with_node}}
 use Rattle.room_rows.specs.{Keep.with_content, Rows.Unread}
 use Rattle.sqlite_trees.proofs.TreeLemmas.{IsShaped-filter}
 use Rattle.store_tables.specs.{Shown.{Replaces, IsRoom, shown_node, stored_node}, Meaning.node_in}
-use Rattle.store_tables.specs.Meaning.{unread_in, audit_in, nodes_of, unread_of, bodies_of}
-use Rattle.store_tables.specs.{Meaning.{pairs_of, rows_of}, Filed.{node_keyed, unread_keyed}}
-use Rattle.store_tables.specs.Filed.{nodes_rise}
+use Rattle.store_tables.specs.{Meaning.{unread_in, nodes_of, unread_of, rows_of}, Filed.node_keyed}
+use Rattle.store_tables.specs.Filed.{unread_keyed, nodes_rise}
 use Rattle.store_tables.proofs.Put.{IsOther, others, put_again, put_by, put_seen, unseen}
 use Rattle.store_tables.proofs.Removed.{read_without, none_missed, readable, same_rows}
 use Rattle.sqlite_trees.specs.declared.store.Shape.TheVariants as Shape
@@ -48,5 +47,4 @@ replaced_rows db next id values before n room there seen is put =
     ∙ read_without unread_in (λ (u : Unread). u.id) unread_keyed id (db.trees 0)
     ∙ none_missed (λ (u : Unread). u.id) id (unread_of (db.trees 0))
     (readable db id before room.nodes.0 there) in
-    same_rows nodes unread (ap bodies_of put.bodies) (ap pairs_of put.members)
-    (ap (filter_map audit_in) put.audits)
+    search (rules, same_rows, nodes, unread, put.bodies, put.members, put.audits)

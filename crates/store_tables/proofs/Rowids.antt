@@ -3,14 +3,13 @@ use Rattle.std.proofs.Common.{◌≡◌, ◌<◌, ℕ, ℤ, pos, to_z, of_z, w64
 use Rattle.std.proofs.Common.{Some, IsTrue, inl, inr, ◌⊎◌, refl, sym, ap, subst, ◌∙◌, true, false}
 use Rattle.std.proofs.{Common.{Bool, cond, find, arith, drop}, Math.Facts.to_z-of_z}
 use Rattle.std.proofs.lemmas.{List.Sorted.length_permutation, Cmp.tied_itself}
-use Rattle.std.proofs.lemmas.Bool.Decides.{nat_tests}
-use Rattle.std.specs.{Prelude.FitsSigned, Ordering.{is_eq, is_lt}, List.AllByRecursion}
-use Rattle.std.specs.{List.Sorted.IsPermutation, FinMap.int_cmp-IsAntisymmetric}
-use Rattle.std.specs.declared.cmp.Ordering.{Ordering, TheVariants.Equal}
+use Rattle.std.{proofs.lemmas.Bool.Decides.nat_tests, specs.{Prelude.FitsSigned, Ordering.is_eq}}
+use Rattle.std.specs.{Ordering.is_lt, List.{AllByRecursion, Sorted.IsPermutation}}
+use Rattle.std.specs.{FinMap.int_cmp-IsAntisymmetric, declared.cmp.Ordering.Ordering}
+use Rattle.std.specs.declared.cmp.Ordering.TheVariants.{Equal}
 use Rattle.sqlite.specs.{declared.types.Value.{Value, TheVariants.{Null, Int}}, Order.Row}
 use Rattle.sqlite.specs.{Order.value_cmp, Tree.{rowid, has_rowid, without_rowid, IsTable}}
-use Rattle.sqlite_trees.proofs.TreeLemmas.{later_rowids}
-use Rattle.sqlite_trees.specs.View.{is_int}
+use Rattle.sqlite_trees.{proofs.TreeLemmas.later_rowids, specs.View.is_int}
 use Rattle.sqlite_value.proofs.OrderLemmas.{value_cmp-Int, value_cmp_total}
 use Rattle.sqlite_rules.specs.Lists.{Has}
 
@@ -50,7 +49,7 @@ first_step p y ys x more b is later e = grind (arith, nat_tests)
 -- the first of the rows that pass a test is the one that `find` gives, and it passes
 pub first_one : {A : Type 0} (p : A → Bool) (xs : List A) (x : A) (more : List A)
     → filter p xs ≡ x ∷ more → (find p xs ≡ Some x) × (p x ≡ true)
-first_one p [] x more h = absurd (let e = h in cc)
+first_one p [] x more h = absurd (cc)
 first_one p (y ∷ ys) x more h = first_step p y ys x more (p y) refl (first_one p ys x more) h
 
 -- where just one row passes a test, `find` gives it, and it passes
@@ -80,17 +79,17 @@ of_each P [] all x there = absurd there
 -- of two steps that wait, the last is taken off the stack and the first still waits
 pub pop_two : {A : Type 0} (a b : A) (below : List A) (w : A) → a ∷ b ∷ [] ≡ below ++ w ∷ []
     → (below ≡ a ∷ []) × (w ≡ b)
-pop_two a b [] w h = absurd (let e = h in cc)
-pop_two a b (x ∷ []) w h = (let e = h in cc, let e = h in cc)
-pop_two a b (x ∷ y ∷ []) w h = absurd (let e = h in cc)
-pop_two a b (x ∷ y ∷ z ∷ more) w h = absurd (let e = h in cc)
+pop_two a b [] w h = absurd (cc)
+pop_two a b (x ∷ []) w h = (cc, cc)
+pop_two a b (x ∷ y ∷ []) w h = absurd (cc)
+pop_two a b (x ∷ y ∷ z ∷ more) w h = absurd (cc)
 
 -- of one step that waits, it is taken off the stack and nothing waits any more
 pub pop_one : {A : Type 0} (a : A) (below : List A) (w : A) → a ∷ [] ≡ below ++ w ∷ []
     → (below ≡ []) × (w ≡ a)
-pop_one a [] w h = (refl, let e = h in cc)
-pop_one a (x ∷ []) w h = absurd (let e = h in cc)
-pop_one a (x ∷ y ∷ more) w h = absurd (let e = h in cc)
+pop_one a [] w h = (refl, cc)
+pop_one a (x ∷ []) w h = absurd (cc)
+pop_one a (x ∷ y ∷ more) w h = absurd (cc)
 
 none_pass : {A : Type 0} (p : A → Bool) (xs : List A) → AllByRecursion (λ x. p x ≡ false) xs
     → filter p xs ≡ []
@@ -120,12 +119,12 @@ at_most_one id (r ∷ rows) table = go (has_rowid id r) refl (at_most_one id row
 
 -- a row that `find` gives stands in the list that was searched
 pub has_found : {A : Type 0} (p : A → Bool) (xs : List A) (x : A) → find p xs ≡ Some x → Has xs x
-has_found p [] x h = absurd (let e = h in cc)
+has_found p [] x h = absurd (cc)
 has_found p (y ∷ ys) x h = grind (arith, nat_tests, has_found p ys x)
 
 -- a row whose rowid is known is that number and, after it, its other cells
 pub cells_of : (id : ℤ) (r : Row) → rowid r ≡ Int id → r ≡ Int id ∷ drop 1 r
-cells_of id [] h = absurd (let e = h in cc)
+cells_of id [] h = absurd (cc)
 cells_of id (v ∷ cells) h = ap (λ x. x ∷ cells) h
 
 -- an answer that has the rows of an empty list, in whatever order, is empty

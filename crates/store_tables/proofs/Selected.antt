@@ -1,26 +1,25 @@
 -- What each query of the keeper shows of the tables.
-use Rattle.std.proofs.Common.{◌≡◌, ℕ, ℤ, pos, negsuc, List, [], ◌∷◌, map, take, codes, ap, subst}
-use Rattle.std.proofs.Common.{sym, ◌∙◌, Less, IsPermutation}
+use Rattle.std.proofs.Common.{arith, ◌≡◌, ℕ, ℤ, pos, negsuc, List, [], ◌∷◌, map, take, codes, ap}
+use Rattle.std.proofs.Common.{subst, sym, ◌∙◌, Less, IsPermutation}
 use Rattle.sqlite.specs.{declared.types.Value.TheVariants.{Null, Int, Text}, Order.{Row, value_cmp}}
 use Rattle.sqlite.specs.{Program.overlay, State.{State, Shown}, Term.{col, lit}, Tree.rowid}
 use Rattle.sqlite.proofs.Callers.{reads_as}
-use Rattle.sqlite_keyed.specs.Lists.{sort_by}
-use Rattle.sqlite_keyed.proofs.ListLemmas.{ascending-filter}
+use Rattle.sqlite_keyed.{specs.Lists.sort_by, proofs.ListLemmas.ascending-filter}
 use Rattle.store_tables.specs.Shown.{IsRoom, is_child, is_user_row, shown_node}
 use Rattle.store_tables.specs.Statements.{HasBytes, HasChild, HasGroups, HasNames, HasNode}
 use Rattle.store_tables.specs.Statements.{HasNumbers, HasSome, HasTop, HasUnder, by_column}
 use Rattle.store_tables.specs.Statements.{shown_bytes, shown_group, shown_name, shown_number}
-use Rattle.store_tables.specs.Tables.{room_schema}
-use Rattle.store_tables.proofs.{Answers.passes, Calls.selects_rows, Ordered.{HasNoTies, as_stored}}
-use Rattle.store_tables.proofs.{Ordered.{cut, in_order}, Apart.{children_apart, members_apart}}
-use Rattle.store_tables.proofs.Tests.{passes_child, passes_child_named, passes_id, passes_numbered}
-use Rattle.store_tables.proofs.{Tests.{passes_top, passes_user}, Texts.{all_columns, body_is}}
-use Rattle.store_tables.proofs.Texts.{body_text, child_is, child_text, children_is, children_query}
-use Rattle.store_tables.proofs.Texts.{children_text, groups_is, groups_query, groups_text, ids_is}
-use Rattle.store_tables.proofs.Texts.{ids_query, ids_text, is_kept, matches_parameter, name_columns}
-use Rattle.store_tables.proofs.Texts.{name_query, names, names_are, names_text, node_is, node_text}
-use Rattle.store_tables.proofs.Texts.{plain_names, plain_some, plain_texts, root_is, root_query}
-use Rattle.store_tables.proofs.Texts.{root_text, selects, some_is, some_query, some_text, top_tests}
+use Rattle.store_tables.{specs.Tables.room_schema, proofs.{Answers.passes, Calls.selects_rows}}
+use Rattle.store_tables.proofs.{Ordered.{HasNoTies, as_stored, cut, in_order}, Apart.children_apart}
+use Rattle.store_tables.proofs.{Apart.members_apart, Tests.{passes_child, passes_child_named}}
+use Rattle.store_tables.proofs.Tests.{passes_id, passes_numbered, passes_top, passes_user}
+use Rattle.store_tables.proofs.Texts.{all_columns, body_is, body_text, child_is, child_text}
+use Rattle.store_tables.proofs.Texts.{children_is, children_query, children_text, groups_is}
+use Rattle.store_tables.proofs.Texts.{groups_query, groups_text, ids_is, ids_query, ids_text}
+use Rattle.store_tables.proofs.Texts.{is_kept, matches_parameter, name_columns, name_query, names}
+use Rattle.store_tables.proofs.Texts.{names_are, names_text, node_is, node_text, plain_names}
+use Rattle.store_tables.proofs.Texts.{plain_some, plain_texts, root_is, root_query, root_text}
+use Rattle.store_tables.proofs.Texts.{selects, some_is, some_query, some_text, top_tests}
 use Rattle.room_entry.proofs.Facts.Lists.{filter_same}
 
 module _ (old new : State) (rows : List Row) (room : IsRoom old.now) where
@@ -58,8 +57,7 @@ module _ (old new : State) (rows : List Row) (room : IsRoom old.now) where
       let it = cut 0 (matches_parameter 2 0 ∷ is_kept ∷ []) (col 1 0 ∷ []) [] (lit (Int (pos 1)))
       (overlay old.now.trees []) (Int parent ∷ []) rows (read.answer Null) in (
         it.0,
-        subst (λ l. IsPermutation (map shown_number l) it.0)
-            (filter_same _ _ (passes_child parent) (old.now.trees 0)) it.1,
+        grind (arith, it.0, filter_same, passes_child, it.1),
         it.2,
       )
 
@@ -93,8 +91,7 @@ module _ (old new : State) (rows : List Row) (room : IsRoom old.now) where
       let same = filter_same (passes tests params) (is_child parent) (passes_child parent)
       (old.now.trees 0) in
       in_order 0 3 tests all_columns (lit (Int (negsuc 0))) (overlay old.now.trees []) params rows
-      (read.answer Null) (subst (HasNoTies (by_column 3)) (sym same)
-      (children_apart old.now room parent))
+      (read.answer Null) (grind (arith, children_apart, room))
       ∙ ap (λ l. map shown_node (sort_by (by_column 3) l)) same
 
   pub shows_names : (parent : ℤ) → Shown names_text (Int parent ∷ []) old new rows
@@ -108,8 +105,7 @@ module _ (old new : State) (rows : List Row) (room : IsRoom old.now) where
       let same = filter_same (passes tests params) (is_child parent) (passes_child parent)
       (old.now.trees 0) in
       in_order 0 3 tests name_columns (lit (Int (negsuc 0))) (overlay old.now.trees []) params rows
-      (read.answer Null) (subst (HasNoTies (by_column 3)) (sym same)
-      (children_apart old.now room parent))
+      (read.answer Null) (grind (arith, children_apart, room))
       ∙ ap (λ l. map shown_name (sort_by (by_column 3) l)) same
 
   pub shows_groups : (user : List ℕ) → Shown groups_text (Text user ∷ []) old new rows

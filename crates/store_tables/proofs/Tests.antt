@@ -11,9 +11,8 @@ use Rattle.sqlite_sql.specs.declared.ops.CompareOp.TheVariants.{Eq, Ge, Le}
 use Rattle.sqlite_value.specs.declared.keys.Collation.TheVariants.{Binary}
 use Rattle.sqlite_value.proofs.OrderLemmas.{value_cmp-Null}
 use Rattle.store_tables.specs.Shown.{is_numbered, is_child, is_child_named, is_in_range, is_top}
-use Rattle.store_tables.specs.Shown.{is_user_row}
-use Rattle.store_tables.proofs.Texts.{matches_parameter, is_kept, top_tests}
-use Rattle.store_tables.proofs.{RangeTexts.range_tests, Answers.passes}
+use Rattle.store_tables.{specs.Shown.is_user_row, proofs.Texts.{matches_parameter, is_kept}}
+use Rattle.store_tables.proofs.{Texts.top_tests, RangeTexts.range_tests, Answers.passes}
 
 -- from what is known of the value of a result, if it is Ok, to what follows from it
 pub if_ok : {A E : Type 0} (r : Result A E) (P Q : A → Type 0) → ((a : A) → P a → Q a) → IfOk r P

@@ -3,15 +3,14 @@ use Rattle.sqlite.specs.{declared.types.Value.TheVariants.{Null, Int}, Command.C
 use Rattle.sqlite.specs.Command.TheVariants.{Insert, Update, Delete, Select}
 use Rattle.sqlite.specs.{Source.TheVariants.Values, Listing.{understood, reads_listing}}
 use Rattle.sqlite.specs.{Query.{Query, inner, end}, Term.{Term, lit, col, op2}}
+use Rattle.sqlite.proofs.Callers.{IsPlain, command_of}
 use Rattle.sqlite_value.specs.declared.keys.{Key.Key, Collation.TheVariants.Binary}
 use Rattle.sqlite_value.specs.Keys.{ascending}
 use Rattle.sqlite_tied.specs.Compute.{everything}
 use Rattle.sqlite_sql.specs.declared.ops.BinaryOp.TheVariants.{Compare, Is}
 use Rattle.sqlite_sql.specs.declared.ops.CompareOp.TheVariants.{Eq, Ge}
-use Rattle.sqlite.proofs.Callers.{IsPlain, command_of}
 use Rattle.sqlite_resolve.specs.Compile.{first, returning}
-use Rattle.store_tables.specs.Tables.{room_schema}
-use Rattle.store_tables.proofs.Bare.{LacksReturning}
+use Rattle.store_tables.{specs.Tables.room_schema, proofs.Bare.LacksReturning}
 
 -- ---- the statements
 

@@ -3,13 +3,11 @@ use Rattle.std.proofs.Common.{◌≡◌, ℕ, pos, drop, Some, inl, refl, ap, su
 use Rattle.std.proofs.lemmas.Bool.{and_parts, Decides.nat_tests}
 use Rattle.sqlite.specs.{declared.types.Value.{Value, TheVariants.{Null, Int}}, Effect.Database}
 use Rattle.sqlite.specs.Order.{Row, column, value_cmp}
-use Rattle.sqlite_rules.specs.Lists.{Has}
-use Rattle.sqlite_rules.proofs.RuleLemmas.{keeps_at}
+use Rattle.sqlite_rules.{specs.Lists.Has, proofs.RuleLemmas.keeps_at}
 use Rattle.sqlite_schema.specs.Rules.{are_typed, is_of}
 use Rattle.sqlite_schema.specs.declared.schema.Constraint.TheVariants.{Datatype}
 use Rattle.sqlite_value.proofs.OrderLemmas.{value_cmp-Null}
-use Rattle.store_tables.specs.{Shown.IsRoom, Tables.{nodes, room_schema}}
-use Rattle.store_tables.proofs.Rowids.{same_int}
+use Rattle.store_tables.{specs.{Shown.IsRoom, Tables.{nodes, room_schema}}, proofs.Rowids.same_int}
 use Rattle.sqlite.specs.Kind.TheVariants as kind
 
 is_nodes : Has room_schema.tables (record nodes { tree = 0 })
@@ -33,7 +31,7 @@ same_whole : (v : Value) (n : ℕ) → is_of kind.Integer v ≡ true
     → is_eq (value_cmp v (Int (pos n))) ≡ true → v ≡ Int (pos n)
 same_whole Null n typed same = grind (arith, nat_tests, value_cmp-Null)
 same_whole (Int z) n typed same = ap Int (same_int z (pos n) same)
-same_whole _ n typed same = absurd (let e = typed in cc)
+same_whole _ n typed same = absurd (cc)
 
 -- a parent that equals a number is that number
 pub parent_whole : (db : Database) → IsRoom db → (r : Row) → Has (db.trees 0) r → (n : ℕ)

@@ -1,7 +1,7 @@
 -- What the rows of one parent, in order of name, are read as.
-use Rattle.std.proofs.Common.{◌≡◌, ℕ, pos, List, [], ◌∷◌, ◌++◌, map, filter, None, Some, Option}
-use Rattle.std.proofs.Common.{Result, refl, sym, ap, ◌∙◌, true, false, Bool, cond, append-nil}
-use Rattle.std.proofs.Common.{append_assoc, Ordering, is_gt, is_lt, inl, inr, arith}
+use Rattle.std.proofs.Common.{rules, ◌≡◌, ℕ, pos, List, [], ◌∷◌, ◌++◌, map, filter, None, Some}
+use Rattle.std.proofs.Common.{Option, Result, refl, sym, ap, ◌∙◌, true, false, Bool, cond}
+use Rattle.std.proofs.Common.{append-nil, append_assoc, Ordering, is_gt, is_lt, inl, inr, arith}
 use Rattle.std.proofs.lemmas.{Bool.{cond-false, Decides.nat_tests}, Cmp.nat_list_cmp_total}
 use Rattle.std.proofs.lemmas.{Cmp.{on_total, upto}, List.Sorted.IsPermutation-sym}
 use Rattle.std.specs.{List.{AllByRecursion, filter_map, cons_option}, Ordering.ordering_reverse}
@@ -11,8 +11,7 @@ use Rattle.sqlite.specs.{Order.column, Tree.rowid}
 use Rattle.sqlite_keyed.specs.Lists.{insert_sorted, sort_by}
 use Rattle.sqlite_keyed.proofs.SortLemmas.{IsPermutation-sort_by}
 use Rattle.sqlite_rules.specs.Lists.{Has}
-use Rattle.sqlite_trees.proofs.ListLemmas.{all-permutation}
-use Rattle.sqlite_trees.specs.Tree.{IsAscending}
+use Rattle.sqlite_trees.{proofs.ListLemmas.all-permutation, specs.Tree.IsAscending}
 use Rattle.sqlite_value.proofs.OrderLemmas.{value_cmp-Text, value_cmp_total}
 use Rattle.room_entry.proofs.Facts.Members.{each_weaker}
 use Rattle.room_rows.specs.{declared.{keep.KeepFault.KeepFault, node.Node.Node}, Content.is_before}
@@ -21,9 +20,9 @@ use Rattle.room_rows.specs.{Keep.IsUnreadable, Rows.Rows}
 use Rattle.store_tables.specs.{Filed.node_parts, Meaning.{node_in, number_in, rows_of, text_in}}
 use Rattle.store_tables.specs.Seeing.{result_of_seen, seen_as, seen_behind, seen_then}
 use Rattle.store_tables.specs.{Shown.{IsRoom, is_child, shown_node}, Statements.HasUnder}
-use Rattle.store_tables.specs.Statements.{by_column}
-use Rattle.store_tables.proofs.{Named.{unread_row, utf8_is}, Nodes.Tells, Rowids.{each_of, of_each}}
-use Rattle.store_tables.proofs.Tops.{children_read, kept_from}
+use Rattle.store_tables.{specs.Statements.by_column, proofs.Named.{unread_row, utf8_is}}
+use Rattle.store_tables.proofs.{Nodes.Tells, Rowids.{each_of, of_each}, Tops.children_read}
+use Rattle.store_tables.proofs.Tops.{kept_from}
 
 abbrev see : Row → Option Node
 see r = node_in (shown_node r)
@@ -168,11 +167,7 @@ module _ (db : Database) (room : IsRoom db) where
       (result_of_seen (seen_then (seen_as o m)
       (λ before. seen_behind node_in before (map shown_node rows)) done))
   read_step done r rows there more (Some n) seen m number =
-      tells_by IsUnreadable (AreRead (done ++ n ∷ []) rows) (AreRead done (r ∷ rows)) (rows_of db)
-      (λ nodes read. read ∙ append_assoc done (n ∷ []) (filter_map see rows)
-      ∙ ap (λ x. done ++ cons_option x (filter_map see rows)) (sym seen))
-      (result_of_seen (seen_behind node_in (done ++ n ∷ []) (map shown_node rows)))
-      (more (done ++ n ∷ []))
+      search (rules, tells_by, r, append_assoc, seen, more)
   read_step done r rows there more None seen None number = tt
   read_step done r rows there more None seen (Some id) number = search (unread_row)
 

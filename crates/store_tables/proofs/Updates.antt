@@ -1,6 +1,6 @@
 -- The columns of a whole row, and what a row that is written by its number leaves.
 use Rattle.std.proofs.Common.{◌≡◌, ℕ, ℤ, List, [], ◌∷◌, inl, inr, refl, sym, subst, true, false}
-use Rattle.std.proofs.Common.{Bool, cond}
+use Rattle.std.{proofs.Common.{Bool, cond}, specs.Prelude.string_bytes}
 use Rattle.sqlite.specs.{declared.types.Value.{Value, TheVariants.{Null, Int, Text}}, Order.Row}
 use Rattle.sqlite.specs.{Ops.unary, Cast.cast, Tree.Trees, Edit.{Edit, edit_of}}
 use Rattle.sqlite.specs.{Rowids.TheVariants.Given, Values.bound_value}
@@ -8,9 +8,8 @@ use Rattle.sqlite_sql.specs.Ops.{binary}
 use Rattle.sqlite_rules.specs.{Calls.ids_of, Action.works}
 use Rattle.sqlite_schema.specs.declared.schema.Keys.TheVariants.{Enforced}
 use Rattle.sqlite_tied.specs.Compute.{everything}
-use Rattle.std.specs.Prelude.{string_bytes}
-use Rattle.store_tables.specs.{Columns.IsParent, Tables.room_schema}
-use Rattle.store_tables.proofs.{Rowids.has_itself, Writes.nodes_table}
+use Rattle.store_tables.{specs.{Columns.IsParent, Tables.room_schema}, proofs.Rowids.has_itself}
+use Rattle.store_tables.proofs.Writes.{nodes_table}
 use Rattle.sqlite.specs.Kind.TheVariants as kind
 use Rattle.store_tables.specs.declared.columns.Columns as stored
 

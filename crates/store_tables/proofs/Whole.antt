@@ -1,21 +1,19 @@
 -- Rows that can't be read are told as damaged, and none is left out.
-use Rattle.std.proofs.Common.{◌≡◌, ℕ, ◌+◌, pos, List, [], ◌∷◌, ◌++◌, length, map, filter, take}
-use Rattle.std.proofs.Common.{Option, Some, None, true, not, IfOk, refl, sym, ap, ◌∙◌, arith}
+use Rattle.std.proofs.Common.{rules, ◌≡◌, ℕ, ◌+◌, pos, List, [], ◌∷◌, ◌++◌, length, map, filter}
+use Rattle.std.proofs.Common.{take, Option, Some, None, true, not, IfOk, refl, sym, ap, ◌∙◌, arith}
 use Rattle.std.proofs.{Common.IsPermutation, lemmas.{Cmp.on_total, List.length-append}}
 use Rattle.std.proofs.lemmas.{List.{length-map, Sorted.length_permutation}, Bool.Decides.nat_tests}
 use Rattle.std.specs.Prelude.{is_some, option_map, ◌==◌}
 use Rattle.sqlite.specs.{Effect.Database, Order.{Row, column}}
-use Rattle.sqlite_keyed.specs.Lists.{sort_by}
-use Rattle.sqlite_keyed.proofs.SortLemmas.{IsPermutation-sort_by}
+use Rattle.sqlite_keyed.{specs.Lists.sort_by, proofs.SortLemmas.IsPermutation-sort_by}
 use Rattle.sqlite_value.proofs.OrderLemmas.{value_cmp_total}
 use Rattle.room_rows.specs.{declared.node.Node.Node, Content.is_empty}
 use Rattle.store_tables.specs.declared.seen.Seen.{Seen, TheVariants.{Foreign, Unread, Found}}
 use Rattle.store_tables.specs.{Meaning.{named_in, node_in, number_in}, Seeing.result_of_seen}
 use Rattle.store_tables.specs.Seeing.{seen_as, seen_behind, seen_in, seen_only, seen_then, top_of}
-use Rattle.store_tables.specs.Shown.{is_child, is_child_named, is_top, shown_node}
-use Rattle.store_tables.specs.Statements.{HasNames, HasSome, HasTop, HasUnder, shown_name}
-use Rattle.store_tables.specs.Whole.{SeesEach, SeesNamed, SeesSome, SeesTop}
-use Rattle.store_tables.proofs.{Tests.if_ok, Under.by_name}
+use Rattle.store_tables.specs.{Shown.{is_child_named, is_top, shown_node}, Statements.HasNames}
+use Rattle.store_tables.specs.{Statements.{HasSome, HasTop, HasUnder}, Whole.{SeesEach, SeesNamed}}
+use Rattle.store_tables.{specs.Whole.{SeesSome, SeesTop}, proofs.{Tests.if_ok, Under.by_name}}
 
 -- ---- lists of which both or neither are empty
 
@@ -107,8 +105,7 @@ module _ (db : Database) where
     sees_named name rows moved =
         let kept = filter (is_child_named (pos parent) name) (db.trees 0) in
         if_ok (result_of_seen (seen_only rows)) _ _
-        (λ found is. is
-        ∙ ap not (empty_moved (map shown_node kept) rows moved ∙ empty_map shown_node kept))
+        (search (rules, empty_moved, kept, moved, empty_map))
         (only_whole rows)
 
     pub sees_some : (rows : List Row) → HasSome (pos parent) db.trees rows
@@ -119,20 +116,12 @@ module _ (db : Database) where
         → IfOk (result_of_seen (seen_behind node_in [] rows)) (SeesEach parent db)
     sees_under rows shown =
         if_ok (result_of_seen (seen_behind node_in [] rows)) _ _
-        (λ all is. omega (
-          arith,
-          is,
-          sorted_whole shown_node (filter (is_child (pos parent)) (db.trees 0)) rows shown,
-        ))
+        (search (rules, sorted_whole, pos, shown))
         (behind_whole node_in [] rows)
 
     pub sees_names : (rows : List Row) → HasNames (pos parent) db.trees rows
         → IfOk (result_of_seen (seen_behind named_in [] rows)) (SeesEach parent db)
     sees_names rows shown =
         if_ok (result_of_seen (seen_behind named_in [] rows)) _ _
-        (λ all is. omega (
-          arith,
-          is,
-          sorted_whole shown_name (filter (is_child (pos parent)) (db.trees 0)) rows shown,
-        ))
+        (search (rules, sorted_whole, pos, shown))
         (behind_whole named_in [] rows)

@@ -1,25 +1,23 @@
 -- What a write leaves, before its edit is followed.
 use Rattle.std.proofs.Common.{◌≡◌, ℕ, ℤ, List, [], ◌∷◌, length, map, filter, Result, Ok, Err, None}
 use Rattle.std.proofs.{Common.{inl, inr, ◌⊎◌, subst, if◌then◌else◌, arith}, lemmas.List.length-map}
-use Rattle.std.proofs.lemmas.Bool.Decides.{nat_tests}
-use Rattle.std.specs.List.Sorted.{IsPermutation}
+use Rattle.std.{proofs.lemmas.Bool.Decides.nat_tests, specs.List.Sorted.IsPermutation}
 use Rattle.sqlite.specs.{declared.types.Value.TheVariants.{Null, Int}, Program.overlay, Term.col}
 use Rattle.sqlite.specs.{Order.Row, Tree.{Trees, has_rowid}, Command.TheVariants.Delete, Edit.Edit}
 use Rattle.sqlite.specs.{Edit.edit_of, Rowids.TheVariants.Given, Does.Does, Rows.Edited}
 use Rattle.sqlite.specs.{Effect.IsDatabase, Listing.understood, State.{State, mode_of, Executes}}
-use Rattle.sqlite.specs.State.{Shows}
+use Rattle.sqlite.{specs.State.Shows, proofs.Callers.{runs_as, statement_of}}
 use Rattle.sqlite_rules.specs.Calls.{ids_of}
 use Rattle.sqlite_schema.specs.declared.schema.{Keys.TheVariants.Enforced, Table.Table}
-use Rattle.sqlite.proofs.Callers.{runs_as, statement_of}
-use Rattle.store_tables.specs.Tables.{nodes, room_schema}
-use Rattle.store_tables.proofs.Texts.{delete_text, delete_is, plain_texts, query_of}
-use Rattle.store_tables.proofs.{Texts.matches_parameter, Answers.{shows, selected}, Tests.passes_id}
+use Rattle.store_tables.{specs.Tables.{nodes, room_schema}, proofs.Texts.{delete_text, delete_is}}
+use Rattle.store_tables.proofs.{Texts.{plain_texts, query_of, matches_parameter}, Answers.shows}
+use Rattle.store_tables.proofs.{Answers.selected, Tests.passes_id}
 use Rattle.room_entry.proofs.Facts.Lists.{filter_same}
 
 -- a part that gave a value did not stop on the way
 pub went : {B E R : Type 0} {b : B} {Stops : E → Type 0}
     → ((stop : E) × Stops stop × (Ok b ≡ Err stop)) ⊎ R → R
-went (inl stopped) = absurd (let e = stopped.2 in cc)
+went (inl stopped) = absurd (cc)
 went (inr on) = on
 
 -- two Ok results that are equal have the same value
@@ -63,8 +61,6 @@ deleted id old new count has h =
     (record old.now { schema = s }) text None command (Ok (w.tally, new.now))) has w.changed) in
     let asked = went done.1 in
     let did = went asked.2 in
-    let last = same_value (went (went done.2).2).2 in
-    let wrote = same_value did.2 in
     let found = selected Null 0 (matches_parameter 0 0 ∷ []) (col 1 0 ∷ []) []
     (overlay old.now.trees []) params asked.0 (asked.1.answer Null) in
     record {

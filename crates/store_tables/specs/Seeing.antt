@@ -8,7 +8,7 @@ use Rattle.sqlite.specs.declared.error.ErrorCode.TheVariants.{OutOfMemory}
 use Rattle.sqlite.specs.declared.types.Value.{Value}
 use Rattle.sqlite.specs.Order.{Row, column}
 use Rattle.room_rows.specs.declared.keep.KeepFault.{KeepFault}
-use Rattle.room_rows.specs.declared.keep.KeepFault.TheVariants.{Memory, Store, Damaged}
+use Rattle.room_rows.specs.declared.keep.KeepFault.TheVariants.{Memory, Store, NoRoot, Damaged}
 use Rattle.room_rows.specs.declared.node.Node.{Node}
 use Rattle.room_rows.specs.Keep.{HasCause}
 use Rattle.store_tables.specs.declared.seen.Seen.{Seen}
@@ -86,15 +86,15 @@ result_of_seen Foreign = Err Store
 result_of_seen (Unread id) = Err (Damaged id)
 result_of_seen (Found x) = Ok x
 
-abbrev pub node_or_damaged : Option Node → Result Node KeepFault
-node_or_damaged None = Err (Damaged 0)
-node_or_damaged (Some node) = Ok node
+abbrev pub root_found : Option Node → Result Node KeepFault
+root_found None = Err NoRoot
+root_found (Some node) = Ok node
 
--- where an object is needed
+-- where the root is asked for
 abbrev pub top_of : Seen (Option Node) → Result Node KeepFault
 top_of Foreign = Err Store
 top_of (Unread id) = Err (Damaged id)
-top_of (Found found) = node_or_damaged found
+top_of (Found found) = root_found found
 
 -- a failure of the keeper itself is counted, and nothing else is
 abbrev pub counted_by : {X : Type 0} → Result X KeepFault → ℕ → ℕ → Type 0

@@ -1,6 +1,6 @@
 //! Why the database failed.
-ghost use Rattle.std.specs.Prelude.{◌≡◌, ◌≤◌, ℕ, Err, IfErr, IfOk, MatchResult, Ok, OnOk, true};
-ghost use Rattle.room_rows.specs.Keep.{HasCause, capped};
+ghost use Rattle.std.specs.Prelude.{◌≡◌, ◌≤◌, Err, IfErr, IfOk, MatchResult, None, Ok, OnOk, true};
+ghost use Rattle.room_rows.specs.Keep.{HasCause, blamed_by, capped};
 ghost use Rattle.store_tables.specs.Seeing.{Nowhere, all_changed, fault_for, wants_memory};
 
 use room_rows::{KeepFault, failed};
@@ -19,7 +19,7 @@ pub fn wants_memory(error: Error) -> bool
 /// A keeper's fault for an error of the database. It blames no row.
 pub fn fault_for(error: Error) -> KeepFault
     ensures fault { result ≡ fault_for error }
-    ensures unblamed { (id : ℕ) → result ≡ KeepFault.Damaged id → ⊥ }
+    ensures unblamed { blamed_by result ≡ None }
 {
     if wants_memory(error) {
         KeepFault::Memory

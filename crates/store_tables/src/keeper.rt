@@ -310,12 +310,11 @@ impl<'a, 'conn, S: Alter> Keep for Keeper<'a, 'conn, S> {
         Ok(names)
     }
 
-    fn add(&mut self, node: NewNode) -> Result<u64, KeepFault> {
-        let (node, bytes) = node.at_number(0);
+    fn add(&mut self, node: NewNode, bytes: &[u8]) -> Result<u64, KeepFault> {
+        let node = node.at_number(0);
         let id = put_new(self, &node)?;
-        let done = put_bytes(self, id, &node, bytes.as_slice());
+        let done = put_bytes(self, id, &node, bytes);
         drop(node);
-        drop(bytes);
         done?;
         count_one(&mut self.writes);
         Ok(id)

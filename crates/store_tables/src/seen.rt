@@ -173,7 +173,7 @@ pub(crate) fn answer<T>(seen: Seen<T>, failures: &mut u64) -> Result<T, KeepFaul
     }
 }
 
-/// The answer of a call that needs an object.
+/// The answer of a call for the root.
 pub(crate) fn answer_top(seen: Seen<Option<Node>>, failures: &mut u64) -> Result<Node, KeepFault>
     ensures answer { result ≡ top_of seen }
     ensures counted { counted_by result (capped failures.old) (capped failures.new) }
@@ -181,6 +181,6 @@ pub(crate) fn answer_top(seen: Seen<Option<Node>>, failures: &mut u64) -> Result
 {
     match answer(seen, failures)? {
         Some(node) => Ok(node),
-        None => Err(KeepFault::Damaged { id: 0 }),
+        None => Err(KeepFault::NoRoot),
     }
 }

@@ -112,7 +112,7 @@ fn bad_rows_beside_the_root(rt: HostRuntime) -> Result<(), Fail> {
 const ROOTLESS: [(&str, &str); 2] = [
     (
         "INSERT INTO members VALUES ('staff', 'alice');",
-        "keeper Root => fault Damaged 0\nkeeper Ids => ids\n",
+        "keeper Root => fault NoRoot\nkeeper Ids => ids\n",
     ),
     (
         "INSERT INTO nodes VALUES (3, NULL, '', 5, 'root', 'staff', 0, 0, '', '', '', '');",

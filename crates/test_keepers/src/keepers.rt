@@ -224,6 +224,7 @@ fn keep_fault_texts(rt: HostRuntime) -> Result<(), Fail> {
     for (fault, text) in [
         (KeepFault::Memory, "out of memory"),
         (KeepFault::Store, "the store failed"),
+        (KeepFault::NoRoot, "no object is a root"),
         (KeepFault::Damaged { id: 7 }, "row 7 is damaged"),
     ] {
         assert_eq!(rt; format!(in rt.alloc(); "{fault}")?.as_str(), text);

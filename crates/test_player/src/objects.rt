@@ -1,7 +1,7 @@
 //! Objects and their lists, made from words and put into words.
 
 use crate::replying::{kind_text, push_list, push_owners};
-use crate::sending::{bytes_of, owners_of, sent_of};
+use crate::sending::{owners_of, sent_of};
 use crate::words::{push, push_all, push_number};
 use room_ace::{Entries, Entry, ObjKind, SentList};
 use room_rows::{Held, NewNode, Node, Text};
@@ -32,8 +32,7 @@ pub fn held_of(alloc: Global, text: &str) -> Result<Held, Fail> {
     Ok(held_from(alloc, &sent)?)
 }
 
-/// An object with empty lists that are passed down, and the bytes `hi`, root's and of the group
-/// staff.
+/// An object with empty lists that are passed down, root's and of the group staff.
 pub(crate) fn new_object(
     alloc: Global,
     parent: u64,
@@ -41,7 +40,6 @@ pub(crate) fn new_object(
     kind: ObjKind,
 ) -> Result<NewNode, Fail> {
     let owners = owners_of(alloc, "root:staff")?;
-    let bytes = bytes_of(alloc, "hi")?;
     let dacl = held_of(alloc, "list:a")?;
     Ok(NewNode {
         parent: Some(parent),
@@ -50,7 +48,6 @@ pub(crate) fn new_object(
         owners,
         sacl: dacl.copy()?,
         dacl,
-        bytes,
     })
 }
 

@@ -35,6 +35,7 @@ pub(crate) fn push_fault(told: &mut String, fault: KeepFault) -> Result<(), Fail
     match fault {
         KeepFault::Memory => push(told, "fault Memory"),
         KeepFault::Store => push(told, "fault Store"),
+        KeepFault::NoRoot => push(told, "fault NoRoot"),
         KeepFault::Damaged { id } => push_damaged(told, id),
     }
 }

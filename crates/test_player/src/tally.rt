@@ -191,9 +191,9 @@ impl<K: Keep> Keep for Tally<K> {
         self.keeper.groups_of(user)
     }
 
-    fn add(&mut self, node: NewNode) -> Result<u64, KeepFault> {
+    fn add(&mut self, node: NewNode, bytes: &[u8]) -> Result<u64, KeepFault> {
         self.calls.changes = self.calls.changes.saturating_add(1);
-        self.keeper.add(node)
+        self.keeper.add(node, bytes)
     }
 
     fn set_held(&mut self, id: u64, which: Which, held: &Held) -> Result<(), KeepFault> {

@@ -46,7 +46,7 @@ fn kind_of(text: &str) -> ObjKind {
     }
 }
 
-// Adds an object of a name and a kind below this parent.
+// Adds an object of a name and a kind below this parent, with the bytes `hi`.
 fn add<K: Keep>(
     alloc: Global,
     keep: &mut K,
@@ -56,7 +56,7 @@ fn add<K: Keep>(
 ) -> Result<(), Fail> {
     let (name, kind) = cut(words);
     let node = new_object(alloc, parent, name, kind_of(kind))?;
-    push_added(told, keep.add(node))
+    push_added(told, keep.add(node, b"hi"))
 }
 
 fn push_added(told: &mut String, answer: Result<u64, KeepFault>) -> Result<(), Fail> {

@@ -1,30 +1,29 @@
 -- A request that gives a document other bytes is a step.
-use Rattle.std.proofs.Common.{◌≡◌, ℕ, ◌+◌, ◌==◌, Bool, true, false, cond, List, [], ◌∷◌, ◌++◌}
-use Rattle.std.proofs.Common.{length, Option, Some, None, Result, Ok, Err, refl, sym, ap, subst}
-use Rattle.std.proofs.{Common.{◌∙◌, append_assoc, length-append, arith}, lemmas.Bool.ltb-false}
-use Rattle.std.proofs.lemmas.{Bool.{le-leb, Decides.nat_tests}, List.append-nil}
+use Rattle.std.proofs.Common.{rules, ◌≡◌, ℕ, ◌+◌, ◌==◌, Bool, true, false, cond, List, [], ◌∷◌}
+use Rattle.std.proofs.Common.{◌++◌, length, Option, Some, None, Result, Ok, Err, refl, sym, ap}
+use Rattle.std.proofs.Common.{subst, ◌∙◌, append_assoc, length-append, arith}
+use Rattle.std.proofs.lemmas.{Bool.{ltb-false, le-leb, Decides.nat_tests}, List.append-nil}
 use Rattle.std.specs.Prelude.{IfOk, unwrap_or, nat_lt, nat_le}
 use Rattle.room_entry.specs.{Rights.append_data, Valid.is_document}
 use Rattle.room_rows.specs.{declared.node.Node.Node, Content.{node_at, body_of, with_body}}
 use Rattle.room_rows.specs.{Keep.{IsDamaged, KeepLaws, SetsBody, with_content}, Meaning.meaning}
-use Rattle.room_rows.specs.{Rows.{Rows, AreRows}, Sound.AreSound}
-use Rattle.room_rows.proofs.InPlace.{with_body-there}
+use Rattle.room_rows.{specs.{Rows.{Rows, AreRows}, Sound.AreSound}, proofs.InPlace.with_body-there}
 use Rattle.room_judge.specs.{declared.{asker.Asker.Asker, halt.Halt.Halt}, Closed.IsClosed}
 use Rattle.room_judge.specs.{Closed.IsServed, Extent.{Extent, OnlyRecords}, Halted.replied}
 use Rattle.room_judge.specs.{Halted.settled, Judged.{IsDone, IsJudged, IsReached, CarriesOut}}
+use Rattle.room_judge.proofs.{Calls.{HasDone, finish, memory}, Closing.{closed_done, closed_failed}}
+use Rattle.room_judge.proofs.Judging.{fails_first, passes_first, refuses, passes_on, judged_none}
 use Rattle.room_machine.specs.declared.reply.Reply.{Reply, TheVariants.{Done, Refused}}
 use Rattle.room_machine.specs.declared.reply.Reason.TheVariants.{TooLarge}
 use Rattle.room_machine.specs.{declared.request.Request.TheVariants.Append, Site.{Site, site_at}}
 use Rattle.room_machine.specs.{Plan.{Item, plan_of, not_over, way, where_found}, Stored.stored_site}
 use Rattle.room_machine.specs.Stored.{stored_along, stored_plan, to_stored}
-use Rattle.room_judge.proofs.{Calls.{HasDone, finish, memory}, Closing.{closed_done, closed_failed}}
-use Rattle.room_judge.proofs.Judging.{fails_first, passes_first, refuses, passes_on, judged_none}
 use Rattle.room_desk.specs.Written.{Answers, HasNoBytes, IsAppended, IsPut, TakesBytes, sized_reply}
-use Rattle.room_sound.proofs.{SoundParts.{sound_parts, sound_noted}, Filled.plan_judged}
-use Rattle.room_sound.proofs.Filled.{target_there}
 use Rattle.room_desk.proofs.{Bytes.SoundBytes.sound_bytes, Steps.Stepping.refused_step}
 use Rattle.room_desk.proofs.Steps.{Stepping.changed_step, Serving.{DocumentAt, document_there}}
 use Rattle.room_desk.proofs.Steps.Serving.{no_bytes}
+use Rattle.room_sound.proofs.{SoundParts.{sound_parts, sound_noted}, Filled.plan_judged}
+use Rattle.room_sound.proofs.Filled.{target_there}
 
 pub put_refused : (path : List (List ℕ)) (id : ℕ) (bytes : List ℕ) (old new : Rows) (reply : Reply)
     → nat_lt 1048576 (length bytes) ≡ true → reply ≡ Refused path TooLarge → new ≡ old
@@ -129,10 +128,7 @@ module _ (asker : Asker) (path : List (List ℕ)) (bytes : List ℕ) where
         as_stored old new answer
         (passes_first asker (to_stored old.read path (DocumentAt (append_data ∷ [])))
         (where_found (site_at (stored_along old.read path) path) (sized old)) old mid new answer
-        reached.judged
-        (subst (λ list. IsJudged asker list mid answer new)
-        (cc (length-append before bytes, were, reached.found))
-        judged))
+        reached.judged (search (rules, new, length-append, were, judged)))
 
     few_judged : (before : List ℕ) → body_of old.read node.id ≡ Some before
         → nat_lt 1048576 (length (before ++ bytes)) ≡ false
@@ -159,11 +155,7 @@ module _ (asker : Asker) (path : List (List ℕ)) (bytes : List ℕ) where
         (stored_site path node) reached.found in
         changed_step asker (Append path bytes) old known sound mid new Done
         (with_body (meaning old.read) node.id (before ++ bytes)) judged
-        (grind (arith, nat_tests))
-        (ap (λ (r : Rows). meaning r.read) new_is
-        ∙ ap (λ (r : Rows). meaning
-        (with_content r (with_body r.read node.id (before ++ bytes))).read)
-        judged.notes)
+        (grind (arith, nat_tests)) (search (rules, new_is, judged.notes))
         (subst AreSound
         (sym (new_is
         ∙ ap (λ (r : Rows). with_content r (with_body r.read node.id (before ++ bytes)))
@@ -191,8 +183,7 @@ module _ (asker : Asker) (path : List (List ℕ)) (bytes : List ℕ) where
     on_size before true new reply were many replies takes =
         search (not_appended, refuses, sized_judged)
     on_size before false new reply were few replies takes =
-        subst (λ (r : Reply). IsServed asker (Append path bytes) old r new) (sym replies)
-        (append_set before new were few takes, append_closed before new were few takes)
+        search (rules, new, replies, append_set, were, few, takes, append_closed)
 
     pub append_done : (new : Rows) (reply : Reply) → IsAppended path node.id bytes mid reply new
         → IsServed asker (Append path bytes) old reply new

@@ -4,8 +4,7 @@ use Rattle.std.proofs.{Common.{Some, None, refl, arith}, lemmas.Bool.Decides.nat
 use Rattle.std.specs.{List.{find, AllByRecursion}, Option.option_map_or}
 use Rattle.room_rows.specs.{declared.node.Node.Node, Content.{Content, body_at, children_of}}
 use Rattle.room_rows.specs.{Content.{has_parent, sorted_by_name}, Finding.find_id}
-use Rattle.room_rows.specs.Sound.{has_sound_lists}
-use Rattle.room_rows.proofs.Lookups.{put_is_some}
+use Rattle.room_rows.{specs.Sound.has_sound_lists, proofs.Lookups.put_is_some}
 
 -- ---- objects without children
 

@@ -1,6 +1,6 @@
 -- A request that removes an object is a step.
-use Rattle.std.proofs.Common.{◌≡◌, ℕ, Bool, true, false, not, List, [], ◌∷◌, ◌++◌, map, Option}
-use Rattle.std.proofs.{Common.{Some, None, refl, ap, subst, arith, Err}, Math.Seq.take-length}
+use Rattle.std.proofs.Common.{rules, ◌≡◌, ℕ, Bool, true, false, not, List, [], ◌∷◌, ◌++◌, map}
+use Rattle.std.proofs.{Common.{Option, Some, None, refl, ap, arith, Err}, Math.Seq.take-length}
 use Rattle.std.proofs.lemmas.{List.map-append, Bool.Decides.nat_tests}
 use Rattle.room_rows.specs.{declared.node.Node.Node, Content.{Content, children_of, is_empty}}
 use Rattle.room_rows.specs.{Content.{node_at, root_of, with_records, without_node}, Keep.CanRemove}
@@ -18,22 +18,21 @@ use Rattle.room_machine.specs.{Plan.where_found, Judge.records_of_plan, Stored.s
 use Rattle.room_machine.specs.Stored.{stored_from, stored_plan, stored_site}
 use Rattle.room_desk.specs.{Made.Ends, Removed.{RemovesFrom, RemovesIfGranted, refused_where}}
 use Rattle.room_judge.proofs.Closing.{closed_done, closed_failed, closed_more}
-use Rattle.room_judge.proofs.Judging.{fails_first, judged_none, passes_first, passes_on, refuses}
+use Rattle.room_judge.proofs.Judging.{fails_first, passes_first, passes_on, refuses}
 use Rattle.room_sound.proofs.{SoundParts.{none_unreadable, sound_noted, sound_parts}, Sites.fill}
 use Rattle.room_sound.proofs.{Sites.sites_filled, Filled.{fill_item, judged_filled, site_filled}}
 use Rattle.room_sound.proofs.Filled.{target_there, way_filled}
 use Rattle.room_desk.proofs.Gone.SoundRemoved.{CanGo, removed_means, sound_removed}
 use Rattle.room_desk.proofs.{Gone.Childless.childless, Made.Pairs.parent_along}
-use Rattle.room_desk.proofs.Made.{ServedItems.judged_refused, FolderPlans.parent_filled}
-use Rattle.room_desk.proofs.Steps.{Stepping.{changed_step, refused_step}, Serving.along_there}
+use Rattle.room_desk.proofs.{Made.FolderPlans.parent_filled, Steps.Stepping.changed_step}
+use Rattle.room_desk.proofs.Steps.{Stepping.refused_step, Serving.along_there}
 
 -- what is stored and what is meant agree on whether there are children
 empty_kept : (content : Content) (id : ℕ)
     → is_empty (children_of content id) ≡ is_empty (children_of (meaning content) id)
 empty_kept content id =
     let each = children_of-with_each content (kept_node content)
-    (keeps_places content (kept_node content)
-    (λ n. record { number = refl; parent = refl; name = refl })) id in grind arith
+    (search (rules, keeps_places, content)) id in grind arith
 
 module _ (asker : Asker) (path : List (List ℕ)) where
   -- the items at a target in a folder
@@ -125,9 +124,7 @@ module _ (asker : Asker) (path : List (List ℕ)) where
         (Some refusal) last → reply ≡ refusal → new ≡ last → IsServed asker (Remove path) old reply new
     denied last new refusal reply judged replies same =
         not_removed old new reply are
-        (at_stored new (Some reply)
-        (fails_first asker _ (has_children mid ∷ []) mid new reply
-        (judged_refused asker _ mid last new refusal reply judged replies same)))
+        (at_stored new (Some reply) (search (rules, fails_first, new, judged, replies, same)))
 
     -- the deletion is granted
     module _ (last : Rows) (granted : IsJudged asker
@@ -142,10 +139,7 @@ module _ (asker : Asker) (path : List (List ℕ)) where
       -- where there are none, nothing fails
       none_fails : (new : Rows) → new ≡ last → is_empty (children_of mid.read id) ≡ true
           → IsJudged asker (stored_plan old.read (Remove path)) old None new
-      none_fails new same none =
-          then_children new None
-          (passes_on asker path NotEmpty (not (is_empty (children_of mid.read id))) [] last new None
-          (ap not none) (judged_none asker last new same))
+      none_fails new same none = search (rules, then_children, new, none, same)
 
       childless_then : children_of last.read id ≡ [] → is_empty (children_of mid.read id) ≡ true
       childless_then none = grind (arith, nat_tests)
@@ -236,8 +230,7 @@ pub root_kept : (asker : Asker) (root : Node) (old new : Rows) (reply : Reply) �
     → IsServed asker (Remove []) old reply new
 root_kept asker root old new reply are is replies same =
     not_removed asker [] old new reply are
-    (subst (λ list. IsJudged asker list old (Some reply) new) plan_is
-    (refuses asker [] Root true [] old new reply replies refl same))
+    (search (rules, asker, old, reply, new, refuses, replies, same))
   where
     plan_is : items_along asker [] old.read (stored_from old.read [] root [])
         ≡ stored_plan old.read (Remove [])

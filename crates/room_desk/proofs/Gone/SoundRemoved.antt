@@ -1,7 +1,7 @@
 -- Rows stay sound where an object without children is removed, and what they mean changes likewise.
-use Rattle.std.proofs.Common.{◌≡◌, ℕ, zero, suc, ◌==◌, Bool, true, false, not, ◌||◌, List, [], map}
-use Rattle.std.proofs.Common.{filter, length, Option, Some, None, refl, sym, ap, ◌∙◌, arith}
-use Rattle.std.proofs.lemmas.Bool.{true≢false, Decides.nat_tests}
+use Rattle.std.proofs.Common.{rules, ◌≡◌, ℕ, zero, suc, ◌==◌, Bool, true, false, not, ◌||◌, List}
+use Rattle.std.proofs.Common.{[], map, filter, length, Option, Some, None, refl, sym, ap, ◌∙◌}
+use Rattle.std.proofs.{Common.arith, lemmas.Bool.{true≢false, Decides.nat_tests}}
 use Rattle.std.specs.{Prelude.option_and_then, List.{find, AllByRecursion}, Option.option_map_or}
 use Rattle.room_entry.specs.{Pieces.is_among, declared.object.Which.{Which, TheVariants.Dacl}}
 use Rattle.room_entry.specs.declared.object.Which.TheVariants.{Sacl}
@@ -88,8 +88,7 @@ module _ (content : Content) (id : ℕ) (can : CanGo content id) where
   reached : (n : Node) → Stays n → reaches content n ≡ true → reaches after n ≡ true
   reached n stays passes =
       enough_steps after (length content.nodes) n.parent
-      (rw (same_way (length content.nodes) n.parent
-      (λ is. true≢false (sym (has_its_parent id n is) ∙ stays.apart))) passes)
+      (search (rules, same_way, n.parent, true≢false, has_its_parent, n, stays.apart, passes))
 
   names : (n : Node) → Stays n → has_sound_name content n ≡ true → has_sound_name after n ≡ true
   names n stays passes = grind (arith, nat_tests, none_filter)

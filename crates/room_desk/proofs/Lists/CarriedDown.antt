@@ -1,5 +1,5 @@
 -- What carrying down answers, as a call of a request.
-use Rattle.std.proofs.Common.{◌≡◌, ℕ, ◌+◌, ◌≤◌, Ok, Err, length, ap, arith}
+use Rattle.std.proofs.Common.{rules, ◌≡◌, ℕ, ◌+◌, ◌≤◌, Ok, Err, length, arith}
 use Rattle.std.proofs.lemmas.Bool.Decides.{nat_tests}
 use Rattle.room_entry.specs.declared.object.Which.{Which}
 use Rattle.room_rows.specs.{declared.{keep.KeepFault.KeepFault, node.Node.Node}, Keep.KeepLaws}
@@ -19,11 +19,8 @@ carried_writes : (which : Which) (id changed before after more : ℕ) (old new :
     → changed_lists which old new ≤ more
     → after + length old.read.audits ≤ before + length new.read.audits + more
 carried_writes which id changed before after more old new are spread written enough =
-    let same : length new.read.audits ≡ length old.read.audits = ap
-    (λ (r : Rows). length r.read.audits) spread.becomes in
     let counted = spread_changes which id changed old new spread are.numbers in
-    written_up_to before after changed (length old.read.audits) (length new.read.audits) more
-    written (omega arith)
+    search (rules, written_up_to, old.read.audits, new.read.audits, written)
 
 module _ {S : Type 0} {rows : S → Rows} {failures writes : S → ℕ}
     {Follows IsTrusted : S → S → Type 0}

@@ -1,5 +1,5 @@
 -- Rows in which the objects have other lists of one attribute, and else are as they were.
-use Rattle.std.proofs.Common.{◌≡◌, ℕ, Bool, true, List, [], ◌∷◌, map, Some, refl, arith}
+use Rattle.std.proofs.Common.{rules, ◌≡◌, ℕ, Bool, true, List, [], ◌∷◌, map, Some, refl, arith}
 use Rattle.std.proofs.lemmas.Bool.{and_parts, and_from, Decides.nat_tests}
 use Rattle.std.specs.{List.list_all, Option.option_map}
 use Rattle.room_entry.specs.declared.object.Which.{Which, TheVariants.{Dacl, Sacl}}
@@ -144,9 +144,7 @@ module _ (which : Which) (lists : Node → Held) where
       → AreSound (with_content old (relisted old.read))
   relisted_sound old are_sound fits law =
       still_sound old relist place_kept kind_kept (sound_checked old are_sound)
-      (λ node there before. both_lists which (relist node)
-      (cc (held_relisted node, kind_kept node, fits node there))
-      (search (kind_kept, one_list, other_kept)))
+      (search (rules, both_lists, held_relisted, kind_kept, fits, one_list, other_kept))
       (
       cc (all_both (agrees (relisted old.read) which) (agrees (relisted old.read) (other which))
       (keeps_law (relisted old.read)) (both_agree which (relisted old.read))

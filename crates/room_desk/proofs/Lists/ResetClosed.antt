@@ -1,6 +1,6 @@
 -- The operator's reset of a list on rows that needn't be sound.
-use Rattle.std.proofs.Common.{◌≡◌, ℕ, zero, suc, List, [], ◌∷◌, ◌++◌, length, Option, Some, None}
-use Rattle.std.proofs.Common.{refl, sym, ap, subst, ◌⊎◌, inl, inr, append_assoc, arith}
+use Rattle.std.proofs.Common.{rules, ◌≡◌, ℕ, zero, suc, List, [], ◌∷◌, ◌++◌, length, Option, Some}
+use Rattle.std.proofs.Common.{None, refl, sym, ap, subst, ◌⊎◌, inl, inr, append_assoc, arith}
 use Rattle.std.proofs.lemmas.{List.append-nil, Bool.Decides.nat_tests}
 use Rattle.std.specs.{Prelude.{◌-◌, slice_get}, Option.option_map_or}
 use Rattle.room_ace.specs.Sent.{Sent}
@@ -45,10 +45,7 @@ ends_from rows path (name ∷ names) node =
     deeper : (child : Node) (sites : List Site) (last : Node) (rest : ℕ)
         → EndsAt (path ++ name ∷ []) names sites last rest
         → EndsAt path (name ∷ names) (stored_site path node ∷ sites) last rest
-    deeper child sites last rest (inl here) = inl (
-      here.0,
-      cc (here.1, append_assoc path (name ∷ []) names),
-    )
+    deeper child sites last rest (inl here) = inl (search (rules, append_assoc))
     deeper child sites last rest (inr over) = inr over
 
     on : (o : Option Node)

@@ -1,18 +1,17 @@
 -- The way of a reset: what is refused, by where the walk comes to.
-use Rattle.std.proofs.Common.{◌≡◌, ℕ, zero, suc, ◌-◌, true, false, cond, not, List, [], ◌∷◌, ◌++◌}
-use Rattle.std.proofs.Common.{filter, length, take, Option, Some, None, refl, sym, ap, ◌∙◌}
+use Rattle.std.proofs.Common.{rules, ◌≡◌, ℕ, zero, suc, ◌-◌, true, false, cond, not, List, [], ◌∷◌}
+use Rattle.std.proofs.Common.{◌++◌, filter, length, take, Option, Some, None, refl, sym, ap, ◌∙◌}
 use Rattle.std.proofs.{Common.{append_assoc, arith, length-append}, Math.Seq.take-append_seam}
-use Rattle.std.proofs.lemmas.{List.append-nil, Bool.Decides.nat_tests}
-use Rattle.std.specs.Option.{option_map_or}
+use Rattle.std.{proofs.lemmas.{List.append-nil, Bool.Decides.nat_tests}, specs.Option.option_map_or}
 use Rattle.room_entry.specs.declared.{parties.Caller.Caller, object.ObjKind.ObjKind}
 use Rattle.room_entry.specs.declared.object.ObjKind.TheVariants.{Document, Folder}
 use Rattle.room_rows.specs.{declared.node.{Node.Node, Walk.Walk}, Content.{Content, child_of}}
 use Rattle.room_rows.specs.{Content.{is_folder, node_at}, Walk.{behind, walk_from}}
+use Rattle.room_rows.proofs.Frames.{Rises, child_of-is_there}
 use Rattle.room_machine.specs.declared.reply.{Reason.TheVariants.{NoSuch, NotFolder}, Reply.Reply}
 use Rattle.room_machine.specs.{declared.reply.Reply.TheVariants.Refused, Judge.first_failure}
 use Rattle.room_machine.specs.{Judge.or_else, Plan.{Item, way, where_found}, Site.{Site, site_at}}
 use Rattle.room_machine.specs.{Step.is_refusal, Stored.{stored_from, stored_site}}
-use Rattle.room_rows.proofs.Frames.{Rises, child_of-is_there}
 use Rattle.room_judge.specs.Judged.{ended_at}
 
 -- ---- paths
@@ -21,8 +20,7 @@ front_is : (front back : List (List ℕ)) (n : ℕ) → n ≡ length back
     → take (length (front ++ back) - n) (front ++ back) ≡ front
 front_is front back n is =
     ap (λ k. take k (front ++ back))
-    (let e : length (front ++ back) - n ≡ length front = omega (arith, length-append front back) in
-    e) ∙ take-append_seam front back
+    (search (rules, front, length-append)) ∙ take-append_seam front back
 
 module _ (rows : Content) (rises : Rises rows) (caller : Caller) (items : Site → List Item)
     (folders : (n child : Node) (name : List ℕ) → node_at rows n.id ≡ Some n

@@ -1,20 +1,18 @@
 -- Rows in which one object has another list, and lists below it are renewed.
-use Rattle.std.proofs.Common.{◌≡◌, ℕ, ◌==◌, Bool, true, false, cond, List, length, Option, Some}
-use Rattle.std.proofs.Common.{None, refl, sym, ap, subst, ◌∙◌, inl, inr, arith}
+use Rattle.std.proofs.Common.{rules, ◌≡◌, ℕ, ◌==◌, Bool, true, false, cond, List, length, Option}
+use Rattle.std.proofs.Common.{Some, None, refl, sym, ap, subst, ◌∙◌, inl, inr, arith}
 use Rattle.std.proofs.lemmas.Bool.{and_parts, and_from, cases_Bool, cond-true, cond-false, eq-eqb}
-use Rattle.std.proofs.lemmas.Bool.Decides.{nat_tests}
-use Rattle.std.specs.{Prelude.option_and_then, Option.{option_map, option_map_or}}
+use Rattle.std.{proofs.lemmas.Bool.Decides.nat_tests, specs.Prelude.option_and_then}
+use Rattle.std.specs.Option.{option_map, option_map_or}
 use Rattle.room_entry.specs.{Ace.Ace, declared.object.Which.{Which, TheVariants.{Dacl, Sacl}}}
 use Rattle.room_rows.specs.{HeldList.Held, declared.node.Node.Node, Content.{Content, node_at}}
 use Rattle.room_rows.specs.Content.{parent_of, has_parent, is_linked_in, with_each, with_node}
-use Rattle.room_rows.specs.{Finding.find_id, Held.{held_of, with_held, is_linked}, Keep.with_inh}
-use Rattle.room_rows.specs.{Rows.{Rows, Unread}, Law.AllAgree, Sound.{AreSound, is_sound_held}}
-use Rattle.room_rows.specs.Sound.{reaches}
+use Rattle.room_rows.specs.{Held.{held_of, with_held, is_linked}, Keep.with_inh, Rows.Rows}
+use Rattle.room_rows.specs.{Rows.Unread, Law.AllAgree, Sound.{AreSound, is_sound_held, reaches}}
 use Rattle.room_rows.proofs.{Frames.{Rises, node_at-number}, InPlace.place-with_held}
 use Rattle.room_rows.proofs.{InPlace.{with_each-with_each, with_node-replaces}, Lookups.each_found}
 use Rattle.room_rows.proofs.SamePlace.{replaced}
-use Rattle.room_inherit.specs.Spread.{with_lists}
-use Rattle.room_inherit.proofs.NoFault.{no_fault}
+use Rattle.room_inherit.{specs.Spread.with_lists, proofs.NoFault.no_fault}
 use Rattle.room_desk.proofs.Lists.Relisted.{relist, relisted, found_relisted, held_relisted}
 use Rattle.room_desk.proofs.Lists.Relisted.{kind_kept, number_kept, linked_relisted, folders_kept}
 use Rattle.room_desk.proofs.Lists.Relisted.{reach_kept, one_list, relisted_sound}
@@ -28,8 +26,7 @@ pub each_same : (content : Content) → Rises content → (f g : Node → Node)
     → with_each content f ≡ with_each content g
 each_same content rises f g same =
     ap (λ (nodes : List Node). record content { nodes = nodes })
-    (map_same f g (λ n. find_id n.id content.nodes ≡ Some n) same content.nodes
-    (each_found 0 content.nodes rises))
+    (search (rules, map_same, same, each_found, rises))
 
 pub own_held : (which : Which) (node : Node) → node ≡ with_held which (held_of which node) node
 own_held Dacl node = refl
@@ -223,9 +220,7 @@ module _ (which : Which) (rows : Content) (node : Node) (held : Held) where
                         (folders_kept which final rows (no_fault old sound).parents) own_ends
                         kept_ends
                         (length ends.nodes) (relist which final n)
-                        (ap (node_at ends) (number_kept which final n) ∙ found_relisted which final
-                        rows
-                        n.id ∙ ap (option_map (relist which final)) found)
+                        (search (rules, number_kept, n, found_relisted, n.id, found))
                         (reach_kept which final rows n ∙ all_found (reaches rows) rows n.id n
                         (no_fault old sound).reach found),
                   )

@@ -1,26 +1,25 @@
 -- What rows mean once a list is set and carried down is what setting that list makes of what they
 -- meant.
-use Rattle.std.proofs.Common.{◌≡◌, ◌==◌, ◌&&◌, Bool, true, false, cond, not, List, [], ◌++◌, Option}
-use Rattle.std.proofs.Common.{Some, None, refl, sym, ap, ◌∙◌, inl, inr, arith}
-use Rattle.std.proofs.lemmas.Bool.{cases_Bool, Decides.nat_tests}
-use Rattle.std.specs.{Prelude.option_and_then, Option.option_map}
+use Rattle.std.proofs.Common.{rules, ◌≡◌, ◌==◌, ◌&&◌, Bool, true, false, cond, not, List, [], ◌++◌}
+use Rattle.std.proofs.Common.{Option, Some, None, refl, sym, ap, ◌∙◌, inl, inr, arith}
+use Rattle.std.{proofs.lemmas.Bool.{cases_Bool, Decides.nat_tests}, specs.Prelude.option_and_then}
+use Rattle.std.specs.Option.{option_map}
 use Rattle.room_entry.specs.{Ace.Ace, declared.object.{ObjKind.ObjKind, Which.Which}}
 use Rattle.room_entry.specs.declared.object.Which.TheVariants.{Dacl, Sacl}
 use Rattle.room_ace.specs.Sent.{Sent, inherited_of, own_of}
 use Rattle.room_rows.specs.{HeldList.Held, declared.node.Node.Node, Content.{Content, node_at}}
 use Rattle.room_rows.specs.Content.{parent_of, has_parent, is_linked_in, with_each, with_node}
 use Rattle.room_rows.specs.{Held.{held_of, full_of, with_held, is_linked}, Meaning.kept_held}
-use Rattle.room_rows.specs.{Meaning.{kept_node, meaning}, Pass.pass}
-use Rattle.room_rows.proofs.{Frames.{Rises, parent_is}, InPlace.{keeps_places, node_at-with_each}}
+use Rattle.room_rows.{specs.{Meaning.{kept_node, meaning}, Pass.pass}, proofs.Frames.Rises}
+use Rattle.room_rows.proofs.{Frames.parent_is, InPlace.{keeps_places, node_at-with_each}}
 use Rattle.room_rows.proofs.InPlace.{place-with_held, rises-with_each, with_each-with_each}
 use Rattle.room_rows.proofs.{InPlace.with_node-replaces, SamePlace.{IsSamePlace, replaced}}
 use Rattle.room_machine.specs.{Effect.{kept_by_child, sent_held, set_list}, Changed.stored_held}
 use Rattle.room_machine.specs.Site.{full_at}
-use Rattle.room_desk.specs.Setting.{kept_site}
-use Rattle.room_desk.proofs.Lists.{Relisted.{relist, kept_relisted}, SetHeld.{base, base_here}}
-use Rattle.room_desk.proofs.Lists.SetHeld.{base_elsewhere, each_same, ends, final, links}
-use Rattle.room_desk.proofs.Lists.SetHeld.{linked_finally, mid, other_links, own_held, same_object}
-use Rattle.room_desk.proofs.Lists.SetHeld.{unlinked_kept}
+use Rattle.room_desk.{specs.Setting.kept_site, proofs.Lists.Relisted.{relist, kept_relisted}}
+use Rattle.room_desk.proofs.Lists.SetHeld.{base, base_here, base_elsewhere, each_same, ends, final}
+use Rattle.room_desk.proofs.Lists.SetHeld.{links, linked_finally, mid, other_links, own_held}
+use Rattle.room_desk.proofs.Lists.SetHeld.{same_object, unlinked_kept}
 
 -- ---- one list
 
@@ -155,9 +154,7 @@ module _ (which : Which) (rows : Content) (node : Node) (held : Held) (lists : N
         (option_map (λ site. held_of which site.node)
         (option_map (kept_site rows) (parent_of rows node)))) (plain which rows sent n.kind)))
         ∙ ap (λ t. kept_by_child t set.flags.auto n.kind (full_at which (kept_site rows node))
-        (held_of which (keeps n)))
-        (sym (ap (λ (h : Held). h.flags.auto) (held_kept which rows node)
-        ∙ ap (λ f. f.auto) (flags_kept (is_linked_in rows which node) (held_of which node))))
+        (held_of which (keeps n))) (search (rules, held_kept, flags_kept))
       where
         above : parent_of rows n ≡ Some node
         above = ap (option_and_then (node_at rows)) (parent_is node.id n is) ∙ there
@@ -209,9 +206,7 @@ module _ (which : Which) (rows : Content) (node : Node) (held : Held) (lists : N
       where
         places : Rattle.room_rows.proofs.InPlace.KeepsPlaces rows (λ n. changed (keeps n))
         places =
-            keeps_places rows (λ n. changed (keeps n))
-            (λ n. let p = place_changed (keeps n) in
-            record { number = p.number; parent = p.parent; name = p.name })
+            keeps_places rows (λ n. changed (keeps n)) (search (rules, place_changed))
 
         all_rise : Rises (with_each rows (λ n. changed (keeps n)))
         all_rise = rises-with_each rows (λ n. changed (keeps n)) places rises

@@ -1,14 +1,13 @@
 -- A request that sets a list is a step.
-use Rattle.std.proofs.Common.{◌≡◌, ℕ, false, List, [], ◌∷◌, ◌++◌, map, Option, Some, None, refl}
-use Rattle.std.proofs.{Common.{sym, ap, subst, ◌∙◌, Ok, Err, arith}, lemmas.Bool.Decides.nat_tests}
-use Rattle.std.specs.{Prelude.option_and_then, Option.{option_map, option_map_or}}
+use Rattle.std.proofs.Common.{rules, ◌≡◌, ℕ, false, List, [], ◌∷◌, ◌++◌, map, Option, Some, None}
+use Rattle.std.proofs.Common.{refl, sym, ap, subst, ◌∙◌, Ok, Err, arith}
+use Rattle.std.{proofs.lemmas.Bool.Decides.nat_tests, specs.Option.{option_map, option_map_or}}
 use Rattle.room_entry.specs.{Rights.write_acl, Valid.first_bad_entry}
 use Rattle.room_entry.specs.declared.{fault.EntryFault.EntryFault, object.Which.Which}
 use Rattle.room_ace.specs.Sent.{Sent}
 use Rattle.room_rows.specs.{declared.node.{Node.Node, AuditRow.AuditRow}, Content.node_at}
 use Rattle.room_rows.specs.{Content.{parent_of, root_of}, Keep.IsDamaged, Meaning.meaning}
-use Rattle.room_rows.specs.{Rows.{Rows, AreRows}, Sound.AreSound}
-use Rattle.room_rows.proofs.Frames.{root_of-parent}
+use Rattle.room_rows.{specs.{Rows.{Rows, AreRows}, Sound.AreSound}, proofs.Frames.root_of-parent}
 use Rattle.room_machine.specs.{Judge.records_of_plan, declared.reply.Reply.Reply}
 use Rattle.room_machine.specs.declared.reply.Reply.TheVariants.{Done, Refused}
 use Rattle.room_machine.specs.{declared.request.Request.TheVariants.SetList, Effect.set_list}
@@ -16,19 +15,19 @@ use Rattle.room_machine.specs.{Plan.{Check, Item, bad_list, plan_of, way, where_
 use Rattle.room_machine.specs.{Site.site_at, Stored.{stored_along, stored_plan, to_stored}}
 use Rattle.room_judge.specs.{declared.{asker.Asker.Asker, arrival.Found.Found}, Closed.IsServed}
 use Rattle.room_judge.specs.{Judged.{CarriesOut, IsJudged, IsReached, with_notes}, Spot.IsPaired}
-use Rattle.room_judge.specs.{Spot.pair_of, Stored.found_site}
-use Rattle.room_judge.proofs.{Closing.{closed_done, closed_failed}, Folders.pair_reached}
-use Rattle.room_judge.proofs.{Ways.{not_reached, reaches_with, unless}, Walked.root_reached}
-use Rattle.room_judge.proofs.Judging.{fails_first, judged_none, passes_first, refuses}
+use Rattle.room_judge.{specs.{Spot.pair_of, Stored.found_site}, proofs.Closing.closed_done}
+use Rattle.room_judge.proofs.{Closing.closed_failed, Folders.pair_reached, Ways.not_reached}
+use Rattle.room_judge.proofs.{Ways.{reaches_with, unless}, Judging.{fails_first, judged_none}}
+use Rattle.room_judge.proofs.Judging.{passes_first, refuses}
 use Rattle.room_desk.specs.{Carrying.{IsRooted, IsUnreadableIfHeld}, Setting.Beneath}
 use Rattle.room_desk.specs.Setting.{IsFoundUnder, IsSetOnly, IsSetOrRefused, IsSetWell, SetUnless}
-use Rattle.room_desk.specs.Setting.{kept_site, reason_of}
+use Rattle.room_desk.{specs.Setting.{kept_site, reason_of}, proofs.Moves.MovingPlan.along_noted}
+use Rattle.room_desk.proofs.{Sound.RootedWays.rooted_along, Steps.Serving.CheckAt}
+use Rattle.room_desk.proofs.{Steps.Stepping.{changed_step, refused_step}, Lists.HandedDown.beside}
+use Rattle.room_desk.proofs.Lists.{HandedDown.set_noted, SetEffect.set_effect}
+use Rattle.room_desk.proofs.{Made.Uplink.{parent_paired, target_stands}, Bytes.Appending.more_items}
 use Rattle.room_sound.proofs.{Blamed.noted_unread, Filled.{fill_item, plan_judged}, Sites.fill}
 use Rattle.room_sound.proofs.SoundParts.{sound_noted, sound_parts}
-use Rattle.room_desk.proofs.{Moves.MovingPlan.along_noted, Sound.RootedWays.rooted_along}
-use Rattle.room_desk.proofs.Steps.{Serving.CheckAt, Stepping.{changed_step, refused_step}}
-use Rattle.room_desk.proofs.Lists.{HandedDown.{beside, set_noted}, SetEffect.set_effect}
-use Rattle.room_desk.proofs.{Made.Uplink.{parent_paired, target_stands}, Bytes.Appending.more_items}
 
 module _ (path : List (List ℕ)) (which : Which) (sent : Sent) where
   -- the refusal of an entry that may not stand there
@@ -107,13 +106,8 @@ module _ (asker : Asker) (path : List (List ℕ)) (which : Which) (sent : Sent) 
         changed_step asker (SetList path which sent) old known sound mid new Done
         (set_list (meaning old.read) which sent
         (option_map (kept_site old.read) (parent_of old.read node)) (kept_site old.read node))
-        judged
-        (λ id. set_effect old are
-        (sound_parts old sound) which sent node path reached.found asker.caller id)
-        (well.means
-        ∙ ap (λ (r : Rows). set_list (meaning r.read) which sent
-        (option_map (kept_site r.read) (parent_of r.read node)) (kept_site r.read node))
-        judged.notes)
+        judged (search (rules, set_effect, sound_parts, sound))
+        (search (rules, well.means, judged.notes))
         well.sound
 
     on_faults : (faults : Option EntryFault) (new : Rows) (reply : Reply)
@@ -165,8 +159,7 @@ module _ (asker : Asker) (path : List (List ℕ)) (which : Which) (sent : Sent) 
   checked new bits refusal same judged =
       reaches_with asker path (CheckAt (write_acl ∷ [])) old mid new target.node target refusal
       (ap (λ (d : ℕ). record { node = target.node; depth = d }) found.depth) found.reached
-      (subst (λ (b : List ℕ). IsJudged asker (Check (found_site path target) b ∷ []) mid refusal
-      new) same judged)
+      (search (rules, new, same, judged))
 
   pub not_allowed : (new : Rows) (bits : List ℕ) (reply : Reply) → bits ≡ write_acl ∷ []
       → IsJudged asker (Check (found_site path target) bits ∷ []) mid (Some reply) new
@@ -182,8 +175,7 @@ module _ (asker : Asker) (path : List (List ℕ)) (which : Which) (sent : Sent) 
         → IsServed asker (SetList path which sent) old reply new
     allowed_done new reply said =
         let reached = checked end bits None same judged in
-        set_done asker path which sent old end target.node found.are reached new reply
-        (said (ap (λ (r : Rows). parent_of r.read target.node) reached.judged.notes ∙ found.parent))
+        search (rules, set_done, reached, new, said, reached.judged.notes)
 
     pub allowed_blames : (row : ℕ) → IsUnreadableIfHeld target.node end row → IsDamaged old row
     allowed_blames row fails =
@@ -214,11 +206,4 @@ pub found_root : (asker : Asker) (path : List (List ℕ)) (root : Node) (old mid
     → AreRows old → root_of old.read ≡ Some root → mid ≡ old
     → IsFoundUnder asker path (record { node = root; depth = 0 }) None old mid
 found_root asker path root old mid empty are is same =
-    subst (λ (p : List (List ℕ)). IsFoundUnder asker p
-    (record { node = root; depth = 0 }) None old mid) (sym empty)
-    (record {
-      are = are;
-      reached = root_reached asker [] 0 root old mid refl is same;
-      depth = refl;
-      parent = ap (option_and_then (node_at old.read)) (root_of-parent old.read root is);
-    })
+    search (rules, root, empty, are, is, same, old.read, root_of-parent)

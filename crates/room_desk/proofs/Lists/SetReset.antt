@@ -1,6 +1,6 @@
 -- The operator's reset of a list is its step.
-use Rattle.std.proofs.Common.{◌≡◌, ℕ, zero, suc, true, false, List, [], ◌∷◌, ◌++◌, filter, length}
-use Rattle.std.proofs.Common.{map, Option, Some, None, refl, sym, ap, subst, ◌∙◌, arith}
+use Rattle.std.proofs.Common.{rules, ◌≡◌, ℕ, zero, suc, true, false, List, [], ◌∷◌, ◌++◌, filter}
+use Rattle.std.proofs.Common.{length, map, Option, Some, None, refl, sym, ap, subst, ◌∙◌, arith}
 use Rattle.std.proofs.lemmas.Bool.Decides.{nat_tests}
 use Rattle.std.specs.{Prelude.{◌-◌, slice_get}, Option.option_map_or}
 use Rattle.room_ace.specs.Sent.{Sent}
@@ -106,8 +106,7 @@ module _ (old : Rows) (are : AreRows old) (sound : AreSound old) (path : List (L
       (first_failure operator
       (refusals rows are.numbers operator (items path which sent) folders
       (stored_from rows [] root.0 path) path)) reached.0 reached.1 =
-      comes rows are.numbers operator (items path which sent) folders path
-      [] path root.0 there refl in
+      search (rules, comes, root.0, there) in
       grind (arith, nat_tests, comes, folders, items, refusals)
 
   -- the reply and the content after, by what is refused
@@ -118,12 +117,7 @@ module _ (old : Rows) (are : AreRows old) (sound : AreSound old) (path : List (L
 
   module _ (last : Node) (new : Rows) (reply : Reply) where
     refused_so : answer ≡ Some reply → new ≡ old → ResetsSound path which sent old reply new
-    refused_so is same _ =
-        record {
-          reset = cc (reset_is (Some reply) is, same);
-          sound =
-              subst AreSound (sym same) sound;
-        }
+    refused_so is same _ = search (rules, reset_is, is, same)
 
     at_target : (faults : Option EntryFault)
         → first_bad_entry 1 which last.kind sent.entries ≡ faults → node_at rows last.id ≡ Some last

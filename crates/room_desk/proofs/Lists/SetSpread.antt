@@ -4,15 +4,14 @@ use Rattle.std.proofs.Common.{map, Option, Some, None, refl, sym, ap, subst, inl
 use Rattle.std.proofs.lemmas.Bool.{and_from, cases_Bool, or_left, or_right, Decides.nat_tests}
 use Rattle.std.specs.{List.{AllByRecursion, list_all}, Option.{option_map, option_map_or}}
 use Rattle.room_entry.specs.{Ace.Ace, Same.same_entries, declared.object.ObjKind.ObjKind}
-use Rattle.room_entry.specs.declared.object.Which.{Which}
+use Rattle.room_entry.{specs.declared.object.Which.Which, proofs.Same.entries_equal}
+use Rattle.room_entry.proofs.Alike.{entries_themselves}
 use Rattle.room_ace.specs.Sent.{Sent}
-use Rattle.room_entry.proofs.{Same.entries_equal, Alike.entries_themselves}
 use Rattle.room_rows.specs.{HeldList.Held, declared.node.Node.Node, Content.{Content, node_at}}
 use Rattle.room_rows.specs.Content.{parent_of, has_parent, is_linked_in, reaches_root}
 use Rattle.room_rows.specs.{Held.{held_of, full_of, is_linked}, Law.{AllAgree, AllAgreeBut, agrees}}
-use Rattle.room_rows.specs.{Law.agrees_with, Pass.pass}
-use Rattle.room_rows.proofs.{Frames.Rises, Lookups.each_found}
-use Rattle.room_inherit.specs.Spread.{IsLinkedBelow, is_changed, is_linked_within, is_within}
+use Rattle.room_rows.{specs.{Law.agrees_with, Pass.pass}, proofs.{Frames.Rises, Lookups.each_found}}
+use Rattle.room_inherit.specs.Spread.{IsLinkedBelow, is_changed, is_linked_within}
 use Rattle.room_inherit.proofs.Rooted.{rooted_no_loop}
 use Rattle.room_machine.specs.Changed.{stored_held}
 use Rattle.room_desk.proofs.Lists.Relisted.{relist, relisted, held_relisted, kind_kept, parent_kept}
@@ -53,8 +52,7 @@ not_own_parent rows node n there reaches = elim (cases_Bool (has_parent node.id 
         there,
         (
           suc zero,
-          or_left (has_parent node.id node)
-              (option_map_or (is_within zero rows node.id) (parent_of rows node) false) is,
+          grind (arith, nat_tests, or_left, node.id, node, rows, is),
         ),
       ))
   | inr isnt ↦ isnt

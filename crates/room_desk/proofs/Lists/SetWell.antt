@@ -1,21 +1,20 @@
 -- Where a list is set and carried down, what the rows mean changes likewise, and they stay sound.
-use Rattle.std.proofs.Common.{◌≡◌, ℕ, ◌+◌, Bool, true, false, List, [], ◌∷◌, filter, length, Option}
-use Rattle.std.proofs.Common.{Some, None, refl, sym, ap, subst, ◌∙◌, inl, inr, arith}
+use Rattle.std.proofs.Common.{rules, ◌≡◌, ℕ, ◌+◌, Bool, true, false, List, [], ◌∷◌, filter, length}
+use Rattle.std.proofs.Common.{Option, Some, None, refl, sym, ap, subst, ◌∙◌, inl, inr, arith}
 use Rattle.std.proofs.lemmas.{List.map-id, Option.same_Some, Bool.Decides.nat_tests}
 use Rattle.std.specs.{Prelude.nat_le, List.list_all, Option.option_map}
 use Rattle.room_entry.specs.{Ace.Ace, declared.object.{ObjKind.ObjKind, Which.Which}}
+use Rattle.room_entry.proofs.Facts.Lists.{all_implied}
 use Rattle.room_ace.specs.Sent.{Sent, inherited_of, limit_fault, own_of}
 use Rattle.room_rows.specs.{HeldList.Held, declared.node.Node.Node, Content.{Content, node_at}}
 use Rattle.room_rows.specs.Content.{parent_of, has_parent, is_linked_in, with_each, with_node}
 use Rattle.room_rows.specs.{Held.{held_of, full_of, is_linked, with_held}, Keep.with_content}
 use Rattle.room_rows.specs.{Rows.{Rows, AreRows}, Law.{AllAgree, agrees}, Pass.pass, Sound.AreSound}
-use Rattle.room_rows.specs.Sound.{keeps_law, reaches}
-use Rattle.room_rows.proofs.InPlace.{with_node-there}
+use Rattle.room_rows.{specs.Sound.{keeps_law, reaches}, proofs.InPlace.with_node-there}
 use Rattle.room_inherit.specs.{Laws.are_valid, Spread.{IsSpread, with_lists}}
 use Rattle.room_inherit.proofs.{Kinship.with_own, NoFault.no_fault}
 use Rattle.room_desk.specs.Setting.{IsNewInh, IsSet, IsSetOnly, IsSetWell, Stores, fault_in}
 use Rattle.room_desk.specs.{Setting.held_with, Carrying.GoesDown}
-use Rattle.room_machine.specs.Changed.{HandsDown, stored_held}
 use Rattle.room_desk.proofs.Lists.HandedDown.{nothing_handed, only_read, spread_handed}
 use Rattle.room_desk.proofs.Lists.{Relisted.{held_relisted, one_agrees, relist}, SetHeld.base}
 use Rattle.room_desk.proofs.Lists.SetHeld.{base_here, each_same, ends, ends_is, final, links, mid}
@@ -23,7 +22,7 @@ use Rattle.room_desk.proofs.Lists.{SetHeld.{other_links, own_held, set_sound}, S
 use Rattle.room_desk.proofs.Lists.SetSpread.{agree_all, agree_but, not_own_parent}
 use Rattle.room_desk.proofs.Lists.{SetSpread.unlinked_unchanged, ValidDown.all_found}
 use Rattle.room_desk.proofs.Lists.ValidDown.{are_inherited, are_own, linked_above}
-use Rattle.room_entry.proofs.Facts.Lists.{all_implied}
+use Rattle.room_machine.specs.Changed.{HandsDown, stored_held}
 
 -- ---- the sent entries
 
@@ -196,8 +195,7 @@ module _ (which : Which) (sent : Sent) (node : Node) (inh : List Ace) (old new :
   )
   only (inr written) there =
       let writes = written.writes node there in
-      let goes = written.goes there in
-      grind (arith, nat_tests, hands_down, only_read, still_unread, stored)
+      search (rules, written.goes, there, hands_down, only_read, still_unread, stored)
 
   well : Stores which node held old tt new → node_at old.read node.id ≡ Some node
       → fault_in 1 which node.kind sent.entries ≡ None → limit_fault sent.entries ≡ None

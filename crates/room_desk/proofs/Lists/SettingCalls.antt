@@ -1,6 +1,6 @@
 -- The calls that set a list.
-use Rattle.std.proofs.Common.{◌≡◌, ℕ, Bool, true, false, List, Option, ◌+◌, ◌≤◌, sym, ap, subst}
-use Rattle.std.proofs.{Common.{◌∙◌, arith}, lemmas.Bool.Decides.nat_tests}
+use Rattle.std.proofs.Common.{rules, ◌≡◌, ℕ, Bool, true, false, List, Option, ◌+◌, ◌≤◌, sym, ap}
+use Rattle.std.proofs.{Common.{subst, ◌∙◌, arith}, lemmas.Bool.Decides.nat_tests}
 use Rattle.room_entry.specs.{Ace.Ace, declared.{flags.ListFlags.ListFlags, object.Which.Which}}
 use Rattle.room_ace.specs.Sent.{Sent}
 use Rattle.room_rows.specs.{HeldList.Held, declared.node.Node.Node, Held.with_held, Keep.Changes}
@@ -11,12 +11,11 @@ use Rattle.room_desk.specs.Carrying.{HasLoop, HasLoopFrom, IsCarriedDown, IsCarr
 use Rattle.room_desk.specs.{Carrying.{IsUnreadableIfHeld, StandsRooted}, Setting.Beneath}
 use Rattle.room_desk.specs.Setting.{IsNewInh, IsSet, IsWrittenDown, Stores, list_of, entries_marked}
 use Rattle.room_desk.specs.{Setting.held_with, Counted.{EachList, OneAndEach, OneWrite, Provided}}
-use Rattle.room_desk.specs.Counted.{changed_lists}
+use Rattle.room_desk.{specs.Counted.changed_lists, proofs.Writes.ChangedLists.fewer}
+use Rattle.room_desk.proofs.{Writes.Sufficing.rooted_recorded, Sound.Anchored.changed_unread}
+use Rattle.room_desk.proofs.Lists.SetWell.{well_stored}
 use Rattle.room_machine.specs.Changed.{passing_parent, stored_inh}
-use Rattle.room_judge.specs.Extent.{unrecorded}
-use Rattle.room_judge.proofs.UpTo.{Share}
-use Rattle.room_desk.proofs.Writes.{ChangedLists.fewer, Sufficing.rooted_recorded}
-use Rattle.room_desk.proofs.{Sound.Anchored.changed_unread, Lists.SetWell.well_stored}
+use Rattle.room_judge.{specs.Extent.unrecorded, proofs.UpTo.Share}
 
 -- a row that can't be read, before anything is written
 pub unread_before : (node : Node) (old mid : Rows) (row : ℕ) → mid ≡ old → IsUnreadable mid row
@@ -72,9 +71,7 @@ module _ (which : Which) (node : Node) (held : Held) (old mid : Rows)
           (λ n. (place-with_held which held n).number)
           (λ n. (place-with_held which held n).parent) old mid new changes rooted
           (subst (λ (i : ℕ). IsCarriedDown which i mid tt new) number (down (holds_now enough.0.0)))
-          in
-          let all : changed_lists which old new + 1 ≤ more = enough.1 in
-          omega arith
+          in search (rules, new, enough.1)
 
   pub written_still : (auto : Bool) → auto ≡ false → held.flags.auto ≡ auto
       → IsWrittenDown which node held old tt mid

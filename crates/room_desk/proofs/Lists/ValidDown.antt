@@ -2,20 +2,18 @@
 use Rattle.std.proofs.Common.{◌≡◌, ℕ, zero, suc, ◌==◌, ◌&&◌, ◌||◌, Bool, true, false, cond, not}
 use Rattle.std.proofs.Common.{List, [], ◌∷◌, ◌++◌, length, Option, Some, None, refl, sym, ap, ◌∙◌}
 use Rattle.std.proofs.{Common.{inl, inr, arith}, lemmas.Bool.{and_parts, cases_Bool, false≢true}}
-use Rattle.std.proofs.lemmas.Bool.Decides.{nat_tests}
-use Rattle.std.specs.{Prelude.{is_none, nat_le, option_and_then}, List.{list_all, cons_option}}
-use Rattle.std.specs.Option.{option_map, option_map_or}
+use Rattle.std.{proofs.lemmas.Bool.Decides.nat_tests, specs.Prelude.{is_none, nat_le}}
+use Rattle.std.specs.{Prelude.option_and_then, List.{list_all, cons_option}, Option.option_map}
+use Rattle.std.specs.Option.{option_map_or}
 use Rattle.room_entry.specs.{Ace.Ace, declared.object.ObjKind.{ObjKind, TheVariants.Folder}}
-use Rattle.room_entry.specs.declared.object.Which.{Which}
-use Rattle.room_entry.proofs.{Same.entries_equal, Facts.Booleans.implied}
+use Rattle.room_entry.{specs.declared.object.Which.Which, proofs.Same.entries_equal}
+use Rattle.room_entry.proofs.Facts.Booleans.{implied}
 use Rattle.room_rows.specs.{HeldList.Held, declared.node.Node.Node, Content.{Content, node_at}}
 use Rattle.room_rows.specs.Content.{parent_of, is_folder, has_folder_above, reaches_root}
 use Rattle.room_rows.specs.{Content.is_linked_in, Held.{held_of, full_of}, Law.AllAgree, Pass.pass}
-use Rattle.room_rows.specs.Sound.{is_sound_held}
-use Rattle.room_rows.proofs.Frames.{node_at-number}
+use Rattle.room_rows.{specs.Sound.is_sound_held, proofs.Frames.node_at-number}
 use Rattle.room_inherit.proofs.{Stored.parent_reaches, Valid.pass_is_valid, Migrated.folder_is}
-use Rattle.room_inherit.proofs.Migrated.{marked_flags}
-use Rattle.room_inherit.specs.Laws.{are_valid}
+use Rattle.room_inherit.{proofs.Migrated.marked_flags, specs.Laws.are_valid}
 
 -- ---- own and inherited entries apart
 

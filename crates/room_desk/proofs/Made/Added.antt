@@ -1,13 +1,12 @@
 -- Rows to which an object is added whose number wasn't in use.
-use Rattle.std.proofs.Common.{◌≡◌, ℕ, zero, suc, ◌+◌, ◌==◌, Bool, true, false, cond, List, [], ◌∷◌}
-use Rattle.std.proofs.Common.{◌++◌, filter, length, Option, Some, None, nat_lt, refl, ap, subst}
-use Rattle.std.proofs.{Common.{◌∙◌, arith, length-append}, lemmas.Bool.false≢true}
-use Rattle.std.proofs.lemmas.{Bool.Decides.nat_tests, List.Elements.filter-append}
-use Rattle.std.specs.{List.{list_all, AllByRecursion as Each}, Option.option_map_or}
+use Rattle.std.proofs.Common.{rules, ◌≡◌, ℕ, zero, suc, ◌==◌, Bool, true, false, cond, List, []}
+use Rattle.std.proofs.Common.{◌∷◌, ◌++◌, filter, length, Option, Some, None, nat_lt, refl, ap}
+use Rattle.std.proofs.{Common.{arith, length-append}, lemmas.Bool.{false≢true, Decides.nat_tests}}
+use Rattle.std.{proofs.lemmas.List.Elements.filter-append, specs.List.list_all}
+use Rattle.std.specs.{List.AllByRecursion as Each, Option.option_map_or}
 use Rattle.room_rows.specs.{declared.node.Node.Node, Content.{Content, node_at, parent_of}}
 use Rattle.room_rows.specs.{Content.{put_node, has_folder_above, reaches_root}, Finding.find_id}
-use Rattle.room_rows.specs.Rows.{Rows, AreRows}
-use Rattle.room_rows.proofs.Lookups.{find-put_same, find-put_other}
+use Rattle.room_rows.{specs.Rows.{Rows, AreRows}, proofs.Lookups.{find-put_same, find-put_other}}
 use Rattle.room_entry.proofs.Facts.Members.{each_append, each_front, each_back, all_each}
 use Rattle.room_inherit.proofs.Children.{each_there, apart_rising}
 
@@ -43,18 +42,13 @@ pub each_put : (P : Node → Type 0) (new : Node) (nodes : List Node) → find_i
     → Each P nodes → P new → Each P (put_node new nodes)
 each_put P new nodes unused all here =
     let b = between new nodes unused in
-    let parts : Each P (b.front ++ b.back) = subst (Each P) b.before all in
-    grind (arith, nat_tests, each_append, each_back, each_front)
+    search (rules, b.front, b.back, b.before, each_append, each_back, each_front)
 
 pub length_put : (new : Node) (nodes : List Node) → find_id new.id nodes ≡ None
     → length (put_node new nodes) ≡ suc (length nodes)
 length_put new nodes unused =
     let b = between new nodes unused in
-    let then : length (put_node new nodes) ≡ length b.front + length (new ∷ b.back) =
-    ap length b.after ∙ length-append b.front (new ∷ b.back) in
-    let first : length nodes ≡ length b.front + length b.back =
-    cc (b.before, length-append b.front b.back) in
-    omega arith
+    search (rules, new, b.front, b.back, b.after, length-append, b.before)
 
 pub filter_put : (p : Node → Bool) (new : Node) (nodes : List Node) → find_id new.id nodes ≡ None
     → p new ≡ false → filter p (put_node new nodes) ≡ filter p nodes

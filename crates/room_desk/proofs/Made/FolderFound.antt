@@ -1,18 +1,17 @@
 -- The folder that a walk came to is there, and is one, and what isn't found under it isn't there.
 use Rattle.std.proofs.Common.{◌≡◌, ℕ, ◌<◌, Bool, true, false, cond, not, List, [], ◌∷◌, ◌++◌}
-use Rattle.std.proofs.Common.{length, Option, Some, None, refl, ◌∙◌}
-use Rattle.std.specs.Prelude.{is_none}
+use Rattle.std.{proofs.Common.{length, Option, Some, None, refl, ◌∙◌}, specs.Prelude.is_none}
 use Rattle.room_entry.specs.Rights.{execute}
 use Rattle.room_rows.specs.{declared.node.Node.Node, Content.{node_at, child_of, is_folder}}
 use Rattle.room_rows.specs.Rows.{Rows, AreRows}
 use Rattle.room_judge.specs.{declared.{arrival.Found.Found, asker.Asker.Asker}, Stored.found_site}
 use Rattle.room_judge.specs.{Judged.through, Spot.{IsSpotted, spot_of}}
+use Rattle.room_judge.proofs.{Judging.failure_of_parts, Spots.folder_along, Folders.stem_of}
+use Rattle.room_judge.proofs.Folders.{folder_is, lacks}
 use Rattle.room_machine.specs.declared.reply.Reply.TheVariants.{Refused}
 use Rattle.room_machine.specs.{declared.reply.Reason.TheVariants.NotFolder, Site.{Site, front}}
 use Rattle.room_machine.specs.{Site.last_name, Plan.{Item, Check, Refusal, way}, Judge.failure}
 use Rattle.room_machine.specs.{Judge.first_failure, Stored.stored_along}
-use Rattle.room_judge.proofs.{Judging.failure_of_parts, Spots.folder_along, Folders.stem_of}
-use Rattle.room_judge.proofs.Folders.{folder_is, lacks}
 use Rattle.room_desk.proofs.Steps.Serving.{none_both, along_there}
 
 pub record IsFoundFolder (old : Rows) (path : List (List ℕ)) (folder : Node)

@@ -1,14 +1,15 @@
 -- A request that makes a folder is a step.
-use Rattle.std.proofs.Common.{◌≡◌, ℕ, ◌<◌, Bool, true, cond, List, [], length, take, Option, Some}
-use Rattle.std.proofs.{Common.{None, refl, sym, ap, subst, ◌∙◌, Err, arith}, lemmas.Bool.false≢true}
-use Rattle.std.proofs.lemmas.Bool.Decides.{nat_tests}
-use Rattle.std.specs.{Prelude.{is_none, is_some}, Option.option_map}
+use Rattle.std.proofs.Common.{rules, ◌≡◌, ℕ, ◌<◌, Bool, true, cond, List, [], length, take, Option}
+use Rattle.std.proofs.{Common.{Some, None, refl, ap, ◌∙◌, Err, arith}, lemmas.Bool.false≢true}
+use Rattle.std.{proofs.lemmas.Bool.Decides.nat_tests, specs.Prelude.{is_none, is_some}}
+use Rattle.std.specs.Option.{option_map}
 use Rattle.room_entry.specs.declared.object.ObjKind.TheVariants.{Folder}
 use Rattle.room_rows.specs.{declared.node.Node.Node, Content.child_of, Meaning.meaning, Rows.Rows}
 use Rattle.room_rows.specs.Rows.{AreRows}
 use Rattle.room_judge.specs.{declared.{arrival.Found.Found, asker.Asker.Asker}, Closed.IsClosed}
 use Rattle.room_judge.specs.{Closed.IsServed, Stored.found_site, Judged.{IsJudged, CarriesOut}}
-use Rattle.room_judge.specs.Spot.{IsSpotted, spot_of}
+use Rattle.room_judge.{specs.Spot.{IsSpotted, spot_of}, proofs.Closing.{closed_done, closed_failed}}
+use Rattle.room_judge.proofs.Judging.{fails_first, passes_first, refuses}
 use Rattle.room_machine.specs.declared.reply.Reply.{Reply, TheVariants.{Made, Refused}}
 use Rattle.room_machine.specs.declared.reply.Reason.TheVariants.{Exists}
 use Rattle.room_machine.specs.{declared.request.Request.TheVariants.MakeFolder, Site.last_name}
@@ -16,8 +17,6 @@ use Rattle.room_machine.specs.{Site.{parent_at, site_at}, Plan.{plan_of, where_f
 use Rattle.room_machine.specs.{Judge.records_of_plan, Stored.{stored_site, stored_along}}
 use Rattle.room_machine.specs.{Stored.stored_plan, Changed.new_child}
 use Rattle.room_desk.specs.Made.{Ends, IsMade, IsNameOf, IsJudgedAndDone}
-use Rattle.room_judge.proofs.{Closing.{closed_done, closed_failed}, Judging.fails_first}
-use Rattle.room_judge.proofs.Judging.{passes_first, refuses}
 use Rattle.room_desk.proofs.Steps.{Serving.none_both, Stepping.{made_step, refused_step}}
 use Rattle.room_desk.proofs.Made.{FolderFound.{IsFoundFolder, found_folder}, FolderPlans.folder_at}
 use Rattle.room_desk.proofs.Made.FolderPlans.{folder_judged, folder_plan, making, planned_parent}
@@ -39,14 +38,8 @@ module _ (asker : Asker) (path : List (List ℕ)) where
   pub folder_root : (old new : Rows) (reply : Reply) → path ≡ [] → reply ≡ Refused [] Exists
       → new ≡ old → IsServed asker (MakeFolder path) old reply new
   folder_root old new reply root replies same = (
-    λ known sound. refused_step asker (MakeFolder path) old known sound new reply
-        (subst (λ (p : List (List ℕ)). IsJudged asker (plan_of (meaning old.read) (MakeFolder p))
-        old (Some reply) new) (sym root)
-        (refuses asker [] Exists true [] old new reply replies refl same)),
-    closed_failed asker (MakeFolder path) old reply new
-        (subst (λ (p : List (List ℕ)). IsJudged asker (stored_plan old.read (MakeFolder p)) old
-        (Some reply) new) (sym root)
-        (refuses asker [] Exists true [] old new reply replies refl same)),
+    search (rules, refused_step, old, new, root, refuses, replies, same),
+    search (rules, closed_failed, old, new, root, refuses, replies, same),
   )
 
   -- what is judged at the stored lists is the plan by them
@@ -127,8 +120,7 @@ module _ (asker : Asker) (path : List (List ℕ)) where
         new
         → IsServed asker (MakeFolder path) old reply new
     made_on None last new reply judged ends =
-        subst (λ (r : Reply). IsServed asker (MakeFolder path) old r new) (sym ends.0)
-        (folder_made last new judged ends.1, folder_closed last new judged ends.1)
+        search (rules, new, ends.0, folder_made, judged, ends.1, folder_closed)
     made_on (Some refusal) last new reply judged ends =
         search (at_stored, judged_refused, making, not_made)
 

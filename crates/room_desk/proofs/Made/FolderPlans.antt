@@ -2,8 +2,7 @@
 -- from the root.
 use Rattle.std.proofs.Common.{◌≡◌, ℕ, ◌<◌, Bool, true, List, [], ◌∷◌, ◌++◌, map, length, Option}
 use Rattle.std.proofs.{Common.{Some, None, refl, arith}, lemmas.List.map-append}
-use Rattle.std.proofs.lemmas.Bool.Decides.{nat_tests}
-use Rattle.std.specs.{Prelude.is_some, Option.option_map}
+use Rattle.std.{proofs.lemmas.Bool.Decides.nat_tests, specs.{Prelude.is_some, Option.option_map}}
 use Rattle.room_entry.specs.Rights.{append_data}
 use Rattle.room_rows.specs.{Content.Content, Meaning.meaning, Rows.{Rows, AreRows}}
 use Rattle.room_judge.specs.{declared.asker.Asker.Asker, Judged.IsJudged}

@@ -17,7 +17,7 @@ use Rattle.room_rows.specs.Sound.{AreSound, fits_kind, has_sound_lists, is_sound
 use Rattle.room_rows.proofs.InPlace.{body_of-with_body, body_of-with_body-other}
 use Rattle.room_inherit.proofs.{Children.{ids_of, each_there, apart_rising}, Renewing.map_agree}
 use Rattle.room_inherit.proofs.{Valid.pass_is_valid, Migrated.folder_is}
-use Rattle.room_machine.specs.{Effect.new_node, Changed.{new_child, passed_held}}
+use Rattle.room_machine.specs.{Effect.new_node, Changed.{child_node, passed_held}}
 use Rattle.room_machine.specs.Stored.{stored_site}
 use Rattle.room_desk.proofs.Made.SoundAdded.{above_new, above_old, lists_here, sound_added}
 use Rattle.room_desk.proofs.Lists.ValidDown.{passed_marked}
@@ -31,10 +31,10 @@ passed_sound : (which : Which) (kind : ObjKind) (parent : Held)
 passed_sound which kind parent is = grind (arith, nat_tests, pass_is_valid, passed_marked)
 
 -- the lists of a new object are sound if its parent's are
-child_sound : (caller : Caller) (kind : ObjKind) (parent : Node) (name bytes : List ℕ) (id : ℕ)
+child_sound : (caller : Caller) (kind : ObjKind) (parent : Node) (name : List ℕ) (id : ℕ)
     → is_folder parent ≡ true → has_sound_lists parent ≡ true
-    → has_sound_lists (node_of id (new_child caller kind parent name bytes)) ≡ true
-child_sound caller kind parent name bytes id folder valid =
+    → has_sound_lists (node_of id (child_node caller kind parent name)) ≡ true
+child_sound caller kind parent name id folder valid =
     grind (arith, nat_tests, folder_is, passed_sound)
 
 -- ---- bytes belong to a number in use
@@ -122,7 +122,7 @@ module _ (old : Rows) (are : AreRows old) (were : AreSound old) (caller : Caller
     (there : node_at old.read folder.id ≡ Some folder) (is_above : is_folder folder ≡ true)
     (free : child_of old.read folder.id name ≡ None) where
   abbrev new : Node
-  new = node_of id (new_child caller kind folder name bytes)
+  new = node_of id (child_node caller kind folder name)
 
   -- the rows with the object and its bytes
   abbrev pub added : Content
@@ -138,7 +138,7 @@ module _ (old : Rows) (are : AreRows old) (were : AreSound old) (caller : Caller
   added_sound named few =
       sound_added old are were new folder
       (bodies_then kind id bytes old.read.bodies) unused there is_above refl free named
-      (child_sound caller kind folder name bytes id is_above (lists_here old were folder there))
+      (child_sound caller kind folder name id is_above (lists_here old were folder there))
       (or_right (not (is_linked new.dacl (Some folder.dacl))) _
       (entries_themselves (pass kind (full_of folder.dacl))))
       (or_right (not (is_linked new.sacl (Some folder.sacl))) _

@@ -1,6 +1,6 @@
 -- A request that puts a document is a step.
-use Rattle.std.proofs.Common.{◌≡◌, ℕ, Bool, true, false, cond, List, [], ◌∷◌, length, take, Option}
-use Rattle.std.proofs.Common.{Some, None, nat_lt, refl, ap, inl, inr, Ok, Err, arith}
+use Rattle.std.proofs.Common.{rules, ◌≡◌, ℕ, Bool, true, false, cond, List, [], ◌∷◌, length, take}
+use Rattle.std.proofs.Common.{Option, Some, None, nat_lt, refl, inl, inr, Ok, Err, arith}
 use Rattle.std.proofs.{Math.Seq.take-length, lemmas.Bool.Decides.nat_tests}
 use Rattle.std.specs.Prelude.{is_none, nat_le}
 use Rattle.room_entry.specs.{Rights.write_data, Valid.is_document}
@@ -113,9 +113,7 @@ module _ (asker : Asker) (path : List (List ℕ)) (bytes : List ℕ) where
         let target = target_there old are (sound_parts old sound) path
         (stored_site path node) is in
         changed_step asker (Put path bytes) old known sound last new Done
-        (with_body (meaning old.read) node.id bytes) plan
-        (λ id. rw target.at
-        (ap (λ (s : Site). (Done, with_body (meaning old.read) s.node.id bytes)) target.filled))
+        (with_body (meaning old.read) node.id bytes) plan (search (rules, target.at, target.filled))
         (rw (new_is, plan.notes))
         (rw (new_is, plan.notes)
         (sound_noted (with_content old (with_body old.read node.id bytes)) _

@@ -1,26 +1,22 @@
 -- What is judged before an object is changed or made, in terms of the calls.
-use Rattle.std.proofs.Common.{◌≡◌, ℕ, ◌+◌, Bool, true, false, List, [], ◌∷◌, ◌++◌, length, Option}
+use Rattle.std.proofs.Common.{rules, ◌≡◌, ℕ, Bool, true, false, List, [], ◌∷◌, ◌++◌, length, Option}
 use Rattle.std.proofs.Common.{Some, None, arith, length-append, Result}
 use Rattle.std.proofs.lemmas.Bool.Decides.{nat_tests}
 use Rattle.room_entry.specs.Rights.{write_data}
-use Rattle.room_rows.specs.{declared.node.NewNode.NewNode, Keep.{IsDamaged, IsUnreadable, SetsBody}}
+use Rattle.room_rows.specs.Keep.{Addition, IsDamaged, IsUnreadable, SetsBody}
 use Rattle.room_rows.specs.{Paths.is_object_name, Rows.Rows}
 use Rattle.room_judge.specs.{declared.{asker.Asker.Asker, arrival.Under.Under}, Judged.IsJudged}
-use Rattle.room_judge.specs.Spot.{IsSpotted}
+use Rattle.room_judge.{specs.Spot.IsSpotted, proofs.Judging.{blames_first, judged_none}}
+use Rattle.room_judge.proofs.{Judging.{passes_first, passes_on, refuses}, Spots.last_of}
 use Rattle.room_machine.specs.declared.reply.Reply.{Reply, TheVariants.{Done, Made}}
 use Rattle.room_machine.specs.{declared.reply.Reason.Reason, Site.Site, Plan.{Check, Item, Refusal}}
 use Rattle.room_machine.specs.Plan.{no_folder, not_over}
 use Rattle.room_desk.specs.{Made.{IsMade, IsNameOf, IsJudgedAndDone}, Written.IsPut}
-use Rattle.room_judge.proofs.Judging.{blames_first, judged_none, passes_first, passes_on, refuses}
-use Rattle.room_judge.proofs.Spots.{last_of}
 
 -- the last part of a path that was split
 pub name_of_parts : (path names : List (List ℕ)) (name : List ℕ) → path ≡ names ++ name ∷ []
     → is_object_name name ≡ true → IsNameOf path name
-name_of_parts path names name parts sound =
-    let size : length path ≡ length names + length (name ∷ []) =
-    cc (parts, length-append names (name ∷ [])) in
-    grind (arith, nat_tests, last_of)
+name_of_parts path names name parts sound = search (rules, parts, length-append, last_of)
 
 -- a row that can't be read after the way
 pub spotted_blames : (asker : Asker) (path : List (List ℕ)) (spot : Result Under Reply)
@@ -37,7 +33,7 @@ module _ (asker : Asker) where
 
   -- a check passed, and what a refusal asks for isn't so
   pub added_behind : (site : Site) (mask bits : List ℕ) (path : List (List ℕ)) (why : Reason)
-      (holds : Bool) (node : NewNode) (old mid new : Rows) (answer : Option Reply) (reply : Reply)
+      (holds : Bool) (node : Addition) (old mid new : Rows) (answer : Option Reply) (reply : Reply)
       → mask ≡ bits → answer ≡ None → holds ≡ false
       → IsJudged asker (Check site mask ∷ []) old answer mid → (reply ≡ Made) × IsMade node mid new
       → IsJudgedAndDone asker (Check site bits ∷ Refusal path why holds ∷ []) Made

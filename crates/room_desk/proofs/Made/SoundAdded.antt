@@ -3,11 +3,11 @@ use Rattle.std.proofs.Common.{◌≡◌, ℕ, Bool, true, false, not, ◌&&◌, 
 use Rattle.std.proofs.Common.{length, Option, Some, None, nat_lt, refl, sym, ap, ◌∙◌, arith}
 use Rattle.std.proofs.lemmas.Bool.{false≢true, and_from, or_right, le-ltb, Decides.nat_tests}
 use Rattle.std.proofs.lemmas.{List.Folds.list_all-map, Slice.Eq.bytes_eq-Decides}
-use Rattle.std.proofs.Math.Bool.{not-not}
-use Rattle.std.specs.{Prelude.is_none, List.{find, list_all, AllByRecursion as Each}}
-use Rattle.std.specs.Option.{option_map_or}
+use Rattle.std.{proofs.Math.Bool.not-not, specs.{Prelude.is_none, List.{find, list_all}}}
+use Rattle.std.specs.{List.AllByRecursion as Each, Option.option_map_or}
 use Rattle.room_entry.specs.{Pieces.{is_among, same_text}, declared.object.Which.TheVariants.Dacl}
 use Rattle.room_entry.specs.declared.object.Which.TheVariants.{Sacl}
+use Rattle.room_entry.proofs.Facts.Members.{each_fails, any_none}
 use Rattle.room_rows.specs.{declared.node.Node.Node, Content.{Content, node_at, child_of}}
 use Rattle.room_rows.specs.Content.{parent_of, has_parent, has_folder_above, is_folder, is_root}
 use Rattle.room_rows.specs.{Content.{same_parent, put_node, body_at}, Finding.find_id}
@@ -16,10 +16,8 @@ use Rattle.room_rows.specs.{Rows.{put_numbers, unread_numbers}, Law.agrees_with,
 use Rattle.room_rows.specs.Sound.{bad_root, fits_kind, has_sound_body, has_sound_lists}
 use Rattle.room_rows.specs.Sound.{has_sound_name, keeps_law, reaches, same_place}
 use Rattle.room_rows.proofs.Frames.{has_its_parent}
-use Rattle.room_inherit.specs.Laws.{HasNoFault}
-use Rattle.room_inherit.proofs.{Children.{ids_of, each_found}, Ends.each_all, NoFault.no_fault}
-use Rattle.room_inherit.proofs.NoFault.{sound}
-use Rattle.room_entry.proofs.Facts.Members.{each_fails, any_none}
+use Rattle.room_inherit.{specs.Laws.HasNoFault, proofs.Children.{ids_of, each_found}}
+use Rattle.room_inherit.proofs.{Ends.each_all, NoFault.{no_fault, sound}}
 use Rattle.room_desk.proofs.Made.Added.{after, stays, comes, each_after, all_after, same_above}
 use Rattle.room_desk.proofs.Made.Added.{reaches_still, reaches_more, length_put, filter_put}
 use Rattle.room_desk.proofs.Made.Added.{each_put}

@@ -1,11 +1,10 @@
 -- The object at the end of a path, and the one above it.
 use Rattle.std.proofs.Common.{◌≡◌, ℕ, List, [], ◌∷◌, ◌++◌, Option, Some, None, refl, sym, ap, ◌∙◌}
-use Rattle.std.proofs.{Common.arith, lemmas.Bool.Decides.nat_tests}
-use Rattle.std.specs.Option.{option_map, option_map_or}
+use Rattle.std.{proofs.{Common.arith, lemmas.Bool.Decides.nat_tests}, specs.Option.option_map}
+use Rattle.std.specs.Option.{option_map_or}
 use Rattle.room_rows.specs.{declared.node.Node.Node, Content.{Content, child_of, node_at}}
-use Rattle.room_rows.specs.Content.{parent_of}
-use Rattle.room_rows.proofs.Frames.{Rises, child_of-is_there, child_of-parent, root_of-is_there}
-use Rattle.room_rows.proofs.Frames.{root_of-parent}
+use Rattle.room_rows.{specs.Content.parent_of, proofs.Frames.{Rises, child_of-is_there}}
+use Rattle.room_rows.proofs.Frames.{child_of-parent, root_of-is_there, root_of-parent}
 use Rattle.room_machine.specs.{Site.{Site, front, parent_at, site_at}, Stored.stored_along}
 use Rattle.room_machine.specs.Stored.{stored_from, stored_site}
 

@@ -1,16 +1,15 @@
 -- What is judged of a new name in a folder.
 use Rattle.std.proofs.Common.{◌≡◌, ℕ, ◌+◌, Bool, true, false, List, [], ◌∷◌, ◌++◌, take, length}
 use Rattle.std.proofs.{Common.{Option, Some, None, ap, subst, ◌∙◌, arith}, Math.Seq.take-length}
-use Rattle.std.proofs.lemmas.Bool.Decides.{nat_tests}
-use Rattle.std.specs.Prelude.{is_some}
+use Rattle.std.{proofs.lemmas.Bool.Decides.nat_tests, specs.Prelude.is_some}
 use Rattle.room_rows.specs.{declared.node.Node.Node, Content.child_of, Rows.Rows}
 use Rattle.room_judge.specs.{declared.asker.Asker.Asker, Judged.{IsJudged, name_after}}
+use Rattle.room_judge.proofs.Judging.{judged_none, passes_first, passes_on, refuses}
+use Rattle.room_judge.proofs.Spots.{name_is_last, take_front}
 use Rattle.room_machine.specs.declared.reply.{Reply.{Reply, TheVariants.Refused}, Reason.Reason}
 use Rattle.room_machine.specs.{declared.reply.Reason.TheVariants.{Exists, Loop}, Site.front}
 use Rattle.room_machine.specs.{Site.last_name, Plan.{Item, Refusal}}
 use Rattle.room_desk.specs.Moving.{IsTaken, JudgesAll, begins, free_place}
-use Rattle.room_judge.proofs.Judging.{judged_none, passes_first, passes_on, refuses}
-use Rattle.room_judge.proofs.Spots.{name_is_last, take_front}
 
 -- ---- in terms of the calls
 

@@ -1,23 +1,22 @@
 -- What is known of a new folder once all that is judged there has passed.
 use Rattle.std.proofs.Common.{◌≡◌, ℕ, suc, ◌<◌, ◌==◌, Bool, true, false, cond, List, [], ◌∷◌, ◌++◌}
 use Rattle.std.proofs.Common.{length, Option, Some, None, refl, sym, ap, ◌∙◌, arith}
-use Rattle.std.proofs.lemmas.Bool.{or_parts, false≢true, Decides.nat_tests}
-use Rattle.std.specs.{Prelude.is_some, List.list_any, Option.{option_map, option_map_or}}
+use Rattle.std.{proofs.lemmas.Bool.{or_parts, false≢true, Decides.nat_tests}, specs.Prelude.is_some}
+use Rattle.std.specs.{List.list_any, Option.{option_map, option_map_or}}
 use Rattle.room_entry.specs.declared.parties.Caller.{Caller}
 use Rattle.room_rows.specs.{declared.node.{Node.Node, AuditRow.AuditRow}, Content.Content}
 use Rattle.room_rows.specs.{Content.{child_of, is_folder, node_at, root_of}, Paths.is_object_name}
-use Rattle.room_rows.specs.{Rows.{Rows, AreRows}, Sound.AreSound}
-use Rattle.room_rows.proofs.Frames.{Rises, child_of-is_there, child_of-parent, root_of-is_there}
+use Rattle.room_rows.{specs.{Rows.{Rows, AreRows}, Sound.AreSound}, proofs.Frames.Rises}
+use Rattle.room_rows.proofs.Frames.{child_of-is_there, child_of-parent, root_of-is_there}
 use Rattle.room_rows.proofs.Frames.{root_of-parent}
 use Rattle.room_machine.specs.{declared.reply.Reply.Reply, Judge.first_failure, Site.Site}
 use Rattle.room_machine.specs.{Site.{site_at, parent_at, front, last_name}, Stored.stored_site}
 use Rattle.room_machine.specs.Stored.{stored_from, stored_along}
-use Rattle.room_judge.specs.Judged.{with_notes}
+use Rattle.room_judge.{specs.Judged.with_notes, proofs.Spots.{below_of, folder_found, target_found}}
 use Rattle.room_desk.specs.Moving.{CanGo, CanPlace, at_place, begins, goes_past}
 use Rattle.room_desk.proofs.Moves.{MovingPlan.along_noted, OnePath.met_by_names}
 use Rattle.room_desk.proofs.Steps.Serving.{along_there, none_both}
 use Rattle.room_sound.proofs.SoundParts.{sound_noted}
-use Rattle.room_judge.proofs.Spots.{below_of, folder_found, target_found}
 
 -- ---- nothing failed
 

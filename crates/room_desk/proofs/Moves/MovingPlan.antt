@@ -1,25 +1,23 @@
 -- The plan of a move, with the lists as rows store them.
 use Rattle.std.proofs.Common.{◌≡◌, ℕ, ◌==◌, Bool, true, false, List, [], ◌∷◌, ◌++◌, map, Option}
 use Rattle.std.proofs.{Common.{Some, None, refl, sym, ap, ◌∙◌, arith}, lemmas.List.map-append}
-use Rattle.std.proofs.lemmas.Bool.Decides.{nat_tests}
-use Rattle.std.specs.{Prelude.is_some, List.list_any, Option.option_map}
-use Rattle.room_rows.specs.{declared.node.{Node.Node, AuditRow.AuditRow}, Content.Content}
-use Rattle.room_rows.specs.{Content.{child_of, is_empty, with_records}, Meaning.kept_node}
-use Rattle.room_rows.specs.{Meaning.meaning, Rows.{Rows, AreRows}}
-use Rattle.room_rows.proofs.InPlace.{child_of-with_each, keeps_places}
+use Rattle.std.{proofs.lemmas.Bool.Decides.nat_tests, specs.{Prelude.is_some, List.list_any}}
+use Rattle.std.specs.Option.{option_map}
+use Rattle.room_rows.specs.{declared.node.AuditRow.AuditRow, Content.{Content, child_of, is_empty}}
+use Rattle.room_rows.specs.{Content.with_records, Meaning.{kept_node, meaning}, Rows.Rows}
+use Rattle.room_rows.{specs.Rows.AreRows, proofs.InPlace.{child_of-with_each, keeps_places}}
 use Rattle.room_entry.proofs.Facts.Members.{any_map}
 use Rattle.room_judge.specs.{declared.asker.Asker.Asker, Judged.{IsJudged, through, with_notes}}
 use Rattle.room_machine.specs.declared.reply.{Reply.Reply, Reason.TheVariants.{Exists, Loop, Root}}
 use Rattle.room_machine.specs.{declared.request.Request.TheVariants.Move, Site.{Site, site_at}}
 use Rattle.room_machine.specs.{Site.{sites_along, parent_at, front, last_name}, Plan.Item}
 use Rattle.room_machine.specs.Plan.{Deletion, Refusal, plan_of, move_items, way, where_found}
-use Rattle.room_machine.specs.{Plan.to_target, Stored.{stored_from, stored_along, to_stored}}
-use Rattle.room_machine.specs.Stored.{stored_plan}
+use Rattle.room_machine.specs.{Plan.to_target, Stored.{stored_along, to_stored, stored_plan}}
 use Rattle.room_desk.specs.Moving.{at_place, begins, rights_to_move}
-use Rattle.room_sound.proofs.Filled.{fill_item, judged_filled, site_filled, way_filled}
-use Rattle.room_sound.proofs.{Sites.{fill, sites_filled}, SoundParts.SoundParts}
 use Rattle.room_desk.proofs.{Moves.OnePath.met_by_names, Steps.Serving.along_there}
 use Rattle.room_desk.proofs.Made.FolderPlans.{parent_filled}
+use Rattle.room_sound.proofs.Filled.{fill_item, judged_filled, site_filled, way_filled}
+use Rattle.room_sound.proofs.{Sites.{fill, sites_filled}, SoundParts.SoundParts}
 
 -- ---- items over stored sites
 
@@ -75,14 +73,9 @@ module _ (old : Rows) (are : AreRows old) where
 
 -- ---- records don't matter
 
-from_noted : (content : Content) (records : List AuditRow) (names path : List (List ℕ))
-    (node : Node) → stored_from (with_records content records) path node names
-    ≡ stored_from content path node names
-from_noted content records names path node = grind (arith, nat_tests)
-
 pub along_noted : (content : Content) (records : List AuditRow) (path : List (List ℕ))
     → stored_along (with_records content records) path ≡ stored_along content path
-along_noted content records path = let each = from_noted content records path [] in grind arith
+along_noted content records path = grind arith
 
 pub way_noted : (old : Rows) (records : List AuditRow) (to : List (List ℕ)) (is_below : Bool)
     (target from : Site)

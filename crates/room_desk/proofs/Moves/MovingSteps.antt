@@ -1,8 +1,8 @@
 -- A move is a step.
-use Rattle.std.proofs.Common.{◌≡◌, ℕ, ◌<◌, ◌==◌, Bool, true, false, List, [], ◌∷◌, ◌++◌, length}
-use Rattle.std.proofs.Common.{take, Option, Some, None, refl, sym, ap, subst, ◌∙◌, arith, Result}
-use Rattle.std.proofs.{Common.{Ok, Err}, Math.Seq.take-length, lemmas.Bool.Decides.nat_tests}
-use Rattle.std.specs.Option.{option_map_or}
+use Rattle.std.proofs.Common.{rules, ◌≡◌, ℕ, ◌<◌, ◌==◌, Bool, true, false, List, [], ◌∷◌, ◌++◌}
+use Rattle.std.proofs.Common.{length, take, Option, Some, None, refl, sym, ap, subst, ◌∙◌, arith}
+use Rattle.std.proofs.{Common.{Result, Ok, Err}, Math.Seq.take-length}
+use Rattle.std.{proofs.lemmas.Bool.Decides.nat_tests, specs.Option.option_map_or}
 use Rattle.room_rows.specs.{declared.node.{Node.Node, AuditRow.AuditRow}, Content.Content}
 use Rattle.room_rows.specs.{Content.{is_empty, root_of, with_node, with_records}, Keep.IsDamaged}
 use Rattle.room_rows.specs.{Keep.IsUnreadable, Meaning.meaning, Paths.is_object_name, Rows.Rows}
@@ -10,6 +10,9 @@ use Rattle.room_rows.specs.{Rows.AreRows, Sound.AreSound}
 use Rattle.room_judge.specs.declared.{arrival.{Found.Found, Both.Both}, asker.Asker.Asker}
 use Rattle.room_judge.specs.{Stored.found_site, Spot.{IsPaired, pair_of}, Closed.IsServed}
 use Rattle.room_judge.specs.Judged.{CarriesOut, FromRoot, IsJudged, IsReached, with_notes}
+use Rattle.room_judge.proofs.{Closing.{closed_done, closed_failed}, Judging.failure_of_parts}
+use Rattle.room_judge.proofs.Judging.{fails_first, passes_first, passes_on, refuses}
+use Rattle.room_judge.proofs.Spots.{last_of}
 use Rattle.room_machine.specs.declared.reply.Reply.{Reply, TheVariants.{Done, Refused}}
 use Rattle.room_machine.specs.declared.reply.Reason.TheVariants.{Exists, Root}
 use Rattle.room_machine.specs.{declared.request.Request.TheVariants.Move, Site.{Site, site_at}}
@@ -17,13 +20,9 @@ use Rattle.room_machine.specs.{Site.{parent_at, front, last_name}, Plan.{Item, D
 use Rattle.room_machine.specs.{Plan.{plan_of, way, where_found}, Judge.first_failure}
 use Rattle.room_machine.specs.{Judge.records_of_plan, Effect.moved_node, Stored.stored_site}
 use Rattle.room_machine.specs.Stored.{stored_from, stored_along, stored_plan, to_stored}
-use Rattle.room_judge.proofs.{Closing.{closed_done, closed_failed}, Judging.failure_of_parts}
-use Rattle.room_judge.proofs.Judging.{fails_first, passes_first, passes_on, refuses}
-use Rattle.room_judge.proofs.Spots.{last_of}
 use Rattle.room_desk.specs.Moving.{CanGo, CanPlace, FailsToPlace, IsMovedOnly, IsPlaced, at_place}
-use Rattle.room_desk.specs.Moving.{begins}
-use Rattle.room_desk.proofs.{Lists.HandedDown.{beside, moved_noted}, Moves.MovingFacts.IsFree}
-use Rattle.room_desk.proofs.Moves.MovingFacts.{all_passed, goable, placeable}
+use Rattle.room_desk.{specs.Moving.begins, proofs.Lists.HandedDown.{beside, moved_noted}}
+use Rattle.room_desk.proofs.Moves.MovingFacts.{IsFree, all_passed, goable, placeable}
 use Rattle.room_desk.proofs.Moves.MovingPlan.{along_noted, at_found, move_judged, move_stored}
 use Rattle.room_desk.proofs.Moves.MovingPlan.{stored_items, stored_move, way_noted}
 use Rattle.room_desk.proofs.Steps.{Serving.none_both, Stepping.{changed_step, refused_step}}
@@ -124,10 +123,7 @@ module _ (asker : Asker) (path to : List (List ℕ)) (from target : Found) (old 
   pub root_refused : (new : Rows) (reply : Reply) → to ≡ []
       → IsJudged asker (Deletion target_site from_site ∷ Refusal [] Exists true ∷ []) mid
       (Some reply) new → IsServed asker (Move path to) old reply new
-  root_refused new reply is judged =
-      ended new reply
-      (subst (λ p. IsJudged asker (stored_items old.read p is_below target_site from_site) mid
-      (Some reply) new) (sym is) judged)
+  root_refused new reply is judged = search (rules, ended, new, reply, stored_items, is, judged)
 
   pub never_unread : (row : ℕ) → IsUnreadable mid row → IsDamaged old row
   never_unread row h = noted_unread old mid on_way row paired.judged.notes h

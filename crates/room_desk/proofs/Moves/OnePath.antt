@@ -1,17 +1,16 @@
 -- An object stands at one path, so names alone say what a way meets.
-use Rattle.std.proofs.Common.{◌≡◌, ℕ, suc, ◌+◌, ◌==◌, Bool, true, false, ◌&&◌, List, [], ◌∷◌, ◌++◌}
-use Rattle.std.proofs.Common.{◌<◌, ◌≤◌, length, get_or, drop, Option, Some, None, refl, sym, ap}
-use Rattle.std.proofs.{Common.{subst, ◌∙◌, inl, inr, append_assoc, arith}, lemmas.Bool.and_parts}
+use Rattle.std.proofs.Common.{rules, ◌≡◌, ℕ, suc, ◌+◌, ◌==◌, Bool, true, false, ◌&&◌, List, [], ◌∷◌}
+use Rattle.std.proofs.Common.{◌++◌, ◌<◌, ◌≤◌, length, get_or, drop, Option, Some, None, refl, sym}
+use Rattle.std.proofs.{Common.{subst, inl, inr, append_assoc, arith}, lemmas.Bool.and_parts}
 use Rattle.std.proofs.lemmas.Bool.{eqb-true, false≢true, and_right, or_cases, or_right}
 use Rattle.std.proofs.lemmas.{Bool.Decides.nat_tests, List.{append-nil, drop_more, get_or_read}}
-use Rattle.std.proofs.{lemmas.Option.same_Some, Math.Seq.drop-length}
-use Rattle.std.specs.{List.list_any, Option.option_map_or}
-use Rattle.room_entry.specs.Pieces.{same_text}
-use Rattle.room_entry.proofs.{Alike.text_itself, Texts.same_text-true, Facts.Booleans.same_truth}
+use Rattle.std.{proofs.{lemmas.Option.same_Some, Math.Seq.drop-length}, specs.List.list_any}
+use Rattle.std.specs.Option.{option_map_or}
+use Rattle.room_entry.{specs.Pieces.same_text, proofs.{Alike.text_itself, Texts.same_text-true}}
+use Rattle.room_entry.proofs.Facts.Booleans.{same_truth}
 use Rattle.room_rows.specs.{declared.node.Node.Node, Content.{Content, child_of, node_at, root_of}}
-use Rattle.room_rows.specs.Sound.{names_up}
-use Rattle.room_rows.proofs.Frames.{Rises, child_of-is_there, child_of-name, child_of-parent}
-use Rattle.room_rows.proofs.Frames.{root_of-is_there, root_of-parent}
+use Rattle.room_rows.{specs.Sound.names_up, proofs.Frames.{Rises, child_of-is_there, child_of-name}}
+use Rattle.room_rows.proofs.Frames.{child_of-parent, root_of-is_there, root_of-parent}
 use Rattle.room_machine.specs.{Site.{Site, site_at}, Stored.{stored_from, stored_along}}
 use Rattle.room_desk.specs.Moving.{begins}
 
@@ -90,8 +89,7 @@ module _ (rows : Content) (rises : Rises rows) where
     same_path : (node : Node) (path : List (List ℕ)) → node_at rows node.id ≡ Some node
         → IsUp node path → (node.id == target.id) ≡ true → front ≡ path
     same_path node path found up_node is =
-        let same : target ≡ node = same_Some target node
-        (sym there ∙ ap (node_at rows) (sym (eqb-true node.id target.id is)) ∙ found) in
+        let same : target ≡ node = search (rules, same_Some, node, eqb-true, node.id, is, found) in
         one_path node front path (subst (λ (n : Node). IsUp n front) same up) up_node
 
     met_from : (names path : List (List ℕ)) (node : Node) → node_at rows node.id ≡ Some node

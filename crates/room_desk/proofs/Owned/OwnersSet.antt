@@ -5,14 +5,12 @@ use Rattle.std.proofs.lemmas.Bool.Decides.{nat_tests}
 use Rattle.room_entry.specs.{Pieces.same_text, Rights.write_owner, declared.parties.Owners.Owners}
 use Rattle.room_rows.specs.{declared.node.Node.Node, Content.{node_at, with_each, with_node}}
 use Rattle.room_rows.specs.{Keep.{Changes, with_content, with_owners}, Meaning.{kept_node, meaning}}
-use Rattle.room_rows.specs.Rows.{Rows, AreRows}
-use Rattle.room_rows.proofs.{Frames.Rises, InPlace.{keeps_places, node_at-with_each}}
-use Rattle.room_rows.proofs.InPlace.{rises-with_each, with_node-there}
+use Rattle.room_rows.{specs.Rows.{Rows, AreRows}, proofs.{Frames.Rises, InPlace.keeps_places}}
+use Rattle.room_rows.proofs.InPlace.{node_at-with_each, rises-with_each, with_node-there}
 use Rattle.room_judge.specs.{declared.asker.Asker.Asker, Judged.{IsReached, CarriesOut}}
-use Rattle.room_judge.specs.Closed.{IsServed}
+use Rattle.room_judge.{specs.Closed.IsServed, proofs.Closing.closed_done}
 use Rattle.room_machine.specs.declared.reply.Reply.TheVariants.{Done}
 use Rattle.room_machine.specs.{declared.request.Request.TheVariants.SetOwners, Stored.stored_site}
-use Rattle.room_judge.proofs.Closing.{closed_done}
 use Rattle.room_sound.proofs.{SoundParts.{sound_parts, sound_noted}, Filled.plan_judged}
 use Rattle.room_sound.proofs.Filled.{target_there}
 use Rattle.room_desk.proofs.Owned.SoundOwners.{owned, owned_means, put_owned, sound_owned}

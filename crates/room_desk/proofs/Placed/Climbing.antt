@@ -4,8 +4,7 @@ use Rattle.std.proofs.Common.{Option, Some, None, refl, ap, ◌∙◌, inl, inr,
 use Rattle.std.proofs.lemmas.Bool.{cases_Bool, and_parts, false≢true, Decides.nat_tests}
 use Rattle.std.specs.{List.find, Option.{option_map, option_map_or}}
 use Rattle.room_rows.specs.{declared.node.Node.Node, Content.{Content, node_at, reaches_root}}
-use Rattle.room_rows.specs.Content.{with_each}
-use Rattle.room_rows.proofs.Frames.{node_at-number}
+use Rattle.room_rows.{specs.Content.with_each, proofs.Frames.node_at-number}
 use Rattle.room_desk.specs.Moving.{goes_past}
 
 -- an object of this number, and the rest of the way

@@ -1,6 +1,6 @@
 -- What rows mean where an object gets another place, and lists that aren't linked are as before.
-use Rattle.std.proofs.Common.{◌≡◌, ℕ, ◌==◌, Bool, true, false, cond, List, [], map, Some, refl, sym}
-use Rattle.std.proofs.{Common.{ap, ◌∙◌, arith}, lemmas.Bool.Decides.nat_tests}
+use Rattle.std.proofs.Common.{rules, ◌≡◌, ℕ, ◌==◌, Bool, true, false, cond, List, [], map, Some}
+use Rattle.std.proofs.{Common.{refl, sym, ap, ◌∙◌, arith}, lemmas.Bool.Decides.nat_tests}
 use Rattle.room_entry.specs.{Ace.Ace, declared.object.Which.{Which, TheVariants.{Dacl, Sacl}}}
 use Rattle.room_rows.specs.{HeldList.Held, declared.node.Node.Node, Content.{Content, node_at}}
 use Rattle.room_rows.specs.{Content.{is_linked_in, with_node}, Held.{held_of, is_linked}}
@@ -9,10 +9,9 @@ use Rattle.room_rows.proofs.InPlace.{KeepsPlaces, keeps_places, rises-with_each}
 use Rattle.room_rows.proofs.SamePlace.{put-replaces, replaced, replaced_here, replaced_elsewhere}
 use Rattle.room_inherit.proofs.{Children.each_there, Renewing.{map_agree, map_map}}
 use Rattle.room_machine.specs.{Effect.{moved_held, moved_node}, Stored.stored_site}
-use Rattle.room_desk.specs.Moving.{CanPlace}
-use Rattle.room_desk.proofs.Placed.{Climbing.node_at-changed, PlacedLinks.linked_elsewhere}
-use Rattle.room_desk.proofs.Placed.{PlacedLinks.linked_here, PlacedParts.{apart, lists}}
-use Rattle.room_desk.proofs.Placed.PlacedTree.{after, change, is_target}
+use Rattle.room_desk.{specs.Moving.CanPlace, proofs.Placed.Climbing.node_at-changed}
+use Rattle.room_desk.proofs.Placed.{PlacedLinks.{linked_elsewhere, linked_here}, PlacedParts.apart}
+use Rattle.room_desk.proofs.Placed.{PlacedParts.lists, PlacedTree.{after, change, is_target}}
 
 -- ---- the entries that one list keeps
 
@@ -114,8 +113,7 @@ module _ (old : Rows) (target folder : Node) (name : List ℕ) (can : CanPlace t
       (map_map (kept_node now) moved before.nodes
       ∙ map_agree (λ n. kept_node now (moved n))
       (λ n. replaced placed_node (kept_before n)) before.nodes
-      (each_there (λ n. kept_node now (moved n) ≡ replaced placed_node (kept_before n)) before.nodes
-      (apart before can.are.numbers) each_kept)
+      (search (rules, each_there, apart, each_kept))
       ∙ sym (map_map (replaced placed_node) kept_before before.nodes)
       ∙ sym (put-replaces 0 (map kept_before before.nodes) target.id
       (kept_before target) placed_node

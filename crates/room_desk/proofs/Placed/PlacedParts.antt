@@ -4,13 +4,12 @@ use Rattle.std.proofs.Common.{◌≡◌, ℕ, ◌==◌, Bool, true, cond, List, 
 use Rattle.std.proofs.lemmas.{List.Folds.list_all-map, Bool.Decides.nat_tests}
 use Rattle.std.specs.{List.list_all, Option.option_map}
 use Rattle.room_entry.specs.{Ace.Ace, declared.object.Which.{Which, TheVariants.{Dacl, Sacl}}}
+use Rattle.room_entry.proofs.Facts.Members.{all_each}
 use Rattle.room_rows.specs.{HeldList.Held, declared.node.Node.Node, Content.{Content, node_at}}
 use Rattle.room_rows.specs.{Content.{parent_of, with_each}, Held.{held_of, is_linked}}
-use Rattle.room_rows.specs.Keep.{with_place}
-use Rattle.room_rows.proofs.Frames.{Rises, node_at-number}
+use Rattle.room_rows.{specs.Keep.with_place, proofs.Frames.{Rises, node_at-number}}
 use Rattle.room_inherit.proofs.Children.{Apart, apart_rising, each_there, each_found}
 use Rattle.room_inherit.proofs.Ends.{each_all}
-use Rattle.room_entry.proofs.Facts.Members.{all_each}
 use Rattle.room_desk.proofs.Placed.Climbing.{node_at-changed}
 
 -- ---- the change of one object

@@ -1,19 +1,17 @@
 -- The rows while an object gets another place: placed, and then with one attribute after the other
 -- handed down.
-use Rattle.std.proofs.Common.{◌≡◌, ℕ, ◌==◌, true, false, List, ◌∷◌, map, Option, Some, None, refl}
-use Rattle.std.proofs.{Common.{sym, ap, subst, ◌∙◌, inl, inr, arith}, lemmas.Bool.cases_Bool}
-use Rattle.std.proofs.lemmas.Bool.{and_parts, eq-eqb, Decides.nat_tests}
-use Rattle.std.specs.{Option.{option_map, option_map_or}, Prelude.IsTrue}
+use Rattle.std.proofs.Common.{rules, ◌≡◌, ℕ, ◌==◌, true, false, List, ◌∷◌, map, Option, Some, None}
+use Rattle.std.proofs.{Common.{refl, sym, ap, subst, ◌∙◌, inl, inr, arith}, lemmas.Bool.cases_Bool}
+use Rattle.std.{proofs.lemmas.Bool.{and_parts, eq-eqb, Decides.nat_tests}, specs.Option.option_map}
+use Rattle.std.specs.{Option.option_map_or, Prelude.IsTrue}
 use Rattle.room_entry.specs.{Ace.Ace, declared.object.Which.{Which, TheVariants.{Dacl, Sacl}}}
 use Rattle.room_rows.specs.{declared.node.Node.Node, Content.{Content, node_at, parent_of}}
 use Rattle.room_rows.specs.{Content.{is_linked_in, is_rising}, Held.held_of, Keep.Places}
 use Rattle.room_rows.specs.{Keep.{with_content, with_place}, Rows.Rows, Law.{agrees, agrees_with}}
-use Rattle.room_rows.specs.{Law.AllAgree, Sound.keeps_law}
-use Rattle.room_rows.proofs.{InPlace.with_each-with_each, SamePlace.{put-replaces, replaced}}
-use Rattle.room_rows.proofs.SamePlace.{replaced_here, replaced_elsewhere}
-use Rattle.room_inherit.specs.Spread.{with_lists}
-use Rattle.room_inherit.proofs.{Children.{each_found, each_there}, Ends.each_all}
-use Rattle.room_inherit.proofs.Renewing.{map_agree, map_map}
+use Rattle.room_rows.{specs.{Law.AllAgree, Sound.keeps_law}, proofs.InPlace.with_each-with_each}
+use Rattle.room_rows.proofs.SamePlace.{put-replaces, replaced, replaced_here, replaced_elsewhere}
+use Rattle.room_inherit.{specs.Spread.with_lists, proofs.Children.{each_found, each_there}}
+use Rattle.room_inherit.proofs.{Ends.each_all, Renewing.{map_agree, map_map}}
 use Rattle.room_desk.specs.Moving.{CanPlace, CanRenew, IsPlaced, HasRenewedLists}
 use Rattle.room_desk.proofs.Placed.{Climbing.past_reaches, PlacedLinks.linked_any}
 use Rattle.room_desk.proofs.Placed.{PlacedMeaning.means_placed, PlacedParts.apart as all_apart}
@@ -56,9 +54,7 @@ module _ (old : Rows) (target folder : Node) (name : List ℕ)
       (put-replaces 0 before.nodes target.id target
       (with_place folder.id name target) can.are.numbers can.target_there refl
       ∙ map_agree (replaced (with_place folder.id name target))
-      (moved own_dacl own_sacl) before.nodes
-      (each_there (λ n. replaced (with_place folder.id name target) n ≡ moved own_dacl own_sacl n)
-      before.nodes (all_apart before can.are.numbers) placed_alone))
+      (moved own_dacl own_sacl) before.nodes (search (rules, each_there, all_apart, placed_alone)))
 
   -- ---- an attribute whose entries are as they were can be handed down
 

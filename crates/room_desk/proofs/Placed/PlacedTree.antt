@@ -1,24 +1,21 @@
 -- The tree of rows stays sound where an object gets another place.
-use Rattle.std.proofs.Common.{◌≡◌, ℕ, ◌==◌, Bool, true, false, not, ◌&&◌, List, [], ◌∷◌, map}
+use Rattle.std.proofs.Common.{rules, ◌≡◌, ℕ, ◌==◌, Bool, true, false, not, ◌&&◌, List, [], ◌∷◌, map}
 use Rattle.std.proofs.Common.{filter, length, Some, None, refl, sym, ◌∙◌, inl, inr, arith}
 use Rattle.std.proofs.lemmas.{Bool.{cases_Bool, Decides.nat_tests}, List.Folds.list_all-map}
 use Rattle.std.specs.{Prelude.nat_lt, List.{find, list_all, list_any, AllByRecursion as Each}}
 use Rattle.std.specs.Option.{option_map}
-use Rattle.room_entry.specs.{Ace.Ace, Pieces.same_text}
-use Rattle.room_entry.proofs.{Alike.text_itself, Texts.same_text-true, Facts.Members.any_map}
-use Rattle.room_entry.proofs.Facts.Members.{any_none, each_fails}
+use Rattle.room_entry.{specs.{Ace.Ace, Pieces.same_text}, proofs.Alike.text_itself}
+use Rattle.room_entry.proofs.{Texts.same_text-true, Facts.Members.{any_map, any_none, each_fails}}
 use Rattle.room_rows.specs.{declared.node.Node.Node, Content.{Content, node_at, parent_of}}
 use Rattle.room_rows.specs.Content.{has_parent, is_root, has_folder_above, with_each}
 use Rattle.room_rows.specs.{Keep.with_content, Rows.{Rows, AreRows, numbers_of}, Sound.has_bad_list}
 use Rattle.room_rows.specs.Sound.{has_sound_body, has_sound_lists, has_sound_name, reaches}
 use Rattle.room_rows.specs.Sound.{same_place}
-use Rattle.room_inherit.specs.Laws.{HasNoFault}
-use Rattle.room_inherit.proofs.{Children.{each_found, each_there}, Enough.enough_steps}
-use Rattle.room_inherit.proofs.NoFault.{no_fault}
-use Rattle.room_desk.specs.Moving.{CanPlace}
-use Rattle.room_desk.proofs.Placed.{Climbing.{past_reaches, reaches_again}, PlacedParts.all_after}
-use Rattle.room_desk.proofs.Placed.PlacedParts.{apart, parent_after, parent_found, passes, placed}
-use Rattle.room_desk.proofs.Placed.PlacedParts.{placed_kind, placed_number}
+use Rattle.room_inherit.{specs.Laws.HasNoFault, proofs.Children.{each_found, each_there}}
+use Rattle.room_inherit.proofs.{Enough.enough_steps, NoFault.no_fault}
+use Rattle.room_desk.{specs.Moving.CanPlace, proofs.Placed.Climbing.{past_reaches, reaches_again}}
+use Rattle.room_desk.proofs.Placed.PlacedParts.{all_after, apart, parent_after, parent_found}
+use Rattle.room_desk.proofs.Placed.PlacedParts.{passes, placed, placed_kind, placed_number}
 use Rattle.room_sound.proofs.SoundParts.{none_numbered}
 
 -- ---- rows whose numbers are all readable
@@ -153,9 +150,7 @@ module _ (old : Rows) (target folder : Node) (name : List ℕ) (can : CanPlace t
   apart_from_target : (x n : Node) → IsThere n → (x.id == target.id) ≡ true
       → (n.id == target.id) ≡ false → same_place (change x) (change n) ≡ false
   apart_from_target x n there is isnt =
-      let free = free_of n there in
-      let same = same_text-true name n.name in
-      let itself = text_itself n.name in grind (arith, nat_tests)
+      let free = free_of n there in search (rules, same_text-true, n.name, text_itself)
 
   target_apart : (x n : Node) → IsThere x → (x.id == target.id) ≡ false → (n.id == target.id) ≡ true
       → same_place (change x) (change n) ≡ false

@@ -1,6 +1,6 @@
 -- The calls that give an object another place.
-use Rattle.std.proofs.Common.{◌≡◌, ℕ, ◌==◌, true, false, cond, List, Some, refl, sym, ap, subst}
-use Rattle.std.proofs.{Common.{◌∙◌, inl, inr, arith}, lemmas.Bool.Decides.nat_tests}
+use Rattle.std.proofs.Common.{rules, ◌≡◌, ℕ, ◌==◌, true, false, cond, List, Some, refl, sym, ap}
+use Rattle.std.proofs.{Common.{subst, ◌∙◌, inl, inr, arith}, lemmas.Bool.Decides.nat_tests}
 use Rattle.room_entry.specs.{Ace.Ace, declared.object.Which.{Which, TheVariants.{Dacl, Sacl}}}
 use Rattle.room_rows.specs.{declared.node.Node.Node, Content.{Content, node_at, with_node}}
 use Rattle.room_rows.specs.{Held.{held_of, full_of, is_linked}, Keep.{Changes, IsUnreadable}}
@@ -45,12 +45,9 @@ pub unlinked_renews : (which : Which) (target folder : Node) (old new : Rows)
     → is_linked (held_of which target) (Some (held_of which folder)) ≡ false → new ≡ old
     → Renews which target folder old tt new
 unlinked_renews which target folder old new isnt same = record {
-  renewed =
-      λ can. subst (λ (r : Rows). HasRenewedLists which old r) (sym same)
-      (not_linked which target folder old can isnt);
+  renewed = search (rules, old, same, not_linked, target, folder, isnt);
   keeps = keeps_all target.id old new same;
-  relinks = λ has. relinks_still which target folder old new has same
-      (cc (isnt));
+  relinks = search (rules, relinks_still, target, folder, old, new, same, isnt);
 }
 
 taken : (which : Which) (target folder : Node) (passed : List Ace) (old new : Rows)
@@ -58,9 +55,7 @@ taken : (which : Which) (target folder : Node) (passed : List Ace) (old new : Ro
     → passed ≡ pass target.kind (full_of (held_of which folder))
     → TakesPassed which target passed old tt new → Renews which target folder old tt new
 taken which target folder passed old new linked is (inl stays) = record {
-  renewed =
-      λ can. subst (λ (r : Rows). HasRenewedLists which old r) (sym stays.1)
-      (stored_already which target folder old can passed is stays.0);
+  renewed = search (rules, old, stays.1, stored_already, target, folder, is, stays.0);
   keeps = keeps_all target.id old new stays.1;
   relinks = λ has. relinks_still which target folder old new has stays.1
       (inh_linked which target folder linked ∙ sym is ∙ stays.0);
@@ -164,8 +159,7 @@ module _ (target folder : Node) (name : List ℕ) where
     node = with_place folder.id name target;
     there = subst (λ (r : Rows). node_at r.read target.id ≡ Some (with_place folder.id name target))
         (sym (is_at old mid places can))
-        (here_after old.read can.are.numbers target
-        (with_place folder.id name target) can.target_there refl);
+        (search (rules, here_after, old.read, can.are.numbers, can.target_there));
     held = same which;
   }
     where
@@ -236,8 +230,7 @@ module _ (target folder : Node) (name : List ℕ) where
   renews_dacl old mid places can =
       subst (λ (r : Rows). CanRenew Dacl target folder r)
       (sym (first_state old target folder name can mid places))
-      (can_renew old target folder name can Dacl (own_dacl old target folder name can)
-      (own_sacl old target folder name can) (λ n. refl_of n))
+      (search (rules, can_renew, old, can, own_sacl))
     where
       refl_of : (n : Node) → n.dacl.inh ≡ n.dacl.inh
       refl_of n = refl

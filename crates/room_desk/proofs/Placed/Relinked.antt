@@ -1,24 +1,23 @@
 -- One attribute of an object at its new place: it takes what the folder passes, and hands it down.
-use Rattle.std.proofs.Common.{◌≡◌, ℕ, zero, suc, ◌==◌, Bool, true, false, cond, List, Some, refl}
-use Rattle.std.proofs.{Common.{sym, ap, ◌∙◌, arith}, lemmas.Bool.{false≢true, eqb-false}}
-use Rattle.std.proofs.lemmas.Bool.Decides.{nat_tests}
-use Rattle.std.specs.Option.{option_map}
-use Rattle.room_entry.specs.{Ace.Ace, declared.object.Which.Which}
-use Rattle.room_entry.proofs.{Alike.equal_entries, Same.entries_equal, Facts.Members.all_each}
+use Rattle.std.proofs.Common.{rules, ◌≡◌, ℕ, zero, suc, ◌==◌, Bool, true, false, cond, List, Some}
+use Rattle.std.proofs.{Common.{refl, sym, ap, ◌∙◌, arith}, lemmas.Bool.{false≢true, eqb-false}}
+use Rattle.std.{proofs.lemmas.Bool.Decides.nat_tests, specs.Option.option_map}
+use Rattle.room_entry.{specs.{Ace.Ace, declared.object.Which.Which}, proofs.Alike.equal_entries}
+use Rattle.room_entry.proofs.{Same.entries_equal, Facts.Members.all_each}
 use Rattle.room_rows.specs.{declared.node.Node.Node, Content.{Content, node_at, parent_of}}
 use Rattle.room_rows.specs.{Content.{has_parent, is_linked_in, with_each}, Held.{held_of, full_of}}
 use Rattle.room_rows.specs.{Held.is_linked, Keep.{Changes, with_content, with_inh}, Rows.Rows}
-use Rattle.room_rows.specs.{Law.{agrees, AllAgreeBut}, Pass.pass}
-use Rattle.room_rows.proofs.{Frames.node_at-number, InPlace.{held_of-with_inh, place-with_inh}}
-use Rattle.room_rows.proofs.{InPlace.{with_node-replaces, with_inh-id}, SamePlace.replaced}
-use Rattle.room_rows.proofs.SamePlace.{replaced_here, replaced_elsewhere}
+use Rattle.room_rows.{specs.{Law.{agrees, AllAgreeBut}, Pass.pass}, proofs.Frames.node_at-number}
+use Rattle.room_rows.proofs.InPlace.{held_of-with_inh, place-with_inh, with_node-replaces}
+use Rattle.room_rows.proofs.{InPlace.with_inh-id, SamePlace.{replaced, replaced_here}}
+use Rattle.room_rows.proofs.SamePlace.{replaced_elsewhere}
 use Rattle.room_inherit.specs.Spread.{IsLinkedBelow, IsSpread, is_changed, is_linked_within}
 use Rattle.room_inherit.proofs.{Children.each_there, Ends.{own_lists, with_own_lists}}
 use Rattle.room_inherit.proofs.{Kinship.{same_parent, same_kind, with_last}, Renewing.map_agree}
 use Rattle.room_inherit.proofs.Renewing.{map_map}
-use Rattle.room_desk.specs.Moving.{CanRenew, HasRenewedLists}
-use Rattle.room_desk.proofs.Placed.PlacedParts.{all_after, apart, change_there, linked_above}
-use Rattle.room_desk.proofs.Placed.PlacedParts.{linked_flags, parent_after}
+use Rattle.room_desk.{specs.Moving.{CanRenew, HasRenewedLists}, proofs.Placed.PlacedParts.all_after}
+use Rattle.room_desk.proofs.Placed.PlacedParts.{apart, change_there, linked_above, linked_flags}
+use Rattle.room_desk.proofs.Placed.PlacedParts.{parent_after}
 
 module _ (which : Which) (target folder : Node) (old : Rows)
     (can : CanRenew which target folder old) where
@@ -169,9 +168,7 @@ module _ (which : Which) (target folder : Node) (old : Rows)
         grind (arith, nat_tests, above_after, change_other, node_at-number, other)
 
     law_but : AllAgreeBut after which target.id
-    law_but =
-        all_after content can.rises change change_id _ (
-        grind (arith, nat_tests, agrees_here, agrees_other, change_parent))
+    law_but = search (rules, all_after, change_id, agrees_here, agrees_other, change_parent)
 
     -- ---- carried down
 

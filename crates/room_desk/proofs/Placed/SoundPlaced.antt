@@ -1,8 +1,8 @@
 -- Rows stay sound where an object gets another place, if the law holds again and lists that aren't
 -- linked are as before.
-use Rattle.std.proofs.Common.{◌≡◌, ℕ, ◌==◌, Bool, true, false, cond, List, [], filter, length, Some}
-use Rattle.std.proofs.{Common.{None, sym, ap, ◌∙◌, arith}, lemmas.Bool.{and_from, and_parts}}
-use Rattle.std.proofs.lemmas.{Bool.Decides.nat_tests, List.Folds.list_all-map}
+use Rattle.std.proofs.Common.{rules, ◌≡◌, ℕ, ◌==◌, Bool, true, false, cond, List, [], filter}
+use Rattle.std.proofs.{Common.{length, Some, None, sym, ap, ◌∙◌, arith}, lemmas.Bool.and_from}
+use Rattle.std.proofs.lemmas.{Bool.{and_parts, Decides.nat_tests}, List.Folds.list_all-map}
 use Rattle.std.specs.List.{list_all}
 use Rattle.room_entry.specs.{Ace.Ace, declared.object.Which.{Which, TheVariants.{Dacl, Sacl}}}
 use Rattle.room_rows.specs.{declared.node.Node.Node, Content.{Content, node_at, is_root}}
@@ -128,8 +128,7 @@ module _ (old : Rows) (target folder : Node) (name : List ℕ) (can : CanPlace t
   root_stays : (n : Node) → node_at before n.id ≡ Some n → is_root n ≡ true → moved n ≡ n
   root_stays n there root =
       let isnt : (n.id == target.id) ≡ false = grind (arith, nat_tests, is_target) in
-      let none : (moved n).parent ≡ None = no_parent (moved n).parent
-      (same_root old target folder name can d s n there ∙ root) in
+      let none : (moved n).parent ≡ None = search (rules, no_parent, n, same_root, there, root) in
       let unlinked : (which : Which) → is_linked_in now which (moved n) ≡ false =
       grind (arith, nat_tests) in
       ap (λ b. with_lists (cond b (with_place folder.id name n) n) (d n) (s n)) isnt

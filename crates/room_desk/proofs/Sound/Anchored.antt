@@ -1,17 +1,16 @@
 -- Objects whose parents lead to the root, where one object of the rows is put in the place of
 -- another.
-use Rattle.std.proofs.Common.{◌≡◌, ℕ, zero, suc, ◌==◌, Bool, true, false, not, List, [], ◌∷◌, map}
-use Rattle.std.proofs.Common.{Option, Some, None, refl, sym, ap, subst, ◌∙◌, arith}
-use Rattle.std.proofs.lemmas.Bool.{and_parts, false≢true, Decides.nat_tests}
-use Rattle.std.specs.{Prelude.IsTrue, Option.{option_map, option_map_or}}
+use Rattle.std.proofs.Common.{rules, ◌≡◌, ℕ, zero, suc, ◌==◌, Bool, true, false, not, List, [], ◌∷◌}
+use Rattle.std.proofs.Common.{map, Option, Some, None, refl, sym, ap, subst, ◌∙◌, arith}
+use Rattle.std.{proofs.lemmas.Bool.{and_parts, false≢true, Decides.nat_tests}, specs.Prelude.IsTrue}
+use Rattle.std.specs.Option.{option_map, option_map_or}
 use Rattle.room_entry.specs.declared.object.Which.{Which}
 use Rattle.room_rows.specs.{declared.node.Node.Node, Content.{Content, is_rising, node_at}}
 use Rattle.room_rows.specs.{Content.{reaches_root, with_each, with_node}, Keep.Changes}
 use Rattle.room_rows.specs.{Keep.{IsUnreadable, with_content, with_inh}, Rows.Rows}
 use Rattle.room_rows.proofs.{Frames.{Rises, node_at-number}, InPlace.place-with_inh}
 use Rattle.room_rows.proofs.SamePlace.{put-replaces, replaced, replaced_elsewhere, replaced_here}
-use Rattle.room_inherit.specs.Spread.{IsSpread}
-use Rattle.room_inherit.proofs.Rooted.{rooted_no_loop}
+use Rattle.room_inherit.{specs.Spread.IsSpread, proofs.Rooted.rooted_no_loop}
 use Rattle.room_desk.specs.{Carrying.{HasLoop, IsRooted}, Moving.{KeepsRoot, goes_past}}
 use Rattle.room_desk.proofs.Placed.Climbing.{node_at-changed, reaches-changed, step_up}
 
@@ -34,9 +33,7 @@ module _ (content : Content) (rises : Rises content) (node new : Node)
   pub rises_after : Rises after
   rises_after =
       subst (λ (c : Content). IsTrue (is_rising (0 ∷ map (λ (n : Node). n.id) c.nodes)))
-      (sym after_is)
-      (subst (λ (ids : List ℕ). IsTrue (is_rising (0 ∷ ids)))
-      (sym (numbers_same (replaced new) number_kept content.nodes)) rises)
+      (sym after_is) (search (rules, numbers_same, number_kept))
 
   found_after : (id : ℕ) → node_at after id ≡ option_map (replaced new) (node_at content id)
   found_after id = grind (arith, nat_tests, after_is, node_at-changed, number_kept, replaced)

@@ -28,6 +28,4 @@ pub asked_more : {A : Type 0} (f : ℕ → A) (mask : List ℕ) (i : ℕ) (items
     → i < length mask → new ≡ items ++ f (get_or mask i 0) ∷ []
     → new ++ map f (drop (i + 1) mask) ≡ items ++ map f (drop i mask)
 asked_more f mask i items new below more =
-    let here : drop i mask ≡ get_or mask i 0 ∷ drop (i + 1) mask = rw add-one
-    (drop-cons mask i 0 below) in
-    cc (more, append_assoc items (f (get_or mask i 0) ∷ []) (map f (drop (i + 1) mask)), here)
+    grind (arith, nat_tests, add-one, drop-cons, below, more, append_assoc)

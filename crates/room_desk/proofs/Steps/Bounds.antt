@@ -1,22 +1,21 @@
 -- How much requests write and read that are carried out in turn.
-use Rattle.std.proofs.Common.{◌≡◌, ◌||◌, ℕ, ◌+◌, ◌<◌, ◌≤◌, Bool, true, false, List, [], ◌∷◌, ◌++◌}
-use Rattle.std.proofs.Common.{length, take, drop, get_or, Option, Some, None, Result, Ok, Err, IfOk}
-use Rattle.std.proofs.Common.{Vec, Global, refl, sym, ap, ◌∙◌, arith, le_refl}
+use Rattle.std.proofs.Common.{rules, ◌≡◌, ◌||◌, ℕ, ◌+◌, ◌<◌, ◌≤◌, Bool, true, false, List, [], ◌∷◌}
+use Rattle.std.proofs.Common.{◌++◌, length, take, drop, get_or, Option, Some, None, Result, Ok, Err}
+use Rattle.std.proofs.Common.{IfOk, Vec, Global, refl, arith, le_refl}
 use Rattle.std.proofs.lemmas.List.{take-append-drop, take_more, Folds.list_any-append}
-use Rattle.std.proofs.lemmas.Bool.Decides.{nat_tests}
-use Rattle.std.specs.{Prelude.{is_some, if◌then◌else◌}, Result.IsErrAnd}
+use Rattle.std.{proofs.lemmas.Bool.Decides.nat_tests, specs.Prelude.{is_some, if◌then◌else◌}}
+use Rattle.std.specs.Result.{IsErrAnd}
 use Rattle.room_rows.specs.{Keep.KeepLaws, declared.keep.{Keep.Ghosts, KeepFault.KeepFault}}
 use Rattle.room_entry.specs.declared.object.Which.TheVariants.{Dacl, Sacl}
 use Rattle.room_machine.specs.{Closed.{failure_told, only_reads}, declared.reply.Reply.Reply}
 use Rattle.room_machine.specs.declared.request.Request.{Request}
 use Rattle.room_judge.specs.{Closed.Performs, Extent.{StaysWithin, Unless, Unsaid, UpTo}}
-use Rattle.room_judge.specs.Extent.{WritesUpTo}
-use Rattle.room_judge.proofs.Calls.{HasDone}
+use Rattle.room_judge.{specs.Extent.WritesUpTo, proofs.Calls.HasDone}
 use Rattle.room_desk.specs.{Called.{ReadsFew, calls_for, hands_down}, Counted.OneAndBoth}
 use Rattle.room_desk.specs.Counted.{changed_lists, extent_if, extent_of, most_writes}
 use Rattle.room_desk.specs.InTurn.{GoInTurn, WritesInTurn, calls_for_all, some_hands_down}
-use Rattle.room_desk.specs.declared.running.Asked.{Asked}
-use Rattle.room_desk.proofs.{Steps.InTurn.goes_more, Writes.Reading.reads_on}
+use Rattle.room_desk.{specs.declared.running.Asked.Asked, proofs.Steps.InTurn.goes_more}
+use Rattle.room_desk.proofs.Writes.Reading.{reads_on}
 
 -- ---- sums
 
@@ -42,7 +41,7 @@ down_more : (asked : List Asked) (one : Asked)
 down_more asked one = search (list_any-append, or_false)
 
 neither : (a b : Bool) → a || b ≡ false → (a ≡ false) × (b ≡ false)
-neither true b is = absurd (let e : true ≡ false = is in cc)
+neither true b is = absurd (cc)
 neither false b is = (refl, is)
 
 down_front : (front back : List Asked) → some_hands_down (front ++ back) ≡ false
@@ -133,8 +132,7 @@ module _ {S : Type 0} (k : Ghosts S) where
       let longer = one_front asked n one below at in
       let whole = take-append-drop (n + 1) asked in
       let fits = calls_front (take (n + 1) asked) (drop (n + 1) asked) in
-      let sum = sym (calls_more (take n asked) one) ∙ ap calls_for_all longer in
-      grind (arith, nat_tests, down_front, down_more, halted, neither)
+      search (rules, calls_more, n, asked, one, longer, down_front, down_more, halted, neither)
 
   module _ (laws : KeepLaws k.rows k.failures k.writes k.Follows k.IsTrusted) where
     pub none_gone : (replies : List Reply) (a : S) → replies ≡ [] → HasGone [] replies a a
@@ -159,8 +157,7 @@ module _ {S : Type 0} (k : Ghosts S) where
               let last = laws.last a b c gone.follows done.follows t in
               let wrote = gone.writes first in (
                 wrote.0 + most_writes one.request reply (k.rows b) (k.rows c),
-                goes_more asked n one replies all reply (k.rows a) (k.rows b) (k.rows c) wrote.0
-                    below at made wrote.1 (done.becomes last),
+                search (rules, goes_more, one, below, made, wrote.1, done.becomes, last),
                 grind (arith, nat_tests, both_write, one_writes),
               );
           reads = grind (arith, nat_tests, answered, calls_more, down_more, reads_sum);

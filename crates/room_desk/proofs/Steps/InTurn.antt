@@ -1,5 +1,5 @@
 -- Requests that are carried out in turn.
-use Rattle.std.proofs.Common.{◌≡◌, ℕ, ◌<◌, ◌+◌, ℤ, List, [], ◌∷◌, ◌++◌, length, take, get_or}
+use Rattle.std.proofs.Common.{rules, ◌≡◌, ℕ, ◌<◌, ◌+◌, ℤ, List, [], ◌∷◌, ◌++◌, length, take, get_or}
 use Rattle.std.proofs.{Common.{Option, arith}, lemmas.{List.take_more, Bool.Decides.nat_tests}}
 use Rattle.room_rows.specs.{Sound.AreSound, Rows.Rows}
 use Rattle.room_judge.specs.{declared.asker.Asker.Asker, Closed.{IsClosed, IsServed, Performs}}
@@ -71,9 +71,7 @@ pub goes_more : (asked : List Asked) (n : ℕ) (one : Asked) (replies all : List
     → GoInTurn (take (n + 1) asked) all old new (most + most_writes one.request reply mid new)
 goes_more asked n one replies all reply old mid new most below is made go does =
     let longer : take n asked ++ one ∷ [] ≡ take (n + 1) asked =
-    cc (is, take_more asked n one below) in
-    let most' = most + most_writes one.request reply mid new in
-    grind (arith, nat_tests, go_more)
+    cc (is, take_more asked n one below) in search (rules, one.request, reply, mid, new, go_more)
 
 -- from sound rows they stay sound, and nothing is damaged
 pub never_after : (asked : List Asked) (rows : Rows) (row : ℕ) → AreSound rows

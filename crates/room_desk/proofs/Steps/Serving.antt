@@ -1,8 +1,7 @@
 -- The replies of requests that change nothing but records.
-use Rattle.std.proofs.Common.{◌≡◌, ℕ, true, List, [], ◌∷◌, ◌++◌, map, Option, Some, None, refl, sym}
-use Rattle.std.proofs.Common.{ap, ◌∙◌, inl, inr, Result, Ok, Err, arith}
-use Rattle.std.proofs.lemmas.Bool.Decides.{nat_tests}
-use Rattle.std.specs.Prelude.{unwrap_or}
+use Rattle.std.proofs.Common.{rules, ◌≡◌, ℕ, true, List, [], ◌∷◌, ◌++◌, map, Option, Some, None}
+use Rattle.std.proofs.Common.{refl, sym, ap, ◌∙◌, inl, inr, Result, Ok, Err, arith}
+use Rattle.std.{proofs.lemmas.Bool.Decides.nat_tests, specs.Prelude.unwrap_or}
 use Rattle.room_entry.specs.{Rights.{read_data, read_acl, read_attributes}, Valid.is_document}
 use Rattle.room_entry.specs.declared.object.ObjKind.{ObjKind, TheVariants.{Document, Folder}}
 use Rattle.room_entry.specs.declared.object.Which.{Which, TheVariants.Dacl}
@@ -10,11 +9,12 @@ use Rattle.room_eval.specs.Verdict.{ruling_of}
 use Rattle.room_rows.specs.{declared.node.Node.Node, Held.{held_of, full_of}, Content.Content}
 use Rattle.room_rows.specs.Content.{node_at, root_of, child_of, body_of, children_of}
 use Rattle.room_rows.specs.{Meaning.{meaning, kept_node}, Rows.{Rows, AreRows}, Sound.AreSound}
-use Rattle.room_rows.specs.Keep.{AreNamedUnder, IsDamaged, IsUnreadable}
-use Rattle.room_rows.proofs.Frames.{Rises, root_of-is_there, child_of-is_there}
-use Rattle.room_rows.proofs.{InPlace.{keeps_places, children_of-with_each}, Mixed.named_alone}
+use Rattle.room_rows.{specs.Keep.{AreNamedUnder, IsDamaged, IsUnreadable}, proofs.Frames.Rises}
+use Rattle.room_rows.proofs.{Frames.{root_of-is_there, child_of-is_there}, InPlace.keeps_places}
+use Rattle.room_rows.proofs.{InPlace.children_of-with_each, Mixed.named_alone}
 use Rattle.room_judge.specs.{declared.asker.Asker.Asker, Closed.IsServed, Judged.IsJudged}
-use Rattle.room_judge.specs.Judged.{IsReached, of_kind}
+use Rattle.room_judge.{specs.Judged.{IsReached, of_kind}, proofs.Closing.closed_asked}
+use Rattle.room_judge.proofs.{Closing.closed_failed, Judging.failure_of_parts}
 use Rattle.room_machine.specs.declared.reply.Reply.{Reply, TheVariants.{Bytes, Names, Lists, Attr}}
 use Rattle.room_machine.specs.declared.{reply.Reply.TheVariants.Rulings, request.Request.Request}
 use Rattle.room_machine.specs.declared.request.Request.TheVariants.{Read, List as ListFolder}
@@ -24,11 +24,10 @@ use Rattle.room_machine.specs.{Plan.{Check, plan_by, plan_of, target_by, no_fold
 use Rattle.room_machine.specs.{Judge.or_else, Effect.{effect, with_site}, Changed.IsChanged}
 use Rattle.room_machine.specs.{Closed.{IsShown, failure_told}, Stored.{stored_site, stored_from}}
 use Rattle.room_machine.specs.Stored.{stored_along, stored_plan}
-use Rattle.room_judge.proofs.{Closing.{closed_asked, closed_failed}, Judging.failure_of_parts}
 use Rattle.room_desk.specs.{Answered.{AreNamesOf, IsBytesOf}, Asked.rulings_at, Written.HasNoBytes}
+use Rattle.room_desk.proofs.Steps.Stepping.{refused_step, served_step}
 use Rattle.room_sound.proofs.{SoundParts.{none_unreadable, sound_parts}, Sites.fill}
 use Rattle.room_sound.proofs.Filled.{fill_item, plan_judged, target_there}
-use Rattle.room_desk.proofs.Steps.Stepping.{refused_step, served_step}
 
 module _ (asker : Asker) (path : List (List ℕ)) (request : Request) (items : Site → List Item)
     (planned : (along : Along) (content : Content)
@@ -71,8 +70,7 @@ module _ (asker : Asker) (path : List (List ℕ)) (request : Request) (items : S
         served_step asker request old known sound new reply
         (λ id. rw (acts (meaning old.read) id, target.at, replies target.planned target.filled))
         (plan_is old new None are sound reached.judged),
-    closed_asked asker request old reply new (stored_is old new None reached.judged) none shown
-        still,
+    search (rules, closed_asked, old, new, stored_is, reached.judged, none, shown, still),
   )
 
 -- ---- what a target with its stored lists says
@@ -135,8 +133,7 @@ module _ (asker : Asker) (path : List (List ℕ)) where
           (λ (s : Site). Names (map shown (children_of (meaning old.read) s.node.id))) filled
           ∙ rw (
             children_of-with_each old.read (kept_node old.read)
-                (keeps_places old.read (kept_node old.read)
-                (λ n. record { number = refl; parent = refl; name = refl })) node.id,
+                (search (rules, keeps_places, old.read)) node.id,
             names_kept,
             listed,
           ))
@@ -150,8 +147,7 @@ module _ (asker : Asker) (path : List (List ℕ)) where
       served asker path (ReadList path which) _ (λ along content. refl) (λ site. refl)
       (λ content target. Lists (held_of which target.node).flags (full_at which target))
       (λ content id. refl) old new node reply are reached
-      (λ target filled. let flags = flags_of which target in let fulls = fulls_of which target in
-      let full = stored_full which path node in grind (arith, filled, replies))
+      (search (rules, flags_of, which, fulls_of, stored_full, node, replies))
       (rw replies) (stored_site path node, reached.found, rw (replies, stored_full which path node))
       refl
 

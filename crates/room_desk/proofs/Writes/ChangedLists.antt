@@ -9,16 +9,14 @@ use Rattle.room_entry.specs.{Ace.Ace, Same.same_entries, declared.object.Which.W
 use Rattle.room_entry.proofs.{Facts.Members.{count, count-is, one_if}, Same.entries_equal}
 use Rattle.room_rows.specs.{declared.node.Node.Node, Content.{Content, has_parent, is_linked_in}}
 use Rattle.room_rows.specs.{Content.{node_at, parent_of, with_each}, Finding.find_id, Held.held_of}
-use Rattle.room_rows.specs.{Keep.{Changes, with_inh}, Rows.Rows}
-use Rattle.room_rows.proofs.{Frames.{Rises, node_at-number}, InPlace.held_of-with_inh}
-use Rattle.room_rows.proofs.InPlace.{with_inh-id}
+use Rattle.room_rows.{specs.{Keep.{Changes, with_inh}, Rows.Rows}, proofs.Frames.Rises}
+use Rattle.room_rows.proofs.{Frames.node_at-number, InPlace.{held_of-with_inh, with_inh-id}}
 use Rattle.room_inherit.specs.Spread.{IsLinkedBelow, IsSpread, is_changed, is_linked_within}
-use Rattle.room_inherit.specs.Spread.{is_within}
-use Rattle.room_inherit.proofs.{Children.{apart_rising, each_there}, Rooted.rooted_no_loop}
+use Rattle.room_inherit.{specs.Spread.is_within, proofs.Children.{apart_rising, each_there}}
+use Rattle.room_inherit.proofs.Rooted.{rooted_no_loop}
 use Rattle.room_desk.specs.{Carrying.{IsCarriedDown, IsRooted}, Counted.changed_lists}
-use Rattle.room_desk.specs.Counted.{has_other_list}
-use Rattle.room_desk.proofs.{Lists.HandedDown.put_one, Placed.Climbing.node_at-changed}
-use Rattle.room_desk.proofs.Sound.Anchored.{rooted_changed}
+use Rattle.room_desk.{specs.Counted.has_other_list, proofs.Lists.HandedDown.put_one}
+use Rattle.room_desk.proofs.{Placed.Climbing.node_at-changed, Sound.Anchored.rooted_changed}
 
 -- ---- counts
 

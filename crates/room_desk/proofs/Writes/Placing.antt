@@ -1,6 +1,6 @@
 -- How many writes suffice to give an object another place.
-use Rattle.std.proofs.Common.{◌≡◌, ◌∙◌, ℕ, ◌+◌, ◌≤◌, ◌==◌, false, cond, List, [], ◌++◌, Option}
-use Rattle.std.proofs.Common.{Some, None, Ok, length, refl, sym, ap, subst, arith}
+use Rattle.std.proofs.Common.{rules, ◌≡◌, ◌∙◌, ℕ, ◌+◌, ◌≤◌, ◌==◌, false, cond, List, [], ◌++◌}
+use Rattle.std.proofs.Common.{Option, Some, None, Ok, length, refl, sym, ap, subst, arith}
 use Rattle.std.proofs.lemmas.Bool.Decides.{nat_tests}
 use Rattle.std.specs.{Prelude.{zero, suc}, Option.option_map_or}
 use Rattle.room_entry.specs.declared.object.Which.{Which, TheVariants.{Dacl, Sacl}}
@@ -120,10 +120,7 @@ module _ (target folder : Node) (name : List ℕ) where
       → 1 + length old.read.audits ≤ length new.read.audits + more
   one_placed old new more places enough =
       let is = is_at target folder name old new places (recorded old enough.0) in
-      let same : length new.read.audits ≡ length old.read.audits = ap
-      (λ (r : Rows). length r.read.audits) is in
-      let one = enough.1 in
-      omega arith
+      search (rules, new.read.audits, old.read.audits, is, enough.1)
 
   placed_is : (old mid : Rows) → Places target.id folder.id name old mid
       → CanGo target folder name old → mid.read ≡ with_each old.read (single target.id place)
@@ -197,8 +194,7 @@ module _ (target folder : Node) (name : List ℕ) where
         (λ n. with_inh-id Sacl (further.lists n) n) (λ n. refl) old sacl_stored new
         further.becomes
         ∙ changed_after Dacl (single target.id (with_inh Sacl (inh_in Sacl folder target)))
-        (single_number target.id (with_inh Sacl (inh_in Sacl folder target))
-        (λ n. with_inh-id Sacl (inh_in Sacl folder target) n))
+        (search (rules, single_number, with_inh-id))
         (single_list target.id (with_inh Sacl (inh_in Sacl folder target)) Dacl (λ n. refl)) old
         mid sacl_stored refl
 
@@ -207,8 +203,7 @@ module _ (target folder : Node) (name : List ℕ) where
         changed_before Sacl (λ n. with_inh Dacl (down.lists n) n)
         (λ n. with_inh-id Dacl (down.lists n) n) (λ n. refl) dacl_stored mid new mid_is
         ∙ changed_before Sacl (single target.id (with_inh Dacl (inh_in Dacl folder target)))
-        (single_number target.id (with_inh Dacl (inh_in Dacl folder target))
-        (λ n. with_inh-id Dacl (inh_in Dacl folder target) n))
+        (search (rules, single_number, with_inh-id))
         (single_list target.id (with_inh Dacl (inh_in Dacl folder target)) Sacl (λ n. refl))
         placed dacl_stored new refl
         ∙ changed_before Sacl (single target.id place)

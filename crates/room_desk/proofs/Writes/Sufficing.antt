@@ -1,18 +1,18 @@
 -- How many writes suffice for the calls of requests.
-use Rattle.std.proofs.Common.{◌≡◌, ◌∙◌, ℕ, ◌+◌, ◌≤◌, not, false, true, [], ◌∷◌, List, Option, Some}
-use Rattle.std.proofs.{Common.{None, length, refl, sym, ap, arith}, lemmas.Bool.Decides.nat_tests}
-use Rattle.std.specs.{Prelude.{zero, suc, is_none, is_some}, Option.option_map_or}
+use Rattle.std.proofs.Common.{rules, ◌≡◌, ◌∙◌, ℕ, ◌+◌, ◌≤◌, not, false, true, [], ◌∷◌, List, Option}
+use Rattle.std.proofs.Common.{Some, None, length, refl, sym, ap, arith}
+use Rattle.std.{proofs.lemmas.Bool.Decides.nat_tests, specs.Prelude.{zero, suc, is_none, is_some}}
+use Rattle.std.specs.Option.{option_map_or}
 use Rattle.room_entry.specs.{Ace.Ace, Same.same_entries, Valid.is_document}
 use Rattle.room_entry.specs.declared.object.Which.{Which, TheVariants.{Dacl, Sacl}}
-use Rattle.room_rows.specs.{declared.node.{NewNode.NewNode, Node.Node}, Content.node_at}
-use Rattle.room_rows.specs.{Content.reaches_root, HeldList.Held, Held.held_of, Keep.{Adds, CanAdd}}
-use Rattle.room_rows.specs.{Keep.{Changes, IsDocumentAt, SetsBody, with_inh}, Rows.{Rows, AreRows}}
+use Rattle.room_rows.specs.{declared.node.Node.Node, Content.{node_at, reaches_root}, Keep.Addition}
+use Rattle.room_rows.specs.Keep.{Adds, CanAdd, Changes, IsDocumentAt, SetsBody, with_inh}
+use Rattle.room_rows.specs.{HeldList.Held, Held.held_of, Rows.{Rows, AreRows}}
 use Rattle.room_rows.proofs.InPlace.{held_of-with_inh, place-with_inh}
 use Rattle.room_machine.specs.{Plan.{Check, no_folder}, Site.{Site, site_at}, Stored.stored_along}
 use Rattle.room_machine.specs.Stored.{stored_site}
 use Rattle.room_judge.specs.{Extent.unrecorded, Judged.IsJudged, Spot.{IsPaired, pair_of}}
-use Rattle.room_judge.specs.declared.{arrival.Found.Found, asker.Asker.Asker}
-use Rattle.room_judge.proofs.UpTo.{Share}
+use Rattle.room_judge.{specs.declared.{arrival.Found.Found, asker.Asker.Asker}, proofs.UpTo.Share}
 use Rattle.room_desk.specs.{Carrying.{IsCarriedDown, IsRooted, StandsRooted}, Counted.EachList}
 use Rattle.room_desk.specs.Counted.{OneAndBoth, OneAndEach, OneWrite, Provided, changed_lists}
 use Rattle.room_desk.specs.{Made.IsNameOf, Moving.StandsListed, Removed.RemovableIfEmpty}
@@ -37,7 +37,7 @@ pub one_put : (id : ℕ) (bytes : List ℕ) (old new : Rows) (more : ℕ) → Se
     → 1 + length old.read.audits ≤ length new.read.audits + more
 one_put id bytes old new more sets enough = grind (arith, nat_tests)
 
-pub one_added : (node : NewNode) (id : ℕ) (old new : Rows) (more : ℕ) → Adds node old id new
+pub one_added : (node : Addition) (id : ℕ) (old new : Rows) (more : ℕ) → Adds node old id new
     → CanAdd node old → 1 ≤ more → 1 + length old.read.audits ≤ length new.read.audits + more
 one_added node id old new more adds can enough = grind (arith, nat_tests, new_audits)
 
@@ -57,7 +57,7 @@ one_of_each which old new more enough = omega arith
 
 -- ---- what a walk found
 
-pub can_recorded : (node : NewNode) (old : Rows) → CanAdd node (unrecorded old) → CanAdd node old
+pub can_recorded : (node : Addition) (old : Rows) → CanAdd node (unrecorded old) → CanAdd node old
 can_recorded node old can = grind (arith, nat_tests)
 
 pub document_passed : (asker : Asker) (site : Site) (mask : List ℕ) (old mid : Rows)
@@ -66,10 +66,10 @@ pub document_passed : (asker : Asker) (site : Site) (mask : List ℕ) (old mid :
 document_passed asker site mask old mid judged = grind (arith, nat_tests, folder_fails, none_both)
 
 -- nothing has the name in the folder
-pub can_make : (path : List (List ℕ)) (folder : Node) (child : Option Node) (node : NewNode)
-    (old : Rows) → node.parent ≡ Some folder.id → IsNameOf path node.name
-    → IsFoundFolder old path folder child → is_none child ≡ true → CanAdd node (unrecorded old)
-can_make path folder child node old above named found none = grind (arith, nat_tests, is_none_none)
+pub can_make : (path : List (List ℕ)) (folder : Node) (child : Option Node) (new : Addition)
+    (old : Rows) → new.node.parent ≡ Some folder.id → IsNameOf path new.node.name
+    → IsFoundFolder old path folder child → is_none child ≡ true → CanAdd new (unrecorded old)
+can_make path folder child new old above named found none = grind (arith, nat_tests, is_none_none)
 
 pub none_if : (child : Option Node) → is_some child ≡ false → is_none child ≡ true
 none_if None is = refl
@@ -154,6 +154,4 @@ taken_share which target entries passed old mid new more are isnt changes down e
         ∙ ap (λ (l : List Ace). not
         (same_entries l (held_of which rooted.node).inh)) are
         ∙ ap (λ (h : Held). not (same_entries passed h.inh)) listed
-        ∙ ap not isnt) in
-        let all : changed_lists which old new ≤ more = enough.1 in
-        omega arith
+        ∙ ap not isnt) in search (rules, which, old, new, enough.1)

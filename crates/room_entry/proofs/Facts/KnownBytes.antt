@@ -2,8 +2,7 @@
 use Rattle.std.proofs.Common.{◌≡◌, ℕ, ◌+◌, ◌-◌, arith, List, [], ◌++◌, length, take, drop, Option}
 use Rattle.std.proofs.{Common.{Some, None, sym, ap, ◌∙◌, append_assoc}, lemmas.List.append-nil}
 use Rattle.std.proofs.lemmas.{List.{take_all, length-drop}, Bool.Decides.nat_tests}
-use Rattle.std.proofs.Math.Seq.{take-add}
-use Rattle.std.specs.Io.KnownBytes.{Appends, Keeps}
+use Rattle.std.{proofs.Math.Seq.take-add, specs.Io.KnownBytes.{Appends, Keeps}}
 
 -- one text was written and then another: so the two, joined, were
 pub Appends-then : (u v w : Option (List ℕ)) (a b : List ℕ) → Appends u v a → Appends v w b

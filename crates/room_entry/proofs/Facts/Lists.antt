@@ -1,7 +1,6 @@
 -- What a test passes of a list, and what another test that follows from it does.
 use Rattle.std.proofs.Common.{◌≡◌, Bool, true, List, [], ◌∷◌, filter, refl, ap, arith}
-use Rattle.std.proofs.lemmas.Bool.{and_parts, and_from, Decides.nat_tests}
-use Rattle.std.specs.List.{list_all}
+use Rattle.std.{proofs.lemmas.Bool.{and_parts, and_from, Decides.nat_tests}, specs.List.list_all}
 
 -- where each member passes a test, each passes any that follows from it
 pub all_implied : {X : Type 0} (p q : X → Bool) → ((x : X) → p x ≡ true → q x ≡ true)

@@ -1,10 +1,11 @@
 -- What holds of each member of a list, which tests some member passes, and how many pass.
 -- `Each P xs` is the standard library's `AllByRecursion`.
-use Rattle.std.proofs.Common.{◌≡◌, ℕ, ◌+◌, ◌≤◌, Bool, true, false, cond, ◌&&◌, ◌||◌, List, [], ◌∷◌}
+use Rattle.std.proofs.Common.{◌≡◌, ◌+◌, ◌≤◌, Bool, true, false, cond, ◌&&◌, ◌||◌, List, [], ◌∷◌}
 use Rattle.std.proofs.Common.{◌++◌, map, filter, length, refl, ap, ◌∙◌, arith}
 use Rattle.std.proofs.lemmas.{List.Sums.sum_by-cons, Bool.{and_from, or_parts, or_from}}
 use Rattle.std.proofs.lemmas.Bool.Decides.{nat_tests}
 use Rattle.std.specs.{Prelude.count_by, List.{AllByRecursion as Each, list_any, list_all}}
+pub use Rattle.room_entry.specs.Counted.{count, one_if}
 
 -- what holds of each member of two lists holds of each of the two joined
 pub each_append : {A : Type 0} (P : A → Type 0) (xs ys : List A) → Each P xs → Each P ys
@@ -114,15 +115,6 @@ all_each p [] all = refl
 all_each p (x ∷ xs) all = and_from (p x) (list_all p xs) all.0 (all_each p xs all.1)
 
 -- ---- counts
-
--- 1 for a test that is passed, and 0 else
-abbrev pub one_if : Bool → ℕ
-one_if t = cond t 1 0
-
--- how many members pass a test, counted from member to member
-abbrev pub count : {A : Type 0} → (A → Bool) → List A → ℕ
-count p [] = 0
-count p (x ∷ xs) = one_if (p x) + count p xs
 
 -- it is the same number as the `count_by` of the contracts
 pub count-is : {A : Type 0} (p : A → Bool) (xs : List A) → count_by p xs ≡ count p xs

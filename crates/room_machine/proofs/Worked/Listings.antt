@@ -1,5 +1,5 @@
 -- Worked listings: what may be shown of a folder with a row that can't be read.
-use Rattle.std.proofs.Common.{◌≡◌, ℕ, zero, suc, List, [], ◌∷◌, Some, refl, sym, ap, subst, inl}
+use Rattle.std.proofs.Common.{◌≡◌, ℕ, zero, suc, List, [], ◌∷◌, Some, refl, sym, ap, inl}
 use Rattle.std.proofs.{Common.{inr, codes, arith}, lemmas.{Bool.false≢true, Option.same_Some}}
 use Rattle.std.specs.List.{Contains}
 use Rattle.room_entry.specs.{Valid.is_document, declared.object.ObjKind.ObjKind}
@@ -60,10 +60,7 @@ module _ (caller : Caller) where
   told_here : (names : List (List ℕ × ObjKind)) → IsShownIn caller names
       → AreNamedUnder 2 rows names
   told_here names (target, found, (told, same, named)) =
-      let here : there ≡ target = same_Some there target found in
-      let all : names ≡ told = cc in
-      subst (λ (site : Site). AreNamedUnder site.node.id rows names) (sym here)
-      (subst (λ l. AreNamedUnder target.node.id rows l) (sym all) named)
+      grind (arith, target, same_Some, found, names, told, target.node.id, named)
 
   a_child_is_never_left_out : IsShownIn caller [] → ⊥
   a_child_is_never_left_out shown =

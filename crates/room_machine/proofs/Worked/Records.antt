@@ -1,7 +1,6 @@
 -- Worked rows: records, alarms, and callers without a name.
 use Rattle.std.proofs.Common.{ℕ, ◌≡◌, List, [], ◌∷◌, ◌++◌, Some, None, refl, true, false, Bool}
-use Rattle.std.proofs.Common.{codes}
-use Rattle.std.specs.Prelude.{pos, if◌then◌else◌}
+use Rattle.std.{proofs.Common.codes, specs.Prelude.{pos, if◌then◌else◌}}
 use Rattle.room_entry.specs.{Ace.Ace, declared.entry.EntryKind.TheVariants.{Allow, Deny, Audit}}
 use Rattle.room_entry.specs.declared.entry.{EntryKind.TheVariants.Alarm, Who.TheVariants.Everyone}
 use Rattle.room_entry.specs.declared.entry.Who.TheVariants.{Anonymous, Authenticated, User}
@@ -12,9 +11,9 @@ use Rattle.room_rows.specs.declared.node.RecordKind.TheVariants.{Alarm as AlarmR
 use Rattle.room_rows.specs.Content.{Content}
 use Rattle.room_machine.specs.declared.request.Request.TheVariants.{Read, Put, Remove, ReadAttr}
 use Rattle.room_machine.specs.declared.reply.Reply.TheVariants.{Bytes, Attr, Made, Done, Denied}
-use Rattle.room_machine.specs.Step.{step}
-use Rattle.room_machine.proofs.Worked.Worlds.{none, fd, entry, root, alice, by_root, root_may_all}
-use Rattle.room_machine.proofs.Worked.{Worlds.{held, plain, object, root_folder}, Rows.own}
+use Rattle.room_machine.{specs.Step.step, proofs.Worked.Worlds.{none, fd, entry, root, alice}}
+use Rattle.room_machine.proofs.Worked.Worlds.{by_root, root_may_all, held, plain, object}
+use Rattle.room_machine.proofs.Worked.{Worlds.root_folder, Rows.own}
 
 -- ---- records
 

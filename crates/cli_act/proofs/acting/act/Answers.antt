@@ -1,14 +1,11 @@
 use Rattle.sqlite.specs.Held.{state}
 use Rattle.cli_act.proofs.{Ended.does_ended, Outlasting.does_outlast}
 use Rattle.cli_act.proofs.acting.act.Goals as goal
+use Rattle.std.proofs.Common.{rules}
 
 pub returns-clause-acts : goal.returns-clause-acts
 returns-clause-acts g c =
-    record {
-      outcome = c.do_task-conn.result.1;
-      does = c.do_task-conn.ensures;
-      tells = c.tell-status.ensures;
-    }
+    search (rules, c.do_task-conn.ensures, c.tell-status.ensures)
 
 pub returns-clause-ended : goal.returns-clause-ended
 returns-clause-ended g c =

@@ -1,6 +1,6 @@
-use Rattle.std.proofs.Common.{List, ℕ, [], refl, length, ap, ◌∙◌}
-use Rattle.cli_act.specs.Counting.{with_group}
-use Rattle.cli_act.proofs.Groups.{after_all, after_next, seen_next, seen_none}
+use Rattle.std.proofs.Common.{[], refl, arith}
+use Rattle.cli_act.{specs.Counting.with_group, proofs.Groups.{after_all, after_next, seen_next}}
+use Rattle.cli_act.proofs.Groups.{seen_none}
 use Rattle.cli_act.proofs.counting.count_groups.Goals as goal
 
 pub pairs-init : goal.pairs-init
@@ -18,6 +18,4 @@ pairs-preserved c =
 
 pub returns : goal.returns
 returns c =
-    let all = c.pairs.invariant in
-    c.len.ensures.len ∙ all.1.len
-    ∙ ap (λ (groups : List (List ℕ)). length groups) (after_all _ _ _ c.pairs-test.false all.2)
+    grind (arith, after_all, c.pairs.invariant, c.len.ensures.len, c.pairs-test.false)

@@ -1,6 +1,5 @@
 use Rattle.std.proofs.Common.{◌≡◌, ℕ, List, drop}
-use Rattle.cli_act.specs.Counting.{groups_after, distinct_groups}
-use Rattle.cli_act.proofs.Groups.{HasSeen}
+use Rattle.cli_act.{specs.Counting.{groups_after, distinct_groups}, proofs.Groups.HasSeen}
 use Rattle.cli_act.proofs.counting.count_groups.Given as goal
 
 abbrev pub invariant-pairs : goal.invariant-pairs

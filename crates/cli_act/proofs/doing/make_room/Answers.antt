@@ -1,18 +1,10 @@
-use Rattle.std.proofs.Common.{Ok, Err, refl}
 use Rattle.cli_act.proofs.doing.make_room.Goals as goal
+use Rattle.std.proofs.Common.{arith, rules}
 
 pub returns-in-Ok : goal.returns-in-Ok
 returns-in-Ok g c =
-    record {
-      result = Ok tt;
-      creates = rw c.into_conn.ensures.same c.in-Ok.ensures.made;
-      told = refl;
-    }
+    grind (arith, c.into_conn.ensures.same, c.in-Ok.ensures.made)
 
 pub returns-in-Err : goal.returns-in-Err
 returns-in-Err g c =
-    record {
-      result = Err c.in-Err.fault;
-      creates = c.in-Err.ensures.back;
-      told = c.not_made.ensures;
-    }
+    search (rules, c.in-Err.ensures.back, c.not_made.ensures)

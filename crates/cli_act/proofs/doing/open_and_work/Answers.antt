@@ -1,4 +1,4 @@
-use Rattle.std.proofs.Common.{inl, inr}
+use Rattle.std.proofs.Common.{inl, arith}
 use Rattle.cli_act.proofs.doing.open_and_work.Goals as goal
 
 pub returns-in-Ok : goal.returns-in-Ok
@@ -11,8 +11,4 @@ returns-in-Ok g c =
 
 pub returns-in-Err : goal.returns-in-Err
 returns-in-Err g c =
-    inr (record {
-      fault = c.in-Err.fault;
-      opens = c.in-Err.ensures.back;
-      told = c.not_opened.ensures;
-    })
+    grind (arith, c.in-Err.fault, c.in-Err.ensures.back, c.not_opened.ensures)

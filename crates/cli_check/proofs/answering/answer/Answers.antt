@@ -1,5 +1,6 @@
 use Rattle.cli_check.proofs.Told.{told, untold}
 use Rattle.cli_check.proofs.answering.answer.Goals as goal
+use Rattle.std.proofs.Common.{rules}
 
 pub returns-in-Ok-clause-line : goal.returns-in-Ok-clause-line
 returns-in-Ok-clause-line g c =
@@ -8,5 +9,4 @@ returns-in-Ok-clause-line g c =
 
 pub returns-in-Err-clause-line : goal.returns-in-Err-clause-line
 returns-in-Err-clause-line g c =
-    untold (g.R.Read.remaining c.args.reader.now) (g.W.Write.contents c.args.writer.now)
-    c.in-Err.error
+    search (rules, untold)

@@ -1,5 +1,4 @@
-use Rattle.std.proofs.Common.{◌≡◌, ◌++◌, length, true}
-use Rattle.std.specs.List.{list_all}
+use Rattle.std.{proofs.Common.{◌≡◌, ◌++◌, length, true}, specs.List.list_all}
 use Rattle.room_entry.specs.{Names.is_name, Pieces.pieces}
 use Rattle.cli_check.proofs.headers.checked_names.Given as goal
 

@@ -1,13 +1,10 @@
-use Rattle.std.proofs.Common.{◌≤◌, ◌+◌, length, arith}
 use Rattle.cli_check.proofs.Below.{list_below-read, list_below-fault, fault-most}
 use Rattle.cli_check.proofs.question.list_in.Goals as goal
+use Rattle.std.proofs.Common.{rules}
 
 pub overflow_add-result : goal.overflow_add-result
 overflow_add-result c =
-    let read = rw c.in-Err-Fault.field-0-is at c.in-Err-Fault.ensures in
-    let most : c.in-Err-Fault.fault.line ≤ length c.args.bytes.now + 2 =
-    fault-most c.args.bytes.now c.in-Err-Fault.fault read in
-    omega arith
+    search (rules, fault-most, c.in-Err-Fault.fault.line, c.in-Err-Fault.fault)
 
 pub returns-in-Ok : goal.returns-in-Ok
 returns-in-Ok c = list_below-read c.args.bytes.now c.in-Ok.list c.in-Ok.ensures

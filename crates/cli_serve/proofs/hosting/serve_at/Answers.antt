@@ -1,12 +1,10 @@
+use Rattle.std.proofs.Common.{rules}
 use Rattle.cli_serve.proofs.Staying.{by_listener, refused_at}
 use Rattle.cli_serve.proofs.hosting.serve_at.Goals as goal
 
 pub returns-in_default-clause-served : goal.returns-in_default-clause-served
 returns-in_default-clause-served g c =
-    let service = c.args.service.now in
-    refused_at g.D.Desk g.met.D.Desk.laws service.place service.count
-    (g.M.Moments.told service.clock) (g.P.Ports.did service.ports)
-    (g.P.Ports.did c.bind_at.new.ports) c.args.desk.now _ _ c.in_default.ensures.did
+    search (rules, refused_at, g.D.Desk, g.met.D.Desk.laws, c.in_default.ensures.did)
 
 pub returns-clause-served : goal.returns-clause-served
 returns-clause-served g c =

@@ -1,6 +1,5 @@
 use Rattle.std.proofs.Common.{ap, sym}
-use Rattle.cli_serve.specs.Lines.{connection_line}
-use Rattle.cli_serve.proofs.Told.{appended}
+use Rattle.cli_serve.{specs.Lines.connection_line, proofs.Told.appended}
 use Rattle.cli_serve.proofs.lines.add_line.Goals as goal
 
 pub returns-in-Read : goal.returns-in-Read

@@ -1,6 +1,5 @@
 use Rattle.std.proofs.Common.{ap, sym}
-use Rattle.cli_serve.specs.Lines.{listening_line}
-use Rattle.cli_serve.proofs.Told.{appended}
+use Rattle.cli_serve.{specs.Lines.listening_line, proofs.Told.appended}
 use Rattle.cli_serve.proofs.lines.add_place.Goals as goal
 
 pub returns-in-Port : goal.returns-in-Port

@@ -1,4 +1,4 @@
-use Rattle.std.proofs.Common.{inr}
+use Rattle.std.proofs.Common.{rules, inr}
 use Rattle.cli_serve.proofs.Staying.{rests, tells}
 use Rattle.cli_serve.proofs.serving.says_shut.Goals as goal
 
@@ -10,8 +10,7 @@ returns-in-Ok-clause-rests g c =
 
 pub returns-in-Ok-clause-tells : goal.returns-in-Ok-clause-tells
 returns-in-Ok-clause-tells g c =
-    tells g.D.Desk g.met.D.Desk.laws c.args.desk.now c.is_shut.new.self c.in-Ok.shut
-    c.in-Ok.ensures.told
+    search (rules, tells, g.D.Desk, g.met.D.Desk.laws, c.in-Ok.ensures.told)
 
 pub returns-in-Err-clause-rests : goal.returns-in-Err-clause-rests
 returns-in-Err-clause-rests g c =

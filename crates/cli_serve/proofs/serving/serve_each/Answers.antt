@@ -1,10 +1,9 @@
-use Rattle.std.proofs.Common.{arith, refl, sym, ◌∙◌}
-use Rattle.std.specs.Io.KnownBytes.{Appends}
+use Rattle.std.{proofs.Common.{arith, refl, sym, ◌∙◌}, specs.Io.KnownBytes.Appends}
 use Rattle.cli_outcome.specs.Written.{WritesSome}
-use Rattle.cli_serve.proofs.Receiving.{nobody, none, one_more}
-use Rattle.cli_serve.proofs.Staying.{all_served, left_shut, lines_then, missing, stays_on, untold}
-use Rattle.cli_serve.proofs.serving.serve_each.Goals as goal
+use Rattle.cli_serve.proofs.{Receiving.{nobody, none, one_more}, Staying.{all_served, left_shut}}
+use Rattle.cli_serve.proofs.Staying.{lines_then, missing, stays_on, untold}
 use Rattle.cli_serve.proofs.serving.serve_each.Goals.{then-told, else-told}
+use Rattle.cli_serve.proofs.serving.serve_each.Goals as goal
 
 pub returns-in-Err-clause-served : goal.returns-in-Err-clause-served
 returns-in-Err-clause-served g c =

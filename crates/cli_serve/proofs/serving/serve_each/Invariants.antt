@@ -1,5 +1,4 @@
-use Rattle.cli_serve.specs.Visits.{sources}
-use Rattle.cli_serve.proofs.Told.{IsServing}
+use Rattle.cli_serve.{specs.Visits.sources, proofs.Told.IsServing}
 use Rattle.cli_serve.proofs.serving.serve_each.Given as goal
 
 abbrev pub invariant-connections : goal.invariant-connections

@@ -1,9 +1,8 @@
 use Rattle.std.proofs.Common.{[], ◌∷◌, Err, refl, subst, rules, w64, ℤ, SFits}
 use Rattle.std.proofs.lemmas.Int.{to_z-of_z}
 use Rattle.cli_serve.specs.{Peers.{Act, wire}, Visits.{Attends, Meeting, sources, until}}
-use Rattle.cli_serve.specs.declared.fault.ServingFault.{ServingFault}
-use Rattle.cli_serve.proofs.Receiving.{lost, met_fault, met_lost, met_peer, nobody, no_more, one}
-use Rattle.cli_serve.proofs.Receiving.{told_on}
+use Rattle.cli_serve.{specs.declared.fault.ServingFault.ServingFault, proofs.Receiving.lost}
+use Rattle.cli_serve.proofs.Receiving.{met_fault, met_lost, met_peer, nobody, no_more, one, told_on}
 use Rattle.cli_serve.proofs.serving.serve_next.Goals as goal
 
 pub returns-in-Ok-Some-clause-received : goal.returns-in-Ok-Some-clause-received

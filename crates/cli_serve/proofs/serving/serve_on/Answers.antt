@@ -1,15 +1,10 @@
-use Rattle.std.proofs.Common.{inl, inr, refl}
+use Rattle.std.proofs.Common.{rules, inl, inr, refl}
 use Rattle.cli_serve.specs.{Visits.sources, declared.fault.ServingFault.ServingFault}
 use Rattle.cli_serve.proofs.{Receiving.no_more, Staying.{first_told, unserved}}
 use Rattle.cli_serve.proofs.serving.serve_on.Goals as goal
 
 pub returns-in_default-clause-served : goal.returns-in_default-clause-served
-returns-in_default-clause-served g c =
-    let told = g.M.Moments.told c.args.clock.now in
-    let did = g.L.Listens.did c.args.listening.now.listener in
-    unserved g.D.Desk g.met.D.Desk.laws c.args.listening.now.place c.args.listening.now.count
-    (sources told did) (sources told did) c.args.desk.now ServingFault.Memory _ _ _
-    (no_more told) (no_more did) refl refl refl refl
+returns-in_default-clause-served g c = search (rules, unserved, g.D.Desk, g.met.D.Desk.laws)
 
 pub returns-then-tell_place-clause-served : goal.returns-then-tell_place-clause-served
 returns-then-tell_place-clause-served g c = record {

@@ -1,6 +1,5 @@
 use Rattle.std.proofs.lemmas.Result.{IfOk-at_ok, IfOk-weaker}
-use Rattle.cli_words.proofs.Lines.{added}
-use Rattle.cli_words.specs.Line.{IsLine}
+use Rattle.cli_words.{proofs.Lines.added, specs.Line.IsLine}
 use Rattle.cli_words.proofs.line.with.Goals as goal
 
 pub returns : goal.returns

@@ -1,17 +1,14 @@
 use Rattle.std.proofs.Common.{◌≡◌, ◌∙◌, refl, sym, ap, subst, map, true, false, [], List, Option}
-use Rattle.std.proofs.{Common.{Result, Ok, Err, IfOk, inl, inr}, lemmas.Bool.false_from_ne_true}
-use Rattle.std.specs.{Prelude.IfErr, Borrow.Bor}
-use Rattle.clap.specs.{Simple.{HasMatchesOf, is_simple}, Words.{App, HasKind, IsAmong, Row, Text}}
-use Rattle.clap.specs.Words.{fault_of, is_simple_and_free, kind_of, subcommand_of}
-use Rattle.clap.specs.{Words.{subcommand_rows_of, takes}, declared.error.Error.Error}
-use Rattle.clap.specs.declared.error.kind.ErrorKind.{ErrorKind}
-use Rattle.clap.specs.declared.parser.matches.ArgMatches.{ArgMatches}
+use Rattle.std.proofs.Common.{Result, Ok, Err, IfOk, inl, inr, arith}
+use Rattle.std.{proofs.lemmas.Bool.false_from_ne_true, specs.{Prelude.IfErr, Borrow.Bor}}
+use Rattle.clap.specs.{Simple.{HasMatchesOf, is_simple}, Words.{App, HasKind, Row, Text, fault_of}}
+use Rattle.clap.specs.Words.{is_simple_and_free, kind_of, subcommand_of, subcommand_rows_of, takes}
+use Rattle.clap.specs.declared.{error.Error.Error, parser.matches.ArgMatches.ArgMatches}
 use Rattle.clap.proofs.OnLiterals.{clap_on_literals}
 use Rattle.room_entry.specs.declared.failure.Failure.{Failure, TheVariants.{OutOfMemory, Fault}}
-use Rattle.cli_words.proofs.Named.{is_whole}
-use Rattle.cli_words.specs.Command.{IsWhole, IsCommand, IsRead, IsRefused, IsTold, names_two}
-use Rattle.cli_words.specs.{Line.{AreAttributes, command_line}, declared.command.CliFault.CliFault}
-use Rattle.cli_words.specs.declared.command.Command.{Command}
+use Rattle.cli_words.{proofs.Named.is_whole, specs.Command.{IsWhole, IsCommand, IsRead, IsRefused}}
+use Rattle.cli_words.specs.{Command.{IsTold, names_two}, Line.{AreAttributes, command_line}}
+use Rattle.cli_words.specs.declared.command.{CliFault.CliFault, Command.Command}
 use Rattle.clap.specs.declared.error.kind.ErrorKind.TheVariants as kinds
 use Rattle.cli_words.proofs.reading.read_command.Goals as goal
 
@@ -106,12 +103,7 @@ told_fault names words error (Fault fault) two passes has told = (
   two,
   inl (
     false_from_ne_true (takes (command_line names) words) (λ taken. told.1 (passes taken)),
-    elim has [
-      | inl memory ↦ absurd (told.1 memory)
-      | inr among ↦
-          subst (λ (kind : ErrorKind). IsAmong kind (fault_of (command_line names) words))
-          (sym told.0) among
-    ],
+    grind (arith, has, told, told.1, told.0),
   ),
 )
 

@@ -1,6 +1,5 @@
 use Rattle.std.proofs.Common.{codes, ◌∙◌}
-use Rattle.clap.specs.Words.{found_of}
-use Rattle.clap.proofs.WalkLemmas.{first_value-rows}
+use Rattle.clap.{specs.Words.found_of, proofs.WalkLemmas.first_value-rows}
 use Rattle.cli_words.proofs.reading.socket.Goals as goal
 
 pub returns : goal.returns

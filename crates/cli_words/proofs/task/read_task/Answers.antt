@@ -1,5 +1,6 @@
 use Rattle.cli_words.proofs.Taking.{unread, whole}
 use Rattle.cli_words.proofs.task.read_task.Goals as goal
+use Rattle.std.proofs.Common.{rules}
 
 pub returns-in-Ok-clause-task : goal.returns-in-Ok-clause-task
 returns-in-Ok-clause-task g c =
@@ -9,5 +10,4 @@ returns-in-Ok-clause-task g c =
 
 pub returns-in-Err-clause-task : goal.returns-in-Err-clause-task
 returns-in-Err-clause-task g c =
-    unread c.args.job.now
-    (g.R.Read.remaining c.args.reader.now) c.of_stream.result c.of_stream.ensures.stream
+    search (rules, unread, c.of_stream.ensures.stream)

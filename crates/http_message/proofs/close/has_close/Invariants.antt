@@ -1,5 +1,4 @@
-use Rattle.std.proofs.Common.{◌≡◌, length}
-use Rattle.std.specs.List.{list_any}
+use Rattle.std.{proofs.Common.{◌≡◌, length}, specs.List.list_any}
 use Rattle.room_entry.specs.Pieces.{pieces}
 use Rattle.http_message.specs.Close.{is_close}
 use Rattle.http_message.proofs.close.has_close.Given as goal

@@ -1,5 +1,4 @@
-use Rattle.std.proofs.Common.{◌≡◌, ◌∙◌, ◌++◌, List, ℕ, codes, subst}
-use Rattle.std.specs.Prelude.{OnOk}
+use Rattle.std.{proofs.Common.{◌≡◌, ◌∙◌, ◌++◌, List, ℕ, codes, subst}, specs.Prelude.OnOk}
 use Rattle.http_message.specs.{Bodies.at_data, Form.data_tokens}
 use Rattle.http_message.proofs.data.push_refused.Goals as goal
 

@@ -1,5 +1,4 @@
-use Rattle.std.proofs.Common.{◌≡◌, List, ℕ, subst}
-use Rattle.std.specs.Prelude.{IfOk}
+use Rattle.std.{proofs.Common.{◌≡◌, List, ℕ, subst}, specs.Prelude.IfOk}
 use Rattle.http_message.specs.Form.{json_text_form}
 use Rattle.http_message.proofs.form.print_json.Goals as goal
 

@@ -1,5 +1,4 @@
-use Rattle.std.proofs.Common.{◌≡◌, ◌∙◌, ◌++◌, List, ℕ, subst}
-use Rattle.std.specs.Prelude.{OnOk}
+use Rattle.std.{proofs.Common.{◌≡◌, ◌∙◌, ◌++◌, List, ℕ, subst}, specs.Prelude.OnOk}
 use Rattle.http.specs.StatusCode.{code_digits}
 use Rattle.http_message.specs.Form.{first_line}
 use Rattle.http_message.proofs.form.push_status.Goals as goal

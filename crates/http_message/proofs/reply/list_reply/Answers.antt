@@ -1,5 +1,4 @@
-use Rattle.std.proofs.Common.{◌≡◌, ◌∙◌, List, ℕ, subst}
-use Rattle.std.specs.Prelude.{IfOk}
+use Rattle.std.{proofs.Common.{◌≡◌, ◌∙◌, List, ℕ, subst}, specs.Prelude.IfOk}
 use Rattle.http_message.specs.Reply.{bytes_form, plain_text}
 use Rattle.http_message.proofs.reply.list_reply.Goals as goal
 

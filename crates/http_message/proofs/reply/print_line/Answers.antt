@@ -1,8 +1,5 @@
-use Rattle.std.proofs.Common.{◌≡◌, ◌∙◌, List, ℕ, ap, subst}
-use Rattle.std.specs.Prelude.{IfOk}
-use Rattle.serde_json.specs.Written.{compact_text}
-use Rattle.http_message.specs.{Bodies.line_data, Form.json_text_form}
-use Rattle.http_message.proofs.Printed.{printed}
+use Rattle.std.proofs.Common.{arith}
+use Rattle.http_message.{specs.Bodies.line_data, proofs.Printed.printed}
 use Rattle.http_message.proofs.reply.print_line.Goals as goal
 
 pub returns : goal.returns
@@ -14,7 +11,4 @@ returns c =
     c.in_ok-out.out.tokens c.push_line.new.out.tokens
     c.in_ok-out.ensures.before c.in_ok-out.ensures.tokens c.push_line.ensures.before
     c.in_ok-push_line.ensures.tokens c.into_inner.ensures.items in
-    let P : List ℕ → Type 0 = λ body. IfOk c.print_json.result
-    (λ text. text.items ≡ json_text_form 422 body c.args.close) in
-    subst P (body ∙ ap (λ why. compact_text (line_data line why)) c.bad_text.ensures)
-    c.print_json.ensures
+    grind (arith, line, c.bad_text.ensures, c.print_json.ensures)

@@ -1,7 +1,5 @@
-use Rattle.std.proofs.Common.{◌≡◌, List, ℕ, subst}
-use Rattle.std.specs.Prelude.{IfOk}
-use Rattle.http_message.specs.{Bodies.why_data, Form.json_text_form}
-use Rattle.http_message.proofs.Printed.{printed}
+use Rattle.std.proofs.Common.{arith}
+use Rattle.http_message.{specs.Bodies.why_data, proofs.Printed.printed}
 use Rattle.http_message.proofs.reply.print_why.Goals as goal
 
 pub returns : goal.returns
@@ -12,6 +10,4 @@ returns c =
     c.in_ok-out.out.tokens c.push_why.new.out.tokens
     c.in_ok-out.ensures.before c.in_ok-out.ensures.tokens c.push_why.ensures.before
     c.in_ok-push_why.ensures.tokens c.into_inner.ensures.items in
-    let P : List ℕ → Type 0 = λ body. IfOk c.print_json.result
-    (λ text. text.items ≡ json_text_form c.args.status body c.args.close) in
-    subst P body c.print_json.ensures
+    grind (arith, c.print_json.ensures)

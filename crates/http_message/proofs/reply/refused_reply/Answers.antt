@@ -1,8 +1,5 @@
-use Rattle.std.proofs.Common.{◌≡◌, List, ℕ, subst}
-use Rattle.std.specs.Prelude.{IfOk}
-use Rattle.serde_json.specs.Written.{compact_text}
-use Rattle.http_message.specs.{Bodies.refused_data, Form.json_text_form}
-use Rattle.http_message.proofs.Printed.{printed}
+use Rattle.std.proofs.Common.{arith}
+use Rattle.http_message.{specs.Bodies.refused_data, proofs.Printed.printed}
 use Rattle.http_message.proofs.reply.refused_reply.Goals as goal
 
 pub returns : goal.returns
@@ -13,7 +10,4 @@ returns c =
     c.in_ok-out.out.tokens c.push_refused.new.out.tokens
     c.in_ok-out.ensures.before c.in_ok-out.ensures.tokens c.push_refused.ensures.before
     c.in_ok-push_refused.ensures.tokens c.into_inner.ensures.items in
-    let P : ℕ → List ℕ → Type 0 = λ status body. IfOk c.print_json.result
-    (λ text. text.items ≡ json_text_form status body c.args.close) in
-    subst (λ status. P status (compact_text value)) c.reason_status.ensures
-    (subst (P c.reason_status.result) body c.print_json.ensures)
+    grind (arith, value, c.reason_status.ensures, c.print_json.ensures)

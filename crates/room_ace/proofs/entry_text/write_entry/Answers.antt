@@ -1,6 +1,6 @@
 use Rattle.std.proofs.Common.{List, ℕ, [], ◌∷◌, ◌++◌, ◌≡◌, ◌∙◌, ap, append_assoc, arith}
 use Rattle.std.proofs.Common.{string_bytes}
-use Rattle.room_entry.specs.Letters.{flags_text, kind_text, mask_text}
+use Rattle.room_entry.specs.Letters.{kind_text}
 use Rattle.room_ace.specs.Text.{who_text}
 use Rattle.room_ace.proofs.entry_text.write_entry.Goals as goal
 
@@ -20,12 +20,10 @@ returns c =
     ∙ ap (λ part. string_bytes c.args.text.now ++ part)
     (c.kind_letter.ensures ∙ ap kind_text c.kind.ensures))
     c.in_ok-push.ensures.bytes
-    (c.in_ok-push_flags.ensures
-    ∙ ap (λ part. string_bytes c.push.new.self ++ flags_text part) c.flags.ensures)
+    (grind (arith, c.in_ok-push_flags.ensures, string_bytes, c.push.new.self, c.flags.ensures))
     c.in_ok-push-2.ensures.bytes
     (c.in_ok-push_str-2.ensures.bytes
     ∙ ap (λ part. string_bytes c.push-2.new.self ++ part)
     (c.who_str.ensures ∙ ap who_text c.who.ensures))
     c.in_ok-push-3.ensures.bytes
-    (c.in_ok-push_letters.ensures
-    ∙ ap (λ part. string_bytes c.push-3.new.self ++ mask_text part) c.mask.ensures)
+    (grind (arith, c.in_ok-push_letters.ensures, string_bytes, c.push-3.new.self, c.mask.ensures))

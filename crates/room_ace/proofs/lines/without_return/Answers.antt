@@ -1,6 +1,5 @@
 use Rattle.std.proofs.{Common.{ap, sym, ◌∙◌, eq-eqb}, lemmas.Bool.{cond-true, cond-false, ne_eqb}}
-use Rattle.room_ace.specs.Lists.{without_return}
-use Rattle.room_ace.proofs.FirstLine.{without_return-push}
+use Rattle.room_ace.{specs.Lists.without_return, proofs.FirstLine.without_return-push}
 use Rattle.room_ace.proofs.lines.without_return.Goals as goal
 
 pub returns-then-last-eq13 : goal.returns-then-last-eq13

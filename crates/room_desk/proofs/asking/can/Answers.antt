@@ -1,6 +1,5 @@
-use Rattle.std.proofs.Common.{[], refl}
+use Rattle.std.proofs.Common.{rules, refl}
 use Rattle.room_judge.proofs.{Calls.{done, finish}, Halts.{halts_first, memory_out}}
-use Rattle.room_machine.specs.declared.request.Request.TheVariants.{Can}
 use Rattle.room_sound.proofs.Blamed.{rootless_damaged}
 use Rattle.room_desk.proofs.Steps.Serving.{not_served, served_rulings}
 use Rattle.room_desk.proofs.asking.can.Goals as goal
@@ -9,10 +8,7 @@ pub returns-in_err-node-clause-done : goal.returns-in_err-node-clause-done
 returns-in_err-node-clause-done g c =
     let path = c.args.path.now in
     halts_first g.met.K.Keep.laws _ c.in_err-node.ensures.done
-    (λ old at h. rootless_damaged old old at refl h)
-    (λ old new reply are reached.
-    not_served c.args.asker.now path (Can path c.args.mask) (λ _. []) (λ along content. refl)
-    (λ site. refl) old new reply are reached)
+    (λ old at h. rootless_damaged old old at refl h) (search (rules, not_served, path))
     c.from_residual.result c.from_residual.ensures.1
 
 pub returns-in_err-rulings_reply-clause-done : goal.returns-in_err-rulings_reply-clause-done
@@ -22,8 +18,5 @@ returns-in_err-rulings_reply-clause-done g c =
 
 pub returns-clause-done : goal.returns-clause-done
 returns-clause-done g c =
-    let mask = c.args.mask in
     finish g.met.K.Keep.laws _ (done c.in_ok-node.ensures.done)
-    (λ old new are reached.
-    served_rulings c.args.asker.now c.args.path.now mask old new c.in_ok-node.node _ are reached
-    c.in_ok-rulings_reply.ensures)
+    (search (rules, served_rulings, c.in_ok-node.node, c.in_ok-rulings_reply.ensures))

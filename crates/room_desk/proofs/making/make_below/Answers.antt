@@ -1,7 +1,6 @@
-use Rattle.std.proofs.Common.{refl}
-use Rattle.std.specs.Prelude.{is_some}
-use Rattle.room_judge.specs.Halted.{replied}
-use Rattle.room_judge.proofs.{Calls.done, Halts.halts_first, UpTo.tail_provided}
+use Rattle.std.{proofs.Common.refl, specs.Prelude.is_some}
+use Rattle.room_judge.{specs.Halted.replied, proofs.{Calls.done, Halts.halts_first}}
+use Rattle.room_judge.proofs.UpTo.{tail_provided}
 use Rattle.room_desk.proofs.Made.{FolderMade.{folder_barred, make_in}, ServedItems.spotted_blames}
 use Rattle.room_desk.proofs.{Made.FolderFound.found_folder, Writes.Sufficing.{can_make, none_if}}
 use Rattle.room_desk.proofs.Writes.Sufficing.{one_of_both}

@@ -1,4 +1,4 @@
-use Rattle.std.proofs.Common.{refl, take}
+use Rattle.std.proofs.Common.{rules, take}
 use Rattle.room_machine.specs.declared.reply.{Reply.TheVariants.Refused, Reason.TheVariants.Exists}
 use Rattle.room_judge.proofs.{Calls.none_done, Halts.refused_as}
 use Rattle.room_desk.proofs.Made.{FolderMade.folder_root, ServedItems.name_of_parts}
@@ -6,8 +6,7 @@ use Rattle.room_desk.proofs.making.make_folder.Goals as goal
 
 pub make_below-requires : goal.make_below-requires
 make_below-requires g c =
-    name_of_parts c.args.path.now c.in-Some.field-0-1.now c.in-Some.name.now c.in-Some.ensures.parts
-    c.in-Some.ensures.name
+    search (rules, name_of_parts, c.in-Some.ensures.parts, c.in-Some.ensures.name)
 
 pub returns-in-None-clause-done : goal.returns-in-None-clause-done
 returns-in-None-clause-done g c =
@@ -15,6 +14,4 @@ returns-in-None-clause-done g c =
     let path = c.args.path.now in
     refused_as m.laws (none_done m.laws c.args.keep.now) c.refusal.result
     (Refused (take 0 path) Exists) c.refusal.ensures
-    (λ old new are same.
-    folder_root c.args.asker.now path old new (Refused (take 0 path) Exists)
-    c.in-None.ensures.parts refl same)
+    (search (rules, folder_root, c.in-None.ensures.parts))

@@ -1,9 +1,8 @@
-use Rattle.std.proofs.Common.{[], ◌∷◌, None, refl, sym, ◌∙◌}
-use Rattle.std.specs.Prelude.{is_some}
+use Rattle.std.{proofs.Common.{arith, [], ◌∷◌, None, refl, sym, ◌∙◌}, specs.Prelude.is_some}
 use Rattle.room_entry.specs.Rights.{append_data}
 use Rattle.room_machine.specs.{declared.reply.Reason.TheVariants.Exists, Changed.new_child}
-use Rattle.room_judge.specs.{Halted.replied, Stored.found_site}
-use Rattle.room_judge.proofs.{Calls.done, Judging.blames_first, UpTo.tail_provided}
+use Rattle.room_judge.{specs.{Halted.replied, Stored.found_site}, proofs.Calls.done}
+use Rattle.room_judge.proofs.{Judging.blames_first, UpTo.tail_provided}
 use Rattle.room_desk.proofs.Made.ServedItems.{added_behind}
 use Rattle.room_desk.proofs.making.make_new.Goals as goal
 
@@ -21,7 +20,4 @@ returns-clause-done g c =
     (new_child asker.caller child.kind folder.node child.name.now child.bytes.now) old mid new None
     (replied outcome) c.append_data.ensures refl
     (sym c.is_some-is_there.ensures ∙ c.if-is_there.false) judged made)
-    (λ old mid new more are judged enough. (
-      enough.0 (sym c.is_some-is_there.ensures ∙ c.if-is_there.false),
-      enough.1,
-    ))
+    (grind (arith, c.is_some-is_there.ensures, c.if-is_there.false))

@@ -1,7 +1,6 @@
-use Rattle.std.proofs.Common.{None, length, ap, refl}
-use Rattle.room_judge.specs.Halted.{replied}
-use Rattle.room_judge.proofs.{Calls.done, Folders.spotted_child, Halts.halts_first}
-use Rattle.room_judge.proofs.UpTo.{tail_provided}
+use Rattle.std.proofs.Common.{rules, None, length, ap, refl}
+use Rattle.room_judge.{specs.Halted.replied, proofs.{Calls.done, Folders.spotted_child}}
+use Rattle.room_judge.proofs.{Halts.halts_first, UpTo.tail_provided}
 use Rattle.room_desk.proofs.Made.{PutMade.{put_barred, put_in, put_on}, ServedItems.spotted_blames}
 use Rattle.room_desk.proofs.{Made.FolderFound.found_folder, Steps.Serving.along_there}
 use Rattle.room_desk.proofs.Writes.Sufficing.{can_make, one_of_both}
@@ -43,9 +42,7 @@ returns-clause-done g c =
     spotted_child asker path folder c.in_ok-spot.spot.child _ old mid c.in-None.is in
     tail_provided g.met.K.Keep.laws (done c.in_ok-spot.ensures.done) c.put_new.ensures.done
     (λ old mid at are spotted h. spotted_blames asker path _ old mid at spotted h)
-    (λ old mid outcome new are spotted served.
-    put_in asker path c.args.bytes.now old mid folder c.args.name.now c.requires are
-    (spot old mid spotted) new (replied outcome) served)
+    (search (rules, put_in, asker, folder, c.requires, spot))
     (λ old mid new more are spotted enough. (
       can_make path folder.node None _ old refl c.requires
           (found_folder asker path c.requires.some old mid folder None are (spot old mid spotted))

@@ -1,8 +1,7 @@
 use Rattle.std.proofs.Common.{◌≡◌, true, ap, ◌∙◌}
 use Rattle.room_rows.specs.Paths.{is_object_name}
-use Rattle.room_judge.specs.Halted.{replied}
-use Rattle.room_judge.proofs.{Calls.{done, none_done, tail}, Halts.{faults, halts_first}}
-use Rattle.room_judge.proofs.UpTo.{finish_up_to, then_provided, widened}
+use Rattle.room_judge.{specs.Halted.replied, proofs.{Calls.{done, none_done, tail}, Halts.faults}}
+use Rattle.room_judge.proofs.{Halts.halts_first, UpTo.{finish_up_to, then_provided, widened}}
 use Rattle.room_desk.proofs.Moves.MovingSteps.{moves, name_is, never_unread, never_unplaced}
 use Rattle.room_desk.proofs.Moves.MovingSteps.{place_ended, root_refused, some_last}
 use Rattle.room_desk.proofs.Writes.Placing.{can_go_there}

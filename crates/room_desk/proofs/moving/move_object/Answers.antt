@@ -1,3 +1,4 @@
+use Rattle.std.proofs.Common.{rules}
 use Rattle.std.proofs.Common.{◌≡◌, Some, ap, refl, take, ◌∙◌, Result, Err, arith, length, ◌+◌}
 use Rattle.room_rows.specs.{Content.root_of, Rows.Rows}
 use Rattle.room_machine.specs.declared.reply.Reply.{Reply, TheVariants.Refused}
@@ -46,7 +47,6 @@ returns-clause-done g c =
     let m = g.met.K.Keep in
     let asker = c.args.asker.now in
     let path = c.args.path.now in
-    let to = c.args.to.now in
     let root = c.in_ok-root.root in
     let folder = c.in_ok-pair.pair.folder in
     let target = c.in_ok-pair.pair.target in
@@ -61,10 +61,7 @@ returns-clause-done g c =
     never (root_after asker path root pair old mid both.0 both.1) old are both.1)
     (λ old mid outcome new are both moved.
     moved (root_after asker path root pair old mid both.0 both.1) old are both.1)
-    (λ old mid new more are both enough. (
-      stands_unrecorded path root target.node old both.0 both.1.target,
-      enough,
-    ))
+    (λ old mid new more are both enough. (search (rules, stands_unrecorded, root, target.node)))
 
 pub returns-clause-counted : goal.returns-clause-counted
 returns-clause-counted g c =

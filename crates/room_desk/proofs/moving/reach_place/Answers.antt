@@ -1,13 +1,10 @@
-use Rattle.std.proofs.Common.{ℕ, Bool, ◌≡◌, ◌<◌, ◌+◌, Some, None, List, length, ap, subst, arith}
-use Rattle.std.proofs.Common.{Ok, Err}
+use Rattle.std.proofs.Common.{ℕ, Bool, ◌≡◌, ◌+◌, Some, None, length, arith, Ok, Err}
 use Rattle.std.specs.Prelude.{◌-◌}
-use Rattle.room_rows.specs.{Keep.IsUnreadable, Rows.Rows}
 use Rattle.room_machine.specs.Site.{Site, front}
-use Rattle.room_judge.specs.Stored.{found_site}
-use Rattle.room_judge.proofs.{Calls.{done, finish, then}, Halts.{halts, halts_first}}
-use Rattle.room_judge.proofs.Ways.{not_reached}
-use Rattle.room_desk.specs.Moving.{at_place, begins}
-use Rattle.room_desk.proofs.Moves.MovingWays.{front_reached, place_reached}
+use Rattle.room_judge.{specs.Stored.found_site, proofs.{Calls.{done, finish, then}, Halts.halts}}
+use Rattle.room_judge.proofs.{Halts.halts_first, Ways.not_reached}
+use Rattle.room_desk.{specs.Moving.{at_place, begins}, proofs.Moves.MovingWays.front_reached}
+use Rattle.room_desk.proofs.Moves.MovingWays.{place_reached}
 use Rattle.room_desk.proofs.moving.reach_place.Goals as goal
 
 pub returns-in_err-node-clause-done : goal.returns-in_err-node-clause-done
@@ -16,9 +13,7 @@ returns-in_err-node-clause-done g c =
     let path = c.args.moving.now.path.now in
     let to = c.args.to.now in
     let depth : ℕ = length c.names.result.now - 1 in
-    let size : length c.names.result.now ≡ length to = ap
-    (λ (l : List (List ℕ)). length l) c.names.ensures in
-    let some : 0 < length to = c.requires in
+    let size : length c.names.result.now ≡ length to = grind (arith, c.names.ensures) in
     let deep : length to ≡ depth + 1 = omega arith in
     halts_first g.met.K.Keep.laws _ c.in_err-node.ensures.done (λ old at h. h)
     (λ old new reply are reached rooted.
@@ -39,13 +34,10 @@ returns-in_err-check_place-clause-done g c =
     let from : Site = found_site path c.args.moving.now.from.now in
     let node = c.in_ok-node.node in
     let depth : ℕ = length c.names.result.now - 1 in
-    let size : length c.names.result.now ≡ length to = ap
-    (λ (l : List (List ℕ)). length l) c.names.ensures in
-    let some : 0 < length to = c.requires in
+    let size : length c.names.result.now ≡ length to = grind (arith, c.names.ensures) in
     let deep : length to ≡ depth + 1 = omega arith in
     halts g.met.K.Keep.laws _ (done c.in_ok-node.ensures.done) c.in_err-check_place.ensures.done
-    (λ old mid at are reached h rooted.
-    subst (λ (r : Rows). IsUnreadable r at) (reached rooted).judged.notes h)
+    (grind arith)
     (λ old mid new reply are reached judged rooted.
     place_reached asker to below target from old mid new node depth (Some reply) deep
     (front_reached asker to depth (Ok node) old mid deep (reached rooted)) judged)
@@ -62,9 +54,7 @@ returns-clause-done g c =
     let from : Site = found_site path c.args.moving.now.from.now in
     let node = c.in_ok-node.node in
     let depth : ℕ = length c.names.result.now - 1 in
-    let size : length c.names.result.now ≡ length to = ap
-    (λ (l : List (List ℕ)). length l) c.names.ensures in
-    let some : 0 < length to = c.requires in
+    let size : length c.names.result.now ≡ length to = grind (arith, c.names.ensures) in
     let deep : length to ≡ depth + 1 = omega arith in
     finish m.laws _ (then m.laws (done c.in_ok-node.ensures.done)
     (done c.in_ok-check_place.ensures.done)

@@ -1,4 +1,4 @@
-use Rattle.std.proofs.Common.{refl, Ok}
+use Rattle.std.proofs.Common.{arith, refl}
 use Rattle.room_machine.specs.{declared.request.Request.TheVariants.SetOwners, Stored.stored_site}
 use Rattle.room_judge.proofs.{Calls.done, Halts.{faults, halts_first}, UpTo.finish_up_to}
 use Rattle.room_judge.proofs.UpTo.{then_provided}
@@ -22,8 +22,7 @@ returns-in_err-node-clause-done g c =
 pub returns-in_err-set_at-clause-done : goal.returns-in_err-set_at-clause-done
 returns-in_err-set_at-clause-done g c =
     faults g.met.K.Keep.laws (done c.in_ok-node.ensures.done) c.in_err-set_at.ensures.done
-    (λ old mid at are reached h.
-    reached_damaged c.args.asker.now c.args.path.now _ (Ok c.in_ok-node.node) old mid at reached h)
+    (grind (arith, reached_damaged, c.in_ok-node.node))
     c.from_residual-in_err-set_at.result c.from_residual-in_err-set_at.ensures.1
 
 pub returns-clause-done : goal.returns-clause-done

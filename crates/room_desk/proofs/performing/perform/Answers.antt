@@ -1,7 +1,6 @@
-use Rattle.std.proofs.{Common.{◌+◌, to_z, of_z, w64, arith}, lemmas.Int.to_z-of_z}
+use Rattle.std.proofs.{Common.{rules, ◌+◌, arith}, lemmas.Int.to_z-of_z}
 use Rattle.room_judge.proofs.Calls.{tail, done, of_read}
 use Rattle.room_sound.proofs.Blamed.{damaged_before}
-use Rattle.std.specs.Option.{option_copied}
 use Rattle.room_desk.proofs.{Steps.InTurn.performed, Writes.Reading.reads_before}
 use Rattle.room_desk.specs.Called.{calls_for, hands_down}
 use Rattle.room_desk.proofs.performing.perform.Goals as goal
@@ -14,10 +13,7 @@ returns g c =
       done =
           tail m.laws (done (of_read c.in_ok-caller.ensures.read)) c.perform_for.ensures.done
           (λ old mid at both damaged. damaged_before old mid at both.1 damaged)
-          (λ old mid reply new both served. performed (option_copied c.args.user) c.args.moment
-          (record { caller = c.in_ok-caller.caller; moment = to_z w64 (of_z w64 c.args.moment) })
-          c.args.request.now old mid new reply
-          (to_z-of_z w64 c.args.moment c.ranges.moment) both served);
+          (search (rules, performed, to_z-of_z, c.ranges.moment));
       counted =
           reads_before k (hands_down c.args.request.now) c.perform_for.result c.args.keep.now
           c.caller_of.new.keep c.perform_for.new.keep 1 (calls_for c.args.request.now)

@@ -8,7 +8,6 @@ use Rattle.room_desk.proofs.placing.check_free.Goals as goal
 
 pub returns-then-is_taken-clause-done : goal.returns-then-is_taken-clause-done
 returns-then-is_taken-clause-done g c =
-    let k = g.K.Keep in
     let m = g.met.K.Keep in
     let deep : length c.args.to.now ≡ c.args.folder.now.depth + 1 = c.requires in
     let below : c.args.folder.now.depth < length c.args.to.now = omega arith in
@@ -27,7 +26,6 @@ returns-then-is_taken-clause-done g c =
 
 pub returns-then-is_below-clause-done : goal.returns-then-is_below-clause-done
 returns-then-is_below-clause-done g c =
-    let k = g.K.Keep in
     let m = g.met.K.Keep in
     let deep : length c.args.to.now ≡ c.args.folder.now.depth + 1 = c.requires in
     let below : c.args.folder.now.depth < length c.args.to.now = omega arith in
@@ -53,7 +51,6 @@ returns-then-is_below-clause-done g c =
 
 pub returns-clause-done : goal.returns-clause-done
 returns-clause-done g c =
-    let k = g.K.Keep in
     let m = g.met.K.Keep in
     let deep : length c.args.to.now ≡ c.args.folder.now.depth + 1 = c.requires in
     let below : c.args.folder.now.depth < length c.args.to.now = omega arith in

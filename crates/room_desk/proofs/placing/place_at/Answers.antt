@@ -1,33 +1,28 @@
+use Rattle.std.proofs.Common.{arith, rules}
 use Rattle.room_judge.proofs.Calls.{none_done, fails, done, of_change, of_write}
 use Rattle.room_judge.proofs.UpTo.{finish_up_to, then_share, then_unsaid}
 use Rattle.room_machine.specs.declared.reply.Reply.TheVariants.{Done}
 use Rattle.room_desk.proofs.Placed.PlacingCalls.{first_done, first_fails, second_done, second_fails}
-use Rattle.room_desk.proofs.Placed.PlacingCalls.{unplaced}
-use Rattle.room_desk.proofs.Writes.Placing.{first_share, one_placed, second_share}
+use Rattle.room_desk.proofs.{Placed.PlacingCalls.unplaced, Writes.Placing.{first_share, one_placed}}
+use Rattle.room_desk.proofs.Writes.Placing.{second_share}
 use Rattle.room_desk.proofs.placing.place_at.Goals as goal
 
 pub returns-in_err-set_place-clause-done : goal.returns-in_err-set_place-clause-done
 returns-in_err-set_place-clause-done g c =
-    let k = g.K.Keep in
     let m = g.met.K.Keep in
     fails m.laws (none_done m.laws c.args.keep.now) (of_write c.in_err-set_place.ensures.written)
-    (λ old mid at same h.
-    unplaced c.args.target.now c.args.folder.now c.args.name.now old mid at same h)
+    (grind (arith, unplaced))
     c.from_residual.result c.from_residual.ensures.1
 
 pub returns-in_err-renew_list-clause-done : goal.returns-in_err-renew_list-clause-done
 returns-in_err-renew_list-clause-done g c =
-    let k = g.K.Keep in
     let m = g.met.K.Keep in
     fails m.laws (done (of_write c.in_ok-set_place.ensures.written))
-    c.in_err-renew_list.ensures.done
-    (λ old mid at places h.
-    first_fails c.args.target.now c.args.folder.now c.args.name.now old mid at places h)
+    c.in_err-renew_list.ensures.done (search (rules, first_fails))
     c.from_residual-in_err-renew_list.result c.from_residual-in_err-renew_list.ensures.1
 
 pub returns-in_err-renew_list-2-clause-done : goal.returns-in_err-renew_list-2-clause-done
 returns-in_err-renew_list-2-clause-done g c =
-    let k = g.K.Keep in
     let m = g.met.K.Keep in
     fails m.laws
     (then_unsaid m.laws (done (of_write c.in_ok-set_place.ensures.written))
@@ -41,7 +36,6 @@ returns-in_err-renew_list-2-clause-done g c =
 
 pub returns-clause-done : goal.returns-clause-done
 returns-clause-done g c =
-    let k = g.K.Keep in
     let m = g.met.K.Keep in
     let target = c.args.target.now in
     let folder = c.args.folder.now in

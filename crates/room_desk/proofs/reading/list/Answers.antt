@@ -1,4 +1,4 @@
-use Rattle.std.proofs.Common.{[], ◌∷◌, refl, Ok, Err}
+use Rattle.std.proofs.Common.{arith, [], ◌∷◌, refl, Ok}
 use Rattle.room_entry.specs.Rights.{read_data}
 use Rattle.room_machine.specs.declared.request.Request.TheVariants.{List as ListFolder}
 use Rattle.room_judge.proofs.{Calls.{done, finish, of_read, then_known}, Halts.faults}
@@ -16,17 +16,13 @@ returns-in_err-node-clause-done g c =
     (λ old at h. rootless_damaged old old at refl h)
     (λ old new reply are reached.
     not_served asker path (ListFolder path) (FolderAt (read_data ∷ [])) (λ along content. refl)
-    (λ site. refl) old new reply are
-    (reached_as asker path FolderAt c.read_data.result (read_data ∷ []) (Err reply) old new
-    c.read_data.ensures reached))
+    (λ site. refl) old new reply are (grind (arith, reached_as, asker, path, c.read_data.ensures)))
     c.from_residual.result c.from_residual.ensures.1
 
 pub returns-in_err-list_at-clause-done : goal.returns-in_err-list_at-clause-done
 returns-in_err-list_at-clause-done g c =
     faults g.met.K.Keep.laws (done c.in_ok-node.ensures.done)
-    (of_read c.in_err-list_at.ensures.read)
-    (λ old mid at are reached h.
-    reached_damaged c.args.asker.now c.args.path.now _ (Ok c.in_ok-node.node) old mid at reached h)
+    (of_read c.in_err-list_at.ensures.read) (grind (arith, reached_damaged, c.in_ok-node.node))
     c.from_residual-in_err-list_at.result c.from_residual-in_err-list_at.ensures.1
 
 pub returns-clause-done : goal.returns-clause-done

@@ -1,10 +1,9 @@
-use Rattle.std.proofs.Common.{[], ◌∷◌, refl}
-use Rattle.room_entry.specs.Rights.{read_data}
+use Rattle.std.proofs.Common.{rules, refl}
 use Rattle.room_machine.specs.declared.request.Request.TheVariants.{Read}
-use Rattle.room_judge.proofs.Calls.{done, finish, of_read, then_known}
+use Rattle.room_judge.proofs.{Calls.{done, finish, of_read, then_known}, Halts.faults}
+use Rattle.room_judge.proofs.Halts.{halts_first}
 use Rattle.room_sound.proofs.Blamed.{rootless_damaged}
 use Rattle.room_desk.proofs.Steps.Serving.{bytes_answered, no_bytes, not_served}
-use Rattle.room_judge.proofs.Halts.{faults, halts_first}
 use Rattle.room_desk.proofs.reading.read.Goals as goal
 
 pub returns-in_err-node-clause-done : goal.returns-in_err-node-clause-done
@@ -21,12 +20,9 @@ returns-in_err-node-clause-done g c =
 pub returns-in_err-read_at-clause-done : goal.returns-in_err-read_at-clause-done
 returns-in_err-read_at-clause-done g c =
     let asker = c.args.asker.now in
-    let path = c.args.path.now in
     faults g.met.K.Keep.laws (done c.in_ok-node.ensures.done)
     (of_read c.in_err-read_at.ensures.read)
-    (λ old mid at are reached h.
-    no_bytes asker path (read_data ∷ []) old mid c.in_ok-node.node at are
-    (rw c.read_data-mask.ensures at reached) h)
+    (search (rules, no_bytes, asker, c.in_ok-node.node, c.read_data-mask.ensures))
     c.from_residual-in_err-read_at.result c.from_residual-in_err-read_at.ensures.1
 
 pub returns-clause-done : goal.returns-clause-done

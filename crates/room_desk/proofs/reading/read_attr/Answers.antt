@@ -1,4 +1,4 @@
-use Rattle.std.proofs.Common.{[], ◌∷◌, refl, Ok, Err}
+use Rattle.std.proofs.Common.{arith, [], ◌∷◌, refl, Ok}
 use Rattle.room_entry.specs.Rights.{read_attributes}
 use Rattle.room_machine.specs.declared.request.Request.TheVariants.{ReadAttr}
 use Rattle.room_judge.proofs.{Calls.{done, finish}, Halts.halts_first}
@@ -15,8 +15,7 @@ returns-in_err-node-clause-done g c =
     (λ old new reply are reached.
     not_served asker path (ReadAttr path) (CheckAt (read_attributes ∷ [])) (λ along content. refl)
     (λ site. refl) old new reply are
-    (reached_as asker path CheckAt c.read_attributes.result (read_attributes ∷ []) (Err reply)
-    old new c.read_attributes.ensures reached))
+    (grind (arith, reached_as, asker, path, c.read_attributes.ensures)))
     c.from_residual.result c.from_residual.ensures.1
 
 pub returns-clause-done : goal.returns-clause-done

@@ -1,4 +1,4 @@
-use Rattle.std.proofs.Common.{[], ◌∷◌, refl, ap, ◌∙◌, Ok, Err}
+use Rattle.std.proofs.Common.{arith, [], ◌∷◌, refl, ap, ◌∙◌}
 use Rattle.room_rows.specs.{HeldList.Held, Held.full_of}
 use Rattle.room_entry.specs.Rights.{read_acl}
 use Rattle.room_machine.specs.declared.reply.Reply.TheVariants.{Lists}
@@ -16,9 +16,7 @@ returns-in_err-node-clause-done g c =
     (λ old at h. rootless_damaged old old at refl h)
     (λ old new reply are reached.
     not_served asker path (ReadList path c.args.which) (CheckAt (read_acl ∷ [])) (λ along content. refl)
-    (λ site. refl) old new reply are
-    (reached_as asker path CheckAt c.read_acl.result (read_acl ∷ []) (Err reply) old new
-    c.read_acl.ensures reached))
+    (λ site. refl) old new reply are (grind (arith, reached_as, asker, path, c.read_acl.ensures)))
     c.from_residual.result c.from_residual.ensures.1
 
 pub returns-in_err-list_reply-clause-done : goal.returns-in_err-list_reply-clause-done
@@ -33,6 +31,5 @@ returns-clause-done g c =
     finish g.met.K.Keep.laws _ (done c.in_ok-node.ensures.done)
     (λ old new are reached.
     served_list asker path c.args.which old new c.in_ok-node.node _ are
-    (reached_as asker path CheckAt c.read_acl.result (read_acl ∷ [])
-    (Ok c.in_ok-node.node) old new c.read_acl.ensures reached)
+    (grind (arith, reached_as, asker, path, c.in_ok-node.node, c.read_acl.ensures))
     (c.in_ok-list_reply.ensures ∙ ap (λ (h : Held). Lists h.flags (full_of h)) c.held.ensures))

@@ -1,16 +1,15 @@
-use Rattle.std.proofs.Common.{◌≡◌, ℕ, Bool, false, List, refl, length, sym, subst, ap, take, arith}
-use Rattle.std.proofs.lemmas.Bool.Decides.{nat_tests}
-use Rattle.std.specs.Prelude.{◌==◌}
+use Rattle.std.proofs.Common.{rules, ◌≡◌, ℕ, Bool, false, List, refl, length, sym, subst, ap, take}
+use Rattle.std.{proofs.{Common.arith, lemmas.Bool.Decides.nat_tests}, specs.Prelude.◌==◌}
 use Rattle.room_rows.specs.Content.{is_empty}
 use Rattle.room_machine.specs.declared.reply.{Reply.TheVariants.Refused, Reason.TheVariants.Root}
 use Rattle.room_machine.specs.declared.request.Request.TheVariants.{Remove}
 use Rattle.room_judge.proofs.{Calls.{done, none_done, of_read}, Halts.{faults, halts_first}}
-use Rattle.room_judge.proofs.{Halts.refused_as, UpTo.tail_provided}
+use Rattle.room_judge.{proofs.{Halts.refused_as, UpTo.tail_provided}, specs.Closed.IsServed}
+use Rattle.room_judge.specs.Halted.{replied}
 use Rattle.room_sound.proofs.Blamed.{noted_unread, rootless_damaged}
 use Rattle.room_desk.proofs.Gone.GoneSteps.{remove_done, remove_halted, root_kept}
 use Rattle.room_desk.proofs.{Moves.MovingSteps.empty_path, Writes.Sufficing.one_of_both}
 use Rattle.room_desk.proofs.Writes.Sufficing.{removable}
-use Rattle.room_judge.specs.{Closed.IsServed, Halted.replied}
 use Rattle.room_desk.proofs.removing.remove.Goals as goal
 
 some_names : (path : List (List ℕ)) (is_root : Bool) → is_root ≡ (length path == 0)
@@ -53,8 +52,4 @@ returns-clause-done g c =
     (λ old mid outcome new are paired removes.
     remove_done c.args.asker.now path old mid folder target are
     (some_names path c.is_root.result c.is_root.ensures c.if-is_root.false) paired new
-    (replied outcome) removes)
-    (λ old mid new more are paired enough. (
-      removable c.args.asker.now path folder target old mid are paired,
-      one_of_both old new more enough,
-    ))
+    (replied outcome) removes) (search (rules, removable, folder, target, one_of_both))

@@ -17,8 +17,7 @@ returns-in_err-found g c =
           (of_read c.in_err-found.ensures.read)
           (λ old mid at same h. rootless_damaged old mid at same h) c.from_residual.result
           c.from_residual.ensures.1;
-      counted = unanswered k c.args.keep.now c.walk.new.keep (length c.args.path.now + 3)
-          c.from_residual.result _ c.from_residual.ensures.1;
+      counted = grind (arith, unanswered, k, c.walk.new.keep, c.from_residual.ensures.1);
     }
 
 -- the walk has met some object

@@ -1,15 +1,12 @@
-use Rattle.std.proofs.{Common.{subst, take}, lemmas.List.take_all}
-use Rattle.room_judge.proofs.Calls.{HasDone, done, fails, memory}
-use Rattle.room_judge.specs.Extent.{Unsaid, UpTo}
-use Rattle.room_desk.specs.InTurn.{calls_for_all, some_hands_down}
+use Rattle.std.proofs.{Common.{arith, rules, subst, take}, lemmas.List.take_all}
+use Rattle.room_judge.{proofs.Calls.{HasDone, done, fails, memory}, specs.Extent.{Unsaid, UpTo}}
 use Rattle.room_desk.proofs.Steps.Bounds.{HasGone, answered, done_so, gone_more, no_replies}
 use Rattle.room_desk.proofs.Steps.{Bounds.{none_gone, reads_halted}, InTurn.go_run}
 use Rattle.room_desk.proofs.running.perform_all.Goals as goal
 
 pub requests-init : goal.requests-init
 requests-init g c =
-    none_gone g.K.Keep g.met.K.Keep.laws c.new-replies.result.items c.args.keep.now
-    c.new-replies.ensures.items
+    search (rules, none_gone, g.K.Keep, g.met.K.Keep.laws, c.new-replies.ensures.items)
 
 pub returns-in_err-reply : goal.returns-in_err-reply
 returns-in_err-reply g c =
@@ -50,11 +47,7 @@ returns-in_err-add_reply g c =
     let halt = c.from_residual-in_err-add_reply.result in
     let before : HasDone k.rows k.writes k.Follows k.IsTrusted (UpTo Unsaid) c.args.keep.now
     c.perform_one.new.keep (λ old new. Unit {0}) =
-    record {
-      follows = m.laws.on _ _ _ gone.follows c.in_ok-reply.ensures.done.follows;
-      becomes = λ t. tt;
-      few = λ t more never. absurd never;
-    } in
+    grind (arith, m.laws.on, gone.follows, c.in_ok-reply.ensures.done.follows) in
     record {
       done = memory m.laws before halt c.from_residual-in_err-add_reply.ensures.1;
       few = no_replies k asked c.args.keep.now c.perform_one.new.keep halt _
@@ -84,15 +77,10 @@ returns g c =
     record {
       done = record {
         follows = gone.follows;
-        becomes =
-            λ t.
-            let wrote = gone.writes t in
-            go_run asked replies.items (k.rows c.args.keep.now) (k.rows c.requests.keep) wrote.0
-            wrote.1;
+        becomes = grind (arith, gone.writes, go_run, asked, replies.items, k.rows, c.requests.keep);
         few = λ t more never. absurd never;
         fault = tt;
       };
       few = gone.writes;
-      counted = answered k (some_hands_down asked) c.args.keep.now c.requests.keep
-          (calls_for_all asked) tt replies gone.reads;
+      counted = search (rules, answered, k, gone.reads);
     }

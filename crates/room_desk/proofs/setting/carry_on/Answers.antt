@@ -1,9 +1,7 @@
-use Rattle.std.proofs.Common.{◌≡◌, ap, sym, subst, ◌∙◌}
+use Rattle.std.proofs.Common.{arith, rules, ◌≡◌, ap, ◌∙◌}
 use Rattle.room_rows.specs.{declared.node.Node.Node, Held.with_held}
 use Rattle.room_judge.proofs.{Calls.none_done, UpTo.tail_provided}
 use Rattle.room_desk.proofs.Lists.SettingCalls.{carried_as, loop_as}
-use Rattle.room_inherit.specs.Spread.{Holds}
-use Rattle.room_judge.specs.Extent.{unrecorded}
 use Rattle.room_desk.proofs.setting.carry_on.Goals as goal
 
 pub returns : goal.returns
@@ -18,11 +16,6 @@ returns g c =
       done =
           tail_provided m.laws (none_done m.laws c.args.keep.now) c.carry_from.ensures.done
           (λ old mid at are unread h. loop_as start node old mid at same unread h)
-          (λ old mid x new are unread down.
-          carried_as setting.which start node old mid new same unread down)
-          (λ old mid new more are unread enough. (
-            subst (λ (n : Node). Holds n (unrecorded old)) (sym same) enough.0,
-            enough.1,
-          ));
+          (search (rules, carried_as, start, node, same)) (grind (arith, same));
       counted = c.carry_from.ensures.counted;
     }

@@ -1,8 +1,6 @@
-use Rattle.std.proofs.{Common.{List, refl, sym, ap, ◌∙◌, inl, inr}, lemmas.Bool.false≢true}
+use Rattle.std.proofs.{Common.{arith, refl, sym, ◌∙◌, inl, inr}, lemmas.Bool.false≢true}
 use Rattle.std.specs.Option.{option_copied}
-use Rattle.room_entry.specs.Ace.{Ace}
 use Rattle.room_judge.proofs.Calls.{none_done, memory, finish, tail_known}
-use Rattle.room_desk.specs.Setting.{held_with}
 use Rattle.room_desk.proofs.Lists.SettingCalls.{fails_before, list_sent, set_from, written_as}
 use Rattle.room_desk.proofs.setting.set_at.Goals as goal
 
@@ -13,8 +11,7 @@ returns-in_err-inh-clause-done g c =
 
 pub returns-in_err-own-clause-done : goal.returns-in_err-own-clause-done
 returns-in_err-own-clause-done g c =
-    let laws = g.met.K.Keep.laws in
-    memory laws (none_done laws c.args.keep.now) c.from_residual-in_err-own.result c.from_residual-in_err-own.ensures.1
+    grind (arith, g.met.K.Keep.laws, memory, none_done, c.from_residual-in_err-own.ensures.1)
 
 pub returns-then-is_same_list-clause-done : goal.returns-then-is_same_list-clause-done
 returns-then-is_same_list-clause-done g c =
@@ -30,8 +27,7 @@ returns-then-is_same_list-clause-done g c =
 
 pub returns-in_err-held-clause-done : goal.returns-in_err-held-clause-done
 returns-in_err-held-clause-done g c =
-    let laws = g.met.K.Keep.laws in
-    memory laws (none_done laws c.args.keep.now) c.from_residual-in_err-held.result c.from_residual-in_err-held.ensures.1
+    grind (arith, g.met.K.Keep.laws, memory, none_done, c.from_residual-in_err-held.ensures.1)
 
 pub returns : goal.returns
 returns g c =
@@ -52,8 +48,6 @@ returns g c =
       quiet =
           λ same. absurd
           (false≢true (sym c.if-is_same_list.false
-          ∙ c.is_same_list.ensures.1 (sent
-          ∙ ap (λ (l : List Ace). held_with setting.sent.now l) c.in_ok-inh.ensures
-          ∙ same ∙ sym c.held.ensures)));
+          ∙ c.is_same_list.ensures.1 (grind (arith, sent, c.in_ok-inh.ensures, c.held.ensures))));
       counted = c.write_list.ensures.counted;
     }

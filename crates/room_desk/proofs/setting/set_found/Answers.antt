@@ -1,5 +1,4 @@
-use Rattle.std.proofs.Common.{◌≡◌, None, sym, ap, subst, ◌∙◌}
-use Rattle.std.specs.Option.{option_map_or}
+use Rattle.std.{proofs.Common.{◌≡◌, None, sym, ap, subst, ◌∙◌}, specs.Option.option_map_or}
 use Rattle.room_machine.specs.declared.reply.Reply.TheVariants.{Done, Refused}
 use Rattle.room_judge.proofs.{Calls.done, UpTo.finish_up_to}
 use Rattle.room_desk.specs.Setting.{SetUnless, fault_in}

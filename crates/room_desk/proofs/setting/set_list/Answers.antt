@@ -1,4 +1,4 @@
-use Rattle.std.proofs.Common.{arith, length, refl, ◌+◌}
+use Rattle.std.proofs.Common.{rules, arith, length, refl, ◌+◌}
 use Rattle.room_judge.specs.Halted.{settled}
 use Rattle.room_judge.proofs.{Calls.done, Halts.halts_first, UpTo.tail_provided}
 use Rattle.room_desk.proofs.Lists.SetRequest.{found_pair, set_halted}
@@ -9,10 +9,7 @@ use Rattle.room_desk.proofs.setting.set_list.Goals as goal
 pub returns-in_err-pair-clause-done : goal.returns-in_err-pair-clause-done
 returns-in_err-pair-clause-done g c =
     halts_first g.met.K.Keep.laws _ c.in_err-pair.ensures.done
-    (λ old at h. rootless_damaged old old at refl h)
-    (λ old new reply are paired.
-    set_halted c.args.asker.now c.args.path.now c.args.which c.args.sent.now old new reply
-    are paired)
+    (λ old at h. rootless_damaged old old at refl h) (search (rules, set_halted))
     c.from_residual.result c.from_residual.ensures.1
 
 pub returns-clause-done : goal.returns-clause-done
@@ -22,10 +19,8 @@ returns-clause-done g c =
     let folder = c.in_ok-pair.pair.folder in
     let target = c.in_ok-pair.pair.target in
     tail_provided g.met.K.Keep.laws (done c.in_ok-pair.ensures.done) c.set_allowed.ensures.done
-    (λ old mid at are paired fails.
-    fails old (found_pair asker path folder target old mid are paired))
-    (λ old mid outcome new are paired sets.
-    sets old (found_pair asker path folder target old mid are paired))
+    (search (rules, found_pair, asker, folder, target))
+    (search (rules, found_pair, asker, folder, target))
     (λ old mid new more are paired enough. (
       stands_along path target.node old are paired.target,
       each_of_both c.args.which old new more enough,

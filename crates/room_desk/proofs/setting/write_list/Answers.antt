@@ -1,12 +1,12 @@
-use Rattle.std.proofs.Common.{sym, ap, arith}
+use Rattle.std.proofs.Common.{rules, sym, ap, arith}
 use Rattle.room_entry.specs.declared.flags.ListFlags.{ListFlags}
 use Rattle.room_judge.proofs.Calls.{none_done, fails, done, of_change, of_write}
+use Rattle.room_judge.proofs.UpTo.{finish_up_to, tail_share}
 use Rattle.room_desk.proofs.Lists.SettingCalls.{carried_fails, unread_before, written_down}
 use Rattle.room_desk.proofs.Lists.SettingCalls.{set_shares, written_still}
+use Rattle.room_desk.proofs.Writes.{Sufficing.{one_changed, one_of_each}, Reading.reads_few}
+use Rattle.room_desk.proofs.Writes.Reading.{reads_on, unanswered}
 use Rattle.room_rows.specs.Held.{with_held}
-use Rattle.room_judge.proofs.UpTo.{finish_up_to, tail_share}
-use Rattle.room_desk.proofs.Writes.Sufficing.{one_changed, one_of_each}
-use Rattle.room_desk.proofs.Writes.Reading.{reads_few, reads_on, unanswered}
 use Rattle.room_desk.proofs.setting.write_list.Goals as goal
 
 pub returns-in_err-set_held : goal.returns-in_err-set_held
@@ -20,8 +20,7 @@ returns-in_err-set_held g c =
           (of_write c.in_err-set_held.ensures.written)
           (λ old mid at same h. unread_before node old mid at same h)
           c.from_residual.result c.from_residual.ensures.1;
-      counted = unanswered k c.args.keep.now c.set_held.new.self 2 c.from_residual.result _
-          c.from_residual.ensures.1;
+      counted = grind (arith, unanswered, k, c.set_held.new.self, c.from_residual.ensures.1);
     }
 
 pub returns-then-flags : goal.returns-then-flags
@@ -37,12 +36,8 @@ returns-then-flags g c =
           (λ old x new more changes enough.
           one_changed node.id (with_held setting.which c.args.held) node old new more changes
           enough.0 enough.1)))
-          c.carry_on.ensures.done
-          (λ old mid at changes h.
-          carried_fails setting.which node c.args.held old mid changes at h)
-          (λ old mid x new changes down.
-          written_down setting.which node c.args.held old mid changes _ new
-          c.if-flags.true auto down)
+          c.carry_on.ensures.done (search (rules, carried_fails, node))
+          (search (rules, written_down, node, c.if-flags.true, auto))
           (λ old mid x new more are changes down enough.
           set_shares setting.which node c.args.held old mid changes new more down enough);
       counted =
@@ -64,9 +59,7 @@ returns-else-flags g c =
           (λ old x new more changes enough.
           one_changed node.id (with_held setting.which c.args.held) node old new more changes
           enough.0.0 (one_of_each setting.which old new more enough.1))))
-          (λ old new are changes.
-          written_still setting.which node c.args.held old new changes _ c.if-flags.false
-          auto);
+          (search (rules, written_still, node, c.if-flags.false, auto));
       counted =
           reads_few k c.args.keep.now c.set_held.new.self 2
           (omega (arith, c.in_ok-set_held.ensures.unread))

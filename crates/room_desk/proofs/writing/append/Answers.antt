@@ -1,4 +1,4 @@
-use Rattle.std.proofs.Common.{[], ◌∷◌, refl, Ok, Err}
+use Rattle.std.proofs.Common.{arith, [], ◌∷◌, refl, Ok, Err}
 use Rattle.room_entry.specs.Rights.{append_data}
 use Rattle.room_judge.specs.Halted.{replied}
 use Rattle.room_judge.proofs.{Calls.done, Halts.halts_first, UpTo.tail_provided}
@@ -27,14 +27,12 @@ returns-clause-done g c =
     tail_provided g.met.K.Keep.laws (done c.in_ok-node.ensures.done) c.append_at.ensures.done
     (λ old mid at are reached h.
     append_blames asker path c.args.bytes.now old mid node are
-    (reached_as asker path DocumentAt c.append_data-mask.result (append_data ∷ []) (Ok node) old mid
-    c.append_data-mask.ensures reached) at h)
+    (grind (arith, reached_as, asker, path, node, c.append_data-mask.ensures)) at h)
     (λ old mid outcome new are reached appended.
     append_done asker path c.args.bytes.now old mid node are
     (reached_as asker path DocumentAt c.append_data-mask.result (append_data ∷ []) (Ok node) old mid
     c.append_data-mask.ensures reached) new (replied outcome) appended)
     (λ old mid new more are reached enough.
     let document = document_there asker path (append_data ∷ []) old mid node are
-    (reached_as asker path DocumentAt c.append_data-mask.result (append_data ∷ []) (Ok node) old mid
-    c.append_data-mask.ensures reached) in
+    (grind (arith, reached_as, asker, path, node, c.append_data-mask.ensures)) in
     ((node, document.0, document.1), one_of_both old new more enough))

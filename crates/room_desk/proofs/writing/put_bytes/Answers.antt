@@ -1,4 +1,4 @@
-use Rattle.std.proofs.{Common.{ℕ, List, ap, subst, ◌∙◌, length, take}, Math.Seq.take-length}
+use Rattle.std.proofs.{Common.{arith, subst, length, take}, Math.Seq.take-length}
 use Rattle.std.proofs.lemmas.Bool.{lt-ltb, le-ltb}
 use Rattle.room_rows.specs.{Rows.Rows, Keep.IsUnreadable}
 use Rattle.room_machine.specs.declared.reply.Reply.TheVariants.{Refused}
@@ -14,12 +14,7 @@ returns-then-too_many-clause-done g c =
     let path = c.args.path.now in
     refused_as m.laws (none_done m.laws c.args.keep.now) c.refusal.result
     (Refused (take (length c.names.result.now) path) TooLarge) c.refusal.ensures
-    (λ old new are same.
-    put_refused path c.args.id c.args.bytes.now old new
-    (Refused (take (length c.names.result.now) path) TooLarge)
-    (lt-ltb 1048576 (length c.args.bytes.now) c.if-too_many.true)
-    (ap (λ (p : List (List ℕ)). Refused p TooLarge)
-    (ap (λ (l : List (List ℕ)). take (length l) path) c.names.ensures ∙ take-length path)) same)
+    (grind (arith, put_refused, path, lt-ltb, c.if-too_many.true, c.names.ensures, take-length))
 
 pub returns-in_err-set_body-clause-done : goal.returns-in_err-set_body-clause-done
 returns-in_err-set_body-clause-done g c =
@@ -31,8 +26,5 @@ returns-in_err-set_body-clause-done g c =
 pub returns-clause-done : goal.returns-clause-done
 returns-clause-done g c =
     finish_up_to g.met.K.Keep.laws _ (done (of_change c.in_ok-set_body.ensures.written
-    (λ old x new more sets enough.
-    one_put c.args.id c.args.bytes.now old new more sets enough)))
-    (λ old new are sets.
-    put_set c.args.path.now c.args.id c.args.bytes.now old new
-    (le-ltb 1048576 (length c.args.bytes.now) c.if-too_many.false) sets)
+    (grind (arith, one_put))))
+    (grind (arith, put_set, le-ltb, c.if-too_many.false))

@@ -1,7 +1,6 @@
-use Rattle.std.proofs.Common.{refl, string_bytes}
-use Rattle.room_dump.specs.Visits.{GoesOn, IsThere}
-use Rattle.room_dump.proofs.{Dumped.{Came, blamed, tells_on}, Reading.{Knows, fails, knows, learns}}
-use Rattle.room_dump.proofs.Walks.{comes_first}
+use Rattle.std.proofs.Common.{inl, refl, string_bytes}
+use Rattle.room_dump.{specs.Visits.{GoesOn, IsThere}, proofs.Dumped.{Came, blamed, tells_on}}
+use Rattle.room_dump.proofs.{Reading.{Knows, fails, knows, learns}, Walks.comes_first}
 use Rattle.room_dump.proofs.dumping.push_all.Goals as goal
 
 pub objects-init : goal.objects-init
@@ -30,6 +29,15 @@ objects-preserved g c =
     learns k laws a d c.push_one-told.new.keep c.in_ok-told.field-0 came c.in_ok-told.ensures.read
     (λ rows are came one goes. tells_on rows first old new visit before text
     (string_bytes c.push_one-told.new.text) (came goes) one)
+
+pub returns-in_err-visit : goal.returns-in_err-visit
+returns-in_err-visit g c = record {
+  read =
+      fails g.K.Keep g.met.K.Keep.laws c.args.keep.now c.objects.keep c.next.new.keep
+      c.in_err-visit.field-0.0 c.from_residual.result
+      (λ rows are telling row h goes. inl (inl (h (telling goes).goes))) c.objects.invariant
+      c.in_err-visit.ensures.read c.from_residual.ensures.1;
+}
 
 pub returns-in_err-told : goal.returns-in_err-told
 returns-in_err-told g c =

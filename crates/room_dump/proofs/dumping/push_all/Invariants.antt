@@ -1,6 +1,5 @@
 use Rattle.std.proofs.Common.{string_bytes}
-use Rattle.room_dump.specs.Visits.{GoesOn}
-use Rattle.room_dump.proofs.{Dumped.Telling, Reading.Knows}
+use Rattle.room_dump.{specs.Visits.GoesOn, proofs.{Dumped.Telling, Reading.Knows}}
 use Rattle.room_dump.proofs.dumping.push_all.Given as goal
 
 -- what the walk came to is told

@@ -1,6 +1,5 @@
 use Rattle.std.proofs.Common.{OnOk, ◌++◌, ◌≡◌, string_bytes, refl, subst, List, ℕ}
-use Rattle.room_entry.specs.{Bits.all_bits, Letters.mask_letters}
-use Rattle.room_entry.proofs.Letters.{table_text-mask}
+use Rattle.room_entry.{specs.{Bits.all_bits, Letters.mask_letters}, proofs.Letters.table_text-mask}
 use Rattle.room_entry.proofs.mask.push_letters_of.Goals as goal
 
 pub push_rows-requires : goal.push_rows-requires

@@ -1,3 +1,4 @@
+use Rattle.std.proofs.Common.{rules}
 use Rattle.std.proofs.{Common.{ℕ, ◌++◌, List, ap, sym, ◌∙◌, string_bytes}, lemmas.List.append-nil}
 use Rattle.room_entry.proofs.Letters.{row_at, table_text_pushed, table_text_passed, table_text_all}
 use Rattle.room_entry.proofs.mask.push_rows.Goals.{then-is_set+in_ok-push, else-is_set}
@@ -28,6 +29,4 @@ loop-bit-preserved c =
 
 pub returns : goal.returns
 returns c =
-    sym (ap (λ (l : List ℕ). string_bytes c.loop-bit.text ++ l)
-    (table_text_all c.args.bits c.args.rows.now c.loop-bit.bit-index c.loop-bit-test.false)
-    ∙ append-nil (string_bytes c.loop-bit.text)) ∙ c.loop-bit.invariant
+    sym (search (rules, table_text_all, c.loop-bit-test.false, append-nil)) ∙ c.loop-bit.invariant

@@ -1,4 +1,4 @@
-use Rattle.std.proofs.Common.{ap, sym, ◌∙◌, ◌&&◌}
+use Rattle.std.proofs.Common.{arith, ap, sym, ◌∙◌, ◌&&◌}
 use Rattle.room_entry.specs.Names.{is_part, is_domain_byte}
 use Rattle.room_entry.proofs.Cuts.{name_alone, name_with_domain, no_name}
 use Rattle.room_entry.proofs.name.is_name.Goals as goal
@@ -20,11 +20,7 @@ returns-else-is_local_part c =
     let whole =
     name_with_domain c.args.bytes.now c.in-Some.local.now c.in-Some.rest.now c.in-Some.ensures.0
     c.in-None-cut.ensures in
-    c.if-is_local_part.false
-    ∙ sym (whole ∙ ap (λ b. b && is_part is_domain_byte c.in-Some.rest.now)
-    (sym c.is_local_part-in-None-cut.ensures ∙ c.if-is_local_part.false))
+    grind (arith, c.if-is_local_part.false, whole, c.is_local_part-in-None-cut.ensures)
 
 pub returns-in-Some-cut : goal.returns-in-Some-cut
-returns-in-Some-cut c =
-    sym (no_name c.args.bytes.now c.in-Some.local.now c.in-Some.rest.now _
-    c.in-Some-cut.field-0.1.now c.in-Some.ensures.0 c.in-Some-cut.ensures.0)
+returns-in-Some-cut c = grind (arith, no_name, c.in-Some.ensures.0, c.in-Some-cut.ensures.0)

@@ -1,13 +1,10 @@
-use Rattle.std.proofs.Common.{ℕ, ◌≡◌, ◌+◌, ◌&&◌, Bool, false, List, [], ◌∷◌, refl, ap}
-use Rattle.std.proofs.Common.{if◌then◌else◌, is_some, is_none}
-use Rattle.std.specs.Option.{option_map_or}
-use Rattle.room_entry.specs.{Ace.Ace, Bits.{has, shares}, Matching.{is_named, is_in_force}}
-use Rattle.room_entry.specs.{Pieces.same_text, Valid.asks_records, declared.entry.Who.Who}
-use Rattle.room_entry.specs.declared.entry.Who.TheVariants.{Owner, Group, Everyone, Anonymous}
-use Rattle.room_entry.specs.declared.entry.Who.TheVariants.{Authenticated, User, Members}
+use Rattle.std.proofs.Common.{arith, ℕ, ◌≡◌, ◌+◌, ◌&&◌, Bool, false, List, [], ◌∷◌, refl, ap}
+use Rattle.std.{proofs.Common.{is_some, is_none}, specs.Option.option_map_or}
+use Rattle.room_entry.specs.{Ace.Ace, Matching.{is_named, is_in_force}, Pieces.same_text}
+use Rattle.room_entry.specs.declared.entry.Who.{Who, TheVariants.{Owner, Group, Everyone}}
+use Rattle.room_entry.specs.declared.entry.Who.TheVariants.{Anonymous, Authenticated, User, Members}
 use Rattle.room_entry.specs.declared.parties.{Caller.Caller, Owners.Owners}
-use Rattle.room_eval.specs.{Events.{events_from, wants}, Laws.AreAlike, Verdict.{counts, ruled_by}}
-use Rattle.room_eval.specs.Verdict.{ruling_from, verdict_by}
+use Rattle.room_eval.specs.{Events.events_from, Laws.AreAlike, Verdict.{counts, ruling_from}}
 use Rattle.room_eval.proofs.laws.members_decide.Goals as goal
 
 module _ (a b : Caller) (owners : Owners) (alike : AreAlike a b) where
@@ -27,22 +24,14 @@ module _ (a b : Caller) (owners : Owners) (alike : AreAlike a b) where
       → ruling_from place entries a owners bit ≡ ruling_from place entries b owners bit
   rulings place [] bit = refl
   rulings place (entry ∷ entries) bit =
-      let rest = rulings (place + 1) entries bit in
-      λ i. if counted entry i
-      && has entry.mask bit then ruled_by entry.kind place (rest i) else rest i
+      let rest = rulings (place + 1) entries bit in grind (arith, counted, rest)
 
   events : (place : ℕ) (entries : List Ace) (asked : List ℕ) (granted : Bool)
       → events_from place entries a owners asked granted
       ≡ events_from place entries b owners asked granted
   events place [] asked granted = refl
   events place (entry ∷ entries) asked granted =
-      let rest = events (place + 1) entries asked granted in
-      λ i. if asks_records entry.kind && counted entry i && wants entry.flags granted
-      && shares asked entry.mask then place ∷ rest i else rest i
+      let rest = events (place + 1) entries asked granted in grind (arith, counted, rest)
 
 pub returns : goal.returns
-returns c = λ entries a b owners alike. (
-  rulings a b owners alike 1 entries,
-  λ asked. λ i. verdict_by (λ bit. rulings a b owners alike 1 entries bit i) asked,
-  events a b owners alike 1 entries,
-)
+returns c = grind (arith, rulings, events)

@@ -11,8 +11,7 @@ returns-in-Some-clause-few c = λ is exceeds.
     let below = ended-behind window c.in-Some.start (sym c.in-Some.is ∙ c.head_start.ensures) in
     let all : c.ended_lines.result ≡ feeds (drop c.in-Some.start window) =
     c.ended_lines.ensures ∙ ap feeds (take_rest window c.in-Some.start) in
-    let few = ltb-false 65 c.ended_lines.result is in
-    absurd (omega (arith, many, below, all, few))
+    grind (arith, ltb-false, many, below)
 
 pub returns-in-Some-clause-many : goal.returns-in-Some-clause-many
 returns-in-Some-clause-many c = λ is none may.
@@ -27,5 +26,4 @@ pub returns-in-None-clause-few : goal.returns-in-None-clause-few
 returns-in-None-clause-few c = λ _ exceeds.
     let window = c.args.window.now in
     let many = exceeds-ended 64 window exceeds in
-    let none = ended-nowhere window (sym c.in-None.is ∙ c.head_start.ensures) in
-    absurd (omega (arith, many, none))
+    grind (arith, ended-nowhere, window, c.in-None.is, c.head_start.ensures, many)

@@ -1,5 +1,4 @@
-use Rattle.room_http.specs.Limits.{max_head}
-use Rattle.room_http.proofs.Heads.{window-is, scans-from-window}
+use Rattle.room_http.{specs.Limits.max_head, proofs.Heads.{window-is, scans-from-window}}
 use Rattle.room_http.proofs.cut.scan_head.Goals as goal
 
 pub returns : goal.returns

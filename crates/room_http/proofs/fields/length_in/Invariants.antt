@@ -1,5 +1,4 @@
-use Rattle.std.proofs.Common.{◌≡◌, ◌≤◌, take}
-use Rattle.std.specs.Str.Parse.{digits_value}
+use Rattle.std.{proofs.Common.{◌≡◌, ◌≤◌, take}, specs.Str.Parse.digits_value}
 use Rattle.room_http.specs.Limits.{max_body}
 use Rattle.room_http.proofs.fields.length_in.Given as goal
 

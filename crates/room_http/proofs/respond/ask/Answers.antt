@@ -1,8 +1,6 @@
-use Rattle.std.proofs.Common.{refl, rules, subst, w64, ℤ, [], ◌∷◌, Ok, SFits}
-use Rattle.std.proofs.lemmas.Int.{to_z-of_z}
+use Rattle.std.proofs.{Common.{arith, refl, rules, subst, w64, ℤ, Ok, SFits}, lemmas.Int.to_z-of_z}
 use Rattle.std.specs.Option.{option_copied}
-use Rattle.room_machine.specs.{Desk.{Closes, Steps}, Run.{Asked, event_of, unanswered}}
-use Rattle.room_machine.specs.declared.desk.DeskFault.{DeskFault}
+use Rattle.room_machine.specs.{Run.{Asked, event_of, unanswered}, declared.desk.DeskFault.DeskFault}
 use Rattle.room_machine.proofs.Meeting.{closed_once, closed_still}
 use Rattle.room_http.proofs.Telling.{responds-by, rose}
 use Rattle.room_http.proofs.respond.ask.Goals as goal
@@ -24,15 +22,11 @@ returns-in-Ok g c =
       did = record {
         trusted = c.in-Ok.ensures.trusted;
         sound = c.in-Ok.ensures.sound;
-        run = λ t s room is.
-            let one = subst (λ (z : ℤ). Steps {E = DeskFault} (d.content old) user z request
-            (Ok reply) (d.content new)) real (c.in-Ok.ensures.step t s) room is in
-            (one.0, (one.0, one.1, refl), one.2);
+        run = grind (arith, d.content, old, user, request, reply, new, real, c.in-Ok.ensures.step);
         closed = λ t.
             closed_once {E = DeskFault} (d.stored old) (d.stored new) user
             c.args.call.now.moment request (Ok reply)
-            (subst (λ (z : ℤ). Closes {E = DeskFault} (d.stored old) user z request
-            (Ok reply) (d.stored new)) real (c.in-Ok.ensures.closed t));
+            (grind (arith, d.stored, old, user, request, reply, new, real, c.in-Ok.ensures.closed));
         outlasts =
             subst (λ (z : ℤ). d.Outlasts old
             (unanswered {E = DeskFault} (Ok reply) (Asked user z request))
@@ -59,9 +53,7 @@ returns-in-Err g c =
         run = λ t s room is. (room, refl, c.in-Err.ensures.step t s room is);
         closed = λ t. closed_still (d.stored old) (d.stored new) (c.in-Err.ensures.closed t);
         outlasts =
-            subst (λ (z : ℤ). d.Outlasts old
-            (Asked user z request ∷ []) [] new) real
-            c.in-Err.ensures.outlasts;
+            grind (arith, d.Outlasts, old, user, request, new, real, c.in-Err.ensures.outlasts);
       };
       faults = rose _ _ c.in-Err.ensures.faults;
     }

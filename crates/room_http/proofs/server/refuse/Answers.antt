@@ -1,8 +1,7 @@
 use Rattle.std.proofs.Common.{[], refl, ◌∙◌}
-use Rattle.room_http.specs.Text.{refusal_reply}
-use Rattle.room_http.proofs.Telling.{within-write}
-use Rattle.room_http.proofs.server.refuse.Goals as goal
+use Rattle.room_http.{specs.Text.refusal_reply, proofs.Telling.within-write}
 use Rattle.room_entry.proofs.Facts.KnownBytes.{Appends-none}
+use Rattle.room_http.proofs.server.refuse.Goals as goal
 
 pub returns-in_default-clause-err : goal.returns-in_default-clause-err
 returns-in_default-clause-err g c =

@@ -1,4 +1,4 @@
-use Rattle.std.proofs.Common.{subst}
+use Rattle.std.proofs.Common.{rules, subst}
 use Rattle.room_http.specs.{declared.next.Upcoming.Upcoming, Serve.seen, Turn.{ComesNear, Coming}}
 use Rattle.room_http.proofs.Turning.{shift, turn-clean, turn-cut, turn-refused}
 use Rattle.room_http.proofs.server.turn.Goals as goal
@@ -10,8 +10,7 @@ returns-in-Whole g c near =
     let new = seen left (g.W.Write.contents c.take_message.new.w) c.take_message.new.desk in
     let ahead = subst (λ (u : Upcoming). ComesNear c.next_message.new.self.buf.items u)
     c.in-Whole.is (c.in-Ok.ensures.near near) in
-    shift g.D.Desk c.args.call.now.moment c.args.connection.now.answered _ left sent
-    c.args.desk.now new _ _ _ _ c.in-Ok.ensures.came (c.take_message.ensures left ahead)
+    search (rules, shift, g.D.Desk, new, c.in-Ok.ensures.came, c.take_message.ensures, ahead)
 
 pub returns-in-Refused : goal.returns-in-Refused
 returns-in-Refused g c near =
@@ -30,15 +29,11 @@ returns-in-Clean g c near =
     let left = g.R.Read.remaining c.next_message.new.r in
     let next = subst (λ (u : Upcoming). Coming c.next_message.new.self.buf.items left u)
     c.in-Clean.is c.in-Ok.ensures.next in
-    turn-clean g.D.Desk g.met.D.Desk.laws c.args.call.now.moment c.args.connection.now.answered _
-    left _ c.args.desk.now _ _
-    c.in-Ok.ensures.came next
+    search (rules, turn-clean, g.D.Desk, g.met.D.Desk.laws, c.in-Ok.ensures.came, next)
 
 pub returns-in-Cut : goal.returns-in-Cut
 returns-in-Cut g c near =
     let left = g.R.Read.remaining c.next_message.new.r in
     let next = subst (λ (u : Upcoming). Coming c.next_message.new.self.buf.items left u)
     c.in-Cut.is c.in-Ok.ensures.next in
-    turn-cut g.D.Desk g.met.D.Desk.laws c.args.call.now.moment c.args.connection.now.answered _
-    left _ c.args.desk.now _ _
-    c.in-Ok.ensures.came next
+    search (rules, turn-cut, g.D.Desk, g.met.D.Desk.laws, c.in-Ok.ensures.came, next)

@@ -1,3 +1,4 @@
+use Rattle.std.proofs.Common.{rules}
 use Rattle.room_http.proofs.KnownBytes.{err-anyway, first-part, second-part}
 use Rattle.room_http.proofs.write.write_reply.Goals as goal
 
@@ -8,5 +9,4 @@ returns-clause-err g c =
 
 pub returns-in_err-write_text-clause-err : goal.returns-in_err-write_text-clause-err
 returns-in_err-write_text-clause-err g c =
-    err-anyway c.from_residual.result
-    (first-part _ _ _ _ _ c.parts.ensures c.in_err-write_text.ensures.err)
+    search (rules, err-anyway, first-part, c.parts.ensures, c.in_err-write_text.ensures.err)

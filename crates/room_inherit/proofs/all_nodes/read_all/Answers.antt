@@ -1,12 +1,10 @@
-use Rattle.std.proofs.Common.{◌++◌, Result, Ok, Err, List, sym, ap, subst, ◌∙◌}
-use Rattle.std.proofs.lemmas.List.{append-nil, drop_all}
-use Rattle.std.specs.List.{find, filter_map}
+use Rattle.std.proofs.Common.{arith, rules, Result, Ok, Err, List, sym, ap, subst, ◌∙◌}
+use Rattle.std.{proofs.lemmas.List.{append-nil, drop_all}, specs.List.find}
 use Rattle.room_rows.specs.declared.{keep.KeepFault.{KeepFault, TheVariants.Memory}, node.Node.Node}
-use Rattle.room_rows.specs.{Content.node_at, Keep.IsRead, Sound.has_bad_list}
-use Rattle.room_rows.proofs.Steps.{handed_on, seen, read_on, answered, no_memory}
-use Rattle.room_inherit.specs.Reading.{AreAll, IsFirstBad}
-use Rattle.room_inherit.proofs.{Blaming.blames_less, Whole.{bad_at, one_more_node, sound_here}}
-use Rattle.room_inherit.proofs.Whole.{whole}
+use Rattle.room_rows.{specs.{Keep.IsRead, Sound.has_bad_list}, proofs.Steps.{handed_on, seen}}
+use Rattle.room_rows.proofs.Steps.{read_on, answered, no_memory}
+use Rattle.room_inherit.{specs.Reading.{AreAll, IsFirstBad}, proofs.Blaming.blames_less}
+use Rattle.room_inherit.proofs.Whole.{bad_at, one_more_node, sound_here, whole}
 use Rattle.room_inherit.proofs.all_nodes.read_all.Goals as goal
 
 pub returns-in_err-read_sound : goal.returns-in_err-read_sound
@@ -50,8 +48,7 @@ returns-in_err-push g c =
       read =
           subst (λ (r : Result (List Node) KeepFault).
           IsRead k.rows k.failures k.writes k.Follows k.IsTrusted a d r IsFirstBad AreAll) (sym is)
-          (no_memory k.rows k.failures k.writes k.Follows k.IsTrusted a d
-          (seen k.rows k.failures k.writes k.Follows k.IsTrusted a d node on));
+          (search (rules, no_memory, seen, on));
     }
 
 pub ids-preserved : goal.ids-preserved
@@ -97,8 +94,6 @@ returns g c =
             none t,
             whole w (m.laws.are a c.ids.keep t) (none t) c.ids.nodes items
                 (c.ids.invariant.numbers t)
-                (sym (append-nil c.ids.nodes)
-                ∙ ap (λ l. c.ids.nodes ++ filter_map (node_at w.read) l) (sym over)
-                ∙ c.ids.invariant.found t),
+                (grind (arith, append-nil, c.ids.nodes, w.read, over, c.ids.invariant.found)),
           ));
     }

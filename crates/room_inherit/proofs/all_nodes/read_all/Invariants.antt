@@ -1,5 +1,4 @@
-use Rattle.std.proofs.Common.{◌≡◌, ◌++◌, drop}
-use Rattle.std.specs.List.{find, filter_map}
+use Rattle.std.{proofs.Common.{◌≡◌, ◌++◌, drop}, specs.List.{find, filter_map}}
 use Rattle.room_rows.specs.{Content.node_at, Rows.numbers_of, Sound.has_bad_list}
 use Rattle.room_rows.proofs.Steps.{HasRead}
 use Rattle.room_inherit.proofs.all_nodes.read_all.Given as goal

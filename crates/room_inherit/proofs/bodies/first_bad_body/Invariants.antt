@@ -1,7 +1,5 @@
-use Rattle.std.proofs.Common.{◌≡◌, not, drop}
-use Rattle.std.specs.List.{find}
-use Rattle.room_rows.specs.{declared.node.Node.Node, Sound.has_sound_body}
-use Rattle.room_rows.proofs.Steps.{HasRead}
+use Rattle.std.{proofs.Common.{◌≡◌, not, drop}, specs.List.find}
+use Rattle.room_rows.{specs.{declared.node.Node.Node, Sound.has_sound_body}, proofs.Steps.HasRead}
 use Rattle.room_inherit.proofs.bodies.first_bad_body.Given as goal
 
 -- the reads have answered, and what is left has the same answer

@@ -1,13 +1,13 @@
-use Rattle.std.proofs.Common.{◌≡◌, true, ◌+◌, ◌<◌, ◌^◌, length, [], Ok, Err, sym, ap, ◌∙◌, arith}
-use Rattle.std.proofs.lemmas.Bool.{eqb-true, eqb-false, false≢true, ltb-true}
+use Rattle.std.proofs.Common.{rules, ◌≡◌, true, ◌+◌, ◌<◌, ◌^◌, length, [], Ok, Err, sym, ap, ◌∙◌}
+use Rattle.std.proofs.{Common.arith, lemmas.Bool.{eqb-true, eqb-false, false≢true, ltb-true}}
 use Rattle.std.specs.Prelude.{nat_lt}
 use Rattle.room_rows.specs.{declared.keep.KeepFault.TheVariants.Damaged, Keep.capped}
 use Rattle.room_inherit.specs.declared.outcome.SpreadFault.TheVariants.{Keeper}
-use Rattle.room_entry.proofs.Facts.Members.{no_length}
 use Rattle.room_inherit.proofs.{Turns.first_turn_fails, Bounded.{soon_fails, soon_done, ids_fail}}
 use Rattle.room_inherit.proofs.Bounded.{later_fails, later_done, never_too_many}
 use Rattle.room_inherit.proofs.Descending.{descends, descends_not}
 use Rattle.room_inherit.proofs.descent.go_down.Goals.{then-is_empty, else-is_empty}
+use Rattle.room_entry.proofs.Facts.Members.{no_length}
 use Rattle.room_inherit.proofs.descent.go_down.Goals as goal
 
 pub returns-in_err-begun-clause-descends : goal.returns-in_err-begun-clause-descends
@@ -20,8 +20,7 @@ returns-in_err-begun-clause-descends g c = λ none same.
     let b = c.visit.new.keep in
     let fault = c.in_err-begun.field-0.0 in
     descends_not k laws d start same a b c.from_residual.result fault c.from_residual.ensures.1
-    (λ p. first_turn_fails k laws d start p c.args.waiting.now.items c.visit.new.waiting.items fault
-    a b none c.in_err-begun.ensures.visit)
+    (search (rules, first_turn_fails, k, laws, d, start, c.in_err-begun.ensures.visit))
 
 pub returns-in_err-soon-clause-descends : goal.returns-in_err-soon-clause-descends
 returns-in_err-soon-clause-descends g c = λ none same.
@@ -51,11 +50,7 @@ returns-then-is_done-clause-descends g c = λ none same.
     let next = c.take_turns.new.waiting.items in
     let told = c.saturating_add-changed.result in
     let facts : (c.is_empty.result ≡ true) × (nat_lt told (2 ^ 63) ≡ true) =
-    elim c.if-is_empty.branch [
-      | then-is_empty w ↦ (w.if-is_empty.true, sym w.is_done-is ∙ c.if-is_done.true)
-      | else-is_empty w ↦
-          absurd (false≢true (sym w.if-is_empty.false ∙ sym w.is_done-is ∙ c.if-is_done.true))
-    ] in
+    grind (arith, c.if-is_empty.branch, c.if-is_done.true, false≢true) in
     let over : next ≡ [] = no_length next
     (sym c.take_turns.new.waiting.ok.0
     ∙ eqb-true c.take_turns.new.waiting.len 0 (sym c.is_empty.ensures ∙ facts.0)) in
@@ -116,8 +111,7 @@ returns-then-is_empty-2-clause-descends g c = λ none same.
     let many : most ≡ length c.as_slice.inside.items.items = ap length
     (c.as_slice-most.ensures ∙ sym c.as_slice.view_is) in
     let fits : most < 2 ^ 63 = let ok = c.as_slice.inside.items.ok.0 in
-    let cap = c.as_slice.inside.items.ok.1 in let small = c.as_slice.inside.items.small in
-    omega (arith, many, ok, cap, small) in
+    grind (arith, c.as_slice.inside.items.ok.1, c.as_slice.inside.items.small, many, ok) in
     let later = c.in_ok-later.later in
     let over : last ≡ [] = no_length last
     (sym c.take_turns-2.new.waiting.ok.0

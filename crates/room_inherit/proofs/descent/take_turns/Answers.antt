@@ -1,6 +1,6 @@
-use Rattle.std.proofs.Common.{◌≡◌, ℕ, ◌+◌, List, Result, refl, sym, ap, subst, ◌∙◌, inl, inr, arith}
+use Rattle.std.proofs.Common.{◌≡◌, ℕ, ◌+◌, List, Result, refl, sym, ap, subst, ◌∙◌, inl, arith}
 use Rattle.std.proofs.{Common.{add-one, length}, lemmas.List.{append-nil, length_push}}
-use Rattle.room_rows.specs.{declared.node.Node.Node, Counts.capped_below, Keep.capped}
+use Rattle.room_rows.specs.{declared.node.Node.Node}
 use Rattle.room_inherit.specs.Turns.{AreTurns, TakesTurns}
 use Rattle.room_inherit.specs.declared.outcome.SpreadFault.{SpreadFault}
 use Rattle.room_entry.proofs.Facts.Members.{no_length}
@@ -8,12 +8,7 @@ use Rattle.room_inherit.proofs.Calls.{capped_add, handed_on, uncapped}
 use Rattle.room_inherit.proofs.descent.take_turns.Goals as goal
 
 pub turns-init : goal.turns-init
-turns-init g c =
-    record {
-      sofar = (0, (refl, refl, refl), sym (capped_below 0 (omega arith)));
-      within = omega arith;
-      counted = λ _ _. omega arith;
-    }
+turns-init g c = grind arith
 
 pub returns-in_default-clause-turns : goal.returns-in_default-clause-turns
 returns-in_default-clause-turns g c =
@@ -23,10 +18,7 @@ returns-in_default-clause-turns g c =
     record {
       turns = c.turns._turn;
       total = total;
-      are =
-          subst
-          (λ (l : List Node). AreTurns g.K.Keep c.args.descent.now c.turns._turn
-          c.args.waiting.now.items l total c.args.keep.now c.turns.keep) same are;
+      are = grind (arith, g.K.Keep, c.turns._turn, total, c.turns.keep, same, are);
       counted = is;
       bounded = c.turns.invariant.within;
       ends =
@@ -37,8 +29,7 @@ returns-in_default-clause-turns g c =
 pub returns-in_default-clause-counted : goal.returns-in_default-clause-counted
 returns-in_default-clause-counted g c = λ reach few.
     let sofar = c.turns.invariant.counted reach few in
-    let same = ap length (c.in_default.ensures.items ∙ append-nil c.pop.new.self.items) in
-    omega (arith, sofar, same)
+    grind (arith, c.in_default.ensures.items, append-nil, c.pop.new.self.items, sofar)
 
 pub returns-in_err-visited-clause-turns : goal.returns-in_err-visited-clause-turns
 returns-in_err-visited-clause-turns g c =
@@ -87,8 +78,7 @@ turns-preserved g c =
               c.in_ok-visited.ensures.visit,
               refl,
             ),
-        c.saturating_add-written.ensures ∙ ap (λ n. capped (n + number)) is
-            ∙ capped_add total number,
+        grind (arith, c.saturating_add-written.ensures, number, is, capped_add, total),
       );
       within = let below = c.turns-test.true in omega (arith, below);
       counted = λ reach few.
@@ -104,11 +94,4 @@ turns-preserved g c =
 pub returns-clause-turns : goal.returns-clause-turns
 returns-clause-turns g c =
     let (total, are, is) = c.turns.invariant.sofar in
-    record {
-      turns = c.turns._turn;
-      total = total;
-      are = are;
-      counted = is;
-      bounded = c.turns.invariant.within;
-      ends = inr (let below = c.turns-test.false in omega (arith, below));
-    }
+    grind (arith, c.turns._turn, total, are, is, c.turns.invariant.within, c.turns-test.false)

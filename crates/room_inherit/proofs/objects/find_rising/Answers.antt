@@ -1,4 +1,4 @@
-use Rattle.std.proofs.Common.{◌≡◌, Some, sym, ap, ◌∙◌, rules, arith, inl, inr}
+use Rattle.std.proofs.Common.{◌≡◌, Some, sym, ap, ◌∙◌, rules, arith}
 use Rattle.std.proofs.lemmas.{List.Sorted.{answers_always, searchable_from_sorted}, Bool.cases_lt}
 use Rattle.std.specs.Cmp.{nat_cmp_total}
 use Rattle.room_rows.specs.{declared.node.Node.Node, Finding.find_id}
@@ -25,7 +25,4 @@ returns-in-Err c =
     (answers_always _ _ _ (λ f a r g called. search rules)) in
     let apart = by_key (searchable_from_sorted nat_cmp_total (λ (n : Node). n.id) nodes c.args.id
     (sorted_by_number 0 nodes c.requires)) in
-    sym (none_at c.args.id nodes (λ k d below. elim (cases_lt k c.in-Err.field-0) [
-      | inl before ↦ apart_from_less _ _ (apart.0 k d (omega arith) before)
-      | inr behind ↦ apart_from_greater _ _ (apart.1 k d behind below)
-    ]))
+    grind (arith, none_at, cases_lt, apart_from_less, apart_from_greater, nodes, apart.0, apart.1)

@@ -1,6 +1,6 @@
-use Rattle.std.proofs.Common.{◌≡◌, Option, Some, None, Result, Ok, Err, MatchOption, ap, ◌∙◌}
+use Rattle.std.proofs.Common.{rules, ◌≡◌, Option, Some, None, Result, Ok, Err, MatchOption, ap}
 use Rattle.std.specs.Prelude.{is_none, is_ok}
-use Rattle.room_entry.specs.{declared.fault.ListFault.ListFault, Valid.entry_fault}
+use Rattle.room_entry.specs.declared.fault.ListFault.{ListFault}
 use Rattle.room_inherit.proofs.sound_lists.is_valid.Goals as goal
 
 passes : (o : Option ListFault) (r : Result (Unit {0}) ListFault)
@@ -9,6 +9,4 @@ passes None r is = ap is_ok is
 passes (Some fault) r is = ap is_ok is
 
 pub returns : goal.returns
-returns c =
-    c.is_ok.ensures.value
-    ∙ passes (entry_fault c.args.entry.now c.args.which c.args.kind) c.valid.result c.valid.ensures
+returns c = search (rules, c.is_ok.ensures.value, passes, c.valid.ensures)

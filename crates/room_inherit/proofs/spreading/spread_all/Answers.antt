@@ -1,4 +1,4 @@
-use Rattle.std.proofs.Common.{ℕ, Result, Ok, sym, subst}
+use Rattle.std.proofs.Common.{arith, ℕ, Result, Ok, sym, subst}
 use Rattle.room_inherit.specs.{SpreadAll.SpreadsAll, declared.outcome.Spread.Spread}
 use Rattle.room_inherit.specs.declared.outcome.SpreadFault.{SpreadFault}
 use Rattle.room_inherit.proofs.{BothSwept.{first_fails, second_fails, both_done}, Calls.handed_on}
@@ -23,8 +23,7 @@ returns-in_err-sacls g c =
     record {
       spread =
           subst (λ (r : Result Spread SpreadFault). SpreadsAll k a c.sweep-2.new.keep r)
-          (sym (handed_on c.from_residual-in_err-sacls.result fault
-          c.from_residual-in_err-sacls.ensures.1))
+          (grind (arith, handed_on, fault, c.from_residual-in_err-sacls.ensures.1))
           (second_fails k g.met.K.Keep.laws a c.sweep.new.keep c.sweep-2.new.keep
           c.in_ok-dacls.dacls c.in_ok-dacls.ensures.swept fault c.in_err-sacls.ensures.swept);
     }

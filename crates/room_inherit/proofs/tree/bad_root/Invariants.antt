@@ -1,5 +1,4 @@
-use Rattle.std.proofs.Common.{◌≡◌, ◌++◌, filter, drop, option_to_list}
-use Rattle.std.specs.Option.{option_copied}
+use Rattle.std.{proofs.Common.{◌≡◌, ◌++◌, filter, drop, option_to_list}, specs.Option.option_copied}
 use Rattle.room_rows.specs.{Content.is_root, Sound.bad_root}
 use Rattle.room_inherit.proofs.tree.bad_root.Given as goal
 

@@ -4,19 +4,12 @@ use Rattle.std.proofs.lemmas.{Iterator.Consumers.YieldsList-end, List.length_pus
 use Rattle.std.proofs.Math.Seq.{drop-length}
 use Rattle.room_rows.specs.declared.{keep.KeepFault.KeepFault, node.Node.Node}
 use Rattle.room_rows.proofs.Steps.{handed_on}
-use Rattle.room_inherit.specs.Turn.{Gathers}
-use Rattle.room_inherit.proofs.Gathered.{Gathering, gathering_begins, gathering_ends, gathering_on}
-use Rattle.room_inherit.proofs.Gathered.{gathering_stops, rest_of}
+use Rattle.room_inherit.{specs.Turn.Gathers, proofs.Gathered.{Gathering, gathering_begins}}
+use Rattle.room_inherit.proofs.Gathered.{gathering_ends, gathering_on, gathering_stops, rest_of}
 use Rattle.room_inherit.proofs.turn.gather.Goals as goal
 
 pub children-init : goal.children-init
-children-init g c = record {
-  gathering = λ above is.
-      gathering_begins g.K.Keep g.met.K.Keep.laws c.args.descent.now above c.args.children.items
-      c.args.waiting.now.items c.args.outdated.now c.args.keep.now;
-  few = omega arith;
-  counted = λ _. omega arith;
-}
+children-init g c = grind (arith, gathering_begins, g.K.Keep, g.met.K.Keep.laws)
 
 pub returns-in_err-gather_next-clause-gathered : goal.returns-in_err-gather_next-clause-gathered
 returns-in_err-gather_next-clause-gathered g c = λ above is.
@@ -79,13 +72,8 @@ children-preserved g c = record {
       (c.in_ok-gather_next.ensures.gathered above is));
   few =
       let pushed = length_push c.children.yielded c.in-Some.child in
-      let few = c.children.invariant.few in
-      let one = c.in_ok-gather_next.ensures.one in
-      omega (arith, pushed, few, one);
-  counted = λ reach.
-      let sofar = c.children.invariant.counted reach in
-      let now = c.in_ok-gather_next.ensures.counted reach in
-      omega (arith, sofar, now);
+      grind (arith, c.children.invariant.few, c.in_ok-gather_next.ensures.one, pushed);
+  counted = grind (arith, c.children.invariant.counted, c.in_ok-gather_next.ensures.counted);
 }
 
 pub returns-clause-gathered : goal.returns-clause-gathered
@@ -119,6 +107,4 @@ returns-clause-few g c =
     (c.into_iter-child-iterator.ensures.into_iter_gives.1 ∙ c.args.children.ok.0))
     c.children.yielded c.children.child-iterator c.children.yielded_by c.next.result
     c.next.new.self c.in-None.is c.next.ensures.steps in
-    let few = c.children.invariant.few in
-    let whole = end.1 in
-    omega (arith, few, whole)
+    grind (arith, c.children.invariant.few, end.1)

@@ -1,5 +1,4 @@
-use Rattle.std.proofs.{Common.{cond, [], ◌∷◌, ◌++◌, sym, ap, ◌∙◌}, lemmas.List.append-nil}
-use Rattle.room_inherit.specs.Turn.{brought_up}
+use Rattle.std.proofs.{Common.rules, lemmas.List.append-nil}
 use Rattle.room_inherit.proofs.Gathered.{one_gathered}
 use Rattle.room_inherit.proofs.turn.gather_next.Goals as goal
 
@@ -12,6 +11,4 @@ returns-else-waits-clause-gathered g c = λ above is.
     one_gathered g.K.Keep d above child before before c.args.outdated.now
     c.look_at.new.outdated c.args.keep.now c.look_at.new.keep c.in_ok-waits.waits
     (c.in_ok-waits.ensures.asked d.which above stale)
-    (c.in_ok-waits.ensures.added d.which above stale)
-    (sym (append-nil before)
-    ∙ ap (λ t. before ++ cond t (brought_up d.which above child ∷ []) []) (sym c.if-waits.false))
+    (c.in_ok-waits.ensures.added d.which above stale) (search (rules, append-nil, c.if-waits.false))

@@ -1,5 +1,4 @@
-use Rattle.std.proofs.Common.{ℕ, Result, length, sym, ap, subst, arith}
-use Rattle.room_entry.specs.declared.object.ObjKind.TheVariants.{Document, Folder}
+use Rattle.std.proofs.Common.{ℕ, Result, subst, arith}
 use Rattle.room_inherit.specs.{Turn.RenewsAll, declared.outcome.SpreadFault.SpreadFault}
 use Rattle.room_inherit.proofs.Calls.{gathered_written, handed_on, writing_fails}
 use Rattle.room_inherit.proofs.turn.renew_all.Goals as goal
@@ -14,8 +13,7 @@ returns-in_err-write_all-clause-renewed g c = λ above is.
     subst
     (λ (r : Result ℕ SpreadFault). RenewsAll g.K.Keep c.args.keep.now c.write_all.new.keep d above
     all before after r)
-    (sym (handed_on c.from_residual-in_err-write_all.result fault
-    c.from_residual-in_err-write_all.ensures.1))
+    (grind (arith, handed_on, fault, c.from_residual-in_err-write_all.ensures.1))
     (writing_fails g.K.Keep g.met.K.Keep.laws d above all before after c.new-outdated.result
     c.gather.new.outdated c.new-outdated.ensures c.args.passed.now is c.args.keep.now
     c.gather.new.keep c.write_all.new.keep (c.in_ok-gather.ensures.gathered above is) fault
@@ -31,11 +29,4 @@ returns-clause-renewed g c = λ above is.
 
 pub returns-clause-few : goal.returns-clause-few
 returns-clause-few g c =
-    let documents = ap length (c.new-outdated.ensures Document) in
-    let folders = ap length (c.new-outdated.ensures Folder) in
-    let few = c.in_ok-gather.ensures.few in
-    let count = c.count.ensures in
-    let long = c.args.children.ok.0 in
-    let fits = c.args.children.ok.1 in
-    let small = c.args.children.small in
-    omega (arith, documents, folders, few, count, long, fits, small)
+    grind (arith, c.new-outdated.ensures, c.in_ok-gather.ensures.few, c.count.ensures)

@@ -1,7 +1,6 @@
-use Rattle.std.proofs.Common.{◌≡◌, false, List, sym, ap, subst, ◌∙◌}
+use Rattle.std.proofs.Common.{◌≡◌, false, List, subst}
 use Rattle.room_rows.specs.{declared.node.Node.Node, HeldList.Held}
-use Rattle.room_inherit.specs.Turn.{IsPassed, RenewsAll, meets_again}
-use Rattle.room_inherit.proofs.Calls.{visited}
+use Rattle.room_inherit.{specs.Turn.{IsPassed, RenewsAll, meets_again}, proofs.Calls.visited}
 use Rattle.room_inherit.proofs.turn.visit.Goals as goal
 
 pub returns-clause-visit : goal.returns-clause-visit
@@ -9,9 +8,7 @@ returns-clause-visit g c =
     let d = c.args.descent.now in
     let above = c.args.above.now in
     let children = c.in_ok-children.children in
-    let apart : meets_again d.which d.start above children ≡ false = ap
-    (meets_again d.which d.start above) (sym c.as_slice.ensures) ∙ sym c.meets_again.ensures
-    ∙ c.if-meets_again.false in
+    let apart : meets_again d.which d.start above children ≡ false = cc in
     let passed = subst (λ (h : Held). IsPassed h c.in_ok-passed.passed) c.held.ensures
     c.in_ok-passed.ensures in
     visited g.K.Keep g.met.K.Keep.laws d above children c.args.waiting.now.items

@@ -5,9 +5,7 @@ use Rattle.room_inherit.proofs.turn.write.Goals as goal
 
 pub returns-in-empty-clause-written : goal.returns-in-empty-clause-written
 returns-in-empty-clause-written g c =
-    none_written g.K.Keep g.met.K.Keep.laws c.args.keep.now c.args.which c.args.entries.now
-    c.args.ids.now
-    (no_length c.args.ids.now (let below = c.in-empty.len_below in omega (arith, below)))
+    grind (arith, none_written, g.K.Keep, g.met.K.Keep.laws, no_length, c.in-empty.len_below)
 
 pub returns-in-len1-clause-written : goal.returns-in-len1-clause-written
 returns-in-len1-clause-written g c =

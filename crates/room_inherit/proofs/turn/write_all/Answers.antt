@@ -1,6 +1,5 @@
-use Rattle.std.proofs.Common.{Result, Ok, Err, sym, subst, ◌∙◌}
+use Rattle.std.proofs.Common.{arith, rules, Result, Ok, subst, ◌∙◌}
 use Rattle.room_inherit.specs.{Turn.WritesAll, declared.outcome.SpreadFault.SpreadFault}
-use Rattle.room_inherit.specs.declared.outcome.SpreadFault.TheVariants.{Keeper}
 use Rattle.room_inherit.proofs.Calls.{both_written, folders_fail, handed_on, wrote}
 use Rattle.room_inherit.proofs.turn.write_all.Goals as goal
 
@@ -15,15 +14,11 @@ returns-in_err-write-2-clause-written g c =
     let numbers = c.args.outdated.now in
     subst
     (λ (r : Result (Unit {0}) SpreadFault). WritesAll k a e c.args.which passed numbers r)
-    (sym (handed_on c.from_residual-in_err-write-2.result (Keeper fault)
-    c.from_residual-in_err-write-2.ensures.1))
+    (grind (arith, handed_on, fault, c.from_residual-in_err-write-2.ensures.1))
     (folders_fail k g.met.K.Keep.laws c.args.which passed numbers a b e
     (wrote k g.met.K.Keep.laws a b (Ok tt) c.args.which _ _ _ _
     (c.as_slice-to_documents.ensures ∙ c.to.ensures) c.as_slice.ensures.value
-    c.in_ok-write.ensures.written) fault
-    (wrote k g.met.K.Keep.laws b e (Err fault) c.args.which _ _ _ _
-    (c.as_slice-to_folders.ensures ∙ c.to-2.ensures) c.as_slice-2.ensures.value
-    c.in_err-write-2.ensures.written))
+    c.in_ok-write.ensures.written) fault (search (rules, wrote, c.in_err-write-2.ensures.written)))
 
 pub returns-clause-written : goal.returns-clause-written
 returns-clause-written g c =

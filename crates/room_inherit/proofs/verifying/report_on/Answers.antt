@@ -1,5 +1,4 @@
-use Rattle.std.proofs.Common.{sym, ap, ◌∙◌}
-use Rattle.std.specs.Option.{option_copied}
+use Rattle.std.{proofs.Common.{sym, ap, ◌∙◌}, specs.Option.option_copied}
 use Rattle.room_rows.proofs.Steps.{none_yet, seen, answered}
 use Rattle.room_rows.specs.declared.report.Report.TheVariants.{Sound}
 use Rattle.room_inherit.proofs.Reported.{by_tree, by_body, by_law, by_none}

@@ -1,4 +1,4 @@
-use Rattle.std.proofs.Common.{◌≡◌, List, ap, ◌∙◌, length, arith}
+use Rattle.std.proofs.Common.{rules, ◌≡◌, List, ap, ◌∙◌, length, arith}
 use Rattle.room_entry.specs.Ace.{Ace}
 use Rattle.room_eval.specs.Events.{events_of}
 use Rattle.room_judge.proofs.Calls.{none_done, then, finish, fails, memory, done, of_write}
@@ -7,18 +7,7 @@ use Rattle.room_judge.specs.Stored.{found_site}
 use Rattle.room_judge.proofs.checking.note_check.Goals as goal
 
 pub places-init : goal.places-init
-places-init g c =
-    let m = g.met.K.Keep in
-    let checked = c.args.checked.now in
-    record {
-      few = omega arith;
-      done =
-          then m.laws (none_done m.laws c.args.keep.now) (none_done m.laws c.args.keep.now)
-          (λ old mid new same again.
-          notes_none c.args.asker.now checked.granted
-          (found_site checked.path.now checked.found.now) checked.bits
-          c.as_slice-place-items.result.now old new (again ∙ same));
-    }
+places-init g c = search (rules, g.met.K.Keep, done, then, none_done, notes_none)
 
 pub returns-in_err-row : goal.returns-in_err-row
 returns-in_err-row g c =
@@ -75,9 +64,6 @@ returns g c =
     (λ (es : List Ace). events_of es asker.caller checked.found.now.node.owners checked.bits
     checked.granted) c.full.ensures in
     record {
-      done = finish m.laws tt c.places.invariant.done (λ old new known sofar.
-          notes_all asker checked.granted (found_site checked.path.now checked.found.now)
-          checked.bits c.as_slice-place-items.result.now c.places.place-index old new full are
-          sofar);
+      done = search (rules, finish, m.laws, c.places.invariant.done, notes_all, asker, full, are);
       counted = c.places.invariant.few;
     }

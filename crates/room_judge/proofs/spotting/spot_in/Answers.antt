@@ -1,5 +1,4 @@
-use Rattle.std.proofs.Common.{◌≡◌, ℕ, List, ◌<◌, ◌+◌, length, ap, ◌∙◌, arith}
-use Rattle.room_rows.specs.Content.{child_of}
+use Rattle.std.proofs.Common.{◌<◌, length, arith}
 use Rattle.room_judge.proofs.{Calls.{done, finish, of_read, then}, Folders.spot_found, Halts.faults}
 use Rattle.room_judge.proofs.{Judging.blames_first, Ways.name_read}
 use Rattle.room_judge.proofs.spotting.spot_in.Goals as goal
@@ -16,14 +15,11 @@ returns-clause-done g c =
     let m = g.met.K.Keep in
     let path = c.args.path.now in
     let folder = c.args.folder in
-    let deep : length path ≡ folder.depth + 1 = c.requires in
     let below : folder.depth < length path = omega arith in
     let named =
     name_read path c.names.result.now folder.depth c.index-names-folder.result
     c.as_str.result.now c.names.ensures below c.index-names-folder.is c.as_str.ensures in
     finish m.laws _ (then m.laws (done c.in_ok-pass_through.ensures.done)
     (done (of_read c.in_ok-child.ensures.read))
-    (λ old mid new judged both.
-    spot_found c.args.asker.now path folder old mid new c.in_ok-child.child judged
-    (both.0 ∙ ap (λ (n : List ℕ). child_of mid.read folder.node.id n) named) both.1))
+    (grind (arith, spot_found, path, folder, c.in_ok-child.child, folder.node.id, named)))
     (λ old new are h. h)

@@ -1,4 +1,4 @@
-use Rattle.std.proofs.Common.{ℕ, List, [], ◌∷◌, ap, length}
+use Rattle.std.proofs.Common.{rules, ℕ, List, [], ◌∷◌, ap, length}
 use Rattle.room_machine.specs.{Plan.{Check, Item}, Site.Site}
 use Rattle.room_judge.specs.declared.arrival.Found.{Found}
 use Rattle.room_judge.proofs.{Calls.{done, finish, then}, Halts.{halts, halts_first}}
@@ -9,8 +9,7 @@ pub returns-in_err-node-clause-done : goal.returns-in_err-node-clause-done
 returns-in_err-node-clause-done g c =
     let items : Site → List Item = λ target. Check target c.args.mask ∷ [] in
     halts_first g.met.K.Keep.laws _ c.in_err-node.ensures.done (λ old at h. h)
-    (λ old new reply are reached.
-    not_reached c.args.asker.now c.args.path.now items old new reply reached)
+    (search (rules, not_reached, items))
     c.from_residual.result c.from_residual.ensures.1
 
 pub returns-in_err-check-clause-done : goal.returns-in_err-check-clause-done

@@ -1,17 +1,15 @@
-use Rattle.std.proofs.Common.{ℕ, List, [], ◌∷◌, ap, length}
+use Rattle.std.proofs.Common.{rules, ℕ, List, [], ◌∷◌, ap, length, arith}
 use Rattle.room_machine.specs.{Plan.{Check, Item}, Site.Site}
-use Rattle.room_judge.specs.{Judged.of_kind, declared.arrival.Found.Found}
-use Rattle.room_judge.proofs.{Calls.{done, finish, then}, Halts.{halts, halts_first}}
-use Rattle.room_judge.proofs.Ways.{not_reached, target_passed, target_refused}
+use Rattle.room_judge.{specs.{Judged.of_kind, declared.arrival.Found.Found}, proofs.Calls.done}
+use Rattle.room_judge.proofs.{Calls.{finish, then}, Halts.{halts, halts_first}, Ways.not_reached}
+use Rattle.room_judge.proofs.Ways.{target_passed, target_refused}
 use Rattle.room_judge.proofs.walking.reach_kind.Goals as goal
 
 pub returns-in_err-node-clause-done : goal.returns-in_err-node-clause-done
 returns-in_err-node-clause-done g c =
-    let items : Site → List Item = λ target.
-    of_kind c.args.kind target ∷ Check target c.args.mask ∷ [] in
+    let items : Site → List Item = grind arith in
     halts_first g.met.K.Keep.laws _ c.in_err-node.ensures.done (λ old at h. h)
-    (λ old new reply are reached.
-    not_reached c.args.asker.now c.args.path.now items old new reply reached)
+    (search (rules, not_reached, items))
     c.from_residual.result c.from_residual.ensures.1
 
 pub returns-in_err-check_kind-clause-done : goal.returns-in_err-check_kind-clause-done

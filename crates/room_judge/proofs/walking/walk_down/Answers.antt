@@ -1,22 +1,11 @@
-use Rattle.std.proofs.Common.{◌≡◌, refl, take, arith}
+use Rattle.std.proofs.Common.{rules, ◌≡◌, arith}
 use Rattle.room_judge.specs.declared.arrival.Found.{Found}
 use Rattle.room_judge.proofs.{Calls.{done, finish, none_done, then}, Halts.halts, Walked.walk_done}
 use Rattle.room_judge.proofs.{Walked.{walk_ends, walks_on}, Ways.{way_begins, way_blames}}
 use Rattle.room_judge.proofs.walking.walk_down.Goals as goal
 
 pub names-init : goal.names-init
-names-init g c =
-    let m = g.met.K.Keep in
-    record {
-      counted = omega arith;
-      done = record {
-        follows = m.laws.itself c.args.keep.now;
-        becomes =
-            λ t is. way_begins c.args.asker.now (take c.args.depth c.args.path.now) c.args.root
-            (g.K.Keep.rows c.args.keep.now) (g.K.Keep.rows c.args.keep.now) is refl;
-        few = λ t. (none_done m.laws c.args.keep.now).few t;
-      };
-    }
+names-init g c = grind (arith, g.met.K.Keep, done, way_begins, g.K.Keep.rows, none_done)
 
 pub returns-in_err-node : goal.returns-in_err-node
 returns-in_err-node g c =
@@ -28,8 +17,7 @@ returns-in_err-node g c =
           (arith, c.names.invariant.counted, c.in_err-node.ensures.counted, c.names-test.true);
       done =
           halts g.met.K.Keep.laws _ c.names.invariant.done c.in_err-node.ensures.done
-          (λ old mid at are walking h is.
-          way_blames asker (take c.args.depth path) from old mid at (walking is) h)
+          (grind (arith, way_blames, asker, path, from))
           (λ old mid new reply are walking step is.
           walk_ends asker path c.args.depth c.requires c.names.index c.names.node old mid new reply
           c.names-test.true (walking is) step) c.from_residual.result c.from_residual.ensures.1;
@@ -38,15 +26,12 @@ returns-in_err-node g c =
 pub names-preserved : goal.names-preserved
 names-preserved g c =
     let asker = c.args.asker.now in
-    let path = c.args.path.now in
     let next = c.in_ok-node.node in
     record {
       counted = omega (arith, c.names.invariant.counted, c.in_ok-node.ensures.counted);
       done =
           then g.met.K.Keep.laws c.names.invariant.done (done c.in_ok-node.ensures.done)
-          (λ old mid new walking step is.
-          walks_on asker path c.args.depth c.requires c.names.index c.names.node next old mid new
-          c.names-test.true (walking is) step);
+          (search (rules, walks_on, asker, c.requires, c.names.node, next, c.names-test.true));
     }
 
 pub returns-clause-counted : goal.returns-clause-counted
@@ -55,9 +40,6 @@ returns-clause-counted g c =
 
 pub returns-clause-done : goal.returns-clause-done
 returns-clause-done g c =
-    let below = c.names.auto.index-end in
-    let stops = c.names-test.false in
     let all : c.names.index ≡ c.args.depth = omega arith in
     finish g.met.K.Keep.laws _ c.names.invariant.done (λ old new are walking is.
-    walk_done c.args.asker.now c.args.path.now c.args.depth c.requires c.names.index
-    c.names.node old new all (walking is))
+    search (rules, walk_done, all, c.requires, c.names.node))

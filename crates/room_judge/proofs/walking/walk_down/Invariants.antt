@@ -1,7 +1,6 @@
 use Rattle.std.proofs.Common.{◌≡◌, ◌+◌, ◌≤◌, Some, take}
 use Rattle.room_rows.specs.Content.{root_of}
-use Rattle.room_judge.specs.Extent.{OnlyRecords}
-use Rattle.room_judge.proofs.{Calls.HasDone, Ways.IsOnWay}
+use Rattle.room_judge.{specs.Extent.OnlyRecords, proofs.{Calls.HasDone, Ways.IsOnWay}}
 use Rattle.room_judge.proofs.walking.walk_down.Given as goal
 
 -- this many steps are done

@@ -1,5 +1,4 @@
-use Rattle.room_review.specs.Users.{users_at}
-use Rattle.room_review.proofs.Gathers.{GathersFirst}
+use Rattle.room_review.{specs.Users.users_at, proofs.Gathers.GathersFirst}
 use Rattle.room_review.proofs.gathering.gather_above.Given as goal
 
 -- the users at the first objects are there

@@ -1,11 +1,10 @@
+use Rattle.std.proofs.Common.{arith}
 use Rattle.room_dump.proofs.{Reading.{knows, learns}, Walks.comes_first}
 use Rattle.room_review.proofs.Gathered.{gathers_next}
 use Rattle.room_review.proofs.gathering.gather_all.Goals as goal
 
 pub objects-init : goal.objects-init
-objects-init g c =
-    knows g.K.Keep g.met.K.Keep.laws c.args.keep.now
-    (λ rows are goes. record { goes = goes; gathers = λ all rest. rest })
+objects-init g c = grind (arith, knows, g.K.Keep, g.met.K.Keep.laws)
 
 pub objects-preserved : goal.objects-preserved
 objects-preserved g c =

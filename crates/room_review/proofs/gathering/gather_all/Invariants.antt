@@ -1,5 +1,4 @@
-use Rattle.room_dump.specs.Visits.{GoesOn}
-use Rattle.room_dump.proofs.Reading.{Knows}
+use Rattle.room_dump.{specs.Visits.GoesOn, proofs.Reading.Knows}
 use Rattle.room_review.proofs.Gathered.{Gathering}
 use Rattle.room_review.proofs.gathering.gather_all.Given as goal
 

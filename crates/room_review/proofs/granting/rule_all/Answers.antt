@@ -1,11 +1,10 @@
-use Rattle.std.proofs.Common.{ℕ, ◌+◌, ◌||◌, List, drop, filter, not, refl, sym, ap, ◌∙◌}
+use Rattle.std.proofs.Common.{rules, ℕ, ◌+◌, ◌||◌, List, drop, filter, not, refl, sym, ap, ◌∙◌}
 use Rattle.room_entry.specs.{Bits.{all_bits, has}, Valid.asks_records}
 use Rattle.room_entry.specs.declared.entry.EntryKind.TheVariants.{Allow, Deny}
-use Rattle.room_eval.specs.Verdict.{is_allowed}
-use Rattle.room_eval.proofs.Steps.{bears_none, either_asks}
-use Rattle.room_review.specs.Standing.{is_denied}
-use Rattle.room_review.proofs.Ruled.{found_all, found_more, found_none, found_passed, found_same}
-use Rattle.room_review.proofs.granting.rule_all.Goals.{in-Allow, in-Deny, in-Audit}
+use Rattle.room_eval.{specs.Verdict.is_allowed, proofs.Steps.{bears_none, either_asks}}
+use Rattle.room_review.{specs.Standing.is_denied, proofs.Ruled.{found_all, found_more, found_none}}
+use Rattle.room_review.proofs.{Ruled.{found_passed, found_same}, granting.rule_all.Goals.in-Allow}
+use Rattle.room_review.proofs.granting.rule_all.Goals.{in-Deny, in-Audit}
 use Rattle.room_review.proofs.granting.rule_all.Goals as goal
 
 pub loop-index-init : goal.loop-index-init
@@ -18,8 +17,7 @@ loop-index-init c =
           found_none is_allowed entries caller owners _ _ c.empty-allowed.ensures
           c.all-unruled.ensures;
       denies =
-          found_none is_denied entries caller owners _ _ c.empty-denied.ensures
-          c.all-unruled.ensures;
+          search (rules, found_none, caller, owners, c.empty-denied.ensures, c.all-unruled.ensures);
     }
 
 pub loop-index-preserved-then-not-bears_on : goal.loop-index-preserved-then-not-bears_on

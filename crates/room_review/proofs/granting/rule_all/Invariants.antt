@@ -1,6 +1,5 @@
 use Rattle.room_eval.specs.Verdict.{is_allowed}
-use Rattle.room_review.specs.Standing.{is_denied}
-use Rattle.room_review.proofs.Ruled.{FoundBefore}
+use Rattle.room_review.{specs.Standing.is_denied, proofs.Ruled.FoundBefore}
 use Rattle.room_review.proofs.granting.rule_all.Given as goal
 
 -- the rights that the entries before this one allow or deny, and those that none of them rules

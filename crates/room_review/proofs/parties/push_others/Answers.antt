@@ -1,5 +1,5 @@
-use Rattle.std.proofs.Common.{◌≡◌, ◌∷◌, ◌++◌, [], List, ap, ◌∙◌, append_assoc}
-use Rattle.room_dump.proofs.Reading.{Knows, answered, knows, learns}
+use Rattle.std.proofs.Common.{rules, ◌≡◌, ◌∷◌, ◌++◌, [], List, ap, ◌∙◌, append_assoc}
+use Rattle.room_dump.proofs.Reading.{Knows, answered, learns}
 use Rattle.room_review.specs.{declared.parties.Party.Party, Table.other_name}
 use Rattle.room_review.proofs.parties.push_others.Goals as goal
 
@@ -14,8 +14,7 @@ returns g c =
     let nobody = c.in_ok-nobody.nobody in
     let before = c.args.parties.now.items in
     let one : Knows k laws a b (λ rows. other ≡ other_name rows.read c.args.stranger.now) =
-    learns k laws a a b other (knows k laws a (λ rows are. are)) c.in_ok-other.ensures.read
-    (λ rows are _ is. is) in
+    search (rules, learns, c.in_ok-other.ensures.read) in
     record {
       read =
           answered k laws a d tt

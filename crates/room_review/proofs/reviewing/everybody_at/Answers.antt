@@ -1,6 +1,6 @@
-use Rattle.std.proofs.Common.{List, ℕ, ap, ◌∙◌}
-use Rattle.room_dump.proofs.Reading.{Knows, knows, learns, tail}
-use Rattle.room_review.specs.{Table.everybody, Telling.GathersUsers}
+use Rattle.std.proofs.Common.{arith, rules}
+use Rattle.room_dump.proofs.Reading.{Knows, learns, tail}
+use Rattle.room_review.specs.Telling.{GathersUsers}
 use Rattle.room_review.proofs.reviewing.everybody_at.Goals as goal
 
 pub returns : goal.returns
@@ -12,8 +12,7 @@ returns g c =
     let users = c.in_ok-users.users in
     let gathered : Knows k laws a b (λ rows.
     GathersUsers c.args.most c.args.start.now c.args.pairs.now rows users) =
-    learns k laws a a b users (knows k laws a (λ rows are. are)) c.in_ok-users.ensures.read
-    (λ rows are _ gathers. gathers) in
+    search (rules, learns, c.in_ok-users.ensures.read) in
     record {
       read =
           tail k laws a b c.everybody.new.keep c.everybody.result gathered
@@ -27,9 +26,7 @@ returns g c =
             };
             stranger = c.in_ok-stranger.stranger;
             is_other = c.in_ok-stranger.ensures;
-            parties_are = is
-                ∙ ap (λ (us : List (List ℕ)). everybody rows.read us c.in_ok-stranger.stranger)
-                c.as_slice.ensures;
+            parties_are = grind (arith, c.in_ok-stranger.stranger, c.as_slice.ensures);
           })
           c.everybody.ensures.read;
     }

@@ -1,8 +1,8 @@
-use Rattle.std.proofs.Common.{◌≡◌, ◌++◌, ◌∷◌, [], List, sym, ap, ◌∙◌}
+use Rattle.std.proofs.Common.{arith, ◌≡◌, ◌++◌, ◌∷◌, [], List, sym, ◌∙◌}
 use Rattle.room_entry.proofs.Facts.Members.{no_length}
 use Rattle.room_rows.specs.{declared.node.{Node.Node, Walk.Walk}, Walk.walk_of}
-use Rattle.room_dump.proofs.Reading.{Knows, damaged, knows, learns, tail}
-use Rattle.room_review.proofs.Ending.{rootless}
+use Rattle.room_dump.proofs.Reading.{Knows, knows, learns, rootless, tail}
+use Rattle.room_review.proofs.Ending.{rootless as no_root}
 use Rattle.room_review.proofs.reviewing.review.Goals as goal
 
 pub returns-in-None : goal.returns-in-None
@@ -17,9 +17,9 @@ returns-in-None g c =
     (sym c.into_vec-above.result.ok.0 ∙ c.in-None.ensures.cases.0) in
     record {
       read =
-          damaged k laws a b 0
+          rootless k laws a b
           (learns k laws a a b found (knows k laws a (λ rows are. are)) c.in_ok-found.ensures.read
-          (λ rows are _ is. rootless rows c.args.question.now.path found is.0 none));
+          (λ rows are _ is. no_root rows c.args.question.now.path found is.0 none));
     }
 
 pub returns-in_ok-copy-in-Some : goal.returns-in_ok-copy-in-Some
@@ -34,9 +34,7 @@ returns-in_ok-copy-in-Some g c =
     let walked : Knows k laws a b (λ rows.
     walk_with (c.from_vec.result ++ c.in-Some.node ∷ []) ≡ walk_of rows.read c.args.question.now.path) =
     learns k laws a a b found (knows k laws a (λ rows are. are)) c.in_ok-found.ensures.read
-    (λ rows are _ is.
-    ap walk_with (ap (λ (l : List Node). l ++ c.in-Some.node ∷ []) c.from_vec.ensures ∙ sym chain)
-    ∙ is.0) in
+    (grind (arith, walk_with, c.in-Some.node, c.from_vec.ensures, chain)) in
     record {
       read =
           tail k laws a b c.review_from.new.keep c.review_from.result walked

@@ -1,8 +1,7 @@
-use Rattle.std.proofs.Common.{◌≡◌, ◌<◌, ℕ, sym, subst, arith}
+use Rattle.std.proofs.Common.{◌≡◌, ◌<◌, arith}
 use Rattle.room_dump.proofs.Reading.{answered, fails, knows, learns}
-use Rattle.room_review.specs.declared.question.Reviewed.{Reviewed, TheVariants.Table}
-use Rattle.room_review.specs.Table.{IsReview}
-use Rattle.room_review.proofs.Tabled.{Walked, lost_there, refusal_given, table_given}
+use Rattle.room_review.specs.declared.question.Reviewed.{TheVariants.Table}
+use Rattle.room_review.proofs.Tabled.{lost_there, refusal_given, table_given}
 use Rattle.room_review.proofs.reviewing.review_from.Goals as goal
 
 pub returns-then-rest-gt0 : goal.returns-then-rest-gt0
@@ -15,10 +14,7 @@ returns-then-rest-gt0 g c =
     record {
       read =
           answered k laws a a c.in_ok-refused.refused
-          (knows k laws a (λ rows are same walked.
-          subst (λ (r : Reviewed). IsReview c.args.pairs.now question rows r)
-          (sym c.in_ok-refused.ensures)
-          (refusal_given question c.args.start.now rows same c.args.pairs.now c.args.rest some walked)));
+          (knows k laws a (grind (arith, question, c.in_ok-refused.ensures, refusal_given, some)));
     }
 
 pub returns-in_err-table : goal.returns-in_err-table
@@ -31,9 +27,7 @@ returns-in_err-table g c =
     let none : c.args.rest ≡ 0 = let over = c.if-rest-gt0.false in omega (arith, over) in
     record {
       read = fails k laws a a c.table_at.new.keep c.in_err-table.field-0.0
-          c.from_residual-in_err-table.result
-          (λ rows are _ row lost same walked. lost_there question start rows same row
-          (subst (λ (n : ℕ). Walked question start rows same n) none walked) lost)
+          c.from_residual-in_err-table.result (grind (arith, lost_there, question, start, none))
           (knows k laws a (λ rows are. are)) c.in_err-table.ensures.read c.from_residual-in_err-table.ensures.1;
     }
 
@@ -51,6 +45,5 @@ returns g c =
       read =
           answered k laws a b (Table table)
           (learns k laws a a b table (knows k laws a (λ rows are. are)) c.in_ok-table.ensures.read
-          (λ rows are _ gives same walked. table_given question start rows same c.args.pairs.now table
-          (subst (λ (n : ℕ). Walked question start rows same n) none walked) gives));
+          (grind (arith, table_given, question, start, table, none)));
     }

@@ -1,9 +1,8 @@
-use Rattle.std.proofs.Common.{◌≡◌, List, Some, length, ap, ◌∙◌}
+use Rattle.std.proofs.Common.{arith, ◌≡◌, List, Some, length, ap, ◌∙◌}
 use Rattle.room_rows.specs.Rows.{Rows, numbers_of}
 use Rattle.room_machine.specs.{Site.{Site, site_at}, Stored.{stored_along, stored_site}}
 use Rattle.room_dump.proofs.Reading.{Knows, knows, learns, tail}
-use Rattle.room_review.specs.{declared.question.Reviewed.TheVariants.Table, Telling.AreOn}
-use Rattle.room_review.specs.Telling.{GivesParties, Starts}
+use Rattle.room_review.specs.Telling.{AreOn, GivesParties, Starts}
 use Rattle.room_review.proofs.reviewing.table_at.Goals as goal
 
 pub returns : goal.returns
@@ -26,17 +25,11 @@ returns g c =
     let starts : (rows : Rows) → most ≡ length (numbers_of rows) → (sites : List Site)
     → site_at (stored_along rows.read first.path) first.path
     ≡ Some (stored_site first.path first.node)
-    → AreOn first.above sites → Starts most first sites rows =
-    λ rows many sites there way. record {
-      there = record { most_is = many; is_there = there };
-      way = way;
-    } in
+    → AreOn first.above sites → Starts most first sites rows = grind arith in
     record {
       read =
           tail k laws a d c.table_from.new.keep c.table_from.result found
           (λ rows are is row astray sites there way. astray sites (starts rows is.0 sites there way))
-          (λ rows are is x gives sites there way.
-          let begun = starts rows is.0 sites there way in
-          record { parties = parties.items; are = is.1 sites begun; is = ap Table (gives sites begun) })
+          (grind (arith, starts, parties, parties.items))
           c.table_from.ensures.read;
     }

@@ -1,9 +1,7 @@
-use Rattle.std.proofs.Common.{List, ℕ, map, refl, subst}
-use Rattle.std.specs.List.{flat_map}
+use Rattle.std.{proofs.Common.{List, ℕ, map, refl, subst}, specs.List.flat_map}
 use Rattle.room_rows.specs.declared.node.Node.{Node}
 use Rattle.room_dump.proofs.Reading.{answered, fails, knows, learns}
-use Rattle.room_review.specs.Users.{Gathers, users_at}
-use Rattle.room_review.proofs.Tabled.{gathers_users}
+use Rattle.room_review.{specs.Users.{Gathers, users_at}, proofs.Tabled.gathers_users}
 use Rattle.room_review.proofs.reviewing.users_at.Goals as goal
 
 pub returns : goal.returns

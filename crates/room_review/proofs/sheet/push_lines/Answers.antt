@@ -1,10 +1,8 @@
 use Rattle.std.proofs.{Common.{◌++◌, drop, length, not, ap, ◌∙◌, rules}, lemmas.Bool.or_from}
 use Rattle.std.proofs.lemmas.Bool.{or_left, or_right, not_from_false, not_from_true}
-use Rattle.std.proofs.lemmas.{List.length_push, Slice.Zip.{zip_end, zip_turn}}
-use Rattle.std.specs.List.{zip}
+use Rattle.std.{proofs.lemmas.{List.length_push, Slice.Zip.{zip_end, zip_turn}}, specs.List.zip}
 use Rattle.room_import.specs.{Exports.rows_text, Written.written}
-use Rattle.room_review.specs.Lines.{lines}
-use Rattle.room_review.proofs.Printed.{line_hidden, line_shown, lines_all}
+use Rattle.room_review.{specs.Lines.lines, proofs.Printed.{line_hidden, line_shown, lines_all}}
 use Rattle.room_review.proofs.sheet.push_lines.Goals.{then-told-via-then-told}
 use Rattle.room_review.proofs.sheet.push_lines.Goals.{then-told-via-else-told+then-not-standing}
 use Rattle.room_review.proofs.sheet.push_lines.Goals as goal
@@ -33,8 +31,7 @@ loop-party-preserved-in-loop-party c =
             | then-told-via-then-told w ↦
                 or_left told.all (not standing.repeats) w.if-told.true
             | then-told-via-else-told+then-not-standing w ↦
-                or_right told.all (not standing.repeats)
-                (not_from_false standing.repeats w.if-not-standing.true)
+                search (rules, or_right, not_from_false, w.if-not-standing.true)
           ]) c.in_ok-push_line.ensures.text c.loop-party.invariant.text;
     }
 

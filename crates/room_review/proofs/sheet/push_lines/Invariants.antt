@@ -1,5 +1,4 @@
-use Rattle.std.proofs.Common.{◌≡◌, ◌++◌, drop, length}
-use Rattle.std.specs.List.{zip}
+use Rattle.std.{proofs.Common.{◌≡◌, ◌++◌, drop, length}, specs.List.zip}
 use Rattle.room_import.specs.{Exports.rows_text, Written.{StandsAtRow, written}}
 use Rattle.room_review.specs.Lines.{lines}
 use Rattle.room_review.proofs.sheet.push_lines.Given as goal

@@ -1,8 +1,7 @@
-use Rattle.std.proofs.Common.{◌≡◌, List, sym, subst, ap, ◌∙◌, IfOk}
-use Rattle.std.specs.Option.{option_copied}
+use Rattle.std.{proofs.Common.{◌≡◌, List, sym, subst, ap, ◌∙◌, IfOk}, specs.Option.option_copied}
 use Rattle.room_machine.specs.{Site.Site, Stored.stored_site}
-use Rattle.room_review.specs.Standing.{before_last, standings}
-use Rattle.room_review.proofs.Kept.{mapped_none, mapped_some, none_last}
+use Rattle.room_review.{specs.Standing.{before_last, standings}, proofs.Kept.mapped_none}
+use Rattle.room_review.proofs.Kept.{mapped_some, none_last}
 use Rattle.room_review.proofs.standing.standings_at.Goals as goal
 
 pub returns-in-None : goal.returns-in-None

@@ -2,8 +2,7 @@ use Rattle.std.proofs.{Common.{length, take, ap, sym, ◌∙◌, rules}, lemmas.
 use Rattle.std.proofs.lemmas.Slice.Zip.{zip_end, zip_turn}
 use Rattle.room_machine.specs.Stored.{stored_site}
 use Rattle.room_review.specs.{declared.parties.Party.Party, Standing.{before_last, standing}}
-use Rattle.room_review.specs.Standing.{standings}
-use Rattle.room_review.proofs.Kept.{all_mapped, next_mapped}
+use Rattle.room_review.{specs.Standing.standings, proofs.Kept.{all_mapped, next_mapped}}
 use Rattle.room_review.proofs.standing.standings_below.Goals as goal
 
 pub loop-party-preserved : goal.loop-party-preserved

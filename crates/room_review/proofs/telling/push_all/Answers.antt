@@ -1,12 +1,10 @@
-use Rattle.std.proofs.Common.{refl}
+use Rattle.std.proofs.Common.{arith}
 use Rattle.room_dump.proofs.{Reading.{fails, knows, learns, out_of_memory}, Walks.comes_first}
 use Rattle.room_review.proofs.Told.{tells_next}
 use Rattle.room_review.proofs.telling.push_all.Goals as goal
 
 pub objects-init : goal.objects-init
-objects-init g c =
-    knows g.K.Keep g.met.K.Keep.laws c.args.keep.now (λ rows are sites objects comes.
-    record { sites = sites; objects = objects; comes = comes; told = refl })
+objects-init g c = grind (arith, knows, g.K.Keep, g.met.K.Keep.laws)
 
 pub objects-preserved : goal.objects-preserved
 objects-preserved g c =
@@ -27,9 +25,7 @@ pub returns-in_err-visit : goal.returns-in_err-visit
 returns-in_err-visit g c = record {
   read =
       fails g.K.Keep g.met.K.Keep.laws c.args.keep.now c.objects.keep c.next.new.keep
-      c.in_err-visit.field-0.0 c.from_residual.result
-      (λ rows are telling row blocked sites objects comes.
-      blocked (telling sites objects comes).comes.goes)
+      c.in_err-visit.field-0.0 c.from_residual.result (grind arith)
       c.objects.invariant c.in_err-visit.ensures.read c.from_residual.ensures.1;
 }
 

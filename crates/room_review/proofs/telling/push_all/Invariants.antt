@@ -2,8 +2,7 @@ use Rattle.std.proofs.Common.{List}
 use Rattle.room_rows.specs.declared.node.Node.{Node}
 use Rattle.room_dump.proofs.Reading.{Knows}
 use Rattle.room_machine.specs.Site.{Site}
-use Rattle.room_review.specs.{Table.Place, Telling.Comes}
-use Rattle.room_review.proofs.Told.{Telling}
+use Rattle.room_review.{specs.{Table.Place, Telling.Comes}, proofs.Told.Telling}
 use Rattle.room_review.proofs.telling.push_all.Given as goal
 
 -- the rows of what the walk came to are told

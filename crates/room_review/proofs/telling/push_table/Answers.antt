@@ -3,8 +3,7 @@ use Rattle.room_import.specs.Exports.{rows_text}
 use Rattle.room_dump.proofs.Reading.{knows, tail}
 use Rattle.room_rows.specs.declared.node.Node.{Node}
 use Rattle.room_machine.specs.Site.{Site}
-use Rattle.room_review.specs.Telling.{AreOn, along}
-use Rattle.room_review.proofs.Told.{come, objects, rows_are}
+use Rattle.room_review.{specs.Telling.{AreOn, along}, proofs.Told.{come, objects, rows_are}}
 use Rattle.room_review.proofs.telling.push_table.Goals as goal
 
 pub returns : goal.returns

@@ -1,7 +1,6 @@
 use Rattle.std.proofs.Common.{◌∙◌}
 use Rattle.room_dump.proofs.Reading.{answered, knows, learns}
-use Rattle.room_review.specs.{Table.table_rows, Telling.place_at}
-use Rattle.room_review.proofs.Tabled.{under_header}
+use Rattle.room_review.{specs.{Table.table_rows, Telling.place_at}, proofs.Tabled.under_header}
 use Rattle.room_review.proofs.telling.table_from.Goals as goal
 
 pub returns : goal.returns

@@ -1,4 +1,4 @@
-use Rattle.std.proofs.Common.{ap, Err, ◌∙◌, rules}
+use Rattle.std.proofs.Common.{arith, ap, Err, ◌∙◌}
 use Rattle.room_review.proofs.Listed.{never_refused, number_named}
 use Rattle.room_review.proofs.users.numbered.Goals as goal
 
@@ -7,5 +7,4 @@ unreachable-requires c =
     never_refused c.read_name.result c.in-Err-Fault.field-0-0 c.as_str.result.now _
     c.read_name.ensures
     (c.in-Err-Fault.is ∙ ap Err c.in-Err-Fault.field-0-is)
-    (number_named c.args.number c.as_str.result.now c.ranges.number.fits
-    (c.as_str.ensures.value ∙ (search rules)))
+    (grind (arith, number_named, c.ranges.number.fits, c.as_str.ensures.value))

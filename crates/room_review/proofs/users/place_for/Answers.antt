@@ -1,5 +1,4 @@
-use Rattle.std.proofs.Common.{arith, length, nat_cmp, sym, ◌∙◌}
-use Rattle.std.specs.Cmp.Lexicographic.{slice_cmp}
+use Rattle.std.{proofs.Common.{rules, arith, nat_cmp, sym, ◌∙◌}, specs.Cmp.Lexicographic.slice_cmp}
 use Rattle.room_review.proofs.Listed.{all_put, found_there, place_here, place_last}
 use Rattle.room_review.proofs.users.place_for.Goals as goal
 
@@ -25,8 +24,6 @@ returns-in-Greater c = (
 pub returns : goal.returns
 returns c = (
   omega arith,
-  place_last c.args.names.now c.args.name.now c.loop-place.place c.loop-place-test.false
-      c.requires.apart c.loop-place.invariant,
-  all_put c.args.names.now (length c.args.names.now) c.args.name.now c.requires.valid
-      c.is_known.ensures,
+  search (rules, place_last, c.loop-place-test.false, c.requires.apart, c.loop-place.invariant),
+  grind (arith, all_put, c.requires.valid, c.is_known.ensures),
 )

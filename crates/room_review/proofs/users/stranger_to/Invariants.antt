@@ -1,5 +1,4 @@
-use Rattle.std.proofs.Common.{ℕ, ◌<◌, ◌≡◌, true}
-use Rattle.std.specs.Prelude.{decimal}
+use Rattle.std.{proofs.Common.{ℕ, ◌<◌, ◌≡◌, true}, specs.Prelude.decimal}
 use Rattle.room_review.specs.Users.{is_listed}
 use Rattle.room_review.proofs.users.stranger_to.Given as goal
 

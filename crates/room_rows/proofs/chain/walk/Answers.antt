@@ -1,5 +1,5 @@
-use Rattle.std.proofs.Common.{◌≡◌, ◌+◌, List, Some, None, sym, ap, subst, ◌∙◌, inl, length, ◌-◌}
-use Rattle.std.proofs.Common.{IfOk, arith, drop, ◌∷◌, ◌++◌, ◌<◌, []}
+use Rattle.std.proofs.Common.{rules, ◌≡◌, ◌+◌, List, Some, None, sym, ap, subst, ◌∙◌, inl, length}
+use Rattle.std.proofs.Common.{◌-◌, IfOk, arith, drop, ◌∷◌, ◌++◌, ◌<◌, []}
 use Rattle.room_rows.specs.declared.{keep.KeepFault.TheVariants.Memory, node.{Node.Node, Walk.Walk}}
 use Rattle.room_rows.specs.{Keep.{HasNoRoot, IsRead}, Content.child_of, Along.after_chain}
 use Rattle.room_rows.specs.{Rooted.IsWalkFromRoot, Walk.walk_from}
@@ -55,8 +55,7 @@ returns-in_err-push g c =
           subst
           (λ r. IsRead k.rows k.failures k.writes k.Follows k.IsTrusted c.args.keep.now
           c.child.new.self r HasNoRoot (IsWalkFromRoot c.args.path.now)) (sym is)
-          (no_memory k.rows k.failures k.writes k.Follows k.IsTrusted c.args.keep.now
-          c.child.new.self all);
+          (search (rules, no_memory, c.child.new.self));
       some = subst (λ r. IfOk r HasOne) (sym is) tt;
       counted = omega (
         arith,
@@ -101,8 +100,7 @@ returns-in-None g c =
           ));
       some =
           subst HasOne (sym c.walked.ensures)
-          (subst (λ (l : List Node). 0 < length l) (sym c.in_ok-push.ensures.ok)
-          (one_in c.names.chain c.names.node));
+          (grind (arith, c.in_ok-push.ensures.ok, one_in, c.names.chain, c.names.node));
       counted = omega (
         arith,
         c.names.invariant.few,
@@ -121,9 +119,7 @@ names-preserved g c =
     c.child.new.self _ c.names.invariant.read c.in_ok-child.ensures.read in
     record {
       few = omega (arith, c.names.invariant.few, c.in_ok-child.ensures.counted);
-      read =
-          seen k.rows k.failures k.writes k.Follows k.IsTrusted c.args.keep.now c.child.new.self _
-          on;
+      read = search (rules, seen, on);
       rooted = λ t.
           c.names.invariant.rooted (m.laws.first c.args.keep.now c.names.keep c.child.new.self
           c.names.invariant.read.follows c.in_ok-child.ensures.read.follows t);
@@ -133,8 +129,7 @@ names-preserved g c =
           c.names.invariant.read.follows c.in_ok-child.ensures.read.follows t in
           let w = (k.rows c.args.keep.now).read in
           let found : child_of w c.names.node.id c.index-names-index.result ≡ Some c.in-Some.next =
-          ap (child_of w c.names.node.id) (sym c.as_str.ensures) ∙ sym (on.answers t)
-          ∙ c.in-Some.is in
+          grind (arith, w, c.names.node.id, c.as_str.ensures, on.answers, c.in-Some.is) in
           let goes =
           walk_goes_on w c.names.node c.in-Some.next c.names.chain c.names-names.result.now
           c.names.index c.index-names-index.result c.names-test.true c.index-names-index.is

@@ -11,14 +11,12 @@ use Rattle.room_rows.proofs.path.read_rest.Goals as goal
 
 pub returns-then-not-is_object_name : goal.returns-then-not-is_object_name
 returns-then-not-is_object_name c =
-    let all = pieces 47 c.args.rest.now in
     let name = c.in-Some.name.now in
     let turn = YieldsList-turn
     (YieldsList-from_str_split 47 c.args.rest.now (lit< tt) (cc) (cc) (cc)) c.names.yielded _
     c.names.yielded_by _ _ c.in-Some.name c.in-Some.is c.next.ensures.steps in
     let bad : is_object_name name ≡ false = sym c.if-not-is_object_name.ensures in
-    bad_name all (list_all_at is_object_name all (length c.names.yielded) name turn.0
-    (ap is_object_name (sym turn.1) ∙ bad))
+    grind (arith, bad_name, list_all_at, c.names.yielded, name, turn.0, turn.1, bad)
 
 pub names-preserved : goal.names-preserved
 names-preserved c =
@@ -61,5 +59,4 @@ returns c =
     c.names.yielded_by _ _ c.in-None.is c.next.ensures.steps in
     let cut : c.names.names.items ≡ all = c.names.invariant.first
     ∙ take_all (length c.names.yielded) all (omega (arith, end.1)) in
-    let gives = good_names all (ap (list_all is_object_name) (sym cut) ∙ c.names.invariant.good) in
-    cc (gives, cut)
+    grind (arith, good_names, cut, c.names.invariant.good)

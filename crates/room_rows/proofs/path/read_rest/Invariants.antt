@@ -1,5 +1,4 @@
-use Rattle.std.proofs.Common.{◌≡◌, true, length, take}
-use Rattle.std.specs.List.{list_all}
+use Rattle.std.{proofs.Common.{◌≡◌, true, length, take}, specs.List.list_all}
 use Rattle.room_entry.specs.Pieces.{pieces}
 use Rattle.room_rows.specs.Paths.{is_object_name}
 use Rattle.room_rows.proofs.path.read_rest.Given as goal

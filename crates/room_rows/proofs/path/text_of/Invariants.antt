@@ -1,6 +1,5 @@
 use Rattle.std.proofs.Common.{◌≡◌, ◌++◌, drop, string_bytes}
-use Rattle.room_rows.specs.Paths.{path_text}
-use Rattle.room_rows.proofs.Cutting.{joined}
+use Rattle.room_rows.{specs.Paths.path_text, proofs.Cutting.joined}
 use Rattle.room_rows.proofs.path.text_of.Given as goal
 
 -- the text so far, and then that of what is left

@@ -1,6 +1,5 @@
-use Rattle.std.proofs.Common.{subst, sym, ap, ◌∙◌, not}
-use Rattle.sqlite.specs.{Effect.Database, Held.state}
-use Rattle.store_tables.specs.Within.{LeavesOnly}
+use Rattle.std.proofs.Common.{rules, ap, ◌∙◌, not}
+use Rattle.sqlite.specs.Held.{state}
 use Rattle.room_store.proofs.laws.what_is_committed_lasts.Goals as goal
 
 pub returns : goal.returns
@@ -11,8 +10,5 @@ returns g c =
     let same = c.is_autocommit-settled.ensures.settled
     (c.is_autocommit-settled.ensures.value ∙ ap not c.requires) is_open in (
       (c.schema-schema.ensures.live is_open).0,
-      subst (λ (d : Database). LeavesOnly s d) (sym same) (record {
-        left = g.met.S.Store.stays store is_open;
-        only = λ db left. g.met.S.Store.settled store db is_open left;
-      }),
+      search (rules, same, g.met.S.Store.stays, g.met.S.Store.settled),
     )

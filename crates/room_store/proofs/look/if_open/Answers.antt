@@ -1,10 +1,9 @@
-use Rattle.std.proofs.lemmas.Result.{err_from_is_err_and}
+use Rattle.std.proofs.{Common.arith, lemmas.Result.err_from_is_err_and}
 use Rattle.room_store.proofs.look.if_open.Goals as goal
 
 pub returns-in_err-answer-clause-stands : goal.returns-in_err-answer-clause-stands
 returns-in_err-answer-clause-stands g c =
-    let is = err_from_is_err_and c.from_residual.result c.from_residual.ensures.1 in
-    rw (c.in_err-answer.was, is.1) (λ _. is.2)
+    grind (arith, err_from_is_err_and, c.from_residual.ensures.1, c.in_err-answer.was)
 
 pub returns-in_err-test_open-clause-stands : goal.returns-in_err-test_open-clause-stands
 returns-in_err-test_open-clause-stands g c =

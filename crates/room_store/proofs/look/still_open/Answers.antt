@@ -1,4 +1,4 @@
-use Rattle.std.proofs.Common.{[], ap, ◌∙◌, not}
+use Rattle.std.proofs.Common.{rules, [], ap, ◌∙◌, not}
 use Rattle.sqlite.specs.Held.{state}
 use Rattle.room_store.proofs.{Shutting.{same_rows, was}, Testing.left_by}
 use Rattle.room_store.proofs.look.still_open.Goals as goal
@@ -12,5 +12,5 @@ returns-in-Err-clause-ends g c now =
     (c.is_autocommit-settled.ensures.value ∙ ap not c.requires) in (
       c.in-Err.error,
       c.commit_fault.ensures,
-      record { was_open = was old new left; now = same_rows old new settled left },
+      search (rules, was, old, new, left, same_rows, settled),
     )

@@ -1,8 +1,7 @@
 use Rattle.std.proofs.Common.{rules, ◌≡◌, subst}
 use Rattle.sqlite.specs.Held.{state}
 use Rattle.store_admin.specs.{Carries.{CallsInside, Reading}, Dump.HasDamagedRow}
-use Rattle.room_store.specs.Reviews.{IsReviewBy, IsReviewOf}
-use Rattle.room_store.proofs.Reviewed.{paired}
+use Rattle.room_store.{specs.Reviews.{IsReviewBy, IsReviewOf}, proofs.Reviewed.paired}
 use Rattle.room_store.proofs.reviewing.review_inside.Goals as goal
 
 pub returns-clause-carries : goal.returns-clause-carries

@@ -2,9 +2,8 @@ use Rattle.std.proofs.{Common.{subst, w64, to_z, of_z}, lemmas.Int.to_z-of_z}
 use Rattle.std.specs.Option.{option_copied}
 use Rattle.sqlite.specs.Held.{state}
 use Rattle.room_judge.specs.Closed.{Performs}
-use Rattle.room_store.specs.Ran.{HasDamage}
+use Rattle.room_store.{specs.Ran.HasDamage, proofs.Turning.carried_with}
 use Rattle.store_admin.specs.Carries.{ByRows, CallsInside, OnRows}
-use Rattle.room_store.proofs.Turning.{carried_with}
 use Rattle.room_store.proofs.running.perform_by.Goals as goal
 
 pub returns : goal.returns

@@ -1,10 +1,9 @@
-use Rattle.std.proofs.Common.{◌≡◌, ◌&&◌, ◌∙◌, Some, true, sym, ap}
-use Rattle.std.specs.Prelude.{is_some}
+use Rattle.std.{proofs.Common.{arith, ◌≡◌, ◌&&◌, ◌∙◌, Some, true, sym, ap}, specs.Prelude.is_some}
 use Rattle.room_rows.specs.{Finding.find_id, Held.held_of, Keep.with_inh}
 use Rattle.room_rows.proofs.{InPlace.{place-with_inh, with_held-id}, Lookups.found_number}
 use Rattle.room_rows.proofs.Many.{one_changed}
-use Rattle.room_tree.specs.Memory.{memory_rows}
-use Rattle.room_tree.proofs.{Changed.{stands_held, keeps_rows, changes}, Inheriting.same_put}
+use Rattle.room_tree.{specs.Memory.memory_rows, proofs.Changed.{stands_held, keeps_rows, changes}}
+use Rattle.room_tree.proofs.Inheriting.{same_put}
 use Rattle.room_tree.proofs.memory.inherit.Goals as goal
 
 pub replace-requires : goal.replace-requires
@@ -25,16 +24,12 @@ returns c =
     record {
       rows =
           λ bodies members audits are. keeps_rows old new bodies members audits c.args.id node
-          c.in_ok-inh_changed.field-0 found
-          (ap (λ n. n.id) is ∙ with_held-id c.args.which
-          (record (held_of c.args.which node) { inh = c.args.entries.now }) node)
+          c.in_ok-inh_changed.field-0 found (grind (arith, is, with_held-id, node))
           c.replace.ensures are;
       same =
           λ at. ap (λ l. is_some (find_id at l)) c.replace.ensures
           ∙ same_put old c.in_ok-inh_changed.field-0 node c.args.id found
-          (ap (λ n. n.id) is ∙ with_held-id c.args.which
-          (record (held_of c.args.which node) { inh = c.args.entries.now }) node
-          ∙ found_number c.args.id old node found) at;
+          (grind (arith, is, with_held-id, node, found_number, old, found)) at;
       found = sym (ap (λ o. is_some o && true) found);
       changed =
           λ _ bodies members audits are. one_changed change

@@ -1,6 +1,5 @@
 use Rattle.std.proofs.{Common.{◌∷◌, [], Bool, true, Ok, get_or, sym, subst}, lemmas.List.take_more}
-use Rattle.room_tree.specs.Memory.{Inherits}
-use Rattle.room_tree.proofs.Inheriting.{inherits_more, inherits_none}
+use Rattle.room_tree.{specs.Memory.Inherits, proofs.Inheriting.{inherits_more, inherits_none}}
 use Rattle.room_tree.proofs.memory.inherit_all.Goals as goal
 
 pub ids-init : goal.ids-init

@@ -17,7 +17,7 @@ returns-clause-carries g c =
       becomes =
           λ trust. seen ∙ tells_members (old.now.trees 3) rows (pairs_apart old.now trust.now)
           (asks.rows trust.clean trust.now);
-      blames = λ trust id is. absurd (let e = is in cc);
+      blames = λ trust id is. absurd is;
     }
 
 pub returns-in-Err-clause-fails : goal.returns-in-Err-clause-fails
@@ -25,7 +25,7 @@ returns-in-Err-clause-fails g c =
     let old = state g.S.Store c.args.tx.now.conn.now in
     let new = state g.S.Store c.select_members.new.tx.conn.now in
     λ trust is. fails_inside old new c.in-Err.error c.fault_for.result c.fault_for.ensures.fault
-    c.in-Err.ensures.fails trust (let e = is in cc)
+    c.in-Err.ensures.fails trust (cc)
 
 -- a query changes nothing
 pub returns-clause-same : goal.returns-clause-same

@@ -1,6 +1,5 @@
-use Rattle.std.proofs.Common.{subst, sym, []}
+use Rattle.std.proofs.Common.{[], arith}
 use Rattle.sqlite.specs.Held.{state}
-use Rattle.store_tables.specs.{Shown.Stays, Trust.stays_itself}
 use Rattle.store_tables.proofs.Asked.{writes}
 use Rattle.store_admin.proofs.Exchanging.{empty_room, empty_text, emptied}
 use Rattle.store_admin.proofs.operating.delete_members.Goals as goal
@@ -14,6 +13,5 @@ returns-clause-writes g c =
     (λ count room h. (emptied old new count room h).puts)
     (λ off. (
       (c.execute.ensures.ended off).0,
-      subst (λ h. Stays old (state g.S.Store h)) (sym (c.execute.ensures.ended off).1)
-          (stays_itself old),
+      grind (arith, c.execute.ensures.ended),
     )) c.execute.ensures.runs

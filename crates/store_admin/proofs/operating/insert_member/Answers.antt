@@ -1,7 +1,6 @@
-use Rattle.std.proofs.Common.{subst, sym, ◌∷◌, []}
+use Rattle.std.proofs.Common.{subst, sym, ◌∷◌, [], arith}
 use Rattle.sqlite.specs.{declared.types.Value.TheVariants.Text, Held.state}
-use Rattle.store_tables.specs.{Shown.Stays, Trust.stays_itself}
-use Rattle.store_tables.proofs.Asked.{writes}
+use Rattle.store_tables.{specs.{Shown.Stays, Trust.stays_itself}, proofs.Asked.writes}
 use Rattle.store_admin.proofs.Exchanging.{join_room, join_text, joined}
 use Rattle.store_admin.proofs.operating.insert_member.Goals as goal
 
@@ -15,8 +14,7 @@ returns-clause-writes g c =
     let given-2 = c.params-to_sql-2.ensures in
     writes join_text (Text group ∷ Text user ∷ []) old new c.execute.result _ _
     c.execute.ensures.survives (λ inside. join_room group user old new inside)
-    (λ count room h. let d = joined group user old new count room.schema h in
-    record { id = _; fresh = d.fresh; puts = d.exchanged.puts })
+    (grind (arith, joined, group, user))
     (λ off. (
       (c.execute.ensures.ended off).0,
       subst (λ h. Stays old (state g.S.Store h)) (sym (c.execute.ensures.ended off).1)

@@ -2,8 +2,7 @@ use Rattle.std.proofs.Common.{◌≡◌, ◌≤◌, ◌+◌, ◌++◌, List, [],
 use Rattle.std.proofs.Common.{map, rules, subst, IsPermutation, get_or, is_lt, arith}
 use Rattle.std.proofs.{Math.ListN.drop_of_length-le, lemmas.Fn.always_returns_same}
 use Rattle.std.proofs.lemmas.List.{append-nil, get_or-map, length-map, Sorted.IsPermutation-map}
-use Rattle.std.proofs.lemmas.List.Sorted.{ranks_by}
-use Rattle.std.specs.List.Sorted.{IsSortedBy}
+use Rattle.std.{proofs.lemmas.List.Sorted.ranks_by, specs.List.Sorted.IsSortedBy}
 use Rattle.store_tables.specs.Paired.{Pair, pair_cmp, total}
 use Rattle.store_admin.proofs.putting.in_order.Goals as goal
 
@@ -37,5 +36,4 @@ returns-clause-sorted c =
     sorted_now (λ x y. is_lt (pair_cmp x y)) c.sort_unstable_by.new.self.items
     (c.sort_unstable_by.ensures.sorted (λ x y. is_lt (pair_cmp x.now y.now))
     (ranks_by total (λ (p : Bor Pair). p.now))
-    (always_returns_same _ (λ a r. is_lt r ≡ is_lt (pair_cmp a.0.now.now a.1.0.now.now)) _
-    (λ a r q k. search rules)))
+    (grind (arith, always_returns_same)))

@@ -1,4 +1,4 @@
-use Rattle.std.proofs.Common.{◌≡◌, refl, sym, ap, subst, ◌∙◌, take, map, is_some, true}
+use Rattle.std.proofs.Common.{◌≡◌, refl, sym, ap, subst, ◌∙◌, take, map, is_some, true, rules}
 use Rattle.sqlite.specs.Held.{state}
 use Rattle.room_rows.specs.Content.{set_of}
 use Rattle.store_tables.specs.{Meaning.pairs_of, Trust.stays_itself}
@@ -13,13 +13,12 @@ returns-then-is_again-clause-carries g c = record {
     nodes = refl;
     bodies = refl;
     members =
-        held
-        ∙ again c.args.order.now c.args.index c.requires (c.is_again.ensures.0 c.if-is_again.true);
+        search (rules, again, c.requires, c.is_again.ensures.0, c.if-is_again.true);
     meta = refl;
     audits = refl;
     only = λ all. all;
   };
-  blames = λ trust id is. absurd (let e = is in cc);
+  blames = λ trust id is. absurd is;
 }
 
 pub returns-in-Ok-clause-carries : goal.returns-in-Ok-clause-carries
@@ -47,7 +46,7 @@ returns-in-Ok-clause-carries g c =
                 ((state g.S.Store c.args.tx.now.conn.now).now.trees 3)
                 (ap is_some (read_pair join.id p.now.0 p.now.1 names.group names.user)) all);
           };
-      blames = λ trust id is. absurd (let e = is in cc);
+      blames = λ trust id is. absurd is;
     }
 
 pub returns-in-Ok-clause-again : goal.returns-in-Ok-clause-again

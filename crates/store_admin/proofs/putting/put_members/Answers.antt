@@ -1,5 +1,4 @@
-use Rattle.std.proofs.Common.{map, subst, sym, IsPermutation}
-use Rattle.sqlite.specs.Held.{state}
+use Rattle.std.proofs.Common.{map, subst, sym, IsPermutation, rules}
 use Rattle.store_admin.proofs.Following.{exchanged}
 use Rattle.store_admin.proofs.putting.put_members.Goals as goal
 
@@ -8,7 +7,4 @@ returns-clause-carries g c =
     let pairs = c.args.pairs.now in
     let moved = subst (λ l. IsPermutation pairs (map (λ p. p.now) l))
     (sym c.as_slice.ensures.value) c.in_ok-order.ensures.same in
-    exchanged pairs _ (state g.S.Store c.args.tx.now.conn.now)
-    (state g.S.Store c.delete_members.new.tx.conn.now)
-    (state g.S.Store c.insert_each.new.tx.conn.now) _ c.insert_each.result moved
-    c.in-Ok.ensures.writes c.insert_each.ensures.carries
+    search (rules, exchanged, c.in-Ok.ensures.writes, c.insert_each.ensures.carries)

@@ -13,7 +13,7 @@ returns-in-Some-clause-carries g c =
           tells_records old.now c.in-Ok.rows.items c.as_slice.result.now c.as_slice.ensures.value
           (asks.rows trust.clean trust.now) c.in_ok-records.field-0 c.in-Some.records c.in-Some.is
           c.in_ok-records.ensures;
-      blames = λ trust id is. absurd (let e = is in cc);
+      blames = λ trust id is. absurd is;
     }
 
 pub returns-clause-carries : goal.returns-clause-carries
@@ -34,4 +34,4 @@ returns-in-Err-clause-fails g c =
     let old = state g.S.Store c.args.tx.now.conn.now in
     let new = state g.S.Store c.select_records.new.tx.conn.now in
     λ trust is. fails_inside old new c.in-Err.error c.fault_for.result c.fault_for.ensures.fault
-    c.in-Err.ensures.fails trust (let e = is in cc)
+    c.in-Err.ensures.fails trust (cc)

@@ -1,5 +1,5 @@
-use Rattle.std.proofs.Common.{◌≡◌, ◌<◌, ◌^◌, ℕ, ℤ, pos, negsuc, None, refl, sym, subst, ◌∙◌, arith}
-use Rattle.std.proofs.{Common.{w64, nat_eq}, lemmas.{Bool.{cond-false, ne_eqb}, Int.to_z-of_z}}
+use Rattle.std.proofs.Common.{◌≡◌, ◌<◌, ◌^◌, ℕ, ℤ, pos, negsuc, None, refl, sym, ◌∙◌, arith}
+use Rattle.std.proofs.{lemmas.{Bool.{cond-false, ne_eqb}, Int.to_z-of_z}}
 use Rattle.std.specs.Int.{FitsUnsignedBits}
 use Rattle.sqlite.specs.declared.types.Value.TheVariants.{Int}
 use Rattle.room_entry.specs.{Bits.{bits_of, number_of}, BitLaws.{known_le, number_of-known}}
@@ -14,10 +14,8 @@ low n known =
 over : (z : ℤ) → (FitsUnsignedBits 32 z → ⊥) → None ≡ mask_in (Int z)
 over (negsuc n) high = refl
 over (pos n) high =
-    sym (cond-false (nat_eq (number_of (bits_of n)) n) _ _
-    (ne_eqb (number_of (bits_of n)) n (λ e. high (low n e))))
+    grind (arith, cond-false, ne_eqb, low, high)
 
 pub returns-in-Err : goal.returns-in-Err
 returns-in-Err c =
-    over c.args.number (subst (λ z. FitsUnsignedBits 32 z → ⊥)
-    (to_z-of_z w64 c.args.number c.ranges.number) c.in-Err.ensures)
+    grind (arith, over, to_z-of_z, c.ranges.number, c.in-Err.ensures)

@@ -1,4 +1,4 @@
-use Rattle.std.proofs.Common.{[]}
+use Rattle.std.proofs.Common.{[], arith}
 use Rattle.sqlite.specs.Held.{state}
 use Rattle.store_tables.proofs.{Asked.asks, Bare.reads_by}
 use Rattle.store_admin.proofs.{Answered.answered, Recorded.{bare_records, fails_records}}
@@ -20,5 +20,4 @@ returns-clause-opens g c =
 
 pub returns-clause-fails : goal.returns-clause-fails
 returns-clause-fails g c =
-    fails_records (state g.S.Store c.args.tx.now.conn.now)
-    (state g.S.Store c.query_all.new.self.conn.now) c.query_all.result c.query_all.ensures.err
+    grind (arith, fails_records, c.query_all.ensures.err)

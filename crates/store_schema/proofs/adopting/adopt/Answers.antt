@@ -1,7 +1,6 @@
 use Rattle.std.proofs.Common.{◌≡◌, refl, rules, subst}
 use Rattle.sqlite.specs.Held.{state}
-use Rattle.store_schema.specs.Opening.{FailsByDisk}
-use Rattle.store_schema.proofs.Ended.{fails_back}
+use Rattle.store_schema.{specs.Opening.FailsByDisk, proofs.Ended.fails_back}
 use Rattle.store_schema.proofs.adopting.adopt.Goals as goal
 
 pub returns-clause-fails : goal.returns-clause-fails

@@ -1,6 +1,5 @@
-use Rattle.std.proofs.Common.{◌∷◌, [], subst, sym}
+use Rattle.std.proofs.Common.{arith, ◌∷◌, []}
 use Rattle.sqlite.specs.{declared.types.Value.TheVariants.Text, Held.state}
-use Rattle.store_tables.specs.Within.{IsWithin, within_itself}
 use Rattle.store_schema.proofs.{FirstRows.makes_root, Meant.owner_line, Texts.folder_text}
 use Rattle.store_schema.proofs.Within.{makes_by}
 use Rattle.store_schema.proofs.first_rows.insert_folder.Goals as goal
@@ -21,8 +20,7 @@ returns-clause-makes g c =
     (Text owners.owner ∷ Text owners.group ∷ Text owner_line ∷ []) c.execute.result _ _ _
     (λ off. (
       (c.execute.ensures.ended off).0,
-      subst (λ h. IsWithin old (state g.S.Store h)) (sym (c.execute.ensures.ended off).1)
-          (within_itself old),
+      grind (arith, old, g.S.Store, c.execute.ensures.ended),
     )) runs
     (makes_root owners c.is_known.ensures c.is_known-2.ensures
     (c.names_are_text.ensures owners.owner c.is_known.ensures)

@@ -2,8 +2,7 @@ use Rattle.std.proofs.Common.{Ok, IfOk, subst}
 use Rattle.sqlite.specs.Held.{state}
 use Rattle.room_rows.specs.declared.keep.KeepFault.{KeepFault}
 use Rattle.store_tables.specs.{Meaning.rows_of, Trust.IsTrusted}
-use Rattle.store_schema.specs.Migrating.{IsMigrated}
-use Rattle.store_schema.proofs.Moving.{all_done}
+use Rattle.store_schema.{specs.Migrating.IsMigrated, proofs.Moving.all_done}
 use Rattle.store_schema.proofs.migrating.migrate_inside.Goals as goal
 
 pub returns-in-Ok-expect_version-clause-inside : goal.returns-in-Ok-expect_version-clause-inside

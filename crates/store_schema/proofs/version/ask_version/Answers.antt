@@ -1,4 +1,4 @@
-use Rattle.std.proofs.Common.{ap, ◌∙◌}
+use Rattle.std.proofs.Common.{rules, ap, ◌∙◌}
 use Rattle.store_schema.specs.NewRoom.{number_shown}
 use Rattle.sqlite.specs.Held.{state}
 use Rattle.store_schema.proofs.{Asked.{asks_err, asks_ok}, Unread.asks_fails}
@@ -19,6 +19,4 @@ returns-in-Err-clause-asks g c =
 
 pub returns-in-Err-clause-fails : goal.returns-in-Err-clause-fails
 returns-in-Err-clause-fails g c =
-    asks_fails (state g.S.Store c.args.tx.now.conn.now)
-    (state g.S.Store c.query_all.new.self.conn.now) c.in-Err.error c.open_fault.result
-    c.open_fault.ensures.fault c.in-Err.ensures.err
+    search (rules, asks_fails, c.open_fault.ensures.fault, c.in-Err.ensures.err)

@@ -1,4 +1,4 @@
-use Rattle.std.proofs.Common.{subst, ◌∙◌, arith}
+use Rattle.std.proofs.Common.{rules, subst, ◌∙◌, arith}
 use Rattle.sqlite.specs.Held.{state}
 use Rattle.store_tables.specs.{Statements.ExecutesSql, Trust.{stays_on, trusted_first}}
 use Rattle.store_tables.specs.Trust.{trusted_last}
@@ -24,6 +24,5 @@ returns-clause-puts g c =
           let two = trusted_last old mid new first.stays second.stays trust in
           let gone = of_one c.delete_bytes.result _ _ took.answer
           (first.leaves one.clean one.now) in
-          filled_rows old.now new.now c.args.id c.args.bytes.now trust.now gone.0
-          (replaced gone.1 (second.leaves two.clean two.now));
+          search (rules, filled_rows, gone.0, replaced, gone.1, second.leaves, two.clean);
     }

@@ -1,5 +1,5 @@
-use Rattle.std.proofs.Common.{subst, sym}
-use Rattle.store_tables.specs.Printed.{IsCanonical, IsPrinted}
+use Rattle.std.proofs.Common.{arith, subst, sym}
+use Rattle.store_tables.specs.Printed.{IsCanonical}
 use Rattle.store_tables.proofs.inherited.put_inh.Goals as goal
 
 pub put_text-done-requires : goal.put_text-done-requires
@@ -8,5 +8,4 @@ put_text-done-requires g c =
 
 pub returns-clause-puts : goal.returns-clause-puts
 returns-clause-puts g c =
-    c.in_ok-done.ensures.puts c.args.entries.now
-    (subst (IsPrinted c.args.entries.now) (sym c.as_str.ensures.value) c.in_ok-text.ensures)
+    grind (arith, c.in_ok-done.ensures.puts, c.as_str.ensures.value, c.in_ok-text.ensures)

@@ -1,9 +1,7 @@
-use Rattle.std.proofs.Common.{sym, subst, List, ℕ}
-use Rattle.std.specs.List.Sorted.{IsPermutation}
+use Rattle.std.proofs.Common.{arith, sym, subst}
 use Rattle.sqlite.specs.Held.{state}
 use Rattle.room_rows.specs.Keep.{with_inh}
-use Rattle.store_tables.specs.Printed.{IsCanonical, IsPrinted}
-use Rattle.store_tables.proofs.Putting.{puts_any_order}
+use Rattle.store_tables.{specs.Printed.{IsCanonical, IsPrinted}, proofs.Putting.puts_any_order}
 use Rattle.store_tables.proofs.inherited.put_inh_all.Goals as goal
 
 pub put_runs-done-requires : goal.put_runs-done-requires
@@ -15,7 +13,6 @@ returns-clause-puts g c =
     puts_any_order (with_inh c.args.which c.args.entries.now) c.args.ids.now c.as_slice.result.now
     (state g.S.Store c.args.keeper.now.tx.now.conn.now)
     (state g.S.Store c.put_runs-done.new.keeper.tx.now.conn.now) _ _ _
-    (subst (λ (l : List ℕ). IsPermutation c.args.ids.now l) (sym c.as_slice.ensures.value)
-    c.in_ok-order.ensures)
+    (grind (arith, c.as_slice.ensures.value, c.in_ok-order.ensures))
     (c.in_ok-done.ensures.puts c.args.entries.now
     (subst (IsPrinted c.args.entries.now) (sym c.as_str.ensures.value) c.in_ok-text.ensures))

@@ -1,7 +1,5 @@
-use Rattle.std.proofs.Common.{◌≡◌, ◌+◌, ◌++◌, ◌∷◌, [], ℕ, refl, sym, ap, ◌∙◌}
+use Rattle.std.proofs.Common.{rules, ◌≡◌, ◌+◌, ◌++◌, ◌∷◌, [], ℕ, refl, sym, ap, ◌∙◌}
 use Rattle.std.specs.List.{range_with_len}
-use Rattle.sqlite.specs.Held.{state}
-use Rattle.room_rows.specs.Keep.{with_inh}
 use Rattle.store_tables.proofs.Putting.{puts_none, run_grows}
 use Rattle.store_tables.proofs.inherited.put_next.Goals as goal
 
@@ -12,8 +10,7 @@ returns-then-is_next-clause-puts g c =
     let is : c.args.id ≡ first + count = (c.is_next.ensures c.if-is_next.true).0 in (
       [],
       sym (run_grows first count) ∙ ap (λ (n : ℕ). range_with_len first count ++ n ∷ []) (sym is),
-      λ entries printed. puts_none (state g.S.Store c.args.keeper.now.tx.now.conn.now)
-          c.args.keeper.now.failures (with_inh c.args.which entries),
+      search (rules, puts_none),
     )
 
 pub returns-clause-puts : goal.returns-clause-puts

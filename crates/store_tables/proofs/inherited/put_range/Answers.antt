@@ -1,9 +1,8 @@
-use Rattle.std.proofs.Common.{◌≡◌, ◌+◌, ◌-◌, subst, pos, arith}
-use Rattle.std.specs.List.{range_with_len}
+use Rattle.std.{proofs.Common.{◌≡◌, ◌+◌, ◌-◌, subst, arith}, specs.List.range_with_len}
 use Rattle.sqlite.specs.Held.{state}
 use Rattle.room_rows.specs.Keep.{with_inh}
-use Rattle.store_tables.specs.{Shown.{RecastsAll, sets_inh}, Trust.AltersAll}
-use Rattle.store_tables.proofs.{AlteredAll.inherited_range, Changed.if_all, Tests.if_ok}
+use Rattle.store_tables.{specs.Trust.AltersAll, proofs.{AlteredAll.inherited_range, Changed.if_all}}
+use Rattle.store_tables.proofs.Tests.{if_ok}
 use Rattle.store_tables.proofs.inherited.put_range.Goals as goal
 
 pub returns-clause-puts : goal.returns-clause-puts
@@ -28,7 +27,6 @@ returns-clause-puts g c = λ entries printed.
           (λ n. AltersAll (range_with_len first n) (with_inh c.args.which entries) old.now new.now)
           whole
           (inherited_range old.now new.now trust.now c.args.which text entries printed.1 first more
-          put.0 (subst (λ n. RecastsAll (sets_inh c.args.which text) (pos first) (pos n)
-          old.now.trees new.now.trees) last put.1)))
+          put.0 (grind (arith, text, first, last, old.now.trees, new.now.trees, put.1))))
           (c.update_range-done.ensures.writes.leaves trust.clean trust.now));
     }

@@ -1,8 +1,6 @@
-use Rattle.std.proofs.Common.{◌≡◌, ℕ, Ok, sym, subst}
-use Rattle.std.specs.List.{range_with_len}
+use Rattle.std.{proofs.Common.{rules, ◌≡◌, ℕ, Ok, sym, subst}, specs.List.range_with_len}
 use Rattle.sqlite.specs.Held.{state}
-use Rattle.room_rows.specs.Keep.{with_inh}
-use Rattle.room_rows.proofs.InPlace.{place-with_inh}
+use Rattle.room_rows.{specs.Keep.with_inh, proofs.InPlace.place-with_inh}
 use Rattle.store_tables.proofs.Putting.{PutsAll, puts_none, puts_one}
 use Rattle.store_tables.proofs.inherited.put_run.Goals as goal
 
@@ -26,6 +24,4 @@ returns-then-count-eq1-clause-puts g c = λ entries printed.
     let one : c.args.count ≡ 1 = c.if-count-eq1.true in
     subst
     (λ (n : ℕ). PutsAll old new before after c.put_text.result (range_with_len c.args.first n)
-    change) (sym one)
-    (puts_one change (place-with_inh c.args.which entries) c.args.first old new before after
-    c.put_text.result (c.put_text.ensures.puts entries printed))
+    change) (sym one) (search (rules, puts_one, place-with_inh, old, new, c.put_text.ensures.puts))

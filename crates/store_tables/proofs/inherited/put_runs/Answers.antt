@@ -1,5 +1,5 @@
-use Rattle.std.proofs.Common.{◌≡◌, ◌++◌, ◌∷◌, [], ℕ, List, Ok, get_or, refl, sym, subst, ap, ◌∙◌}
-use Rattle.std.proofs.lemmas.List.{append_assoc, take_all, take_more}
+use Rattle.std.proofs.Common.{rules, ◌≡◌, ◌++◌, ◌∷◌, [], ℕ, List, Ok, get_or, refl, sym, subst, ap}
+use Rattle.std.proofs.{Common.◌∙◌, lemmas.List.{append_assoc, take_all, take_more}}
 use Rattle.std.specs.List.{range_with_len}
 use Rattle.sqlite.specs.Held.{state}
 use Rattle.room_rows.specs.Keep.{with_inh}
@@ -14,9 +14,7 @@ ids-init g c = record {
   unwritten = refl;
   written = [];
   whole = refl;
-  puts =
-      λ entries printed. puts_none (state g.S.Store c.args.keeper.now.tx.now.conn.now)
-      c.args.keeper.now.failures (with_inh c.args.which entries);
+  puts = search (rules, puts_none);
 }
 
 pub ids-preserved : goal.ids-preserved
@@ -33,8 +31,7 @@ ids-preserved g c =
           append_assoc before.written next.0
           (range_with_len c.put_next.new.first c.put_next.new.count)
           ∙ ap (λ (l : List ℕ). before.written ++ l) next.1
-          ∙ sym (append_assoc before.written (range_with_len c.ids.first c.ids.count)
-          (get_or c.args.ids.now c.ids.id-index 0 ∷ []))
+          ∙ sym (search (rules, append_assoc))
           ∙ ap (λ (l : List ℕ). l ++ get_or c.args.ids.now c.ids.id-index 0 ∷ []) before.whole
           ∙ sym (take_more c.args.ids.now c.ids.id-index 0 c.ids-test.true);
       puts =

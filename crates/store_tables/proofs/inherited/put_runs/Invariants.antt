@@ -1,10 +1,8 @@
-use Rattle.std.proofs.Common.{◌≡◌, ◌++◌, List, ℕ, Ok, take}
-use Rattle.std.specs.List.{range_with_len}
+use Rattle.std.{proofs.Common.{◌≡◌, ◌++◌, List, ℕ, Ok, take}, specs.List.range_with_len}
 use Rattle.sqlite.specs.Held.{state}
 use Rattle.room_entry.specs.Ace.{Ace}
 use Rattle.room_rows.specs.Keep.{with_inh}
-use Rattle.store_tables.specs.Printed.{IsPrinted}
-use Rattle.store_tables.proofs.Putting.{PutsAll}
+use Rattle.store_tables.{specs.Printed.IsPrinted, proofs.Putting.PutsAll}
 use Rattle.store_tables.proofs.inherited.put_runs.Given as goal
 
 -- those that came are written, but the last ones, which follow one another

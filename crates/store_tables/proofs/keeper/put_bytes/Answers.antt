@@ -1,6 +1,6 @@
-use Rattle.std.proofs.Common.{sym, subst, ◌∙◌, pos}
+use Rattle.std.proofs.Common.{subst, arith}
 use Rattle.sqlite.specs.Held.{state}
-use Rattle.store_tables.specs.{Shown.GetsBytes, Statements.ExecutesSql}
+use Rattle.store_tables.specs.Statements.{ExecutesSql}
 use Rattle.store_tables.proofs.keeper.put_bytes.Goals as goal
 
 pub returns-clause-puts : goal.returns-clause-puts
@@ -14,8 +14,5 @@ returns-clause-puts g c =
       no_less = came.no_less;
       unfailed = came.unfailed;
       fault = tt;
-      becomes = λ trust.
-          subst (λ b. GetsBytes b (pos c.args.id) c.args.bytes.now old.now new.now)
-          (sym c.if-not-is_document.false ∙ c.is_document.ensures)
-          (writes.leaves trust.clean trust.now);
+      becomes = grind (arith, c.if-not-is_document.false, c.is_document.ensures, writes.leaves);
     }

@@ -1,7 +1,6 @@
 use Rattle.std.specs.Prelude.{string_bytes}
 use Rattle.sqlite.specs.Held.{state}
-use Rattle.store_tables.specs.RoomRows.{number_in-low}
-use Rattle.store_tables.proofs.{Changed.of_one, Altered.held_rows}
+use Rattle.store_tables.{specs.RoomRows.number_in-low, proofs.{Changed.of_one, Altered.held_rows}}
 use Rattle.store_tables.proofs.keeper.put_held.Goals as goal
 
 pub returns-clause-puts : goal.returns-clause-puts

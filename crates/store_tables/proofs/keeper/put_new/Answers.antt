@@ -1,10 +1,8 @@
-use Rattle.std.proofs.{Math.Facts.to_z-of_z, Common.{◌≡◌, rules, w64, Some, pos, ap, sym, subst}}
-use Rattle.std.proofs.Common.{◌∙◌}
-use Rattle.std.specs.Prelude.{FitsSigned}
+use Rattle.std.proofs.Common.{arith, ◌≡◌, rules, w64, Some, pos, ap, sym, subst, ◌∙◌}
+use Rattle.std.{proofs.Math.Facts.to_z-of_z, specs.Prelude.FitsSigned}
 use Rattle.sqlite.specs.{Held.state, declared.types.Value.TheVariants.Int}
 use Rattle.store_tables.specs.{Columns.{ReadsAsNode, values_of}, Filed.number_is, Meaning.number_in}
-use Rattle.store_tables.specs.{Shown.AddsRow, Statements.ExecutesSql}
-use Rattle.store_tables.proofs.Adding.{same_int}
+use Rattle.store_tables.{specs.{Shown.AddsRow, Statements.ExecutesSql}, proofs.Adding.same_int}
 use Rattle.store_tables.proofs.keeper.put_new.Goals as goal
 
 pub returns-in-Some-number_of-clause-puts : goal.returns-in-Some-number_of-clause-puts
@@ -41,5 +39,4 @@ returns-in-Some-number_of-clause-puts g c =
 
 pub insert_node-done-requires : goal.insert_node-done-requires
 insert_node-done-requires g c =
-    let stores : ReadsAsNode c.args.node.now c.in-Some.columns =
-    rw c.in-Some.is at c.in_ok-columns.ensures in (c.args.node.now, stores)
+    grind (arith, c.in-Some.columns, c.in-Some.is, c.in_ok-columns.ensures)

@@ -1,4 +1,4 @@
-use Rattle.std.proofs.Common.{◌≡◌, Some, sym, subst}
+use Rattle.std.proofs.Common.{◌≡◌, Some}
 use Rattle.sqlite.specs.{declared.types.Value.TheVariants.Text, Held.state}
 use Rattle.store_tables.specs.{Meaning.name_in, RoomRows.number_in-low}
 use Rattle.store_tables.proofs.{Changed.of_one, Altered.owned_rows}
@@ -10,12 +10,8 @@ returns-clause-puts g c =
     let new = state g.S.Store c.update_owners-done.new.tx.conn.now in
     let owner = c.as_str.result.now in
     let group = c.as_str-2.result.now in
-    let owned : name_in (Text owner) ≡ Some c.args.owners.now.owner = subst
-    (λ t. name_in (Text t) ≡ Some c.args.owners.now.owner)
-    (sym c.as_str.ensures) c.name_is_kept.ensures in
-    let grouped : name_in (Text group) ≡ Some c.args.owners.now.group = subst
-    (λ t. name_in (Text t) ≡ Some c.args.owners.now.group)
-    (sym c.as_str-2.ensures) c.name_is_kept-2.ensures in
+    let owned : name_in (Text owner) ≡ Some c.args.owners.now.owner = cc in
+    let grouped : name_in (Text group) ≡ Some c.args.owners.now.group = cc in
     record {
       stays = c.update_owners-done.ensures.writes.stays;
       no_less = c.in_ok-wrote_one.ensures.no_less;

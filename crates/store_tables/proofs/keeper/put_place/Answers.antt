@@ -1,8 +1,7 @@
-use Rattle.std.proofs.Common.{◌<◌, Some, ap, pos}
-use Rattle.std.specs.Prelude.{option_map}
+use Rattle.std.{proofs.Common.{◌<◌, Some, ap, pos}, specs.Prelude.option_map}
 use Rattle.sqlite.specs.Held.{state}
-use Rattle.store_tables.specs.RoomRows.{number_in-low}
-use Rattle.store_tables.proofs.{Changed.of_one, Altered.placed_rows, Tests.if_ok}
+use Rattle.store_tables.{specs.RoomRows.number_in-low, proofs.{Changed.of_one, Altered.placed_rows}}
+use Rattle.store_tables.proofs.Tests.{if_ok}
 use Rattle.store_tables.proofs.keeper.put_place.Goals as goal
 
 pub returns-clause-puts : goal.returns-clause-puts

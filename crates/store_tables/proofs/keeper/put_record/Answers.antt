@@ -1,7 +1,6 @@
-use Rattle.std.proofs.Common.{subst}
+use Rattle.std.proofs.Common.{arith, subst, rules}
 use Rattle.sqlite.specs.Held.{state}
-use Rattle.store_tables.specs.{Columns.Recalls, Statements.ExecutesSql}
-use Rattle.store_tables.proofs.Noting.{noted_rows}
+use Rattle.store_tables.{specs.{Columns.Recalls, Statements.ExecutesSql}, proofs.Noting.noted_rows}
 use Rattle.store_tables.proofs.keeper.put_record.Goals as goal
 
 pub returns-clause-puts : goal.returns-clause-puts
@@ -19,11 +18,9 @@ returns-clause-puts g c =
       unfailed = came.unfailed;
       fault = tt;
       becomes =
-          λ trust. noted_rows old.now new.now row record' recalls
-          (writes.leaves trust.clean trust.now);
+          λ trust. search (rules, noted_rows, row, record', recalls, writes.leaves, trust.clean);
     }
 
 pub insert_record-done-requires : goal.insert_record-done-requires
 insert_record-done-requires g c =
-    let recalls : Recalls c.args.row.now c.in-Some.record =
-    rw c.in-Some.is at c.in_ok-record.ensures in (c.args.row.now, recalls)
+    grind (arith, c.in-Some.record, c.in-Some.is, c.in_ok-record.ensures)

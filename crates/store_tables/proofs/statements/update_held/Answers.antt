@@ -1,5 +1,4 @@
-use Rattle.std.proofs.Common.{◌∷◌, [], refl, pos}
-use Rattle.std.specs.Prelude.{string_bytes}
+use Rattle.std.{proofs.Common.{rules, ◌∷◌, [], refl, pos}, specs.Prelude.string_bytes}
 use Rattle.sqlite.specs.{declared.types.Value.TheVariants.{Int, Text}, Held.state}
 use Rattle.room_entry.specs.declared.object.Which.TheVariants.{Dacl, Sacl}
 use Rattle.store_tables.specs.{Shown.{Recasts, sets_held}, Statements.{ExecutesSql, OfRow}}
@@ -28,13 +27,8 @@ returns-in-Dacl-clause-writes g c =
     writes dacl_text (Int (pos c.args.id) ∷ cell) old new c.execute.result _ _
     c.execute.ensures.survives
     (recast_room dacl_text dacl_terms dacl_is plain_dacl (pos c.args.id) cell change (λ r. refl)
-    (holding_printed Dacl c.args.list.now.flags (string_bytes c.args.list.now.own)
-    (string_bytes c.args.list.now.inh) (_, c.requires.1.own) (_, c.requires.1.inh)) old new)
-    (λ count room h one. (
-      c.in_ok-row.ensures.2,
-      recast_one dacl_text dacl_terms dacl_is plain_dacl (pos c.args.id) cell change
-          (λ r. refl) old new count room h one,
-    ))
+    (search (rules, holding_printed, c.requires.1.own, c.requires.1.inh)) old new)
+    (search (rules, c.in_ok-row.ensures.2, recast_one, dacl_is, plain_dacl, old, new))
     (ended (state g.S.Store) _ _ _ _ _ c.execute.ensures.ended) runs in
     rw c.in-Dacl.is done
 
@@ -57,12 +51,7 @@ returns-in-Sacl-clause-writes g c =
     writes sacl_text (Int (pos c.args.id) ∷ cell) old new c.execute-in-Sacl.result _ _
     c.execute-in-Sacl.ensures.survives
     (recast_room sacl_text sacl_terms sacl_is plain_sacl (pos c.args.id) cell change (λ r. refl)
-    (holding_printed Sacl c.args.list.now.flags (string_bytes c.args.list.now.own)
-    (string_bytes c.args.list.now.inh) (_, c.requires.1.own) (_, c.requires.1.inh)) old new)
-    (λ count room h one. (
-      c.in_ok-row.ensures.2,
-      recast_one sacl_text sacl_terms sacl_is plain_sacl (pos c.args.id) cell change
-          (λ r. refl) old new count room h one,
-    ))
+    (search (rules, holding_printed, c.requires.1.own, c.requires.1.inh)) old new)
+    (search (rules, c.in_ok-row.ensures.2, recast_one, sacl_is, plain_sacl, old, new))
     (ended (state g.S.Store) _ _ _ _ _ c.execute-in-Sacl.ensures.ended) runs in
     rw c.in-Sacl.is done

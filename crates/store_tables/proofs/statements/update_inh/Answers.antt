@@ -1,4 +1,4 @@
-use Rattle.std.proofs.Common.{◌∷◌, [], refl, pos}
+use Rattle.std.proofs.Common.{rules, ◌∷◌, [], refl, pos}
 use Rattle.sqlite.specs.{declared.types.Value.TheVariants.{Int, Text}, Held.state}
 use Rattle.room_entry.specs.declared.object.Which.TheVariants.{Dacl, Sacl}
 use Rattle.store_tables.specs.{Shown.{Recasts, sets_inh}, Statements.{ExecutesSql, OfRow}}
@@ -20,11 +20,7 @@ returns-in-Dacl-clause-writes g c =
     (Int (pos c.args.id) ∷ cell) old new c.execute.result _ _ c.execute.ensures.survives
     (recast_room dacl_inh_text dacl_inh_terms dacl_inh_is plain_dacl_inh (pos c.args.id) cell change
     (λ r. refl) (inheriting_printed Dacl c.args.text.now c.requires) old new)
-    (λ count room h one. (
-      c.in_ok-row.ensures.2,
-      recast_one dacl_inh_text dacl_inh_terms dacl_inh_is plain_dacl_inh (pos c.args.id)
-          cell change (λ r. refl) old new count room h one,
-    ))
+    (search (rules, c.in_ok-row.ensures.2, recast_one, dacl_inh_is, plain_dacl_inh, old, new))
     (ended (state g.S.Store) _ _ _ _ _ c.execute.ensures.ended) (rw (given, c.params-to_sql-in-Dacl.ensures) at c.execute.ensures.runs) in
     rw c.in-Dacl.is done
 
@@ -40,10 +36,6 @@ returns-in-Sacl-clause-writes g c =
     (Int (pos c.args.id) ∷ cell) old new c.execute-in-Sacl.result _ _ c.execute-in-Sacl.ensures.survives
     (recast_room sacl_inh_text sacl_inh_terms sacl_inh_is plain_sacl_inh (pos c.args.id) cell change
     (λ r. refl) (inheriting_printed Sacl c.args.text.now c.requires) old new)
-    (λ count room h one. (
-      c.in_ok-row.ensures.2,
-      recast_one sacl_inh_text sacl_inh_terms sacl_inh_is plain_sacl_inh (pos c.args.id)
-          cell change (λ r. refl) old new count room h one,
-    ))
+    (search (rules, c.in_ok-row.ensures.2, recast_one, sacl_inh_is, plain_sacl_inh, old, new))
     (ended (state g.S.Store) _ _ _ _ _ c.execute-in-Sacl.ensures.ended) (rw (given, c.params-to_sql-in-Sacl-2.ensures) at c.execute-in-Sacl.ensures.runs) in
     rw c.in-Sacl.is done

@@ -1,4 +1,4 @@
-use Rattle.std.proofs.Common.{◌∷◌, [], refl, pos}
+use Rattle.std.proofs.Common.{rules, ◌∷◌, [], refl, pos}
 use Rattle.sqlite.specs.{declared.types.Value.TheVariants.{Int, Text}, Held.state}
 use Rattle.store_tables.specs.Shown.{sets_owners}
 use Rattle.store_tables.proofs.{Asked.{ended, writes}, Printed.owning_printed, Recast.recast_one}
@@ -22,7 +22,6 @@ returns-clause-writes g c =
     (λ r. refl) (owning_printed c.args.owner.now c.args.group.now) old new)
     (λ count room h one. (
       c.in_ok-row.ensures.2,
-      recast_one owners_text owners_terms owners_is plain_owners (pos c.args.id) cell
-          change (λ r. refl) old new count room h one,
+      search (rules, recast_one, owners_is, plain_owners, old, new),
     ))
     (ended (state g.S.Store) _ _ _ _ _ c.execute.ensures.ended) runs

@@ -1,4 +1,4 @@
-use Rattle.std.proofs.Common.{◌∷◌, [], refl, pos}
+use Rattle.std.proofs.Common.{rules, ◌∷◌, [], refl, pos}
 use Rattle.sqlite.specs.{declared.types.Value.TheVariants.{Int, Text}, Held.state}
 use Rattle.store_tables.specs.Shown.{sets_place}
 use Rattle.store_tables.proofs.{Asked.{ended, writes}, Printed.lying_printed, Recast.recast_one}
@@ -21,7 +21,6 @@ returns-clause-writes g c =
     (λ r. refl) (lying_printed (pos c.args.parent) c.args.name.now) old new)
     (λ count room h one. (
       c.in_ok-row.ensures.2,
-      recast_one place_text place_terms place_is plain_place (pos c.args.id) cell change
-          (λ r. refl) old new count room h one,
+      search (rules, recast_one, place_is, plain_place, old, new),
     ))
     (ended (state g.S.Store) _ _ _ _ _ c.execute.ensures.ended) runs

@@ -1,4 +1,4 @@
-use Rattle.std.proofs.Common.{◌∷◌, [], refl, pos}
+use Rattle.std.proofs.Common.{rules, ◌∷◌, [], refl, pos}
 use Rattle.sqlite.specs.{declared.types.Value.TheVariants.{Int, Text}, Held.state}
 use Rattle.room_entry.specs.declared.object.Which.TheVariants.{Dacl, Sacl}
 use Rattle.store_tables.specs.{Shown.{RecastsAll, sets_inh}, Statements.{ExecutesSql, OfRows}}
@@ -24,11 +24,7 @@ returns-in-Dacl-clause-writes g c =
     (range_room dacl_range_text dacl_range_terms dacl_range_is plain_dacl_range (pos c.args.first)
     (pos c.args.last) cell change (λ r. refl) (inheriting_printed Dacl c.args.text.now c.requires) old
     new)
-    (λ count room h. (
-      c.in_ok-from.ensures.2,
-      range_rows dacl_range_text dacl_range_terms dacl_range_is plain_dacl_range
-          (pos c.args.first) (pos c.args.last) cell change (λ r. refl) old new count room h,
-    ))
+    (search (rules, c.in_ok-from.ensures.2, range_rows, dacl_range_is, plain_dacl_range, old, new))
     (ended (state g.S.Store) _ _ _ _ _ c.execute.ensures.ended) (rw (from, to, c.params-to_sql-in-Dacl-2.ensures) at c.execute.ensures.runs) in
     rw c.in-Dacl.is done
 
@@ -47,10 +43,6 @@ returns-in-Sacl-clause-writes g c =
     (range_room sacl_range_text sacl_range_terms sacl_range_is plain_sacl_range (pos c.args.first)
     (pos c.args.last) cell change (λ r. refl) (inheriting_printed Sacl c.args.text.now c.requires) old
     new)
-    (λ count room h. (
-      c.in_ok-from.ensures.2,
-      range_rows sacl_range_text sacl_range_terms sacl_range_is plain_sacl_range
-          (pos c.args.first) (pos c.args.last) cell change (λ r. refl) old new count room h,
-    ))
+    (search (rules, c.in_ok-from.ensures.2, range_rows, sacl_range_is, plain_sacl_range, old, new))
     (ended (state g.S.Store) _ _ _ _ _ c.execute-in-Sacl.ensures.ended) (rw (from, to, c.params-to_sql-in-Sacl-3.ensures) at c.execute-in-Sacl.ensures.runs) in
     rw c.in-Sacl.is done

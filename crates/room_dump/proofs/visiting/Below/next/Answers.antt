@@ -8,7 +8,7 @@ returns-then-self-eq0-clause-read g c =
     let k = g.K.Keep in
     let laws = g.met.K.Keep.laws in
     let a = c.args.keep.now in
-    damaged k laws a a 0
+    damaged k laws a a c.in-Some.visit.node.id
     (knows k laws a (λ rows are goes. absurd (may_come rows are c.args.self.now c.pop.new.self.items
     c.in-Some.visit c.in-Some.ensures.items goes c.if-self-eq0.true)))
 

@@ -1,7 +1,5 @@
-use Rattle.std.proofs.Common.{ℕ, ◌≡◌, Bool, true, false, cond, not, ◌||◌, List, [], ◌∷◌, filter}
-use Rattle.std.proofs.Common.{IsTrue, refl, sym, ap, ◌∙◌}
-use Rattle.std.specs.List.{list_any}
-use Rattle.room_entry.specs.Bits.{has}
+use Rattle.std.proofs.Common.{arith, ℕ, ◌≡◌, Bool, true, false, cond, not, ◌||◌, List, [], ◌∷◌}
+use Rattle.std.{proofs.Common.{filter, IsTrue, refl, ap}, specs.List.list_any}
 use Rattle.room_entry.proofs.mask.Mask.shares.Goals as goal
 
 -- a filter leaves nothing exactly where no element passes
@@ -20,6 +18,4 @@ empty_or_any t (x ∷ xs) e none some = on (t x) e none some (λ e' n s. empty_o
 
 pub returns : goal.returns
 returns c =
-    empty_or_any (has c.args.other) c.args.self c.is_empty.result
-    (λ h. sym c.shared_with.ensures ∙ c.is_empty.ensures.0 h)
-    (λ h. c.is_empty.ensures.1 (c.shared_with.ensures ∙ h))
+    grind (arith, empty_or_any, c.shared_with.ensures, c.is_empty.ensures.0, c.is_empty.ensures.1)

@@ -1,5 +1,4 @@
-use Rattle.std.proofs.Common.{ap, ◌∙◌, List, ℕ, filter, not, arith}
-use Rattle.std.specs.Int.{bit_not, w32}
+use Rattle.std.{proofs.Common.{ap, ◌∙◌, List, ℕ, filter, not, arith}, specs.Int.{bit_not, w32}}
 use Rattle.room_entry.specs.{Bits.{bits_of, has}, BitLaws.{bits_of-and_not, known-and, known_le}}
 use Rattle.room_entry.proofs.mask.Mask.without.Goals as goal
 

@@ -1,6 +1,5 @@
 use Rattle.std.proofs.{Common.{ap, ◌∙◌}, lemmas.Str.IsUtf8-from_ascii}
-use Rattle.room_entry.specs.Names.{is_name}
-use Rattle.room_entry.proofs.Visible.{ascii, name_ascii}
+use Rattle.room_entry.{specs.Names.is_name, proofs.Visible.{ascii, name_ascii}}
 use Rattle.room_entry.proofs.name.Name.as_str.Goals as goal
 
 pub from_utf8_unchecked-requires : goal.from_utf8_unchecked-requires

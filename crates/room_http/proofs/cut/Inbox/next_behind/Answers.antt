@@ -1,4 +1,4 @@
-use Rattle.std.proofs.Common.{◌∙◌, ap, take, Ok, List, ℕ}
+use Rattle.std.proofs.Common.{arith, ◌∙◌, ap, take, Ok, List, ℕ}
 use Rattle.room_http.specs.{Message.body_size, Spans.head_at}
 use Rattle.room_http.proofs.Following.{whole-next, part-next, stopped-next}
 use Rattle.room_http.proofs.cut.Inbox.next_behind.Goals as goal
@@ -22,8 +22,7 @@ returns-in-Ok-false-clause-next g c =
     let cut = c.read_body.ensures.cut (c.in-Ok-false.is ∙ ap Ok c.in-Ok-false.field-0-test) in (
       cut.1,
       part-next c.args.self.now.buf.items _ _ spans at found.0 c.in-Ok.head _ found.1 found.2
-          (c.in-Ok.ensures ∙ ap (λ (t : List ℕ). head_at (take at.len t) spans at)
-          c.deref.ensures.value)
+          (grind (arith, c.in-Ok.ensures, at.len, spans, c.deref.ensures.value))
           (c.in-Ok-declared_size.ensures.value ∙ ap body_size c.as_slice.ensures)
           c.in-Ok-false.ensures.came.2 cut.0,
     )

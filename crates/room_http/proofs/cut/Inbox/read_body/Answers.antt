@@ -1,6 +1,5 @@
 use Rattle.std.proofs.Common.{◌-◌, ◌<◌, ◌≤◌, arith, length, max}
-use Rattle.room_http.specs.Limits.{read_size}
-use Rattle.room_http.proofs.{KnownBytes.no-is-not-yes, Near.stops-body}
+use Rattle.room_http.{specs.Limits.read_size, proofs.{KnownBytes.no-is-not-yes, Near.stops-body}}
 use Rattle.room_http.proofs.cut.Inbox.read_body.Goals as goal
 
 pub returns-in-Err-clause-lost : goal.returns-in-Err-clause-lost

@@ -1,6 +1,5 @@
 use Rattle.std.proofs.Common.{◌-◌, length}
-use Rattle.room_http.specs.{Limits.max_head, Spans.Came}
-use Rattle.room_http.proofs.Near.{Grown}
+use Rattle.room_http.{specs.{Limits.max_head, Spans.Came}, proofs.Near.Grown}
 use Rattle.room_http.proofs.cut.Inbox.read_head.Given as goal
 
 abbrev pub invariant-reading : goal.invariant-reading

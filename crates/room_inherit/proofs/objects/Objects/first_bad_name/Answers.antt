@@ -1,10 +1,8 @@
 use Rattle.std.proofs.{Common.{◌≡◌, true, false, not, take, sym, ap, ◌∙◌}, lemmas.Bool.and_left}
-use Rattle.std.proofs.lemmas.Bool.{and_right, and_from}
-use Rattle.std.specs.{List.list_any, BTreeSet.contains}
+use Rattle.std.{proofs.lemmas.Bool.and_right, specs.{List.list_any, BTreeSet.contains}}
 use Rattle.room_rows.specs.{Paths.is_object_name, Sound.has_sound_name}
-use Rattle.room_inherit.specs.Objects.{only}
-use Rattle.room_inherit.proofs.{Given.{key_order, holds, one_more, name_test}, Looking.fails_here}
-use Rattle.room_inherit.proofs.Looking.{passes_here}
+use Rattle.room_inherit.{specs.Objects.only, proofs.Given.{key_order, holds, one_more, name_test}}
+use Rattle.room_inherit.proofs.Looking.{fails_here, passes_here}
 use Rattle.room_inherit.proofs.objects.Objects.first_bad_name.Goals.{then-not-is_object_name-via-then-not-is_object_name}
 use Rattle.room_inherit.proofs.objects.Objects.first_bad_name.Goals.{then-not-is_object_name-via-else-not-is_object_name+in_ok-insert+then-not-branch}
 use Rattle.room_inherit.proofs.objects.Objects.first_bad_name.Goals as goal
@@ -40,19 +38,16 @@ nodes-preserved c =
     name_test nodes c.nodes.node-index node c.in-Some.parent c.as_str-name.result
     c.nodes-test.true c.node-item.is c.in-Some.is c.as_str-name.ensures
     c.as_slice-node-items.ensures.rising in
-    let fits : is_object_name node.name ≡ true = ap is_object_name (sym c.as_str-name.ensures)
-    ∙ sym c.is_object_name.ensures ∙ c.if-not-is_object_name.false in
+    let fits : is_object_name node.name ≡ true = cc in
     let free : not (list_any (holds (c.in-Some.parent, c.as_str-name.result))
     (take c.nodes.node-index nodes)) ≡ true =
     ap not (sym (c.nodes.invariant.given (c.in-Some.parent, c.as_str-name.result)))
     ∙ sym c.in_ok-insert.ensures.added ∙ c.if-not-branch.false in
-    let passes : has_sound_name (only nodes) node ≡ true = tested ∙ and_from _ _ fits free in
     record {
       same =
           passes_here (has_sound_name (only c.args.self.now)) nodes c.nodes.node-index node
           c.nodes-test.true c.node-item.is
-          (ap (λ ns. has_sound_name (only ns) node) (sym c.as_slice-node-items.ensures.value)
-          ∙ passes) ∙ c.nodes.invariant.same;
+          (cc) ∙ c.nodes.invariant.same;
       given =
           one_more nodes c.nodes.node-index node c.in-Some.parent c.as_str-name.result
           c.nodes-test.true c.node-item.is c.in-Some.is c.as_str-name.ensures

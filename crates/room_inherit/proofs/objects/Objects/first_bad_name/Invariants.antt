@@ -1,8 +1,7 @@
-use Rattle.std.proofs.Common.{◌≡◌, ℕ, not, List, drop, take}
-use Rattle.std.specs.{Borrow.Bor, List.{find, list_any}, BTreeSet.contains}
+use Rattle.std.{proofs.Common.{◌≡◌, ℕ, not, List, drop, take}, specs.{Borrow.Bor, List.find}}
+use Rattle.std.specs.{List.list_any, BTreeSet.contains}
 use Rattle.room_rows.specs.{declared.node.Node.Node, Sound.has_sound_name}
-use Rattle.room_inherit.specs.Objects.{only}
-use Rattle.room_inherit.proofs.Given.{key_order, holds}
+use Rattle.room_inherit.{specs.Objects.only, proofs.Given.{key_order, holds}}
 use Rattle.room_inherit.proofs.objects.Objects.first_bad_name.Given as goal
 
 -- what is left has the same answer, and the set has the parents and names so far

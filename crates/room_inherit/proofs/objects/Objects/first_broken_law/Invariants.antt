@@ -1,5 +1,4 @@
-use Rattle.std.proofs.Common.{◌≡◌, not, drop}
-use Rattle.std.specs.List.{find}
+use Rattle.std.{proofs.Common.{◌≡◌, not, drop}, specs.List.find}
 use Rattle.room_rows.specs.{declared.node.Node.Node, Sound.keeps_law}
 use Rattle.room_inherit.specs.Objects.{only}
 use Rattle.room_inherit.proofs.objects.Objects.first_broken_law.Given as goal

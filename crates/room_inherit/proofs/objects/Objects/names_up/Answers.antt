@@ -1,6 +1,5 @@
 use Rattle.std.proofs.Common.{◌∷◌, [], ◌++◌, ap, ◌∙◌, length, arith}
-use Rattle.room_inherit.specs.Objects.{only}
-use Rattle.room_inherit.proofs.Upward.{one_up}
+use Rattle.room_inherit.{specs.Objects.only, proofs.Upward.one_up}
 use Rattle.room_inherit.proofs.objects.Objects.names_up.Goals as goal
 
 pub steps-preserved : goal.steps-preserved

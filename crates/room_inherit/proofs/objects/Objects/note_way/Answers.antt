@@ -1,16 +1,14 @@
-use Rattle.std.proofs.Common.{◌<◌, length, refl, sym, ap, ◌∙◌, arith}
-use Rattle.std.specs.{BTreeSet.contains, Ordering.nat_cmp}
+use Rattle.std.{proofs.Common.{◌<◌, length, refl, sym, ap, ◌∙◌, arith}, specs.BTreeSet.contains}
+use Rattle.std.specs.Ordering.{nat_cmp}
 use Rattle.room_rows.specs.Content.{reaches_root}
-use Rattle.room_inherit.specs.Objects.{only}
-use Rattle.room_inherit.proofs.Upward.{leads_too, way_above}
+use Rattle.room_inherit.{specs.Objects.only, proofs.Upward.{leads_too, way_above}}
 use Rattle.room_inherit.proofs.objects.Objects.note_way.Goals as goal
 
 pub steps-preserved : goal.steps-preserved
 steps-preserved c = λ lead is.
     let nodes = c.args.self.now in
     let sofar = c.steps.invariant lead is in
-    let below : c.steps.step < length nodes = let test = c.steps-test.true in
-    let all = ap length c.as_slice-step-end.ensures.value in omega (arith, test, all) in (
+    let below : c.steps.step < length nodes = grind (arith, c.steps-test.true) in (
       leads_too nodes c.in-Some.id (contains nat_cmp c.steps.known)
           (contains nat_cmp c.insert.new.self) sofar.0
           (sym (ap (reaches_root (length nodes) (only nodes)) c.in-Some.is) ∙ sofar.1)

@@ -1,8 +1,6 @@
-use Rattle.std.proofs.Common.{ℕ, ◌++◌, List, ap, ◌∙◌}
-use Rattle.std.specs.List.{zip}
+use Rattle.std.{proofs.Common.{ℕ, ◌++◌, List, ap, ◌∙◌}, specs.List.zip}
 use Rattle.room_import.specs.Exports.{rows_text}
-use Rattle.room_review.specs.Lines.{lines}
-use Rattle.room_review.proofs.Printed.{lines_at, on_ok_append}
+use Rattle.room_review.{specs.Lines.lines, proofs.Printed.{lines_at, on_ok_append}}
 use Rattle.room_review.proofs.sheet.Sheet.push_rows.Goals as goal
 
 pub returns : goal.returns

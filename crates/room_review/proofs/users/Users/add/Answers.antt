@@ -1,7 +1,5 @@
-use Rattle.std.proofs.Common.{ℕ, ◌||◌, List, [], ◌∷◌, ap, ◌∙◌}
-use Rattle.std.specs.List.{insert}
-use Rattle.room_review.specs.Users.{is_listed}
-use Rattle.room_review.proofs.Listed.{gathers_put}
+use Rattle.std.{proofs.Common.{ℕ, ◌||◌, List, [], ◌∷◌, ap, ◌∙◌}, specs.List.insert}
+use Rattle.room_review.{specs.Users.is_listed, proofs.Listed.gathers_put}
 use Rattle.room_review.proofs.users.Users.add.Goals as goal
 
 pub returns-in_ok-insert-in-Some : goal.returns-in_ok-insert-in-Some

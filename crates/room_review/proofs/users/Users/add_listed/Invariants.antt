@@ -1,5 +1,4 @@
-use Rattle.room_review.specs.Users.{user_in}
-use Rattle.room_review.proofs.Gathers.{GathersFirst}
+use Rattle.room_review.{specs.Users.user_in, proofs.Gathers.GathersFirst}
 use Rattle.room_review.proofs.users.Users.add_listed.Given as goal
 
 -- the users of the first entries are there

@@ -1,11 +1,9 @@
-use Rattle.sqlite.specs.Held.{state}
+use Rattle.std.proofs.Common.{rules}
 use Rattle.room_store.proofs.Recalled.{still}
 use Rattle.room_store.proofs.store.Store.is_shut.Goals as goal
 
 pub invariant_of-self : goal.invariant_of-self
 invariant_of-self g c = (
   c.test_shut.ensures.leaves.ended c.self.invariant.0,
-  still (state g.S.Store c.self.inside.conn) (state g.S.Store c.test_shut.new.conn)
-      c.self.inside.memory c.test_shut.ensures.leaves c.test_shut.ensures.same
-      c.self.invariant.1,
+  search (rules, still, c.test_shut.ensures.leaves, c.test_shut.ensures.same, c.self.invariant.1),
 )

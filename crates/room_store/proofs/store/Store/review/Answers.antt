@@ -1,8 +1,7 @@
-use Rattle.std.proofs.Common.{refl}
+use Rattle.std.proofs.Common.{arith}
 use Rattle.sqlite.specs.Held.{state}
 use Rattle.store_admin.specs.Dump.{HasDamagedRow}
-use Rattle.room_store.specs.Reviews.{IsReviewOf}
-use Rattle.room_store.proofs.Looking.{looks_if_open}
+use Rattle.room_store.{specs.Reviews.IsReviewOf, proofs.Looking.looks_if_open}
 use Rattle.room_store.proofs.store.Store.review.Goals as goal
 
 pub returns : goal.returns
@@ -16,6 +15,4 @@ returns g c =
     (IsReviewOf c.args.question.now) done.result tested.result left.result
     c.begin-tx.ensures.begun done.ensures.carries tested.ensures.stays tested.ensures.opens
     tested.ensures.stands left.ensures.ended left.ensures.clean left.ensures.gives_up
-    left.ensures.crash in
-    rw (← c.self.view_is)
-    (record { looked = it.looked; leads = it.leads; outlasts = it.outlasts; faults = refl })
+    left.ensures.crash in grind (arith, c.self.view_is, it.looked, it.leads, it.outlasts)

@@ -1,4 +1,4 @@
-use Rattle.std.proofs.{Common.{IfSome, refl, subst, sym, w64}, lemmas.Int.to_z-of_z}
+use Rattle.std.proofs.{Common.{arith, rules, IfSome, subst, sym, w64}, lemmas.Int.to_z-of_z}
 use Rattle.std.specs.Option.{option_copied}
 use Rattle.sqlite.specs.Held.{Held, state}
 use Rattle.room_judge.specs.Closed.{Performs}
@@ -43,14 +43,7 @@ returns g c =
     (settled c.self.inside.conn) (settled left.new.tx.0)) in
     let it = written HasDamage (Performs user c.args.moment asked) (Asked user c.args.moment asked)
     (λ reply. reply) (performed user c.args.moment asked) old end left.result done in
-    rw (← c.self.view_is)
-    (record {
-      ran = done;
-      closed = closes user c.args.moment asked old end left.result done;
-      leads = it.leads;
-      outlasts = it.outlasts;
-      faults = refl;
-    })
+    grind (arith, c.self.view_is, ran, done, closes, user, asked, old, end, it.leads, it.outlasts)
 
 pub invariant_of-self-2 : goal.invariant_of-self-2
 invariant_of-self-2 g c = (c.finish-reply.ensures.ended, λ _ _ _. c.forget.ensures _)
@@ -74,10 +67,7 @@ returns-then-only_read g c =
     let carries = inside.ensures.carries
     (agrees_at old begun mid begins inside.ensures.stays c.known_of-memory.result remembers) in
     let kept = inside.ensures.kept c.if-only_read.true in
-    let then : IsSettled end = λ o. record {
-      left = g.met.S.Store.stays left.new.conn.store o;
-      only = λ db l. g.met.S.Store.settled left.new.conn.store db o l;
-    } in
+    let then : IsSettled end = λ o. search (rules, g.met.S.Store.stays, g.met.S.Store.settled) in
     let user = option_copied c.args.caller in
     let asked = c.args.request.now in
     let done = subst (λ at. Ran old end left.result.0 HasDamage (Performs user at asked))
@@ -89,13 +79,7 @@ returns-then-only_read g c =
     let it = written HasDamage (Performs user c.args.moment asked) (Asked user c.args.moment asked)
     (λ reply. reply) (performed user c.args.moment asked) old end left.result.0 done in
     rw (← c.self.view_is)
-    (record {
-      ran = done;
-      closed = closes user c.args.moment asked old end left.result.0 done;
-      leads = it.leads;
-      outlasts = it.outlasts;
-      faults = refl;
-    })
+    (grind (arith, ran, done, closes, user, asked, old, end, left.result.0, it.leads, it.outlasts))
 
 pub invariant_of-self : goal.invariant_of-self
 invariant_of-self g c =

@@ -1,5 +1,4 @@
-use Rattle.std.proofs.Common.{◌∙◌, Some, sym, ap}
-use Rattle.std.specs.Option.{option_copied}
+use Rattle.std.{proofs.Common.{◌∙◌, Some, sym, ap}, specs.Option.option_copied}
 use Rattle.room_rows.specs.Content.{body_at}
 use Rattle.room_tree.proofs.Kept.{body_kept}
 use Rattle.room_tree.proofs.bodies.Bodies.at.Goals as goal

@@ -1,10 +1,8 @@
-use Rattle.std.proofs.Common.{◌≡◌, ◌<◌, ◌++◌, ◌∙◌, ℕ, List, false, true, sym, ap, subst, arith}
-use Rattle.std.proofs.Common.{take, drop, length, get_or}
-use Rattle.std.specs.List.{insert, Sorted.IsStrictlySortedBy}
+use Rattle.std.proofs.Common.{rules, ◌≡◌, ◌<◌, ◌++◌, ◌∙◌, ℕ, List, false, true, sym, ap, subst}
+use Rattle.std.{proofs.Common.{arith, take, drop, length, get_or}, specs.List.insert}
 use Rattle.room_rows.specs.Content.{is_pair_before, put_pair, set_of}
-use Rattle.room_tree.specs.Pairs.{pair_cmp, is_same_pair}
-use Rattle.room_tree.proofs.Paired.{put_in_place, put_there, put_last, put_sorted, sorted_set}
-use Rattle.room_tree.proofs.Paired.{joined, item_is}
+use Rattle.room_tree.{specs.Pairs.is_same_pair, proofs.Paired.{put_in_place, put_there, put_last}}
+use Rattle.room_tree.proofs.Paired.{put_sorted, sorted_set, joined, item_is}
 use Rattle.room_tree.proofs.lists.PairSet.join.Goals.{else-place-len-via-then-place-len+else-is_same}
 use Rattle.room_tree.proofs.lists.PairSet.join.Goals.{else-place-len-via-else-place-len}
 use Rattle.room_tree.proofs.lists.PairSet.join.Goals as goal
@@ -30,8 +28,7 @@ returns-then-is_same-clause-ok c =
 
 pub returns-then-is_same-clause-ordered : goal.returns-then-is_same-clause-ordered
 returns-then-is_same-clause-ordered c =
-    subst (λ (m : List (List ℕ × List ℕ)). set_of m ≡ m) c.self.view_is
-    (sorted_set c.self.inside.items.items c.self.invariant)
+    grind (arith, c.self.view_is, sorted_set, c.self.inside.items.items, c.self.invariant)
 
 puts : (c : goal.In_ok-insert)
     → c.insert-2.new.self.items
@@ -62,18 +59,12 @@ puts c =
     ]
 
 pub invariant_of-self-2 : goal.invariant_of-self-2
-invariant_of-self-2 c =
-    subst (IsStrictlySortedBy pair_cmp) (sym (puts c))
-    (put_sorted (c.args.group.now, c.args.user.now) c.self.inside.items.items c.self.invariant)
+invariant_of-self-2 c = search (rules, puts, c, put_sorted, c.self.invariant)
 
 pub returns-clause-ok : goal.returns-clause-ok
 returns-clause-ok c =
-    puts c ∙ joined (c.args.group.now, c.args.user.now) c.self.inside.items.items c.self.invariant
-    ∙ ap (λ (m : List (List ℕ × List ℕ)). put_pair (c.args.group.now, c.args.user.now) (set_of m))
-    c.self.view_is
+    grind (arith, puts, c, joined, c.self.inside.items.items, c.self.invariant, c.self.view_is)
 
 pub returns-clause-ordered : goal.returns-clause-ordered
 returns-clause-ordered c =
-    subst (λ (m : List (List ℕ × List ℕ)). set_of m ≡ m) (sym (puts c))
-    (sorted_set _
-    (put_sorted (c.args.group.now, c.args.user.now) c.self.inside.items.items c.self.invariant))
+    grind (arith, puts, c, sorted_set, put_sorted, c.self.inside.items.items, c.self.invariant)

@@ -1,7 +1,5 @@
-use Rattle.std.proofs.Common.{sym, subst}
-use Rattle.std.specs.List.Sorted.{IsStrictlySortedBy}
-use Rattle.room_tree.specs.Pairs.{pair_cmp}
-use Rattle.room_tree.proofs.Paired.{empty_sorted}
+use Rattle.std.{proofs.Common.{sym, subst}, specs.List.Sorted.IsStrictlySortedBy}
+use Rattle.room_tree.{specs.Pairs.pair_cmp, proofs.Paired.empty_sorted}
 use Rattle.room_tree.proofs.lists.PairSet.new.Goals as goal
 
 pub invariant_of-result : goal.invariant_of-result

@@ -1,5 +1,4 @@
-use Rattle.std.proofs.Common.{sym, subst, refl, arith}
-use Rattle.room_rows.specs.Keep.{HasCause, capped}
+use Rattle.std.proofs.Common.{refl, arith}
 use Rattle.room_tree.proofs.Changed.{gone, gone_rows}
 use Rattle.room_tree.proofs.memory.MemKeepKeep.remove.Goals as goal
 
@@ -16,9 +15,7 @@ returns-then-not-was_there-clause-written c =
       written = refl;
       becomes = λ t. tt;
       unfailed = tt;
-      fault =
-          subst (HasCause (capped k.failures) (capped c.failed.new.failures) _)
-          (sym c.failed.ensures.store) c.failed.ensures.capped;
+      fault = rw c.failed.ensures.store c.failed.ensures.capped;
     }
 
 pub returns-clause-written : goal.returns-clause-written

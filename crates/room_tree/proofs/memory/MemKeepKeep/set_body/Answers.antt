@@ -1,7 +1,6 @@
 use Rattle.std.proofs.Common.{◌≡◌, ◌∙◌, sym, ap, arith, refl}
 use Rattle.room_rows.specs.Content.{put_body}
-use Rattle.room_tree.specs.Memory.{memory_rows}
-use Rattle.room_tree.proofs.Changed.{filled_rows}
+use Rattle.room_tree.{specs.Memory.memory_rows, proofs.Changed.filled_rows}
 use Rattle.room_tree.proofs.memory.MemKeepKeep.set_body.Goals as goal
 
 pub returns-clause-written : goal.returns-clause-written

@@ -1,7 +1,6 @@
 use Rattle.std.proofs.Common.{◌≡◌, ◌∙◌, Some, sym, ap, refl, arith}
-use Rattle.room_rows.specs.{Finding.find_id, Held.with_held}
+use Rattle.room_rows.{specs.{Finding.find_id, Held.with_held}, proofs.InPlace.with_held-id}
 use Rattle.room_tree.proofs.Changed.{stands_held, keeps_rows, changes}
-use Rattle.room_rows.proofs.InPlace.{with_held-id}
 use Rattle.room_tree.proofs.memory.MemKeepKeep.set_held.Goals as goal
 
 pub replace-requires : goal.replace-requires

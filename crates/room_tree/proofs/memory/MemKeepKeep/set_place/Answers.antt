@@ -1,5 +1,4 @@
-use Rattle.std.proofs.Common.{◌≡◌, ◌∙◌, Some, sym, ap, refl, arith}
-use Rattle.std.specs.Prelude.{is_some}
+use Rattle.std.{proofs.Common.{◌≡◌, ◌∙◌, Some, sym, ap, refl, arith}, specs.Prelude.is_some}
 use Rattle.room_rows.specs.{declared.node.Node.Node, Finding.find_id, Keep.with_place}
 use Rattle.room_tree.proofs.Changed.{found_itself, keeps_rows, changes}
 use Rattle.room_tree.proofs.memory.MemKeepKeep.set_place.Goals as goal

@@ -1,4 +1,4 @@
-use Rattle.std.proofs.Common.{◌∙◌, ap, string_bytes}
+use Rattle.std.proofs.Common.{rules, ◌∙◌, ap, string_bytes}
 use Rattle.room_rows.specs.Finding.{find_named}
 use Rattle.room_tree.proofs.Tying.{tied_listed, tied_added, put_view}
 use Rattle.room_tree.proofs.objects.ObjectMap.add.Goals as goal
@@ -21,6 +21,4 @@ invariant_of-self-2 c =
 
 pub returns-clause-ok : goal.returns-clause-ok
 returns-clause-ok c =
-    put_view c.self.inside.by_number.entries c.insert.new.self.entries
-    c.self.inside.places.ids.entries c.args.self.now c.args.node c.self.invariant c.self.view_is
-    c.in_ok-insert.ensures.entries
+    search (rules, put_view, c.self.invariant, c.self.view_is, c.in_ok-insert.ensures.entries)

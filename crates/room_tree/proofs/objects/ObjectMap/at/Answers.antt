@@ -1,6 +1,5 @@
-use Rattle.std.proofs.{Common.◌∙◌, lemmas.Result.IfOk-weaker}
+use Rattle.std.{proofs.{Common.◌∙◌, lemmas.Result.IfOk-weaker}, specs.Option.option_copied}
 use Rattle.room_tree.proofs.Tying.{found_at}
-use Rattle.std.specs.Option.{option_copied}
 use Rattle.room_tree.proofs.objects.ObjectMap.at.Goals as goal
 
 pub returns : goal.returns

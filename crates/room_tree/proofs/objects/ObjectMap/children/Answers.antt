@@ -1,8 +1,6 @@
-use Rattle.std.proofs.Common.{◌∙◌, ◌++◌, List, sym, ap}
-use Rattle.std.specs.Option.{option_copied}
+use Rattle.std.{proofs.Common.{arith, ◌∙◌, ◌++◌, List, ap}, specs.Option.option_copied}
 use Rattle.room_rows.specs.declared.node.Node.{Node}
-use Rattle.room_tree.specs.Places.{standing, standing_under}
-use Rattle.room_tree.proofs.Tying.{children_listed, child_more}
+use Rattle.room_tree.{specs.Places.standing_under, proofs.Tying.{children_listed, child_more}}
 use Rattle.room_tree.proofs.objects.ObjectMap.children.Goals as goal
 
 pub loop-place-init : goal.loop-place-init
@@ -23,5 +21,4 @@ loop-place-preserved c =
     ∙ child_more c.loop-place.found c.args.parent c.args.self.now
     (c.in-Some.place.now, c.in-Some.id.now) c.loop-place.place-iterator c.next.new.self
     (option_copied c.standing.result) _ c.in-Some.ensures.steps c.if-place-parent.false
-    (ap (λ n. standing c.in-Some.id.now c.args.parent n c.args.self.now)
-    (sym c.as_str.ensures.value) ∙ sym c.standing.ensures) c.loop-place.invariant
+    (grind (arith, c.as_str.ensures.value, c.standing.ensures)) c.loop-place.invariant

@@ -1,6 +1,5 @@
 use Rattle.std.proofs.Common.{◌∙◌, sym, ap, string_bytes}
-use Rattle.room_tree.specs.Places.{standing}
-use Rattle.room_tree.proofs.Tying.{nothing_named, something_named}
+use Rattle.room_tree.{specs.Places.standing, proofs.Tying.{nothing_named, something_named}}
 use Rattle.room_tree.proofs.objects.ObjectMap.found.Goals as goal
 
 pub returns-in-Some : goal.returns-in-Some

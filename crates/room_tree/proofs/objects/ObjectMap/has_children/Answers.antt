@@ -1,6 +1,5 @@
 use Rattle.std.proofs.Common.{◌∙◌, ap}
-use Rattle.room_tree.specs.Places.{standing_under}
-use Rattle.room_tree.proofs.Tying.{children_listed}
+use Rattle.room_tree.{specs.Places.standing_under, proofs.Tying.children_listed}
 use Rattle.room_tree.proofs.objects.ObjectMap.has_children.Goals as goal
 
 pub loop-place-init : goal.loop-place-init

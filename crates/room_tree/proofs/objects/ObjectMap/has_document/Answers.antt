@@ -1,5 +1,4 @@
-use Rattle.std.proofs.Common.{◌∙◌, false, sym, ap}
-use Rattle.std.specs.Option.{option_copied, option_map_or}
+use Rattle.std.{proofs.Common.{◌∙◌, false, sym, ap}, specs.Option.{option_copied, option_map_or}}
 use Rattle.room_entry.specs.Valid.{is_document}
 use Rattle.room_rows.specs.declared.node.Node.{Node}
 use Rattle.room_tree.proofs.Tying.{found_at}

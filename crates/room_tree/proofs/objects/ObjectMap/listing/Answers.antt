@@ -1,7 +1,6 @@
-use Rattle.std.proofs.Common.{◌∙◌, ◌++◌, List, ℕ, map, sym, ap}
-use Rattle.std.specs.Option.{option_copied}
+use Rattle.std.{proofs.Common.{arith, ◌∙◌, ◌++◌, List, ℕ, map, ap}, specs.Option.option_copied}
 use Rattle.room_entry.specs.declared.object.ObjKind.{ObjKind}
-use Rattle.room_tree.specs.{Objects.named_kind, Places.{standing, standing_under}}
+use Rattle.room_tree.specs.{Objects.named_kind, Places.standing_under}
 use Rattle.room_tree.proofs.Tying.{children_listed, named_more}
 use Rattle.room_tree.proofs.objects.ObjectMap.listing.Goals as goal
 
@@ -26,5 +25,4 @@ loop-place-preserved c =
     ∙ named_more c.loop-place.found.items c.args.parent c.args.self.now
     (c.in-Some.place.now, c.in-Some.id.now) c.loop-place.place-iterator c.next.new.self
     (option_copied c.standing.result) _ c.in-Some.ensures.steps c.if-place-parent.false
-    (ap (λ n. standing c.in-Some.id.now c.args.parent n c.args.self.now)
-    (sym c.as_str.ensures.value) ∙ sym c.standing.ensures) c.loop-place.invariant
+    (grind (arith, c.as_str.ensures.value, c.standing.ensures)) c.loop-place.invariant

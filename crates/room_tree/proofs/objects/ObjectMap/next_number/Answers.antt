@@ -1,5 +1,4 @@
-use Rattle.room_tree.specs.Objects.{greatest}
-use Rattle.room_tree.proofs.Tying.{last_is, next_is}
+use Rattle.room_tree.{specs.Objects.greatest, proofs.Tying.{last_is, next_is}}
 use Rattle.room_tree.proofs.objects.ObjectMap.next_number.Goals as goal
 
 pub returns-in-Some : goal.returns-in-Some

@@ -1,13 +1,9 @@
-use Rattle.std.proofs.Common.{string_bytes}
-use Rattle.std.specs.Option.{option_map}
-use Rattle.room_tree.specs.Places.{text_place}
-use Rattle.room_tree.proofs.Tying.{still_there, tied_placed, put_view}
+use Rattle.std.{proofs.Common.{rules, string_bytes}, specs.Option.option_map}
+use Rattle.room_tree.{specs.Places.text_place, proofs.Tying.{still_there, tied_placed, put_view}}
 use Rattle.room_tree.proofs.objects.ObjectMap.place.Goals as goal
 
 pub put_in-requires : goal.put_in-requires
-put_in-requires c =
-    still_there c.self.inside.by_number.entries c.self.inside.places.ids.entries c.args.self.now
-    c.args.node.id c.self.invariant c.self.view_is c.requires.there
+put_in-requires c = search (rules, still_there, c.self.invariant, c.self.view_is, c.requires.there)
 
 pub invariant_of-self-2 : goal.invariant_of-self-2
 invariant_of-self-2 c =
@@ -21,6 +17,4 @@ invariant_of-self-2 c =
 
 pub returns-clause-ok : goal.returns-clause-ok
 returns-clause-ok c =
-    put_view c.self.inside.by_number.entries c.put_in.new.by_number.entries
-    c.self.inside.places.ids.entries c.args.self.now c.args.node c.self.invariant c.self.view_is
-    c.put_in.ensures.entries
+    search (rules, put_view, c.self.invariant, c.self.view_is, c.put_in.ensures.entries)

@@ -1,8 +1,7 @@
-use Rattle.std.proofs.Common.{◌≡◌, ◌∙◌, Some, sym, ap}
-use Rattle.std.specs.{Prelude.option_and_then, Option.{option_copied, option_map}}
+use Rattle.std.{proofs.Common.{arith, ◌≡◌, ◌∙◌, Some, sym, ap}, specs.Prelude.option_and_then}
+use Rattle.std.specs.Option.{option_copied}
 use Rattle.room_rows.specs.Finding.{find_id}
-use Rattle.room_tree.specs.Objects.{place_of}
-use Rattle.room_tree.proofs.Tying.{found_at, place_is}
+use Rattle.room_tree.{specs.Objects.place_of, proofs.Tying.{found_at, place_is}}
 use Rattle.room_tree.proofs.objects.ObjectMap.place_of.Goals as goal
 
 pub returns-in_ok-place_at-in-Some-parent : goal.returns-in_ok-place_at-in-Some-parent
@@ -23,9 +22,7 @@ returns-in-None-parent c =
     sym (ap option_copied c.in-Some.is)
     ∙ found_at c.args.id c.self.inside.by_number.entries c.self.inside.places.ids.entries
     c.args.self.now (option_copied c.get.result) c.self.invariant c.self.view_is c.get.ensures.value
-    in
-    sym (ap (λ o. option_map (λ p. (p, c.in-Some.node.now.name)) o) c.in-None-parent.is)
-    ∙ ap (option_and_then place_of) found
+    in grind (arith, c.in-Some.node.now.name, c.in-None-parent.is, found)
 
 pub returns-in-None : goal.returns-in-None
 returns-in-None c =

@@ -1,12 +1,10 @@
-use Rattle.std.proofs.Common.{ap}
-use Rattle.std.specs.Prelude.{is_some}
+use Rattle.std.proofs.Common.{rules}
 use Rattle.room_tree.proofs.Tying.{still_there, tied_replaced, put_view}
 use Rattle.room_tree.proofs.objects.ObjectMap.replace.Goals as goal
 
 pub put_in-requires : goal.put_in-requires
 put_in-requires c =
-    still_there c.self.inside.by_number.entries c.self.inside.places.ids.entries c.args.self.now
-    c.args.node.id c.self.invariant c.self.view_is (ap is_some c.requires.is_there)
+    search (rules, still_there, c.self.invariant, c.self.view_is, c.requires.is_there)
 
 pub invariant_of-self : goal.invariant_of-self
 invariant_of-self c =
@@ -15,7 +13,4 @@ invariant_of-self c =
     c.requires c.put_in.ensures.entries c.put_in.ensures.ordered
 
 pub returns : goal.returns
-returns c =
-    put_view c.self.inside.by_number.entries c.put_in.new.by_number.entries
-    c.self.inside.places.ids.entries c.args.self.now c.args.node c.self.invariant c.self.view_is
-    c.put_in.ensures.entries
+returns c = search (rules, put_view, c.self.invariant, c.self.view_is, c.put_in.ensures.entries)

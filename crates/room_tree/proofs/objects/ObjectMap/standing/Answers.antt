@@ -1,5 +1,4 @@
-use Rattle.std.proofs.Common.{◌∙◌, ◌&&◌, sym, ap}
-use Rattle.std.specs.Option.{option_copied}
+use Rattle.std.{proofs.Common.{◌∙◌, ◌&&◌, sym, ap}, specs.Option.option_copied}
 use Rattle.room_entry.specs.Pieces.{same_text}
 use Rattle.room_rows.specs.{declared.node.Node.Node, Content.has_parent}
 use Rattle.room_tree.proofs.{Found.{missing, passing}, Tying.{found_at, stands_not}}

@@ -1,7 +1,5 @@
-use Rattle.std.proofs.Common.{◌∙◌, ap}
-use Rattle.std.specs.{Prelude.is_some, Option.option_map}
-use Rattle.room_tree.specs.Places.{text_place}
-use Rattle.room_tree.proofs.Tying.{found_at, tied_taken, taken_view}
+use Rattle.std.{proofs.Common.{rules, ◌∙◌, ap}, specs.{Prelude.is_some, Option.option_map}}
+use Rattle.room_tree.{specs.Places.text_place, proofs.Tying.{found_at, tied_taken, taken_view}}
 use Rattle.room_tree.proofs.objects.ObjectMap.take.Goals as goal
 
 pub invariant_of-self : goal.invariant_of-self
@@ -15,11 +13,8 @@ pub returns-clause-found : goal.returns-clause-found
 returns-clause-found c =
     c.is_some.ensures
     ∙ ap is_some
-    (found_at c.args.id c.self.inside.by_number.entries c.self.inside.places.ids.entries
-    c.args.self.now c.remove.result c.self.invariant c.self.view_is c.remove.ensures.value)
+    (search (rules, found_at, c.self.invariant, c.self.view_is, c.remove.ensures.value))
 
 pub returns-clause-ok : goal.returns-clause-ok
 returns-clause-ok c =
-    taken_view c.self.inside.by_number.entries c.remove.new.self.entries
-    c.self.inside.places.ids.entries c.args.self.now c.args.id c.self.invariant c.self.view_is
-    c.remove.ensures.entries
+    search (rules, taken_view, c.self.invariant, c.self.view_is, c.remove.ensures.entries)

@@ -1,7 +1,6 @@
-use Rattle.std.proofs.Common.{◌≡◌, Some, None, Option, ℕ, List, ap, ◌∙◌, String, string_bytes, ◌==◌}
-use Rattle.std.proofs.lemmas.Map.Entries.{lookup_clone}
-use Rattle.std.specs.{Prelude.◌&&◌, List.AllZip, Option.{MatchOption, IsSomeAnd}}
-use Rattle.room_entry.specs.Pieces.{same_text}
+use Rattle.std.proofs.Common.{arith, rules, ◌≡◌, Some, None, Option, ℕ, List, ap, String}
+use Rattle.std.proofs.{Common.{string_bytes}, lemmas.Map.Entries.lookup_clone}
+use Rattle.std.specs.{List.AllZip, Option.{MatchOption, IsSomeAnd}}
 use Rattle.room_tree.specs.Places.{id_at, is_place}
 use Rattle.room_tree.proofs.places.Places.copy.Goals as goal
 
@@ -17,9 +16,7 @@ same_number (Some v) (Some w) is = ap Some is
 
 same_test : {Y : Type 0} → (parent : ℕ) (name : List ℕ) (place copy : ℕ × String Y)
     → IsPlaceOf place copy → is_place parent name copy ≡ is_place parent name place
-same_test parent name place copy same =
-    ap (λ p. (p == parent) && same_text (string_bytes copy.1) name) same.0
-    ∙ ap (λ n. (place.0 == parent) && same_text n name) same.1
+same_test parent name place copy same = grind (arith, string_bytes, copy.1, same.0, place.0, same.1)
 
 listed : {Y : Type 0} → (parent : ℕ) (name : List ℕ) (places copies : List ((ℕ × String Y) × ℕ))
     → AllZip (λ a b. IsPlaceOf a.0 b.0 × (b.1 ≡ a.1)) places copies
@@ -29,6 +26,4 @@ listed parent name places copies zip =
     (same_test parent name) places copies zip)
 
 pub returns : goal.returns
-returns c =
-    λ parent name none. listed parent name c.args.self.now.ids.entries c.in_ok-clone.field-0.entries
-    c.in_ok-clone.ensures.cases
+returns c = search (rules, listed, c.in_ok-clone.ensures.cases)

@@ -1,6 +1,5 @@
 use Rattle.std.proofs.Common.{◌∙◌, ap}
-use Rattle.room_tree.specs.Places.{places_under}
-use Rattle.room_tree.proofs.Placing.{between, from}
+use Rattle.room_tree.{specs.Places.places_under, proofs.Placing.{between, from}}
 use Rattle.room_tree.proofs.places.Places.under.Goals as goal
 
 pub returns-in_ok-end-in-Some-clause-listed : goal.returns-in_ok-end-in-Some-clause-listed

@@ -1,10 +1,9 @@
-use Rattle.std.proofs.Common.{◌≡◌, ℕ, List, pos, sym, ap, subst, ◌∙◌, arith, rules}
+use Rattle.std.proofs.Common.{sym, ap, subst, ◌∙◌, arith, rules}
 use Rattle.sqlite.specs.Held.{state}
 use Rattle.room_entry.specs.Valid.{is_document}
-use Rattle.room_rows.specs.{declared.node.Node.Node, Counts.capped_rises, Keep.{capped, node_of}}
-use Rattle.room_rows.specs.Keep.{one_more}
-use Rattle.store_tables.specs.{Columns.ReadsAsNode, Shown.GetsBytes, Trust.stays_on}
-use Rattle.store_tables.specs.Trust.{trusted_first, trusted_last}
+use Rattle.room_rows.specs.{declared.node.Node.Node, Counts.capped_rises, Keep.{capped, one_more}}
+use Rattle.room_rows.specs.Keep.{with_bytes}
+use Rattle.store_tables.specs.{Columns.ReadsAsNode, Trust.{stays_on, trusted_first, trusted_last}}
 use Rattle.store_tables.proofs.Adding.{added, put_rows}
 use Rattle.store_tables.proofs.keeper.KeeperKeep.add.Goals as goal
 
@@ -31,20 +30,14 @@ returns g c =
             let one = trusted_first old mid last first.puts.stays second.puts.stays trust in
             let two = trusted_last old mid last first.puts.stays second.puts.stays trust in
             let stored = first.puts.becomes one in
-            let parts = c.at_number-node.ensures in
-            let object : c.at_number-node.result.0 ≡ node_of 0 c.args.node = ap
-            (λ (p : Node × List ℕ). p.0) parts in
-            let bytes : c.at_number-node.result.1 ≡ c.args.node.bytes = ap
-            (λ (p : Node × List ℕ). p.1) parts in
-            let gets = second.puts.becomes two in
-            added c.args.node old.now mid.now last.now c.in_ok-id.id two.now
-            (put_rows old.now mid.now c.in_ok-id.id c.args.node stored.columns one.now
+            let object = c.at_number-node.ensures in
+            let new = with_bytes c.args.node c.args.bytes.now in
+            added new old.now mid.now last.now c.in_ok-id.id two.now
+            (put_rows old.now mid.now c.in_ok-id.id new stored.columns one.now
             stored.from_one (subst (λ n. ReadsAsNode n stored.columns) object stored.stores)
             stored.adds)
-            (is_document c.at_number-node.result.0.kind)
-            (ap (λ (n : Node). is_document n.kind) (sym object))
-            (subst (λ l. GetsBytes (is_document c.at_number-node.result.0.kind)
-            (pos c.in_ok-id.id) l mid.now last.now) (c.as_slice.ensures ∙ bytes) gets);
+            (is_document c.at_number-node.result.kind)
+            (ap (λ (n : Node). is_document n.kind) (sym object)) (second.puts.becomes two);
         unfailed = ap capped (second.puts.unfailed ∙ first.puts.unfailed);
         fault = tt;
       };

@@ -15,8 +15,7 @@ returns g c =
     let rows = c.in_ok-rows.rows.items in
     let asks : QueriesSql (HasBytes (pos id)) old new (Ok c.in_ok-rows.rows) =
     subst (QueriesSql _ old new) came.answer c.select_bytes.ensures.asks in
-    let seen : c.in_ok-seen.seen ≡ bytes_seen rows = c.in_ok-seen.ensures
-    ∙ ap bytes_seen c.as_slice.ensures.value in
+    let seen : c.in_ok-seen.seen ≡ bytes_seen rows = grind (arith, c.in_ok-seen.ensures) in
     let is = sym (c.answer.ensures.answer ∙ ap result_of_seen seen) in
     let told : IsTrusted old new → Tells IsNever (IsBodyOf id) (rows_of old.now) c.answer.result =
     λ trust. subst (Tells IsNever (IsBodyOf id) (rows_of old.now)) is

@@ -1,8 +1,8 @@
-use Rattle.std.proofs.Common.{◌≡◌, IfOk, Ok, refl, sym, ap, subst, ◌∙◌, pos, arith}
+use Rattle.std.proofs.Common.{◌≡◌, Ok, refl, sym, ap, subst, ◌∙◌, pos, arith}
 use Rattle.sqlite.specs.Held.{state}
 use Rattle.room_rows.specs.Keep.{IsChildOf, IsUnreadable, capped}
 use Rattle.store_tables.specs.{Meaning.rows_of, Seeing.{result_of_seen, seen_only}}
-use Rattle.store_tables.specs.{Statements.{HasChild, QueriesSql}, Trust.IsTrusted, Whole.SeesNamed}
+use Rattle.store_tables.specs.{Statements.{HasChild, QueriesSql}, Trust.IsTrusted}
 use Rattle.store_tables.proofs.{Named.tells_child, Nodes.{Tells, reads}, Whole.sees_named}
 use Rattle.store_tables.proofs.keeper.KeeperKeep.child.Goals as goal
 
@@ -16,8 +16,7 @@ returns g c =
     let rows = c.in_ok-rows.rows.items in
     let asks : QueriesSql (HasChild (pos parent) name) old new (Ok c.in_ok-rows.rows) =
     subst (QueriesSql _ old new) came.answer c.select_child.ensures.asks in
-    let seen : c.in_ok-seen.seen ≡ seen_only rows = c.in_ok-seen.ensures
-    ∙ ap seen_only c.as_slice.ensures.value in
+    let seen : c.in_ok-seen.seen ≡ seen_only rows = grind (arith, c.in_ok-seen.ensures) in
     let is = sym (c.answer.ensures.answer ∙ ap result_of_seen seen) in
     let told : IsTrusted old new → Tells IsUnreadable (IsChildOf parent name) (rows_of old.now) c.answer.result =
     λ trust. subst (Tells IsUnreadable (IsChildOf parent name) (rows_of old.now)) is
@@ -31,7 +30,6 @@ returns g c =
         omega arith,
       ) refl (λ trust. ap rows_of (asks.same trust.clean trust.now).0.now_is)
           (ap capped came.unfailed) c.answer.ensures.counted told;
-      whole = λ trust. subst (λ r. IfOk r (SeesNamed parent name old.now)) is
-          (sees_named old.now parent name rows (asks.rows trust.clean trust.now));
+      whole = λ trust. grind (arith, sees_named, parent, name, rows, asks, asks.rows, trust.clean);
       counted = omega arith;
     }

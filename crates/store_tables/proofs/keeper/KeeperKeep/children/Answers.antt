@@ -1,8 +1,8 @@
-use Rattle.std.proofs.Common.{◌≡◌, [], IfOk, Ok, refl, sym, ap, subst, ◌∙◌, pos, arith}
+use Rattle.std.proofs.Common.{◌≡◌, [], Ok, refl, sym, ap, subst, ◌∙◌, pos, arith}
 use Rattle.sqlite.specs.Held.{state}
 use Rattle.room_rows.specs.Keep.{AreChildrenOf, IsUnreadable, capped}
 use Rattle.store_tables.specs.{Meaning.{node_in, rows_of}, Seeing.{result_of_seen, seen_behind}}
-use Rattle.store_tables.specs.{Statements.{HasUnder, QueriesSql}, Trust.IsTrusted, Whole.SeesEach}
+use Rattle.store_tables.specs.{Statements.{HasUnder, QueriesSql}, Trust.IsTrusted}
 use Rattle.store_tables.proofs.{Nodes.{Tells, reads}, Under.tells_under, Whole.sees_under}
 use Rattle.store_tables.proofs.keeper.KeeperKeep.children.Goals as goal
 
@@ -30,7 +30,6 @@ returns g c =
         omega arith,
       ) refl (λ trust. ap rows_of (asks.same trust.clean trust.now).0.now_is)
           (ap capped came.unfailed) c.answer.ensures.counted told;
-      whole = λ trust. subst (λ r. IfOk r (SeesEach parent old.now)) is
-          (sees_under old.now parent rows (asks.rows trust.clean trust.now));
+      whole = grind (arith, parent, is, sees_under, rows, asks.rows);
       counted = omega arith;
     }

@@ -15,25 +15,17 @@ returns g c =
     let rows = c.in_ok-rows.rows.items in
     let asks : QueriesSql (HasGroups c.as_str.result.now) old new (Ok c.in_ok-rows.rows) =
     subst (QueriesSql _ old new) came.answer c.select_groups.ensures.asks in
-    let seen : c.in_ok-names.names ≡ names_seen rows = c.in_ok-names.ensures
-    ∙ ap names_seen c.as_slice.ensures.value in
+    let seen : c.in_ok-names.names ≡ names_seen rows = grind (arith, c.in_ok-names.ensures) in
     record {
       read = record {
-        follows = (
-          refl,
-          c.select_groups.ensures.same_reference,
-          asks.stays,
-          came.no_less,
-          omega arith,
-        );
+        follows = grind (arith, c.select_groups.ensures.same_reference, asks.stays, came.no_less);
         unwritten = refl;
         same = λ trust. ap rows_of (asks.same trust.clean trust.now).0.now_is;
         answers =
             λ trust. seen ∙ tells_groups user c.is_known.ensures
             (c.names_are_text.ensures user c.is_known.ensures) old.now
             (members_apart old.now trust.now user) rows
-            (subst (λ u. HasGroups u old.now.trees rows) c.as_str.ensures
-            (asks.rows trust.clean trust.now));
+            (grind (arith, old.now.trees, rows, c.as_str.ensures, asks.rows));
         unfailed = ap capped came.unfailed;
         fault = tt;
       };

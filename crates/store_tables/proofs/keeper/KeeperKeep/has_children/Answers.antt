@@ -18,13 +18,7 @@ returns g c =
     let is = sym (c.is_empty.ensures ∙ ap (λ l. length l == 0) c.as_slice.ensures.value) in
     record {
       read = record {
-        follows = (
-          refl,
-          c.select_some.ensures.same_reference,
-          asks.stays,
-          came.no_less,
-          omega arith,
-        );
+        follows = grind (arith, c.select_some.ensures.same_reference, asks.stays, came.no_less);
         unwritten = refl;
         same = λ trust. ap rows_of (asks.same trust.clean trust.now).0.now_is;
         answers =

@@ -2,8 +2,7 @@ use Rattle.std.proofs.Common.{◌≡◌, Ok, refl, ap, subst, ◌∙◌, arith}
 use Rattle.sqlite.specs.Held.{state}
 use Rattle.room_rows.specs.Keep.{capped}
 use Rattle.store_tables.specs.{Meaning.rows_of, Seeing.numbers_seen, Statements.HasNumbers}
-use Rattle.store_tables.specs.Statements.{QueriesSql}
-use Rattle.store_tables.proofs.Numbers.{tells_numbers}
+use Rattle.store_tables.{specs.Statements.QueriesSql, proofs.Numbers.tells_numbers}
 use Rattle.store_tables.proofs.keeper.KeeperKeep.ids.Goals as goal
 
 pub returns : goal.returns
@@ -14,17 +13,10 @@ returns g c =
     let rows = c.in_ok-rows.rows.items in
     let asks : QueriesSql HasNumbers old new (Ok c.in_ok-rows.rows) =
     subst (QueriesSql _ old new) came.answer c.select_numbers.ensures.asks in
-    let seen : c.in_ok-ids.ids ≡ numbers_seen rows = c.in_ok-ids.ensures
-    ∙ ap numbers_seen c.as_slice.ensures.value in
+    let seen : c.in_ok-ids.ids ≡ numbers_seen rows = grind (arith, c.in_ok-ids.ensures) in
     record {
       read = record {
-        follows = (
-          refl,
-          c.select_numbers.ensures.same_reference,
-          asks.stays,
-          came.no_less,
-          omega arith,
-        );
+        follows = grind (arith, c.select_numbers.ensures.same_reference, asks.stays, came.no_less);
         unwritten = refl;
         same = λ trust. ap rows_of (asks.same trust.clean trust.now).0.now_is;
         answers =

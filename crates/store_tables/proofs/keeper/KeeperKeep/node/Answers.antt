@@ -15,8 +15,7 @@ returns g c =
     let rows = c.in_ok-rows.rows.items in
     let asks : QueriesSql (HasNode (pos id)) old new (Ok c.in_ok-rows.rows) =
     subst (QueriesSql _ old new) came.answer c.select_node.ensures.asks in
-    let seen : c.in_ok-seen.seen ≡ seen_only rows = c.in_ok-seen.ensures
-    ∙ ap seen_only c.as_slice.ensures.value in
+    let seen : c.in_ok-seen.seen ≡ seen_only rows = grind (arith, c.in_ok-seen.ensures) in
     let is = sym (c.answer.ensures.answer ∙ ap result_of_seen seen) in
     let told : IsTrusted old new → Tells (IsUnreadableAt id) (IsNodeAt id) (rows_of old.now) c.answer.result =
     λ trust. subst (Tells (IsUnreadableAt id) (IsNodeAt id) (rows_of old.now)) is

@@ -1,8 +1,8 @@
-use Rattle.std.proofs.Common.{◌≡◌, IfOk, Ok, refl, sym, ap, subst, ◌∙◌, arith}
+use Rattle.std.proofs.Common.{◌≡◌, Ok, refl, sym, ap, subst, ◌∙◌, arith}
 use Rattle.sqlite.specs.Held.{state}
 use Rattle.room_rows.specs.Keep.{HasNoRoot, IsRootOf, capped}
 use Rattle.store_tables.specs.{Meaning.rows_of, Seeing.{seen_only, top_of}, Statements.HasTop}
-use Rattle.store_tables.specs.{Statements.QueriesSql, Trust.IsTrusted, Whole.SeesTop}
+use Rattle.store_tables.specs.{Statements.QueriesSql, Trust.IsTrusted}
 use Rattle.store_tables.proofs.{Nodes.{Tells, reads}, Tops.tells_top, Whole.sees_top}
 use Rattle.store_tables.proofs.keeper.KeeperKeep.root.Goals as goal
 
@@ -14,8 +14,7 @@ returns g c =
     let rows = c.in_ok-rows.rows.items in
     let asks : QueriesSql HasTop old new (Ok c.in_ok-rows.rows) =
     subst (QueriesSql _ old new) came.answer c.select_top.ensures.asks in
-    let seen : c.in_ok-seen.seen ≡ seen_only rows = c.in_ok-seen.ensures
-    ∙ ap seen_only c.as_slice.ensures.value in
+    let seen : c.in_ok-seen.seen ≡ seen_only rows = grind (arith, c.in_ok-seen.ensures) in
     let is = sym (c.answer_top.ensures.answer ∙ ap top_of seen) in
     let told : IsTrusted old new → Tells HasNoRoot IsRootOf (rows_of old.now) c.answer_top.result =
     λ trust. subst (Tells HasNoRoot IsRootOf (rows_of old.now)) is
@@ -29,7 +28,6 @@ returns g c =
         omega arith,
       ) refl (λ trust. ap rows_of (asks.same trust.clean trust.now).0.now_is)
           (ap capped came.unfailed) c.answer_top.ensures.counted told;
-      whole = λ trust. subst (λ r. IfOk r (SeesTop old.now)) is
-          (sees_top old.now rows (asks.rows trust.clean trust.now));
+      whole = grind (arith, is, sees_top, rows, asks.rows);
       counted = omega arith;
     }

@@ -1,6 +1,6 @@
 use Rattle.std.proofs.Common.{ap, arith}
-use Rattle.room_rows.specs.{Counts.capped_rises, Keep.capped}
-use Rattle.store_tables.proofs.{Changing.{cause_later, writes_rise}, Tests.if_ok}
+use Rattle.room_rows.specs.{Keep.{capped}}
+use Rattle.store_tables.proofs.{Changing.{cause_in, writes_rise}, Tests.if_ok}
 use Rattle.store_tables.proofs.keeper.KeeperKeep.set_inh_all.Goals as goal
 
 pub returns : goal.returns
@@ -19,8 +19,7 @@ returns g c =
         becomes = put.puts.becomes;
         unfailed = if_ok c.put_inh_all.result _ _ (λ done same. ap capped same) put.puts.unfailed;
         fault =
-            cause_later c.put_inh_all.result _ _ _ _ (omega arith)
-            (capped_rises _ _ put.puts.no_less) put.puts.fault;
+            grind (arith, cause_in, put, put.puts.no_less, put.puts.fault);
       };
       unread = omega arith;
     }

@@ -1,6 +1,5 @@
 use Rattle.std.proofs.Common.{List, Some, sym, ap, ◌∙◌}
-use Rattle.room_entry.specs.Ace.{Ace}
-use Rattle.room_entry.proofs.Same.{entries_equal}
+use Rattle.room_entry.{specs.Ace.Ace, proofs.Same.entries_equal}
 use Rattle.room_ace.specs.{Column.entries_of, Lists.entry_lines}
 use Rattle.store_tables.proofs.recent.PrintedText.spelling.Goals as goal
 
