@@ -38,9 +38,8 @@ is_met : (names : Bor (List (Bor Text))) (words : List Text)
     → is_some (subcommand_of (command_line names) words) ≡ true
 is_met names words none =
     let app = built (command_line names) in
-    wants names
-    (grind (arith, app.top.rules))
-    (is_some (subcommand_of (command_line names) words))
+    -- (no row matters: the top has no argument of its own)
+    wants names [] (is_some (subcommand_of (command_line names) words))
     (search (rules, level_last, none, app.top))
 
 -- What a level without fault below has read.
