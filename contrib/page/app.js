@@ -46,7 +46,8 @@ async function showObject(path, view, isCurrent) {
   const kind = await waitFor(kindOf(path));
   if (!isCurrent()) return;
   const box = element('div', { class: 'sheet padded' });
-  main.replaceChildren(element('section', { 'aria-label': 'Access' }, objectHead(path, view, kind), box));
+  const head = objectHead(path, view, kind);
+  main.replaceChildren(element('section', { 'aria-label': 'Access' }, head, box));
   if (kind === 'document') arrived(path, kind);
   if (view === 'access') await showAccess(path, kind, box, isCurrent);
   else if (view === 'rights') await showRights(path, kind, box, isCurrent);

@@ -2,7 +2,8 @@
 
 // For every pair of suffixes of both texts, the length of their longest common subsequence.
 function commonLengths(before, after) {
-  const lengths = Array.from({ length: before.length + 1 }, () => new Uint16Array(after.length + 1));
+  const row = () => new Uint16Array(after.length + 1);
+  const lengths = Array.from({ length: before.length + 1 }, row);
   for (let i = before.length - 1; i >= 0; i -= 1) {
     for (let j = after.length - 1; j >= 0; j -= 1) {
       lengths[i][j] = before[i] === after[j]
@@ -22,7 +23,8 @@ function middle(before, after) {
       changes.push({ sign: ' ', line: before[i] });
       i += 1;
       j += 1;
-    } else if (j === after.length || (i < before.length && lengths[i + 1][j] >= lengths[i][j + 1])) {
+    } else if (j === after.length
+      || (i < before.length && lengths[i + 1][j] >= lengths[i][j + 1])) {
       changes.push({ sign: '-', line: before[i] });
       i += 1;
     } else {
@@ -35,7 +37,8 @@ function middle(before, after) {
 
 const same = (line) => ({ sign: ' ', line });
 
-// [{sign: ' ', '-' or '+', line}]. What is equal at both ends is set aside first, so that long lists are quick.
+// [{sign: ' ', '-' or '+', line}]. What is equal at both ends is set aside first, so that long
+// lists are quick.
 export function changedLines(before, after) {
   const shorter = Math.min(before.length, after.length);
   let head = 0;

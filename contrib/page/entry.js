@@ -7,7 +7,9 @@ import {
 } from './words.js';
 
 const TYPES = { dacl: ['A', 'D'], sacl: ['U', 'L'] };
-const OUTCOMES = [['F', 'what was refused'], ['S', 'what was granted'], ['SF', 'both'], ['', 'nothing']];
+const OUTCOMES = [
+  ['F', 'what was refused'], ['S', 'what was granted'], ['SF', 'both'], ['', 'nothing'],
+];
 
 // Replaces the flags of one set by others.
 const exchange = (flags, set, others) =>
@@ -16,33 +18,39 @@ const flagsOf = (entry, set) => [...set].filter((flag) => entry.flags.includes(f
 
 function select(label, options, value, onPick) {
   const made = element('select', { 'aria-label': label },
-    options.map(([key, words]) => element('option', { value: key, selected: key === value }, words)));
+    options.map(
+      ([key, words]) => element('option', { value: key, selected: key === value }, words)));
   made.addEventListener('change', () => onPick(made.value));
   return made;
 }
 
 function typeControl(entry, which, changed) {
-  return select('Type', TYPES[which].map((type) => [type, TYPE_WORDS[type]]), entry.type, (type) => {
+  const types = TYPES[which].map((type) => [type, TYPE_WORDS[type]]);
+  return select('Type', types, entry.type, (type) => {
     entry.type = type;
     changed();
   });
 }
 
 function whoControl(entry, changed) {
+  const wordsOf = (who) =>
+    whoWords({ who, flags: '' }).replace(/^./, (first) => first.toUpperCase());
   const kinds = [['user', 'User'], ['group', 'Group'],
-    ...SPECIAL.map((who) => [who, whoWords({ who, flags: '' }).replace(/^./, (first) => first.toUpperCase())])];
+    ...SPECIAL.map((who) => [who, wordsOf(who)])];
   const isSpecial = SPECIAL.includes(entry.who);
   const hint = element('p', { class: 'hint', id: freshId('who') });
   const name = element('input', {
-    type: 'text', value: isSpecial ? '' : entry.who, 'aria-label': 'Name', placeholder: 'Name', autocomplete: 'off',
-    autocapitalize: 'none', spellcheck: 'false', hidden: isSpecial, 'aria-describedby': hint.id,
+    type: 'text', value: isSpecial ? '' : entry.who, 'aria-label': 'Name', placeholder: 'Name',
+    autocomplete: 'off', autocapitalize: 'none', spellcheck: 'false', hidden: isSpecial,
+    'aria-describedby': hint.id,
   });
   const judge = () => {
     const fits = name.hidden || name.value === '' || isName(name.value);
     name.setAttribute('aria-invalid', String(!fits));
     hint.textContent = fits ? '' : faultWords('A3');
   };
-  const kind = select('Who', kinds, isSpecial ? entry.who : isGroup(entry) ? 'group' : 'user', (value) => {
+  const now = isSpecial ? entry.who : isGroup(entry) ? 'group' : 'user';
+  const kind = select('Who', kinds, now, (value) => {
     name.hidden = SPECIAL.includes(value);
     entry.who = name.hidden ? value : name.value;
     entry.flags = exchange(entry.flags, 'g', value === 'group' ? 'g' : '');
@@ -61,7 +69,8 @@ function whoControl(entry, changed) {
 function groupBox(group, entry, kind, changed) {
   const box = element('input', { type: 'checkbox' });
   box.addEventListener('change', () => {
-    const rest = [...entry.mask].filter((letter) => !(group.letters + group.idle).includes(letter)).join('');
+    const own = group.letters + group.idle;
+    const rest = [...entry.mask].filter((letter) => !own.includes(letter)).join('');
     entry.mask = orderMask(rest + (box.checked ? group.letters : ''));
     changed();
   });
@@ -81,7 +90,8 @@ function letterBox(letter, entry, kind, changed) {
     changed();
   });
   const show = () => { box.checked = entry.mask.includes(letter); };
-  return { show, shown: element('label', { class: 'tick' }, box, element('code', {}, letter), rightWords(letter, kind)) };
+  const said = [element('code', {}, letter), rightWords(letter, kind)];
+  return { show, shown: element('label', { class: 'tick' }, box, ...said) };
 }
 
 function singleRights(entry, kind, changed) {
@@ -113,9 +123,11 @@ function rightsControl(entry, kind, changed) {
   const { boxes, parts } = singleRights(entry, kind === 'folder' ? 'both' : kind, both);
   shows.push(...[...groups, ...boxes].map((one) => one.show));
   all();
+  const heading = element('span', { class: 'unseen' }, 'Single rights: ');
   return element('div', { class: 'rights-of' },
-    element('div', { class: 'groups', role: 'group', 'aria-label': 'Rights' }, groups.map((one) => one.shown)),
-    element('details', {}, element('summary', {}, element('span', { class: 'unseen' }, 'Single rights: '), letters), parts));
+    element('div', { class: 'groups', role: 'group', 'aria-label': 'Rights' },
+      groups.map((one) => one.shown)),
+    element('details', {}, element('summary', {}, heading, letters), parts));
 }
 
 // Rarer ways to pass an entry on are offered only where it has them already.
@@ -168,6 +180,8 @@ export function words(entry, draft) {
 
 export function newEntry(which, kind) {
   const reach = kind === 'folder' ? 'fd' : '';
-  if (which === 'sacl') return { type: 'U', flags: `${reach}F`, who: '', mask: kind === 'folder' ? 'rx' : 'r' };
+  if (which === 'sacl') {
+    return { type: 'U', flags: `${reach}F`, who: '', mask: kind === 'folder' ? 'rx' : 'r' };
+  }
   return { type: 'A', flags: reach, who: '', mask: 'rxtc' };
 }

@@ -12,7 +12,8 @@ import { drawText } from './text.js';
 import { sentenceOf } from './words.js';
 
 const INTRODUCTIONS = {
-  dacl: 'The list is read from top to bottom: each right is decided by the first entry that applies to the caller and has that right. What no entry allows is denied.',
+  dacl: 'The list is read from top to bottom: each right is decided by the first entry that '
+    + 'applies to the caller and has that right. What no entry allows is denied.',
   sacl: 'These entries grant and deny nothing. They make the room record what was tried.',
 };
 
@@ -27,7 +28,8 @@ async function mayChange(path) {
 function panes(draft) {
   let shown = 'Table';
   let showTextFault = null;
-  const { strip, panel, show } = tabs(['Table', 'Text'], 'Ways to look at the list', (name, body) => {
+  const ways = ['Table', 'Text'];
+  const { strip, panel, show } = tabs(ways, 'Ways to look at the list', (name, body) => {
     shown = name;
     if (name === 'Text') showTextFault = drawText(draft, body);
     else drawTable(draft, body);
@@ -70,10 +72,12 @@ function changesBar(draft, both) {
     draft.setText(draft.base);
     both.redraw();
   });
-  const bar = element('div', { class: 'send' }, element('span', { class: 'hint' }, UNSENT), drop, send);
+  const hint = element('span', { class: 'hint' }, UNSENT);
+  const bar = element('div', { class: 'send' }, hint, drop, send);
   draft.onChange = () => {
     bar.hidden = !draft.isChanged;
-    if (draft.isChanged !== (told.textContent !== '')) told.textContent = draft.isChanged ? UNSENT : '';
+    const isTold = told.textContent !== '';
+    if (draft.isChanged !== isTold) told.textContent = draft.isChanged ? UNSENT : '';
   };
   draft.onChange();
   return [told, bar];

@@ -8,7 +8,8 @@ const place = () => document.getElementById('notices');
 
 // 'kind' is 'good' or 'bad'. Good news disappears by itself, bad news stays until it is closed.
 export function tell(kind, text, ...actions) {
-  const close = button(icon('cross'), () => notice.remove(), { class: 'plain', 'aria-label': 'Close this message' });
+  const close = button(icon('cross'), () => notice.remove(),
+    { class: 'plain', 'aria-label': 'Close this message' });
   const said = element('p', {}, text);
   const notice = element('div', {
     class: `notice ${kind}`, role: kind === 'bad' ? 'alert' : 'status', 'data-text': text,
@@ -119,13 +120,15 @@ export function form(title, fields, submit, ...more) {
     const send = (event) => {
       event.preventDefault();
       const faults = fields.map((one, index) => one.fault(inputs[index].value));
-      faults.forEach((fault, index) => showFault(inputs[index], boxes[index], fault, fields[index].hint));
+      faults.forEach(
+        (fault, index) => showFault(inputs[index], boxes[index], fault, fields[index].hint));
       const wrong = faults.findIndex((fault) => fault !== null);
       if (wrong >= 0) inputs[wrong].focus();
       else finish(inputs.map((input) => input.value));
     };
     return [element('form', { onsubmit: send }, boxes, more, element('div', { class: 'actions' },
-      button('Cancel', () => finish(null)), element('button', { type: 'submit', class: 'primary' }, submit)))];
+      button('Cancel', () => finish(null)),
+      element('button', { type: 'submit', class: 'primary' }, submit)))];
   });
 }
 

@@ -8,8 +8,8 @@ import { callerWords, capital, counted, listed, placeWords } from './words.js';
 
 const REMEDY = ' An entry that denies it to everyone (D:d:EVERYONE@:Dd), below the entries of '
   + 'those who may, prevents that.';
-export const OPENS = 'Whoever may move something away can put it into a folder of their own, and there '
-  + 'read what follows that folder’s list. What has to stay shut has to be protected (p).';
+export const OPENS = 'Whoever may move something away can put it into a folder of their own, and '
+  + 'there read what follows that folder’s list. What has to stay shut has to be protected (p).';
 const UNSEEN = 'Not everything below could be looked at: there may be more protected folders.';
 const MOST_NAMED = 3;
 

@@ -52,12 +52,13 @@ function line(may, words, why) {
 }
 
 async function removalLine(path, rulings, entries) {
-  if (path === '/') return line(false, 'remove it or move it away', 'The top of the room stays where it is.');
+  const what = 'remove it or move it away';
+  if (path === '/') return line(false, what, 'The top of the room stays where it is.');
   const folder = api.parentOf(path);
   const above = await api.can(folder, 'Dw').catch(none);
-  if (above.fault) return line(rulings.d.ruling === 'allowed', 'remove it or move it away', sentenceOf(above.fault));
+  if (above.fault) return line(rulings.d.ruling === 'allowed', what, sentenceOf(above.fault));
   const { may, why } = removal(rulings.d, above, entries, folder);
-  return line(may, 'remove it or move it away', why);
+  return line(may, what, why);
 }
 
 async function rightsTable(path, kind) {
@@ -96,7 +97,8 @@ function ownersBox(path, attributes, refresh) {
     element('dl', {},
       element('dt', {}, 'Owner'), element('dd', {}, attributes.owner),
       element('dt', {}, 'Group'), element('dd', {}, attributes.group)),
-    button('Change', () => changeOwners(path, attributes, refresh), { class: 'small', 'aria-label': 'Change owner and group' }));
+    button('Change', () => changeOwners(path, attributes, refresh),
+      { class: 'small', 'aria-label': 'Change owner and group' }));
 }
 
 // Whether the object is a folder: by its attributes, by the listing of its parent, or by its own

@@ -12,9 +12,10 @@ const SIGNS = { '+': ['ins', 'New: '], '-': ['del', 'Gone: '] };
 
 function changedLine({ sign, line }) {
   const [tag, words] = SIGNS[sign];
-  const meaning = readEntry(line).entry ? element('span', { class: 'hint' }, entryWords(line)) : null;
-  return element('li', { class: tag },
-    element(tag, {}, element('span', { class: 'unseen' }, words), element('code', {}, line)), meaning);
+  const isEntry = Boolean(readEntry(line).entry);
+  const said = [element('span', { class: 'unseen' }, words), element('code', {}, line)];
+  return element('li', { class: tag }, element(tag, {}, said),
+    isEntry ? element('span', { class: 'hint' }, entryWords(line)) : null);
 }
 
 export function difference(before, after) {
@@ -35,7 +36,8 @@ const review = (before, after, warned) => showDialog('Send these changes?', (fin
 const changedElsewhere = (before, now) => showDialog('The list was changed elsewhere', (finish) => [
   element('p', {}, 'Since you opened it, somebody changed this list or one that it inherits from:'),
   difference(before, now),
-  element('p', {}, 'Take the list as it is now and drop your changes, or go on with yours. Then you are shown what they would undo.'),
+  element('p', {}, 'Take the list as it is now and drop your changes, or go on with yours. Then '
+    + 'you are shown what they would undo.'),
   element('div', { class: 'actions' },
     button('Cancel', () => finish(null), { autofocus: true }),
     button('Take the list as it is', () => finish('theirs')),

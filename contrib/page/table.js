@@ -21,17 +21,20 @@ function moves(draft, place, redraw) {
   };
   return element('td', { class: 'moves', 'data-heading': 'Order' }, element('div', {},
     button(icon('up'), () => shift(-1, 'up'), {
-      class: 'plain up', 'aria-label': `Move entry ${number} up`, 'aria-disabled': String(place === own[0]),
+      class: 'plain up', 'aria-label': `Move entry ${number} up`,
+      'aria-disabled': String(place === own[0]),
     }),
     button(icon('down'), () => shift(1, 'down'), {
-      class: 'plain down', 'aria-label': `Move entry ${number} down`, 'aria-disabled': String(place === own.at(-1)),
+      class: 'plain down', 'aria-label': `Move entry ${number} down`,
+      'aria-disabled': String(place === own.at(-1)),
     }),
     button(icon('cross'), drop, { class: 'plain drop', 'aria-label': `Remove entry ${number}` })));
 }
 
 function ownRow(draft, place, redraw) {
   const entry = draft.list.entries[place];
-  const shown = draft.mayChange ? controls(entry, draft, () => draft.listChanged()) : words(entry, draft);
+  const shown = draft.mayChange
+    ? controls(entry, draft, () => draft.listChanged()) : words(entry, draft);
   return element('tr', { 'data-place': String(place) },
     element('th', { scope: 'row', class: 'number' }, String(place + 1)), shown.map(cell),
     draft.mayChange ? moves(draft, place, redraw) : null);
@@ -41,16 +44,19 @@ function inheritedRow(draft, entry) {
   return element('tr', { class: 'inherited' },
     element('th', { scope: 'row', class: 'number' }, String(draft.list.entries.indexOf(entry) + 1)),
     words(entry, draft).map(cell),
-    draft.mayChange ? element('td', { class: 'moves' }, element('span', { class: 'hint' }, 'from above')) : null);
+    draft.mayChange
+      ? element('td', { class: 'moves' }, element('span', { class: 'hint' }, 'from above')) : null);
 }
 
 function faultRow(draft, columns) {
-  return element('tr', { class: 'fault' }, element('td', { colspan: String(columns), role: 'alert' },
-    `Entry ${draft.faultPlace() + 1}: ${faultWords(draft.fault.code)}`));
+  const said = `Entry ${draft.faultPlace() + 1}: ${faultWords(draft.fault.code)}`;
+  return element('tr', { class: 'fault' },
+    element('td', { colspan: String(columns), role: 'alert' }, said));
 }
 
 function flagBox(draft, name, label, hint, redraw) {
-  const box = element('input', { type: 'checkbox', checked: draft.list[name], disabled: !draft.mayChange });
+  const box = element('input',
+    { type: 'checkbox', checked: draft.list[name], disabled: !draft.mayChange });
   box.addEventListener('change', () => {
     draft.list[name] = box.checked;
     draft.listChanged();
@@ -66,7 +72,8 @@ function flags(draft, redraw) {
     draft.kind === 'folder' ? flagBox(draft, 'auto', 'Pass on',
       'What lies in this folder follows this list, also when it changes.', redraw) : null,
     draft.path === '/' ? null : flagBox(draft, 'protect', 'Protect',
-      'Nothing comes here from the folder above any more. The grey entries stay as they are now, unless they are dropped.', redraw),
+      'Nothing comes here from the folder above any more. The grey entries stay as they are now, '
+        + 'unless they are dropped.', redraw),
     kept ? button('Drop the grey entries', () => {
       draft.dropInherited();
       redraw((body) => body.querySelector('.flag-protect input'));
@@ -96,7 +103,8 @@ function rows(draft, columns, redraw) {
 export function drawTable(draft, body, focusOn = null) {
   if (!draft.list) {
     body.replaceChildren(element('p', { class: 'empty' },
-      `The text can’t be read: line ${draft.fault.line}. ${faultWords(draft.fault.code)} Correct it under “Text”.`));
+      `The text can’t be read: line ${draft.fault.line}. ${faultWords(draft.fault.code)} Correct `
+        + 'it under “Text”.'));
     return;
   }
   const redraw = (pick) => drawTable(draft, body, pick);
@@ -108,7 +116,8 @@ export function drawTable(draft, body, focusOn = null) {
   const content = draft.list.entries.length === 0
     ? element('p', { class: 'empty' }, 'The list has no entries.')
     : element('table', { class: `entries ${draft.which}` },
-      element('caption', { class: 'unseen' }, 'Entries in order. The first one that applies to a caller and has a right decides it.'),
+      element('caption', { class: 'unseen' }, 'Entries in order. The first one that applies to a '
+        + 'caller and has a right decides it.'),
       element('colgroup', {}, columns.map(([name]) => element('col', { class: `col-${name}` }))),
       element('thead', {}, element('tr', {},
         columns.map(([, heading]) => element('th', { scope: 'col' }, heading)))),

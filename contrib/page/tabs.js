@@ -6,7 +6,8 @@ import { element, freshId } from './dom.js';
 export function tabs(names, label, draw) {
   const panel = element('div', { role: 'tabpanel', id: freshId('panel') });
   const made = names.map((name) => element('button', {
-    type: 'button', role: 'tab', id: freshId('tab'), 'aria-controls': panel.id, onclick: () => show(name),
+    type: 'button', role: 'tab', id: freshId('tab'), 'aria-controls': panel.id,
+    onclick: () => show(name),
   }, name));
   const show = (name) => {
     made.forEach((tab) => {

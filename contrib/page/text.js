@@ -23,7 +23,8 @@ export function drawText(draft, body) {
     gutter.replaceChildren(...numbers(draft));
     area.rows = Math.max(6, linesOf(draft.text).length + 1);
     area.setAttribute('aria-invalid', String(draft.fault !== null));
-    told.textContent = draft.fault ? `Line ${draft.fault.line}: ${faultWords(draft.fault.code)}` : '';
+    told.textContent = draft.fault
+      ? `Line ${draft.fault.line}: ${faultWords(draft.fault.code)}` : '';
     if (goThere) select(area, draft.fault.line);
   };
   area.addEventListener('input', () => {
@@ -31,8 +32,11 @@ export function drawText(draft, body) {
     show();
   });
   body.replaceChildren(element('div', { class: 'text' }, gutter, area), told,
-    element('p', { class: 'hint' }, 'The first line is “list:” with a (pass on) and p (protect). Then an entry stands on each line: ',
-      element('code', {}, 'type:flags:who:rights'), '. Entries with the flag I come from a folder above.'));
+    element('p', { class: 'hint' },
+      'The first line is “list:” with a (pass on) and p (protect). Then an entry stands on each '
+        + 'line: ',
+      element('code', {}, 'type:flags:who:rights'),
+      '. Entries with the flag I come from a folder above.'));
   show();
   return show;
 }

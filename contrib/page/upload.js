@@ -148,9 +148,9 @@ class Upload {
     if (lost.length > 0) {
       const gone = counted(lost.length, 'document');
       const are = lost.length === 1 ? 'is' : 'are';
-      tell('bad', `The room was interrupted during the upload, and ${gone} that it had taken ${are} `
-        + 'gone. It was probably set back to an earlier copy: ask the administrator what else is '
-        + 'gone, and try the failed ones again.');
+      tell('bad', 'The room was interrupted during the upload, and '
+        + `${gone} that it had taken ${are} gone. It was probably set back to an earlier copy: `
+        + 'ask the administrator what else is gone, and try the failed ones again.');
     }
   }
 

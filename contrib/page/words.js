@@ -22,13 +22,22 @@ export const groupName = (group, kind) =>
 const ASKED_RIGHTS = GROUPS.map((group) => group.letters).join('').length;
 
 const RIGHTS = {
-  r: { document: 'read it', folder: 'see what is in it', both: 'read documents or see what is in folders' },
+  r: {
+    document: 'read it', folder: 'see what is in it',
+    both: 'read documents or see what is in folders',
+  },
   x: { both: 'pass through to what is in it' },
   t: { both: 'see its kind, owner and group' },
   c: { both: 'see its access lists' },
   n: { both: 'read named attributes' },
-  w: { document: 'replace its contents', folder: 'put new documents into it', both: 'replace documents or put new ones into folders' },
-  a: { document: 'add to its end', folder: 'make folders in it', both: 'add to documents or make folders' },
+  w: {
+    document: 'replace its contents', folder: 'put new documents into it',
+    both: 'replace documents or put new ones into folders',
+  },
+  a: {
+    document: 'add to its end', folder: 'make folders in it',
+    both: 'add to documents or make folders',
+  },
   D: { both: 'remove or move away what is in it' },
   d: { both: 'remove it or move it away' },
   N: { both: 'write named attributes' },
@@ -52,7 +61,8 @@ export const counted = (count, word) =>
 
 // Rights that no request asks for are named only if there are no others.
 export function maskWords(mask, kind) {
-  const asked = [...mask].filter((letter) => GROUPS.some((group) => group.letters.includes(letter)));
+  const isAsked = (letter) => GROUPS.some((group) => group.letters.includes(letter));
+  const asked = [...mask].filter(isAsked);
   if (asked.length === ASKED_RIGHTS) return 'do everything';
   return listed((asked.length > 0 ? asked : [...mask]).map((letter) => rightWords(letter, kind)));
 }
@@ -61,7 +71,8 @@ export function maskWords(mask, kind) {
 export function extentOf(group, mask) {
   const held = [...group.letters].filter((letter) => mask.includes(letter));
   if (held.length === group.letters.length) return 'all';
-  return held.length > 0 || [...group.idle].some((letter) => mask.includes(letter)) ? 'some' : 'none';
+  const hasIdle = [...group.idle].some((letter) => mask.includes(letter));
+  return held.length > 0 || hasIdle ? 'some' : 'none';
 }
 
 const SPECIAL_WORDS = {
@@ -129,13 +140,18 @@ export const isolated = (name) => `\u2068${marked(name)}\u2069`;
 const FAULTS = {
   A1: 'The type has to be A (allow) or D (deny), for records U (audit) or L (alarm).',
   A2: 'The flags may be the letters f d n i S F g I and no others.',
-  A3: 'This is no name of a user or a group. Names have letters, digits and . _ - + $ \\, no spaces and no umlauts; the special names are OWNER@, GROUP@, EVERYONE@, ANONYMOUS@ and AUTHENTICATED@.',
+  A3: 'This is no name of a user or a group. Names have letters, digits and . _ - + $ \\, no '
+    + 'spaces and no umlauts; the special names are OWNER@, GROUP@, EVERYONE@, ANONYMOUS@ and '
+    + 'AUTHENTICATED@.',
   A4: 'The rights may be the letters rwanNxDtThHdcCoy and no others, and no spaces.',
   A5: 'An entry has four parts with three colons between them: type:flags:who:rights.',
-  A6: 'The first line has to be “list:”, followed by a, p or both if you want them, and by nothing else.',
+  A6: 'The first line has to be “list:”, followed by a, p or both if you want them, and by nothing '
+    + 'else.',
   A7: 'A list that is sent may have 4,096 entries at most.',
-  A8: 'A list may have 64 entries of its own at most. Put people into a group and name that instead.',
-  A9: 'An entry of this type belongs in the other list: allow and deny decide access, audit and alarm ask for records.',
+  A8: 'A list may have 64 entries of its own at most. Put people into a group and name that '
+    + 'instead.',
+  A9: 'An entry of this type belongs in the other list: allow and deny decide access, audit and '
+    + 'alarm ask for records.',
   A10: 'S and F are for audit and alarm alone: an entry that allows or denies has neither.',
   A11: '“Not here” needs something below to which the entry is passed on (f or d).',
   A12: 'Nothing lies below a document, so its entries can’t be passed on (no f, d, n, i).',
@@ -146,15 +162,19 @@ export const faultWords = (code) => FAULTS[code] ?? `The room doesn’t accept t
 
 const CONFLICTS = {
   'not-folder': (at) => `${at} is a document, so nothing lies below it. Load the folder again.`,
-  'wrong-kind': (at) => `${at} is of another kind, a folder where a document is wanted or the other way round. Choose another name.`,
-  exists: (at) => `There is already something at ${at}. Choose another name, or remove what is there first.`,
+  'wrong-kind': (at) => `${at} is of another kind, a folder where a document is wanted or the `
+    + 'other way round. Choose another name.',
+  exists: (at) => `There is already something at ${at}. Choose another name, or remove what is `
+    + 'there first.',
   'not-empty': (at) => `${at} isn’t empty. Remove or move what is in it first.`,
   root: () => 'The top of the room can’t be removed or moved.',
-  loop: () => 'A folder can’t be moved into itself or into a folder below it. Choose another place.',
+  loop: () => 'A folder can’t be moved into itself or into a folder below it. Choose another '
+    + 'place.',
 };
 
 const BAD_TARGETS = {
-  P1: 'A name may not be empty, “.” or “..”, nor longer than 255 bytes, nor have invisible characters. Choose another name.',
+  P1: 'A name may not be empty, “.” or “..”, nor longer than 255 bytes, nor have invisible '
+    + 'characters. Choose another name.',
   P2: 'The path is longer than 4,096 bytes. Choose shorter names, or a place further up.',
   P3: 'The name has characters that can’t be sent. Choose another name.',
 };
@@ -162,8 +182,14 @@ const BAD_TARGETS = {
 function badRequest(body) {
   const [why, code] = (body?.why ?? '').split(' ');
   if (why === 'bad-target' && BAD_TARGETS[code]) return BAD_TARGETS[code];
-  if (why === 'bad-user') return 'The room doesn’t accept your user name. Tell the administrator: names have only letters, digits and . _ - + $ \\.';
-  if (why === 'bad-body') return 'The name of a user, a group or an object wasn’t accepted. Names of users and groups have letters, digits and . _ - + $ \\, no spaces.';
+  if (why === 'bad-user') {
+    return 'The room doesn’t accept your user name. Tell the administrator: names have only '
+      + 'letters, digits and . _ - + $ \\.';
+  }
+  if (why === 'bad-body') {
+    return 'The name of a user, a group or an object wasn’t accepted. Names of users and groups '
+      + 'have letters, digits and . _ - + $ \\, no spaces.';
+  }
   return `The room couldn’t read the request${why ? ` (${why})` : ''}. Load the page again.`;
 }
 
@@ -193,7 +219,8 @@ export function denialWords(denial, asked) {
   }
   const why = denial.entry === null
     ? 'No entry of its access list grants that.'
-    : `Entry ${denial.entry} of its access list denies it: it ${entryWords(denial.text)} (${isolated(denial.text)}).`;
+    : `Entry ${denial.entry} of its access list denies it: it ${entryWords(denial.text)} `
+      + `(${isolated(denial.text)}).`;
   const what = mayNotWords(denial, asked);
   return { text: `At ${placeWords(denial.at)} you may not ${what}. ${ASK}`, why };
 }
@@ -202,20 +229,27 @@ export function denialWords(denial, asked) {
 export const ASK = 'Ask whoever manages it.';
 
 const SENTENCES = {
-  0: 'The connection was lost. The request may or may not have been carried out: look, and repeat it if it wasn’t.',
-  401: 'Your password isn’t accepted any more; it may have been changed. Load the page again and sign in with the new one.',
+  0: 'The connection was lost. The request may or may not have been carried out: look, and repeat '
+    + 'it if it wasn’t.',
+  401: 'Your password isn’t accepted any more; it may have been changed. Load the page again and '
+    + 'sign in with the new one.',
   405: 'The room doesn’t know this request. Load the page again.',
   429: 'Too many passwords were tried from your address. Wait a minute, then load the page again.',
   431: 'The request was too long. Choose a shorter name.',
-  500: 'The room couldn’t store or read this. It may or may not have been changed: look first, then try again; if that doesn’t help, tell the administrator.',
-  502: 'The room doesn’t answer at the moment. Try again in a minute; if it still doesn’t, tell the administrator.',
+  500: 'The room couldn’t store or read this. It may or may not have been changed: look first, '
+    + 'then try again; if that doesn’t help, tell the administrator.',
+  502: 'The room doesn’t answer at the moment. Try again in a minute; if it still doesn’t, tell '
+    + 'the administrator.',
   503: 'The room is busy. Try again in a minute.',
-  504: 'The room took too long to answer. The request may or may not have been carried out: look before you repeat it.',
-  507: 'The room is full, so nothing was added. Remove what nobody needs any more, then try again; if that doesn’t help, tell the administrator.',
+  504: 'The room took too long to answer. The request may or may not have been carried out: look '
+    + 'before you repeat it.',
+  507: 'The room is full, so nothing was added. Remove what nobody needs any more, then try again; '
+    + 'if that doesn’t help, tell the administrator.',
 };
 
 export const tooLarge = (name) =>
-  `${name} has more than ${GREATEST_DOCUMENT.toLocaleString('en')} bytes (1 MiB), which is the most a document may have. Make it smaller, or cut it into parts.`;
+  `${name} has more than ${GREATEST_DOCUMENT.toLocaleString('en')} bytes (1 MiB), which is the `
+  + 'most a document may have. Make it smaller, or cut it into parts.';
 
 const TWICE = ' The room didn’t answer at first, so it may have been carried out already: look.';
 
@@ -232,11 +266,17 @@ function answerWords(fault) {
   const at = body?.at ? placeWords(body.at) : 'that place';
   if (status === 400) return badRequest(body);
   if (status === 403) return denialWords(body, fault.asked).text;
-  if (status === 404) return `There is nothing at ${at}. It may have been removed, renamed or moved: load its folder again.`;
-  if (status === 409) return CONFLICTS[body?.why]?.(at) ?? 'What is there doesn’t fit. Load the folder again.';
+  if (status === 404) {
+    return `There is nothing at ${at}. It may have been removed, renamed or moved: load its folder `
+      + 'again.';
+  }
+  if (status === 409) {
+    return CONFLICTS[body?.why]?.(at) ?? 'What is there doesn’t fit. Load the folder again.';
+  }
   if (status === 413) return tooLarge(body?.at ? at : 'This');
   if (status === 422) return faultWords(body?.why?.split(' ')[1]);
-  return SENTENCES[status] ?? `The room answered with status ${status}. Try again; if that doesn’t help, tell the administrator.`;
+  return SENTENCES[status] ?? `The room answered with status ${status}. Try again; if that doesn’t `
+    + 'help, tell the administrator.';
 }
 
 // Why a name can't be an object's, or null.
@@ -244,7 +284,10 @@ export function nameFault(name) {
   if (name === '') return 'Type a name.';
   if (name === '.' || name === '..') return 'This name has a special meaning. Choose another one.';
   if (name.includes('/')) return 'A name can’t have a slash in it.';
-  if (/[\u0000-\u001f\u007f]/.test(name) || /\p{Surrogate}/u.test(name)) return 'The name has characters that can’t be used.';
-  if (new TextEncoder().encode(name).length > 255) return 'The name is too long: 255 bytes at most.';
+  if (/[\u0000-\u001f\u007f]/.test(name) || /\p{Surrogate}/u.test(name)) {
+    return 'The name has characters that can’t be used.';
+  }
+  const { length } = new TextEncoder().encode(name);
+  if (length > 255) return 'The name is too long: 255 bytes at most.';
   return null;
 }

@@ -1,5 +1,5 @@
-# The scripts of contrib/ and tools/: shellcheck has no note on any of them. And no line of those in
-# Python, of the cases and of what these share is wider than 100 columns.
+# The scripts of contrib/ and tools/: shellcheck has no note on any of them. And no line of these,
+# of the web interface, of the cases and of what they share is wider than 100 columns.
 
 top=$here/..
 # Lines over 100 columns, where a byte that continues a letter isn't counted. A shell's line may be
@@ -16,7 +16,9 @@ wide_lines() { # FILE ..
     print FILENAME ":" FNR ": " wide " columns"
   }' "$@"
 }
-wide_lines "$here"/*.{sh,py} "$here"/*/*.{sh,py} "$top"/contrib/*/*.py "$top"/tools/*.py >found
+wide_lines "$here"/run "$here"/*.{sh,py} "$here"/*/*.{sh,py,js,mjs} "$top"/contrib/install \
+  "$top"/contrib/*/*.{py,js,css,html} "$top"/contrib/debian/p* "$top"/contrib/completion/* \
+  "$top"/tools/[a-z]* >found
 same 'no line is too wide' found /dev/null
 long=$(printf 'x%.0s' {1..99})
 printf '%s\n' "${long}é" "$long yz" "echo '$long'" "# '$long'" "echo \"\\\"$long\"" \

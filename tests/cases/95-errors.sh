@@ -59,7 +59,6 @@ shows 'no room for a document' 502 'The room doesn’t answer at the moment' ali
   --data-binary x
 
 # Passwords that nobody checks.
-sed -i '/^upstream rooms_passwords/,/^}/ s#server unix:.*#server unix:/nowhere/passwords.sock;#' \
-  sites-enabled/rooms
+sed -i '/^upstream rooms_passwords/ s#unix:[^;]*#unix:/nowhere/passwords.sock#' sites-enabled/rooms
 reloaded awaits_nobody 503
 shows 'nobody checks passwords' 503 'The room is busy' alice:a /folder/

@@ -43,7 +43,8 @@ function answerTo(input) {
 const told = [];
 for (let number = 0; number < Number(count); number += 1) {
   const text = listAtRandom();
-  const caller = { user: pick(['alice', 'bob', 'eve']), groups: pick([[], ['staff'], ['sales', 'staff']]) };
+  const caller = { user: pick(['alice', 'bob', 'eve']),
+    groups: pick([[], ['staff'], ['sales', 'staff']]) };
   const object = { owner: pick(['alice', 'mona']), group: pick(['staff', 'office']) };
   const mine = lettersOf(readListText(text).list.entries, caller, object);
   for (const letter of RIGHTS) {
@@ -51,7 +52,8 @@ for (let number = 0; number < Number(count); number += 1) {
       + `owners: ${object.owner}:${object.group}\nask: ${letter}\n${text}`);
     const isSame = /^(granted|denied)/.test(answer)
       && answer.startsWith('granted') === mine.includes(letter);
-    if (!isSame) told.push(`${caller.user} ${caller.groups} ${letter}: ${answer}, not ${mine}:\n${text}`);
+    const who = `${caller.user} ${caller.groups}`;
+    if (!isSame) told.push(`${who} ${letter}: ${answer}, not ${mine}:\n${text}`);
   }
 }
 for (const one of told.slice(0, 3)) console.log(one);

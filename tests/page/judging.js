@@ -218,7 +218,8 @@ Promise.all(modules).then(([lists, judging, warnings, words, removers, moved, si
   has('further down', inside(['A:g:staff:rwx'], [deep])[0].text, '“/a/b/board”');
   equal('not all was seen', inside(['A:fdg:staff:D'], [], false).length, 2);
   const four = ['/a/1', '/a/2', '/a/3', '/a/4'].map((path) => ({ ...kept, path }));
-  has('many', inside(['A:fdg:staff:D'], four)[0].text, '“/a/3” and 1 other: they could make others');
+  has('many', inside(['A:fdg:staff:D'], four)[0].text,
+    '“/a/3” and 1 other: they could make others');
 
   // Who gains by a move from a folder of alice's to one of the group staff.
   const shut = folder('/shut', 'A:fd:alice:rxC');
@@ -244,8 +245,10 @@ Promise.all(modules).then(([lists, judging, warnings, words, removers, moved, si
   equal('which may have been so', gains([top, loose], 'list:a', [], 'document',
     [top, { ...shut, list: null }]), [[staff, 'rw']]);
   const everyones = folder('/all', 'A:fdg:staff:rx', 'A:fd:AUTHENTICATED@:rx', 'A:fd:bob:rxC');
-  equal('everyone, and who gains more', gains([top, everyones]), [[ANYBODY, 'r'], [oneUser('bob'), 'rC']]);
-  equal('a list that passes nothing on', gains([top, { ...shared, list: list('list:', 'A:fdg:staff:r') }]), []);
+  equal('everyone, and who gains more', gains([top, everyones]),
+    [[ANYBODY, 'r'], [oneUser('bob'), 'rC']]);
+  equal('a list that passes nothing on',
+    gains([top, { ...shared, list: list('list:', 'A:fdg:staff:r') }]), []);
   equal('a list that is not read', gains([top, { ...shared, list: null }]), []);
 
   // Signs that can't be seen, and what is none.
@@ -253,7 +256,8 @@ Promise.all(modules).then(([lists, judging, warnings, words, removers, moved, si
     ['a\u202eb', 'a[U+202E]b'], ['a\u00a0b', 'a[U+00A0]b'], ['a\u200bb', 'a[U+200B]b'],
     ['a\u200db', 'a[U+200D]b'], ['\ufeffa', '[U+FEFF]a'], ['a\u{e0041}', 'a[U+E0041]'],
     ['\u{1f468}\u200d\u{1f467}', '\u{1f468}\u200d\u{1f467}'], ['\u2764\ufe0f', '\u2764\ufe0f'],
-    ['\u0645\u06cc\u200c\u062e', '\u0645\u06cc\u200c\u062e'], ['שלום "x"', 'שלום "x"'], ['e\u0301', 'e\u0301'],
+    ['\u0645\u06cc\u200c\u062e', '\u0645\u06cc\u200c\u062e'], ['שלום "x"', 'שלום "x"'],
+    ['e\u0301', 'e\u0301'],
     ['   ', '[space]'], ['a\u3164', 'a[U+3164]']]) {
     equal(`signs of ${JSON.stringify(name)}`, signs.marked(name), wanted);
   }

@@ -15,8 +15,8 @@ use std::io::Write;
 use store_runs::laws::{nothing_gained_by_a_crash, nothing_gained_in_a_store};
 
 /// As long as the connections of a server carry no message of anybody who may change a list, an
-/// owner or the place of anything at a path or above it, nobody's rights at that path change: not in
-/// the room that is seen then, and not in what a power cut leaves.
+/// owner or the place of anything at a path or above it, nobody's rights at that path change: not
+/// in the room that is seen then, and not in what a power cut leaves.
 pub fn nothing_gained_by_serving<S: Alter, P: Ports, M: Moments, O: Write, E: Write>()
     ensures { (path : List (List ℕ)) (place : Place) (count : ℕ) (clock after : M) (ports closed : P)
         (old new : Held S) (out printed : O) (err told : E) (status : ℕ)

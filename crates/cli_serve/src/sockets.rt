@@ -131,8 +131,8 @@ fn accept_unix(listener: &UnixListener) -> io::Result<Peer<NetStream, NetStream>
 }
 
 // Reads what the peer still sends, until it has read the end of the replies and closes its side, or
-// for a moment. A connection that is closed with bytes unread is reset, and the peer then loses what
-// hasn't reached it of its replies.
+// for a moment. A connection that is closed with bytes unread is reset, and the peer then loses
+// what hasn't reached it of its replies.
 fn read_rest(stream: &mut NetStream) {
     if stream.set_read_timeout(REST_MILLIS).is_err() {
         return;

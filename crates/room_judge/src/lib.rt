@@ -1,6 +1,6 @@
 //! Walks and checks over a keeper, judged as they go: what is refused or denied ends them with
-//! `Refused`, a fault of the keeper or of memory with `Fault`. The records that a check calls for are
-//! noted either way.
+//! `Refused`, a fault of the keeper or of memory with `Fault`. The records that a check calls for
+//! are noted either way.
 #![tactic(auto)]
 
 mod arrival;

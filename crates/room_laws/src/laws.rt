@@ -8,8 +8,8 @@ ghost use Rattle.room_laws.specs.Laws.{StaysAlike, StaysBehind, UnseenBehind};
 ghost use Rattle.room_laws.specs.Tidy.{ContentIsTidy, StaysTidy};
 ghost use Rattle.room_laws.specs.Twins.{Unseen};
 
-/// Over two runs, each as it happened: two rooms that differ behind a folder alone answered the same
-/// to who was barred from it, and to whoever asked for nothing behind it.
+/// Over two runs, each as it happened: two rooms that differ behind a folder alone answered the
+/// same to who was barred from it, and to whoever asked for nothing behind it.
 pub fn unseen()
     ensures { Unseen }
 {}

@@ -139,8 +139,8 @@ pub trait Keep {
         ensures counted { reads self.new ≤ reads self.old + 1 };
 
     /// The names and kinds of the children, in order of name. It may be answered from names and
-    /// kinds alone, so a row under this parent that can't be read as an object may be listed or left
-    /// out. No other name is told. The error is `Damaged` for a row that can't be read.
+    /// kinds alone, so a row under this parent that can't be read as an object may be listed or
+    /// left out. No other name is told. The error is `Damaged` for a row that can't be read.
     fn listing(&mut self, parent: u64) -> Result<Listing, KeepFault>
         ensures read { IsRead rows failures writes Follows IsTrusted self.old self.new result
             IsUnreadable (AreNamedUnder parent) }

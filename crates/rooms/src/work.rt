@@ -69,8 +69,8 @@ fn act_on<D: Alter + Drop>(
     act(rt.alloc(), conn, task, &mut out, &mut err)
 }
 
-/// Serves this number of connections at the place, and answers the exit status. The error is why the
-/// file wasn't opened.
+/// Serves this number of connections at the place, and answers the exit status. The error is why
+/// the file wasn't opened.
 pub fn serve<S: Start>(
     rt: &HostRuntime,
     start: S,

@@ -12,8 +12,8 @@ use sqlite_disk::{Disk, Files, Memory};
 use sqlite_store::FileStore;
 use std::alloc::Global;
 
-/// Opens a copy of these bytes, which are those of a file that has no log. Nothing is written but in
-/// memory. The error is `OutOfMemory`, or why the bytes are no database.
+/// Opens a copy of these bytes, which are those of a file that has no log. Nothing is written but
+/// in memory. The error is `OutOfMemory`, or why the bytes are no database.
 pub fn open_copy(alloc: Global, bytes: &[u8]) -> Result<Connection<FileStore<Memory>>, Error>
     ensures found { IfOk result (λ conn. HasCleanDisk (file_state conn)
         → FindsIn (record { log = []; db = bytes.now }) (file_state conn)) }
