@@ -82,6 +82,23 @@ def _in_room(path: str, name: str) -> str:
 def take(changes: Changes) -> None:
     """The settings of what these files say."""
     root = changes.root
+    put_site(changes, *_of_site(root))
+    remember = root + f"{_NGINX}/conf.d/rooms-remember.conf"
+    by_directory = any(os.path.islink(one) and os.readlink(one).endswith("rooms-directory.conf")
+                       for one in (remember, remember + ".removed"))
+    # The block for tickets of Kerberos; what it has in conf.d is the administrator's, and stays.
+    if _CHALLENGE in site.read(root + f"{_NGINX}/snippets/rooms-server.conf"):
+        changes.file("/etc/rooms/nginx/server.d/tickets.conf", _CHALLENGE.encode())
+    for name in sorted(_rooms(root)):
+        changed = _of_room(root, name, by_directory)
+        for kind in (".conf", ".on"):
+            path = f"/etc/rooms/{name}{kind}"
+            if changed and os.path.exists(root + path):
+                set_values(changes, path, changed)
+
+
+def _of_site(root: str) -> tuple[str, str, str]:
+    """The site's hosts, its certificate and that one's key."""
     enabled = root + _SITE
     target = os.readlink(enabled) if os.path.islink(enabled) else ""
     with_tls = target.endswith("/rooms-tls") or (not target and os.path.exists(root + _TLS))
@@ -96,32 +113,26 @@ def take(changes: Changes) -> None:
         for at, word in enumerate(("ssl_certificate", "ssl_certificate_key")):
             found = re.findall(rf"(?:^|;\s*){word} +(/[^;]*);", said, re.MULTILINE)
             pair[at] = found[-1] if found else ""
-    put_site(changes, " ".join(hosts) or "rooms.example", pair[0], pair[1])
-    remember = root + f"{_NGINX}/conf.d/rooms-remember.conf"
-    by_directory = any(os.path.islink(one) and os.readlink(one).endswith("rooms-directory.conf")
-                       for one in (remember, remember + ".removed"))
-    # The block for tickets of Kerberos; what it has in conf.d is the administrator's, and stays.
-    if _CHALLENGE in site.read(root + f"{_NGINX}/snippets/rooms-server.conf"):
-        changes.file("/etc/rooms/nginx/server.d/tickets.conf", _CHALLENGE.encode())
-    for name in sorted(_rooms(root)):
-        changed = {}
-        text = "".join(site.read(f"{root}{_ROOMS}/{name}{kind}") for kind in (".path", ".host"))
-        if name == "office":
-            text = site.read(root + f"{_NGINX}/snippets/rooms-server.conf")
-        if re.search(r"^\s*auth_request /password/", text, re.MULTILINE) and by_directory:
-            changed["PASSWORDS"] = "directory"
-        if re.search(r"^\s*auth_request /rooms/session/", text, re.MULTILINE):
-            changed["PASSWORDS"] = "session"
-        host = re.search(r"^\s*server_name ([^ ;]*);",
-                         site.read(f"{root}{_ROOMS}/{name}.host"), re.MULTILINE)
-        if host:
-            changed["HOST"] = host[1]
-        if os.path.exists(f"{root}{_ROOMS}/{name}.front"):
-            changed["BEHIND"] = "yes"
-        for kind in (".conf", ".on"):
-            path = f"/etc/rooms/{name}{kind}"
-            if changed and os.path.exists(root + path):
-                set_values(changes, path, changed)
+    return " ".join(hosts) or "rooms.example", pair[0], pair[1]
+
+
+def _of_room(root: str, name: str, by_directory: bool) -> dict[str, str]:
+    """The settings that the room's files have beside what they are without them."""
+    changed = {}
+    text = "".join(site.read(f"{root}{_ROOMS}/{name}{kind}") for kind in (".path", ".host"))
+    if name == "office":
+        text = site.read(root + f"{_NGINX}/snippets/rooms-server.conf")
+    if re.search(r"^\s*auth_request /password/", text, re.MULTILINE) and by_directory:
+        changed["PASSWORDS"] = "directory"
+    if re.search(r"^\s*auth_request /rooms/session/", text, re.MULTILINE):
+        changed["PASSWORDS"] = "session"
+    host = re.search(r"^\s*server_name ([^ ;]*);",
+                     site.read(f"{root}{_ROOMS}/{name}.host"), re.MULTILINE)
+    if host:
+        changed["HOST"] = host[1]
+    if os.path.exists(f"{root}{_ROOMS}/{name}.front"):
+        changed["BEHIND"] = "yes"
+    return changed
 
 
 def _rooms(root: str) -> set[str]:

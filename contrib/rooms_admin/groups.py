@@ -318,32 +318,35 @@ def show(coming: set[Pair], going: set[Pair]) -> None:
             print(f"{sign} {group},{user}")
 
 
+def _work(task: Run, given: argparse.Namespace) -> int:
+    """Does what is asked, and returns the status."""
+    # The mark of a run that is at work, which has the lock, or of one that was cut off.
+    cut_off = os.path.exists(task.mark)
+    if cut_off and not (given.dry_run or given.names):
+        task.lock()
+        cut_off = os.path.exists(task.mark)
+    if given.after:
+        if cut_off:
+            raise Stop(f"interrupted: a run that had stopped {task.room.unit} was cut off; "
+                       f"{task.room.unit} is started")
+    elif given.names:
+        task.names()
+    else:
+        task.bring()
+    return 1 if task.failures else 0
+
+
 def run(given: argparse.Namespace) -> int:
     os.umask(0o077)
     os.chdir("/")
     if len(given.words) > 1 or given.names + given.after + (given.dry_run or given.force) > 1:
         raise Refused(f"bad arguments: rooms-admin {USAGE}")
     room = settings.room("".join(given.words))
-    looks = given.dry_run or given.names
     failures: list[str] = []
-    status = 0
     with ExitStack() as owned:
         task = Run(room, given, owned)
         try:
-            # Of a run that is at work, which has the lock, or of one that was cut off.
-            cut_off = os.path.exists(task.mark)
-            if cut_off and not looks:
-                task.lock()
-                cut_off = os.path.exists(task.mark)
-            if given.after:
-                if cut_off:
-                    raise Stop(f"interrupted: a run that had stopped {room.unit} was cut off; "
-                               f"{room.unit} is started")
-            elif given.names:
-                task.names()
-            else:
-                task.bring()
-                status = 1 if task.failures else 0
+            status = _work(task, given)
         except Stop as stop:
             failures.append(str(stop))
             say(str(stop))
@@ -358,7 +361,7 @@ def run(given: argparse.Namespace) -> int:
             failures.append(str(stop))
             say(str(stop))
             status = 1
-        if failures and not looks:
+        if failures and not (given.dry_run or given.names):
             said.send(room.mail, f"{room.unit} on {os.uname().nodename}: groups of the directory "
                       "failed", failures)
     return status

@@ -126,7 +126,11 @@ class Looking:
             assert words in told, (words, told)
         assert self.list_of('/big') == before
         self.share()
-        # In the dialog too, which is there at once.
+        self.removed_above(before)
+
+    def removed_above(self, before):
+        """The same in the dialog, which is there at once."""
+        alice = self.alice
         self.panel('/big')
         alice.script(COUNT, 20, None)
         alice.script("""const menu = document.querySelector('.holders select');

@@ -256,24 +256,8 @@ class Restarts:
         of several, of a folder that isn't shown."""
         alice = self.alice
         driver = alice.driver
-        for folder in ('few', 'later'):
-            self.ask('POST', f'/folder/{folder}')
-        for name in ('b', 'c'):
-            self.ask('PUT', f'/doc/few/{name}', b'x')
         made = dict(list(self.files(MANY).items())[:5])
-        first = driver.current_window_handle
-        removing = self.in_another_tab('#/few')
-        alice.lists('b', 'c')
-        alice.one('thead .pick input').click()
-        driver.switch_to.window(first)
-        alice.open('#/later')
-        self.kill()
-        alice.script(CHOOSE)
-        alice.one('input.files').send_keys('\n'.join(made))
-        driver.switch_to.window(removing)
-        alice.press('Remove', '.chosen')
-        alice.press('Remove them', 'dialog')
-        shown = self.in_another_tab('#/few')
+        first, removing, shown = self.three_tabs(made)
         for tab, words, css in ((first, 'not sent', '.uploads .bad'),
                                 (removing, '0 of 2 removed', 'dialog h2'),
                                 (removing, 'The room doesn’t answer at the moment', 'dialog p'),
@@ -295,6 +279,28 @@ class Restarts:
         alice.until(lambda: self.sent() == 5, 'five documents')
         self.kept('/later', made)
         assert self.names('/few') == []
+
+    def three_tabs(self, made):
+        """Without a room: one uploads files, one removes two documents, one shows a folder."""
+        alice = self.alice
+        driver = alice.driver
+        for folder in ('few', 'later'):
+            self.ask('POST', f'/folder/{folder}')
+        for name in ('b', 'c'):
+            self.ask('PUT', f'/doc/few/{name}', b'x')
+        first = driver.current_window_handle
+        removing = self.in_another_tab('#/few')
+        alice.lists('b', 'c')
+        alice.one('thead .pick input').click()
+        driver.switch_to.window(first)
+        alice.open('#/later')
+        self.kill()
+        alice.script(CHOOSE)
+        alice.one('input.files').send_keys('\n'.join(made))
+        driver.switch_to.window(removing)
+        alice.press('Remove', '.chosen')
+        alice.press('Remove them', 'dialog')
+        return first, removing, self.in_another_tab('#/few')
 
     def full(self):
         """The front end refuses what adds, as long as the flag of a full room is there. That is

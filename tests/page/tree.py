@@ -93,7 +93,11 @@ class Tree:
         self.key(Keys.ESCAPE)
         alice.until(lambda: not alice.all('[role=option]'), 'none')
         self.key(Keys.BACKSPACE * 2)
-        # The one choice that begins so.
+        self.removed_by_keys()
+
+    def removed_by_keys(self):
+        """The one choice of the menu that begins with r."""
+        alice = self.alice
         self.tab_to('What kim can do')
         self.key('r')
         alice.until(lambda: alice.all('dialog .outcome[aria-busy=false]'), 'the question')
