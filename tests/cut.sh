@@ -27,12 +27,9 @@ ended_badly() { [ "$status" != 0 ]; }
 at_each_call() { # NAME LEAST
   local number name lock
   for number in {1..200}; do
-    rm -f "$stand/hit"
     before
-    CUT=${words[0]}.$how.$number KILL_AT=$number KILL_HOW=$how verb "${words[@]}"
-    [ -e "$stand/hit" ] || break
-    name="$1, $how at $number, $(cat "$stand/hit")"
-    name=${name//$PWD\//}
+    CUT=${words[0]}.$how.$number cut_off "$how" "$number" verb "${words[@]}" || break
+    name="$1, $name"
     holds "$name: it doesn't end well" ended_badly
     nobody_left "$name" "${words[0]}.$how.$number"
     holds "$name: nothing is owed" [ -z "$(owes)" ]

@@ -189,3 +189,14 @@ stop_others() {
   done
   others=()
 }
+
+# What is no path, by the `refuses` of a case, whose subcommand takes a file and a path.
+refuses_bad_paths() {
+  refuses 'no slash' 'P1 bad object name' F q
+  refuses 'no path' 'P1 bad object name' F ''
+  refuses 'an empty name' 'P1 bad object name' F //q
+  refuses 'a slash behind' 'P1 bad object name' F /q/
+  refuses 'dots' 'P1 bad object name' F /..
+  refuses 'a long name' 'P1 bad object name' F "/$(printf 'a%.0s' {1..256})"
+  refuses 'a long path' 'P2 path over 4096 bytes' F "/$(printf 'a%.0s' {1..4096})"
+}

@@ -1,6 +1,15 @@
 # A machine of its own, a copy of the folder $machine that debootstrap has made: its processes, what
 # runs there, and stand-ins for what it lacks.
 
+# The program's version and the name of its package, where that can be made.
+can_package() { # NAME OF WHAT IS SKIPPED
+  if ! has dpkg-deb || ! has gzip || ! has md5sum || ! has sha256sum; then
+    skip "$1" 'dpkg-deb, gzip, md5sum or sha256sum is missing'
+    return 1
+  fi
+  version=$("$rooms" --version 2>&1 </dev/null | sed 's/^rooms //')
+  package=rooms_${version}_amd64.deb
+}
 # Copies the folder ROOMS_DEBIAN, or one that debootstrap makes once for all cases, to $machine.
 copy_machine() { # NAME OF WHAT IS SKIPPED
   local folder=${ROOMS_DEBIAN:-$work/debian}

@@ -1,17 +1,20 @@
+# nginx's files of 1.0.0, below the folder that it has, as a package of that prefix brought them.
+nginx_of_before() { # FOLDER PREFIX
+  local part
+  mkdir -p "$1"/{snippets,sites-available}
+  for part in http server host page proxy remember remembered machine front directory; do
+    sed "s#/usr/local/#$2/#g" "$data/before/nginx-$part.conf" >"$1/snippets/rooms-$part.conf"
+  done
+  sed "s#/usr/local/#$2/#g" "$data/before/nginx.conf" >"$1/sites-available/rooms"
+  sed "s#/usr/local/#$2/#g" "$data/before/nginx-tls.conf" >"$1/sites-available/rooms-tls"
+}
 # A package of the form of 1.0.0: nginx's files are conffiles, and its script enables one of two
 # sites.
 single_package() {
-  local part
   dpkg-deb -R "$older" one || return
   rm -rf one/usr/sbin/rooms-{add,setup} one/usr/share/rooms/{site.conf.in,room.conf.in,before.txt} \
     one/usr/lib/tmpfiles.d one/$units/nginx.service.d
-  mkdir -p one/etc/nginx/{snippets,sites-available}
-  for part in http server host page proxy remember remembered machine front directory; do
-    sed 's#/usr/local/#/usr/#g' "$data/before/nginx-$part.conf" \
-      >"one/etc/nginx/snippets/rooms-$part.conf"
-  done
-  sed 's#/usr/local/#/usr/#g' "$data/before/nginx.conf" >one/etc/nginx/sites-available/rooms
-  sed 's#/usr/local/#/usr/#g' "$data/before/nginx-tls.conf" >one/etc/nginx/sites-available/rooms-tls
+  nginx_of_before one/etc/nginx /usr
   cat >one/DEBIAN/postinst <<'END'
 #!/bin/sh
 set -e

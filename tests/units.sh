@@ -184,6 +184,18 @@ verb() { # VERB WORD ..
   status=$?
 }
 
+# Runs a command that is cut off at its call of that number, and puts how and where into 'name'. The
+# status is 1 if it made no such call.
+cut_off() { # HOW NUMBER COMMAND ..
+  rm -f "$stand/hit"
+  export KILL_HOW=$1 KILL_AT=$2
+  "${@:3}"
+  unset KILL_AT
+  [ -e "$stand/hit" ] || return
+  name="$1 at $2, $(cat "$stand/hit")"
+  name=${name//$PWD\//}
+}
+
 # The status of the last script, and a text that is in its output.
 says() { # NAME STATUS TEXT
   if [ "$status" != "$2" ]; then

@@ -155,10 +155,7 @@ play_removers() {
   expects 204 DELETE /object/written/vault bob
   expects 204 DELETE /object/written bob
 }
-# Who may delete a folder that isn't protected, by D on the folder above or d on it, and has a
-# folder of their own, moves it there and reads what is in it. What is protected, and what has an
-# entry of its own that denies, stays shut.
-play_moving() {
+prepare_moving() {
   local name
   prepares POST /folder/shared
   prepares PUT /dacl/shared "$(printf '%s\n' list:ap "A:fd:alice:$ALL" A::bob:rxDtc)"
@@ -177,6 +174,13 @@ play_moving() {
   prepares PUT /dacl/shared/denied "$(printf '%s\n' list:a D:fd:bob:r)"
   prepares PUT /dacl/others/salaries "$(printf '%s\n' list:a A::bob:d)"
   prepares PUT /dacl/others/shut "$(printf '%s\n' list:ap "A:fd:alice:$ALL" A::bob:d)"
+}
+# Who may delete a folder that isn't protected, by D on the folder above or d on it, and has a
+# folder of their own, moves it there and reads what is in it. What is protected, and what has an
+# entry of its own that denies, stays shut.
+play_moving() {
+  local name
+  prepare_moving
   for name in shared/salaries shared/shut shared/denied others/salaries others/shut; do
     expects 403 GET "/doc/$name/may" bob
     expects 403 GET "/folder/$name" bob

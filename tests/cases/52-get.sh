@@ -10,13 +10,7 @@ refuses 'the root is a folder' 'N3 wrong-kind at /' F /
 refuses 'nothing there' 'N1 no-such at /q' F /q
 refuses 'nothing far below' 'N1 no-such at /q' F /q/r/s
 refuses 'escapes stand as they are' 'N1 no-such at /%71' F /%71
-refuses 'no slash' 'P1 bad object name' F q
-refuses 'no path' 'P1 bad object name' F ''
-refuses 'an empty name' 'P1 bad object name' F //q
-refuses 'a slash behind' 'P1 bad object name' F /q/
-refuses 'dots' 'P1 bad object name' F /..
-refuses 'a long name' 'P1 bad object name' F "/$(printf 'a%.0s' {1..256})"
-refuses 'a long path' 'P2 path over 4096 bytes' F "/$(printf 'a%.0s' {1..4096})"
+refuses_bad_paths
 refuses 'the path comes before the file' 'P1 bad object name' missing q
 gives 'a file that is missing' 3 '' 'fault: file\n' get missing /q
 holds 'nothing was made' is_missing missing

@@ -40,13 +40,7 @@ refuses() { # NAME OUT ARGUMENT ..
 for name in '' 'bad name' '*' ANONYMOUS@ EVERYONE@ "${longest}b" 'a@' 'é'; do
   refuses "no name: '$name'" 'A3 bad who' F / "--user=$name"
 done
-refuses 'no slash' 'P1 bad object name' F q
-refuses 'no path' 'P1 bad object name' F ''
-refuses 'an empty name' 'P1 bad object name' F //q
-refuses 'a slash behind' 'P1 bad object name' F /q/
-refuses 'dots' 'P1 bad object name' F /..
-refuses 'a long name' 'P1 bad object name' F "/$(printf 'a%.0s' {1..256})"
-refuses 'a long path' 'P2 path over 4096 bytes' F "/$(printf 'a%.0s' {1..4096})"
+refuses_bad_paths
 refuses 'nothing there' 'N1 no-such at /q' F /q
 refuses 'nothing far below' 'N1 no-such at /q' F /q/r/s --all
 refuses 'nothing there for a name' 'N1 no-such at /q' F /q --user root

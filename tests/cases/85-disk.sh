@@ -133,26 +133,32 @@ before_or_after migrate 'migrated\n' O old "$data/rejoined.dump" migrate F
 
 # A request: the server reports the fault in its reply, or is killed before there is one.
 look() { run dump F; }
-serve_once() { # NUMBER HOW: the reply to a document that is put, and the server's status
-  local number=$1 how=$2 tries
+# A server one of whose calls meets the fault HOW, asked by ASK: its status is in 'ended'.
+serve_faulty() { # CALLS HOW NUMBER ASK [WORD ..]
+  local tries
   for tries in {1..50}; do
     port=$((port + 1))
     : >"$work/server.out"
-    { strace -f -qq -o /dev/null -e "trace=$calls" -e "inject=$calls:$how:when=$number" \
-      "$rooms" serve F --port "$port" \
+    { strace -f -qq -o /dev/null -e "trace=$1" -e "inject=$1:$2:when=$3" \
+      "$rooms" serve F --port "$port" "${@:5}" \
       </dev/null >"$work/server.out" 2>"$work/server.err"; } 2>/dev/null &
     server=$!
-    : >"$work/reply"
-    if await_line; then
-      last_message PUT /doc/f root hello >"$work/sent"
-      exchange 2>/dev/null
-    fi
+    "$4"
     wait_for "$server" || fail 'a traced server' "it doesn't end"
     wait "$server" 2>/dev/null
     ended=$?
     server=
     grep -q '^fault: net$' "$work/server.err" || return
   done
+}
+put_one() {
+  : >"$work/reply"
+  await_line || return
+  last_message PUT /doc/f root hello >"$work/sent"
+  exchange 2>/dev/null
+}
+serve_once() { # NUMBER HOW: the reply to a document that is put, and the server's status
+  serve_faulty "$calls" "$2" "$1" put_one
 }
 if [ "$loopback" = yes ]; then
   open_room S
@@ -192,30 +198,19 @@ if [ "$loopback" = yes ]; then
   # A sync that fails shuts the connection to the file. The server ends after the request that met
   # it, and whoever starts it again finds all that it answered.
   syncs=fdatasync,fsync
-  serve_four() { # NUMBER HOW: how many of four documents were answered, and the server's status
-    local number=$1 how=$2 tries document
-    for tries in {1..50}; do
-      port=$((port + 1))
-      answered=()
-      : >"$work/server.out"
-      { strace -f -qq -o /dev/null -e "trace=$syncs" -e "inject=$syncs:$how:when=$number" \
-        "$rooms" serve F --port "$port" --count 4 \
-        </dev/null >"$work/server.out" 2>"$work/server.err"; } 2>/dev/null &
-      server=$!
-      if await_line; then
-        for document in a b c d; do
-          last_message PUT "/doc/$document" root hello >"$work/sent"
-          exchange 2>/dev/null
-          cmp -s "$work/reply" replied || break
-          answered+=("$document")
-        done
-      fi
-      wait_for "$server" || fail 'a traced server' "it doesn't end"
-      wait "$server" 2>/dev/null
-      ended=$?
-      server=
-      grep -q '^fault: net$' "$work/server.err" || return
+  put_four() {
+    local document
+    answered=()
+    await_line || return
+    for document in a b c d; do
+      last_message PUT "/doc/$document" root hello >"$work/sent"
+      exchange 2>/dev/null
+      cmp -s "$work/reply" replied || break
+      answered+=("$document")
     done
+  }
+  serve_four() { # NUMBER HOW: how many of four documents were answered, and the server's status
+    serve_faulty "$syncs" "$2" "$1" put_four --count 4
   }
   printf 'fault: database\n' >shut
   for how in error=EIO error=ENOSPC; do

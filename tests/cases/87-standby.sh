@@ -261,13 +261,7 @@ fi
 # undo.
 for how in TERM KILL; do
   for number in {1..60}; do
-    rm -f "$stand/hit"
-    export KILL_AT=$number KILL_HOW=$how
-    stands
-    unset KILL_AT
-    [ -e "$stand/hit" ] || break
-    name="$how at $(cat "$stand/hit")"
-    name=${name//$PWD\//}
+    cut_off "$how" "$number" stands || break
     [ "$how" = KILL ] || answers "$name"
     if ((number % 2)); then verb standby --after "$PWD/conf"; else stands; fi
     answers "$name, and after"

@@ -1,6 +1,7 @@
 # Several rooms, below a folder: what 'rooms-admin add' makes and refuses, what 'remove' takes away,
 # and how a machine of a version that had a file of nginx for each part of the site gets one.
 
+. "$here/single.sh"
 verb() { # VERB ARGUMENT ..
   "$contrib/rooms-admin" "$1" --destdir "$PWD/machine" "${@:2}" \
     </dev/null >"$work/out" 2>"$work/err"
@@ -287,23 +288,16 @@ fi
 
 # A machine of a version that had a file of nginx for each part of the site, each room and TLS: what
 # they say goes to the settings. What nobody has edited goes, all else stays beside.
-before=$data/before
 # office, invoices at a path, hr at a host, ledger behind another front end, archive elsewhere.
 of_before() { # PREFIX
-  local part name
+  local name
   rm -rf machine
-  mkdir -p \
-    machine/etc/{rooms/machines,nginx/{sites-available,sites-enabled,snippets,rooms.d,conf.d}}
-  for part in http server host page proxy remember remembered machine front directory; do
-    sed "s#/usr/local/#$1/#g" "$before/nginx-$part.conf" \
-      >"machine/etc/nginx/snippets/rooms-$part.conf"
-  done
-  sed "s#/usr/local/#$1/#g" "$before/nginx.conf" >machine/etc/nginx/sites-available/rooms
-  sed "s#/usr/local/#$1/#g" "$before/nginx-tls.conf" >machine/etc/nginx/sites-available/rooms-tls
+  mkdir -p machine/etc/{rooms/machines,nginx/{sites-enabled,rooms.d,conf.d}}
+  nginx_of_before machine/etc/nginx "$1"
   ln -s ../sites-available/rooms machine/etc/nginx/sites-enabled/rooms
   of_room() {
     sed -e "s/@NAME@/$2/g; s/@PORT@/$3/g; s/@HOST@/$2.example/g; s/@ON@/b.example/g" \
-      -e "s#/usr/local/#$prefix/#g" "$before/room/$1"
+      -e "s#/usr/local/#$prefix/#g" "$data/before/room/$1"
   }
   prefix=$1
   of_room path invoices 8781 >machine/etc/nginx/rooms.d/invoices.path

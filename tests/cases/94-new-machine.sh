@@ -4,12 +4,7 @@
 
 top=$here/..
 . "$here/machine.sh"
-if ! has dpkg-deb || ! has gzip || ! has md5sum || ! has sha256sum; then
-  skip 'a new machine' 'dpkg-deb, gzip, md5sum or sha256sum is missing'
-  return
-fi
-version=$("$rooms" --version 2>&1 </dev/null | sed 's/^rooms //')
-package=rooms_${version}_amd64.deb
+can_package 'a new machine' || return
 "$top/tools/package" --program "$rooms" </dev/null >said 2>&1
 holds 'a package' [ -s "$package" ]
 make_machine 'a new machine' first || return

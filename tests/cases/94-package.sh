@@ -7,12 +7,7 @@
 top=$here/..
 . "$here/machine.sh"
 . "$here/single.sh"
-if ! has dpkg-deb || ! has gzip || ! has md5sum || ! has sha256sum; then
-  skip 'the package' 'dpkg-deb, gzip, md5sum or sha256sum is missing'
-  return
-fi
-version=$("$rooms" --version 2>&1 </dev/null | sed 's/^rooms //')
-package=rooms_${version}_amd64.deb
+can_package 'the package' || return
 older=rooms_0.0.9_amd64.deb
 single=rooms_0.0.8_amd64.deb
 packs() { # ARGUMENT ..

@@ -397,19 +397,13 @@ unit start
 for how in TERM KILL; do
   stopped
   for number in {1..60}; do
-    rm -f "$stand/hit"
     if [ "$(grep -c '^staff,' got)" = 1 ]; then
       group=staff wanted='bob carol dana '
     else
       group='Human Resources' wanted='carol '
     fi
     asked 'MOST=9' "group staff = $group"
-    export KILL_AT=$number KILL_HOW=$how
-    brings
-    unset KILL_AT
-    [ -e "$stand/hit" ] || break
-    name="$how at $(cat "$stand/hit")"
-    name=${name//$PWD\//}
+    cut_off "$how" "$number" brings || break
     [ "$how" = KILL ] || unit_runs "$name"
     verb groups --after "$PWD/office.conf"
     unit_runs "$name, and after"

@@ -142,13 +142,8 @@ exec 8<&-
 # An interruption at each call, alone and followed by what the unit does after each run.
 for how in TERM KILL; do
   for number in {1..150}; do
-    rm -rf backups/* "$stand/hit"
-    export KILL_AT=$number KILL_HOW=$how
-    night
-    unset KILL_AT
-    [ -e "$stand/hit" ] || break
-    name="$how at $(cat "$stand/hit")"
-    name=${name//$PWD\//}
+    rm -rf backups/*
+    cut_off "$how" "$number" night || break
     [ "$how" = KILL ] || unit_runs "$name"
     verb backup --after "$PWD/conf"
     unit_runs "$name, and after"

@@ -259,13 +259,8 @@ rm "$stand/no-word"
 unit_runs 'no sound backup: the server runs'
 for how in TERM KILL; do
   for number in {1..60}; do
-    rm -rf "$stand/hit" office/before-restore.*
-    export KILL_AT=$number KILL_HOW=$how
-    verb restore --conf "$PWD/conf" --start latest
-    unset KILL_AT
-    [ -e "$stand/hit" ] || break
-    name="$how at $number, $(cat "$stand/hit")"
-    name=${name//$PWD\//}
+    rm -rf office/before-restore.*
+    cut_off "$how" "$number" verb restore --conf "$PWD/conf" --start latest || break
     # Another process may have to put the room in place and start the server.
     for turn in {1..400}; do
       read -r port <"$stand/port"

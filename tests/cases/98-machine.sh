@@ -349,14 +349,9 @@ etc fresh >wanted.fresh
 brings new "$PWD/small.tar"
 etc new >wanted
 for number in {1..100}; do
-  rm -rf new "$stand/hit"
+  rm -rf new
   cp -Rp fresh new
-  export KILL_AT=$number KILL_HOW=KILL
-  brings new "$PWD/small.tar"
-  unset KILL_AT
-  [ -e "$stand/hit" ] || break
-  name="cut off at $number, $(cat "$stand/hit")"
-  name=${name//$PWD\//}
+  cut_off KILL "$number" brings new "$PWD/small.tar" || break
   # What isn't whole isn't read by nginx or systemd.
   (cd new/etc &&
     find . -type f ! -name '*.rooms-restore' -exec cksum {} +) | grep -vxF -f whole >got

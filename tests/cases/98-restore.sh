@@ -140,13 +140,7 @@ rm -rf office/*
 for how in TERM KILL; do
   for number in {1..80}; do
     old_office
-    rm -f "$stand/hit"
-    export KILL_AT=$number KILL_HOW=$how
-    restores good
-    unset KILL_AT
-    [ -e "$stand/hit" ] || break
-    name="$how at $number, $(cat "$stand/hit")"
-    name=${name//$PWD\//}
+    cut_off "$how" "$number" restores good || break
     rm -rf interrupted
     cp -Rp office interrupted
     # No file stands beside the log of another.
