@@ -288,9 +288,10 @@ fi
 
 # A machine of a version that had a file of nginx for each part of the site, each room and TLS: what
 # they say goes to the settings. What nobody has edited goes, all else stays beside.
+
 # office, invoices at a path, hr at a host, ledger behind another front end, archive elsewhere.
 of_before() { # PREFIX
-  local name
+  local part name
   rm -rf machine
   mkdir -p machine/etc/{rooms/machines,nginx/{sites-enabled,rooms.d,conf.d}}
   nginx_of_before machine/etc/nginx "$1"
