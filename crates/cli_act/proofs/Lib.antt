@@ -4,3 +4,4 @@ mod Groups
 mod Texts
 mod Unrun
 mod Distinct
+mod Worked

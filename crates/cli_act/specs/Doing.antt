@@ -1,5 +1,5 @@
 -- What a task does to a database, and what comes of it.
-use Rattle.std.specs.Prelude.{◌≡◌, ◌⊎◌, ℕ, Bool, List, [], Option, String, length, string_bytes}
+use Rattle.std.specs.Prelude.{◌≡◌, ◌⊎◌, ℕ, Bool, true, false, List, [], Option, String, length, string_bytes}
 use Rattle.std.specs.Prelude.{Result, Ok, Err, OnOk}
 use Rattle.std.specs.Global.{Global}
 use Rattle.std.specs.Prelude.{Vec}
@@ -12,7 +12,6 @@ use Rattle.room_import.specs.Exports.{groups_text, records_text}
 use Rattle.room_dump.specs.Fetching.{IsFetched}
 use Rattle.room_dump.specs.declared.fetching.Fetched.{Fetched}
 use Rattle.room_dump.specs.declared.fetching.Fetched.TheVariants as fetched
-use Rattle.room_inherit.specs.Reading.{IsReport}
 use Rattle.room_rows.specs.declared.report.Report.{Report}
 use Rattle.room_rows.specs.declared.report.Report.TheVariants as report
 use Rattle.room_judge.specs.Judged.{Resets}
@@ -41,6 +40,8 @@ use Rattle.room_store.specs.Opens.{Creates, Opens}
 use Rattle.room_store.specs.Premise.{StorePremise}
 use Rattle.room_store.specs.Ran.{HasDamage, Looked, Ran}
 use Rattle.room_store.specs.Reviews.{IsReviewOf}
+use Rattle.room_store.specs.Tests.{IsTested}
+use Rattle.room_store.specs.declared.verifying.Tested.{Tested}
 use Rattle.room_store.specs.declared.fault.StoreFault.{StoreFault}
 use Rattle.room_store.specs.declared.fault.StoreFault.TheVariants as store
 use Rattle.store_tables.specs.Meaning.{rows_of}
@@ -122,12 +123,17 @@ abbrev pub after_reset : Result Reply StoreFault → Outcome
 after_reset (Ok reply) = after_reply reply
 after_reset (Err fault) = after_fault fault
 
-abbrev pub after_report : Report → Outcome
-after_report report.Sound = Answer answer.Sound
-after_report (report.Fault path why) = Answer (answer.Unsound path why)
+-- The first fault of the rows is told; and where there is none, that no record can get a number.
+abbrev pub after_report : Report → Bool → Outcome
+after_report (report.Fault path why) has_numbers = Answer (answer.Unsound path why)
+after_report report.Sound true = Answer answer.Sound
+after_report report.Sound false = Answer answer.NoNumbers
 
-abbrev pub after_verify : Result Report StoreFault → Outcome
-after_verify (Ok report) = after_report report
+abbrev pub after_test : Tested → Outcome
+after_test tested = after_report tested.report tested.has_numbers
+
+abbrev pub after_verify : Result Tested StoreFault → Outcome
+after_verify (Ok tested) = after_test tested
 after_verify (Err fault) = after_fault fault
 
 -- the text, or out of memory
@@ -202,8 +208,8 @@ pub record SetsList (path : List (List ℕ)) (which : Which) (sent : Sent) (old 
   pub told : outcome ≡ after_reset result
 
 pub record TestsRows (old : State) (outcome : Outcome) (new : State) : Type 0 where
-  pub result : Result Report StoreFault
-  pub looked : Looked old new result NoTables (λ db report. IsReport (rows_of db) report)
+  pub result : Result Tested StoreFault
+  pub looked : Looked old new result NoTables IsTested
   pub leads : Leads old [] new
   pub told : outcome ≡ after_verify result
 

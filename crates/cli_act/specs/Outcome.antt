@@ -26,6 +26,7 @@ answer_status answer.ListSet = status.Done
 answer_status (answer.Refused path why) = status.Refused
 answer_status answer.Sound = status.Done
 answer_status (answer.Unsound path why) = status.Found
+answer_status answer.NoNumbers = status.Found
 answer_status answer.Migrated = status.Done
 answer_status (answer.NoRoom why) = status.Refused
 
@@ -67,6 +68,7 @@ answer_line (answer.Refused path why) = reason_line path why
 answer_line answer.Sound = codes "sound\n"
 answer_line (answer.Unsound path why) =
     codes "fault " ++ (path ++ (codes " " ++ (unsound_text why ++ codes "\n")))
+answer_line answer.NoNumbers = codes "fault ? V8 no-numbers\n"
 answer_line answer.Migrated = codes "migrated\n"
 answer_line (answer.NoRoom why) = codes "refused: " ++ (no_room_text why ++ codes "\n")
 
@@ -76,5 +78,6 @@ abbrev pub not_opened : OpenFault → Outcome
 not_opened opening.NotRooms = outcome.Answer (answer.NoRoom no_room.NotRooms)
 not_opened (opening.OldVersion number) = outcome.Answer (answer.NoRoom (no_room.Old number))
 not_opened (opening.NewVersion number) = outcome.Answer (answer.NoRoom (no_room.New number))
+not_opened opening.OtherTables = outcome.Answer (answer.NoRoom no_room.OtherTables)
 not_opened opening.Db = outcome.Failed fault.Database
 not_opened opening.Memory = outcome.Failed fault.Memory

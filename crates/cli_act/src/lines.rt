@@ -67,6 +67,7 @@ impl TaskAnswer {
                 let why = why.as_str();
                 format!(in alloc; "fault {path} {why}\n")
             }
+            TaskAnswer::NoNumbers => String::from_str(alloc, "fault ? V8 no-numbers\n"),
             TaskAnswer::Migrated => String::from_str(alloc, "migrated\n"),
             TaskAnswer::NoRoom(why) => {
                 let why = *why;

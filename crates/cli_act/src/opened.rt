@@ -13,8 +13,8 @@ ghost use Rattle.cli_act.specs.Doing.{
   Works,
   after_fetch,
   after_reply,
-  after_report,
   after_review,
+  after_test,
   fault_of,
   or_failed,
   question_of,
@@ -32,7 +32,7 @@ use room_inherit::Report;
 use room_machine::{Reason, Reply};
 use room_review::{Reviewed, Scope};
 use room_rows::{Bytes, Path};
-use room_store::{Store, StoreFault};
+use room_store::{Store, StoreFault, Tested};
 use sqlite::Alter;
 use std::alloc::{AllocError, Global};
 
@@ -197,13 +197,15 @@ fn after_reply(reply: Reply) -> Outcome
     }
 }
 
-// The outcome of the test of all rows.
-fn after_report(report: Report) -> Outcome
-    ensures { result ≡ after_report report }
+// The outcome of the test of a room: the first fault of its rows, or what is wrong with their
+// numbers.
+fn after_test(tested: Tested) -> Outcome
+    ensures { result ≡ after_test tested }
 {
-    match report {
-        Report::Sound => Outcome::Answer(TaskAnswer::Sound),
+    match tested.report {
         Report::Fault { path, why } => Outcome::Answer(TaskAnswer::Unsound { path, why }),
+        Report::Sound if tested.has_numbers => Outcome::Answer(TaskAnswer::Sound),
+        Report::Sound => Outcome::Answer(TaskAnswer::NoNumbers),
     }
 }
 
@@ -211,8 +213,8 @@ fn test<S: Alter>(alloc: Global, store: &mut Store<S>) -> Result<Outcome, Fault>
     ensures { TestsRows (state S.Store store.old.conn) (or_failed result)
         (state S.Store store.new.conn) }
 {
-    let report = store.verify(alloc).map_err(fault_of)?;
-    Ok(after_report(report))
+    let tested = store.verify(alloc).map_err(fault_of)?;
+    Ok(after_test(tested))
 }
 
 // The outcome of a task on the room of a store, or the fault for which there is none.

@@ -23,6 +23,8 @@ pub enum TaskAnswer {
     Sound,
     /// The first fault of the rows, and where it is.
     Unsound { path: Text, why: Unsound },
+    /// The rows are sound, and no record can get a number any more.
+    NoNumbers,
     /// The older schema was upgraded.
     Migrated,
     /// The database holds no room of the current schema.
@@ -52,6 +54,7 @@ impl TaskAnswer {
             TaskAnswer::Refused { .. } => Status::Refused,
             TaskAnswer::Sound => Status::Done,
             TaskAnswer::Unsound { .. } => Status::Found,
+            TaskAnswer::NoNumbers => Status::Found,
             TaskAnswer::Migrated => Status::Done,
             TaskAnswer::NoRoom(_) => Status::Refused,
         }
@@ -82,6 +85,7 @@ impl Outcome {
             OpenFault::NewVersion(number) => Outcome::Answer(TaskAnswer::NoRoom(NoRoom::New(
                 number,
             ))),
+            OpenFault::OtherTables => Outcome::Answer(TaskAnswer::NoRoom(NoRoom::OtherTables)),
             OpenFault::Db => Outcome::Failed(Fault::Database),
             OpenFault::Memory => Outcome::Failed(Fault::Memory),
         }

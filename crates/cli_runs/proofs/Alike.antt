@@ -1,164 +1,248 @@
--- Two servers to whom the same messages come have runs that are alike.
+-- Two servers to which the same messages come have runs that are alike.
 use Rattle.std.proofs.Common.{◌≡◌, ℕ, ℤ, List, [], ◌∷◌, ◌++◌, Option, None, Some, Ok, Err, All}
-use Rattle.std.proofs.Common.{refl, sym, ap, subst, ◌∙◌, append_assoc, arith, rules}
-use Rattle.std.specs.List.{AllByRecursion}
-use Rattle.sqlite.specs.State.{State}
+use Rattle.std.proofs.Common.{inl, inr, refl, sym, ap, subst, ◌∙◌, IfSome, map}
+use Rattle.std.{proofs.lemmas.Grind.flat_map-append, specs.List.{AllByRecursion, flat_map}}
+use Rattle.sqlite_rules.specs.Lists.{Has}
+use Rattle.sqlite.specs.{State.State, Tree.Trees}
+use Rattle.room_rows.specs.Content.{Content}
 use Rattle.room_inherit.specs.Laws.{SoundIsContent}
-use Rattle.room_machine.specs.{Run.{Event, Run}, declared.reply.Reply.Reply}
-use Rattle.room_laws.specs.{Tidy.ContentIsTidy, Twins.{AnswersAlike, Turn, Unseen, first_events}}
-use Rattle.room_laws.specs.Twins.{second_events}
-use Rattle.room_http.specs.{Message.{Message, Parsed, asked}, Stream.{Exchange, HasReply, event_at}}
+use Rattle.room_machine.specs.{Run.{Asking, Event, Happens, Run}, declared.reply.Reply.Reply}
+use Rattle.room_laws.specs.{Laws.{HappensUnseen, StaysBehind}, Outside.SameOutside}
+use Rattle.room_laws.specs.{Tidy.{ContentIsTidy, IsNumbered, IsTidy, StaysTidy}, Twins.AnswersAlike}
+use Rattle.room_laws.specs.Twins.{InFirst, InSecond, Turn, Unseen, first_events, front_at_end}
+use Rattle.room_laws.{specs.Twins.second_events, proofs.Behind.{same_back, same_itself, same_on}}
+use Rattle.room_http.specs.{Message.{Parsed, asked}, Stream.{Exchange, HasReply, event_at}}
 use Rattle.room_http.specs.Stream.{events_at, events_by}
-use Rattle.room_store.specs.Leads.{Leads}
-use Rattle.store_runs.proofs.Rooms.{keeps, numbered, sound, tidy}
-use Rattle.cli_serve.specs.Visits.{IsServedVisit, Visit, requests_of}
-use Rattle.cli_runs.specs.Alike.{NoneListsFront, SameExchanges, SameMessages, SameMessagesCame}
-use Rattle.cli_runs.specs.Alike.{ServersAnswerAlike, turn_before, turns_before, turns_of_both}
-use Rattle.cli_runs.proofs.Agreed.{AgreeAll, IsAgreed, agreed}
+use Rattle.room_store.specs.{Crash.{HoldsRoom, Leaves}, Leads.Leads}
+use Rattle.store_runs.proofs.{Rights.of_all, Rooms.{keeps, numbered, sound, tidy}}
+use Rattle.cli_serve.specs.{Hosts.LeavesRequests, Visits.{IsServedVisit, Visit, requests_of}}
+use Rattle.cli_serve.specs.Visits.{unanswered_of, visit_events}
+use Rattle.cli_runs.specs.Alike.{Answered, AreUnseen, Arrival, AtBoth, AtFirst, AtSecond}
+use Rattle.cli_runs.specs.Alike.{IsSameReply, RepliesAlike, ServersAnswerAlike}
+use Rattle.cli_runs.specs.Alike.{answered_in, at_first, at_second, front_then, turn_of_both}
+use Rattle.cli_runs.{specs.Alike.{turns_of, visit_answered}, proofs.Agreed.{AgreeAll, IsAgreed}}
+use Rattle.cli_runs.proofs.{Agreed.agreed, Gains.all_both}
+
+-- ---- what was answered
+
+abbrev IsAgreedAt : Answered → Type 0
+IsAgreedAt x = IsAgreed x.1
+
+abbrev event_of : Answered → List Event
+event_of x = event_at x.0 x.1
+
+visit_agrees : (moment : ℤ) (xs : List Exchange) → AllByRecursion IsAgreed xs
+    → AllByRecursion IsAgreedAt (map (λ x. (moment, x)) xs)
+visit_agrees moment [] all = tt
+visit_agrees moment (x ∷ xs) all = (all.0, visit_agrees moment xs all.1)
+
+all_agree : (visits : List Visit) → AgreeAll visits → AllByRecursion IsAgreedAt (answered_in visits)
+all_agree [] all = tt
+all_agree (v ∷ visits) all =
+    all_both IsAgreedAt (visit_answered v) (answered_in visits)
+    (visit_agrees v.moment v.exchanges all.0) (all_agree visits all.1)
+
+visit_events_are : (moment : ℤ) (xs : List Exchange)
+    → flat_map event_of (map (λ x. (moment, x)) xs) ≡ events_by moment xs
+visit_events_are moment [] = refl
+visit_events_are moment (x ∷ xs) =
+    ap (λ (es : List Event). event_at moment x ++ es) (visit_events_are moment xs)
+
+events_are : (visits : List Visit) → flat_map event_of (answered_in visits) ≡ requests_of visits
+events_are [] = refl
+events_are (v ∷ visits) =
+    flat_map-append event_of (visit_answered v) (answered_in visits)
+    ∙ ap (λ (es : List Event). es ++ flat_map event_of (answered_in visits))
+    (visit_events_are v.moment v.exchanges)
+    ∙ ap (λ (es : List Event). visit_events v ++ es) (events_are visits)
 
 -- ---- what is asked of each
 
-module _ (moment later : ℤ) where
-  first_turn : (turns : List Turn) (m : Parsed) (first second : Option Reply) → HasReply m first
-      → HasReply m second → first_events (turn_before turns moment later m first second)
-      ≡ events_at moment m first ++ first_events turns
-  first_turn turns (Ok call) (Some first) (Some second) one two = refl
-  first_turn turns (Ok call) (Some first) None one two = absurd two
-  first_turn turns (Ok call) None second one two = absurd one
-  first_turn turns (Err fault) first second one two = refl
+first_both : (moment later : ℤ) (p : Parsed) (x y : Option Reply) → HasReply p x → HasReply p y
+    → (turns : List Turn) → first_events (turn_of_both moment later p x y ++ turns)
+    ≡ events_at moment p x ++ first_events turns
+first_both moment later (Ok call) (Some x) (Some y) one two turns = refl
+first_both moment later (Ok call) (Some x) None one two turns = absurd two
+first_both moment later (Ok call) None y one two turns = absurd one
+first_both moment later (Err fault) x y one two turns = refl
 
-  second_turn : (turns : List Turn) (m : Parsed) (first second : Option Reply) → HasReply m first
-      → HasReply m second → second_events (turn_before turns moment later m first second)
-      ≡ events_at later m second ++ second_events turns
-  second_turn turns (Ok call) (Some first) (Some second) one two = refl
-  second_turn turns (Ok call) (Some first) None one two = absurd two
-  second_turn turns (Ok call) None second one two = absurd one
-  second_turn turns (Err fault) first second one two = refl
+second_both : (moment later : ℤ) (p : Parsed) (x y : Option Reply) → HasReply p x → HasReply p y
+    → (turns : List Turn) → second_events (turn_of_both moment later p x y ++ turns)
+    ≡ events_at later p y ++ second_events turns
+second_both moment later (Ok call) (Some x) (Some y) one two turns = refl
+second_both moment later (Ok call) (Some x) None one two turns = absurd two
+second_both moment later (Ok call) None y one two turns = absurd one
+second_both moment later (Err fault) x y one two turns = refl
 
-  -- the second reply is one to the first message
-  of_same : (x y : Exchange) → x.message ≡ y.message → IsAgreed y
-      → HasReply (asked x.message) y.reply
-  of_same x y same is = subst (λ (m : Message). HasReply (asked m) y.reply) (sym same) is
+module _ (turns : List Turn) where
+  first_alone : (events : List Event)
+      → first_events (map InFirst events ++ turns) ≡ events ++ first_events turns
+  first_alone [] = refl
+  first_alone (event ∷ events) = ap (λ (es : List Event). event ∷ es) (first_alone events)
 
-  first_turns : (turns : List Turn) (xs ys : List Exchange) → SameMessages xs ys
-      → AllByRecursion IsAgreed xs → AllByRecursion IsAgreed ys
-      → first_events (turns_before turns moment later xs ys)
-      ≡ events_by moment xs ++ first_events turns
-  first_turns turns [] [] same one two = refl
-  first_turns turns [] (y ∷ ys) same one two = absurd same
-  first_turns turns (x ∷ xs) [] same one two = absurd same
-  first_turns turns (x ∷ xs) (y ∷ ys) same one two =
-      first_turn (turns_before turns moment later xs ys) (asked x.message) x.reply y.reply one.0
-      (of_same x y same.0 two.0)
-      ∙ ap (λ (es : List Event). event_at moment x ++ es)
-      (first_turns turns xs ys same.1 one.1 two.1)
-      ∙ sym (append_assoc (event_at moment x) (events_by moment xs) (first_events turns))
+  none_first : (events : List Event)
+      → first_events (map InSecond events ++ turns) ≡ first_events turns
+  none_first [] = refl
+  none_first (event ∷ events) = none_first events
 
-  second_turns : (turns : List Turn) (xs ys : List Exchange) → SameMessages xs ys
-      → AllByRecursion IsAgreed xs → AllByRecursion IsAgreed ys
-      → second_events (turns_before turns moment later xs ys)
-      ≡ events_by later ys ++ second_events turns
-  second_turns turns [] [] same one two = refl
-  second_turns turns [] (y ∷ ys) same one two = absurd same
-  second_turns turns (x ∷ xs) [] same one two = absurd same
-  second_turns turns (x ∷ xs) (y ∷ ys) same one two =
-      second_turn (turns_before turns moment later xs ys) (asked x.message) x.reply y.reply one.0
-      (of_same x y same.0 two.0)
-      ∙ ap (λ (m : Message). events_at later (asked m) y.reply
-      ++ second_events (turns_before turns moment later xs ys)) same.0
-      ∙ ap (λ (es : List Event). event_at later y ++ es)
-      (second_turns turns xs ys same.1 one.1 two.1)
-      ∙ sym (append_assoc (event_at later y) (events_by later ys) (second_events turns))
+  second_alone : (events : List Event)
+      → second_events (map InSecond events ++ turns) ≡ events ++ second_events turns
+  second_alone [] = refl
+  second_alone (event ∷ events) = ap (λ (es : List Event). event ∷ es) (second_alone events)
 
-first_all : (visits others : List Visit) → SameMessagesCame visits others → AgreeAll visits
-    → AgreeAll others → first_events (turns_of_both visits others) ≡ requests_of visits
-first_all [] [] same one two = refl
-first_all [] (w ∷ others) same one two = absurd same
-first_all (v ∷ visits) [] same one two = absurd same
-first_all (v ∷ visits) (w ∷ others) same one two =
-    search (rules, first_turns, same.0, one.0, two.0, first_all visits others same.1 one.1 two.1)
+  none_second : (events : List Event)
+      → second_events (map InFirst events ++ turns) ≡ second_events turns
+  none_second [] = refl
+  none_second (event ∷ events) = none_second events
 
-second_all : (visits others : List Visit) → SameMessagesCame visits others → AgreeAll visits
-    → AgreeAll others → second_events (turns_of_both visits others) ≡ requests_of others
-second_all [] [] same one two = refl
-second_all [] (w ∷ others) same one two = absurd same
-second_all (v ∷ visits) [] same one two = absurd same
-second_all (v ∷ visits) (w ∷ others) same one two =
-    search (rules, second_turns, same.0, one.0, two.0, second_all visits others same.1 one.1 two.1)
+abbrev Agree : List Arrival → Type 0
+Agree arrivals =
+    AllByRecursion IsAgreedAt (at_first arrivals) × AllByRecursion IsAgreedAt (at_second arrivals)
+
+first_are : (arrivals : List Arrival) → Agree arrivals
+    → first_events (turns_of arrivals) ≡ flat_map event_of (at_first arrivals)
+first_are [] agree = refl
+first_are (AtBoth moment later m x y ∷ arrivals) ((one, more), (two, others)) =
+    first_both moment later (asked m) x y one two (turns_of arrivals)
+    ∙ ap (λ (es : List Event). events_at moment (asked m) x ++ es)
+    (first_are arrivals (more, others))
+first_are (AtFirst x ∷ arrivals) ((one, more), others) =
+    first_alone (turns_of arrivals) (event_of x)
+    ∙ ap (λ (es : List Event). event_of x ++ es) (first_are arrivals (more, others))
+first_are (AtSecond x ∷ arrivals) (more, (two, others)) =
+    none_first (turns_of arrivals) (event_of x) ∙ first_are arrivals (more, others)
+
+second_are : (arrivals : List Arrival) → Agree arrivals
+    → second_events (turns_of arrivals) ≡ flat_map event_of (at_second arrivals)
+second_are [] agree = refl
+second_are (AtBoth moment later m x y ∷ arrivals) ((one, more), (two, others)) =
+    second_both moment later (asked m) x y one two (turns_of arrivals)
+    ∙ ap (λ (es : List Event). events_at later (asked m) y ++ es)
+    (second_are arrivals (more, others))
+second_are (AtFirst x ∷ arrivals) ((one, more), others) =
+    none_second (turns_of arrivals) (event_of x) ∙ second_are arrivals (more, others)
+second_are (AtSecond x ∷ arrivals) (more, (two, others)) =
+    second_alone (turns_of arrivals) (event_of x)
+    ∙ ap (λ (es : List Event). event_of x ++ es) (second_are arrivals (more, others))
 
 -- ---- what each answers
 
--- what is still to be compared, with the front where it is then
-abbrev Rest : List Turn → Type 0
-Rest turns =
-    (front : List (List ℕ)) × AnswersAlike front turns × NoneListsFront front turns
+both_told : (front : List (List ℕ)) (moment later : ℤ) (p : Parsed) (x y : Option Reply)
+    → HasReply p x → HasReply p y → (turns : List Turn)
+    → AnswersAlike front (turn_of_both moment later p x y ++ turns)
+    → IsSameReply front p x y × AnswersAlike (front_then front p x) turns
+both_told front moment later (Ok call) (Some x) (Some y) one two turns alike = alike
+both_told front moment later (Ok call) (Some x) None one two turns alike = absurd two
+both_told front moment later (Ok call) None y one two turns alike = absurd one
+both_told front moment later (Err fault) None None one two turns alike = (refl, alike)
+both_told front moment later (Err fault) (Some x) y one two turns alike = absurd one
+both_told front moment later (Err fault) None (Some y) one two turns alike = absurd two
 
-same_reply : (turns : List Turn) (moment later : ℤ) (front : List (List ℕ)) (m : Parsed)
-    (first second : Option Reply) → HasReply m first → HasReply m second
-    → AnswersAlike front (turn_before turns moment later m first second)
-    → NoneListsFront front (turn_before turns moment later m first second)
-    → (first ≡ second) × Rest turns
-same_reply turns moment later front (Ok call) (Some first) (Some second) one two alike none =
-    grind (arith, alike, none, alike.0, none.0, alike.1, none.1)
-same_reply turns moment later front (Ok call) (Some first) None one two alike none = absurd two
-same_reply turns moment later front (Ok call) None second one two alike none = absurd one
-same_reply turns moment later front (Err fault) None None one two alike none =
-    (refl, (front, alike, none))
-same_reply turns moment later front (Err fault) (Some first) second one two alike none = absurd one
-same_reply turns moment later front (Err fault) None (Some second) one two alike none = absurd two
+module _ (front : List (List ℕ)) (turns : List Turn) where
+  first_told : (events : List Event) → AnswersAlike front (map InFirst events ++ turns)
+      → AnswersAlike front turns
+  first_told [] alike = alike
+  first_told (event ∷ events) alike = first_told events alike
 
-same_exchange : (x y : Exchange) → x.message ≡ y.message → x.reply ≡ y.reply → x ≡ y
-same_exchange x y message reply = λ i. record { message = message i; reply = reply i }
+  second_told : (events : List Event) → AnswersAlike front (map InSecond events ++ turns)
+      → AnswersAlike front turns
+  second_told [] alike = alike
+  second_told (event ∷ events) alike = second_told events alike
 
-same_replies : (turns : List Turn) (moment later : ℤ) (front : List (List ℕ))
-    (xs ys : List Exchange) → SameMessages xs ys → AllByRecursion IsAgreed xs
-    → AllByRecursion IsAgreed ys
-    → AnswersAlike front (turns_before turns moment later xs ys)
-    → NoneListsFront front (turns_before turns moment later xs ys)
-    → (xs ≡ ys) × Rest turns
-same_replies turns moment later front [] [] same one two alike none = (refl, (front, alike, none))
-same_replies turns moment later front [] (y ∷ ys) same one two alike none = absurd same
-same_replies turns moment later front (x ∷ xs) [] same one two alike none = absurd same
-same_replies turns moment later front (x ∷ xs) (y ∷ ys) same one two alike none =
-    let first = same_reply (turns_before turns moment later xs ys) moment later front
-    (asked x.message) x.reply y.reply one.0 (of_same moment later x y same.0 two.0) alike none in
-    let then = same_replies turns moment later first.1.0 xs ys same.1 one.1 two.1 first.1.1
-    first.1.2 in
-    search (rules, same_exchange, same.0, first.0, then.0, then.1)
+all_told : (front : List (List ℕ)) (arrivals : List Arrival) → Agree arrivals
+    → AnswersAlike front (turns_of arrivals) → RepliesAlike front arrivals
+all_told front [] agree alike = tt
+all_told front (AtBoth moment later m x y ∷ arrivals) ((one, more), (two, others)) alike =
+    let here = both_told front moment later (asked m) x y one two (turns_of arrivals) alike in
+    (here.0, all_told (front_then front (asked m) x) arrivals (more, others) here.1)
+all_told front (AtFirst x ∷ arrivals) ((one, more), others) alike =
+    all_told front arrivals (more, others) (first_told front (turns_of arrivals) (event_of x) alike)
+all_told front (AtSecond x ∷ arrivals) (more, (two, others)) alike =
+    all_told front arrivals (more, others)
+    (second_told front (turns_of arrivals) (event_of x) alike)
 
-same_all : (front : List (List ℕ)) (visits others : List Visit) → SameMessagesCame visits others
-    → AgreeAll visits → AgreeAll others → AnswersAlike front (turns_of_both visits others)
-    → NoneListsFront front (turns_of_both visits others) → SameExchanges visits others
-same_all front [] [] same one two alike none = tt
-same_all front [] (w ∷ others) same one two alike none = absurd same
-same_all front (v ∷ visits) [] same one two alike none = absurd same
-same_all front (v ∷ visits) (w ∷ others) same one two alike none =
-    let first = same_replies (turns_of_both visits others) v.moment w.moment front v.exchanges
-    w.exchanges same.0 one.0 two.0 alike none in
-    (first.0, same_all first.1.0 visits others same.1 one.1 two.1 first.1.1 first.1.2)
+-- ---- what a crash leaves
+
+numbered_then : StaysTidy → (a : Content) (events : List Event) (c : Content) → IsNumbered a
+    → IsTidy a → Run a events c → IsNumbered c
+numbered_then stays a [] c numbers tidies is = subst IsNumbered (sym is) numbers
+numbered_then stays a (event ∷ events) c numbers tidies (mid, happens, run) =
+    let next = stays a event mid numbers tidies happens in
+    numbered_then stays mid events c next.0 next.1 run
+
+-- the room that is left of one that all answered led to
+abbrev IsLeft : List (List ℕ) → Content → Trees → Type 0
+IsLeft front next db = (left : Content) × HoldsRoom left db × SameOutside front next left
+
+one_left : StaysBehind → (front : List (List ℕ)) (asked_for : List Asking) (new : State)
+    (next : Content) → IsNumbered next → AreUnseen front asked_for → Leaves asked_for new next
+    → (db : Trees) → new.may_leave db → IsLeft front next db
+one_left stays front asked_for new next numbers quiet (more, has, most) db left =
+    elim (most db left) [
+      | inl holds ↦ (next, holds, same_itself front next)
+      | inr others ↦ after others.1 others.2 others.3
+    ]
+  where
+    after : (asking : Asking) → more ≡ Some asking
+        → (reply : Reply) × (then : Content) × Happens next (asking reply) then × HoldsRoom then db
+        → IsLeft front next db
+    after asking is (reply, then, happens, holds) =
+        let unseen_one = of_all (λ a. (r : Reply) → HappensUnseen front (a r)) asked_for asking
+        quiet
+        (subst (λ (m : Option Asking). IfSome m (Has asked_for)) is has) in
+        (then, holds, (stays front next (asking reply) then numbers (unseen_one reply) happens).0)
 
 -- ---- the whole
 
-pub answer_alike : ContentIsTidy → SoundIsContent → Unseen → (front : List (List ℕ))
-    (old new other later : State) (visits others : List Visit)
-    → Leads old (requests_of visits) new → Leads other (requests_of others) later
-    → All IsServedVisit visits → All IsServedVisit others
-    → ServersAnswerAlike front old visits new other others later
-answer_alike tidies contents unseen front old new other later visits others leads beside each
-    every now then a b one two same came alike =
-    let turns = turns_of_both visits others in
-    let mine = agreed visits each in
-    let theirs = agreed others every in
-    let it = leads.run now (sound a old one) a (keeps a old one) in
-    let its = beside.run then (sound b other two) b (keeps b other two) in
-    let run = subst (λ (es : List Event). Run a es it.0)
-    (sym (first_all visits others came mine theirs)) it.1 in
-    let runs = subst (λ (es : List Event). Run b es its.0)
-    (sym (second_all visits others came mine theirs)) its.1 in
-    let answers = unseen front turns a b it.0 its.0 same (tidy tidies contents a old.now one)
-    (tidy tidies contents b other.now two) (numbered a old.now one) (numbered b other.now two) run
-    runs (alike it.0 run) in (
-      answers.0,
-      same_all front visits others came mine theirs answers.0,
-      (it.0, its.0, it.1, its.1, it.2, its.2, answers.1),
-    )
+module _ (contents : SoundIsContent) (tidies : ContentIsTidy) (stays : StaysTidy)
+    (quiet : StaysBehind) (unseen : Unseen) where
+  pub answer_alike : (front : List (List ℕ)) (old new other later : State)
+      (visits others : List Visit)
+      → Leads old (requests_of visits) new → Leads other (requests_of others) later
+      → LeavesRequests old visits new → LeavesRequests other others later
+      → All IsServedVisit visits → All IsServedVisit others
+      → ServersAnswerAlike front old visits new other others later
+  answer_alike front old new other later visits others leads beside leaves left each every now then
+      a b one two same arrivals arrive alike =
+      let turns = turns_of arrivals in
+      let mine = subst (λ (xs : List Answered). AllByRecursion IsAgreedAt xs) (sym arrive.first)
+      (all_agree visits (agreed visits each)) in
+      let theirs = subst (λ (xs : List Answered). AllByRecursion IsAgreedAt xs)
+      (sym arrive.second) (all_agree others (agreed others every)) in
+      let events = first_are arrivals (mine, theirs)
+      ∙ ap (flat_map event_of) arrive.first ∙ events_are visits in
+      let beside_events = second_are arrivals (mine, theirs)
+      ∙ ap (flat_map event_of) arrive.second ∙ events_are others in
+      let numbers = numbered a old.now one in
+      let others_numbers = numbered b other.now two in
+      let tree = tidy tidies contents a old.now one in
+      let others_tree = tidy tidies contents b other.now two in
+      let answers : (c d : Content) → Run a (requests_of visits) c → Run b (requests_of others) d
+      → AnswersAlike front turns × SameOutside (front_at_end front turns) c d =
+      λ c d run runs.
+      let first_run = subst (λ (es : List Event). Run a es c) (sym events) run in
+      unseen front turns a b c d same tree others_tree numbers others_numbers first_run
+      (subst (λ (es : List Event). Run b es d) (sym beside_events) runs) (alike c first_run) in
+      let it = leads.run now (sound a old one) a (keeps a old one) in
+      let its = beside.run then (sound b other two) b (keeps b other two) in
+      let told = answers it.0 its.0 it.1 its.1 in
+      let at_end = front_at_end front turns in (
+        all_told front arrivals (mine, theirs) told.0,
+        (it.0, its.0, it.1, its.1, it.2, its.2, told.1),
+        λ is_open other_open none none_there db db' may may_there.
+            let end = leaves now (sound a old one) is_open a (keeps a old one) in
+            let ends = left then (sound b other two) other_open b (keeps b other two) in
+            let first = one_left quiet at_end (unanswered_of visits) new end.0
+            (numbered_then stays a (requests_of visits) end.0 numbers tree end.1) none end.2 db may in
+            let last = one_left quiet at_end (unanswered_of others) later ends.0
+            (numbered_then stays b (requests_of others) ends.0 others_numbers others_tree ends.1)
+            none_there ends.2 db' may_there in
+            let same_then = (answers end.0 ends.0 end.1 ends.1).1 in (
+              first.0,
+              last.0,
+              first.1,
+              last.1,
+              same_on at_end first.0 end.0 last.0 (same_back at_end end.0 first.0 first.2)
+                  (same_on at_end end.0 ends.0 last.0 same_then last.2),
+            ),
+      )

@@ -1,96 +1,135 @@
--- Two servers beside each other, to whom the same messages come (own).
-use Rattle.std.specs.Prelude.{◌≡◌, ℕ, ℤ, List, [], ◌∷◌, Option, Some, None, Ok, Err}
+-- Two servers beside each other, to which the same messages come, but for what happens behind a
+-- folder (own).
+use Rattle.std.specs.Prelude.{◌≡◌, ◌⊎◌, ◌++◌, ℕ, ℤ, List, [], ◌∷◌, Option, Some, None, Ok, Err}
+use Rattle.std.specs.Prelude.{IsTrue, map}
+use Rattle.std.specs.List.{AllByRecursion, flat_map}
 use Rattle.sqlite.specs.State.{State, HasCleanDisk}
+use Rattle.sqlite.specs.Tree.{Trees}
 use Rattle.room_rows.specs.Content.{Content}
-use Rattle.room_machine.specs.Run.{Run}
+use Rattle.room_machine.specs.Run.{Asking, Run}
 use Rattle.room_machine.specs.declared.reply.Reply.{Reply}
-use Rattle.room_machine.specs.declared.request.Request.TheVariants.{List as ListFolder}
-use Rattle.room_laws.specs.Laws.{front_after}
+use Rattle.room_laws.specs.Laws.{HappensUnseen, TellsNames, front_after}
 use Rattle.room_laws.specs.Outside.{SameOutside}
-use Rattle.room_laws.specs.Twins.{AnswersAlike, AreAlike, InBoth, Turn, first_events, front_at_end}
-use Rattle.room_http.specs.Message.{Parsed, asked}
-use Rattle.room_http.specs.Stream.{Exchange}
-use Rattle.room_store.specs.Crash.{IsRoomOf}
+use Rattle.room_laws.specs.Twins.{AreAlike, InBoth, InFirst, InSecond, Turn, first_events}
+use Rattle.room_laws.specs.Twins.{front_at_end}
+use Rattle.room_http.specs.Message.{Message, Parsed, asked}
+use Rattle.room_http.specs.Stream.{Exchange, event_at}
+use Rattle.room_store.specs.Crash.{HoldsRoom, IsRoomOf}
 use Rattle.room_store.specs.Kept.{Keeps}
-use Rattle.cli_serve.specs.Visits.{Visit, requests_of}
+use Rattle.cli_serve.specs.Visits.{Visit, requests_of, unanswered_of}
 
--- ---- the same messages
+-- ---- the messages of both
 
--- the same messages were answered, one after another
-abbrev pub SameMessages : List Exchange → List Exchange → Type 0
-SameMessages [] [] = Unit {0}
-SameMessages (x ∷ xs) (y ∷ ys) = (x.message ≡ y.message) × SameMessages xs ys
-SameMessages xs ys = ⊥
+-- a message with its reply, at the moment of its connection
+abbrev pub Answered : Type 0
+Answered = ℤ × Exchange
 
--- on one connection after another
-abbrev pub SameMessagesCame : List Visit → List Visit → Type 0
-SameMessagesCame [] [] = Unit {0}
-SameMessagesCame (visit ∷ visits) (other ∷ others) =
-    SameMessages visit.exchanges other.exchanges × SameMessagesCame visits others
-SameMessagesCame visits others = ⊥
+-- all that were answered, of one connection after another
+abbrev pub visit_answered : Visit → List Answered
+visit_answered visit = map (λ x. (visit.moment, x)) visit.exchanges
+
+abbrev pub answered_in : List Visit → List Answered
+answered_in visits = flat_map visit_answered visits
+
+-- A message that came to both servers, at a moment and with a reply in each; or one that came to
+-- the first alone, or to the second.
+pub data Arrival : Type 0 where
+  AtBoth : ℤ → ℤ → Message → Option Reply → Option Reply → Arrival
+  AtFirst : Answered → Arrival
+  AtSecond : Answered → Arrival
+
+-- what came to the first, and what to the second
+abbrev pub at_first : List Arrival → List Answered
+at_first [] = []
+at_first (AtBoth moment later m first second ∷ arrivals) =
+    (moment, record { message = m; reply = first }) ∷ at_first arrivals
+at_first (AtFirst x ∷ arrivals) = x ∷ at_first arrivals
+at_first (AtSecond x ∷ arrivals) = at_first arrivals
+
+abbrev pub at_second : List Arrival → List Answered
+at_second [] = []
+at_second (AtBoth moment later m first second ∷ arrivals) =
+    (later, record { message = m; reply = second }) ∷ at_second arrivals
+at_second (AtFirst x ∷ arrivals) = at_second arrivals
+at_second (AtSecond x ∷ arrivals) = x ∷ at_second arrivals
+
+-- These are all messages of these connections of both servers, those of each in order. So those
+-- that came to both came in one order, between whatever others, on whatever connections.
+pub record Arrive (visits others : List Visit) (arrivals : List Arrival) : Type 0 where
+  pub first : at_first arrivals ≡ answered_in visits
+  pub second : at_second arrivals ≡ answered_in others
 
 -- ---- what they ask of both rooms
 
--- the turn of a message with its reply in each, and then these turns
-abbrev pub turn_before : List Turn → ℤ → ℤ → Parsed → Option Reply → Option Reply → List Turn
-turn_before turns moment later (Err fault) first second = turns
-turn_before turns moment later (Ok call) None second = turns
-turn_before turns moment later (Ok call) (Some first) None = turns
-turn_before turns moment later (Ok call) (Some first) (Some second) =
-    InBoth call.0 moment later call.1 first second ∷ turns
+-- the turn of a message of both, if no test refuses it
+abbrev pub turn_of_both : ℤ → ℤ → Parsed → Option Reply → Option Reply → List Turn
+turn_of_both moment later (Err fault) first second = []
+turn_of_both moment later (Ok call) None second = []
+turn_of_both moment later (Ok call) (Some first) None = []
+turn_of_both moment later (Ok call) (Some first) (Some second) =
+    InBoth call.0 moment later call.1 first second ∷ []
 
--- the turns of two connections beside each other, and then these turns
-abbrev pub turns_before : List Turn → ℤ → ℤ → List Exchange → List Exchange → List Turn
-turns_before turns moment later [] ys = turns
-turns_before turns moment later (x ∷ xs) [] = turns
-turns_before turns moment later (x ∷ xs) (y ∷ ys) =
-    turn_before (turns_before turns moment later xs ys) moment later (asked x.message) x.reply
-    y.reply
+abbrev pub turns_of : List Arrival → List Turn
+turns_of [] = []
+turns_of (AtBoth moment later m first second ∷ arrivals) =
+    turn_of_both moment later (asked m) first second ++ turns_of arrivals
+turns_of (AtFirst x ∷ arrivals) = map InFirst (event_at x.0 x.1) ++ turns_of arrivals
+turns_of (AtSecond x ∷ arrivals) = map InSecond (event_at x.0 x.1) ++ turns_of arrivals
 
--- those of one pair of connections after another
-abbrev pub turns_of_both : List Visit → List Visit → List Turn
-turns_of_both [] others = []
-turns_of_both (visit ∷ visits) [] = []
-turns_of_both (visit ∷ visits) (other ∷ others) =
-    turns_before (turns_of_both visits others) visit.moment other.moment visit.exchanges
-    other.exchanges
-
--- Each turn is so of the first room as it begins: its caller is barred from what is behind the
--- front, or asks for nothing there.
+-- Each turn is so of the first room as it begins. Of a message of both, the caller is barred from
+-- what is behind the front, or asks for nothing there; one of a server alone is of something behind
+-- the front, by whomever, or it changes nothing.
 abbrev pub AskAlike : List (List ℕ) → Content → List Turn → Type 0
 AskAlike front room turns =
     (next : Content) (run : Run room (first_events turns) next) → AreAlike front turns room next run
 
--- No request lists the front: the names in it may differ, and are told to who may list it.
-abbrev pub NoneListsFront : List (List ℕ) → List Turn → Type 0
-NoneListsFront front [] = Unit {0}
-NoneListsFront front (InBoth user moment later request first second ∷ turns) =
-    (request ≡ ListFolder front → ⊥)
-    × NoneListsFront (front_after front request first) turns
-NoneListsFront front (turn ∷ turns) = NoneListsFront front turns
-
 -- ---- what they get
 
--- the same messages with the same replies, on one connection after another
-abbrev pub SameExchanges : List Visit → List Visit → Type 0
-SameExchanges [] [] = Unit {0}
-SameExchanges (visit ∷ visits) (other ∷ others) =
-    (visit.exchanges ≡ other.exchanges) × SameExchanges visits others
-SameExchanges visits others = ⊥
+-- the replies to a message of both: the same, or the names in the front to who lists it
+abbrev pub IsSameReply : List (List ℕ) → Parsed → Option Reply → Option Reply → Type 0
+IsSameReply front (Ok call) (Some first) (Some second) =
+    (first ≡ second) ⊎ TellsNames front call.1 first second
+IsSameReply front m first second = first ≡ second
+
+-- where the front is after the message
+abbrev pub front_then : List (List ℕ) → Parsed → Option Reply → List (List ℕ)
+front_then front (Ok call) (Some first) = front_after front call.1 first
+front_then front m first = front
+
+abbrev pub RepliesAlike : List (List ℕ) → List Arrival → Type 0
+RepliesAlike front [] = Unit {0}
+RepliesAlike front (AtBoth moment later m first second ∷ arrivals) =
+    IsSameReply front (asked m) first second
+    × RepliesAlike (front_then front (asked m) first) arrivals
+RepliesAlike front (arrival ∷ arrivals) = RepliesAlike front arrivals
+
+-- what got no answer is behind the front, or changes nothing, whatever its reply is
+abbrev pub AreUnseen : List (List ℕ) → List Asking → Type 0
+AreUnseen front asked =
+    AllByRecursion (λ asking. (reply : Reply) → HappensUnseen front (asking reply)) asked
+
+-- Whatever a power cut leaves of each are rooms that are the same outside, if what got no answer
+-- doesn't show there.
+abbrev pub CrashesLeaveAlike : List (List ℕ) → State → List Visit → State → State → List Visit
+    → State → Type 0
+CrashesLeaveAlike front old visits new other others later =
+    IsTrue old.is_open → IsTrue other.is_open
+    → AreUnseen front (unanswered_of visits) → AreUnseen front (unanswered_of others)
+    → (db beside : Trees) → new.may_leave db → later.may_leave beside
+    → (c d : Content) × HoldsRoom c db × HoldsRoom d beside × SameOutside front c d
 
 -- From each of two states to a later one these connections were served. If the tables were those of
--- two sound rooms that were the same outside, and the same messages came, each from a caller who is
--- barred from what is behind the front or asks for nothing there, then the replies are the same but
--- for the names in the front, and the same without exception where nobody lists it. The rooms that
--- are kept then are the same outside too.
+-- two sound rooms that were the same outside, and what came to both or to one alone is as above,
+-- then each message of both got the same reply in both, but for the names in the front. The rooms
+-- that are kept then are the same outside too, and so are those that a power cut leaves.
 abbrev pub ServersAnswerAlike : List (List ℕ) → State → List Visit → State → State → List Visit
     → State → Type 0
 ServersAnswerAlike front old visits new other others later =
     HasCleanDisk new → HasCleanDisk later
     → (a b : Content) → IsRoomOf a old.now → IsRoomOf b other.now → SameOutside front a b
-    → SameMessagesCame visits others → AskAlike front a (turns_of_both visits others)
-    → AnswersAlike front (turns_of_both visits others)
-    × (NoneListsFront front (turns_of_both visits others) → SameExchanges visits others)
+    → (arrivals : List Arrival) → Arrive visits others arrivals
+    → AskAlike front a (turns_of arrivals)
+    → RepliesAlike front arrivals
     × ((c d : Content) × Run a (requests_of visits) c × Run b (requests_of others) d
-    × Keeps new c × Keeps later d
-    × SameOutside (front_at_end front (turns_of_both visits others)) c d)
+    × Keeps new c × Keeps later d × SameOutside (front_at_end front (turns_of arrivals)) c d)
+    × CrashesLeaveAlike (front_at_end front (turns_of arrivals)) old visits new other others later

@@ -1,13 +1,17 @@
 -- Who may do what in a room that is served (own).
 use Rattle.std.specs.List.{AllByRecursion}
-use Rattle.std.specs.Prelude.{ℕ, List, Option, IfSome, IsTrue, Ok, Err}
+use Rattle.std.specs.Prelude.{◌≡◌, ◌⊎◌, ◌∷◌, ◌++◌, ℕ, List, Option, Some, IfSome, IsTrue, Ok, Err}
+use Rattle.sqlite_rules.specs.Lists.{Has}
 use Rattle.sqlite.specs.State.{State, HasCleanDisk}
 use Rattle.sqlite.specs.Tree.{Trees}
 use Rattle.room_entry.specs.Rights.{write_acl, write_owner}
 use Rattle.room_rows.specs.Content.{Content}
-use Rattle.room_machine.specs.Run.{Run}
-use Rattle.room_laws.specs.WhoChanged.{HasRight, IsFrom, IsThere, MayRemove, SameRights}
-use Rattle.room_http.specs.Message.{Parsed, asked}
+use Rattle.room_machine.specs.Run.{Asked, Run}
+use Rattle.room_machine.specs.declared.reply.Reply.{Reply}
+use Rattle.room_machine.specs.declared.request.Request.{Request}
+use Rattle.room_laws.specs.WhoChanged.{Alters, HasRight, IsFrom, IsThere, MayRemove, SameRights}
+use Rattle.room_http.specs.Message.{Message, Parsed, asked}
+use Rattle.room_http.specs.Stream.{Exchange, events_by}
 use Rattle.room_store.specs.Crash.{HoldsRoom, IsRoomOf, Lasts}
 use Rattle.room_store.specs.Kept.{Keeps}
 use Rattle.cli_serve.specs.Visits.{Visit, requests_of}
@@ -42,3 +46,57 @@ ServingGainsNothing path old visits new = HasCleanDisk new → IsTrue old.is_ope
     → (next : Content) × Run room (requests_of visits) next × Keeps new next
     × SameRights path room next × ((db : Trees) → new.may_leave db
     → (left : Content) × HoldsRoom left db × SameRights path room left)
+
+-- ---- who changed rights
+
+-- The first message of these connections, answered so, that altered who may do what at the path: up
+-- to it everybody might there what they might in the first room. Its caller had the right for it
+-- when it came.
+pub record FirstMessage (path : List (List ℕ)) (room : Content) (visits : List Visit) : Type 0 where
+  pub earlier : List Visit
+  pub visit : Visit
+  pub later : List Visit
+  pub is_visit : visits ≡ earlier ++ visit ∷ later
+  pub before : List Exchange
+  pub exchange : Exchange
+  pub after : List Exchange
+  pub is_exchange : visit.exchanges ≡ before ++ exchange ∷ after
+  pub user : Option (List ℕ)
+  pub request : Request
+  pub asks : asked exchange.message ≡ Ok (user, request)
+  pub reply : Reply
+  pub replied : exchange.reply ≡ Some reply
+  pub mid : Content
+  pub run : Run room (requests_of earlier ++ events_by visit.moment before) mid
+  pub stood : SameRights path room mid
+  pub alters : Alters path room mid (Asked user visit.moment request reply)
+
+-- The same of a message that the desk failed at, and that may have been carried out after all that
+-- were answered.
+pub record FailedMessage (path : List (List ℕ)) (room : Content) (visits : List Visit)
+    : Type 0 where
+  pub visit : Visit
+  pub is_visit : Has visits visit
+  pub message : Message
+  pub failed : visit.failed ≡ Some message
+  pub user : Option (List ℕ)
+  pub request : Request
+  pub asks : asked message ≡ Ok (user, request)
+  pub reply : Reply
+  pub mid : Content
+  pub run : Run room (requests_of visits) mid
+  pub stood : SameRights path room mid
+  pub alters : Alters path room mid (Asked user visit.moment request reply)
+
+-- From one state to a later one these connections were served, whoever asked for whatever. If the
+-- tables were those of a sound room, then everybody's rights at a path are what they were, or the
+-- first message that altered them is named: in the room that is kept then, and in whatever a power
+-- cut leaves, where the connection was open before.
+abbrev pub ServingChangesRights : List (List ℕ) → State → List Visit → State → Type 0
+ServingChangesRights path old visits new = HasCleanDisk new
+    → (room : Content) → IsRoomOf room old.now
+    → ((next : Content) × Run room (requests_of visits) next × Keeps new next
+    × (SameRights path room next ⊎ FirstMessage path room visits))
+    × (IsTrue old.is_open → (db : Trees) → new.may_leave db → (left : Content) × HoldsRoom left db
+    × (SameRights path room left
+    ⊎ (FirstMessage path room visits ⊎ FailedMessage path room visits)))

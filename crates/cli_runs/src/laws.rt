@@ -4,12 +4,13 @@ ghost use Rattle.sqlite.specs.Held.{Held, state};
 ghost use Rattle.cli_outcome.specs.declared.place.Place.{Place};
 ghost use Rattle.cli_serve.specs.Hosts.{IsHosted};
 ghost use Rattle.cli_runs.specs.Alike.{ServersAnswerAlike};
-ghost use Rattle.cli_runs.specs.Gains.{ServingGainsNothing};
+ghost use Rattle.cli_runs.specs.Gains.{ServingChangesRights, ServingGainsNothing};
 ghost use Rattle.cli_runs.specs.Sent.{ExchangesAreBytes};
 
 use cli_serve::{Moments, Ports};
 use room_inherit::laws::sound_is_content;
-use room_laws::laws::{content_is_tidy, nothing_gained, unseen};
+use room_laws::laws::{content_is_tidy, rights_changed_in_run, stays_behind, stays_tidy, unseen};
+use room_machine::laws::two_runs_meet;
 use sqlite::Alter;
 use std::io::Write;
 use store_runs::laws::{nothing_gained_by_a_crash, nothing_gained_in_a_store};
@@ -29,9 +30,27 @@ pub fn nothing_gained_by_serving<S: Alter, P: Ports, M: Moments, O: Write, E: Wr
     nothing_gained_by_a_crash::<S>();
 }
 
-/// Two servers whose rooms differ behind a folder alone, to whom the same messages come, connection
-/// by connection, from callers who are barred from that folder or ask for nothing behind it, answer
-/// each of them the same, but for the names in the folder to who lists it.
+/// While a server runs, whoever asks for whatever: everybody's rights at a path are what they were,
+/// in the room that is seen then and in what a power cut leaves, or one message was the first that
+/// altered them, and its caller had the right for it when it came.
+pub fn rights_changed_by_serving<S: Alter, P: Ports, M: Moments, O: Write, E: Write>()
+    ensures { (path : List (List ℕ)) (place : Place) (count : ℕ) (clock after : M) (ports closed : P)
+        (old new : Held S) (out printed : O) (err told : E) (status : ℕ)
+        (hosted : IsHosted (state S.Store) place count (M.told clock) (M.told after) (P.did ports)
+        (P.did closed) old new (O.contents out) (O.contents printed) (E.contents err)
+        (E.contents told) status)
+        → ServingChangesRights path (state S.Store old) hosted.served.visits (state S.Store new) }
+{
+    rights_changed_in_run();
+    two_runs_meet();
+    content_is_tidy();
+    sound_is_content();
+}
+
+/// Two servers whose rooms differ behind a folder alone answer the same to whoever is barred from
+/// it or asks for nothing behind it, but for the names in the folder to who lists it: whatever comes
+/// to one of them alone that is behind the folder, or changes nothing, and however connections bring
+/// it.
 pub fn unseen_by_serving<S: Alter, T: Alter, P: Ports, M: Moments, O: Write, E: Write>()
     ensures { (front : List (List ℕ)) (place : Place) (count : ℕ) (clock after : M) (ports closed : P)
         (old new : Held S) (out printed : O) (err told : E) (status : ℕ)
@@ -47,6 +66,8 @@ pub fn unseen_by_serving<S: Alter, T: Alter, P: Ports, M: Moments, O: Write, E: 
         (state T.Store other) beside.served.visits (state T.Store later) }
 {
     unseen();
+    stays_behind();
+    stays_tidy();
     content_is_tidy();
     sound_is_content();
 }

@@ -1,21 +1,28 @@
 -- Connections one after another, up to one that leaves the desk shut.
 use Rattle.std.proofs.Common.{◌≡◌, ℕ, ℤ, ◌+◌, ◌<◌, Bool, true, false, List, [], ◌∷◌, ◌++◌, length}
-use Rattle.std.proofs.Common.{Ok, Err, IfErr, Option, Result, subst, sym, refl, inl, inr, ◌∙◌}
+use Rattle.std.proofs.Common.{Ok, Err, IfErr, IsTrue, Option, Result, subst, sym, refl, inl, inr, ◌∙◌}
 use Rattle.std.proofs.{Common.{add-one, arith}, lemmas.List.{length-append, Elements.All-nil}}
-use Rattle.std.specs.Io.KnownBytes.{Appends}
+use Rattle.std.specs.{Io.KnownBytes.Appends, List.list_any}
 use Rattle.cli_outcome.specs.{Written.WritesSome, declared.place.Place.Place}
 use Rattle.room_machine.specs.{declared.desk.Desk.Ghosts, Desk.{Agrees, DeskLaws}}
 use Rattle.room_machine.proofs.Meeting.{closed_still}
 use Rattle.room_rows.specs.{Content.Content, Rows.Rows}
 use Rattle.room_http.{specs.{Stream.DeskRuns, declared.ended.Cause.Cause}, proofs.Runs.nothing-done}
-use Rattle.cli_serve.specs.{Lines.{TellsEach, TellsFirst, TellsOf, TellsPlace, Writing}, Peers.Act}
-use Rattle.cli_serve.specs.{Peers.Adds, Places.{Deed, site_of}, Staying.{Passes, PassesEach}}
+use Rattle.cli_serve.specs.{Lines.{TellsEach, TellsFaults, TellsFirst, TellsOf, TellsPlace, Writing}}
+use Rattle.cli_serve.specs.{Lines.had_fault, Peers.{Act, Adds}, Places.{Deed, site_of}, Staying.{Passes, PassesEach}}
 use Rattle.cli_serve.specs.Staying.{PassesUntil, Served, ServedAt, ServedHere, TellsShut}
 use Rattle.cli_serve.specs.Visits.{IsEnd, IsServedVisit, Receives, ReceivesAll, ReceivesOne}
 use Rattle.cli_serve.specs.Visits.{Sources, acts_of, end_acts, sources, until}
 use Rattle.cli_serve.{specs.declared.fault.ServingFault.ServingFault, proofs.Receiving.at_end}
 use Rattle.cli_serve.proofs.Receiving.{fewer, no_more, nobody, one_more, others, told_on}
 use Rattle.cli_serve.proofs.Told.{told_next, told_no_more}
+
+-- of no connection nothing is told
+none_told : (err : Option (List ℕ)) (fault : ServingFault) → TellsFaults [] err err (Err fault)
+none_told err ServingFault.Memory = refl
+none_told err ServingFault.File = (refl, inl refl)
+none_told err ServingFault.Net = refl
+none_told err ServingFault.Desk = refl
 
 module _ {D : Type 0} (d : Ghosts D) (laws : DeskLaws d.Outlasts) where
   -- asking leaves what is kept
@@ -60,7 +67,7 @@ module _ {D : Type 0} (d : Ghosts D) (laws : DeskLaws d.Outlasts) where
               (nobody d laws count from to desk moments acts);
           end_says = says;
           stays = stays;
-          faults = refl;
+          faults = none_told err fault;
         };
         first = wrote;
       }
@@ -103,15 +110,16 @@ module _ {D : Type 0} (d : Ghosts D) (laws : DeskLaws d.Outlasts) where
 
     -- all came, and a line couldn't be printed
     pub untold : number ≡ count → TellsEach WritesSome 0 first.0.visits err err'
+        → IsTrue (list_any had_fault first.0.visits)
         → Served d count from via old mid err err' (Err ServingFault.File)
     unfolding at_end fewer
-    untold is lines = record {
+    untold is lines due = record {
       receives =
           at_end d laws count from via old mid (Err ServingFault.File) refl
           (fewer d laws number count from via old mid (omega (arith, is)) first.0);
       end_says = inl (first.1 ∙ is);
       stays = stays_all _ is first.1;
-      faults = lines;
+      faults = (lines, inr due);
     }
 
     -- the listener failed before all connections came

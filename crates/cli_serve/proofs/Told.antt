@@ -1,11 +1,11 @@
 -- Lines about connections, one after another.
 use Rattle.std.proofs.Common.{◌≡◌, ℕ, ◌+◌, ◌≤◌, Bool, List, [], ◌∷◌, Option, ◌++◌, length, Result}
-use Rattle.std.proofs.Common.{Ok, Err, IsTrue, OnOk, sym, ap, ◌∙◌, subst, arith}
-use Rattle.std.proofs.lemmas.{Fmt.contents_after_writes, List.append-nil}
-use Rattle.std.specs.{Fmt.WritesInCalls, Io.KnownBytes.Appends}
+use Rattle.std.proofs.Common.{Ok, Err, IsTrue, OnOk, sym, ap, ◌∙◌, ◌⊎◌, subst, arith, false}
+use Rattle.std.proofs.lemmas.{Fmt.contents_after_writes, List.{append-nil, Folds.list_any-append}}
+use Rattle.std.specs.{Fmt.WritesInCalls, Io.KnownBytes.Appends, List.list_any, Option.is_some}
 use Rattle.cli_outcome.specs.Written.{WritesSome}
 use Rattle.room_http.specs.declared.ended.Cause.{Cause}
-use Rattle.cli_serve.specs.{Lines.{TellsEach, TellsOf, Writing}, Staying.PassesEach}
+use Rattle.cli_serve.specs.{Lines.{TellsEach, TellsOf, Writing, had_fault}, Staying.PassesEach}
 use Rattle.cli_serve.specs.Visits.{ReceivesAll, Sources, Visit}
 use Rattle.room_machine.specs.declared.desk.Desk.{Ghosts}
 
@@ -47,11 +47,20 @@ told_no_more Tells visits [] old new few told =
     subst (λ (vs : List Visit). TellsEach Tells 0 vs old new) (sym (append-nil visits)) told
 told_no_more Tells visits (v ∷ vs) old new few told = absurd (omega (arith, few))
 
+-- a fault among those before, or of the one more
+pub fault_among : (visits next : List Visit) (visit : Visit) (fault : Option Cause)
+    → next ≡ visit ∷ [] → visit.fault ≡ fault
+    → IsTrue (list_any had_fault visits) ⊎ IsTrue (is_some fault)
+    → IsTrue (list_any had_fault (visits ++ next))
+fault_among visits next visit fault only ended some =
+    grind (arith, only, ended, some, list_any-append had_fault visits next)
+
 -- What holds once some connections came: what the desk did, that none left it shut, and what was
--- written of them, in whole where that is known.
+-- written of them, in whole where that is known. Where it isn't, one of them had a fault.
 pub record IsServing {D : Type 0} (d : Ghosts D) (number : ℕ) (from to : Sources)
     (desk desk' : D) (told : Bool) (err err' : Option (List ℕ)) : Type 0 where
   pub received : ReceivesAll d number from to desk desk'
   pub stays : PassesEach d number desk desk'
   pub whole : IsTrue told → TellsEach Appends 0 received.0.visits err err'
   pub some : TellsEach WritesSome 0 received.0.visits err err'
+  pub due : told ≡ false → IsTrue (list_any had_fault received.0.visits)

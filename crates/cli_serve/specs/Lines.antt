@@ -1,6 +1,7 @@
 -- The lines that are printed beside the replies (own).
 use Rattle.std.specs.Prelude.{◌≡◌, ◌⊎◌, ℕ, ◌+◌, List, [], ◌∷◌, ◌++◌, codes, decimal}
-use Rattle.std.specs.Prelude.{Option, Some, None, Result, Ok, Err}
+use Rattle.std.specs.Prelude.{Bool, IsTrue, Option, Some, None, Result, Ok, Err}
+use Rattle.std.specs.{List.list_any, Option.is_some}
 use Rattle.std.specs.Io.KnownBytes.{Appends}
 use Rattle.cli_outcome.specs.Written.{WritesSome}
 use Rattle.cli_outcome.specs.declared.place.Place.{Place}
@@ -53,9 +54,16 @@ TellsEach Tells before [] old new = new ≡ old
 TellsEach Tells before (visit ∷ visits) old new = (mid : Option (List ℕ))
     × TellsOf Tells (before + 1) visit.fault old mid × TellsEach Tells (before + 1) visits mid new
 
+-- a fault ended the connection
+abbrev pub had_fault : Visit → Bool
+had_fault visit = is_some visit.fault
+
 -- What is written about the faults of these connections: whole lines if all is done. Otherwise lines
--- may be cut off.
+-- may be cut off. Where a line couldn't be printed, it was that of the place, before any connection
+-- came, or one about these connections: then one of them had a fault.
 abbrev pub TellsFaults : List Visit → Option (List ℕ) → Option (List ℕ)
     → Result (Unit {0}) ServingFault → Type 0
 TellsFaults visits old new (Ok done) = TellsEach Appends 0 visits old new
+TellsFaults visits old new (Err ServingFault.File) =
+    TellsEach WritesSome 0 visits old new × ((visits ≡ []) ⊎ IsTrue (list_any had_fault visits))
 TellsFaults visits old new (Err fault) = TellsEach WritesSome 0 visits old new

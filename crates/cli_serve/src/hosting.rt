@@ -37,7 +37,7 @@ pub struct Service<'a, P, M> {
 /// Serves `count` connections to the room of the database, at this place, one after the other. It
 /// returns the connection with the status: 0 where all is done, 2 where the database
 /// holds no room of this version, which is printed on `out`, and 3 at a fault, which is printed on
-/// `err`. A fault of the disk that shuts the connection ends the service after the client's
+/// `err`. The connection has no transaction open. A fault of the disk that shuts the connection ends the service after the client's
 /// connection that met it; any other fault of a request doesn't. A power cut leaves all requests
 /// that were answered, and at most one that wasn't, as a whole: at any moment, by the argument that
 /// `docs/statement.md` has among its premises.
@@ -49,11 +49,12 @@ pub fn host<S: Alter, P: Ports, M: Moments, O: Write, E: Write>(
     err: &mut E,
 ) -> (Connection<S>, u8)
     requires { conn.in_transaction ≡ false }
-    ensures { Hosts (state S.Store) service.old.place service.old.count
+    ensures hosts { Hosts (state S.Store) service.old.place service.old.count
         (M.told service.old.clock) (M.told service.new.clock)
         (P.did service.old.ports) (P.did service.new.ports) conn result.0
         (O.contents out.old) (O.contents out.new) (E.contents err.old) (E.contents err.new)
         result.1 }
+    ensures ended { result.0.in_transaction ≡ false }
 {
     what_is_committed_lasts(&conn);
     let mut store = match Store::adopt(conn) {

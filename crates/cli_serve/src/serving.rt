@@ -1,5 +1,6 @@
 //! Connections one after another.
-ghost use Rattle.std.specs.Prelude.{◌≡◌, ◌+◌, List, [], ◌∷◌, Err, IfErr, IfOk, IsTrue, OnOk};
+ghost use Rattle.std.specs.Prelude.{◌≡◌, ◌+◌, List, [], ◌∷◌, Err, IfErr, IfOk, IsTrue, OnOk, false};
+ghost use Rattle.std.specs.Option.{is_some};
 ghost use Rattle.std.specs.Io.KnownBytes.{Appends};
 ghost use Rattle.cli_outcome.specs.Written.{WritesSome};
 ghost use Rattle.room_http.specs.Stream.{DeskRuns};
@@ -105,6 +106,7 @@ fn is_told<E: Write>(err: &mut E, before: u32, lost: Option<Cause>) -> bool
     ensures whole { IsTrue result
         → TellsOf Appends (before + 1) lost (E.contents err.old) (E.contents err.new) }
     ensures some { TellsOf WritesSome (before + 1) lost (E.contents err.old) (E.contents err.new) }
+    ensures due { result ≡ false → IsTrue (is_some lost) }
 {
     match lost {
         Some(cause) => tell_fault(err, u64::from(before) + 1, cause),

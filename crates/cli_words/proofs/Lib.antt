@@ -6,3 +6,4 @@ pub mod Wanted
 pub mod Named
 pub mod Given
 mod Taking
+mod Worked

@@ -12,7 +12,7 @@ use clap::{Arg, ArgAction, Command, value_parser};
 use std::alloc::{AllocError, Global};
 
 // What `rooms --version` prints.
-const VERSION: &str = "1.0.0";
+const VERSION: &str = "1.1.0";
 
 // Which of an object's two lists.
 static ATTRIBUTES: [&str; 2] = [DACL, SACL];

@@ -21,7 +21,7 @@ use Rattle.room_machine.specs.declared.request.Request.TheVariants.{Read, List a
 use Rattle.room_machine.specs.declared.request.Request.TheVariants.{Append, MakeFolder, Remove}
 use Rattle.room_machine.specs.declared.request.Request.TheVariants.{Move, ReadList, SetList}
 use Rattle.room_machine.specs.declared.request.Request.TheVariants.{ReadAttr, SetOwners, Can}
-use Rattle.room_laws.specs.Laws.{HappensBehind, StaysBehind, AllBehind, UnseenBehind}
+use Rattle.room_laws.specs.Laws.{HappensBehind, AllBehind, UnseenBehind}
 use Rattle.room_laws.specs.Outside.{found, found_from, IsBehind, SameOutside, last_path}
 use Rattle.room_laws.{specs.Tidy.IsNumbered, proofs.Local.{IsBelowInside, IsInside, IsLocal}}
 use Rattle.room_laws.proofs.Local.{IsUnder, body_local, each_local, itself_local, local_outside}
@@ -340,8 +340,10 @@ local_event f before (WasReset path which sent reply) after numbered is s =
     (list_local before numbered f (record { user = None; groups = [] }) 0 path which sent is))
 local_event f before (Replaced pairs) after numbered is s = absurd is
 
-pub stays_behind : StaysBehind
-stays_behind f before event after numbered is happens = (
+pub behind_stays : (f : List (List ℕ)) (before : Content) (event : Event) (after : Content)
+    → IsNumbered before → HappensBehind f event → Happens before event after
+    → SameOutside f before after × IsNumbered after
+behind_stays f before event after numbered is happens = (
   local_outside f before numbered after (local_event f before event after numbered is happens),
   numbers_stay before event after numbered happens,
 )
@@ -362,7 +364,7 @@ pub run_behind : (f : List (List ℕ)) (events : List Event) (a b : Content) →
     → AllBehind f events → Run a events b → SameOutside f a b × IsNumbered b
 run_behind f [] a b numbered all run = grind (arith, nat_tests, same_itself)
 run_behind f (event ∷ events) a b numbered all (mid, happens, run) =
-    let one = stays_behind f a event mid numbered all.0 happens in
+    let one = behind_stays f a event mid numbered all.0 happens in
     let rest = run_behind f events mid b one.1 all.1 run in
     (same_on f a mid b one.0 rest.0, rest.1)
 

@@ -138,7 +138,7 @@ they_were_asked = (
 they_live_alike : AreAlike q turns bare full they_were_asked
 unfolding they_were_asked
 they_live_alike = (
-  ((codes "f", [], refl), (codes "f", [], refl)),
+  inl ((codes "f", [], refl), (codes "f", [], refl)),
   (((λ is. refl), (λ reaches. (denied, refl))), tt),
 )
 

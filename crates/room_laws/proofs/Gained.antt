@@ -85,10 +85,10 @@ no_change path a b (Asked user moment (ReadAttr at) reply) same harmless is = is
 no_change path a b (Asked user moment (Can at mask) reply) same harmless is = is
 no_change path a b _ same harmless is = harmless
 
-one_of : (P : Event → Type 0) (earlier later : List Event) (event : Event)
-    → AllByRecursion P (earlier ++ event ∷ later) → P event
-one_of P [] later event all = all.0
-one_of P (x ∷ earlier) later event all = one_of P earlier later event all.1
+pub one_of : {X : Type 0} (P : X → Type 0) (earlier later : List X) (x : X)
+    → AllByRecursion P (earlier ++ x ∷ later) → P x
+one_of P [] later x all = all.0
+one_of P (y ∷ earlier) later x all = one_of P earlier later x all.1
 
 pub nothing_gained : NothingGained
 nothing_gained path start events after numbered tidy there run all =

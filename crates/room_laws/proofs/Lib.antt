@@ -8,6 +8,7 @@ pub mod SameReplies
 pub mod Kept
 pub mod Local
 pub mod Behind
+pub mod Quiet
 pub mod ByName
 pub mod Changed
 pub mod Grown
@@ -36,3 +37,4 @@ pub mod Makes
 pub mod RightsChanged
 pub mod Gained
 pub mod RightsExamples
+pub mod Worked

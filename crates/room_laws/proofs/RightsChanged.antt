@@ -1,16 +1,17 @@
 -- What changes rights, at any path.
-use Rattle.std.proofs.Common.{ℕ, ℤ, ◌≡◌, ◌⊎◌, inl, inr, true, List, [], ◌∷◌, Option, Some, None}
-use Rattle.std.proofs.{Common.{refl, ap, arith}, lemmas.Bool.Decides.nat_tests}
+use Rattle.std.proofs.Common.{ℕ, ℤ, ◌≡◌, ◌⊎◌, inl, inr, Bool, true, false, List, [], ◌∷◌, ◌++◌}
+use Rattle.std.proofs.Common.{Option, Some, None, refl, sym, ap, ◌∙◌, arith}
+use Rattle.std.{proofs.lemmas.Bool.{false≢true, Decides.nat_tests}, specs.Prelude.is_some}
 use Rattle.room_rows.specs.Content.{Content}
-use Rattle.room_machine.specs.{Run.{Event, Asked, WasReset, Replaced, Happens}, Site.Site}
+use Rattle.room_machine.specs.{Run.{Event, Asked, WasReset, Replaced, Happens, Run}, Site.Site}
 use Rattle.room_machine.specs.{Site.{site_at, sites_along}, declared.reply.Reply.Reply}
 use Rattle.room_machine.specs.declared.request.Request.{Request}
 use Rattle.room_laws.specs.{Outside.found, Tidy.{IsNumbered, IsTidy}, WhoChanged.{Changes, Makes}}
 use Rattle.room_laws.specs.WhoChanged.{SameRights, SameBasis, RightsChangedBy, RightsChangedInRun}
-use Rattle.room_laws.specs.WhoChanged.{FirstGranted, RightsStay, is_quiet}
+use Rattle.room_laws.specs.WhoChanged.{FirstChange, FirstGranted, IsThere, RightsStay, is_quiet}
 use Rattle.room_laws.proofs.{Behind.{target_found, numbers_stay}, Passing.none_at}
 use Rattle.room_laws.proofs.{TidySteps.tidy_stays, Makes.{step_makes, reset_none}}
-use Rattle.room_laws.proofs.{RightsFollow.rights_follow, WhoChanged.changed_by}
+use Rattle.room_laws.proofs.{RightsFollow.rights_follow, WhoChanged.{changed_by, changed_in_run}}
 
 none_there : (a : Content) (q : List (List ℕ)) → found a q ≡ None
     → site_at (sites_along a q) q ≡ None
@@ -67,10 +68,16 @@ same_rights_on : (q : List (List ℕ)) (a b c : Content) → SameRights q a b �
     → SameRights q a c
 same_rights_on q a b c one two = grind (arith, nat_tests)
 
+-- one of these events changed rights at the path, or put something there
+abbrev IsGranted : List (List ℕ) → Content → List Event → Type 0
+IsGranted q a events = (earlier later : List Event) × (event : Event) × (mid : Content)
+    × (events ≡ earlier ++ event ∷ later) × Run a earlier mid × SameRights q a mid
+    × (Changes q mid event ⊎ Makes q mid event)
+
 first_or_later : (q : List (List ℕ)) (a mid after : Content) (event : Event) (events : List Event)
     → Happens a event mid → SameRights q a mid ⊎ (Changes q a event ⊎ Makes q a event)
-    → (SameRights q mid after ⊎ FirstGranted q mid events)
-    → SameRights q a after ⊎ FirstGranted q a (event ∷ events)
+    → (SameRights q mid after ⊎ IsGranted q mid events)
+    → SameRights q a after ⊎ IsGranted q a (event ∷ events)
 first_or_later q a mid after event events happens (inr changes) rest =
     inr ([], events, event, a, refl, refl, same_rights_itself q a, changes)
 first_or_later q a mid after event events happens (inl same) (inl more) =
@@ -88,10 +95,42 @@ first_or_later q a mid after event events happens (inl same)
       changes,
     )
 
-pub rights_changed_in_run : RightsChangedInRun
-rights_changed_in_run q a [] after numbered tidy is = grind (arith, nat_tests, same_rights_itself)
-rights_changed_in_run q a (event ∷ events) after numbered tidy (mid, happens, run) =
+granted_in_run : (q : List (List ℕ)) (a : Content) (events : List Event) (after : Content)
+    → IsNumbered a → IsTidy a → Run a events after → SameRights q a after ⊎ IsGranted q a events
+granted_in_run q a [] after numbered tidy is = grind (arith, nat_tests, same_rights_itself)
+granted_in_run q a (event ∷ events) after numbered tidy (mid, happens, run) =
     first_or_later q a mid after event events happens
     (rights_changed_by q a event mid numbered tidy happens)
-    (rights_changed_in_run q mid events after (numbers_stay a event mid numbered happens)
+    (granted_in_run q mid events after (numbers_stay a event mid numbered happens)
     (tidy_stays a event mid numbered tidy happens) run)
+
+-- where something is at the path, and where nothing is
+where_there : (q : List (List ℕ)) (a after : Content) (events : List Event)
+    → SameBasis q a after ⊎ FirstChange q a events
+    → SameRights q a after ⊎ FirstGranted q a events
+where_there q a after events (inl same) = inl (rights_follow q a after same)
+where_there q a after events (inr (earlier, later, event, mid, is, to, stood, changes)) =
+    inr (earlier, later, event, mid, is, to, rights_follow q a mid stood, inl changes)
+
+nothing_there : (q : List (List ℕ)) (a after : Content) (events : List Event)
+    → (IsThere a q → ⊥) → SameRights q a after ⊎ IsGranted q a events
+    → SameRights q a after ⊎ FirstGranted q a events
+nothing_there q a after events none (inl same) = inl same
+nothing_there q a after events none
+    (inr (earlier, later, event, mid, is, to, stood, inl changes)) =
+    inr (earlier, later, event, mid, is, to, stood, inl changes)
+nothing_there q a after events none
+    (inr (earlier, later, event, mid, is, to, stood, inr makes)) =
+    inr (earlier, later, event, mid, is, to, stood, inr (none, makes))
+
+pub rights_changed_in_run : RightsChangedInRun
+rights_changed_in_run q a events after numbered tidy run =
+    on (is_some (site_at (sites_along a q) q)) refl
+  where
+    on : (there : Bool) → is_some (site_at (sites_along a q) q) ≡ there
+        → SameRights q a after ⊎ FirstGranted q a events
+    on true there =
+        where_there q a after events (changed_in_run q a events after numbered tidy there run)
+    on false none =
+        nothing_there q a after events (λ there. false≢true (sym none ∙ there))
+        (granted_in_run q a events after numbered tidy run)

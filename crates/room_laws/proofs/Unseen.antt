@@ -4,7 +4,7 @@ use Rattle.room_machine.specs.{Run.{Asked, WasReset, Replaced}, declared.reply.R
 use Rattle.room_machine.specs.declared.request.Request.{Request, TheVariants.Remove}
 use Rattle.room_laws.specs.{Laws.{IsTold, TellsNames, front_after}, Twins.{Unseen, InBoth}}
 use Rattle.room_laws.specs.Twins.{InFirst, InBothReplaced, InBothReset, InSecond}
-use Rattle.room_laws.proofs.Behind.{numbers_stay, same_back, same_on, stays_behind}
+use Rattle.room_laws.proofs.{Behind.{numbers_stay, same_back, same_on}, Quiet.stays_behind}
 use Rattle.room_laws.proofs.OperatorAlike.{replaced_alike, reset_replies, reset_stays}
 use Rattle.room_laws.proofs.{StaysAlike.outside_stays, TidySteps.tidy_stays}
 use Rattle.room_laws.proofs.Told.{nothing_else_tells}
@@ -46,14 +46,14 @@ unseen f (InBothReplaced pairs ∷ turns) a b c d same content_a content_b one t
     (numbers_stay a (Replaced pairs) mid one is_mid)
     (numbers_stay b (Replaced pairs) other two is_other) run others alike
 unseen f (InFirst event ∷ turns) a b c d same content_a content_b one two (mid, happens, run) others
-    (behind, alike) =
+    (unseen_here, alike) =
     let content_mid = tidy_stays a event mid one content_a happens in
-    let stays = stays_behind f a event mid one behind happens in
+    let stays = stays_behind f a event mid one unseen_here happens in
     unseen f turns mid b c d (same_on f mid a b (same_back f a mid stays.0) same) content_mid
     content_b stays.1 two run others alike
 unseen f (InSecond event ∷ turns) a b c d same content_a content_b one two run
-    (other, happens, others) (behind, alike) =
+    (other, happens, others) (unseen_here, alike) =
     let content_other = tidy_stays b event other two content_b happens in
-    let stays = stays_behind f b event other two behind happens in
+    let stays = stays_behind f b event other two unseen_here happens in
     unseen f turns a other c d (same_on f a b other same stays.0) content_a content_other one
     stays.1 run others alike

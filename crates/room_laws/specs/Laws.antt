@@ -8,13 +8,14 @@ use Rattle.room_entry.specs.Pieces.{same_text}
 use Rattle.room_entry.specs.declared.object.ObjKind.{ObjKind}
 use Rattle.room_entry.specs.declared.object.Which.TheVariants.{Dacl, Sacl}
 use Rattle.room_rows.specs.Content.{Content}
+use Rattle.room_machine.specs.Closed.{only_reads}
 use Rattle.room_machine.specs.Laws.{first_path}
 use Rattle.room_machine.specs.Run.{Event, Asked, WasReset, Replaced, Happens, Run}
 use Rattle.room_machine.specs.Site.{sites_along, site_at, full_at}
 use Rattle.room_machine.specs.Step.{Step}
 use Rattle.room_machine.specs.declared.reply.Reason.TheVariants.{NotEmpty}
 use Rattle.room_machine.specs.declared.reply.Reply.{Reply}
-use Rattle.room_machine.specs.declared.reply.Reply.TheVariants.{Names, Done, Refused}
+use Rattle.room_machine.specs.declared.reply.Reply.TheVariants.{Names, Made, Done, Refused}
 use Rattle.room_machine.specs.declared.request.Request.{Request}
 use Rattle.room_machine.specs.declared.request.Request.TheVariants.{List as ListFolder, Remove}
 use Rattle.room_machine.specs.declared.request.Request.TheVariants.{Move}
@@ -68,10 +69,26 @@ HappensBehind front (Asked user moment request reply) = IsBehind front (first_pa
 HappensBehind front (WasReset path which sent reply) = IsBehind front path
 HappensBehind front (Replaced pairs) = ⊥
 
--- What happens behind changes nothing outside, whoever does it.
+-- the replies to what was changed
+abbrev pub tells_change : Reply → Bool
+tells_change Made = true
+tells_change Done = true
+tells_change reply = false
+
+-- A request that only reads, or whose reply isn't that of a change: it adds records at most.
+abbrev pub ChangesNothing : Event → Type 0
+ChangesNothing (Asked user moment request reply) =
+    (only_reads request ≡ true) ⊎ (tells_change reply ≡ false)
+ChangesNothing event = ⊥
+
+-- What happens doesn't show outside: each path of it is behind, or it changes nothing.
+abbrev pub HappensUnseen : List (List ℕ) → Event → Type 0
+HappensUnseen front event = HappensBehind front event ⊎ ChangesNothing event
+
+-- What happens behind changes nothing outside, whoever does it, nor does what changes nothing.
 abbrev pub StaysBehind : Type 0
 StaysBehind = (front : List (List ℕ)) (before : Content) (event : Event) (after : Content) →
-    IsNumbered before → HappensBehind front event → Happens before event after →
+    IsNumbered before → HappensUnseen front event → Happens before event after →
     SameOutside front before after × IsNumbered after
 
 -- all of these happen behind

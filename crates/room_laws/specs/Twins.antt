@@ -7,7 +7,7 @@ use Rattle.room_machine.specs.Run.{Event, Asked, WasReset, Replaced, Run}
 use Rattle.room_machine.specs.declared.reply.Reply.{Reply}
 use Rattle.room_machine.specs.declared.request.Request.{Request}
 use Rattle.room_machine.specs.declared.request.Request.TheVariants.{Remove}
-use Rattle.room_laws.specs.Laws.{HappensBehind, TellsNames, front_after}
+use Rattle.room_laws.specs.Laws.{HappensUnseen, TellsNames, front_after}
 use Rattle.room_laws.specs.Outside.{Barred, IsBehind, Reaches, SameOutside}
 use Rattle.room_laws.specs.Tidy.{IsNumbered, IsTidy}
 
@@ -28,8 +28,8 @@ IsAlike front room (InBoth user moment later request first second) =
     (request ≡ Remove front → first ≡ second) × (Reaches front request → Barred room user front)
 IsAlike front room (InBothReset path which sent first second) = IsBehind front path → ⊥
 IsAlike front room (InBothReplaced pairs) = Unit {0}
-IsAlike front room (InFirst event) = HappensBehind front event
-IsAlike front room (InSecond event) = HappensBehind front event
+IsAlike front room (InFirst event) = HappensUnseen front event
+IsAlike front room (InSecond event) = HappensUnseen front event
 
 -- where the front is after a turn: if a request moves it, the same is said of the new place
 abbrev pub front_by : List (List ℕ) → Turn → List (List ℕ)

@@ -150,11 +150,16 @@ RightsStay =
     IsNumbered before → IsTidy before → IsTrue (is_quiet request) →
     Step before user moment request reply after → SameRights path before after
 
+-- It changes rights at the path, or puts something there, where nothing was in the first content.
+abbrev pub Alters : List (List ℕ) → Content → Content → Event → Type 0
+Alters path content mid event =
+    Changes path mid event ⊎ ((IsThere content path → ⊥) × Makes path mid event)
+
 -- In a run with these events, one of them was the first that could change rights at the path.
 abbrev pub FirstGranted : List (List ℕ) → Content → List Event → Type 0
 FirstGranted path content events = (earlier later : List Event) × (event : Event)
     × (mid : Content) × (events ≡ earlier ++ event ∷ later) × Run content earlier mid
-    × SameRights path content mid × (Changes path mid event ⊎ Makes path mid event)
+    × SameRights path content mid × Alters path content mid event
 
 -- Over runs: at each path everybody may do the same as at the start, or some event changed it, with
 -- what was granted for it.

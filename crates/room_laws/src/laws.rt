@@ -25,7 +25,7 @@ pub fn nothing_else_tells()
     ensures { NothingElseTells }
 {}
 
-/// What happens behind a folder changes nothing outside.
+/// What happens behind a folder, or changes nothing, changes nothing outside.
 pub fn stays_behind()
     ensures { StaysBehind }
 {}

@@ -17,3 +17,4 @@ mod FromRoot
 mod Reopened
 mod Looking
 mod Writing
+pub mod Counted

@@ -13,3 +13,4 @@ pub mod Failing
 pub mod Reviews
 pub mod FromRoot
 pub mod View
+pub mod Tests

@@ -4,7 +4,6 @@ ghost use Rattle.std.specs.Option.{option_copied};
 ghost use Rattle.sqlite.specs.Held.{state};
 ghost use Rattle.sqlite.specs.State.{HasCleanDisk};
 ghost use Rattle.room_dump.specs.Fetching.{IsFetched};
-ghost use Rattle.room_inherit.specs.Reading.{IsReport};
 ghost use Rattle.room_judge.specs.Closed.{Performs};
 ghost use Rattle.room_judge.specs.Judged.{Resets};
 ghost use Rattle.room_machine.specs.Desk.{Closes};
@@ -17,6 +16,7 @@ ghost use Rattle.room_store.specs.Leads.{Leads};
 ghost use Rattle.room_store.specs.Premise.{StorePremise};
 ghost use Rattle.room_store.specs.Ran.{HasDamage, Looked, Ran};
 ghost use Rattle.room_store.specs.Reviews.{IsReviewOf};
+ghost use Rattle.room_store.specs.Tests.{IsTested};
 ghost use Rattle.store_admin.specs.Carries.{NoTables};
 ghost use Rattle.store_admin.specs.Dump.{HasDamagedRow, IsDump};
 ghost use Rattle.store_tables.specs.Meaning.{rows_of};
@@ -36,10 +36,9 @@ use crate::resetting::reset_inside;
 use crate::reviewing::review_inside;
 use crate::running::{RequestBy, end_look, known_of, perform_inside};
 use crate::turn::{begin, finish};
-use crate::verifying::verify_inside;
+use crate::verifying::{Tested, verify_inside};
 use room_ace::{Name, SentList, Which};
 use room_dump::Fetched;
-use room_inherit::Report;
 use room_inherit::laws::sound_is_no_fault;
 use room_machine::{Reply, Request};
 use room_remember::Memory;
@@ -182,11 +181,12 @@ impl<S: Alter> Store<S> {
         finish(tx, done)
     }
 
-    /// Whether the rows are sound, or the first fault of seven tests. Nothing changes. The error is
-    /// never `Damaged`: a row that can't be read is a fault in the report.
-    pub fn verify(&mut self, alloc: Global) -> Result<Report, StoreFault>
+    /// Whether the rows are sound, or the first fault of seven tests; and whether a record can get
+    /// a number. Nothing changes. The error is never `Damaged`: a row that can't be read is a fault
+    /// in the report.
+    pub fn verify(&mut self, alloc: Global) -> Result<Tested, StoreFault>
         ensures looked { Looked (state S.Store self.old.conn) (state S.Store self.new.conn) result
-            NoTables (λ db report. IsReport (rows_of db) report) }
+            NoTables IsTested }
         ensures leads { Leads (state S.Store self.old.conn) [] (state S.Store self.new.conn) }
         ensures outlasts { Outlasts (state S.Store self.old.conn) [] []
             (state S.Store self.new.conn) }

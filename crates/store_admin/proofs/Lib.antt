@@ -6,4 +6,5 @@ pub mod Exchanging
 pub mod Gathering
 pub mod Following
 pub mod Recorded
+pub mod Numbered
 pub mod Dumped

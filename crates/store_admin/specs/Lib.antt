@@ -1,3 +1,4 @@
 pub mod Carries
+pub mod Numbers
 pub mod Operating
 pub mod Dump

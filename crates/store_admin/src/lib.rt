@@ -2,11 +2,13 @@
 //! transaction.
 #![tactic(auto)]
 
+mod numbers;
 mod operating;
 mod putting;
 mod records;
 mod telling;
 
+pub use numbers::has_numbers;
 pub use operating::all_members;
 pub use putting::put_members;
 pub use records::all_records;

@@ -1,7 +1,7 @@
 -- A search that found a text somewhere.
-use Rattle.std.proofs.Common.{◌≡◌, ℕ, List, Option, None, Some, IsTrue, arith, refl}
+use Rattle.std.proofs.Common.{ℕ, List, Option, None, Some, IsTrue, arith, refl}
 use Rattle.std.{proofs.lemmas.Bool.false≢true, specs.Option.is_some}
-use Rattle.memchr.specs.Find.{FindsNeedle, OccursAt}
+use Rattle.memchr.specs.Find.{FindsNeedle}
 use Rattle.store_file.specs.FirstPage.{Stands}
 
 pub found_somewhere : (bytes text : List ℕ) (place : Option ℕ) → FindsNeedle bytes text 0 place

@@ -1,6 +1,5 @@
 //! A connection to a file and to its log.
-ghost use Rattle.std.specs.Prelude.{◌≡◌, ◌⊎◌, None, true, false, IsTrue, IfOk, IfErr, IfSome};
-ghost use Rattle.sqlite_pager.specs.declared.pager.Options.{Options};
+ghost use Rattle.std.specs.Prelude.{◌≡◌, ◌↔◌, ◌⊎◌, None, true, false, IsTrue, IfOk, IfErr, IfSome};
 ghost use Rattle.sqlite_wal.specs.Files.{image_at};
 ghost use Rattle.sqlite_std_file.specs.File.{file_is_usable, IsFresh};
 ghost use Rattle.sqlite_store.specs.FileStore.{view};
@@ -10,7 +9,7 @@ ghost use Rattle.sqlite.specs.Start.{FindsIn};
 ghost use Rattle.sqlite.specs.Opening.{is_open_error};
 ghost use Rattle.sqlite.specs.Files.{FailsToOpenFiles, IsBlankAs, IsCleanLeft, IsOpened};
 ghost use Rattle.sqlite.specs.Files.{LeavesFiles, file_state};
-ghost use Rattle.store_file.specs.FileOptions.{IsHashed};
+ghost use Rattle.store_file.specs.FileOptions.{HasUsual, IsHashed};
 
 use sqlite::{Connection, Error, ErrorCode, Leftover, Options};
 use sqlite_disk::{Files, Start};
@@ -30,6 +29,12 @@ const NO_MEMORY: Error = Error::SqliteFailure(ErrorCode::OutOfMemory);
 const BUSY: Error = Error::SqliteFailure(ErrorCode::DatabaseBusy);
 
 const CANNOT_OPEN: Error = Error::SqliteFailure(ErrorCode::CannotOpen);
+
+// The library's own: how many written pages of a transaction are kept in memory, and how long the
+// log grows before it is copied into the file.
+const SPILL_PAGES: usize = 2_000;
+
+const CHECKPOINT_FRAMES: usize = 1_000;
 
 /// Opens the file, or makes it, as `Connection::open_from` does, with this many pages in memory.
 pub fn open_with<S: Start>(
@@ -61,6 +66,8 @@ pub fn open_with<S: Start>(
         Ok(options) => options,
         Err(error) => return Err((error, None)),
     };
+    // no clause of the library says with which options it opened
+    prove!(is_usual(&options, pages));
     match Connection::open_files(rt.alloc(), files, options) {
         Ok(mut conn) => {
             conn.set_clock(rt);
@@ -89,7 +96,7 @@ fn open_pair<S: Start>(rt: &HostRuntime, path: &str, start: S) -> Result<Files<F
 
 // The library's options with this many pages, and a random number for the log.
 fn options_for(rt: &HostRuntime, pages: usize) -> Result<Options, Error>
-    ensures ok { IfOk result (λ options. options ≡ record options { cache_pages = pages }) }
+    ensures ok { IfOk result (HasUsual pages) }
     ensures salted { IfOk result (λ options. IsHashed options.seed) }
     ensures err { IfErr result (λ e. e ≡ CANNOT_OPEN) }
 {
@@ -107,4 +114,14 @@ fn with_pages(options: Options, pages: usize) -> Options
         cache_pages: pages,
         ..options
     }
+}
+
+// Whether these are the library's own options, but for the pages in memory, which are as many as
+// these, and the number for the log.
+fn is_usual(options: &Options, pages: usize) -> bool
+    ensures { IsTrue result ↔ HasUsual pages options.now }
+{
+    options.cache_pages == pages
+        && options.spill_pages == SPILL_PAGES
+        && options.checkpoint_frames == CHECKPOINT_FRAMES
 }

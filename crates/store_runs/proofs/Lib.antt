@@ -1,3 +1,5 @@
 pub mod Rooms
 mod Alike
-mod Rights
+pub mod Rights
+mod Worked
+mod Uses

@@ -17,7 +17,7 @@ and_one : (P : Event → Type 0) (events : List Event) (event : Event) → AllBy
 and_one P [] event all one = (one, tt)
 and_one P (x ∷ events) event all one = (all.0, and_one P events event all.1 one)
 
-of_all : (P : Asking → Type 0) (asked : List Asking) (asking : Asking) → AllByRecursion P asked
+pub of_all : (P : Asking → Type 0) (asked : List Asking) (asking : Asking) → AllByRecursion P asked
     → Has asked asking → P asking
 of_all P [] asking all has = absurd has
 of_all P (x ∷ asked) asking all (inl is) = subst P (sym is) all.0

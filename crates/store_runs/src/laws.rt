@@ -4,6 +4,8 @@
 //! `docs/statement.md` has among its premises.
 ghost use Rattle.std.specs.Prelude.{List, ℕ};
 ghost use Rattle.sqlite.specs.Held.{Held, state};
+ghost use Rattle.sqlite.specs.State.{HasCleanDisk};
+ghost use Rattle.sqlite.specs.Tree.{Trees};
 ghost use Rattle.room_store.specs.Crash.{OutlastsOn, Try, all_asked, all_happened, left_by};
 ghost use Rattle.room_store.specs.Leads.{Call, FollowsOn, all_events, last_of};
 ghost use Rattle.store_runs.specs.Alike.{
@@ -78,3 +80,10 @@ pub fn rights_changed_in_a_store<S: Alter>()
     content_is_tidy();
     sound_is_content();
 }
+
+/// Where the disk has returned what was written, a crash may leave something, whether a fault has
+/// shut the connection or not. So what is said of all that it may leave isn't said of nothing.
+pub fn a_crash_leaves_something<S: Alter>()
+    ensures { (held : Held S) → HasCleanDisk (state S.Store held)
+        → ∥ ((db : Trees) × (state S.Store held).may_leave db) ∥₁ }
+{}

@@ -6,6 +6,7 @@ pub mod FirstRows
 pub mod Ended
 pub mod Answers
 pub mod Asked
+pub mod Recognized
 pub mod Unread
 pub mod Others
 pub mod Stamped

@@ -1,4 +1,5 @@
 pub mod NewRoom
 pub mod Making
 pub mod Opening
+pub mod Recognizing
 pub mod Migrating

@@ -1,5 +1,5 @@
 -- What opening a room is.
-use Rattle.std.specs.Prelude.{◌≡◌, ◌⊎◌, ◌≤◌, ◌<ℤ◌, ℕ, ℤ, pos, List}
+use Rattle.std.specs.Prelude.{◌≡◌, ◌≢◌, ◌⊎◌, ◌≤◌, ◌<ℤ◌, ℕ, ℤ, pos, Bool, List}
 use Rattle.std.specs.Prelude.{[], Option, Some, None, Result, Ok, Err}
 use Rattle.std.specs.Prelude.{MatchResult, IsErrAnd, OnOk, IsTrue, false, codes, if◌then◌else◌}
 use Rattle.sqlite_trees.specs.View.{doubt}
@@ -23,7 +23,7 @@ use Rattle.store_schema.specs.NewRoom.{meta_of, number_shown}
 use Rattle.store_schema.specs.declared.fault.OpenFault.{OpenFault}
 use Rattle.store_schema.specs.declared.fault.OpenFault.TheVariants.{NotRooms, OldVersion}
 use Rattle.store_schema.specs.declared.fault.OpenFault.TheVariants.{NewVersion}
-use Rattle.store_schema.specs.declared.fault.OpenFault.TheVariants.{Db, Memory}
+use Rattle.store_schema.specs.declared.fault.OpenFault.TheVariants.{OtherTables, Db, Memory}
 
 abbrev pub IsNotUnderstood : Error → Type 0
 IsNotUnderstood e = (fault : CompileError) × (e ≡ SqlInputError fault)
@@ -33,6 +33,7 @@ abbrev pub IsCalled : Error → OpenFault → Type 0
 IsCalled e NotRooms = IsNotUnderstood e
 IsCalled e (OldVersion n) = ⊥
 IsCalled e (NewVersion n) = ⊥
+IsCalled e OtherTables = ⊥
 IsCalled e Db = ¬ IsNotUnderstood e
 IsCalled e Memory = ¬ IsNotUnderstood e
 
@@ -41,6 +42,7 @@ abbrev pub IsFailure : OpenFault → Type 0
 IsFailure NotRooms = ⊥
 IsFailure (OldVersion n) = ⊥
 IsFailure (NewVersion n) = ⊥
+IsFailure OtherTables = ⊥
 IsFailure Db = Unit {0}
 IsFailure Memory = Unit {0}
 
@@ -65,6 +67,7 @@ abbrev pub IsRefusal : OpenFault → Type 0
 IsRefusal NotRooms = Unit {0}
 IsRefusal (OldVersion n) = ⊥
 IsRefusal (NewVersion n) = ⊥
+IsRefusal OtherTables = ⊥
 IsRefusal Db = Unit {0}
 IsRefusal Memory = Unit {0}
 
@@ -75,6 +78,7 @@ Says wanted version (Ok _) = version ≡ Some wanted
 Says wanted version (Err NotRooms) = version ≡ None
 Says wanted version (Err (OldVersion n)) = (version ≡ Some n) × (n <ℤ wanted)
 Says wanted version (Err (NewVersion n)) = (version ≡ Some n) × (wanted <ℤ n)
+Says wanted version (Err OtherTables) = ⊥
 Says wanted version (Err Db) = Unit {0}
 Says wanted version (Err Memory) = Unit {0}
 
@@ -109,20 +113,28 @@ abbrev pub IsUnread : Database → OpenFault → Type 0
 IsUnread db NotRooms = CantBeAsked db
 IsUnread db (OldVersion n) = ⊥
 IsUnread db (NewVersion n) = ⊥
+IsUnread db OtherTables = ⊥
 IsUnread db Db = Unit {0}
 IsUnread db Memory = Unit {0}
 
 -- A number is answered only where the database showed it, and that there is none only where it
--- showed none or can't be asked.
+-- showed none or can't be asked. Other tables are those of a database that showed the number.
 abbrev pub AnswersVersion : ℤ → Database → Result (Unit {0}) OpenFault → Type 0
 AnswersVersion wanted db (Ok _) = ShowsVersion (Some wanted) db
 AnswersVersion wanted db (Err NotRooms) = ShowsVersion None db ⊎ CantBeAsked db
 AnswersVersion wanted db (Err (OldVersion n)) = ShowsVersion (Some n) db × (n <ℤ wanted)
 AnswersVersion wanted db (Err (NewVersion n)) = ShowsVersion (Some n) db × (wanted <ℤ n)
+AnswersVersion wanted db (Err OtherTables) =
+    ShowsVersion (Some wanted) db × (db.schema ≢ room_schema)
 AnswersVersion wanted db (Err Db) = Unit {0}
 AnswersVersion wanted db (Err Memory) = Unit {0}
 
 -- ---- calls
+
+-- a room is known by its tables too
+abbrev pub when_known : Result (Unit {0}) OpenFault → Bool → Result (Unit {0}) OpenFault
+when_known (Ok done) false = Err OtherTables
+when_known answer known = answer
 
 -- The number of the schema is read, inside a transaction.
 pub record AsksVersion (old new : State) (result : Result (Option ℤ) OpenFault) : Type 0 where
@@ -160,8 +172,9 @@ FailsByDisk old new result =
     HasCleanDisk new → IsTrue new.is_open → old.now.schema ≡ room_schema → result ≡ Err Db
     → HasRisen old.faults new.faults
 
--- What opening a room is.
-pub record Adopts (old new : State) (result : Result (Unit {0}) OpenFault) : Type 0 where
+-- What opening a room is whose schema has this number.
+pub record Recognizes (wanted : ℤ) (old new : State)
+    (result : Result (Unit {0}) OpenFault) : Type 0 where
   pub ended : new.in_transaction ≡ false
   pub clean : doubt old.is_clean ≤ doubt new.is_clean
   pub was_open : HasCleanDisk new → IsTrue new.is_open → IsTrue old.is_open
@@ -170,11 +183,15 @@ pub record Adopts (old new : State) (result : Result (Unit {0}) OpenFault) : Typ
       → (new.now ≡ old.now) × (new.committed ≡ old.committed)
   -- a connection that is shut gives no answer
   pub answers : HasCleanDisk new → OnOk result (IsTrue old.is_open)
-  -- any file is opened only where the database itself answered 2
-  pub shown : HasCleanDisk new → AnswersVersion (pos 2) old.now result
+  -- any file is opened only where the database itself answered this number
+  pub shown : HasCleanDisk new → AnswersVersion wanted old.now result
   -- over a room's tables the answer is what the row of `meta` says
-  pub told : HasCleanDisk new → old.now.schema ≡ room_schema → Says (pos 2) (meta_of old.now) result
+  pub told : HasCleanDisk new → old.now.schema ≡ room_schema → Says wanted (meta_of old.now) result
   -- an empty database is no room
   pub empty : HasCleanDisk new → old.now.schema ≡ no_schema → IsErrAnd result IsRefusal
   -- nor does a crash leave anything new
   pub crash : LeavesAsBefore old new
+
+-- What opening a room of this version is.
+abbrev pub Adopts : State → State → Result (Unit {0}) OpenFault → Type 0
+Adopts = Recognizes (pos 2)

@@ -8,6 +8,7 @@ mod founding;
 pub mod laws;
 mod migrating;
 mod migrating_rows;
+mod recognizing;
 mod tables;
 mod version;
 

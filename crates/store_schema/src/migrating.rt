@@ -1,11 +1,14 @@
 //! A room of schema 1 that is upgraded to schema 2.
-ghost use Rattle.std.specs.Prelude.{◌≡◌, false, IsTrue};
+ghost use Rattle.std.specs.Prelude.{◌≡◌, OnOk, false, IsTrue};
+ghost use Rattle.store_tables.specs.Tables.{room_schema};
 ghost use Rattle.sqlite.specs.Held.{state};
 ghost use Rattle.store_schema.specs.Migrating.{IsInside, Migrates};
 
+use crate::adopting::read_version;
 use crate::fault::{MigrateFault, OpenFault, failure_of, keeper_failure};
 use crate::laws::spread_is_migrated;
 use crate::migrating_rows::migrate_rows_inside;
+use crate::recognizing::is_room;
 use crate::version::{expect_version, update_version};
 use room_inherit::Report;
 use sqlite::{Alter, Connection, Transaction};
@@ -41,12 +44,20 @@ fn migrate_inside<S: Alter>(alloc: Global, tx: &mut Transaction<'_, S>) -> Resul
 }
 
 /// Upgrades a room of schema 1, which stores the inherited entries of objects that aren't linked
-/// and no others, to schema 2, which stores those of all objects. The rows are tested before. After
-/// that they are sound and mean what they meant. After an error the tables are as they were.
+/// and no others, to schema 2, which stores those of all objects. The tables and the rows are tested
+/// before. After that they are sound and mean what they meant. After an error the tables are as they
+/// were.
 pub fn migrate<S: Alter>(alloc: Global, conn: &mut Connection<S>) -> Result<(), MigrateFault>
     requires { conn.old.in_transaction ≡ false }
-    ensures { Migrates (state S.Store conn.old) (state S.Store conn.new) result }
+    ensures migrates { Migrates (state S.Store conn.old) (state S.Store conn.new) result }
+    ensures tables { OnOk result ((state S.Store conn.old).now.schema ≡ room_schema) }
 {
+    if !is_room(conn.schema()) {
+        return match read_version(conn, OLD_SCHEMA) {
+            Ok(()) => Err(MigrateFault::Opening(OpenFault::OtherTables)),
+            Err(fault) => Err(MigrateFault::Opening(fault)),
+        };
+    }
     let _schema = conn.schema();
     let _settled = conn.is_autocommit();
     let mut tx = conn.transaction();

@@ -4,11 +4,10 @@ use crate::words::{cut, push_lines, push_report, push_store_fault};
 use room_ace::{Failure, Name, SentList, Which, read_name};
 use room_dump::Fetched;
 use room_import::{CsvFault, read_groups, write_audits};
-use room_inherit::Report;
 use room_machine::{Reason, Reply};
 use room_review::{Reviewed, Scope};
 use room_rows::{AuditRow, Path};
-use room_store::{Store, StoreFault};
+use room_store::{Store, StoreFault, Tested};
 use sqlite::Alter;
 use std::alloc::{AllocError, Global};
 use std::fmt::Write;
@@ -91,12 +90,20 @@ pub(crate) fn call<S: Alter>(
 
 fn verify<S: Alter>(alloc: Global, store: &mut Store<S>, told: &mut String) -> Result<(), Fail> {
     match found(alloc, store) {
-        Ok(report) => push_report(told, report),
+        Ok(tested) => push_tested(told, tested),
         Err(fault) => push_store_fault(told, fault),
     }
 }
 
-fn found<S: Alter>(alloc: Global, store: &mut Store<S>) -> Result<Report, StoreFault> {
+fn push_tested(told: &mut String, tested: Tested) -> Result<(), Fail> {
+    push_report(told, tested.report)?;
+    if tested.has_numbers {
+        return Ok(());
+    }
+    push(told, ", no numbers")
+}
+
+fn found<S: Alter>(alloc: Global, store: &mut Store<S>) -> Result<Tested, StoreFault> {
     store.verify(alloc)
 }
 

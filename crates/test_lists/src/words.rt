@@ -214,7 +214,7 @@ fn other_words_are_refused(rt: HostRuntime) -> Result<(), Fail> {
 fn help_and_version_are_told(rt: HostRuntime) -> Result<(), Fail> {
     expect_refused(&rt, &["rooms", "--help"], ErrorKind::DisplayHelp)?;
     let version = told(&rt, &["rooms", "--version"], ErrorKind::DisplayVersion)?;
-    assert_eq!(rt; version.as_str(), "rooms 1.0.0\n");
+    assert_eq!(rt; version.as_str(), "rooms 1.1.0\n");
     Ok(())
 }
 

@@ -176,14 +176,19 @@ fn verify_missing_body(rt: HostRuntime) -> Result<(), Fail> {
 }
 
 #[test]
-fn damaged_and_missing_tables_are_faults(rt: HostRuntime) -> Result<(), Fail> {
+fn damaged_rows_are_faults_and_missing_tables_are_refused(rt: HostRuntime) -> Result<(), Fail> {
     let bad_record = "INSERT INTO audits VALUES (3, 9, 'bob', '/', 2048, 1, 1)";
     plays(
         rt.alloc(),
         &[
             tells(Ask::Init, "ready\n", 0),
             fails(bad_record, Ask::Audit, "fault: database\n"),
-            fails("DROP TABLE members", Ask::GroupsOut, "fault: database\n"),
+            after(
+                "DROP TABLE members",
+                Ask::GroupsOut,
+                "refused: not the tables of a room\n",
+                2,
+            ),
         ],
     )
 }

@@ -122,5 +122,6 @@ fn test_rows(rt: &HostRuntime, store: &mut Store<Disk>) -> Result<(), Fail> {
 }
 
 fn tested(alloc: Global, store: &mut Store<Disk>) -> Result<&'static str, StoreFault> {
-    Ok(report_word(&store.verify(alloc)?))
+    let tested = store.verify(alloc)?;
+    Ok(report_word(&tested.report))
 }

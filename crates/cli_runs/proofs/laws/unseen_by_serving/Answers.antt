@@ -6,7 +6,8 @@ pub returns : goal.returns
 returns g c =
     λ front port count clock after ports closed old new out printed err told status hosted port'
     count' clock' after' ports' closed' other later out' printed' err' told' status' beside.
-    answer_alike c.content_is_tidy.ensures c.sound_is_content.ensures c.unseen.ensures front
-    (state g.S.Store old) (state g.S.Store new) (state g.T.Store other) (state g.T.Store later)
-    hosted.served.visits beside.served.visits hosted.outlasts.leads beside.outlasts.leads
-    hosted.served.each beside.served.each
+    answer_alike c.sound_is_content.ensures c.content_is_tidy.ensures c.stays_tidy.ensures
+    c.stays_behind.ensures c.unseen.ensures front (state g.S.Store old) (state g.S.Store new)
+    (state g.T.Store other) (state g.T.Store later) hosted.served.visits beside.served.visits
+    hosted.outlasts.leads beside.outlasts.leads hosted.leaves beside.leaves hosted.served.each
+    beside.served.each

@@ -6,9 +6,9 @@ use Rattle.cli_serve.proofs.Hosted.{after, closed_from, leaves_requests, left_sh
 use Rattle.cli_serve.proofs.{Hosted.stays_room, Receiving.no_more}
 use Rattle.cli_serve.proofs.hosting.host.Goals as goal
 
-pub returns : goal.returns
+pub returns-clause-hosts : goal.returns-clause-hosts
 unfolding served
-returns g c =
+returns-clause-hosts g c =
     let shown = state g.S.Store in
     let service = c.args.service.now in
     let old = shown c.args.conn in
@@ -46,8 +46,8 @@ returns g c =
           c.what_is_committed_lasts.ensures;
     }))
 
-pub returns-in-Err : goal.returns-in-Err
-returns-in-Err g c =
+pub returns-in-Err-clause-hosts : goal.returns-in-Err-clause-hosts
+returns-in-Err-clause-hosts g c =
     let old = state g.S.Store c.args.conn in
     let new = state g.S.Store c.in-Err.conn in
     let all = opened old new _ c.in-Err.ensures.back in

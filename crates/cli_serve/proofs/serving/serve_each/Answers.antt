@@ -1,6 +1,7 @@
-use Rattle.std.{proofs.Common.{arith, refl, sym, ◌∙◌}, specs.Io.KnownBytes.Appends}
+use Rattle.std.{proofs.Common.{arith, inl, inr, refl, sym, ◌∙◌}, specs.Io.KnownBytes.Appends}
 use Rattle.cli_outcome.specs.Written.{WritesSome}
-use Rattle.cli_serve.proofs.{Receiving.{nobody, none, one_more}, Staying.{all_served, left_shut}}
+use Rattle.cli_serve.proofs.Told.{fault_among}
+use Rattle.cli_serve.proofs.{Receiving.{nobody, none, one_more, others}, Staying.{all_served, left_shut}}
 use Rattle.cli_serve.proofs.Staying.{lines_then, missing, stays_on, untold}
 use Rattle.cli_serve.proofs.serving.serve_each.Goals.{then-told, else-told}
 use Rattle.cli_serve.proofs.serving.serve_each.Goals as goal
@@ -21,6 +22,7 @@ returns-then-left-clause-served g c =
     c.in-Ok.ensures.received c.in-Ok.ensures.leaves c.if-left.true
 
 pub connections-preserved : goal.connections-preserved
+unfolding one_more others
 connections-preserved g c =
     let one = c.connections.invariant in
     let told = c.is_told-whole.ensures in
@@ -44,12 +46,16 @@ connections-preserved g c =
             c.connections.desk one.received one.stays _ _ Appends _ c.pass.new.desk _ _ next
             (one.whole w.if-told.true) (told.whole (sym w.told-is ∙ is));
         some = some;
+        due = λ no. fault_among one.received.0.visits next.receives.visits next.visit _ next.only
+            next.ended (inr (told.due (sym w.told-is ∙ no)));
       }
       | else-told w ↦ record {
         received = received;
         stays = stays;
         whole = λ is. absurd (let e = sym w.told-is ∙ is in cc);
         some = some;
+        due = λ _. fault_among one.received.0.visits next.receives.visits next.visit _ next.only
+            next.ended (inl (one.due w.if-told.false));
       }
     ]
 
@@ -60,6 +66,7 @@ connections-init g c = record {
   stays = refl;
   whole = λ _. refl;
   some = refl;
+  due = λ no. absurd (let e = no in cc);
 }
 
 pub returns-then-told-2-clause-served : goal.returns-then-told-2-clause-served
@@ -76,3 +83,4 @@ returns-else-told-2-clause-served g c =
     untold g.D.Desk g.met.D.Desk.laws c.connections.number c.args.count _ _ c.args.desk.now
     c.connections.desk one.received one.stays _ _
     (omega (arith, c.connections.auto.number-end, c.connections-test.false)) one.some
+    (one.due c.if-told-2.false)

@@ -1,5 +1,5 @@
-use Rattle.room_laws.proofs.Behind as unseen
+use Rattle.room_laws.proofs.Quiet as quiet
 use Rattle.room_laws.proofs.laws.stays_behind.Goals as goal
 
 pub returns : goal.returns
-returns c = unseen.stays_behind
+returns c = quiet.stays_behind

@@ -1,5 +1,4 @@
-use Rattle.std.proofs.Common.{IsTrue, subst}
-use Rattle.store_file.{specs.FirstPage.Stands, proofs.Finding.found_somewhere}
+use Rattle.store_file.{proofs.Finding.found_somewhere}
 use Rattle.store_file.proofs.first_page.has.Goals as goal
 
 pub returns : goal.returns

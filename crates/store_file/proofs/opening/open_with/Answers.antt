@@ -10,6 +10,14 @@ image log db = record { log = log; db = db }
 abbrev seen : List ℕ → List ℕ → Bool → List Event → List ℕ
 seen log db is_log history = (replay (cond is_log log db) history).seen
 
+pub returns-in-Ok-open_files-clause-opened : goal.returns-in-Ok-open_files-clause-opened
+returns-in-Ok-open_files-clause-opened g c =
+    rw c.set_clock.ensures c.in-Ok-open_files.ensures.opened
+
+pub returns-in-Ok-open_files-clause-guarded : goal.returns-in-Ok-open_files-clause-guarded
+returns-in-Ok-open_files-clause-guarded g c =
+    rw c.set_clock.ensures c.in-Ok-open_files.ensures.guarded
+
 pub returns-in-Ok-open_files-clause-found : goal.returns-in-Ok-open_files-clause-found
 returns-in-Ok-open_files-clause-found g c = rw c.set_clock.ensures λ clean.
     let (log, db) = c.in-Ok.ensures.fresh in

@@ -1,0 +1,125 @@
+-- Worked examples of what `host` promises: of moments, of the number of connections, of statuses,
+-- of what is printed and asked for, and of a room that is damaged.
+use Rattle.std.proofs.Common.{◌≡◌, ◌≤◌, ◌⊎◌, ◌++◌, ℕ, ℤ, List, [], ◌∷◌, length, map, Option, Some}
+use Rattle.std.proofs.Common.{None, Ok, Err, IsTrue, inl, inr, refl, ap, subst, ◌∙◌, codes, decimal}
+use Rattle.std.specs.Io.KnownBytes.{Appends}
+use Rattle.sqlite.specs.{Held.Held, State.{State, HasCleanDisk}, Tree.Trees}
+use Rattle.cli_outcome.specs.declared.{no_room.NoRoom.NoRoom, place.Place.Place}
+use Rattle.room_http.specs.declared.ended.Cause.{Cause}
+use Rattle.store_tables.specs.{Shown.{HasTables, IsRoom, Retains}, Within.TreesOf}
+use Rattle.store_schema.specs.declared.fault.OpenFault.{OpenFault}
+use Rattle.room_store.specs.Kept.{IsOfThisVersion, IsShut}
+use Rattle.cli_serve.specs.{Places.{CannotListen, ListensAt, Site, site_of, Deed}, Visits.acts_of}
+use Rattle.cli_serve.specs.{Visits.{end_acts, Visit, moment_of}, Hosts.{IsHosted, IsTurnedDown}}
+use Rattle.cli_serve.specs.Hosts.{PrintsRefusal, ServesRoom, TellsAll, LeavesShut, TurnsDown}
+use Rattle.cli_serve.specs.{Hosts.{end_status, why_not_opened}, Lines.{TellsOf, TellsPlace}}
+use Rattle.cli_serve.specs.{Lines.connection_line, declared.fault.ServingFault.ServingFault}
+use Rattle.cli_outcome.specs.declared.place.Place.TheVariants as place
+
+-- ---- a room was served
+
+module _ (place : Place) (told told' : List ℤ → Type 0) (did did' : List Deed → Type 0)
+    (old new : State) (out out' err err' : Option (List ℕ)) (status : ℕ)
+    (serves : ServesRoom place 1 told told' did did' old new out out' err err' status) where
+  one_at_most : length serves.visits ≤ 1
+  one_at_most = serves.few
+
+  -- the clock told one moment: it is that of the one connection
+  at_the_moment_that_was_told : (moment : ℤ) → told []
+      → ((ms : List ℤ) → told' ms → ms ≡ moment ∷ [])
+      → map moment_of serves.visits ≡ moment ∷ []
+  at_the_moment_that_was_told moment none one =
+      one (map moment_of serves.visits) (serves.moments [] none)
+
+  a_fault_shows_in_the_status : (fault : ServingFault) → serves.end ≡ Err fault → status ≡ 3
+  a_fault_shows_in_the_status fault is = serves.end_is ∙ ap end_status is
+
+  a_good_end_does_too : serves.end ≡ Ok tt → status ≡ 0
+  a_good_end_does_too is = serves.end_is ∙ ap end_status is
+
+  with_status_0_the_place_is_told : (status ≡ 3 → ⊥) → TellsPlace place out out'
+  with_status_0_the_place_is_told isnt = on serves.ends
+    where
+      on : ((status ≡ 0) × TellsPlace place out out') ⊎ (status ≡ 3) → TellsPlace place out out'
+      on (inl good) = good.1
+      on (inr three) = absurd (isnt three)
+
+  a_desk_that_fails_is_shut : serves.end ≡ Err ServingFault.Desk → IsShut new
+  a_desk_that_fails_is_shut is = subst (λ end. LeavesShut end new) is serves.shut
+
+  -- nobody was met where the place couldn't be had, and nothing was said of it
+  without_the_place_nobody_is_met : CannotListen did did' place serves.visits serves.end out out'
+      → (serves.visits ≡ []) × (out' ≡ out)
+  without_the_place_nobody_is_met none = (none.nobody, none.untold)
+
+  -- the one site that was asked for, and what its listener did
+  the_place_alone_is_asked_for : did []
+      → did' (Deed.Refused (site_of place) ∷ []) ⊎ did' (Deed.Bound (site_of place)
+      ∷ Deed.Closed (acts_of serves.visits ++ end_acts serves.end) ∷ [])
+  the_place_alone_is_asked_for none = on serves.listens
+    where
+      on : ListensAt did did' place 1 serves.visits serves.end out out'
+          → did' (Deed.Refused (site_of place) ∷ []) ⊎ did' (Deed.Bound (site_of place)
+          ∷ Deed.Closed (acts_of serves.visits ++ end_acts serves.end) ∷ [])
+      on (inl refused) = inl (refused.asked [] none)
+      on (inr bound) = inr (bound.acts [] none)
+
+  faults_are_told : TellsAll serves.visits serves.end err err'
+  faults_are_told = serves.faults
+
+-- the line of a connection, with its number from 1 on
+the_port_is_of_this_machine : (port : ℕ)
+    → site_of (place.Port port) ≡ Site.Port (127 ∷ 0 ∷ 0 ∷ 1 ∷ []) port
+the_port_is_of_this_machine port = refl
+
+a_line : (number : ℕ) → connection_line number Cause.Write
+    ≡ codes "connection " ++ (decimal number ++ codes ": write fault\n")
+a_line number = refl
+
+-- a connection that ended by a fault, and nothing else, is printed in one line
+one_fault_is_told : (visit : Visit) (err' : Option (List ℕ)) → visit.fault ≡ Some Cause.Read
+    → TellsAll (visit ∷ []) (Ok tt) (Some []) err' → err' ≡ Some (connection_line 1 Cause.Read)
+one_fault_is_told visit err' is all =
+    all.last ∙ all.connections.2
+    ∙ on visit.fault all.connections.0 is all.connections.1
+  where
+    on : (fault : Option Cause) (mid : Option (List ℕ)) → fault ≡ Some Cause.Read
+        → TellsOf Appends 1 fault (Some []) mid → mid ≡ Some (connection_line 1 Cause.Read)
+    on (Some Cause.Read) (Some bytes) same tells = ap Some tells
+    on (Some Cause.Read) None same tells = absurd tells
+    on (Some Cause.Write) mid same tells = absurd (let wrong : ⊥ = cc in wrong)
+    on (Some Cause.Memory) mid same tells = absurd (let wrong : ⊥ = cc in wrong)
+    on None mid same tells = absurd (let wrong : ⊥ = cc in wrong)
+
+-- ---- no room was found
+
+module _ (did did' : List Deed → Type 0) (old new : State) (out out' err err' : Option (List ℕ))
+    (status : ℕ) (down : IsTurnedDown did did' old new out out' err err' status) where
+  no_place_was_asked_for : did [] → did' []
+  no_place_was_asked_for none = down.asked_none [] none
+
+  it_is_told_why : down.why ≡ OpenFault.NotRooms
+      → PrintsRefusal NoRoom.NotRooms out out' err err' status
+  it_is_told_why is =
+      subst (λ (why : OpenFault). TurnsDown (why_not_opened why) out out' err err' status) is
+      down.told
+
+-- ---- a damaged room
+
+module _ {S : Type 0} (shown : Held S → State) (place : Place) (count : ℕ)
+    (told told' : List ℤ → Type 0) (did did' : List Deed → Type 0) (old new : Held S)
+    (out out' err err' : Option (List ℕ)) (status : ℕ)
+    (hosted : IsHosted shown place count told told' did did' old new out out' err err' status)
+    (clean : HasCleanDisk (shown new)) (is_open : IsTrue (shown old).is_open)
+    (tables : HasTables (shown old).now) where
+  it_can_be_opened_again : (db : Trees) → (shown new).may_leave db
+      → TreesOf (λ it. IsRoom it × IsOfThisVersion it × Retains (shown old).now.trees it.trees) db
+  it_can_be_opened_again db left =
+      let it = (hosted.stays clean is_open tables).left db left in
+      (it.0, (it.1.room, it.1.version, it.1.retains), it.2)
+
+  its_records_stay : IsTrue (shown new).is_open
+      → HasTables (shown new).now × Retains (shown old).now.trees (shown new).now.trees
+  its_records_stay still =
+      let seen = (hosted.stays clean is_open tables).seen still in
+      (seen.0, seen.2)
