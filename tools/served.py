@@ -11,7 +11,7 @@ import time
 from kit import TOP
 
 PROGRAM = f"{TOP}/crates/rooms/out/rooms"
-UNIT = f"{TOP}/contrib/rooms@.service"
+UNIT = f"{TOP}/deploy/systemd/rooms@.service"
 MEBIBYTE = 1 << 20
 
 

@@ -1,5 +1,5 @@
 """For tests: a verb of rooms-admin whose calls of the system are counted, so that it can be killed
-at each of them. STAND, KILL_AT and KILL_HOW are those of tests/units.sh; the words are those of
+at each of them. STAND, KILL_AT and KILL_HOW are those of tests/lib/units.sh; the words are those of
 rooms-admin."""
 import builtins
 import fnmatch
@@ -11,7 +11,7 @@ import tarfile
 import time
 
 here = os.path.dirname(os.path.realpath(__file__))
-sys.path.insert(0, os.path.join(here, "..", "..", "contrib"))
+sys.path.insert(0, os.path.join(here, "..", "..", "admin"))
 stand = os.environ["STAND"]
 # Compiled once for all runs of a case.
 sys.pycache_prefix = os.path.join(stand, "compiled")
@@ -95,12 +95,10 @@ real_fchown = os.fchown
 
 
 def fchown(number, owner, group):
-    """Where root takes a file back that it has lent: fails for the one that STAND/no-tool names."""
+    """A private copy gets to whom it is for."""
     name = os.path.basename(os.readlink(f"/proc/self/fd/{number}"))
     if os.path.exists(f"{stand}/chowns"):
         step(f"fchown {name} {owner}")
-    if owner == own_user and fails(f"chown {name}"):
-        raise OSError(5, "Input/output error")
     real_fchown(number, owner, group)
 
 
@@ -126,7 +124,7 @@ subprocess.Popen = Counted
 os.fchown, builtins.open = fchown, opens
 time.sleep = lambda seconds: hook("sleep")
 import http.client  # noqa: E402
-from rooms_admin import web  # noqa: E402
+from rooms_admin.room import published  # noqa: E402
 
 
 def count(owner, name):
@@ -141,6 +139,6 @@ def count(owner, name):
 # A request that goes out, and its reply.
 count(http.client.HTTPConnection, "connect")
 count(http.client.HTTPConnection, "getresponse")
-count(web, "exchange")
+count(published, "exchange")
 from rooms_admin.__main__ import main  # noqa: E402
 sys.exit(main(sys.argv[1:], "rooms-admin"))

@@ -2,6 +2,7 @@
 that don't. A table has them between backquotes: .. stands for anything, a word in capitals for a
 name, and anything may follow."""
 import ast
+import glob
 import itertools
 import os
 import re
@@ -15,9 +16,11 @@ SAID = {"Stop": (0, ""), "Refused": (0, ""), "Busy": (0, ""), "NoGroup": (0, "")
         "not_done": (2, "not taken back: X: X: "), "Changed": (0, "not taken back: X: X: "),
         "cause": (0, "")}
 # Lists of lines that are told.
-LISTS = {"undone", "failures", "lacks"}
+LISTS = {"undone", "failures", "lacks", "wrong"}
 # Modules whose functions give a line, or a level and a line.
 GIVES = {"health.py", "watched.py", "machine.py"}
+# And what these return is a line, or several.
+RETURNS = {"health.py", "tidying.py"}
 # These hand on what was caught, or what somebody else said.
 NOTHING = re.compile(r"[X:; ]*")
 
@@ -57,9 +60,10 @@ def given(node, file):
         if name_of(level) in ("WARNING", "CRITICAL") or (
                 isinstance(level, ast.Constant) and level.value in (1, 2)):
             return texts(text)
-    if file == "health.py" and isinstance(node, ast.Return) and isinstance(
-            node.value, (ast.JoinedStr, ast.BinOp)):
-        return texts(node.value)
+    if file in RETURNS and isinstance(node, ast.Return):
+        lines = node.value.elts if isinstance(node.value, ast.List) else [node.value]
+        return [text for one in lines if isinstance(one, (ast.JoinedStr, ast.BinOp))
+                for text in texts(one)]
     return []
 
 
@@ -74,11 +78,11 @@ def patterns():
 
 
 known = list(patterns())
-for file in sorted(os.listdir(package)):
-    if file.endswith(".py"):
-        with open(os.path.join(package, file), encoding="utf-8") as source:
-            tree = ast.parse(source.read())
-        for node in ast.walk(tree):
-            for text in given(node, file):
-                if not NOTHING.fullmatch(text) and not any(one.fullmatch(text) for one in known):
-                    print(f"{file}:{node.lineno}: {text}")
+for path in sorted(glob.glob(os.path.join(package, "**", "*.py"), recursive=True)):
+    file = os.path.basename(path)
+    with open(path, encoding="utf-8") as source:
+        tree = ast.parse(source.read())
+    for node in ast.walk(tree):
+        for text in given(node, file):
+            if not NOTHING.fullmatch(text) and not any(one.fullmatch(text) for one in known):
+                print(f"{file}:{node.lineno}: {text}")

@@ -1,4 +1,5 @@
-"""The pure parts: python3 -m unittest test_pure. Black boxes are tests/cases."""
+"""The pure parts: python3 -m unittest test_pure. Black boxes are the parts beside it."""
+import argparse
 import os
 import random
 import subprocess
@@ -6,10 +7,15 @@ import sqlite3
 import tempfile
 import unittest
 import unittest.mock
+from importlib import import_module
 
-from rooms_admin import names, safe, settings, site
-from rooms_admin.said import Refused
-from rooms_admin.used import Used
+from rooms_admin.host import safe
+from rooms_admin.room import names, settings
+from rooms_admin.site import template
+from rooms_admin.__main__ import VERBS
+from rooms_admin.cli import manual
+from rooms_admin.cli.report import Refused
+from rooms_admin.room.size import Used
 
 
 class Names(unittest.TestCase):
@@ -65,6 +71,51 @@ class Settings(unittest.TestCase):
             with open(place, "w", encoding="utf-8") as out:
                 out.write("# c\nFILE=a\n\nFILE=b=c")
             self.assertEqual(settings.values(place, {"FILE": ""}), {"FILE": "b=c"})
+
+    def test_whose_they_are(self) -> None:
+        """What settings name is run, as root too: so nobody else may have written them."""
+        with tempfile.TemporaryDirectory() as at:
+            place = os.path.join(at, "f")
+            with open(place, "w", encoding="utf-8") as out:
+                out.write("PROGRAM=/tmp/p\n")
+            for mode in (0o644, 0o600, 0o444):
+                os.chmod(place, mode)
+                self.assertEqual(settings.value(place, "PROGRAM"), "/tmp/p")
+            for mode in (0o664, 0o646, 0o666):
+                os.chmod(place, mode)
+                with self.assertRaisesRegex(Refused, "^not safe: others can write to .*/f: chmod"):
+                    settings.lines(place)
+                self.assertEqual(settings.value(place, "PROGRAM"), "")
+            os.chmod(place, 0o644)
+            if os.geteuid() == 0:
+                os.chown(place, 65534, 65534)
+                with self.assertRaisesRegex(Refused, "^not safe: .*/f belongs to another user"):
+                    settings.lines(place)
+                # Nor by a link to it.
+                os.symlink(place, f"{at}/link")
+                with self.assertRaisesRegex(Refused, "^not safe: .*/link belongs to another user"):
+                    settings.lines(f"{at}/link")
+            os.mkfifo(f"{at}/pipe")
+            with self.assertRaisesRegex(Refused, "^no settings: .*/pipe isn't a file"):
+                settings.lines(f"{at}/pipe")
+
+    def test_a_word_is_a_name(self) -> None:
+        """Whatever the folder has in which root stands."""
+        before = os.getcwd()
+        with tempfile.TemporaryDirectory() as at, \
+                unittest.mock.patch.object(settings, "HOME", "/etc/rooms-none"):
+            os.chdir(at)
+            try:
+                for name in ("invoices", "invoices.conf", "office"):
+                    with open(name, "w", encoding="utf-8") as out:
+                        out.write("FILE=/x\nBACKUPS=/x\nPROGRAM=/bin/true\n")
+                    self.assertEqual(settings.file_of(name), f"/etc/rooms-none/{name}.conf")
+                    with self.assertRaisesRegex(Refused, "^no settings: /etc/rooms-none/"):
+                        settings.room(name)
+                self.assertEqual(settings.file_of("./invoices"), "./invoices")
+                self.assertEqual(settings.file_of(""), "/etc/rooms-none/office.conf")
+            finally:
+                os.chdir(before)
 
 
 class Safe(unittest.TestCase):
@@ -153,39 +204,82 @@ class UsedBytes(unittest.TestCase):
 
 class Sites(unittest.TestCase):
     def test_a_room_is_where_its_settings_say(self) -> None:
-        rooms = [settings.Place("office", "8780", "Office", "file", socket=True),
+        rooms = [settings.Place("office", "8780", "Office", "file", socket=True, door=True),
                  settings.Place("hr", "8781", "", "file"),
                  settings.Place("ledger", "", "", "file", behind=True, socket=True)]
-        text = site.render(site.template("site.conf.in"),
-                           site.Site(settings.Front(["x"], "", ""), rooms, "/page"))
+        text = template.render(template.template("site.conf.in"),
+                               template.Site(settings.Front(["x"], "", ""), rooms, "/page"))
         for line in ("upstream room_office { server unix:/run/rooms/office/socket; }",
                      "upstream room_hr { server 127.0.0.1:8781; }",
                      "upstream room_ledger { server unix:/run/rooms/ledger/socket; }",
+                     "upstream door_office { server unix:/run/rooms-door/office/socket; }",
+                     "    office door_office;",
                      "    office office.full;", "    hr 127.0.0.1:8781;",
                      "    ledger ledger.full;"):
             self.assertIn(line + "\n", text)
+        self.assertNotIn("door_hr", text)
+        self.assertNotIn("door_ledger", text)
 
     def test_an_edited_file_stays(self) -> None:
-        template = site.template("site.conf.in")
+        made_of = template.template("site.conf.in")
         rooms = [settings.Place("office", "8780", "Office", "file"),
                  settings.Place("hr", "8781", "", "file", host="hr.example")]
 
         def shown(host: str) -> str:
             front = settings.Front([host], "", "")
-            return site.render(template, site.Site(front, rooms, "/page"))
+            return template.render(made_of, template.Site(front, rooms, "/page"))
 
         text = shown("x.example")
-        self.assertFalse(site.is_edited(text))
+        self.assertFalse(template.is_edited(text))
         self.assertNotRegex(text, "@[A-Z]+@")
         with tempfile.TemporaryDirectory() as root:
-            file = root + site.FILE
+            file = root + template.FILE
             os.makedirs(os.path.dirname(file))
             with open(file, "w", encoding="utf-8") as out:
                 out.write(text + "# mine\n")
-            self.assertTrue(site.is_edited(site.read(file)))
-            site.keep_edited(root, shown("y.example"))
-            self.assertEqual(site.read(file), text + "# mine\n")
-            self.assertEqual(site.read(file + ".new"), shown("y.example"))
+            self.assertTrue(template.is_edited(template.read(file)))
+            template.keep_edited(root, shown("y.example"))
+            self.assertEqual(template.read(file), text + "# mine\n")
+            self.assertEqual(template.read(file + ".new"), shown("y.example"))
+
+
+class Words(unittest.TestCase):
+    """Options stand anywhere, and a room is named by one of them."""
+
+    def read(self, verb: str, *words: str) -> argparse.Namespace:
+        name, _, options = VERBS[verb]
+        module = import_module(f"rooms_admin.verbs.{name}")
+        return manual.read(verb, module, options, list(words))
+
+    def test_anywhere(self) -> None:
+        for words in (("--start", "latest"), ("latest", "--start")):
+            given = self.read("restore", *words)
+            self.assertEqual((given.words, given.start), (["latest"], True))
+        given = self.read("user", "add", "eve", "--groups", "sales,staff")
+        self.assertEqual((given.words, given.groups), (["add", "eve"], "sales,staff"))
+        given = self.read("setup", "--dry-run", "--tls", "one.pem", "one.key", "--destdir", "/x")
+        self.assertEqual((given.words, given.tls, given.destdir),
+                         ([], ["one.pem", "one.key"], "/x"))
+
+    def test_room(self) -> None:
+        for words in (("-r", "invoices"), ("--room", "invoices"), ("--room=invoices",),
+                      ("invoices",)):
+            self.assertEqual(self.read("backup", *words).words, ["invoices"])
+        for name in ("--room", "--conf", "-r"):
+            given = self.read("get", "latest", name, "invoices", "/letters/reply")
+            if name == "--conf":
+                self.assertEqual(given.conf, "invoices")
+            self.assertEqual((given.words, given.conf),
+                             (["latest", "/letters/reply"], "invoices"))
+        self.assertEqual(self.read("backup").words, [])
+
+    def test_dashes(self) -> None:
+        self.assertEqual(self.read("user", "add", "-odd").words, ["add", "-odd"])
+        self.assertEqual(self.read("user", "--", "add", "--groups").words, ["add", "--groups"])
+        self.assertEqual(self.read("restore", "--", "--start").start, False)
+        for words in (("-x", "latest"), ("latest", "--no-such"), ("latest", "--conf")):
+            with self.assertRaisesRegex(Refused, "^bad arguments: "):
+                self.read("get", *words)
 
 
 if __name__ == "__main__":

@@ -8,9 +8,12 @@ import time
 import unittest
 import unittest.mock
 
-sys.path.insert(0, os.path.join(os.path.dirname(__file__), "..", "..", "contrib"))
+sys.path.insert(0, os.path.join(os.path.dirname(__file__), "..", "..", "admin"))
 
-from rooms_admin import health, locks, members, said, settings, tell, unit, watched  # noqa: E402
+from rooms_admin.cli import report  # noqa: E402
+from rooms_admin.host import locks  # noqa: E402
+from rooms_admin.room import health, members, server, settings  # noqa: E402
+from rooms_admin.verbs import mail_failure, watched  # noqa: E402
 
 LISTS = b"""folder bob staff /
 dacl
@@ -64,7 +67,7 @@ class Watched(unittest.TestCase):
         """At its socket, if it has one, whether SOCKET says so or its unit does; never
         elsewhere."""
         with tempfile.TemporaryDirectory() as home, \
-                unittest.mock.patch.object(unit, "state", return_value="active"), \
+                unittest.mock.patch.object(server, "state", return_value="active"), \
                 unittest.mock.patch.object(locks, "RUN", home), \
                 socketserver.ThreadingTCPServer(("127.0.0.1", 0), Answers) as there:
             port = str(there.server_address[1])
@@ -98,6 +101,42 @@ class Watched(unittest.TestCase):
             self.assertIn(f"doesn't answer at {place} ", told("", port))
             there.shutdown()
 
+    @unittest.skipUnless(os.geteuid() == 0, "only root can try it as somebody else")
+    def test_a_port_that_others_reach(self) -> None:
+        """Nothing closes this one, as after rules that somebody loaded by hand."""
+        with tempfile.TemporaryDirectory() as home, \
+                unittest.mock.patch.object(locks, "RUN", home), \
+                socketserver.ThreadingTCPServer(("127.0.0.1", 0), Answers) as there:
+            port = str(there.server_address[1])
+
+            def told(line: str) -> str:
+                with open(f"{home}/office.conf", "w", encoding="ascii") as file:
+                    file.write(f"FILE={home}/F\nBACKUPS={home}\nPROGRAM=/bin/true\n"
+                               f"PORT={port}\n{line}\n")
+                return health.port(settings.room(f"{home}/office.conf"))
+
+            text = told("SOCKET=")
+            self.assertTrue(text.startswith(f"every account of this machine reaches port {port}, "),
+                            text)
+            # A room with a socket has a port in reserve, and no server there.
+            self.assertEqual(told("SOCKET=yes"), "")
+            there.server_close()
+            self.assertEqual(told("SOCKET="), "")
+
+    def test_a_server_that_groups_have_left(self) -> None:
+        """Its check says what starts it."""
+        room = settings.Room("/etc/rooms/office.conf", "/f/F", "8780", "", "/b", 0, 0, "", "", "",
+                             "", "", "rooms@office", "/bin/true", "file", "", False, False, "names")
+        with tempfile.TemporaryDirectory() as run, \
+                unittest.mock.patch.object(locks, "RUN", run), \
+                unittest.mock.patch.object(watched.await_server, "is_well", return_value=False), \
+                unittest.mock.patch.object(server, "state", return_value="inactive"):
+            self.assertIn("systemctl status", watched.see_answer(room)[0][1])
+            open(server.left_at_rest(room), "w").close()
+            self.assertEqual(watched.see_answer(room), [
+                (2, "rooms@office was stopped while groups were changed, and that was cut off: "
+                 "rooms-admin groups --after office")])
+
     def test_lines_that_name_a_user(self) -> None:
         self.assertEqual(list(members.of_user(LISTS, "bob")),
                          ["folder bob staff /", "A:fd:bob:r", "U::bob:r", "member staff bob"])
@@ -107,12 +146,12 @@ class Watched(unittest.TestCase):
     def test_who_is_mailed(self) -> None:
         with tempfile.TemporaryDirectory() as home:
             settings.HOME = home
-            self.assertEqual(tell.mail_of("office"), "root")
+            self.assertEqual(mail_failure.mail_of("office"), "root")
             for text, wanted in (("MAIL=root\nMAIL=alice\n", "alice"), ("MAIL=\n", ""),
                                  ("MAIL=-x\n", ""), ("LIMIT=much\n", "root")):
                 with open(f"{home}/office.conf", "w", encoding="ascii") as file:
                     file.write(text)
-                self.assertEqual(tell.mail_of("other"), wanted)
+                self.assertEqual(mail_failure.mail_of("other"), wanted)
 
     def test_a_name_stands_for_its_settings(self) -> None:
         settings.HOME = "/etc/rooms"
@@ -128,8 +167,8 @@ class Watched(unittest.TestCase):
             sent.append(text)
             return True
 
-        with unittest.mock.patch.object(said, "_tell", tells):
-            said.mail("root", "x", ["a\n~! b", "~q"])
+        with unittest.mock.patch.object(report, "_tell", tells):
+            report.mail("root", "x", ["a\n~! b", "~q"])
         self.assertEqual(sent, ["a\n ~! b\n ~q\n"])
 
 

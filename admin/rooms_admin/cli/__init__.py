@@ -1,0 +1,1 @@
+"""What rooms-admin says, and how its words are read."""

@@ -1,0 +1,1 @@
+"""The machine: files, locks, processes. Nothing here knows a room."""

@@ -1,0 +1,158 @@
+"""What is tried as a room's user, in a process of theirs: whatever the file holds, it does no more
+than its user could."""
+import errno
+import json
+import os
+import pwd
+import shutil
+import subprocess
+import sys
+import tempfile
+from collections.abc import Callable, Iterator
+from contextlib import contextmanager
+
+from . import tempdirs
+
+Work = Callable[[], list[list[str]]]
+# Bytes: twice the largest document, and as much for the log.
+TRIAL = 4194304
+
+
+def as_user(user: pwd.struct_passwd, work: Work) -> list[list[str]]:
+    """What the work gives, done by a process of this user, which can't become another one."""
+    ours, theirs = os.pipe()
+    sys.stdout.flush()
+    child = os.fork()
+    if child == 0:
+        try:
+            if os.getuid() != user.pw_uid:
+                os.setgroups([])
+                os.setresgid(user.pw_gid, user.pw_gid, user.pw_gid)
+                os.setresuid(user.pw_uid, user.pw_uid, user.pw_uid)
+            text = json.dumps(work()).encode()
+            while text:
+                text = text[os.write(theirs, text):]
+            os._exit(0)
+        finally:
+            os._exit(1)
+    os.close(theirs)
+    with os.fdopen(ours, "rb") as source:
+        text = source.read(1 << 20)
+    status = os.waitpid(child, 0)[1]
+    if status != 0:
+        return [["unknown", f"a process of {user.pw_name} ended, status {status}"]]
+    return [[str(word) for word in row] for row in json.loads(text)]
+
+
+def try_writing(folder: str) -> list[list[str]]:
+    """Nothing but a try tells of quotas, of blocks that are kept for root, and of a disk that
+    fails."""
+    try:
+        number, place = tempfile.mkstemp(prefix=".rooms-doctor.", dir=folder)
+    except OSError as fault:
+        return [_of_fault(fault)]
+    try:
+        left = TRIAL
+        while left:
+            left -= os.write(number, bytes(min(left, 1 << 16)))
+        os.fsync(number)
+        return []
+    except OSError as fault:
+        return [_of_fault(fault)]
+    finally:
+        os.close(number)
+        os.unlink(place)
+
+
+def _of_fault(fault: OSError) -> list[str]:
+    said = fault.strerror or str(fault)
+    kinds = {errno.ENOSPC: "no space", errno.EDQUOT: "no space", errno.EROFS: "read-only",
+             errno.EPERM: "permission", errno.EACCES: "permission"}
+    return [kinds.get(fault.errno or 0, "disk"), said]
+
+
+def _at_once(file: str, flags: int) -> int:
+    """A pipe keeps nobody waiting."""
+    return os.open(file, flags | os.O_NONBLOCK)
+
+
+def kind(file: str) -> list[list[str]]:
+    try:
+        with open(file, "rb", opener=_at_once) as source:
+            head = source.read(16)
+    except OSError as fault:
+        if fault.errno in (errno.EACCES, errno.EPERM):
+            return []  # That was told already.
+        return [["disk", f"it can't be read: {fault.strerror}; dmesg says more. Restore a backup "
+                 "to another disk"]]
+    if not head:
+        return [["not a room", f"{file} is empty, as an init that was cut off leaves it: remove "
+                 "it, or restore a backup"]]
+    if not head.startswith(b"SQLite format 3"):
+        return [["not a room", f"{file} is no database: name the right file, or restore a backup"]]
+    return []
+
+
+@contextmanager
+def own_folder(user: pwd.struct_passwd) -> Iterator[str]:
+    """A folder of the user's."""
+    with tempdirs.folder("rooms-doctor", user.pw_uid) as made:
+        if os.getuid() != user.pw_uid:
+            os.chown(made, user.pw_uid, user.pw_gid)
+        yield made
+
+
+def verify(program: str, file: str, place: str) -> list[list[str]]:
+    """Of a copy, since verify writes into the file. The log belongs to it."""
+    copy = os.path.join(place, "room")
+    for end in ("", "-wal"):
+        try:
+            if not end or os.path.exists(file + end):
+                shutil.copyfile(file + end, copy + end)
+        except OSError as fault:
+            if fault.errno in (errno.EACCES, errno.EPERM) and not os.access(file + end, os.R_OK):
+                return []  # That was told already.
+            if fault.errno == errno.EIO:
+                return [["disk", f"it can't be read: {fault.strerror}; dmesg says more. Restore a "
+                         "backup to another disk"]]
+            return [["unknown", f"whether it is sound, since a copy in {place} fails: "
+                     f"{fault.strerror}"]]
+    status, said = _run(program, "verify", copy)
+    if said == "sound":
+        return _records(program, copy)
+    if said == "refused: not a rooms file":
+        return [["not a room", f"{file} is a database of another program"]]
+    if said == "refused: not the tables of a room":
+        return [["not a room", f"somebody added a table, an index, a view or a trigger to {file}, "
+                 "or changed a table: remove what was added, or restore the last good backup"]]
+    if said == "fault ? V8 no-numbers":
+        return [["no numbers", "each request that a list wants a record of is answered 500: set "
+                 "the counter of records back (docs/messages.md)"]]
+    if said.startswith("refused: schema"):
+        return [["not a room", f"{file} is of another version: {said} (docs/messages.md)"]]
+    if said == "fault: memory":
+        return [["unknown", "whether it is sound, since the memory is too small"]]
+    return [["damaged", f"verify gives status {status}: {said}: restore the last good backup "
+             "(rooms-admin restore)"]]
+
+
+def _records(program: str, copy: str) -> list[list[str]]:
+    """verify doesn't look at them."""
+    status, said = _run(program, "audit", copy, quiet=True)
+    if status == 0:
+        return []
+    if "fault: memory" in said:
+        return [["unknown", "whether each record can be read, since the memory is too small"]]
+    return [["damaged", f"the room is sound, but a record can't be read: {said}. See records.csv "
+             "of the last good backup"]]
+
+
+def _run(program: str, word: str, file: str, quiet: bool = False) -> tuple[int, str]:
+    out = subprocess.DEVNULL if quiet else subprocess.PIPE
+    try:
+        done = subprocess.run([program, word, file], stdin=subprocess.DEVNULL, stdout=out,
+                              stderr=subprocess.PIPE, check=False)
+    except OSError as fault:
+        return 1, fault.strerror or str(fault)
+    return done.returncode, ((done.stdout or b"") + done.stderr)[:400].decode(
+        errors="replace").strip()

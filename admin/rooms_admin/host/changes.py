@@ -1,0 +1,165 @@
+"""What setup, add and remove do to a machine. Each change is printed, or only printed; and it is
+put back if nginx doesn't take it."""
+import os
+import pwd
+import shutil
+import stat
+import subprocess
+from grp import getgrnam
+
+from . import safe
+from ..cli.report import Stop
+
+# The user whose processes nginx's are, on Debian.
+NGINX = "www-data"
+# The user of the Apaches that check passwords, who reaches no room.
+CHECKER = "rooms-passwords"
+
+
+class Changes:
+    """`root` is empty, or the folder of an image of a machine: then no owner is set, and no unit is
+    touched."""
+
+    def __init__(self, root: str, dry: bool) -> None:
+        self.root = root
+        self.dry = dry
+        self.count = 0
+        self._before: list[tuple[str, bytes | str | None, int, int]] = []
+
+    def does(self, text: str) -> bool:
+        """Prints what is done, and says whether to do it."""
+        self.count += 1
+        print(f"would: {text}" if self.dry else text, flush=True)
+        return not self.dry
+
+    def folder(self, path: str, mode: int, owner: str = "root", group: str = "") -> None:
+        """One that is there is left as it is."""
+        place = self.root + path
+        if os.path.isdir(place):
+            if not self.root and pwd.getpwuid(os.stat(place).st_uid).pw_name != owner:
+                print(f"kept {path}, which doesn't belong to the user {owner}")
+            return
+        if not self.does(f"folder {path}"):
+            return
+        os.makedirs(os.path.dirname(place), 0o755, exist_ok=True)
+        if self.root:
+            safe.put_folder(place, mode)
+            return
+        user = pwd.getpwnam(owner)
+        safe.put_folder(place, mode, user.pw_uid,
+                        getgrnam(group).gr_gid if group else user.pw_gid)
+
+    def remember(self, path: str) -> None:
+        place = self.root + path
+        try:
+            seen = os.lstat(place)
+        except FileNotFoundError:
+            self._before.append((path, None, 0, -1))
+            return
+        if stat.S_ISLNK(seen.st_mode):
+            self._before.append((path, os.readlink(place), 0, -1))
+        else:
+            with open(place, "rb") as source:
+                self._before.append((path, source.read(), stat.S_IMODE(seen.st_mode), seen.st_gid))
+
+    def put_back(self) -> None:
+        """All that has been changed since `forget`."""
+        for path, old, mode, group in reversed(self._before):
+            place = self.root + path
+            if isinstance(old, bytes):
+                safe.put_file(place, old, mode, group if os.geteuid() == 0 else -1)
+                continue
+            try:
+                os.unlink(place)
+            except FileNotFoundError:
+                pass
+            if isinstance(old, str):
+                os.symlink(old, place)
+        self._before.clear()
+
+    def forget(self) -> None:
+        self._before.clear()
+
+    def file(self, path: str, data: bytes, mode: int = 0o644, group: str = "",
+             what: str = "") -> bool:
+        """A file with these bytes; whether anything has changed."""
+        place = self.root + path
+        try:
+            with open(place, "rb") as source:
+                same = source.read() == data
+            new = "new "
+        except FileNotFoundError:
+            same, new = False, ""
+        if same and stat.S_IMODE(os.stat(place).st_mode) & 0o777 & ~mode == 0:
+            return False
+        if self.does(f"{new}file {path}{what}"):
+            self.remember(path)
+            os.makedirs(os.path.dirname(place), 0o755, exist_ok=True)
+            number = getgrnam(group).gr_gid if group and not self.root else -1
+            safe.put_file(place, data, mode, number)
+        return True
+
+    def link(self, path: str, target: str) -> bool:
+        place = self.root + path
+        if os.path.islink(place) and os.readlink(place) == target:
+            return False
+        if self.does(f"link {path} to {target}"):
+            self.remember(path)
+            os.makedirs(os.path.dirname(place), 0o755, exist_ok=True)
+            fresh = f"{place}.rooms-new"
+            if os.path.lexists(fresh):
+                os.unlink(fresh)
+            os.symlink(target, fresh)
+            os.rename(fresh, place)
+        return True
+
+    def remove(self, path: str, why: str = " is removed") -> bool:
+        place = self.root + path
+        if not os.path.lexists(place):
+            return False
+        if self.does(f"{path}{why}"):
+            self.remember(path)
+            os.unlink(place)
+        return True
+
+    def remove_folder(self, path: str) -> None:
+        """With all that is in it. It doesn't come back."""
+        if os.path.isdir(self.root + path) and self.does(f"{path} is removed"):
+            shutil.rmtree(self.root + path)
+
+    def rename(self, path: str, to: str, why: str) -> None:
+        if self.does(f"{path} is now {to}{why}"):
+            self.remember(path)
+            self.remember(to)
+            os.rename(self.root + path, self.root + to)
+
+    def systemctl(self, *words: str) -> None:
+        """Of a machine that systemd runs."""
+        if self.root or not os.path.isdir("/run/systemd/system"):
+            return
+        if self.does("systemctl " + " ".join(words)):
+            run("systemctl", *words)
+
+
+def run(*words: str, check: bool = True) -> tuple[int, str]:
+    """Status, and all that it said."""
+    try:
+        done = subprocess.run(words, stdin=subprocess.DEVNULL, stdout=subprocess.PIPE,
+                              stderr=subprocess.STDOUT, check=False, cwd="/",
+                              env=os.environ | {"LC_ALL": "C"})
+    except OSError as fault:
+        raise Stop(f"no {words[0]}: {fault.strerror}") from fault
+    said = done.stdout.decode(errors="backslashreplace").strip()
+    if check and done.returncode != 0:
+        raise Stop(f"{' '.join(words)} failed: {said or done.returncode}")
+    if check and said:
+        print(said, flush=True)
+    return done.returncode, said
+
+
+def nginx_refuses() -> str:
+    """What nginx says against its files."""
+    if not shutil.which("nginx"):
+        return ""
+    status, said = run("nginx", "-t", "-q", check=False)
+    return said or "it says nothing" if status else ""

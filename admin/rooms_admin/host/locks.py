@@ -1,0 +1,61 @@
+"""One verb at a time for each room. A lock lies where nobody but root gets to: flock asks for no
+right but that to open the file."""
+import fcntl
+import os
+import stat
+import time
+from collections.abc import Iterator
+from contextlib import contextmanager
+
+from ..cli.report import Refused
+
+# Only tests set another folder.
+RUN = os.environ.get("ROOMS_RUN", "/run")
+FOLDER = os.path.join(RUN, ".rooms-admin" if "ROOMS_RUN" in os.environ else "rooms-admin")
+
+
+class Busy(Refused):
+    """Another verb is at work."""
+
+
+@contextmanager
+def lock(name: str, seconds: float, folder: str = FOLDER) -> Iterator[None]:
+    """`name` is a unit such as rooms@office, or 'machine'. It ends with the process, whatever
+    happens to that; no child gets it, since Python closes what a child isn't given."""
+    try:
+        os.makedirs(folder, 0o700, exist_ok=True)
+        at = os.open(folder, os.O_RDONLY | os.O_DIRECTORY | os.O_NOFOLLOW | os.O_CLOEXEC)
+    except OSError as fault:
+        raise Refused(f"no lock: {folder} can't be made: {fault.strerror}") from fault
+    try:
+        seen = os.fstat(at)
+        if seen.st_uid != os.geteuid() or stat.S_IMODE(seen.st_mode) & 0o077:
+            raise Refused(f"no lock: {folder} isn't closed to others: rm -r {folder}")
+        number = os.open(name, os.O_RDWR | os.O_CREAT | os.O_NOFOLLOW | os.O_CLOEXEC, 0o600,
+                         dir_fd=at)
+    finally:
+        os.close(at)
+    try:
+        ends = time.monotonic() + seconds
+        while True:
+            try:
+                fcntl.flock(number, fcntl.LOCK_EX | fcntl.LOCK_NB)
+                break
+            except BlockingIOError:
+                if time.monotonic() >= ends:
+                    raise Busy(f"busy: another verb of rooms-admin is at work with {name}"
+                               ) from None
+                time.sleep(0.1)
+        yield
+    finally:
+        os.close(number)
+
+
+@contextmanager
+def machine(root: str, dry: bool) -> Iterator[None]:
+    """One verb at a time that adds, removes or shows rooms. An image of a machine has no /run."""
+    if root or dry:
+        yield
+        return
+    with lock("machine", 2):
+        yield

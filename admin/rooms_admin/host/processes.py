@@ -1,0 +1,25 @@
+"""Processes of the machine."""
+import os
+
+
+def _fields(place: str) -> list[str]:
+    """What the system says of a process after its name."""
+    try:
+        with open(place, encoding="utf-8", errors="replace") as source:
+            return source.read().rpartition(") ")[2].split()
+    except OSError:
+        return []
+
+
+def began(process: int) -> str:
+    """In ticks since the machine did: it tells a process from a later one of the same number."""
+    fields = _fields(f"/proc/{process}/stat")
+    return fields[19] if len(fields) > 19 else ""
+
+
+def is_held(process: int) -> bool:
+    try:
+        threads = os.listdir(f"/proc/{process}/task")
+    except OSError:
+        return False
+    return all(_fields(f"/proc/{process}/task/{one}/stat")[:1] == ["T"] for one in threads)

@@ -1,0 +1,1 @@
+"""One room: its settings, its server, its backups."""

@@ -1,0 +1,248 @@
+"""Requests to a room: whom it asks as, what may go unencrypted, and which replies end a run."""
+import base64
+import getpass
+import http.client
+import os
+import re
+import ssl
+import sys
+import time
+import urllib.error
+import urllib.parse
+import urllib.request
+from dataclasses import dataclass
+
+from ..cli import report
+from ..host.at_socket import AtSocket
+from . import names, settings
+from ..cli.report import Refused, Stop, say
+from .settings import Room, is_this_machine
+
+
+@dataclass
+class Reply:
+    status: int
+    body: bytes
+
+    def text(self) -> str:
+        """What the room said, in one line."""
+        flat = self.body[:400].replace(b"\n", b"").replace(b"\r", b"")
+        return f"{self.status} {report.plain(flat.decode('utf-8', 'backslashreplace'))}"
+
+
+def connection(room: Room, timeout: float) -> http.client.HTTPConnection:
+    """To the room's own server on this machine, which believes whom it is told."""
+    if room.listens:
+        return AtSocket(room.listens, timeout)
+    return http.client.HTTPConnection("127.0.0.1", int(room.port), timeout=timeout)
+
+
+class _SocketHandler(urllib.request.HTTPHandler):
+    def __init__(self, path: str) -> None:
+        super().__init__()
+        self.path = path
+
+    def http_open(self, req: urllib.request.Request) -> http.client.HTTPResponse:
+        def connected(_host: str, timeout: float = 60, **_given: object) -> AtSocket:
+            return AtSocket(self.path, timeout)
+        return self.do_open(connected, req)  # type: ignore[arg-type]
+
+
+class _AsIs(urllib.request.HTTPErrorProcessor):
+    """Every status is a reply: none is followed elsewhere."""
+
+    def http_response(self, request: urllib.request.Request,
+                      response: http.client.HTTPResponse) -> http.client.HTTPResponse:
+        return response
+
+    https_response = http_response
+
+
+@dataclass
+class Caller:
+    user: str = ""
+    as_user: str = ""
+    config: str = ""
+    log: str = ""
+    without_tls: bool = False
+
+
+class Client:
+    """`next_step` is what is to be done where a run was cut off; in a damaged room a reply 500
+    ends a run only if `ends_by_500`."""
+
+    def __init__(self, address: str, caller: Caller, next_step: str, ends_by_500: bool,
+                 at_socket: str = "") -> None:
+        parts = _parts(address)
+        before, at, host = parts.netloc.rpartition("@")
+        self.room = urllib.parse.urlunsplit((parts.scheme, host, parts.path.rstrip("/"), "", ""))
+        self.next_step = next_step
+        self.ends_by_500 = ends_by_500
+        self.log = caller.log
+        self.left_out = 0
+        plain = _without_port(host)
+        home = is_this_machine(host)
+        if parts.scheme == "http" and not home and not caller.without_tls and (
+                caller.user or caller.config or at):
+            raise Refused(f"no TLS: {plain} would get the password and everything else in clear; "
+                          "take an address with https, or --without-tls")
+        self.headers = {"Content-Type": "application/octet-stream"}
+        context = ssl.create_default_context()
+        if at:
+            self._sign_in(urllib.parse.unquote(before))
+        if caller.config:
+            self._take_config(caller.config, context)
+        if caller.as_user:
+            if not names.is_user(caller.as_user):
+                raise Refused(f"bad arguments: '{caller.as_user}' isn't the name of a user")
+            self.headers["Room-User"] = caller.as_user
+        if caller.user:
+            self._sign_in(f"{caller.user}:{_ask_password(caller.user)}")
+        if self.log:
+            self._write_log("")
+        self._opener = urllib.request.OpenerDirector()
+        for handler in (urllib.request.ProxyHandler({} if home else None), _AsIs(),
+                        _SocketHandler(at_socket) if at_socket else urllib.request.HTTPHandler(),
+                        urllib.request.HTTPSHandler(context=context)):
+            self._opener.add_handler(handler)
+
+    def _sign_in(self, user: str) -> None:
+        coded = base64.b64encode(user.encode(errors="surrogateescape")).decode()
+        self.headers["Authorization"] = f"Basic {coded}"
+
+    def _take_config(self, path: str, context: ssl.SSLContext) -> None:
+        """Of curl's settings those that say who asks, and whom to believe."""
+        got: dict[str, str] = {}
+        try:
+            with open(path, encoding="utf-8", errors="surrogateescape") as source:
+                text = source.read()
+        except OSError as fault:
+            raise Refused(f"no settings: {path} can't be read: {fault.strerror}") from fault
+        form = re.compile(r'\s*(?:-{0,2})(\w+)\s*[=:\s]\s*("(?:\\.|[^"\\])*"|\S+)\s*')
+        for number, line in enumerate(text.split("\n"), 1):
+            if not line.strip() or line.lstrip().startswith("#"):
+                continue
+            found = form.fullmatch(line)
+            if not found or found[1] not in ("user", "cacert", "cert", "key", "header"):
+                raise Refused(f"bad settings: {path}, line {number} has none of user, cacert, "
+                              "cert, key, header")
+            value = found[2]
+            if value.startswith('"'):
+                value = re.sub(r"\\(.)", r"\1", value[1:-1])
+            if found[1] == "header":
+                name, _, rest = value.partition(":")
+                self.headers[name.strip()] = rest.strip()
+            else:
+                got[found[1]] = value
+        if "user" in got:
+            self._sign_in(got["user"])
+        try:
+            if "cacert" in got:
+                context.load_verify_locations(got["cacert"])
+            if "cert" in got:
+                context.load_cert_chain(got["cert"], got.get("key"))
+        except (OSError, ssl.SSLError) as fault:
+            raise Refused(f"bad settings: {path}: {fault}") from fault
+
+    def ask(self, method: str, word: str, path: bytes, body: bytes | None = None) -> Reply:
+        target = f"/{word}{names.encoded(path)}"
+        asked = urllib.request.Request(self.room + target, data=body, method=method,
+                                       headers=self.headers)
+        try:
+            with self._opener.open(asked, timeout=300) as got:
+                # Only listings are longer than a document.
+                most = 1 << 30 if word == "folder" else 4 << 20
+                reply = Reply(got.status, got.read(most + 1))
+                if len(reply.body) > most:
+                    raise Stop(f"no reply: one of more than {most} bytes; {self.next_step}")
+                elsewhere = got.headers.get("Location", "")
+        except urllib.error.URLError as fault:
+            raise Stop(f"no reply: {fault.reason}; {self.next_step}") from fault
+        except (OSError, http.client.HTTPException) as fault:
+            raise Stop(f"no reply: {fault or type(fault).__name__}; {self.next_step}") from fault
+        if 300 <= reply.status < 400:
+            elsewhere = urllib.parse.urljoin(self.room + target, elsewhere).removesuffix(target)
+            raise Stop(f"status {reply.status}: {self.room} sends on to "
+                       f"{elsewhere or 'another address'}, where nothing is sent: name the room "
+                       "by that address")
+        if reply.status == 401:
+            raise Stop("the password was refused")
+        if reply.status in (502, 503, 504):
+            raise Stop(f"status {reply.status}: the room or the front end is out of order; "
+                       f"{self.next_step}")
+        if reply.status == 500 and self.ends_by_500:
+            raise Stop(f"status 500: the room is out of order; {self.next_step}")
+        return reply
+
+    def is_there(self, path: bytes) -> bool:
+        """It needs no right but those to get there."""
+        return self.ask("GET", "can", path).status == 200
+
+    def report(self, name: bytes, why: str) -> None:
+        """A line on standard error and in the log for what was not transferred."""
+        self.left_out += 1
+        say(f"{names.shown(name)}: {why}")
+        if self.log:
+            self._write_log(f"{time.strftime('%F %T')} {names.shown(name)}: {why}\n")
+
+    def _write_log(self, line: str) -> None:
+        try:
+            with open(self.log, "a", encoding="utf-8", errors="surrogateescape") as log:
+                log.write(report.plain(line))
+        except OSError as fault:
+            raise Refused(f"no log: {self.log} can't be written: {fault.strerror}") from fault
+
+
+def client(word: str, caller: Caller, next_step: str, ends_by_500: bool) -> Client:
+    """Of a room by its address; or, on its own machine, by its name or its settings."""
+    if not word or "://" in word or not os.path.isfile(settings.file_of(word)):
+        return Client(word, caller, next_step, ends_by_500)
+    if caller.user or caller.config:
+        raise Refused(f"bad arguments: nobody asks for a password at the room {word} itself: --as "
+                      "says who asks, or take its address")
+    room = settings.room(word)
+    if not room.address:
+        raise Refused(f"bad settings: PORT in {room.conf} is empty, and the room can't be asked")
+    return Client(room.address, caller, next_step, ends_by_500, room.listens)
+
+
+def _parts(address: str) -> urllib.parse.SplitResult:
+    """Those of an address that may be one."""
+    try:
+        parts = urllib.parse.urlsplit(address)
+        good = names.matches_address(address) and parts.port != 0 and bool(
+            (parts.hostname or "").encode("idna"))
+    except ValueError:
+        good = False
+    if not good:
+        raise Refused("bad arguments: the room is an address such as https://rooms.example, "
+                      f"or the name of one on this machine, not '{address}'")
+    return parts
+
+
+def _without_port(host: str) -> str:
+    return host.partition("]")[0] + "]" if host.startswith("[") else host.partition(":")[0]
+
+
+def _ask_password(user: str) -> str:
+    if sys.stdin.isatty():
+        return getpass.getpass(f"Password of {user}: ")
+    line = sys.stdin.readline()
+    if not line:
+        raise Refused("no password was given")
+    return line.removesuffix("\n")
+
+
+def raise_limits() -> None:
+    """A folder that is open for each level of a path, of which a room has up to 2,048."""
+    import resource
+    _, hard = resource.getrlimit(resource.RLIMIT_NOFILE)
+    resource.setrlimit(resource.RLIMIT_NOFILE, (min(hard, 8192), hard))
+    sys.setrecursionlimit(20000)
+
+
+def argument(text: str) -> bytes:
+    return os.fsencode(text)
+
+
+__all__ = ["Caller", "Client", "Reply", "argument", "client", "raise_limits"]

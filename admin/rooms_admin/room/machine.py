@@ -1,0 +1,207 @@
+"""What a machine has for its rooms beside them: settings, passwords, nginx's files, the
+certificate, what was added to units. A nightly run keeps it as machine.tar beside each backup."""
+import errno
+import hashlib
+import io
+import os
+import re
+import subprocess
+import tarfile
+import time
+from collections.abc import Iterator
+
+from ..cli.report import Refused
+from ..host import safe
+from . import passwords, settings
+
+# Only tests set another root.
+ROOT = os.environ.get("ROOMS_ROOT", "")
+OWN = re.compile(
+    r"etc/rooms/.+|var/lib/rooms-passwords/rooms(-[a-z0-9-]+)?\.(htpasswd|first)"
+    r"|etc/nginx/(rooms(-[a-z0-9-]+)?\.htpasswd|sites-available/rooms(-tls)?"
+    r"|sites-enabled/rooms|snippets/rooms-[a-z]+\.conf|rooms\.d/[^/]+|conf\.d/rooms[^/]*\.conf)"
+    r"|etc/systemd/system/rooms[^/]*\.d/[^/]+\.conf|etc/letsencrypt/.+", re.ASCII | re.DOTALL)
+# What an editor, dpkg, an install or a restore leaves beside them.
+LEFT = re.compile(r"(\.(old|new|swp|dpkg-[a-z]+|rooms-restore)|~)$", re.ASCII)
+
+
+def certificates() -> list[str]:
+    """The certificate and its key, as the settings of the site name them."""
+    found = [settings.value(ROOT + "/etc/rooms/site", name) for name in ("CERTIFICATE", "KEY")]
+    return [one for one in found if one.startswith("/")]
+
+
+def _lacks_site() -> list[str]:
+    site = ROOT + "/etc/rooms/site"
+    try:
+        if os.path.exists(site):
+            settings.lines(site)
+    except Refused as stop:
+        return [f"it lacks the site's certificate: {stop}"]
+    return []
+
+
+def site_certificates() -> list[str]:
+    """The certificate of the site, if that has TLS."""
+    return certificates()[:1]
+
+
+def see_certificate(file: str) -> tuple[int, str]:
+    """0, 1 if it ends soon, 2 if it has ended or can't be used, and the text. One that certbot
+    renews is told of only if that seems to have failed."""
+    days = 7 if file.startswith("/etc/letsencrypt/") else 30
+    asks = ["openssl", "x509", "-in", ROOT + file, "-noout"]
+    ends = printed([*asks, "-enddate"]).strip().partition("=")[2]
+    if not ends:
+        return 2, (f"the certificate {file} can't be used, and nginx doesn't start again without "
+                   "it: docs/operating.md, TLS")
+    if not printed([*asks, "-checkend", "0"]).startswith("Certificate will not"):
+        return 2, f"the certificate {file} has expired, on {ends}: docs/operating.md, Renewal"
+    if not printed([*asks, "-checkend", str(days * 86400)]).startswith("Certificate will not"):
+        return 1, f"the certificate {file} ends on {ends}: docs/operating.md, Renewal"
+    return 0, f"the certificate ends on {ends}"
+
+
+def is_own_link(name: str, target: str) -> bool:
+    """Links that are kept as links lead from ours to ours."""
+    if name == "etc/nginx/sites-enabled/rooms":
+        return re.fullmatch(r"(\.\.|/etc/nginx)/sites-available/rooms(-tls)?", target) is not None
+    if name.startswith("etc/nginx/conf.d/rooms"):
+        return re.fullmatch(r"(\.\.|/etc/nginx)/snippets/rooms-[a-z]+\.conf", target) is not None
+    # Where '..' stands behind a name, that may be another link, and the path isn't what it seems.
+    return (name.startswith("etc/letsencrypt/") and not target.startswith("/")
+            and ".." not in re.sub(r"^(\.\./)*", "", target).split("/")
+            and os.path.normpath(f"/{os.path.dirname(name)}/{target}").startswith(
+                "/etc/letsencrypt/"))
+
+
+def _names() -> Iterator[str]:
+    places = ["etc/rooms", "etc/nginx", "etc/systemd/system", passwords.KEPT[1:]]
+    # A certificate of certbot is renewed by what lies beside it.
+    if any(one.startswith("/etc/letsencrypt/") for one in certificates()):
+        places.append("etc/letsencrypt")
+    for place in places:
+        for at, folders, files in os.walk(f"{ROOT}/{place}"):
+            links = [one for one in folders if os.path.islink(os.path.join(at, one))]
+            for name in files + links:
+                yield os.path.relpath(os.path.join(at, name), f"{ROOT}/")
+
+
+def _packaged() -> set[str]:
+    """Files of the package that nobody has changed: they come with the package."""
+    found = set()
+    said = printed(["dpkg-query", f"--admindir={ROOT}/var/lib/dpkg", "-W", "-f=${Conffiles}\\n",
+                    "rooms"])
+    for line in said.splitlines():
+        words = line.split()
+        if len(words) >= 2:
+            try:
+                with open(ROOT + words[0], "rb") as source:
+                    if hashlib.md5(source.read()).hexdigest() == words[1]:
+                        found.add(words[0][1:])
+            except OSError:
+                pass
+    return found
+
+
+def printed(words: list[str]) -> str:
+    """What a command prints, which is nothing where it can't be run."""
+    try:
+        return subprocess.run(words, stdin=subprocess.DEVNULL, stdout=subprocess.PIPE,
+                              stderr=subprocess.DEVNULL, check=False, timeout=60
+                              ).stdout.decode(errors="replace")
+    except (OSError, subprocess.TimeoutExpired):
+        return ""
+
+
+def _packages() -> str:
+    """Those that are installed."""
+    rows = printed(["dpkg-query", "-W", "-f=${db:Status-Status} package ${Package} ${Version}\\n",
+                    "rooms", "nginx", "apache2-bin", "apache2-utils", "openssl", "at", "certbot",
+                    "python3-ldap", "libapache2-mod-auth-gssapi", "libapache2-mod-auth-openidc"])
+    return "".join(row.removeprefix("installed ") + "\n" for row in rows.splitlines()
+                   if row.startswith("installed "))
+
+
+def _about(version: str) -> str:
+    text = (f"rooms {version}\nhost {os.uname().nodename}\n"
+            f"date {time.strftime('%FT%TZ', time.gmtime())}\n\n"
+            "What follows is to look at: no restore brings it back.\n")
+    text += _packages() + printed(["ip", "-brief", "address"])
+    for line in printed(["atq"]).splitlines():
+        job = line.split("\t")[0]
+        text += f"at {line}\n" + "\n".join(printed(["at", "-c", job]).splitlines()[-2:]) + "\n"
+    return text + printed(["grep", "-rs", "rooms", f"{ROOT}/var/spool/cron/crontabs",
+                           f"{ROOT}/etc/crontab", f"{ROOT}/etc/cron.d", f"{ROOT}/etc/cron.daily",
+                           f"{ROOT}/etc/cron.weekly"])
+
+
+def _enabled() -> list[str]:
+    return sorted({name for at, folders, names in os.walk(f"{ROOT}/etc/systemd/system")
+                   if at.endswith(".wants") for name in names + folders
+                   if name.startswith("rooms")})
+
+
+def save(target: str, version: str, added: list[str] | None = None,
+         more: list[str] | None = None) -> list[str]:
+    """Writes the tar, which was not there; what can't be read is told, and left out. What a restore
+    keeps of before has all files, of the package too, those that it will add by their names, and
+    `more` certificates."""
+    lacks = _lacks_site()
+    wanted = sorted({*certificates(), *(more or [])})
+    with tarfile.open(target, "x", format=tarfile.GNU_FORMAT, errorlevel=2) as tar:
+        ours = {one for one in _names() if OWN.fullmatch(one) and not LEFT.search(one)}
+        if added is None:
+            ours -= _packaged()
+        for name in sorted(ours | {one[1:] for one in wanted if one[1:] not in (added or [])}):
+            if not name.isprintable():
+                lacks.append(f"it lacks {name!r}, whose name isn't plain text")
+                continue
+            try:
+                _add(tar, name)
+            except OSError as fault:
+                if fault.errno in (errno.ENOSPC, errno.EDQUOT, errno.EIO, errno.EFBIG):
+                    raise
+                lacks.append(f"it lacks /{name}, which can't be read")
+        _add_text(tar, "machine/about", _about(version))
+        if added is not None:
+            _add_text(tar, "machine/added", "".join(one + "\n" for one in added))
+        _add_text(tar, "machine/certificates", "".join(one + "\n" for one in wanted))
+        _add_text(tar, "machine/enabled", "".join(one + "\n" for one in _enabled()))
+    with open(target, "rb") as written:
+        os.fsync(written.fileno())
+    return lacks
+
+
+def _add_text(tar: tarfile.TarFile, name: str, text: str) -> None:
+    data = text.encode(errors="replace")
+    member = tarfile.TarInfo(name)
+    member.size = len(data)
+    tar.addfile(member, io.BytesIO(data))
+
+
+def _opened(place: str) -> int:
+    if not passwords.is_kept(place):
+        return os.open(place, os.O_RDONLY | os.O_CLOEXEC)
+    with safe.opened(safe.folder(os.path.dirname(place))) as within:
+        try:
+            return safe.file_below(within, os.path.basename(place))
+        except safe.NoFile as fault:
+            raise OSError(errno.ELOOP, str(fault)) from fault
+
+
+def _add(tar: tarfile.TarFile, name: str) -> None:
+    """The content of a file, even if it is a link here that leads elsewhere, unless somebody else
+    than root could have put that there. All of it is read before anything of it is written, so that
+    the tar stays whole."""
+    place = f"{ROOT}/{name}"
+    member = tarfile.TarInfo(name)
+    if os.path.islink(place) and is_own_link(name, os.readlink(place)):
+        member.type, member.linkname, member.mode = tarfile.SYMTYPE, os.readlink(place), 0o777
+        tar.addfile(member)
+        return
+    with safe.opened(_opened(place)) as number, open(number, "rb", closefd=False) as source:
+        data = source.read()
+        seen = os.fstat(number)
+    member.size, member.mode, member.mtime = len(data), seen.st_mode & 0o777, int(seen.st_mtime)
+    tar.addfile(member, io.BytesIO(data))

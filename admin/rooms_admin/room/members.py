@@ -1,0 +1,72 @@
+"""Members of a room's groups: how they are written, and how the program reads and changes them
+while no server runs."""
+import os
+from collections.abc import Iterator
+
+from ..cli.report import Stop
+from . import program
+from .dump import Pair
+from .settings import Room
+
+
+def of_text(text: str) -> set[Pair]:
+    """Of lines group,user below a line with these words."""
+    rows = (line.split(",") for line in text.splitlines()[1:])
+    return {(row[0], row[1]) for row in rows if len(row) == 2}
+
+
+def as_text(members: set[Pair], head: str = "group,user") -> str:
+    return f"{head}\n" + "".join(f"{group},{user}\n" for group, user in sorted(members))
+
+
+def _done(what: str, done: tuple[int, bytes, str]) -> bytes:
+    status, out, text = done
+    if status != 0:
+        raise Stop(f"{what} failed: {text or out.decode(errors='replace').strip()}")
+    return out
+
+
+def read(room: Room, megabytes: int = 0) -> set[Pair]:
+    done = program.run(room, ["groups-out", room.file], megabytes=megabytes)
+    return of_text(_done("groups-out", done).decode("ascii", "replace"))
+
+
+def write(room: Room, members: set[Pair]) -> str:
+    """The file has no name, so nothing is written into a folder of another user's."""
+    number = os.memfd_create("groups", os.MFD_CLOEXEC)
+    with os.fdopen(number, "wb") as file:
+        file.write(as_text(members).encode())
+        file.flush()
+        os.fchmod(number, 0o644)
+        done = program.run(room, ["groups", room.file, f"/proc/self/fd/{number}"],
+                           pass_fds=(number,))
+        return _done("groups", done).decode(errors="replace").strip()
+
+
+def listed(room: Room) -> bytes:
+    return _done("dump", program.run(room, ["dump", room.file]))
+
+
+def of_user(lists: bytes, user: str) -> Iterator[str]:
+    """The lines of lists that name a user: what they own, and entries, each after its object."""
+    name = user.encode()
+    at, told = b"", False
+    for line in lists.split(b"\n"):
+        words = line.split(b" ")
+        if words[0] in (b"folder", b"document", b"member"):
+            at, told = line, False
+            if name in words[1 if words[0] != b"member" else 2:2 if words[0] != b"member" else 3]:
+                told = True
+                yield _plain(line)
+            continue
+        entry = line.split(b":")
+        if len(entry) == 4 and entry[2] == name and b"g" not in entry[1]:
+            if not told:
+                told = True
+                yield _plain(at)
+            yield _plain(line)
+
+
+def _plain(line: bytes) -> str:
+    text = line.decode("utf-8", "backslashreplace")
+    return "".join(one if one.isprintable() else "?" for one in text)

@@ -1,0 +1,241 @@
+"""Running the program: as whom, and with how much memory."""
+import ctypes
+import functools
+import os
+import pwd
+import resource
+import select
+import signal
+import subprocess
+import tempfile
+from collections.abc import Callable, Iterator
+from contextlib import contextmanager
+
+from ..host import safe
+from ..cli.report import Stop
+from .settings import Room
+
+# What a change needs at most: twice the largest document, and as much for the log.
+CHANGE = 4 << 20
+_ENDS_WITH_PARENT, _GETS_ORPHANS = 1, 36
+# Who runs the program on copies of a room. No server is this user, who has nothing.
+COPIES = "rooms-backup"
+# Where a machine hasn't it: numbers that Debian gives to nobody, nor systemd to a service.
+_SPARE = range(65533, 65519, -1)
+
+
+def _has_account(number: int) -> bool:
+    try:
+        return bool(pwd.getpwuid(number))
+    except KeyError:
+        return False
+
+
+def user_of_copies(room: Room) -> tuple[int, int]:
+    """User and group. Only root has the choice, and a room of root's own is read by root."""
+    if os.geteuid() != 0 or room.owner == 0:
+        return os.geteuid(), os.getegid()
+    try:
+        found = pwd.getpwnam(COPIES)
+        if found.pw_uid not in (0, room.owner):
+            return found.pw_uid, found.pw_gid
+    except KeyError:
+        pass
+    for number in _SPARE:
+        if number != room.owner and not _has_account(number):
+            return number, number
+    raise Stop(f"no user {COPIES}: systemd-sysusers rooms.conf")
+
+
+def as_user_of_copies(room: Room) -> dict[str, object]:
+    """For a child process."""
+    user, group = user_of_copies(room)
+    return {} if user == os.geteuid() else {"user": user, "group": group, "extra_groups": []}
+
+
+def user_of(room: Room) -> dict[str, object]:
+    """For a child process: the room's user, unless this process is theirs."""
+    if os.geteuid() == room.owner:
+        return {}
+    return {"user": room.owner, "group": room.group, "extra_groups": []}
+
+
+def limits(megabytes: int) -> Callable[[], None]:
+    """What a child does before the program: nothing here is shared with other threads. It ends with
+    what called it; 0 is as much memory as there is."""
+    libc = ctypes.CDLL(None)
+
+    def less() -> None:
+        libc.prctl(_ENDS_WITH_PARENT, int(signal.SIGKILL))
+        if not megabytes:
+            return
+        _, hard = resource.getrlimit(resource.RLIMIT_AS)
+        most = megabytes << 20
+        if hard != resource.RLIM_INFINITY:
+            most = min(most, hard)
+        resource.setrlimit(resource.RLIMIT_AS, (most, most))
+        os.nice(10)
+    return less
+
+
+def enough(room: Room, file: str) -> int:
+    """How many megabytes the program may have for what it does with a room's file."""
+    size = sum(os.path.getsize(one) for one in (file, file + "-wal") if os.path.exists(one))
+    return room.memory or 1024 + (8 * size >> 20)
+
+
+@contextmanager
+def _first_to_go() -> Iterator[None]:
+    """Where the machine has no memory left, what is started here ends before anything else. A child
+    that has become another user can't say so of itself."""
+    place = "/proc/self/oom_score_adj"
+    before = ""
+    try:
+        with open(place, encoding="ascii") as score:
+            before = score.read()
+        with open(place, "w", encoding="ascii") as score:
+            score.write("1000")
+    except OSError:
+        pass
+    try:
+        yield
+    finally:
+        try:
+            with open(place, "w", encoding="ascii") as score:
+                score.write(before)
+        except OSError:
+            pass
+
+
+def run(room: Room, words: list[str | bytes], stdin: bytes = b"", as_owner: bool = True,
+        megabytes: int = 0, stdout: int = subprocess.PIPE, pass_fds: tuple[int, ...] = (),
+        cwd: str | None = None) -> tuple[int, bytes, str]:
+    """Status, standard output, and what it said, which is standard error. The folder is entered
+    before the child becomes the room's user, who need not get there by its name."""
+    how = user_of(room) if as_owner else {}
+    before = limits(megabytes)
+    child: subprocess.Popen[bytes]
+    with _first_to_go():
+        child = subprocess.Popen(
+            [room.program, *words], stdin=subprocess.PIPE, stdout=stdout, stderr=subprocess.PIPE,
+            umask=0o077, preexec_fn=before, pass_fds=pass_fds, cwd=cwd,
+            **how)  # type: ignore[call-overload]
+    with child:
+        try:
+            out, err = child.communicate(stdin)
+        except BaseException:
+            child.kill()
+            raise
+    return child.returncode, out or b"", err.decode(errors="backslashreplace").strip()
+
+
+# What a pipe may hold when its writer ends.
+_PIPE = 1 << 20
+
+
+def _pump(child: subprocess.Popen[bytes], take: Callable[[bytes], object]) -> bytes:
+    """What the child writes gets to a file that stays root's: the child has a pipe. Returns what it
+    said. It is over when the child is, whoever else has the pipe by then."""
+    assert child.stdout and child.stderr
+    out, err = child.stdout.fileno(), child.stderr.fileno()
+    said, waits, left = b"", {out, err}, -1
+    with safe.opened(os.pidfd_open(child.pid)) as ended:
+        while waits and left:
+            if left < 0 and select.select([ended], [], [], 0)[0]:
+                left = _PIPE
+            ready = select.select([*waits, *([ended] if left < 0 else [])], [], [],
+                                  None if left < 0 else 0)[0]
+            if left > 0 and not ready:
+                break
+            for one in waits & set(ready):
+                part = os.read(one, 1 << 16)
+                if not part:
+                    waits.discard(one)
+                elif one == err:
+                    said = (said + part)[:_PIPE]
+                else:
+                    take(part)
+                left = max(0, left - len(part)) if left > 0 else left
+    return said
+
+
+def _end_left(user: int) -> None:
+    """What a copy may have had the program leave behind could reach the next one: it is a child of
+    this process by now."""
+    left = user != os.geteuid()
+    while left:
+        left = False
+        with open(f"/proc/self/task/{os.getpid()}/children", encoding="ascii") as source:
+            children = [int(number) for number in source.read().split()]
+        for process in children:
+            if os.stat(f"/proc/{process}").st_uid == user:
+                os.kill(process, signal.SIGKILL)
+                os.waitpid(process, 0)
+                # What it had begun itself is a child now.
+                left = True
+
+
+def on_copy(room: Room, copied: str, words: list[str | bytes], megabytes: int = 0,
+            into: int | None = None, stdin: bytes = b"") -> tuple[int, bytes, str]:
+    """A subcommand on a private copy, as the user of copies: its first word, the copy, the others.
+    The copy's folder is entered before. What is written goes to a file, or is returned."""
+    user, _ = user_of_copies(room)
+    ctypes.CDLL(None).prctl(_GETS_ORPHANS, 1)
+    parts: list[bytes] = []
+    take: Callable[[bytes], object] = parts.append
+    if into is not None:
+        take = functools.partial(safe.write_all, into)
+    with _first_to_go():
+        child = subprocess.Popen(
+            [room.program, words[0], f"./{os.path.basename(copied)}", *words[1:]],
+            stdin=subprocess.PIPE, stdout=subprocess.PIPE, stderr=subprocess.PIPE, umask=0o077,
+            preexec_fn=limits(megabytes), cwd=os.path.dirname(copied),
+            **as_user_of_copies(room))  # type: ignore[call-overload]
+    with child:
+        try:
+            assert child.stdin
+            try:
+                child.stdin.write(stdin)
+                child.stdin.close()
+            except BrokenPipeError:
+                pass
+            said = _pump(child, take)
+        except BaseException:
+            child.kill()
+            raise
+    _end_left(user)
+    return child.returncode, b"".join(parts), said.decode(errors="backslashreplace").strip()
+
+
+def version_of(program: str) -> str:
+    """Of one that root's settings name."""
+    try:
+        done = subprocess.run([program, "--version"], stdin=subprocess.DEVNULL, check=False,
+                              stdout=subprocess.DEVNULL, stderr=subprocess.PIPE)
+    except OSError as fault:
+        raise Stop(f"no program: {program} can't be run: {fault.strerror}") from fault
+    return done.stderr.decode(errors="replace").strip().removeprefix("rooms ")
+
+
+def lacks_space(room: Room) -> str:
+    """What hinders a change of the room, tried by its user beside it: root may write where others
+    can't any more. Empty if nothing does."""
+    reader, writer = os.pipe()
+    child = os.fork()
+    if child == 0:
+        try:
+            if os.geteuid() != room.owner:
+                os.setgroups([])
+                os.setgid(room.group)
+                os.setuid(room.owner)
+            with tempfile.TemporaryFile(dir=room.folder) as trial:
+                os.posix_fallocate(trial.fileno(), 0, CHANGE)
+        except OSError as fault:
+            os.write(writer, (fault.strerror or str(fault)).encode())
+        finally:
+            os._exit(0)
+    os.close(writer)
+    with os.fdopen(reader, "rb") as pipe:
+        text = pipe.read().decode(errors="replace")
+    os.waitpid(child, 0)
+    return text

@@ -1,0 +1,70 @@
+"""How many bytes of a room's file are in use: its pages without the free ones. The log counts. The
+forms are those of SQLite. Nothing is locked or changed; what was read of the log is remembered."""
+import os
+import stat
+import struct
+from dataclasses import dataclass
+
+
+class NoRoom(Exception):
+    """The file isn't there, can't be read or is no database."""
+
+
+@dataclass
+class Used:
+    """What is known of a log: up to where it was read, under which salt, and the newest first page
+    that was committed."""
+    salt: bytes = b""
+    at: int = 32
+    head: bytes = b""
+    newer: bytes = b""
+
+    def look(self, file: str) -> int:
+        base = _open(file)
+        if base is None:
+            raise NoRoom
+        try:
+            head = os.pread(base, 40, 0)
+            # All of a new room may still be in its log, beside an empty file.
+            if os.fstat(base).st_size and head[:16] != b"SQLite format 3\0":
+                raise NoRoom
+        finally:
+            os.close(base)
+        log = _open(file + "-wal")
+        if log is not None:
+            try:
+                head = self._log(log) or head
+            finally:
+                os.close(log)
+        if len(head) < 40:
+            raise NoRoom
+        size, pages, free = struct.unpack(">16xH10xI4xI", head)
+        return (int(pages) - int(free)) * (65536 if size == 1 else int(size))
+
+    def _log(self, log: int) -> bytes:
+        start = os.pread(log, 32, 0)
+        if len(start) < 32 or struct.unpack(">I", start[:4])[0] & ~1 != 0x377f0682:
+            return b""
+        size = int(struct.unpack(">8xI20x", start)[0])
+        if start[16:24] != self.salt:
+            self.salt, self.at, self.head, self.newer = start[16:24], 32, b"", b""
+        while len(frame := os.pread(log, 64, self.at)) == 64 and frame[8:16] == self.salt:
+            page, commit = struct.unpack(">II", frame[:8])
+            if page == 1:
+                self.newer = frame[24:]
+            if commit and self.newer:
+                self.head = self.newer
+            self.at += 24 + size
+        return self.head
+
+
+def _open(file: str) -> int | None:
+    """An ordinary file. What else the folder's user may have put there keeps nobody waiting."""
+    try:
+        number = os.open(file, os.O_RDONLY | os.O_NOFOLLOW | os.O_NONBLOCK | os.O_CLOEXEC)
+    except OSError:
+        return None
+    if stat.S_ISREG(os.fstat(number).st_mode):
+        return number
+    os.close(number)
+    return None

@@ -1,0 +1,84 @@
+"""What goes from the folders of backups: those beyond KEEP, and what a run has left that was cut
+off. Only what a run made there is removed."""
+import glob
+import os
+import shutil
+
+from ..host import locks, safe
+from . import backups, server
+from .backups import Backup
+from .settings import Room
+
+_TEXTS = ("records.csv", "lists.txt", "review.csv", "machine.tar", "verdict", backups.RUN)
+
+
+def remove_unfinished(place: str) -> None:
+    fresh = f"{place}/unfinished"
+    if os.path.isdir(fresh) and not os.path.islink(fresh):
+        shutil.rmtree(fresh)
+    elif os.path.lexists(fresh):
+        os.unlink(fresh)
+
+
+def remove(room: Room, place: str, why: str) -> str:
+    """What hindered that, if anything did."""
+    try:
+        for name in (room.base, room.base + "-wal", *_TEXTS):
+            if os.path.lexists(f"{place}/{name}"):
+                os.unlink(f"{place}/{name}")
+        remove_unfinished(place)
+        os.rmdir(place)
+        return ""
+    except OSError:
+        return f"{place} can't be removed: it {why}"
+
+
+def beyond(before: list[Backup], keep: int, date: str) -> list[Backup]:
+    """The oldest ones, where tonight's is one of those that are kept. One with a later name than
+    another that stays isn't removed: a clock was set back, or somebody has changed its number."""
+    count = max(0, len(before) + 1 - keep)
+    first = min([one.name for one in before[count:]] + [date])
+    return [one for one in before[:count] if one.name < first]
+
+
+def _busy(own: tuple[str, ...]) -> set[str]:
+    """What runs for other rooms are at."""
+    return {(server.Mark(one).read() or ("", ""))[0]
+            for one in glob.glob(f"{glob.escape(locks.RUN)}/rooms-nightly.*") if one not in own}
+
+
+def left(room: Room, at: str, *marks: str) -> list[str]:
+    """What runs have left that were cut off with their machine, or after which nobody looked. One
+    of this room isn't at work: this one has the lock. Others may have theirs in BACKUPS itself, as
+    all had of an earlier version. `at` is what this one has."""
+    told: list[str] = []
+    busy = _busy(marks) | {at}
+    for above in dict.fromkeys((backups.folder(room), room.backups)):
+        try:
+            names = sorted(os.listdir(above))
+        except OSError:
+            continue  # That is told where it is looked for backups.
+        for name in names:
+            place = os.path.join(above, name)
+            if backups.DATED.fullmatch(name.removesuffix(".part")) and place not in busy:
+                try:
+                    told += _left_at(room, place, above == backups.folder(room))
+                except (OSError, safe.NoFile):
+                    continue
+    return [one for one in told if one]
+
+
+def _left_at(room: Room, place: str, is_own: bool) -> list[str]:
+    dated = place.removesuffix(".part")
+    with safe.opened(safe.own_folder(place)) as within:
+        inside = set(os.listdir(within))
+    ours = {room.base, room.base + "-wal", *_TEXTS, "unfinished"}
+    if place != dated and inside <= ours and (room.base in inside or (is_own and not inside)):
+        return [remove(room, place, "has more in it than a copy"),
+                f"interrupted: an earlier run was cut off, and left no backup of "
+                f"{os.path.basename(dated)}; what it had copied is removed"]
+    if place == dated and {room.base, "unfinished"} <= inside:
+        remove_unfinished(place)
+        return [f"interrupted: an earlier run was cut off, and the backup of "
+                f"{os.path.basename(dated)} may lack a part of what is written beside it"]
+    return []

@@ -1,0 +1,1 @@
+"""nginx's site, and who signs in there."""

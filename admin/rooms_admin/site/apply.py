@@ -1,0 +1,142 @@
+"""nginx's one file, its link and the start page brought into line with the settings, or none."""
+import os
+
+from ..host import changes
+from ..room import names, settings
+from . import legacy, password_files, template
+from ..host.changes import Changes
+from ..cli.report import Refused, Stop
+
+_LINK = "/etc/nginx/sites-enabled/rooms"
+_TARGET = "../sites-available/rooms"
+_OURS = {_TARGET, template.FILE, f"{_TARGET}-tls", f"{template.FILE}-tls"}
+_DEFAULT = "/etc/nginx/sites-enabled/default"
+FOLDERS = ("/etc/rooms/nginx/http.d", "/etc/rooms/nginx/server.d")
+
+
+def edited(root: str) -> bool:
+    """Whether somebody has edited the file; one of a version before goes another way."""
+    old = template.read(root + template.FILE)
+    return bool(old) and template.is_edited(old) and not legacy.is_there(root)
+
+
+def refuse_edited(root: str) -> None:
+    if edited(root):
+        raise Refused(f"edited: {template.FILE} was edited, and so it can't follow a change: "
+                      "rooms-admin setup says what to do")
+
+
+def look_at_link(root: str) -> None:
+    link = root + _LINK
+    if os.path.lexists(link) and not (os.path.islink(link) and os.readlink(link) in _OURS):
+        raise Refused(f"another site: {_LINK} isn't a link to {_TARGET}")
+
+
+def folders(made: Changes) -> None:
+    for one in FOLDERS:
+        made.folder(one, 0o755)
+    made.folder(os.path.dirname(template.START), 0o755)
+    if not made.root:
+        # At each start of the machine tmpfiles.d makes it.
+        made.folder("/run/rooms-front", 0o710, group=changes.NGINX)
+
+
+def show(made: Changes) -> bool:
+    """Whether nginx has the site of the settings now. If it refuses that, all is as before."""
+    root = made.root
+    legacy.refuse_lines(root)
+    wanted = template.gather(root)
+    _look_at_files(root, wanted)
+    is_edited = edited(root)
+    if is_edited:
+        password_files.leave(root, wanted)
+    start = template.start_page(wanted).encode(errors="surrogateescape")
+    if is_edited:
+        text = template.render(template.template("site.conf.in"), wanted)
+        if template.read(root + template.FILE) != text and made.does(f"file {template.FILE}.new"):
+            template.keep_edited(root, text)
+        made.file(template.START, start)
+        return template.read(root + template.FILE) == text
+    made.forget()
+    count = made.count
+    if legacy.is_there(root):
+        legacy.keep_old_site(made)
+        legacy.clear(made)
+    gone = password_files.move(made, wanted)
+    text = template.render(template.template("site.conf.in"), wanted)
+    made.file(template.FILE, text.encode(errors="surrogateescape"))
+    changed = made.count > count
+    changed = enable(made) or changed
+    if not root and not made.dry:
+        if refusal := changes.nginx_refuses():
+            made.put_back()
+            raise Stop(f"nginx refuses its files, and they are as before: {refusal}")
+    made.forget()
+    legacy.finish(made)
+    made.file(template.START, start)
+    if changed:
+        made.systemctl("reload", "nginx")
+    password_files.finish(made, gone)
+    password_files.serve(made, wanted)
+    return True
+
+
+def enable(made: Changes) -> bool:
+    """A site that somebody put there stays."""
+    link = made.root + _LINK
+    if os.path.lexists(link) and not (os.path.islink(link) and os.readlink(link) in _OURS):
+        print(f"kept {_LINK}, which isn't a link to {_TARGET}")
+        return False
+    return made.link(_LINK, _TARGET)
+
+
+def _look_at_files(root: str, wanted: template.Site) -> None:
+    needed = ["front.pem", "front.key", "authority.pem"] if any(
+        one.on for one in wanted.rooms) else []
+    if wanted.behind:
+        needed += ["machine.pem", "machine.key", "authority.pem"]
+    for name in needed:
+        if not os.path.exists(f"{root}{template.MACHINES}/{name}"):
+            raise Refused(f"no certificate: {template.MACHINES}/{name} isn't there; "
+                          "docs/machines.md says how it is made")
+
+
+def disable_default(made: Changes, packaged: bool) -> None:
+    """Debian's default site answers on port 80 for each name that no other site has, so that the
+    room wouldn't be found at the machine's address."""
+    if not os.path.lexists(made.root + _DEFAULT):
+        return
+    if packaged:
+        made.remove(_DEFAULT, " is removed, which showed 'Welcome to nginx!'")
+    else:
+        print(f"kept {_DEFAULT}, which was changed or shows other pages: where it answers, the "
+              "room doesn't")
+
+
+def address(root: str) -> str:
+    """Where users find office."""
+    front = settings.front(root + template.SETTINGS)
+    if front.certificate:
+        _, said = changes.run("openssl", "x509", "-in", front.certificate, "-noout", "-ext",
+                              "subjectAltName", check=False)
+        for word in said.replace(",", " ").split():
+            kind, _, name = word.partition(":")
+            if kind in ("DNS", "Address") and name:
+                return f"https://{name}/"
+        return f"https://{front.hosts[0]}/"
+    if os.path.lexists(root + _DEFAULT):
+        return f"http://{front.hosts[0]}/"
+    _, said = changes.run("hostname", "-I", check=False)
+    first = (said.split() or ["localhost"])[0]
+    host = first if names.is_host(first) else f"[{first}]" if ":" in first else "localhost"
+    return f"http://{host}/"
+
+
+def tell(made: Changes) -> None:
+    if made.root or made.dry or not os.path.exists(template.FILE):
+        return
+    where = address("")
+    print(f"Users then open {where}")
+    if where.startswith("http:"):
+        print("Passwords and documents travel unencrypted until: rooms-admin setup --tls "
+              "CERTIFICATE KEY")

@@ -1,0 +1,156 @@
+"""Where the file of a room's passwords is: root's in /etc/nginx, or the keeper's, where users
+change their own. It is moved when the settings change: first there is a copy, then nginx's site
+names it, and then the old one goes. So a run that is cut off leaves a site whose files are
+there."""
+import os
+import time
+from grp import getgrnam
+
+from ..cli.report import Stop
+from ..host import changes, safe
+from ..host.changes import Changes
+from ..room import machine, passwords
+from ..room.settings import Place
+from .template import Site
+
+SOCKET = "rooms-own-password.socket"
+_WANTED = f"/etc/systemd/system/sockets.target.wants/{SOCKET}"
+
+
+def folder(made: Changes) -> None:
+    made.folder(passwords.KEPT, 0o2750, passwords.KEEPER, changes.NGINX)
+
+
+def of(root: str, name: str) -> str:
+    """Of a room that is there."""
+    return passwords.file_of(root, name)
+
+
+def all_of(name: str) -> list[str]:
+    """All that there can be of a room."""
+    kept = passwords.kept_of(name)
+    return [kept, passwords.first_of(kept), passwords.old_of(name)]
+
+
+def missing(root: str, name: str) -> list[str]:
+    """What a run makes, if it makes any."""
+    return [one for one in all_of(name) if not os.path.lexists(root + one)]
+
+
+def put(made: Changes, name: str, keeps: bool) -> None:
+    """nginx's user reads them, and nobody else does but who may change them."""
+    path = of(made.root, name)
+    if os.path.lexists(made.root + path):
+        users = len(passwords.users(made.root + path))
+        if users and name != "office":
+            print(f"kept {path}: its {users} users may sign in")
+        return
+    path = passwords.kept_of(name) if keeps else passwords.old_of(name)
+    _write(made, path, b"", f"file {path}, without a password")
+
+
+def _write(made: Changes, path: str, data: bytes, what: str) -> None:
+    if not made.does(what):
+        return
+    made.remember(path)
+    place = made.root + path
+    os.makedirs(os.path.dirname(place), 0o755, exist_ok=True)
+    if made.root:
+        safe.put_file(place, data, 0o600)
+    elif passwords.is_kept(place):
+        passwords.put_kept(place, data)
+    else:
+        safe.put_file(place, data, 0o640, getgrnam(changes.NGINX).gr_gid)
+
+
+def leave(root: str, wanted: Site) -> None:
+    """nginx's site can't follow, so each file stays where it is."""
+    for one in wanted.rooms:
+        one.keeps = one.keeps and os.path.exists(root + passwords.kept_of(one.name))
+
+
+def move(made: Changes, wanted: Site) -> list[str]:
+    """Copies, and what has to go once nginx knows them."""
+    gone: list[str] = []
+    for one in wanted.shown:
+        kept, old = passwords.kept_of(one.name), passwords.old_of(one.name)
+        if one.keeps and os.path.islink(made.root + old):
+            print(f"kept {old}, which is a link: users of {one.name} can't change their passwords")
+            one.keeps = False
+        source, target = (old, kept) if one.keeps else (kept, old)
+        if os.path.exists(made.root + source) and _copy(made, one, source, target):
+            gone.append(source)
+        if one.own or one.keeps and os.path.lexists(made.root + kept):
+            _keep(made, kept, old in gone)
+        elif passwords.read(made.root + passwords.first_of(kept)):
+            print(f"kept {passwords.first_of(kept)}: whoever has a first password there can't sign "
+                  "in")
+    return gone
+
+
+def _copy(made: Changes, one: Place, source: str, target: str) -> bool:
+    """Whether the source has to go. Of two files that one counts which nginx's site names."""
+    data = passwords.read(made.root + source)
+    if data is None:
+        return False
+    if os.path.exists(made.root + target):
+        if (of(made.root, one.name) == target
+                and passwords.read(made.root + target) != data):
+            print(f"kept {source}, which counts no more: {target} does")
+            return False
+        if of(made.root, one.name) == target:
+            return made.does(f"{source} is removed, which is as {target}") or made.dry
+    _write(made, target, data, f"{source} is now {target}")
+    return True
+
+
+def _keep(made: Changes, kept: str, is_copied: bool) -> None:
+    """The keeper's files are its own, and there is one for first passwords. nginx lets nobody try
+    a password where a file isn't there."""
+    first = passwords.first_of(kept)
+    for path in (first,) if is_copied else (kept, first):
+        if not os.path.lexists(made.root + path):
+            _write(made, path, b"", f"file {path}, without a password")
+    keeper = passwords.keeper()
+    if made.root or made.dry or keeper == -1:
+        return
+    for path in (kept, first):
+        seen = os.lstat(path)
+        if (seen.st_uid, seen.st_gid, seen.st_mode & 0o777) != (
+                keeper, getgrnam(changes.NGINX).gr_gid, 0o640):
+            if made.does(f"{path} belongs to {passwords.KEEPER}"):
+                passwords.put_kept(path, passwords.read(path) or b"")
+
+
+def finish(made: Changes, gone: list[str]) -> None:
+    """nginx's processes of before still read the old ones for a moment."""
+    if made.dry or not gone:
+        return
+    if not made.root:
+        time.sleep(1)
+    for path in gone:
+        try:
+            os.unlink(made.root + path)
+        except OSError as fault:
+            raise Stop(f"{path} can't be removed: {fault.strerror}") from fault
+    _tell_jobs(gone)
+
+
+def _tell_jobs(gone: list[str]) -> None:
+    """Such as those that take a guest's password away at a date."""
+    for line in machine.printed(["atq"]).splitlines():
+        job = line.split("\t")[0]
+        said = machine.printed(["at", "-c", job])
+        for path in gone:
+            if path in said:
+                print(f"the job {job} of at names {path}: type it again, by "
+                      "rooms-admin user remove --password")
+
+
+def serve(made: Changes, wanted: Site) -> None:
+    """The keeper waits where there is a room for it."""
+    if made.root:
+        return
+    is_on = os.path.islink(_WANTED)
+    if any(one.own for one in wanted.shown) != is_on:
+        made.systemctl("disable" if is_on else "enable", "--now", SOCKET)

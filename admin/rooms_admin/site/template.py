@@ -1,0 +1,254 @@
+"""nginx's site: one file, made from one template and the settings of all rooms. The start page."""
+import difflib
+import hashlib
+import html
+import os
+import re
+from dataclasses import dataclass
+
+from ..host import safe
+from ..room import names, settings
+from ..cli.report import Refused, say
+from ..room.settings import Front, Place
+
+SHARE = os.path.dirname(os.path.dirname(os.path.dirname(os.path.realpath(__file__))))
+FILE = "/etc/nginx/sites-available/rooms"
+SETTINGS = "/etc/rooms/site"
+START = "/var/lib/rooms-front/start.html"
+MACHINES = "/etc/rooms/machines"
+KEY = "/etc/rooms/passwords.key"
+# What stands in a file of its own.
+_PART = re.compile(r"^@part ([a-z.-]+)@\n", re.M)
+_SUM = re.compile(r"checksum\n# ([0-9a-f]{64}|@SUM@)\.\n", re.ASCII)
+# What the site itself has at '/': the routes of office, its page, the start page, the check of
+# passwords. No room has such a name.
+TAKEN = {"doc", "folder", "object", "move", "dacl", "sacl", "attr", "can", "me", "people",
+         "mine", "rooms", "password", "door", "drive"}
+
+
+@dataclass
+class Site:
+    front: Front
+    rooms: list[Place]
+    page: str
+
+    @property
+    def shown(self) -> list[Place]:
+        return [one for one in self.rooms if not one.behind]
+
+    @property
+    def behind(self) -> list[Place]:
+        return [one for one in self.rooms if one.behind]
+
+
+def share(root: str) -> str:
+    """Where the package's files are, on the machine whose root that is."""
+    return SHARE.removeprefix(root) if root and SHARE.startswith(root + "/") else SHARE
+
+
+def template(name: str) -> str:
+    """Beside the package once it is installed, and in the repository."""
+    deploy = os.path.join(os.path.dirname(SHARE), "deploy")
+    for place in (SHARE, deploy, *(f"{deploy}/{one}" for one in ("nginx", "systemd"))):
+        try:
+            with open(os.path.join(place, name), encoding="utf-8") as source:
+                return source.read()
+        except FileNotFoundError:
+            pass
+    raise Refused(f"not installed: {SHARE}/{name} isn't there")
+
+
+def gather(root: str) -> Site:
+    """The settings of the site and of all rooms below a root, which is empty but for tests and
+    for whoever makes an image of a machine."""
+    folder = root + "/etc/rooms"
+    rooms = []
+    for name in sorted(os.listdir(folder)):
+        word, kind = os.path.splitext(name)
+        path = os.path.join(folder, name)
+        if kind not in (".conf", ".on") or not names.is_room(word):
+            continue
+        if kind == ".conf" and settings.value(path, "UNIT") not in ("", f"rooms@{word}"):
+            continue
+        if word in TAKEN:
+            raise Refused(f"bad name: {path}: /{word} belongs to the site itself")
+        rooms.append(settings.place(path))
+    front = (settings.front(root + SETTINGS) if os.path.exists(root + SETTINGS)
+             else Front(["rooms.example"], "", ""))
+    found = Site(front, rooms, os.path.join(share(root), "page"))
+    _check(found, folder)
+    return found
+
+
+def _check(site: Site, folder: str) -> None:
+    seen: dict[str, str] = {}
+    for one in site.rooms:
+        if seen.setdefault(one.name, one.on) != one.on:
+            raise Refused(f"two rooms: {folder} has {one.name}.conf and {one.name}.on")
+    hosts = list(site.front.hosts)
+    for one in site.rooms:
+        if one.host in hosts:
+            raise Refused(f"host in use: HOST in {folder}/{one.name}.conf is {one.host}")
+        hosts += [one.host] if one.host else []
+        if one.name == "office" and (one.host or one.behind or one.on):
+            raise Refused("bad settings: office is the site's own room, without HOST and BEHIND")
+        if one.passwords == "session" and not site.front.certificate:
+            raise Refused(f"bad settings: PASSWORDS=session in {folder}/{one.name}.conf needs TLS")
+
+
+def render(text: str, site: Site) -> str:
+    """The text of the file, with its checksum."""
+    front = site.front
+    shown = site.shown
+    files = {how: "|".join("rooms" if one.name == "office" else f"rooms-{one.name}"
+                           for one in shown if _changes(one) == how)
+             for how in ("directory", "session", "own")}
+    while "\n@part " in text:
+        text = _PART.sub(lambda found: template(found[1]), text)
+    text = _sections(text, {
+        "TLS": bool(front.certificate), "PLAIN": not front.certificate,
+        "DIRECTORY": bool(files["directory"]), "SESSION": bool(files["session"]),
+        "PASSWORD_PAGE": not files["session"], "OWN": bool(files["own"]),
+        "MACHINES": any(one.on for one in shown), "BEHIND": bool(site.behind)})
+    for name, rows in _maps(site).items():
+        text = text.replace(f"@{name}@\n", "".join(f"    {row};\n" for row in rows))
+    text = text.replace("@UPSTREAMS@\n", "".join(f"{row}\n" for one in site.rooms
+                                                 for row in _upstreams(one)))
+    for name, value in (
+            ("HOSTS", " ".join(front.hosts + [one.host for one in shown if one.host])),
+            ("CERTIFICATE", front.certificate), ("KEY", front.key), ("PAGE", site.page),
+            ("ERRORS", os.path.join(os.path.dirname(site.page), "errors")),
+            ("DIRECTORY_FILES", files["directory"]), ("SESSION_FILES", files["session"]),
+            ("OWN_FILES", files["own"])):
+        text = text.replace(f"@{name}@", value)
+    return text.replace("@SUM@", _sum(text), 1)
+
+
+def _changes(room: Place) -> str:
+    """How passwords of a room change: 'own' by its users, 'file' by root alone, or elsewhere."""
+    return "own" if room.own else room.passwords
+
+
+def _sections(text: str, wanted: dict[str, bool]) -> str:
+    """What stands between '@if NAME@' and '@end@' is there or not; '@again NAME@' is what stood
+    between '@keep NAME@' and '@end@'."""
+    out: list[str] = []
+    kept: dict[str, list[str]] = {}
+    into = [out]
+    for row in text.split("\n"):
+        word, _, name = row.strip("@").partition(" ")
+        if row.startswith("@if "):
+            into = [out] if wanted[name] else []
+        elif row.startswith("@keep "):
+            into = [out, kept.setdefault(name, [])]
+        elif row == "@end@":
+            into = [out]
+        elif row.startswith("@again "):
+            for one in into:
+                one += kept[name]
+        else:
+            for one in into:
+                one.append(row)
+    return "\n".join(out)
+
+
+def _maps(site: Site) -> dict[str, list[str]]:
+    """The lines of each map."""
+    hosts = [one for one in site.shown if one.host]
+    paths = [one for one in site.shown if one.name != "office" and not one.host]
+    return {
+        "ROOMS": [f'"~^{re.escape(one.host)} " {one.name}' for one in hosts]
+        + [f'"~^[^ ]+ /{one.name}(/|$)" {one.name}' for one in paths],
+        "PLACES": [f'"~^{re.escape(one.host)} " 0' for one in hosts]
+        + [f'"~^[^ ]+ /{one.name}(/|$)" {2 if one.on else 1}' for one in paths],
+        "SCHEMES": [f"{one.name} https" for one in site.shown if one.on],
+        "THERE": [f"{one.name} {one.on}" for one in site.shown if one.on],
+        "FLAGS": [f"{one.name} {one.flag}" for one in site.shown if not one.on],
+        # On another machine the same address leads to both: that one knows which it is.
+        "DOORS": [f"{one.name} {'room' if one.on else 'door'}_{one.name}" for one in site.shown
+                  if one.on or one.door],
+        "DRIVES": [f"{one.name} {'room' if one.on else 'door'}_{one.name}" for one in site.shown
+                   if one.on or one.drive],
+        "SESSIONS": [f"{one.name} 1" for one in site.shown if one.passwords == "session"],
+        "CHANGES": [f'"{one.name} {f"/{one.name}" if one.on else ""}/password" {_changes(one)}'
+                    for one in site.shown],
+        "BEHIND": [f'"~^/{one.name}(/|$)" {one.name}' for one in site.behind],
+        "BEHIND_FLAGS": [f"{one.name} {one.flag}" for one in site.behind],
+        "BEHIND_DOORS": [f"{one.name} door_{one.name}" for one in site.behind if one.door],
+        "BEHIND_DRIVES": [f"{one.name} door_{one.name}" for one in site.behind if one.drive],
+    }
+
+
+def _upstreams(room: Place) -> list[str]:
+    """Of its server, and of its door if that is here."""
+    if room.on:
+        # One that couldn't be reached is asked again by the next request.
+        where = f"{room.on}:{room.port} max_fails=0"
+    elif room.socket:
+        where = f"unix:/run/rooms/{room.name}/socket"
+    else:
+        where = f"127.0.0.1:{room.port}"
+    rows = [f"upstream room_{room.name} {{ server {where}; }}"]
+    if room.door:
+        rows.append(f"upstream door_{room.name} {{ server unix:/run/rooms-door/{room.name}/socket; "
+                    "}")
+    return rows
+
+
+def _sum(text: str) -> str:
+    return hashlib.sha256(_SUM.sub("checksum\n# @SUM@.\n", text, count=1).encode(
+        errors="surrogateescape")).hexdigest()
+
+
+def is_edited(text: str) -> bool:
+    found = _SUM.search(text)
+    return found is None or found[1] != _sum(text)
+
+
+def read(place: str) -> str:
+    try:
+        with open(place, encoding="utf-8", errors="surrogateescape") as source:
+            return source.read()
+    except FileNotFoundError:
+        return ""
+
+
+def keep_edited(root: str, new: str) -> None:
+    """A file that somebody edited stays, and what would be new is beside it."""
+    old = read(root + FILE)
+    safe.put_file(root + FILE + ".new", new.encode(errors="surrogateescape"), 0o644)
+    say(f"kept {FILE}, which was edited: what it should be is {FILE}.new. Move your lines to "
+        "/etc/rooms/nginx/server.d, or http.d, and put that one in its place")
+    for line in list(difflib.unified_diff(old.splitlines(), new.splitlines(), FILE,
+                                          FILE + ".new", lineterm="", n=0))[:20]:
+        say(line)
+
+
+def start_page(site: Site) -> str:
+    """The rooms that have a title, and where they are."""
+    rows = []
+    for one in sorted(site.shown, key=lambda room: (bool(room.on), room.name)):
+        place = f"//{one.host}/" if one.host else "/" if one.name == "office" else f"/{one.name}/"
+        if one.title:
+            rows.append(f'        <li><a href="{place}">{html.escape(one.title, quote=False)}</a>'
+                        "</li>\n")
+    return f"""<!doctype html>
+<html lang="en">
+<head>
+  <meta charset="utf-8">
+  <meta name="viewport" content="width=device-width, initial-scale=1">
+  <meta name="color-scheme" content="light dark">
+  <title>Rooms</title>
+  <link rel="stylesheet" href="style.css">
+</head>
+<body>
+  <main id="main">
+    <div class="sheet padded">
+      <h1>Rooms</h1>
+      <ul>
+{"".join(rows)}      </ul>
+    </div>
+  </main>
+</body>
+</html>
+"""

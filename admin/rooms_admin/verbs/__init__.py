@@ -1,0 +1,1 @@
+"""The verbs of rooms-admin, a module each."""

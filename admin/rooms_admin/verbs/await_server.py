@@ -1,0 +1,79 @@
+"""Waits until a room's server answers, whatever it says: its unit has started from then on. Its
+socket, if it has one, is opened to nginx then. What unit and room are given comes from the unit."""
+import argparse
+import grp
+import http.client
+import os
+import stat
+import time
+
+from ..host import locks, safe
+from ..host.at_socket import AtSocket
+from ..room import names
+from ..cli.report import Refused, Stop
+
+USAGE = "await ROOM"
+FRONT = "www-data"
+
+
+def _asked(connection: http.client.HTTPConnection) -> tuple[int, bytes] | None:
+    """An empty question, which changes nothing and needs no right."""
+    try:
+        connection.request("GET", "/can/?", headers={"Connection": "close"})
+        got = connection.getresponse()
+        return got.status, got.read(1 << 16)
+    except (OSError, http.client.HTTPException):
+        return None
+    finally:
+        connection.close()
+
+
+def _answer(port: str, path: str) -> tuple[int, bytes] | None:
+    if os.path.exists(path):
+        return _asked(AtSocket(path, 60))
+    return _asked(http.client.HTTPConnection("127.0.0.1", int(port), timeout=60)) if port else None
+
+
+def answers(port: str, path: str) -> bool:
+    return _answer(port, path) is not None
+
+
+def is_well(port: str, path: str) -> bool:
+    return _answer(port, path) == (200, b"{}")
+
+
+def open_to_front(folder: str, group: int) -> None:
+    """nginx may pass through the folder, and write to the socket in it. The folder is the server's:
+    what is changed is what was looked at."""
+    with safe.opened(os.open(folder, os.O_RDONLY | os.O_DIRECTORY | os.O_NOFOLLOW)) as at:
+        os.fchown(at, -1, group)
+        try:
+            handle = os.open("socket", os.O_PATH | os.O_NOFOLLOW, dir_fd=at)
+        except FileNotFoundError:
+            return
+        with safe.opened(handle):
+            if stat.S_ISSOCK(os.fstat(handle).st_mode):
+                os.chmod(f"/proc/self/fd/{handle}", 0o666)
+
+
+def run(given: argparse.Namespace) -> int:
+    if len(given.words) != 1 or not names.is_room(given.words[0]):
+        raise Refused(f"bad arguments: rooms-admin {USAGE}")
+    port = os.environ.get("PORT", "")
+    if port and not (port.isascii() and port.isdigit() and 0 < int(port) < 65536):
+        raise Refused(f"bad settings: PORT isn't a port: '{port}'")
+    if os.environ.get("SOCKET", "") == "yes":
+        # Whatever else listens at the port isn't this server.
+        port = ""
+    folder = os.path.join(locks.RUN, "rooms", given.words[0])
+    # systemd waits for this process where the server has ended, and only then starts it again.
+    server = os.environ.get("MAINPID", "")
+    while not answers(port, os.path.join(folder, "socket")):
+        if server.isdigit() and not os.path.exists(f"/proc/{server}"):
+            raise Stop(f"the server of {given.words[0]} has ended")
+        time.sleep(0.05)
+    try:
+        open_to_front(folder, grp.getgrnam(FRONT).gr_gid)
+    except (FileNotFoundError, KeyError):
+        pass  # A server that has no folder, or a machine that has no nginx.
+    return 0

@@ -1,0 +1,387 @@
+"""The nightly run: holds the server while it copies the room, for 30 s at most, and lets it go on
+whatever happened. Then it verifies the copy, and lists and reviews what is in it, while the server
+runs. A server that can't be held is stopped for the copy, and started again; one that doesn't run
+isn't started.
+
+BACKUPS/NAME/DATE gets the room's two files; run, with the number of the run, by which the newest
+backup is known; records.csv, lists.txt, review.csv and, if root runs it, machine.tar. One of these
+four that can't be made whole is missing, which is a failure, and the two files are a backup even
+so. DATE.unsound is no backup. DATE.part is a copy that is being made; one that a run left that was
+cut off is removed by the next one, which tells it. Backups beyond KEEP go, the oldest first, unless
+a record of the copy can't be read, or something there isn't as a run leaves it.
+
+It also tells, with status 1, that the server doesn't answer, that the room is nearly full, that its
+disk takes no change, that the clock was set back, and that the site's certificate has ended. What
+failed is sent to MAIL, or to the system's log."""
+import argparse
+import glob
+import os
+import time
+from contextlib import ExitStack
+
+from ..cli import report
+from ..host import locks, safe
+from ..room import (backups, copying, health, machine, names, private_server, program, server,
+                    settings, tidying)
+from . import expire, people, places
+from ..room.backups import Found
+from ..room.http_client import Caller, Client
+from ..cli.report import Interrupted, Refused, Stop, say
+from ..room.settings import Room
+
+USAGE = "backup [--after] [--room ROOM | CONF]"
+
+
+class Night:
+    def __init__(self, room: Room) -> None:
+        self.room = room
+        self.failures: list[str] = []
+        self.mark = server.Mark(os.path.join(locks.RUN, f"rooms-nightly.{room.unit}"))
+        # No unit's name ends so.
+        self.note = server.Mark(self.mark.place + "~")
+        self.above = backups.folder(room)
+        self.date = self.part = self.kept = ""
+        # The private copy that the program works on, and how much memory it may have for that.
+        self.copied = ""
+        self.memory = 0
+        self.unread = False
+        self.starts = True
+
+    def failed(self, text: str) -> None:
+        if text:
+            self.failures.append(text)
+            say(text)
+
+    def run(self) -> int:
+        copying.find_backups(self.room)
+        try:
+            try:
+                self.make_place()
+                with ExitStack() as owned:
+                    self.back_up(owned)
+            except Interrupted:
+                raise
+            except (Stop, OSError) as fault:
+                self.failed(str(fault))
+            # Once more, if that failed.
+            self.bring_back_later()
+            # Nothing that is left of before keeps a copy from being made.
+            for text in tidying.left(self.room, self.part, self.mark.place, self.note.place):
+                self.failed(text)
+            self.look()
+            self.for_users()
+        except Interrupted:
+            self.failed(f"interrupted: there is no backup of {self.date}" if self.part else
+                        f"interrupted: the backup of {self.date} may lack a part of what is "
+                        "written beside it")
+        return self.finish()
+
+    def make_place(self) -> None:
+        """The room's own folder, and in it one that only this run has."""
+        copying.close_backups(self.room)
+        try:
+            backups.make_folder(self.room)
+        except OSError as fault:
+            raise Stop(f"no folder: {self.above} can't be made, so nothing was copied: "
+                       f"{fault.strerror}") from fault
+        while True:
+            # Only one run a second can have this name.
+            self.date = time.strftime("%F.%H%M%S")
+            if not any(glob.glob(glob.escape(os.path.join(one, self.date)) + "*")
+                       for one in (self.above, self.room.backups)):
+                break
+            time.sleep(1)
+        self.part = os.path.join(self.above, self.date + ".part")
+
+    def back_up(self, owned: ExitStack) -> None:
+        try:
+            self.note.write(self.part, "")
+        except Stop:
+            pass  # Without a note, only a copy that is cut off stays.
+        try:
+            backups.make_closed(self.part)
+        except OSError as fault:
+            raise Stop(f"no folder: {self.part} can't be made, so nothing was copied: "
+                       f"{fault.strerror}") from fault
+        self.copy_room()
+        before = backups.look(self.room)
+        self.keep_copy(owned, 1 + max((one.number for one in before.backups), default=0))
+        self.tell_before(before)
+        self.write_text("records.csv", "audit", [])
+        self.write_text("lists.txt", "dump", [])
+        self.write_text("review.csv", "review", ["/"])
+        self.write_machine()
+        self.remove_old(before)
+
+    def tell_before(self, before: Found) -> None:
+        for one in before.backups[-1:]:
+            if one.name > self.date:
+                self.failed(f"the clock was set back: the backup {one.name} was made before the "
+                            f"one of {self.date}, which is the newest")
+        in_backups = [one for one in before.backups if one.above != self.above]
+        if in_backups:
+            say(f"{len(in_backups)} backups of an earlier version are in {self.room.backups} "
+                f"itself: they count, and go by KEEP; new ones are in {self.above}")
+
+    def copy_room(self) -> None:
+        """Only for this nobody else may be at work with the room: all that comes later may wait
+        for the disk of backups."""
+        with locks.lock(self.room.unit, 10):
+            copied = self.copy_alone()
+        copying.keep(self.room, copied, self.part)
+
+    def copy_alone(self) -> copying.Copy:
+        stopped = False
+        if self.mark.read():
+            # A run that was killed has left it, and nothing has looked after it.
+            stopped = not self.mark.let_go()
+        elif server.state(self.room) == "inactive":
+            say(f"{self.room.unit} isn't running, and is not started")
+        copied = None
+        if not stopped:
+            try:
+                copied = copying.held(self.room, self.mark, self.part)
+                self.bring_back()
+            except copying.NotHeld:
+                pass
+        if copied is None:
+            # One that is being restarted over and over, or whose unit runs something else.
+            self.mark.write(self.part, "stopped")
+            with server.guarded(self.bring_back):
+                if server.systemctl("stop", self.room.unit)[0] != 0:
+                    raise Stop(f"{self.room.unit} doesn't stop")
+                copied = copying.copy_stopped(self.room, self.part)
+        return copied
+
+    def bring_back_later(self) -> None:
+        """Whoever else is at work with the room by now may have stopped its server."""
+        if not self.mark.read():
+            return
+        self.mark.let_go()
+        try:
+            with locks.lock(self.room.unit, 60):
+                self.bring_back()
+        except locks.Busy as busy:
+            self.failed(str(busy))
+
+    def bring_back(self) -> None:
+        """Starts the server that was stopped, or lets it go."""
+        if not self.mark.read():
+            return
+        if not self.mark.let_go():
+            if server.systemctl("start", self.room.unit)[0] != 0:
+                self.failed(f"{self.room.unit} doesn't start: systemctl status {self.room.unit}")
+                self.starts = False
+                return
+            # One that finds a fault ends at once, and systemd keeps restarting it.
+            if server.state(self.room) != "active":
+                self.failed(f"{self.room.unit} doesn't stay: systemctl status {self.room.unit}")
+        os.rename(self.mark.place, self.note.place)
+
+    def on_copy(self, word: str, rest: list[str], into: int | None = None
+                ) -> tuple[int, bytes, str]:
+        """No run of the program on the copy gets more memory than the settings say."""
+        if not self.memory:
+            self.memory = program.enough(self.room, self.copied)
+        status, out, text = program.on_copy(self.room, self.copied, [word, *rest], self.memory,
+                                            into)
+        if "fault: memory" in text:
+            text += f", with MEMORY={self.memory}"
+        return status, out, text
+
+    def keep_copy(self, owned: ExitStack, number: int) -> None:
+        """The copy gets its name once verify has found another one of it sound: it is a backup from
+        then on. Nobody but root has ever had anything in it."""
+        self.copied = owned.enter_context(private_server.private_copy(self.room, self.part))
+        status, out, text = self.on_copy("verify", [])
+        place = os.path.join(self.above, self.date)
+        try:
+            with safe.opened(safe.own_folder(self.part)) as within:
+                if status == 0:
+                    safe.new_file(within, backups.RUN, f"number {number}\n".encode(), 0o600)
+                os.fsync(within)
+            os.rename(self.part, place if status == 0 else place + ".unsound")
+        except (OSError, safe.NoFile) as fault:
+            raise Stop(f"the copy can't be named {place}: {safe.why(fault)}") from fault
+        self.part = ""
+        if status != 0:
+            raise Stop(f"verify of the copy failed, status {status}: "
+                       f"{text or out.decode(errors='replace').strip()}; it stays as "
+                       f"{place}.unsound, which is no backup")
+        self.kept = place
+        with safe.opened(safe.folder(self.above)) as above:
+            os.fsync(above)
+
+    def remove_old(self, before: Found) -> None:
+        """verify doesn't look at records. Where one of tonight's can't be read, an older backup may
+        be the last that has it whole."""
+        jumps = backups.jump(before)
+        for text in [*before.wrong, *([jumps] if jumps else [])]:
+            self.failed(f"no older backup is removed: {text}")
+        if self.unread and self.room.keep != 0:
+            self.failed("a record in the copy cannot be read, so no older backup is removed: one "
+                        "may have it whole")
+        if self.room.keep == 0 or before.wrong or jumps or self.unread:
+            return
+        for one in tidying.beyond(before.backups, self.room.keep, self.date):
+            self.failed(tidying.remove(self.room, one.place, "has more in it than a backup"))
+
+    def write_text(self, name: str, word: str, rest: list[str]) -> None:
+        """A text that could not be made whole is not there."""
+        fresh = f"{self.kept}/unfinished"
+        try:
+            out = os.open(fresh, os.O_RDWR | os.O_CREAT | os.O_EXCL | os.O_CLOEXEC, 0o600)
+        except OSError as fault:
+            self.failed(f"{fresh} can't be written: {fault.strerror}; the backup {self.kept} is "
+                        f"sound, but it has no {name}")
+            return
+        try:
+            status, _, text = self.on_copy(word, rest, out)
+            if status == 0:
+                os.fsync(out)
+                os.rename(fresh, f"{self.kept}/{name}")
+                return
+            text = text or os.pread(out, 300, 0).decode(errors="replace").strip()
+        except OSError as fault:
+            status, text = 1, f"{self.kept}/{name} can't be written: {fault.strerror}"
+        finally:
+            os.close(out)
+        self.unread |= word == "audit" and "fault: database" in text
+        tidying.remove_unfinished(self.kept)
+        self.failed(f"{word} of the copy failed, status {status}: {text}; the backup {self.kept} "
+                    f"is sound, but it has no {name}")
+
+    def write_machine(self) -> None:
+        if os.geteuid() != 0:
+            return
+        fresh = f"{self.kept}/unfinished"
+        try:
+            lacks = machine.save(fresh, program.version_of(self.room.program))
+            os.rename(fresh, f"{self.kept}/machine.tar")
+        except OSError as fault:
+            tidying.remove_unfinished(self.kept)
+            self.failed(f"the backup {self.kept} is sound, but it has no machine.tar: {fault}")
+            return
+        for one in lacks:
+            self.failed(f"the backup {self.kept} is sound, and of its machine.tar: {one}")
+
+    def look(self) -> None:
+        self.failed(health.disk(self.room))
+        if self.starts:
+            self.failed(health.answer(self.room))
+            self.failed(health.port(self.room))
+        self.failed(health.size(self.room))
+        text, over = health.certificate(self.room)
+        if over:
+            self.failed(text)
+        elif text:
+            say(text)
+            report.send(self.room.mail, f"the certificate of rooms on {os.uname().nodename}",
+                        [text], "warning")
+        if self.room.review and self.kept and os.path.exists(f"{self.kept}/review.csv"):
+            self.put_review()
+
+    def put_review(self) -> None:
+        """As a client on this machine does. A server has to read its file before it listens."""
+        room = self.room
+        document = f"{room.review.rstrip('/')}/{self.date[:10]}-review.csv"
+        if server.state(room) != "active":
+            say(f"no server runs: {document} isn't put into the room")
+            return
+        with safe.own_file(f"{self.kept}/review.csv") as source:
+            body = source.read()
+        ends = time.monotonic() + 60
+        while True:
+            try:
+                client = Client(room.address, Caller(as_user=room.reviewer), "", False,
+                                room.listens)
+                got = client.ask("PUT", "doc", os.fsencode(document), body)
+                text = f"{got.body.decode(errors='replace')} {got.status}"
+                if got.status in (201, 204):
+                    return
+                break
+            except Stop as stop:
+                text = str(stop)
+                if isinstance(stop, Interrupted):
+                    raise
+                if time.monotonic() > ends:
+                    break
+                time.sleep(1)
+        self.failed(f"{names.shown(os.fsencode(document))} isn't put into the room: {text}; it is "
+                    f"{self.kept}/review.csv")
+
+    def for_users(self) -> None:
+        """What the web interface shows beside the room, and accesses that have an end."""
+        for name, write in (("lists.txt", people.nightly), ("review.csv", places.nightly),
+                            ("lists.txt", expire.nightly)):
+            source = f"{self.kept}/{name}"
+            if not self.kept or not os.path.exists(source):
+                continue
+            try:
+                with locks.lock(self.room.unit, 60):
+                    for one in write(self.room, source):
+                        self.failed(one)
+            except Interrupted:
+                raise
+            except (OSError, Stop) as fault:
+                self.failed(str(fault))
+
+    def finish(self) -> int:
+        """Somebody is told before the disk of backups is asked for anything, which may hang."""
+        report.ignore_signals()
+        self.bring_back_later()
+        before = len(self.failures)
+        if before:
+            tell(self.room, self.failures)
+        self.clean()
+        if len(self.failures) > before:
+            tell(self.room, self.failures[before:])
+        return 1 if self.failures else 0
+
+    def clean(self) -> None:
+        if self.part and os.path.isdir(self.part):
+            self.failed(tidying.remove(self.room, self.part, "has more in it than a copy"))
+        elif self.part and os.path.isdir(self.part.removesuffix(".part")):
+            # A run that was cut off had named it already.
+            self.kept = self.part.removesuffix(".part")
+        if self.kept:
+            tidying.remove_unfinished(self.kept)
+        if os.path.exists(self.note.place):
+            os.unlink(self.note.place)
+
+    def after(self) -> int:
+        """After a run that was cut off. What a run owes that is at work is its own: it has the
+        lock."""
+        owed, noted = self.mark.read(), self.note.read()
+        if owed:
+            self.part = owed[0]
+            self.failed(f"interrupted: a run that had held or stopped {self.room.unit} was cut "
+                        f"off; {self.room.unit} goes on")
+        elif noted:
+            self.part = noted[0]
+            self.failed("interrupted: a run was cut off, and left no backup or one that may lack a "
+                        "part of what is written beside it")
+        else:
+            return 0
+        return self.finish()
+
+
+def tell(room: Room | None, failures: list[str]) -> None:
+    name = room.unit if room else "rooms"
+    report.send(room.mail if room else "",
+                f"{name} on {os.uname().nodename}: the nightly run failed", failures)
+
+
+def run(given: argparse.Namespace) -> int:
+    os.umask(0o077)
+    os.chdir("/")
+    room = None
+    try:
+        room = settings.named(given.words, USAGE)
+        # One run at a time. What a run owes waits for whoever is at work, which is root.
+        with locks.lock(f"{room.unit}.nightly", 600 if given.after else 10):
+            return Night(room).after() if given.after else Night(room).run()
+    except Refused as stop:
+        # A run that can't begin is reported like one that fails.
+        tell(room, [str(stop)])
+        raise

@@ -1,0 +1,204 @@
+"""Writes a folder of a room, or all of it, as the new file or folder DIR. Beside each object NAME
+the file NAME.acl has its kind, owner and group, and its two lists. What can't be read or written is
+printed, with the room's reply. Nothing is renamed, and nothing that is there is written over. A
+name that no room can have never gets to the disk. Nobody else may read what is written, unless
+--umask says so.
+
+ROOM is an address such as https://rooms.example, or for root on its machine the room's name, such
+as office. With --backup it is a folder with a room's files, the name of one in BACKUPS, or latest;
+the lists are those of that night."""
+import argparse
+import json
+import os
+
+from ..cli import report
+from ..host import safe
+from ..room import backups, names, private_server, program, settings
+from ..room.http_client import Caller, Client, argument, client, raise_limits
+from ..cli.report import Refused, Stop
+
+USAGE = ("export [--no-lists] [--umask UMASK] [--user NAME] [--as NAME] [--config FILE] "
+         "[--without-tls] [--log FILE] ROOM PATH DIR, or export --backup "
+         "[--room ROOM | --conf CONF] [--no-lists] [--umask UMASK] [--log FILE] BACKUP PATH DIR")
+NEXT = "remove what was written, and try again"
+
+
+class Export:
+    def __init__(self, client: Client, lists: bool,
+                 acls: dict[bytes, bytes] | None = None) -> None:
+        self.client = client
+        self.lists = lists
+        # Out of a backup they are those of that night, and not those by which it is read.
+        self.acls = acls
+        self.folders = 0
+        self.documents = 0
+
+    def object(self, kind: str, path: bytes, within: int, name: bytes) -> None:
+        report.progress(os.fsdecode(path))
+        if kind == "document":
+            got = self.client.ask("GET", "doc", path)
+            if got.status != 200:
+                self.client.report(path, f"not read: {got.text()}")
+            elif self.place(path, within, name, got.body):
+                self.documents += 1
+            return
+        try:
+            os.mkdir(name, dir_fd=within)
+            at = safe.folder_below(within, name)
+        except OSError as fault:
+            self.client.report(path, f"not written, nor what is in it: {safe.reason(fault)}")
+            return
+        self.folders += 1
+        with safe.opened(at):
+            self.folder(path, at)
+
+    def folder(self, path: bytes, at: int) -> None:
+        children = self.children(path)
+        base = path.rstrip(b"/")
+        for kind, name in children:
+            self.object(kind, base + b"/" + name, at, name)
+        # After all documents: where a document has the name of a list, the document is written.
+        for kind, name in children if self.lists else []:
+            self.acl(kind, base + b"/" + name, at, name + b".acl")
+
+    def children(self, path: bytes) -> list[tuple[str, bytes]]:
+        got = self.client.ask("GET", "folder", path)
+        if got.status != 200:
+            self.client.report(path, f"not listed: {got.text()}")
+            return []
+        found = []
+        try:
+            rows = json.loads(got.body.decode("utf-8", "surrogateescape"))
+            for row in rows:
+                kind, name = row["kind"], row["name"].encode("utf-8", "surrogateescape")
+                if kind in ("folder", "document") and names.is_object(name):
+                    found.append((kind, name))
+                else:
+                    self.client.report(path + b"/" + name, "left out: no room has such a name")
+        except (ValueError, TypeError, KeyError, AttributeError) as fault:
+            self.client.report(path, f"not listed: the reply is no listing: {fault}")
+        return found
+
+    def place(self, path: bytes, within: int, name: bytes, data: bytes,
+              what: str = "not written") -> bool:
+        """A name is never taken twice, and a file that can't be written to its end is removed."""
+        try:
+            safe.new_file(within, name, data)
+            return True
+        except OSError as fault:
+            self.client.report(path, f"{what}: {safe.reason(fault)}")
+            return False
+
+    def acl(self, kind: str, path: bytes, within: int, name: bytes) -> None:
+        if self.acls is not None:
+            self.place(path, within, name, self.acls.get(path, b""), "its lists aren't written")
+            return
+        got = self.client.ask("GET", "attr", path)
+        if got.status != 200:
+            self.client.report(path, f"its owners aren't read: {got.text()}")
+            return
+        try:
+            row = json.loads(got.body)
+            text = f"{kind} {row['owner']} {row['group']}\n".encode()
+        except (ValueError, TypeError, KeyError) as fault:
+            self.client.report(path, f"its owners aren't read: {fault}")
+            return
+        for which in ("dacl", "sacl"):
+            got = self.client.ask("GET", which, path)
+            if got.status != 200:
+                self.client.report(path, f"its lists aren't read: {got.text()}")
+                return
+            text += which.encode() + b"\n" + got.body.rstrip(b"\n") + b"\n"
+        self.place(path, within, name, text, "its lists aren't written")
+
+
+def run(given: argparse.Namespace, caller: Caller) -> int:
+    if len(given.words) != 3:
+        raise Refused(f"bad arguments: rooms-admin {USAGE}")
+    if not settings.matches(r"0?[0-7]{3}", given.umask or "077"):
+        raise Refused(f"bad arguments: --umask is three digits such as 022, not '{given.umask}'")
+    os.umask(int(given.umask or "077", 8))
+    address, path, into = given.words[0], argument(given.words[1]), argument(given.words[2])
+    into = into.rstrip(b"/")
+    if not into:
+        raise Refused("bad arguments: DIR is the root of the file system")
+    if os.path.lexists(into):
+        raise Refused(f"there is something at {os.fsdecode(into)}: name a folder that isn't there")
+    if not names.is_path(path):
+        raise Refused("bad arguments: a path in the room begins with a slash and doesn't end with "
+                      f"one, unlike '{given.words[1]}'")
+    if not given.backup:
+        return export(client(address, caller, NEXT, False), path, into, not given.no_lists, None)
+    room = settings.room(given.conf)
+    with private_server.private_copy(room, backups.find(room, address)) as copied:
+        acls, closed = open_all(room, copied, path)
+        with private_server.served(room, copied, 1000000):
+            here = f"http://127.0.0.1:{private_server.PORT}"
+            asks = Client(here, Caller(as_user=private_server.USER, log=caller.log), NEXT, False)
+            for one, why in closed:
+                asks.report(one, f"its list can't be opened, nor what inherits it: {why}")
+            return export(asks, path, into, not given.no_lists, acls)
+
+
+def open_all(room: settings.Room, copied: str, path: bytes
+             ) -> tuple[dict[bytes, bytes], list[tuple[bytes, str]]]:
+    """The lists as they are, by path. Then the root lets one name read all, and what has a list of
+    its own on the way or below inherits that too; those where that can't be, and why."""
+    status, out, text = program.on_copy(room, copied, ["dump"])
+    if status != 0:
+        raise Stop(f"dump of the copy failed: {text or out[:300].decode(errors='replace')}")
+    acls: dict[bytes, bytes] = {}
+    own = []
+    at = b""
+    for line in out.split(b"\n"):
+        words = line.split(b" ", 4)
+        if words[0] in (b"folder", b"document", b"member"):
+            at = line.split(b" ", 3 if words[0] == b"folder" else 4)[-1]
+            if words[0] == b"member":
+                break
+            acls[at] = b" ".join(words[:3]) + b"\n"
+            which = b""
+        elif line:
+            acls[at] += line + b"\n"
+            which = line if line in (b"dacl", b"sacl") else which
+            fields = line.split(b":")
+            if which == b"dacl" and at != b"/" and (
+                    line.startswith(b"list:") and line != b"list:a"
+                    or fields[0] in (b"A", b"D") and b"I" not in fields[1]):
+                own.append(at)
+    opens = f"list:a\nA:fd:{private_server.USER}:rx\n".encode()
+    if why := private_server.set_list(room, copied, b"/", opens):
+        raise Stop(f"failed: the lists of the copy: {why}")
+    base = path.rstrip(b"/") + b"/"
+    closed = []
+    for one in dict.fromkeys(own):
+        if one == path or one.startswith(base) or base.startswith(one + b"/"):
+            if why := private_server.set_list(room, copied, one, b"list:a\n"):
+                closed.append((one, why))
+    return acls, closed
+
+
+def export(asked: Client, path: bytes, into: bytes, lists: bool,
+           acls: dict[bytes, bytes] | None) -> int:
+    raise_limits()
+    got = asked.ask("GET", "folder", path)
+    if got.status != 200 and b'"why":"wrong-kind"' not in got.body:
+        raise Stop(f"{names.shown(path)}: {got.text()}")
+    kind = "folder" if got.status == 200 else "document"
+    task = Export(asked, lists, acls)
+    # Links on the way to DIR are those of whoever runs this; below DIR none is followed.
+    within, name = os.path.split(into)
+    try:
+        at = safe.folder(within or b".")
+    except OSError as fault:
+        asked.report(path, f"not written, nor what is in it: {safe.reason(fault)}")
+        if task.lists:
+            asked.report(path, f"its lists aren't written: {safe.reason(fault)}")
+    else:
+        with safe.opened(at):
+            task.object(kind, path, at, name)
+            if task.lists:
+                task.acl(kind, path, at, name + b".acl")
+    report.end_progress()
+    print(f"folders {task.folders}, documents {task.documents}, left out {asked.left_out}")
+    return 0 if asked.left_out == 0 else 1

@@ -1,0 +1,28 @@
+"""Writes the document PATH of a backup to standard output, without touching the room. BACKUP is a
+folder with a room's files, the name of one in BACKUPS, or latest."""
+import argparse
+import sys
+
+from ..room import backups, names, private_server, program, settings
+from ..room.http_client import argument
+from ..cli.report import Refused, Stop
+
+USAGE = "get [--room ROOM | --conf CONF] BACKUP PATH"
+
+
+def run(given: argparse.Namespace) -> int:
+    if len(given.words) != 2 or not given.words[0]:
+        raise Refused(f"bad arguments: rooms-admin {USAGE}")
+    path = argument(given.words[1])
+    if path == b"/" or not names.is_path(path):
+        raise Refused(f"bad arguments: '{given.words[1]}' isn't the path of a document")
+    room = settings.room(given.conf)
+    # A copy, since the program puts the log of a room that it opens into its file.
+    with private_server.private_copy(room, backups.find(room, given.words[0])) as copied:
+        status, out, text = program.on_copy(room, copied, ["get", path])
+    if status != 0:
+        why = text or out[:300].decode(errors="replace").strip() or f"status {status}"
+        raise Stop(f"{names.shown(path)}: {why}")
+    sys.stdout.buffer.write(out)
+    sys.stdout.buffer.flush()
+    return 0

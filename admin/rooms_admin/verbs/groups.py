@@ -1,0 +1,326 @@
+"""Brings the groups of a room into line with a directory (LDAP, Active Directory), by the settings
+/etc/rooms/directory and NAME.groups beside those of the room. Nothing is changed if the directory
+doesn't answer; if a group would have no member; or if more than MOST pairs would go; the last two
+only without --force. A group that the directory hasn't, under that name, stays as it is and is
+named, with status 1; the others are brought into line. The server is stopped only if there is
+something to change, or if the room's file isn't the one of the last run, and is started again
+whatever happened."""
+import argparse
+import os
+from contextlib import ExitStack
+
+from ..cli import report
+from ..host import commands, locks, safe
+from ..room import backups, dump, members, names, server, settings
+from . import people
+from ..site.directory import GROUPS, Directory, NoSuchEntry
+from ..cli.report import Refused, Stop, say
+from ..room.settings import Room
+
+USAGE = ("groups [--dry-run] [--force] [--room ROOM | CONF], or groups --names|--after "
+         "[--room ROOM | CONF]")
+LISTS = "lists.txt"
+# The program takes no more from a file.
+LIMIT = 20000
+Pair = tuple[str, str]
+
+
+class NoGroup(Refused):
+    """The directory hasn't that one, or several."""
+
+
+class Asked:
+    """What the directory has."""
+
+    def __init__(self, directory: Directory) -> None:
+        self.directory = directory
+        self.users: dict[str, str] = {}
+        self._members: dict[str, list[str]] | None = None
+        where = directory.where
+        for entry in directory.search(where.base, True, where.users, [where.name]):
+            values = entry.values.get(where.name.lower(), [])
+            if len(values) == 1:
+                self.users[directory.key(entry.dn)] = values[0]
+            else:
+                say(f"left out: {report.line(entry.dn)} has {'several' if values else 'no'} "
+                    f"{where.name}")
+
+    def _find_group(self, what: str) -> str:
+        """The DN of a group, by its DN or its cn."""
+        try:
+            if "=" in what and "," in what:
+                found = self.directory.search(what, False, GROUPS, [], what)
+            else:
+                found = self.directory.search(
+                    self.directory.where.base, True,
+                    f"(&{GROUPS}(cn={self.directory.quoted(what)}))", [], what)
+        except NoSuchEntry:
+            raise NoGroup(f"no group: the directory has no '{what}'") from None
+        if len(found) != 1:
+            raise NoGroup(f"no group: the directory has {len(found)} groups '{what}'")
+        return found[0].dn
+
+    def members(self, what: str) -> set[str]:
+        """The names of a group's members and of those of the groups in it, who are users. Each
+        group is looked at once, so groups that are in one another come to an end."""
+        dn = self._find_group(what)
+        how = self.directory.where.members
+        if how == "memberUid":
+            rows = self.directory.search(dn, False, "(objectClass=*)", ["memberUid"])
+            known = set(self.users.values())
+            return {one for row in rows for one in row.values.get("memberuid", []) if one in known}
+        found: set[str] = set()
+        seen = {self.directory.key(dn)}
+        todo = [dn]
+        while todo:
+            people, inner = (self._by_member_of if how == "memberOf" else self._by_member)(
+                todo.pop())
+            found.update(self.users[one] for one in people if one in self.users)
+            for one in inner:
+                if self.directory.key(one) not in seen:
+                    seen.add(self.directory.key(one))
+                    todo.append(one)
+        return found
+
+    def _by_member_of(self, dn: str) -> tuple[list[str], list[str]]:
+        """Nothing limits how many members a group has there, where Active Directory gives 1,500 of
+        `member`."""
+        where = self.directory.where
+        of = f"(memberOf={self.directory.quoted(dn)})"
+        people = self.directory.search(where.base, True, f"(&{of}{where.users})", [])
+        inner = self.directory.search(where.base, True, f"(&{of}{GROUPS})", [])
+        return [self.directory.key(one.dn) for one in people], [one.dn for one in inner]
+
+    def _by_member(self, dn: str) -> tuple[list[str], list[str]]:
+        """All groups are asked for once, with their members."""
+        if self._members is None:
+            self._members = {}
+            for one in self.directory.search(self.directory.where.base, True, GROUPS,
+                                             ["member", "uniqueMember"]):
+                self._members[self.directory.key(one.dn)] = [
+                    self.directory.key(member) for name in ("member", "uniquemember")
+                    for member in one.values.get(name, [])]
+        mine = self._members.get(self.directory.key(dn), [])
+        return ([one for one in mine if one not in self._members],
+                [one for one in mine if one in self._members])
+
+
+class Run:
+    def __init__(self, room: Room, given: argparse.Namespace, owned: ExitStack) -> None:
+        self.room = room
+        self.dry = given.dry_run
+        self.force = given.force
+        self.owned = owned
+        self.locked = False
+        self.mark = server.left_at_rest(room)
+        self.state = os.path.join(backups.folder(room), ".directory.csv")
+        self.failures: list[str] = []
+
+    def lock(self) -> None:
+        """Only whoever has the lock stops and starts the server."""
+        if not self.locked:
+            self.owned.enter_context(locks.lock(self.room.unit, 60))
+        self.locked = True
+
+    def ask(self, groups: dict[str, str]) -> set[Pair]:
+        """Takes those out of `groups` that the directory hasn't: one may have been renamed there,
+        which keeps nobody from leaving another one."""
+        asked = Asked(Directory(settings.directory(_beside(self.room, "directory"))))
+        wanted: set[Pair] = set()
+        for name, what in list(groups.items()):
+            pairs = set()
+            try:
+                theirs = sorted(asked.members(what))
+            except NoGroup as stop:
+                del groups[name]
+                if not groups:
+                    raise
+                self.failures.append(f"{name} stays as it is: {stop}")
+                continue
+            for user in theirs:
+                if names.is_user(user):
+                    pairs.add((name, user))
+                else:
+                    say(f"left out of {name}: '{report.line(user)}' can't be a user of a room")
+            if not pairs and not self.force:
+                raise Refused(f"empty: {name} would have no member; --force if that is meant")
+            wanted |= pairs
+        return wanted
+
+    def last_lists(self) -> str:
+        return backups.newest(self.room, LISTS)
+
+    def which_file(self) -> str:
+        """A restore puts another file into the room's place, with other members."""
+        return commands.run(["stat", "-c", "file %i of %W", "--", self.room.file]).out
+
+    def known_after(self) -> str:
+        """The file, and the last backup when it was looked at: a clock may have been set back."""
+        last = self.last_lists()
+        return f"{self.which_file()} after {os.path.basename(os.path.dirname(last))}"
+
+    def known(self) -> set[Pair] | None:
+        """What was read or applied last, or the members in the last backup if that is newer. Both
+        count only for the file of which they are known."""
+        last = self.last_lists()
+        try:
+            with open(self.state, encoding="utf-8") as source:
+                first, _, kept = source.read().partition("\n")
+        except OSError:
+            first = kept = ""
+        file = first.partition(" after ")[0]
+        if file != self.which_file() or not file:
+            if not (self.dry and last):
+                return None
+            say(f"compared with the backup {os.path.basename(os.path.dirname(last))}: this file of "
+                "the room is new, as after a restore, and a run without --dry-run looks into it")
+        elif not last or first == self.known_after():
+            return members.of_text(kept)
+        return dump.members(last)
+
+    def keep_known(self, pairs: set[Pair]) -> None:
+        try:
+            backups.make_folder(self.room)
+            with open(self.state + ".new", "w", encoding="utf-8") as target:
+                target.write(f"{self.known_after()}\n{members.as_text(pairs)}")
+            os.rename(self.state + ".new", self.state)
+        except OSError:
+            say(f"{self.state} can't be written: the next run looks into the room again")
+
+    def guard(self, going: set[Pair], all_of_them: int, most: int) -> None:
+        if all_of_them > LIMIT:
+            raise Refused(f"too many: {all_of_them} pairs, and a room takes {LIMIT}")
+        if len(going) > most and not self.force:
+            raise Refused(f"too much: {len(going)} pairs would go, and MOST is {most}; look at "
+                          "them by --dry-run, and --force if that is meant")
+
+    def bring(self) -> None:
+        groups, most = settings.groups(_beside(self.room, None))
+        wanted = self.ask(groups)
+        now = self.known()
+        if now is None and self.dry:
+            say(f"no backup yet: this is all that the directory has, and what {self.room.unit} has "
+                "isn't known")
+            now = set()
+        if now is not None:
+            coming, going, others = compare(now, wanted, groups)
+            if self.dry:
+                show(coming, going)
+                return
+            if not coming and not going:
+                return
+            self.guard(going, len(others | wanted), most)
+        self.lock()
+        with server.at_rest(self.room):
+            now = members.read(self.room)
+            # What is refused now is refused without a stop the next time.
+            self.keep_known(now)
+            coming, going, others = compare(now, wanted, groups)
+            self.guard(going, len(others | wanted), most)
+            show(coming, going)
+            if coming or going:
+                self.replace(others | wanted)
+
+    def replace(self, pairs: set[Pair]) -> None:
+        """What was known goes first: a run that is cut off leaves nothing known, and the next one
+        looks."""
+        if os.path.exists(self.state):
+            os.unlink(self.state)
+        say(members.write(self.room, pairs))
+        self.keep_known(pairs)
+        for failure in people.write(self.room, pairs):
+            say(failure)
+
+    def names(self) -> None:
+        """Users of the room, as the last backup has them in lists and groups, whom the directory
+        writes in other capitals: they would be somebody else."""
+        last = self.last_lists()
+        if not last:
+            raise Refused("no backup yet, where names are looked for: systemctl start rooms-nightly"
+                          + self.room.unit.removeprefix("rooms"))
+        asked = Asked(Directory(settings.directory(_beside(self.room, "directory"))))
+        theirs = {one.lower(): one for one in asked.users.values()}
+        same = set(asked.users.values())
+        ours = set()
+        with safe.own_file(last) as source:
+            for line in source:
+                words = line.decode(errors="replace").rstrip("\n").replace(":", " ").split(" ")
+                if words[0] in ("folder", "document"):
+                    ours.add(words[1])
+                elif words[0] == "member":
+                    ours.add(words[2])
+                elif len(words) > 3 and "g" not in words[1] and not words[2].endswith("@"):
+                    ours.add(words[2])
+        for one in sorted(ours - same):
+            if one.lower() in theirs:
+                print(f"{one}: the directory has {report.line(theirs[one.lower()])}")
+
+
+def _beside(room: Room, name: str | None) -> str:
+    if name is None:
+        return room.conf.removesuffix(".conf") + ".groups"
+    return os.path.join(os.path.dirname(room.conf), name)
+
+
+def compare(now: set[Pair], wanted: set[Pair], groups: dict[str, str]
+            ) -> tuple[set[Pair], set[Pair], set[Pair]]:
+    """What comes, what goes, and what stays: the members of groups that the directory hasn't."""
+    ours = {pair for pair in now if pair[0] in groups}
+    return wanted - ours, ours - wanted, now - ours
+
+
+def show(coming: set[Pair], going: set[Pair]) -> None:
+    for sign, pairs in (("+", coming), ("-", going)):
+        for group, user in sorted(pairs):
+            print(f"{sign} {group},{user}")
+
+
+def _work(task: Run, given: argparse.Namespace) -> int:
+    """Does what is asked, and returns the status."""
+    # The mark of a run that is at work, which has the lock, or of one that was cut off.
+    cut_off = os.path.exists(task.mark)
+    if cut_off and not (given.dry_run or given.names):
+        task.lock()
+        cut_off = os.path.exists(task.mark)
+        if cut_off:
+            server.start_again(task.room)
+    if given.after:
+        if cut_off:
+            raise Stop(f"interrupted: a run that had stopped {task.room.unit} was cut off; "
+                       f"{task.room.unit} is started")
+    elif given.names:
+        task.names()
+    else:
+        task.bring()
+    return 1 if task.failures else 0
+
+
+def _all_of(stop: BaseException | None) -> list[str]:
+    """What failed, and what failed before it, where the server didn't start after that."""
+    if not isinstance(stop, Stop):
+        return []
+    return [*([] if stop.__suppress_context__ else _all_of(stop.__context__)), str(stop)]
+
+
+def run(given: argparse.Namespace) -> int:
+    os.umask(0o077)
+    os.chdir("/")
+    if len(given.words) > 1 or given.names + given.after + (given.dry_run or given.force) > 1:
+        raise Refused(f"bad arguments: rooms-admin {USAGE}")
+    room = settings.room("".join(given.words))
+    failures: list[str] = []
+    with ExitStack() as owned:
+        task = Run(room, given, owned)
+        try:
+            status = _work(task, given)
+        except Stop as stop:
+            failures = _all_of(stop)
+            status = stop.status
+        report.ignore_signals()
+        failures += task.failures
+        for failure in failures:
+            say(failure)
+        if failures and not (given.dry_run or given.names):
+            report.send(room.mail, f"{room.unit} on {os.uname().nodename}: groups of the directory "
+                        "failed", failures)
+    return status

@@ -1,0 +1,42 @@
+"""Prints the room's backups, from the oldest to the newest: the number of the run, how many MB
+the room's two files take, the folder, and what is missing beside them. What has the name of a
+backup and is none, or can't be read, is told.
+
+With --json it is a list of objects with the names 'number', 'bytes', 'folder' and 'without'."""
+import argparse
+import json
+import os
+
+from ..host import waiting
+from ..room import backups, server, settings
+from ..cli.report import Stop, say
+
+USAGE = "backups [--json] [--room ROOM | CONF]"
+_BESIDE = ("records.csv", "lists.txt", "review.csv")
+
+
+def run(given: argparse.Namespace) -> int:
+    room = settings.named(given.words, USAGE)
+
+    def asked() -> object:
+        found = backups.look(room)
+        jumps = backups.jump(found)
+        return [[_row(one, room.base) for one in found.backups],
+                [*found.wrong, *([jumps] if jumps else [])]]
+    got = waiting.answer(waiting.PATIENCE, asked, room.backups)
+    if not isinstance(got, list):
+        raise Stop(f"not read: {room.backups}: the look failed")
+    if given.json:
+        print(json.dumps(got[0], indent=1))
+    for one in got[0] if not given.json else []:
+        lacks = f"  without {', '.join(one['without'])}" if one["without"] else ""
+        print(f"{one['number']:6} {one['bytes'] + 0xfffff >> 20:6} MB  {one['folder']}{lacks}")
+    for text in got[1]:
+        say(text)
+    return 1 if got[1] else 0
+
+
+def _row(one: backups.Backup, base: str) -> dict[str, object]:
+    return {"number": one.number, "bytes": server.size_of(os.path.join(one.place, base)),
+            "folder": one.place, "without": [
+                name for name in _BESIDE if not os.path.isfile(os.path.join(one.place, name))]}

@@ -1,0 +1,87 @@
+"""Sends what a unit said last, to whom MAIL in its room's settings names: units call it when they
+fail. It runs as a user of its own, since mail programs need rights that those units have not."""
+import argparse
+import os
+import re
+import shutil
+import time
+
+from ..cli import report
+from ..host import commands, locks
+from ..room import settings
+from ..cli.report import Refused, Stop, say
+
+USAGE = "tell UNIT"
+# Standby copies may fail every five minutes: one mail for so many seconds.
+QUIET = 6 * 3600
+_UNIT = re.compile(r"rooms[a-z-]*(@(?P<room>[a-z0-9-]+))?\.(service|timer)", re.ASCII)
+
+
+def mail_of(room: str) -> str:
+    """Settings that are refused may be what the unit failed by: only this line counts."""
+    for name in (room, "office"):
+        try:
+            found = [line.removeprefix("MAIL=") for _, line in
+                     settings.lines(f"{settings.HOME}/{name}.conf") if line.startswith("MAIL=")]
+        except Refused:
+            continue
+        if found:
+            return found[-1] if settings.matches(r"([^-].*)?", found[-1]) else ""
+    return "root"
+
+
+def journal(unit: str, invocation: str) -> list[str]:
+    """The newest lines of its last run, or of the unit."""
+    whose = [f"_SYSTEMD_INVOCATION_ID={invocation}"] if invocation else ["-u", unit]
+    try:
+        done = commands.run(["journalctl", "--no-pager", "-q", "-n", "40", "-o", "short-iso",
+                             *whose])
+    except (OSError, commands.Slow):
+        return []
+    return done.out.split("\n")
+
+
+def _stamp(unit: str) -> str:
+    return os.path.join(locks.RUN, "rooms-tell", unit)
+
+
+def was_told(unit: str) -> bool:
+    """Whether a mail about this unit went out a short while ago."""
+    try:
+        return 0 <= time.time() - os.stat(_stamp(unit)).st_mtime < QUIET
+    except FileNotFoundError:
+        return False
+
+
+def keep_told(unit: str) -> None:
+    """Once it went out: one that didn't is tried again at the next failure."""
+    stamp = _stamp(unit)
+    try:
+        os.close(os.open(stamp, os.O_WRONLY | os.O_CREAT | os.O_NOFOLLOW, 0o600))
+        os.utime(stamp)
+    except OSError as fault:
+        say(f"{stamp} can't be written: {fault.strerror}")
+
+
+def run(given: argparse.Namespace) -> int:
+    named = _UNIT.fullmatch(given.words[0]) if len(given.words) == 1 else None
+    if named is None:
+        raise Refused(f"bad arguments: rooms-admin {USAGE}")
+    unit = given.words[0]
+    result = os.environ.get("MONITOR_SERVICE_RESULT", "")
+    mail = mail_of(named["room"] or "office")
+    if not mail:
+        return 0
+    if not shutil.which("mail"):
+        raise Stop(f"no mail program, so nobody is told of {unit}: apt-get install bsd-mailx")
+    if result and was_told(unit):
+        say(f"{mail} was told of {unit} less than {QUIET // 3600} hours ago")
+        return 0
+    failed = f"failed ({result})" if result else "has a warning"
+    lines = journal(unit, os.environ.get("MONITOR_INVOCATION_ID", ""))
+    lines += ["", f"systemctl status {unit}"]
+    if not report.mail(mail, f"{unit} on {os.uname().nodename} {failed}", lines):
+        raise Stop(f"the mail to {mail} about {unit} failed")
+    if result:
+        keep_told(unit)
+    return 0

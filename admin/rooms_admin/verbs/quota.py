@@ -1,0 +1,186 @@
+"""Watches how much of each room's file is in use. While it is more than LIMIT of the settings, a
+flag in /run/rooms-full tells nginx to refuse what adds to the room, with 507. If LIMIT is empty, it
+is half of what MemoryMax of the server's unit leaves beside 256 MB. What is in use are the pages of
+the file and its log, without free ones. It looks each second, or each five while less than half of
+LIMIT is in use; it locks and changes nothing of the room, and runs as the room's user. The flag
+goes below 95 hundredths of LIMIT, and when this ends; after a kill it stays until this runs again.
+
+With --look the status is 0 if the room isn't full, and 1 if it is."""
+import argparse
+import os
+import signal
+import socket
+import stat
+import sys
+import time
+from contextlib import ExitStack
+
+from ..cli import report
+from ..host import locks
+from ..room import server, settings
+from ..cli.report import Interrupted, Refused, Stop, say
+from ..room.size import NoRoom, Used
+
+USAGE = "full [--look] [--room ROOM | CONF ..]"
+
+
+FOLDER = os.path.join(locks.RUN, "rooms-full")
+
+
+class Reader:
+    """Looks at a room as its user. Where this process is root's, another one does that, for as long
+    as this one lives."""
+
+    def __init__(self, room: settings.Room) -> None:
+        self.file = room.file
+        self.used = Used()
+        self.asked: socket.socket | None = None
+        if os.geteuid() == room.owner:
+            return
+        self.asked, asking = socket.socketpair()
+        if os.fork():
+            asking.close()
+            return
+        try:
+            self.asked.close()
+            for one in (signal.SIGTERM, signal.SIGINT, signal.SIGHUP):
+                signal.signal(one, signal.SIG_DFL)
+            os.closerange(3, asking.fileno())
+            os.closerange(asking.fileno() + 1, 1024)
+            os.setgroups([])
+            os.setgid(room.group)
+            os.setuid(room.owner)
+            self._answer(asking)
+        finally:
+            os._exit(0)
+
+    def _answer(self, asking: socket.socket) -> None:
+        while asking.recv(1):
+            try:
+                asking.send(str(self.used.look(self.file)).encode())
+            except NoRoom:
+                asking.send(b"none")
+
+    def look(self) -> int:
+        if self.asked is None:
+            return self.used.look(self.file)
+        try:
+            self.asked.send(b"?")
+            got = self.asked.recv(100)
+        except OSError:
+            got = b""
+        if not got:
+            raise Stop("the process that looks at the room has ended")
+        if got == b"none":
+            raise NoRoom
+        return int(got)
+
+
+class Watch:
+    def __init__(self, room: settings.Room) -> None:
+        self.room = room
+        self.limit = server.limit_of(room)
+        self.used = Reader(room)
+        self.lost = False
+        self.flag = os.path.join(FOLDER, room.flag)
+        self.next = 0.0
+
+    def look(self) -> None:
+        if self.limit is None:
+            _remove(self.flag)
+            self.next = time.monotonic() + 3600
+            return
+        most = self.limit << 20
+        self.next = time.monotonic() + 1
+        try:
+            used = self.used.look()
+        except NoRoom:
+            if not self.lost:
+                say(f"{self.room.file} can't be read, and nothing is changed meanwhile")
+            self.lost = True
+            return
+        if self.lost:
+            say(f"{self.room.file} can be read again")
+        self.lost = False
+        if used > most and _put(self.flag):
+            say(f"the room is full: {used >> 20} MB are in use, and LIMIT is {self.limit}; nginx "
+                "refuses what adds to it")
+        elif used * 100 < most * 95 and _remove(self.flag):
+            say(f"the room isn't full any more: {used >> 20} MB of {self.limit} are in use")
+        if used * 2 < most:
+            self.next += 4
+
+
+def _put(place: str) -> bool:
+    """Whether the flag wasn't there. The folder is the servers' user's, who may run something else
+    than a server: what lies there in its place goes, and no link is followed."""
+    try:
+        if stat.S_ISREG(os.lstat(place).st_mode):
+            return False
+        os.unlink(place)
+    except FileNotFoundError:
+        pass
+    os.close(os.open(place, os.O_CREAT | os.O_EXCL | os.O_WRONLY | os.O_NOFOLLOW, 0o644))
+    return True
+
+
+def _remove(place: str) -> bool:
+    try:
+        os.unlink(place)
+        return True
+    except FileNotFoundError:
+        return False
+
+
+def run(given: argparse.Namespace) -> int:
+    rooms = [settings.room(one) for one in given.words or [""]]
+    for room in rooms:
+        if not room.port and not room.socket:
+            raise Refused(f"bad settings: PORT in {room.conf} is empty, and nginx knows a room by "
+                          "its port")
+    if given.look:
+        if len(rooms) != 1:
+            raise Refused(f"bad arguments: rooms-admin {USAGE}")
+        limit = server.limit_of(rooms[0])
+        try:
+            used = Reader(rooms[0]).look()
+        except NoRoom:
+            raise Refused(f"{rooms[0].file} can't be read") from None
+        print(f"{used >> 20} MB of {limit or 'any number'} are in use")
+        return 0 if limit is None or used <= limit << 20 else 1
+    if sys.stdout is not None and sys.stdout.isatty():
+        raise Refused("bad arguments: without --look this goes on until somebody ends it, which is "
+                      "what the unit of a room needs: rooms-admin full --look")
+    os.umask(0o022)
+    os.makedirs(FOLDER, exist_ok=True)
+    # The unit has a user of its own, who doesn't get to where root's locks are.
+    within = locks.FOLDER if os.geteuid() == 0 else f"{FOLDER}/locks"
+    with ExitStack() as owned:
+        for room in rooms:
+            owned.enter_context(locks.lock(f"full.{room.flag}", 2, within))
+        status = _watch(rooms)
+    return status
+
+
+def _watch(rooms: list[settings.Room]) -> int:
+    """It has their locks, so from here on their flags are its own, also those of before."""
+    watches: list[Watch] = []
+    try:
+        for room in rooms:
+            watches.append(Watch(room))
+        for watch in watches:
+            if watch.limit is None:
+                say(f"the room has no limit: LIMIT in {watch.room.conf} is "
+                    + (watch.room.limit or f"empty, and {watch.room.unit} has no MemoryMax"))
+        while True:
+            for watch in watches:
+                if time.monotonic() >= watch.next:
+                    watch.look()
+            time.sleep(max(0.0, min(watch.next for watch in watches) - time.monotonic()))
+    except Interrupted:
+        report.ignore_signals()
+        for watch in watches:
+            _remove(watch.flag)
+        return 0
+    except OSError as fault:
+        raise Stop(f"{fault.filename}: {fault.strerror}") from fault

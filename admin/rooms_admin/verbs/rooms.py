@@ -1,0 +1,48 @@
+"""The rooms of this machine: their names, whether each is served and where, and their files. A room
+on another machine has no file here.
+
+With --json it is a list of objects with the names 'name', 'title', 'state', 'at' and 'file'."""
+import argparse
+import glob
+import json
+import os
+
+from ..cli.report import Refused
+from ..room import server, settings
+
+USAGE = "rooms [--json]"
+
+
+def _place(conf: str, name: str) -> str:
+    """Where its server listens, or the machine that has it."""
+    on = settings.value(conf, "ON")
+    if on:
+        return f"on {on}"
+    if settings.value(conf, "SOCKET") == "yes":
+        return f"/run/rooms/{name}/socket"
+    return f"127.0.0.1:{settings.value(conf, 'PORT')}".rstrip(":")
+
+
+def _state(conf: str, name: str) -> str:
+    if settings.value(conf, "ON"):
+        return "elsewhere"
+    return server.systemctl("is-active", settings.value(conf, "UNIT") or f"rooms@{name}")[1]
+
+
+def run(given: argparse.Namespace) -> int:
+    if given.words:
+        raise Refused(f"bad arguments: rooms-admin {USAGE}")
+    found = []
+    for conf in sorted(glob.glob(f"{glob.escape(settings.HOME)}/*.conf")
+                       + glob.glob(f"{glob.escape(settings.HOME)}/*.on")):
+        name = os.path.basename(conf).rpartition(".")[0]
+        found.append({"name": name, "title": settings.value(conf, "TITLE"),
+                      "state": _state(conf, name), "at": _place(conf, name),
+                      "file": settings.value(conf, "FILE")})
+    if given.json:
+        print(json.dumps(found, indent=1))
+        return 0
+    for one in found:
+        line = "  ".join(word for word in one.values() if word)
+        print("".join(sign if sign.isprintable() else "?" for sign in line))
+    return 0

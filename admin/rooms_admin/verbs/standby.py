@@ -1,0 +1,137 @@
+"""Copies a room while it is served, for another machine that can take over; a timer runs it every
+five minutes. The server is held for the copy, as by the nightly run. The copy is verified, which
+also puts its log into its file: one file is the whole copy. It takes the place of the last one in
+BACKUPS/NAME/standby, and STANDBY gets it by rsync when it is whole."""
+import argparse
+import os
+import shutil
+import subprocess
+from contextlib import ExitStack
+
+from ..cli import report
+from ..host import locks, safe
+from ..room import backups, copying, private_server, program, server, settings
+from ..cli.report import Refused, Stop, say
+from ..room.settings import Room
+
+USAGE = "standby [--after] [--room ROOM | CONF]"
+LAST = "the last copy stays"
+
+
+def copy(room: Room, mark: server.Mark, own: str) -> copying.Copy | None:
+    """Into a folder of this run's own. The lock of the nightly run is held for the copy alone: to
+    keep, to verify and to send it may take long."""
+    try:
+        with locks.lock(room.unit, 10):
+            if server.state(room) == "inactive":
+                say(f"{room.unit} isn't running: {LAST}")
+                return None
+            return copying.held(room, mark, own)
+    except copying.NotHeld:
+        raise Stop(f"{room.unit} can't be held: systemctl status {room.unit}") from None
+    except locks.Busy:
+        say(f"another verb is at work: {LAST}")
+        return None
+    except OSError as fault:
+        raise Stop(f"the copy failed: {fault.strerror}; {LAST}") from fault
+
+
+def keep(room: Room, copied: copying.Copy, own: str, part: str) -> None:
+    """The program works on it as a user who has nothing else, and what it has made of it gets to
+    the disk of backups."""
+    whole = os.path.join(own, room.base)
+    try:
+        copying.keep(room, copied, own)
+        private_server.give(room, own)
+        status, out, text = program.on_copy(room, whole, ["verify"], program.enough(room, whole))
+        if status != 0:
+            raise Stop(f"verify of the copy failed: {text or out.decode(errors='replace')}; {LAST}")
+        # What a log has that is put into its file is no more than its head.
+        if os.path.exists(whole + "-wal") and os.path.getsize(whole + "-wal") >= 100:
+            raise Stop(f"the copy's log could not be put into its file; {LAST}")
+        backups.make_folder(room)
+        backups.make_closed(part)
+        _take_place(room, own, part)
+    except (OSError, safe.NoFile) as fault:
+        raise Stop(f"the copy failed: {part}: {safe.why(fault)}; {LAST}") from fault
+
+
+def _take_place(room: Room, own: str, part: str) -> None:
+    """One rename, so that there is a whole copy at any moment. A log there is that of somebody who
+    looked at the last one."""
+    kept = os.path.join(backups.folder(room), "standby")
+    os.makedirs(kept, 0o700, exist_ok=True)
+    with safe.opened(safe.folder(own)) as source, safe.opened(
+            safe.own_folder(part)) as fresh, safe.opened(safe.own_folder(kept)) as target:
+        with safe.opened(safe.file_below(source, room.base)) as number, safe.opened(os.open(
+                room.base, os.O_WRONLY | os.O_CREAT | os.O_EXCL | os.O_CLOEXEC, 0o600,
+                dir_fd=fresh)) as made:
+            safe.copy_all(number, made)
+            os.fsync(made)
+        try:
+            os.unlink(f"{room.base}-wal", dir_fd=target)
+        except FileNotFoundError:
+            pass
+        os.rename(room.base, room.base, src_dir_fd=fresh, dst_dir_fd=target)
+        os.fsync(target)
+
+
+def _remove_former(room: Room) -> None:
+    """The last copy of an earlier version, which had it in BACKUPS itself."""
+    former = os.path.join(room.backups, "standby")
+    if former == os.path.join(backups.folder(room), "standby"):
+        return
+    try:
+        for end in ("", "-wal"):
+            if os.path.lexists(f"{former}/{room.base}{end}"):
+                os.unlink(f"{former}/{room.base}{end}")
+        os.rmdir(former)
+    except OSError:
+        pass  # It has another room's, or there is none.
+
+
+def send(room: Room) -> None:
+    """The time isn't asked, which may have been set back."""
+    if not room.standby:
+        return
+    done = subprocess.run(
+        ["nice", "rsync", "--ignore-times", "--times", "--perms", "--no-whole-file", "--fsync",
+         "--timeout=60", "-e", "ssh -o BatchMode=yes -o ConnectTimeout=10", "--",
+         f"{backups.folder(room)}/standby/{room.base}", f"{room.standby}/"],
+        stdin=subprocess.DEVNULL, stdout=subprocess.PIPE, stderr=subprocess.STDOUT, check=False)
+    if done.returncode != 0:
+        raise Stop(f"{room.standby} doesn't get the copy: "
+                   f"{done.stdout.decode(errors='replace').strip()}")
+
+
+def run(given: argparse.Namespace) -> int:
+    os.umask(0o077)
+    os.chdir("/")
+    room = settings.named(given.words, USAGE)
+    mark = server.Mark(os.path.join(locks.RUN, f"rooms-standby.{room.unit}"))
+    if given.after:
+        # Before all that may be refused. A run that is still at work would notice, and copy again.
+        mark.let_go()
+    copying.find_backups(room)
+    if room.standby and not shutil.which("rsync"):
+        raise Refused(f"no rsync: STANDBY in {room.conf} needs it: apt-get install rsync")
+    part = os.path.join(backups.folder(room), "standby.part")
+    with locks.lock(f"{room.unit}.standby", 10), ExitStack() as owned:
+        try:
+            # What a killed run has left.
+            mark.let_go()
+            shutil.rmtree(part, ignore_errors=True)
+            if not given.after:
+                own = owned.enter_context(private_server.own_folder(room))
+                copied = copy(room, mark, own)
+                if copied is not None:
+                    keep(room, copied, own, part)
+                    _remove_former(room)
+                    send(room)
+        finally:
+            report.ignore_signals()
+            mark.let_go()
+            shutil.rmtree(part, ignore_errors=True)
+            if os.path.exists(mark.place):
+                os.unlink(mark.place)
+    return 0

@@ -1,0 +1,242 @@
+"""Somebody joins, gets a new password, or leaves: the password in nginx's file, which counts before
+anything else is done, the rows of their groups, and what names them afterwards. The server stops
+only where groups change, and where somebody leaves, for what the room has of them.
+
+FILE has a line for each user, NAME,GROUP,GROUP .., and the server stops once for all of them.
+Whoever has no password gets one, which is printed."""
+import argparse
+import csv
+import os
+import re
+from collections.abc import Iterator
+from contextlib import ExitStack, contextmanager
+from dataclasses import dataclass
+
+from ..host import locks
+from ..room import members, names, passwords, published, server, settings
+from . import handover, people
+from ..room.dump import Pair
+from ..room.http_client import Caller
+from ..cli.report import Interrupted, Refused, Stop, say
+from ..room.settings import Room
+
+USAGE = ("user add NAME [--groups A,B] [--first] [--room ROOM | CONF], or user add --file FILE "
+         "[--first] [--room ROOM | CONF], or user remove NAME [--to HEIR | --password] "
+         "[--room ROOM | CONF]")
+_OPTIONS = {"add": ("--groups", "--file", "--first"), "remove": ("--to", "--password")}
+
+
+@dataclass
+class Words:
+    verb: str
+    name: str
+    conf: str
+    groups: list[str]
+    file: str
+    heir: str
+    is_first: bool = False
+    is_password: bool = False
+
+
+def _words(given: list[str], options: dict[str, str]) -> Words:
+    """A name may begin with a dash, a room can't."""
+    bad = Refused(f"bad arguments: rooms-admin {USAGE}")
+    verb, rest = (given[0], given[1:]) if given else ("", [])
+    found = {option: value for option, value in options.items() if value}
+    if verb not in _OPTIONS or set(found) - set(_OPTIONS[verb]) or len(
+            set(found) - {"--first"}) > 1:
+        raise bad
+    file, heir = options["--file"], options["--to"]
+    groups = options["--groups"].split(",") if options["--groups"] else []
+    name = "" if file else rest.pop(0) if rest else ""
+    if bool(name) == bool(file) or len(rest) > 1 or "".join(rest)[:1] == "-" or not all(groups):
+        raise bad
+    for one in [name, *groups, heir]:
+        if one and not names.is_user(one):
+            raise Refused(f"bad arguments: '{one}' can't be the name of a user or a group")
+    return Words(verb, name, "".join(rest) or "office", groups, file, heir, "--first" in found,
+                 "--password" in found)
+
+
+def rows(path: str) -> dict[str, set[str]]:
+    """The groups of each user in a file. A first line that begins with 'name' is a heading; groups
+    in one field stand apart by blanks, commas or semicolons."""
+    try:
+        with open(path, encoding="utf-8-sig", newline="") as source:
+            text = source.read()
+        first = text.partition("\n")[0]
+        comma = ";" if ";" in first and "," not in first else ","
+        lines = list(csv.reader(text.splitlines(), strict=True, delimiter=comma))
+    except (OSError, UnicodeDecodeError, csv.Error) as fault:
+        raise Refused(f"no names: {path} can't be read: {fault}") from fault
+    found: dict[str, set[str]] = {}
+    for number, row in enumerate(lines, 1):
+        fields = [field.strip() for field in row]
+        if not any(fields) or (number == 1 and fields[0].lower() == "name"):
+            continue
+        groups = {one for field in fields[1:] for one in re.split(r"[\s,;]+", field) if one}
+        for one in [fields[0], *sorted(groups)]:
+            if not names.is_user(one) or [one.lower() for one in fields[:2]] == ["group", "user"]:
+                raise Refused(f"bad names: {path}, line {number} isn't NAME,GROUP,GROUP ..: {one!a}"
+                              " can't be the name of a user or a group")
+        found.setdefault(fields[0], set()).update(groups)
+    if not found:
+        raise Refused(f"no names: {path} has none")
+    return found
+
+
+@contextmanager
+def _locked(room: Room, done: str) -> Iterator[None]:
+    """What was done before counts, whoever else is at work with the room."""
+    with ExitStack() as owned:
+        try:
+            owned.enter_context(locks.lock(room.unit, 60))
+        except locks.Busy as busy:
+            raise Stop(f"{done}, and the rest isn't done: {busy}; the same command goes on then"
+                       ) from busy
+        yield
+
+
+def _join(room: Room, pairs: set[Pair], done: str) -> None:
+    with _locked(room, done):
+        with server.at_rest(room):
+            now = members.read(room) | pairs
+            print(members.write(room, now), flush=True)
+        _show(room, now)
+
+
+def _add(place: str, room: Room | None, asked: Words) -> int:
+    line = passwords.hashed(passwords.ask(asked.name))
+    had = passwords.change(place, {asked.name: line}, is_first=asked.is_first)
+    what = f"a {'new ' if had else ''}{'first ' if asked.is_first else ''}password"
+    file = passwords.password_files(place)[0]
+    print(f"{what} for {asked.name}, in {passwords.first_of(file) if asked.is_first else file}",
+          flush=True)
+    if room and asked.groups:
+        _join(room, {(group, asked.name) for group in asked.groups}, f"{asked.name} has a password")
+    elif room and not had:
+        _show_known(room)
+    return 0
+
+
+def _add_all(place: str, room: Room | None, wanted: dict[str, set[str]], is_first: bool) -> int:
+    """Those of a directory have their passwords there."""
+    made: dict[str, str] = {}
+    if room is None or room.passwords == "file":
+        has = set[str]().union(*map(people.with_password, passwords.password_files(place)))
+        made = {user: passwords.chosen() for user in sorted(set(wanted) - has)}
+        lines = {user: passwords.hashed(text) for user, text in made.items()}
+        has |= passwords.change(place, {**lines}, keeps=True, is_first=is_first)
+        for user, text in made.items():
+            if user not in has:
+                print(f"{user}: {text}", flush=True)
+        if kept := sorted(has & set(wanted)):
+            say(f"who has a password keeps it: {', '.join(kept)}")
+    pairs = {(group, user) for user, groups in wanted.items() for group in groups}
+    if room and pairs:
+        _join(room, pairs, "all have a password")
+    elif room and made:
+        _show_known(room)
+    return 0
+
+
+def _remove(place: str, room: Room | None, asked: Words) -> int:
+    """The password goes first: whoever leaves is shut out whatever happens after it."""
+    name, heir = asked.name, asked.heir
+    file = passwords.password_files(place)[0]
+    if passwords.change(place, {name: None}):
+        print(f"no password for {name} any more, in {file}", flush=True)
+    else:
+        say(f"{name} had no password in {file}")
+    if room and asked.is_password:
+        _show_known(room)
+    if room is None or asked.is_password:
+        return 0
+    with _locked(room, f"{name} has no password any more"):
+        with server.at_rest(room):
+            now = members.read(room)
+            rest = {pair for pair in now if pair[1] != name}
+            if rest != now:
+                print(members.write(room, rest), flush=True)
+            lists = members.listed(room)
+        _show(room, rest)
+    for line in members.of_user(lists, name):
+        print(line)
+    return _hand_over(room, lists, name, heir) if heir else 0
+
+
+def _show_known(room: Room) -> None:
+    """A run that is at work writes them itself, or the next one does."""
+    try:
+        with locks.lock(room.unit, 10):
+            _show(room, None)
+    except locks.Busy as busy:
+        say(f"the names that the web interface offers are those of before: {busy}")
+
+
+def _show(room: Room, now: set[Pair] | None) -> None:
+    """The names that the web interface offers, with these members of groups, or with those that are
+    known. What has been done stays done if that fails; before the first night there are none."""
+    try:
+        pairs, at = (now, None) if now is not None else people.known(room)
+        for failure in people.write(room, pairs, at):
+            say(failure)
+    except Refused:
+        pass
+    except Interrupted:
+        raise
+    except Stop as stop:
+        say(f"the names that the web interface offers are those of before: {stop}")
+
+
+def _hand_over(room: Room, lists: bytes, name: str, heir: str) -> int:
+    """By requests of the heir's, so that what the room denies them is left out and told. The lists
+    have no name, so a kill leaves none of them."""
+    number = os.memfd_create("lists", os.MFD_CLOEXEC)
+    with os.fdopen(number, "wb") as file:
+        file.write(lists)
+        file.flush()
+        given = argparse.Namespace(words=[room.conf, f"/proc/self/fd/{number}", name, heir],
+                                   dry_run=False)
+        return handover.run(given, Caller(as_user=heir))
+
+
+def _room(asked: Words) -> tuple[str, Room | None]:
+    """The room's name, and the room. Of one on another machine this one has the passwords alone."""
+    on = f"{settings.HOME}/{asked.conf}.on"
+    if names.is_room(asked.conf) and os.path.exists(on) and not os.path.exists(
+            settings.file_of(asked.conf)):
+        if asked.groups or asked.heir:
+            raise Refused(f"bad arguments: the room {asked.conf} is on {settings.place(on).on}, "
+                          "where its groups and owners are changed")
+        return asked.conf, None
+    room = settings.room(asked.conf)
+    if asked.heir == asked.name and asked.heir:
+        raise Refused(f"bad arguments: {asked.name} would give to {asked.heir}")
+    if asked.heir and not room.address:
+        raise Refused(f"bad settings: PORT in {room.conf} is empty, and --to asks the room")
+    return published.name_of(room), room
+
+
+def options(given: argparse.Namespace) -> dict[str, str]:
+    return {"--groups": given.groups, "--file": given.file, "--to": given.to,
+            "--first": "yes" if given.first else "", "--password": "yes" if given.password else ""}
+
+
+def run(given: argparse.Namespace) -> int:
+    """What is asked on a terminal is asked before anything is locked."""
+    asked = _words(given.words, options(given))
+    wanted = rows(asked.file) if asked.file else {}
+    os.umask(0o077)
+    os.chdir("/")
+    place, room = _room(asked)
+    if asked.verb == "remove":
+        return _remove(place, room, asked)
+    if asked.is_first and not passwords.is_kept(passwords.password_files(place)[0]):
+        raise Refused(f"no own passwords: nobody could change a first one of {place}: "
+                      "OWN_PASSWORDS=yes in its settings, and then rooms-admin setup")
+    if room is None and any(wanted.values()):
+        raise Refused(f"bad arguments: the room {place} is on another machine, where its groups "
+                      "are changed")
+    return (_add_all(place, room, wanted, asked.is_first) if wanted
+            else _add(place, room, asked))

@@ -1,0 +1,338 @@
+"""What `check` looks at: each look gives findings, which are levels and texts."""
+import base64
+import glob
+import http.client
+import os
+import pwd
+import re
+import secrets
+import shutil
+import socket
+import ssl
+import time
+from collections.abc import Callable
+
+from ..host import waiting
+from ..room import backups, health, machine, server, settings
+from ..site import apache, legacy, template
+from . import await_server
+from ..cli.report import Refused, Stop
+from ..room.settings import Room
+from ..room.size import NoRoom, Used
+
+OK, WARNING, CRITICAL = 0, 1, 2
+Finding = tuple[int, str]
+HOUR = 3600
+# Less than this is a full disk: twice the largest document, in the log and on its way.
+FULL = 16 << 20
+# The clocks of a disk and of the machine may differ by so much.
+AHEAD = 120
+# Only tests set another address of nginx.
+FRONT = os.environ.get("ROOMS_FRONT", "127.0.0.1")
+# What nginx says where it does its part: it asks for a password, or sends on to where it does.
+_ASKS = (200, 301, 302, 303, 307, 308, 401, 403, 429)
+_POLICY = "default-src 'none'; script-src 'self'; "
+_REALM = re.compile(r'Basic realm="rooms(-[a-z0-9-]+)?"', re.ASCII)
+
+
+def within(seconds: float, look: Callable[[], list[Finding]], what: str) -> list[Finding]:
+    """A disk that hangs holds whoever looks at it, so a process of its own does."""
+    try:
+        found = waiting.answer(seconds, look, what)
+    except waiting.Hangs as hangs:
+        return [(CRITICAL, str(hangs))]
+    if not isinstance(found, list):
+        return [(CRITICAL, f"{what} can't be looked at")]
+    return [(int(level), str(said)) for level, said in found]
+
+
+def see_owner(room: Room) -> list[Finding]:
+    """A file that was made as root: all seems well until its server wants to open it."""
+    if os.path.exists(room.file) and os.stat(room.file).st_uid != room.owner:
+        return [(CRITICAL, f"{room.file} isn't its server's, which can't open it: chown "
+                 f"--reference={room.folder} {room.file}*")]
+    return []
+
+
+def see_answer(room: Room) -> list[Finding]:
+    """By itself: at its socket, or at its port."""
+    if not room.address:
+        return []
+    if await_server.is_well("" if room.listens else room.port, room.listens):
+        return [(OK, "answers")]
+    state = server.state(room) or "no unit"
+    if state == "inactive" and os.path.exists(server.left_at_rest(room)):
+        return [(CRITICAL, f"{room.unit} was stopped while groups were changed, and that was cut "
+                 f"off: rooms-admin groups --after {room.name}")]
+    return [(CRITICAL, f"{room.unit} doesn't answer ({state}): systemctl status {room.unit}")]
+
+
+def _place(room: Room) -> tuple[str, str] | None:
+    """The host and the path at which nginx shows a room, if it does. Beside other sites its names
+    tell ours, so it is asked by one."""
+    name = room.name
+    if room.behind or room.unit != f"rooms@{name}":
+        return None
+    if room.host:
+        return room.host, "/"
+    file = machine.ROOT + template.SETTINGS
+    host = settings.front(file).hosts[0] if os.path.exists(file) else ""
+    return host, "/" if name == "office" else f"/{name}/"
+
+
+class _Named(http.client.HTTPSConnection):
+    """This machine, by the name of a site. Its certificate is looked at by itself."""
+
+    def __init__(self, host: str) -> None:
+        super().__init__(FRONT, timeout=20)
+        self.named = host
+
+    def connect(self) -> None:
+        context = ssl.create_default_context()
+        context.check_hostname = False
+        context.verify_mode = ssl.CERT_NONE
+        plain = socket.create_connection((self.host, self.port), timeout=20)
+        self.sock = context.wrap_socket(plain, server_hostname=self.named.strip("[]") or None)
+
+
+def _is_ours(got: http.client.HTTPResponse) -> bool:
+    """Our site has this policy on each page of its own, and asks for passwords of rooms."""
+    return (got.headers.get("Content-Security-Policy", "").startswith(_POLICY)
+            or _REALM.match(got.headers.get("WWW-Authenticate", "")) is not None)
+
+
+def see_front(room: Room) -> list[Finding]:
+    """Through nginx, as far as one gets without a password: it listens, knows the room's place, and
+    asks for a password. Beyond that its files have to say where the room is."""
+    place = _place(room)
+    if place is None:
+        return []
+    if legacy.is_there(machine.ROOT):
+        return [(WARNING, "nginx has its files of before: rooms-admin setup")]
+    if not _passes_on(room):
+        where = "its socket" if room.socket else f"port {room.port}"
+        return [(CRITICAL, f"nginx passes nothing on to {where}")]
+    for asked in (http.client.HTTPConnection(FRONT, timeout=20), _Named(place[0])):
+        try:
+            asked.request("GET", place[1] + "can/?", headers={
+                "Connection": "close", **({"Host": place[0]} if place[0] else {})})
+            got = asked.getresponse()
+            got.read(1 << 16)
+            ours = _is_ours(got)
+            if got.status not in _ASKS:
+                return [(CRITICAL, f"nginx answers {got.status} for it")]
+            if ours:
+                return [(OK, "nginx answers")]
+            if got.status < 300 or got.status > 399:
+                break
+        except (OSError, http.client.HTTPException) as fault:
+            return [(CRITICAL, f"nginx doesn't answer: {fault}")]
+        finally:
+            asked.close()
+    return [(CRITICAL, f"another site of nginx's answers for {place[0]}: HOSTS in /etc/rooms/site "
+             "names those of the rooms; then rooms-admin setup")]
+
+
+def _passes_on(room: Room) -> bool:
+    where = (re.escape(f"unix:/run/rooms/{room.name}/socket") if room.socket
+             else rf"127\.0\.0\.1:{room.port}")
+    try:
+        with open(f"{machine.ROOT}/etc/nginx/sites-enabled/rooms", encoding="utf-8",
+                  errors="replace") as source:
+            return re.search(rf"{where}\b", source.read(), re.ASCII) is not None
+    except OSError:
+        return False
+
+
+def see_port(room: Room) -> list[Finding]:
+    text = health.port(room)
+    return [(CRITICAL, text)] if text else []
+
+
+def see_disk(room: Room) -> list[Finding]:
+    """What the room's user gets of the room's disk, and how much of LIMIT is in use."""
+    found = [_space(room.folder, "the room's disk", server.size_of(room.file))]
+    try:
+        used, limit = Used().look(room.file), server.limit_of(room)
+    except NoRoom:
+        return [*found, (CRITICAL, f"{room.file} can't be read")]
+    except Stop as stop:
+        return [*found, (WARNING, str(stop))]
+    if limit is None:
+        return [*found, (OK, f"{used >> 20} MB in use")]
+    level = (CRITICAL if used > limit << 20 else
+             WARNING if used * 10 >= (limit << 20) * 9 else OK)
+    return [*found, (level, f"{used >> 20} of {limit} MB in use")]
+
+
+def _space(folder: str, what: str, wanted: int) -> Finding:
+    seen = os.statvfs(folder)
+    free = seen.f_bavail * seen.f_frsize
+    if seen.f_flag & os.ST_RDONLY:
+        return CRITICAL, f"{what} is read-only"
+    if free < FULL or (seen.f_files and not seen.f_favail):
+        return CRITICAL, f"{what} is full: {free >> 20} MB free"
+    if free < wanted:
+        return WARNING, f"{what} has {free >> 20} MB free, less than the room takes"
+    return OK, ""
+
+
+def see_backups(room: Room) -> list[Finding]:
+    """The last good backup, by when it was written. A clock that was set back leaves some in the
+    future, which look newer than any that comes."""
+    if not os.path.isdir(room.backups):
+        return [(CRITICAL, f"no folder of backups: {room.backups}")]
+    found = [_space(room.backups, "the disk of backups", server.size_of(room.file))]
+    seen = backups.look(room)
+    found += [(CRITICAL, one) for one in seen.wrong]
+    times = []
+    for backup in seen.backups:
+        try:
+            at = os.stat(os.path.join(backup.place, room.base)).st_mtime
+            times.append((max(at, _dated(backup.name)), backup.name))
+        except (OSError, ValueError):
+            continue
+    now = time.time()
+    ahead = [name for at, name in times if at > now + AHEAD]
+    if ahead:
+        found.append((WARNING, f"the backup {max(ahead)} is dated in the future: was the clock set "
+                      "back?"))
+    good = [at for at, name in times if name not in ahead]
+    if not good:
+        return [*found, _none_yet(room, now)]
+    age = int(now - max(good)) // HOUR
+    level = CRITICAL if age >= 50 else WARNING if age >= 26 else OK
+    return [*found, (level, f"last good backup {age} h ago")]
+
+
+def _dated(name: str) -> float:
+    """By its name, which is local time: the hour that an autumn night has twice isn't known."""
+    return time.mktime(time.strptime(name, "%Y-%m-%d.%H%M%S")) - HOUR
+
+
+def _none_yet(room: Room, now: float) -> Finding:
+    said = machine.printed(["stat", "-c", "%W", "--", room.file]).strip()
+    if said.isdigit() and now - int(said) < 26 * HOUR:
+        return WARNING, f"no backup yet: systemctl start rooms-nightly@{room.name}"
+    return CRITICAL, "no good backup"
+
+
+def see_groups(room: Room) -> list[Finding]:
+    """The last run that the timer began. A run that fails is a unit that has failed."""
+    timer = f"rooms-directory@{room.name}.timer"
+    if not os.path.lexists(f"{machine.ROOT}/etc/systemd/system/timers.target.wants/{timer}"):
+        return []
+    try:
+        stamp = os.stat(f"{machine.ROOT}/var/lib/systemd/timers/stamp-{timer}").st_mtime
+    except OSError:
+        return [(WARNING, f"{timer} has never run")]
+    age = int(time.time() - stamp) // HOUR
+    return [(WARNING if age >= 26 else OK, f"groups {age} h ago")]
+
+
+def see_timer(room: Room) -> list[Finding]:
+    timer = f"rooms-nightly@{room.name}.timer"
+    if machine.printed(["systemctl", "is-active", timer]).strip() == "active":
+        return []
+    return [(WARNING, f"no nightly run is due: systemctl enable --now {timer}")]
+
+
+def see_mail(room: Room) -> list[Finding]:
+    if not room.mail:
+        return []
+    if not shutil.which("mail"):
+        return [(WARNING, f"no mail program, so {room.mail} is told of nothing: apt-get install "
+                 "bsd-mailx")]
+    if _stays_here(room.mail):
+        return [(WARNING, f"mail to {room.mail} stays in a box of this machine, where nobody reads "
+                 f"it: echo '{room.mail}: YOU@OFFICE' >>/etc/aliases && newaliases")]
+    return []
+
+
+def _stays_here(name: str) -> bool:
+    """Whether a mail ends with root, or with an account that is nobody's, and goes no further."""
+    aliases: dict[str, str] = {}
+    try:
+        with open(f"{machine.ROOT}/etc/aliases", encoding="utf-8", errors="replace") as source:
+            for line in source:
+                word, colon, to = line.partition(":")
+                if colon and not line.startswith(("#", " ", "\t")):
+                    aliases[word.strip().strip('"').lower()] = to.strip()
+    except OSError:
+        pass
+    for _ in range(10):
+        name = aliases.get(name.lower(), "") or name
+        if not re.fullmatch(r"[a-z0-9._-]+", name, re.ASCII | re.IGNORECASE):
+            # An address elsewhere, a program, a file, several of them.
+            return False
+        if name.lower() not in aliases:
+            break
+    try:
+        user = pwd.getpwnam(name)
+    except KeyError:
+        return True
+    if os.path.exists(f"{machine.ROOT}{user.pw_dir}/.forward"):
+        return False
+    return user.pw_uid < 1000
+
+
+def see_directory() -> list[Finding]:
+    """The Apache that asks the directory, by a name that nobody has: while that is down or hangs,
+    no password is right or wrong."""
+    folder = f"{machine.ROOT}/etc/rooms"
+    if not any(settings.value(one, "PASSWORDS") == "directory"
+               for one in glob.glob(f"{glob.escape(folder)}/*.conf")):
+        return []
+    if not os.access(machine.ROOT + template.KEY, os.R_OK) and os.geteuid() != 0:
+        return []
+    listens = re.search(r"^Listen 127\.0\.0\.1:(\d+)$", template.read(machine.ROOT + apache.FILE),
+                        re.MULTILINE | re.ASCII)
+    key = re.search(r" Rooms-Key ([0-9a-f]+);", template.read(machine.ROOT + template.KEY))
+    if listens is None or key is None:
+        return [(CRITICAL, "PASSWORDS=directory, and no directory: rooms-admin setup --directory")]
+    named = base64.b64encode(f"nobody-{secrets.token_hex(8)}:x".encode()).decode()
+    asked = http.client.HTTPConnection("127.0.0.1", int(listens[1]), timeout=20)
+    try:
+        asked.request("GET", "/password/rooms", headers={
+            "Connection": "close", "Rooms-Key": key[1], "Authorization": f"Basic {named}"})
+        status = asked.getresponse().status
+        said = "" if status == 401 else f"it answers {status}"
+    except (OSError, http.client.HTTPException) as fault:
+        said = str(fault)
+    finally:
+        asked.close()
+    return [(CRITICAL, f"the directory checks no password, and nobody can sign in: {said}; "
+             "journalctl -u rooms-passwords")] if said else [(OK, "")]
+
+
+def see_units() -> list[Finding]:
+    said = machine.printed(["systemctl", "list-units", "--state=failed", "--plain", "--no-legend",
+                            "rooms*"])
+    failed = [line.split()[0] for line in said.splitlines() if line.split()]
+    return [(CRITICAL, f"failed: {' '.join(sorted(failed))}")] if failed else []
+
+
+def see_certificates() -> list[Finding]:
+    """The site's, if it has one, and those by which machines know one another."""
+    site = machine.ROOT + "/etc/rooms/site"
+    try:
+        if os.path.exists(site):
+            settings.front(site)
+    except Refused as stop:
+        return [(CRITICAL, str(stop))]
+    wanted = machine.site_certificates()
+    folder = machine.ROOT + "/etc/rooms/machines"
+    try:
+        wanted += [f"/etc/rooms/machines/{name}" for name in sorted(os.listdir(folder))
+                   if name.endswith(".pem")]
+    except OSError:
+        pass
+    return [machine.see_certificate(file) for file in wanted]
+
+
+def of_room(conf: str) -> list[Finding]:
+    room = settings.room(conf)
+    looks = [see_owner, see_answer, see_port, see_front, see_groups, see_timer, see_mail]
+    return [*(found for look in looks for found in look(room)),
+            *within(20, lambda: see_disk(room), f"{room.folder}"),
+            *within(20, lambda: see_backups(room), f"{room.backups}")]

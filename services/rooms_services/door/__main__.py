@@ -1,0 +1,45 @@
+"""The door beside a room: python3 -IB rooms_services/door/__main__.py --room SOCKET --listen SOCKET
+
+It takes requests of users from nginx, which says who they are, and sends the room's own requests in
+their names. It has no right, no password and no copy of a document. It goes on until it is ended.
+
+Status: 2 refused, 3 the socket can't be made."""
+import argparse
+import os
+import sys
+from typing import NoReturn
+
+sys.dont_write_bytecode = True
+if not __package__:
+    sys.path.insert(0, os.path.dirname(os.path.dirname(os.path.dirname(
+        os.path.realpath(__file__)))))
+
+from rooms_services.door.serve import serve  # noqa: E402
+
+
+class _Words(argparse.ArgumentParser):
+    def error(self, message: str) -> NoReturn:
+        self.exit(2, f"rooms-door: bad arguments: {message}\n")
+
+
+def main() -> int:
+    words = _Words(prog="rooms-door", description=__doc__, allow_abbrev=False,
+                   formatter_class=argparse.RawDescriptionHelpFormatter)
+    words.add_argument("--room", required=True, help="the socket of the room")
+    words.add_argument("--listen", required=True,
+                       help="the socket at which nginx asks; whoever reaches it can be any user")
+    words.add_argument("--drive", choices=("yes", ""), default="",
+                       help="yes: documents are edited in place, by WebDAV below /drive/")
+    given = words.parse_args()
+    try:
+        serve(given.room, given.listen, given.drive == "yes")
+    except KeyboardInterrupt:
+        pass
+    except OSError as fault:
+        print(f"rooms-door: {given.listen}: {fault.strerror}", file=sys.stderr)
+        return 3
+    return 0
+
+
+if __name__ == "__main__":
+    sys.exit(main())

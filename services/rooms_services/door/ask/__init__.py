@@ -1,0 +1,1 @@
+"""How a room is asked, and who is answered when."""

@@ -1,0 +1,60 @@
+"""Paths: from the target of a request to names, and from names to targets.
+
+A target is decoded once, name by name, and what the room gets is encoded anew from the names. So
+the door and the room never understand a path differently, whatever escapes the client wrote."""
+import re
+from functools import lru_cache
+from urllib.parse import quote, unquote_to_bytes
+
+from .answers import Stop
+
+Names = tuple[str, ...]
+_UNSAFE = re.compile(r"[^A-Za-z0-9_.~-]+")
+LONGEST_NAME, LONGEST_PATH = 255, 4096
+
+
+def _decoded(part: str) -> bytes:
+    try:
+        return unquote_to_bytes(part.encode("latin-1"))
+    except UnicodeError:
+        raise Stop(400, "bad-target P3") from None
+
+
+def names_in(rest: str) -> Names:
+    """What stands behind a route and its slash, by the rules of the room (docs/http.md, Targets),
+    but for a slash that is written as %2F: it is no part of a name, and so it is refused."""
+    if rest == "":
+        return ()
+    parts = [_decoded(part) for part in rest.split("/")]
+    if sum(map(len, parts)) + len(parts) > LONGEST_PATH:
+        raise Stop(400, "bad-target P2")
+    try:
+        names = tuple(part.decode("utf-8") for part in parts)
+    except UnicodeError:
+        raise Stop(400, "bad-target P3") from None
+    for name, part in zip(names, parts):
+        if name in ("", ".", "..") or "/" in name or len(part) > LONGEST_NAME \
+                or any(byte < 0x20 or byte == 0x7F for byte in part):
+            raise Stop(400, "bad-target P1")
+    return names
+
+
+@lru_cache(maxsize=1000)
+def _escaped(text: str) -> str:
+    return quote(text, safe="")
+
+
+def escaped_name(name: str) -> str:
+    return _UNSAFE.sub(lambda found: _escaped(found[0]), name)
+
+
+def escaped(names: Names) -> str:
+    return "/".join(map(escaped_name, names))
+
+
+def shown(names: Names) -> str:
+    return "/" + "/".join(names)
+
+
+def is_below(names: Names, above: Names) -> bool:
+    return len(names) > len(above) and names[:len(above)] == above

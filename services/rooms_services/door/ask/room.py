@@ -1,0 +1,273 @@
+"""The room: its own requests over its socket, in the name of a user (docs/http.md).
+
+The room answers one connection at a time. So a long row of questions is cut into several
+connections, between which others are answered, and what belongs together is sent over one, in which
+nobody comes between."""
+import json
+import re
+import socket
+import time
+from collections.abc import Iterable, Iterator
+from contextlib import contextmanager
+from functools import lru_cache
+from typing import NamedTuple
+
+from .answers import JSON, Answer, Stop
+from .paths import Names, escaped
+from .turns import PATIENCE, InTurn
+
+LARGEST = 1_048_576
+# How many questions one connection has at most. All of a row are sent before an answer is read, so
+# they have to fit into a socket's buffer: else the room could wait with an answer for a door that
+# waits with a question.
+ROW, ROW_BYTES = 64, 60_000
+# What the answers to a row may have, so that no folder fills the memory.
+MOST_ANSWERED = 67_108_864
+CONNECT_SECONDS = 10.0
+ANSWER_SECONDS = 60.0
+USER = re.compile(r"[A-Za-z0-9._+$\\-]{1,64}(@[A-Za-z0-9.-]{1,64})?")
+_HEAD = re.compile(rb"HTTP/1\.1 ([0-9]{3})[^\r\n]*\r\n(?:(?!Content-Length:)[^\r\n]+\r\n)*"
+                   rb"(?:Content-Length: ([0-9]{1,10})\r\n)?(?:[^\r\n]+\r\n)*\r\n")
+
+
+class Ask(NamedTuple):
+    """A request; its path is escaped already. (There are many, and a tuple is made at once.)"""
+    method: str
+    route: str
+    path: str
+    query: str = ""
+    body: bytes = b""
+
+    def message(self, user: str) -> bytes:
+        query = f"?{self.query}" if self.query else ""
+        length = f"Content-Length: {len(self.body)}\r\n" if self.method != "GET" else ""
+        return (f"{self.method} /{self.route}/{self.path}{query} HTTP/1.1\r\nRoom-User: {user}\r\n"
+                f"{length}\r\n").encode("ascii") + self.body
+
+
+def about(method: str, route: str, names: Names, query: str = "", body: bytes = b"") -> Ask:
+    return Ask(method, route, escaped(names), query, body)
+
+
+class Reply(NamedTuple):
+    status: int
+    body: bytes
+
+    @property
+    def told(self) -> dict[str, object]:
+        """What a refusal or a denial says."""
+        try:
+            told = json.loads(self.body)
+        except ValueError:
+            return {}
+        return told if isinstance(told, dict) else {}
+
+    @property
+    def why(self) -> str:
+        return str(self.told.get("why", ""))
+
+    @property
+    def at(self) -> str:
+        return str(self.told.get("at", ""))
+
+    def text(self) -> str:
+        told = self.told
+        if self.status == 403:
+            by = f"entry {told['entry']}, {told['text']}" if told.get("text") else "no entry allows"
+            return f"denied: {told.get('bits')} at {told.get('at')} ({by})"
+        return f"refused: {self.why} at {told.get('at', '')}".removesuffix(" at ")
+
+    def answer(self) -> Answer:
+        """As the room said it. What fails there closes the connection there alone."""
+        return Answer(self.status, self.body, JSON if self.body else "")
+
+    def rulings(self) -> dict[str, bool]:
+        """Of an answer of /can/: whether each of the letters is allowed."""
+        return _rulings(self.body) if self.status == 200 else {}
+
+
+@lru_cache(maxsize=1000)
+def _rulings(body: bytes) -> dict[str, bool]:
+    """Most of them are the same. Nobody changes what is returned."""
+    return {bit: str(said).startswith("allowed") for bit, said in json.loads(body).items()}
+
+
+def size_of(ask: Ask, user: str) -> int:
+    """Of its message, at most."""
+    return len(ask.path) + len(ask.query) + len(user) + 100
+
+
+def too_many() -> Stop:
+    return Stop(413, "too-many", "too much is below it: ask further down")
+
+
+def hangs() -> Stop:
+    return Stop(504, "room-hangs", "no answer of the room for a minute. Look whether it was done")
+
+
+def ended() -> Stop:
+    return Stop(502, "room-ended", "the room ended before it answered. Look whether it was done")
+
+
+class Talk:
+    """One connection, in the name of one user: each answer is waited for before more is sent."""
+
+    def __init__(self, at: socket.socket, user: str) -> None:
+        self._at = at
+        self._user = user
+        self._lines = at.makefile("rb")
+
+    def ask(self, ask: Ask) -> Reply:
+        self._at.sendall(ask.message(self._user))
+        line = self._lines.readline(1024)
+        if not line.startswith(b"HTTP/1.1 "):
+            raise ConnectionError
+        length = 0
+        while (field := self._lines.readline(1024)) not in (b"\r\n", b""):
+            name, _, value = field.partition(b":")
+            if name.lower() == b"content-length":
+                length = int(value)
+        body = self._lines.read(length)
+        if len(body) != length:
+            raise ConnectionError
+        return Reply(int(line[9:12]), body)
+
+
+class Row:
+    """Questions that are under way, on a connection of their own. Until their answers are here, or
+    nobody wants them any more, no other row is sent."""
+
+    def __init__(self, room: "Room", user: str, asks: list[Ask]) -> None:
+        self._room = room
+        self._count = len(asks)
+        self._at: socket.socket | None = None
+        room.take()
+        self._is_held = True
+        try:
+            with at_fault():
+                self._at = room.connected()
+                self._at.settimeout(ANSWER_SECONDS)
+                self._at.sendall(b"".join([ask.message(user) for ask in asks]))
+                # The room answers all that came before the end, and then lets others in.
+                self._at.shutdown(socket.SHUT_WR)
+        except BaseException:
+            self.drop()
+            raise
+
+    def drop(self) -> None:
+        if self._at:
+            self._at.close()
+        if self._is_held:
+            self._is_held = False
+            self._room.give()
+
+    def answered(self) -> bytes:
+        """All of the answers. From here on the next row may be sent."""
+        got: list[bytes] = []
+        size = 0
+        try:
+            with at_fault():
+                while self._at and (part := self._at.recv(262_144)):
+                    got.append(part)
+                    size += len(part)
+                    if size > MOST_ANSWERED:
+                        raise too_many()
+        finally:
+            self.drop()
+        return b"".join(got)
+
+    def replies(self, whole: bytes) -> list[Reply]:
+        found: list[Reply] = []
+        place = 0
+        while len(found) < self._count:
+            head = _HEAD.match(whole, place)
+            if head is None:
+                raise ended()
+            place = head.end() + int(head[2] or 0)
+            if place > len(whole):
+                raise ended()
+            found.append(Reply(int(head[1]), whole[head.end():place]))
+        return found
+
+
+@contextmanager
+def at_fault() -> Iterator[None]:
+    try:
+        yield
+    except TimeoutError:
+        raise hangs() from None
+    except (OSError, ValueError):
+        raise ended() from None
+
+
+class Room:
+    def __init__(self, place: str) -> None:
+        """The path of a socket."""
+        self.place = place
+        self._turn = InTurn()
+
+    def take(self) -> None:
+        if not self._turn.take(PATIENCE):
+            raise hangs()
+
+    def give(self) -> None:
+        self._turn.give()
+
+    def connected(self) -> socket.socket:
+        until = time.monotonic() + CONNECT_SECONDS
+        while True:
+            at = socket.socket(socket.AF_UNIX, socket.SOCK_STREAM)
+            try:
+                at.settimeout(CONNECT_SECONDS)
+                at.connect(self.place)
+                return at
+            except BlockingIOError:
+                # Too many wait already: the system refuses a Unix socket then, without a wait.
+                at.close()
+                if time.monotonic() > until:
+                    raise hangs() from None
+                time.sleep(0.01)
+            except OSError:
+                at.close()
+                raise Stop(503, "no-room", "the room doesn't answer; nothing was done",
+                           fields={"Retry-After": "10"}) from None
+
+    @contextmanager
+    def talk(self, user: str) -> Iterator[Talk]:
+        """Nobody comes between what is asked here."""
+        self.take()
+        try:
+            with at_fault():
+                at = self.connected()
+                with at:
+                    at.settimeout(ANSWER_SECONDS)
+                    yield Talk(at, user)
+        finally:
+            self.give()
+
+    def ask(self, user: str, ask: Ask) -> Reply:
+        with self.talk(user) as talk:
+            return talk.ask(ask)
+
+    def row(self, user: str, asks: list[Ask]) -> list[Reply]:
+        """Only of what changes nothing: all are sent before the first answer is read."""
+        under_way = Row(self, user, asks)
+        return under_way.replies(under_way.answered())
+
+    def ask_each(self, user: str, asks: Iterable[Ask]) -> Iterator[Reply]:
+        for asked in rows(user, asks):
+            yield from self.row(user, asked)
+
+
+def rows(user: str, asks: Iterable[Ask]) -> Iterator[list[Ask]]:
+    row: list[Ask] = []
+    size = 0
+    for ask in asks:
+        length = size_of(ask, user)
+        if row and (len(row) == ROW or size + length > ROW_BYTES):
+            yield row
+            row, size = [], 0
+        row.append(ask)
+        size += length
+    if row:
+        yield row

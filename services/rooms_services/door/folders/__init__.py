@@ -1,0 +1,1 @@
+"""What is answered of whole folders, and what is replaced only if it is what was seen."""

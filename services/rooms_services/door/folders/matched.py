@@ -1,0 +1,108 @@
+"""A document or a list that is replaced only if it is still the one that was seen. The look and the
+change are sent over one connection, and the room answers nobody else in between: so whatever comes
+from elsewhere comes before the look or after the change."""
+import hashlib
+import re
+from dataclasses import dataclass
+
+from ..ask.answers import Answer, Stop
+from .holders import holders
+from ..ask.paths import Names, shown
+from ..ask.room import Reply, Room, Talk, about
+
+_TAG = re.compile(r'\s*(W/)?("[^"]*")\s*')
+# Nothing of it is shown as a page of this site, nor kept where somebody else could find it.
+SAFE = {"Content-Disposition": "attachment", "Cache-Control": "private, no-store"}
+# Whoever has one of these rights could have changed it.
+CHANGES = {"doc": "wa", "dacl": "C", "sacl": "C"}
+
+
+def tag_of(body: bytes) -> str:
+    return f'"{hashlib.sha256(body).hexdigest()}"'
+
+
+@dataclass(frozen=True)
+class Condition:
+    """Nothing is there; or one of these is, or anything where there are none."""
+    is_new: bool
+    tags: frozenset[str]
+
+
+def condition_of(match: str, none: str) -> Condition:
+    if match and none:
+        raise Stop(400, "bad-condition", "either If-Match or If-None-Match")
+    if none:
+        if none != "*":
+            raise Stop(400, "bad-condition", "If-None-Match can only be *")
+        return Condition(True, frozenset())
+    if not match:
+        raise Stop(428, "no-condition", "neither If-Match nor If-None-Match")
+    if match == "*":
+        return Condition(False, frozenset())
+    found = [_TAG.fullmatch(part) for part in match.split(",")]
+    if None in found:
+        raise Stop(400, "bad-condition", "If-Match isn't a list of entity tags")
+    # A weak one is never the same.
+    return Condition(False, frozenset(one[2] for one in found if one and not one[1]) or
+                     frozenset([""]))
+
+
+def read(room: Room, user: str, route: str, names: Names) -> Answer:
+    reply = room.ask(user, about("GET", route, names))
+    if reply.status != 200:
+        return reply.answer()
+    kind = "application/octet-stream" if route == "doc" else "text/plain; charset=utf-8"
+    return Answer(200, reply.body, kind, {"ETag": tag_of(reply.body), **SAFE})
+
+
+def replace(room: Room, user: str, route: str, names: Names, body: bytes,
+            condition: Condition) -> Answer:
+    with room.talk(user) as talk:
+        stopped = _look(talk, route, names, condition)
+        if stopped is not None:
+            return stopped
+        reply = talk.ask(about("PUT", route, names, body=body))
+        if reply.status not in (201, 204):
+            return reply.answer()
+        now = tag_of(body)
+        if route != "doc":
+            # It has by now what its folder passes down, too.
+            after = talk.ask(about("GET", route, names))
+            now = tag_of(after.body) if after.status == 200 else ""
+        return Answer(reply.status, fields={"ETag": now} if now else {})
+
+
+def _look(talk: Talk, route: str, names: Names, condition: Condition) -> Answer | None:
+    """What stands against the change, as far as it is the condition's."""
+    if condition.is_new:
+        there = talk.ask(about("GET", "can", names))
+        if there.status == 200:
+            raise _changed(talk, route, names, "exists", None)
+        return None if there.status == 404 else there.answer()
+    seen = talk.ask(about("GET", route, names))
+    if seen.status == 404 and seen.at == shown(names):
+        raise _changed(talk, route, names, "gone", None)
+    if seen.status != 200:
+        return seen.answer()
+    if condition.tags and tag_of(seen.body) not in condition.tags:
+        raise _changed(talk, route, names, "changed", seen)
+    return None
+
+
+def _changed(talk: Talk, route: str, names: Names, why: str, seen: Reply | None) -> Stop:
+    who = None if why == "gone" else _who(talk, route, names)
+    tag = tag_of(seen.body) if seen else None
+    return Stop(412, why, "it isn't the one that was seen any more", shown(names),
+                {"tag": tag, "who": who})
+
+
+def _who(talk: Talk, route: str, names: Names) -> list[str] | None:
+    """Who could have changed it by its list, as far as the caller may read that."""
+    may = talk.ask(about("GET", "can", names, "ct")).rulings()
+    if not may.get("c"):
+        return None
+    listed = talk.ask(about("GET", "dacl", names))
+    if listed.status != 200:
+        return None
+    attr = talk.ask(about("GET", "attr", names)).told if may.get("t") else {}
+    return holders(listed.body.decode(), CHANGES[route], attr.get("owner"), attr.get("group"))

@@ -1,0 +1,80 @@
+"""The addresses below /door/: which methods they have, and what they do."""
+from collections.abc import Callable
+from dataclasses import dataclass
+
+from .ask.answers import Answer, Stop
+from .folders.archive import archive
+from .folders.below import below
+from .folders.find import find
+from .folders.matched import condition_of, read, replace
+from .ask.paths import Names, names_in
+from .ask.room import Room
+
+PREFIX = "/door/"
+# What may take long, each with its kind.
+LONG_ROUTES = {"below": "walk", "find": "walk", "zip": "zip"}
+
+
+@dataclass(frozen=True)
+class Asked:
+    """A request of a user."""
+    room: Room
+    user: str
+    method: str
+    route: str
+    names: Names
+    query: str
+    # The value of a field of the head, or nothing.
+    field: Callable[[str], str]
+    body: bytes
+
+
+Route = Callable[[Asked], Answer]
+
+
+def _below(asked: Asked) -> Answer:
+    return below(asked.room, asked.user, asked.names)
+
+
+def _find(asked: Asked) -> Answer:
+    return find(asked.room, asked.user, asked.names, asked.query)
+
+
+def _zip(asked: Asked) -> Answer:
+    return archive(asked.room, asked.user, asked.names)
+
+
+def _read(asked: Asked) -> Answer:
+    return read(asked.room, asked.user, asked.route, asked.names)
+
+
+def _replace(asked: Asked) -> Answer:
+    return replace(asked.room, asked.user, asked.route, asked.names, asked.body,
+                   condition_of(asked.field("If-Match"), asked.field("If-None-Match")))
+
+
+_MATCHED: dict[str, Route] = {"GET": _read, "PUT": _replace}
+ROUTES: dict[str, dict[str, Route]] = {
+    "below": {"GET": _below}, "find": {"GET": _find}, "zip": {"GET": _zip},
+    "doc": _MATCHED, "dacl": _MATCHED, "sacl": _MATCHED}
+
+
+def place_of(target: str) -> tuple[str, str, str]:
+    """Route, path and query. Nothing else than a path of this form comes further."""
+    if "#" in target or not target.startswith(PREFIX):
+        raise Stop(404, "no-route")
+    whole, mark, query = target.partition("?")
+    route, slash, rest = whole[len(PREFIX):].partition("/")
+    if route not in ROUTES or not slash:
+        raise Stop(404, "no-route")
+    if mark and route != "find":
+        raise Stop(400, "bad-query", "no query may stand here")
+    return route, rest, query
+
+
+def route_of(method: str, target: str) -> tuple[Route, str, Names, str]:
+    route, rest, query = place_of(target)
+    methods = ROUTES[route]
+    if method not in methods:
+        raise Stop(405, "no-method", fields={"Allow": ", ".join(sorted(methods))})
+    return methods[method], route, names_in(rest), query

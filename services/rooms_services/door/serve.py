@@ -1,0 +1,219 @@
+"""HTTP: messages from nginx, which has collected each of them, to what they ask for, and back.
+
+A connection has a thread. nginx collects whole requests and takes whole replies at once, however
+slow its callers are, so threads wait for the room and for their turn alone."""
+import http.server
+import os
+import re
+import socketserver
+import sys
+import threading
+import traceback
+from urllib.parse import urlsplit
+
+from .ask.answers import TEXT, Answer, Stop, reason
+from .ask.room import LARGEST, USER, Room
+from .routes import LONG_ROUTES, PREFIX, Asked, route_of
+from .ask.turns import Users
+from .webdav.calls import Drive
+from .webdav.locks import Locks
+from .webdav.methods import LONG_METHODS, answer
+
+# Connections, most of which wait for their turn; and how long nginx may keep one waiting.
+MOST = 256
+SECONDS = 65.0
+
+
+# What stands before the addresses of a room without a host of its own. nginx says it.
+_ABOVE = re.compile(r"(/[a-z0-9-]{1,32})?")
+
+
+class Door:
+    """A door may have no drive."""
+
+    def __init__(self, room: Room, drive: Drive | None = None) -> None:
+        self.room = room
+        self.drive = drive
+        self.users = Users()
+
+    def is_drive(self, target: str) -> bool:
+        return self.drive is not None and target.startswith("/drive") and target[6:7] in ("", "/")
+
+
+class Handler(http.server.BaseHTTPRequestHandler):
+    protocol_version = "HTTP/1.1"
+    timeout = SECONDS
+    door: Door
+
+    def address_string(self) -> str:
+        return "nginx"
+
+    def log_request(self, code: object = "-", size: object = "-") -> None:
+        """nginx writes the log."""
+
+    def _field(self, name: str) -> str:
+        """The value of a field that may stand once. Two would be read in two ways."""
+        values: list[str] = self.headers.get_all(name, [])
+        if len(values) > 1:
+            raise Stop(400, "bad-field", f"a field stands twice: {name}")
+        return values[0].strip() if values else ""
+
+    def _user(self) -> str:
+        """As nginx says. Two names would be one of the client's and one of nginx's."""
+        names: list[str] = self.headers.get_all("Room-User", [])
+        if len(names) != 1 or not USER.fullmatch(names[0].strip()):
+            raise Stop(400, "bad-user", "no name of a user")
+        return names[0].strip()
+
+    def _refuse_others(self) -> None:
+        """A browser sends a saved password with what a page of another site causes. Nobody there
+        has a reason to ask here, not even to read: it costs work, and may leave a record."""
+        site, origin = self._field("Sec-Fetch-Site"), self._field("Origin")
+        if site not in ("", "same-origin", "none") or origin and urlsplit(
+                origin).netloc.lower() != self._field("Host").lower():
+            raise Stop(403, "another-site", "a page of another site may not ask here")
+
+    def _length(self) -> int:
+        """A message whose end isn't sure ends the connection."""
+        if "Transfer-Encoding" in self.headers:
+            raise Stop(501, "transfer-coding", "a body has to come with its length")
+        text = self._field("Content-Length") or "0"
+        if not (text.isascii() and text.isdigit()):
+            raise Stop(400, "bad-length", "no length")
+        if len(text) > 9 or int(text) > LARGEST:
+            raise Stop(413, "too-large", f"a document has at most {LARGEST} bytes")
+        return int(text)
+
+    def _body(self, length: int) -> bytes:
+        body = self.rfile.read(length)
+        if len(body) != length:
+            self.close_connection = True
+            raise Stop(400, "bad-length", "the body was cut off")
+        return body
+
+    def _answer(self) -> None:
+        """A body is read once it is the user's turn, so that no user fills the memory by it."""
+        length = 0
+        try:
+            length = self._length()
+            user = self._user()
+            self._refuse_others()
+            with self.door.users.turn(user, self._kind()):
+                self._send(self._done(user, length))
+        except Stop as stop:
+            # nginx sends all of it before it reads an answer.
+            while length > 0 and (part := self.rfile.read(min(length, 65_536))):
+                length -= len(part)
+            self.close_connection = True
+            self._send(stop.answer(False))
+
+    def _kind(self) -> str:
+        """Of what may take long."""
+        if self.door.is_drive(self.path):
+            return "walk" if self.command in LONG_METHODS else ""
+        return LONG_ROUTES.get(self.path.removeprefix(PREFIX).partition("/")[0], "")
+
+    def _done(self, user: str, length: int) -> Answer:
+        drive = self.door.drive if self.door.is_drive(self.path) else None
+        try:
+            body = self._body(length)
+            if drive:
+                above = self._field("Room-Above")
+                if not _ABOVE.fullmatch(above):
+                    raise Stop(400, "bad-field", "Room-Above is no place of a room")
+                return answer(drive, self.door.room, user, self.command, self.path, above,
+                              self._field, body)
+            route, word, names, query = route_of(self.command, self.path)
+            return route(Asked(self.door.room, user, self.command, word, names, query,
+                               self._field, body))
+        except Stop as stop:
+            return stop.answer(drive is not None)
+        except OSError:
+            raise
+        except Exception:
+            traceback.print_exc()
+            return Answer(500, b"a fault of the door. Look whether it was done\n", TEXT)
+
+    def one(self) -> None:
+        try:
+            self._answer()
+        except OSError:
+            # Whoever asked is gone, or takes nothing: all that was asked is done.
+            self.close_connection = True
+
+    def _send(self, answer: Answer) -> None:
+        has_body = answer.status not in (204, 304)
+        self.send_response_only(answer.status, reason(answer.status))
+        for name, value in answer.fields.items():
+            self.send_header(name, value)
+        if answer.kind:
+            self.send_header("Content-Type", answer.kind)
+        if answer.parts is not None:
+            self.send_header("Transfer-Encoding", "chunked")
+        elif has_body:
+            self.send_header("Content-Length", str(len(answer.body)))
+        if self.close_connection:
+            self.send_header("Connection", "close")
+        self.end_headers()
+        if answer.parts is not None:
+            self._send_parts(answer)
+        elif has_body and self.command != "HEAD":
+            self.wfile.write(answer.body)
+
+    def _send_parts(self, answer: Answer) -> None:
+        """Without the last chunk, which nginx waits for, where something failed: so it breaks the
+        download off."""
+        try:
+            for part in answer.parts or ():
+                if part:
+                    self.wfile.write(b"%x\r\n%b\r\n" % (len(part), part))
+            self.wfile.write(b"0\r\n\r\n")
+        except Stop as stop:
+            self.close_connection = True
+            print(f"a download was broken off: {stop.why}", file=sys.stderr, flush=True)
+
+    def __getattr__(self, name: str) -> object:
+        """Whatever the method is, it is answered here."""
+        if name.startswith("do_"):
+            return self.one
+        raise AttributeError(name)
+
+
+class Server(socketserver.ThreadingMixIn, socketserver.UnixStreamServer):
+    """A thread for each connection, up to MOST; then nobody is accepted until one ends."""
+    daemon_threads = True
+    request_queue_size = 256
+
+    def __init__(self, place: str, handler: type[Handler]) -> None:
+        self._free = threading.BoundedSemaphore(MOST)
+        super().__init__(place, handler)
+
+    def process_request(self, request: object, client_address: object) -> None:
+        self._free.acquire()
+        super().process_request(request, client_address)  # type: ignore[arg-type]
+
+    def process_request_thread(self, request: object, client_address: object) -> None:
+        try:
+            super().process_request_thread(request, client_address)  # type: ignore[arg-type]
+        finally:
+            self._free.release()
+
+    def handle_error(self, request: object, client_address: object) -> None:
+        """A connection that nginx broke off is no fault of this program."""
+        if not isinstance(sys.exc_info()[1], OSError):
+            traceback.print_exc()
+
+
+def opened(place: str, door: Door) -> Server:
+    # The folder is this unit's own, so what is there was left by a door that was killed.
+    if os.path.lexists(place):
+        os.unlink(place)
+    threading.stack_size(524_288)
+    return Server(place, type("Opened", (Handler,), {"door": door}))
+
+
+def serve(room: str, listen: str, has_drive: bool) -> None:
+    drive = Drive(Locks(os.path.join(os.path.dirname(listen), "locks"))) if has_drive else None
+    with opened(listen, Door(Room(room), drive)) as server:
+        print(f"listening {listen}", file=sys.stderr, flush=True)
+        server.serve_forever()

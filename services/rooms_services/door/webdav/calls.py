@@ -1,0 +1,174 @@
+"""A request by WebDAV, and what stands before each change: conditions and locks."""
+from collections.abc import Callable, Iterable, Iterator
+from contextlib import contextmanager
+
+from . import objects
+from ..ask.answers import Stop
+from ..ask.paths import Names, shown
+from ..ask.room import Ask, Reply, Room, Talk, about, rows
+from .aside import Aside, is_aside
+from .conditions import Condition, Listed, names_tag, read_if
+from .dates import Dates
+from .locks import Lock, Locks
+from .objects import Document, Folder, stop_of, tag_of
+from .paths import other_names
+
+
+class Call:
+    """Of one user. What it asks alone goes over one connection, between which and the change
+    nobody comes, neither by this door nor by another way."""
+
+    def __init__(self, room: Room, user: str, method: str, place: tuple[str, Names, bool],
+                 field: Callable[[str], str], body: bytes) -> None:
+        self.room = room
+        self.user = user
+        self.method = method
+        # What stands before each path; the path; whether a slash stands at its end.
+        self.prefix, self.names, self.slash = place
+        self.field = field
+        self.body = body
+        # What the field If names, of the caller's own locks.
+        self.tokens: frozenset[str] = frozenset()
+        self._talk: Talk | None = None
+
+    @contextmanager
+    def alone(self) -> Iterator[None]:
+        with self.room.talk(self.user) as talk:
+            self._talk = talk
+            try:
+                yield
+            finally:
+                self._talk = None
+
+    def ask(self, ask: Ask) -> Reply:
+        return self._talk.ask(ask) if self._talk else self.room.ask(self.user, ask)
+
+    def row(self, asks: list[Ask]) -> list[Reply]:
+        """Only of what changes nothing."""
+        if self._talk:
+            return [self._talk.ask(ask) for ask in asks]
+        return self.room.row(self.user, asks)
+
+    def each(self, asks: Iterable[Ask]) -> Iterator[Reply]:
+        for row in rows(self.user, asks):
+            yield from self.row(row)
+
+
+class Drive:
+    """What only this door knows: locks, and files that aren't for the room."""
+
+    def __init__(self, locks: Locks) -> None:
+        self.locks = locks
+        self.aside = Aside()
+        self.dates = Dates()
+
+    def look(self, call: Call, names: Names, with_bytes: bool = False) -> Folder | Document | None:
+        if is_aside(names):
+            kept = self.aside.get(call.user, names)
+            if kept is not None:
+                return Document(kept)
+        found = objects.look(call, names, with_bytes)
+        if found is None and self.pending(call.user, names):
+            return Document(b"")
+        return found
+
+    def pending(self, user: str, names: Names) -> Lock | None:
+        """A lock on a name that the room doesn't have yet: it is an empty document to who has the
+        lock. It comes to the room with its bytes, or when the lock is given back. So who may add
+        and not change can add with a program that locks first."""
+        return next((lock for lock in self.locks.covering(names)
+                     if lock.names == names and lock.pending and lock.user == user), None)
+
+    def settle(self, call: Call, names: Names) -> None:
+        """The empty document that a lock on a name promised comes to the room."""
+        lock = self.pending(call.user, names)
+        if lock is None or lock.refused:
+            return
+        if objects.look(call, names, False) is None:
+            reply = call.ask(about("PUT", "doc", names))
+            if reply.status not in (201, 204):
+                raise stop_of(reply, {404: 409})
+        lock.pending = False
+        self.locks.keep()
+
+    def destination(self, call: Call) -> Names:
+        address = call.field("Destination")
+        if not address:
+            raise Stop(400, "bad-address", "no Destination")
+        return other_names(address, call.field("Host"), call.prefix)
+
+    # Conditions
+
+    def heed(self, call: Call) -> None:
+        """Ends the request with 412 if its conditions don't hold, and notes the locks it names."""
+        if text := call.field("If"):
+            lists = read_if(text)
+            if not any(self._holds(call, listed) for listed in lists):
+                raise Stop(412, "changed", "a condition of the field If doesn't hold")
+            named = {condition.token for listed in lists for condition in listed.conditions}
+            call.tokens = frozenset(token for token in named if self.locks.of(call.user, token))
+        match, none = call.field("If-Match"), call.field("If-None-Match")
+        if match or none:
+            tag = self._tag(call, call.names)
+            if match and not (tag and names_tag(match, tag, False)) \
+                    or none and tag and names_tag(none, tag, True):
+                raise Stop(412, "changed", "the document isn't the one that the request speaks of")
+
+    def _tag(self, call: Call, names: Names) -> str:
+        """Empty if nothing is there; of what can't be read, no tag that anybody can name."""
+        found = self.look(call, names, True)
+        if found is None:
+            return ""
+        if isinstance(found, Document) and found.body is not None:
+            return tag_of(found.body)
+        return "unknown"
+
+    def _holds(self, call: Call, listed: Listed) -> bool:
+        names = call.names
+        if listed.address is not None:
+            try:
+                names = other_names(listed.address, call.field("Host"), call.prefix)
+            except Stop:
+                return False
+        return all(self._is(call, names, condition) == condition.positive
+                   for condition in listed.conditions)
+
+    def _is(self, call: Call, names: Names, condition: Condition) -> bool:
+        if condition.tag:
+            return condition.tag == self._tag(call, names)
+        lock = self.locks.of(call.user, condition.token)
+        return lock is not None and lock.covers(names)
+
+    # Locks
+
+    def guard(self, call: Call, names: Names, member: bool = False, tree: bool = False) -> None:
+        """Ends the request if a lock whose token it doesn't name is in the way: on the object; with
+        `member`, on the folder that gains or loses it; with `tree`, on anything below."""
+        there = self.locks.covering(names)
+        if member and names:
+            there += [lock for lock in self.locks.covering(names[:-1]) if not lock.deep]
+        if tree:
+            there += self.locks.below(names)
+        for lock in there:
+            if lock.token in call.tokens or lock.shared and any(
+                    other.token in call.tokens for other in there if other.names == lock.names):
+                continue
+            self._passes(call, names)
+            raise Stop(423, "locked", f"locked by {lock.user}: {shown(lock.names)}")
+
+    def _passes(self, call: Call, names: Names) -> None:
+        """Nobody learns of a lock behind a folder that denies them the way."""
+        reply = call.ask(about("GET", "can", names))
+        if reply.status == 403:
+            raise stop_of(reply)
+
+    @contextmanager
+    def reserved(self, call: Call, *places: Names) -> Iterator[None]:
+        """Nobody changes what is there while it is removed or filled piece by piece."""
+        held = [self.locks.reserve(call.user, names) for names in places]
+        call.tokens |= {lock.token for lock in held}
+        try:
+            yield
+        finally:
+            for lock in held:
+                self.locks.end(lock)

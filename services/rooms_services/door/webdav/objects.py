@@ -1,0 +1,141 @@
+"""What is at a path, by the requests of the room. Nothing is remembered: the room doesn't say when
+something changes, and somebody else may change it at any moment."""
+import hashlib
+import json
+from collections.abc import Callable, Iterable, Iterator
+from dataclasses import dataclass
+from typing import Protocol
+
+from ..ask.answers import Stop
+from ..ask.paths import Names, shown
+from ..ask.room import LARGEST, Ask, Reply, about
+
+# Documents, of up to 1 MiB each, that are in memory at once.
+ROW_OF_DOCUMENTS = 8
+
+
+class Asks(Protocol):
+    """Whoever asks the room in the name of a user."""
+
+    def ask(self, ask: Ask) -> Reply: ...
+
+    def row(self, asks: list[Ask]) -> list[Reply]: ...
+
+    def each(self, asks: Iterable[Ask]) -> Iterator[Reply]: ...
+
+
+@dataclass(frozen=True)
+class Child:
+    name: str
+    folder: bool
+
+
+@dataclass(frozen=True)
+class Folder:
+    """None if the caller may not list it."""
+    children: tuple[Child, ...] | None
+    reply: Reply
+
+
+@dataclass(frozen=True)
+class Document:
+    """None if the caller may not read it, or if nobody asked for the bytes."""
+    body: bytes | None
+
+
+@dataclass(frozen=True)
+class Measure:
+    """What only the bytes of a document tell."""
+    length: int
+    tag: str
+    sums: str
+
+
+def tag_of(body: bytes) -> str:
+    """Some clients have no room for more."""
+    return f'"{hashlib.sha256(body).hexdigest()[:32]}"'
+
+
+def measure(body: bytes, with_sums: bool) -> Measure:
+    """With the sums by which rclone compares, or without."""
+    sums = f"SHA1:{hashlib.sha1(body).hexdigest()} MD5:{hashlib.md5(body).hexdigest()}" \
+        if with_sums else ""
+    return Measure(len(body), tag_of(body), sums)
+
+
+def is_about(reply: Reply, names: Names) -> bool:
+    return reply.at == shown(names)
+
+
+def stop_of(reply: Reply, changed: dict[int, int] | None = None) -> Stop:
+    """The room's own status, unless WebDAV has another one for it here."""
+    status = (changed or {}).get(reply.status, reply.status)
+    if status == 413:
+        return too_large()
+    return Stop(status, reply.why or "denied", reply.text())
+
+
+def too_large() -> Stop:
+    return Stop(413, "too-large", f"a document has at most {LARGEST} bytes")
+
+
+def children_of(reply: Reply) -> tuple[Child, ...]:
+    return tuple(Child(row["name"], row["kind"] == "folder") for row in json.loads(reply.body))
+
+
+def look(by: Asks, names: Names, with_bytes: bool) -> Folder | Document | None:
+    """A denial of the way to it ends the request. Whether a document may be read is asked before it
+    is read, so that no record says of somebody who only looked at a folder that they tried to."""
+    listed, can = by.row([about("GET", "folder", names), about("GET", "can", names, "r")])
+    if listed.status == 409 and listed.why == "wrong-kind":
+        if not with_bytes or not can.rulings().get("r"):
+            return Document(None)
+        read = by.ask(about("GET", "doc", names))
+        return Document(read.body) if read.status == 200 else Document(None)
+    if listed.status == 200:
+        return Folder(children_of(listed), listed)
+    if listed.status == 403 and is_about(listed, names) and can.status == 200:
+        return Folder(None, listed)
+    if listed.status == 404 or listed.why == "not-folder":
+        return None
+    raise stop_of(listed)
+
+
+def measured(by: Asks, documents: Iterable[Names], with_sums: bool,
+             goes_on: Callable[[], None]) -> dict[Names, Measure]:
+    """Of each that the caller may read. The room has no other way to tell a length than all of the
+    bytes."""
+    asked = list(documents)
+    cans = by.each(about("GET", "can", names, "r") for names in asked)
+    readable = [names for names, can in zip(asked, cans, strict=True) if can.rulings().get("r")]
+    found: dict[Names, Measure] = {}
+    for place in range(0, len(readable), ROW_OF_DOCUMENTS):
+        goes_on()
+        row = readable[place:place + ROW_OF_DOCUMENTS]
+        for names, reply in zip(row, by.row([about("GET", "doc", one) for one in row]),
+                                strict=True):
+            if reply.status == 200:
+                found[names] = measure(reply.body, with_sums)
+    return found
+
+
+def may(by: Asks, names: Names, bits: str) -> None:
+    """Ends the request unless one of these rights is granted. Asking leaves no record."""
+    reply = by.ask(about("GET", "can", names, bits))
+    if reply.status != 200:
+        raise stop_of(reply)
+    if True not in reply.rulings().values():
+        raise Stop(403, "denied", f"denied: {bits} at {shown(names)}")
+
+
+def has_own_list(by: Asks, names: Names) -> bool:
+    """Whether a list was set at the object itself, as far as the caller may read it: it is closed
+    to what is passed down (`p`), or has an entry that wasn't (`I`)."""
+    if not by.ask(about("GET", "can", names, "c")).rulings().get("c"):
+        return False
+    reply = by.ask(about("GET", "dacl", names))
+    if reply.status != 200:
+        return False
+    head, *entries = reply.body.decode().splitlines()
+    return "p" in head.removeprefix("list:") or any(
+        "I" not in entry.split(":", 2)[1] for entry in entries)

@@ -1,0 +1,84 @@
+"""PUT, MKCOL and PROPPATCH."""
+from . import bodies, properties
+from ..ask.answers import Answer, Stop
+from ..ask.paths import Names
+from ..ask.room import about
+from .aside import is_aside
+from .bodies import DAV
+from .calls import Call, Drive
+from .objects import Folder, stop_of, tag_of, too_large
+from .paths import href
+
+
+def put(drive: Drive, call: Call) -> Answer:
+    """A save in place: the document keeps its list and its owner."""
+    try:
+        with call.alone():
+            drive.heed(call)
+            answer = _put(drive, call)
+    except Stop:
+        if lock := drive.pending(call.user, call.names):
+            lock.refused = True
+            drive.locks.keep()
+        raise
+    if lock := drive.pending(call.user, call.names):
+        lock.pending = False
+        drive.locks.keep()
+    return answer
+
+
+def _put(drive: Drive, call: Call) -> Answer:
+    if call.field("Room-Too-Large"):
+        # nginx hasn't taken the body, and says so here, since a lock may wait for it.
+        raise too_large()
+    if call.slash:
+        raise Stop(405, "wrong-kind", "a document has no slash at its end")
+    if call.field("Content-Range"):
+        raise Stop(400, "bad-field", "a part can't be written, only the whole document")
+    if is_aside(call.names):
+        new = put_aside(drive, call, call.names, call.body)
+        return Answer(201 if new else 204, fields={"ETag": tag_of(call.body)})
+    drive.guard(call, call.names)
+    if any(lock.names == call.names[:-1] for lock in drive.locks.covering(call.names[:-1])) \
+            and drive.look(call, call.names) is None:
+        drive.guard(call, call.names, member=True)
+    reply = call.ask(about("PUT", "doc", call.names, body=call.body))
+    if reply.status not in (201, 204):
+        raise stop_of(reply, {404: 409, 409: 405 if reply.why == "wrong-kind" else 409})
+    return Answer(reply.status, fields={"ETag": tag_of(call.body)})
+
+
+def put_aside(drive: Drive, call: Call, names: Names, body: bytes) -> bool:
+    """Only where the caller gets to, so that the door tells no more than the room."""
+    reply = call.ask(about("GET", "can", names[:-1]))
+    if reply.status != 200:
+        raise stop_of(reply, {404: 409})
+    return drive.aside.put(call.user, names, body)
+
+
+def mkcol(drive: Drive, call: Call) -> Answer:
+    if call.body:
+        raise Stop(415, "bad-body", "a folder is made without a body")
+    if is_aside(call.names):
+        raise Stop(403, "aside", "such a folder isn't for an office")
+    with call.alone():
+        drive.heed(call)
+        drive.guard(call, call.names, member=True)
+        reply = call.ask(about("POST", "folder", call.names))
+    if reply.status != 201:
+        raise stop_of(reply, {404: 409, 409: 405 if reply.why == "exists" else 409})
+    return Answer(201)
+
+
+def proppatch(drive: Drive, call: Call) -> Answer:
+    root = bodies.read(call.body, "propertyupdate")
+    tags = [tag.tag for part in root.children if part.tag in ((DAV, "set"), (DAV, "remove"))
+            for prop in part.children for tag in prop.children]
+    with call.alone():
+        drive.heed(call)
+        found = drive.look(call, call.names)
+        if found is None:
+            raise Stop(404, "no-such", "nothing is here")
+        drive.guard(call, call.names)
+    return properties.several([properties.patched(
+        href(call.prefix, call.names, isinstance(found, Folder)), list(dict.fromkeys(tags)))])

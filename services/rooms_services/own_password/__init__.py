@@ -1,0 +1,1 @@
+"""Users change their own passwords: nginx asks here, with the name that it has checked."""

@@ -1,0 +1,114 @@
+"""One change of a password: one request of nginx's, by SCGI on standard input, and its answer.
+systemd starts this for each connection, as the user who owns the files of passwords and nothing
+else, so one that hangs or is taken over is gone with its request. The caller has passed nginx's
+check; the present password is asked for again, and its line is replaced only if it is still the
+one that this was checked against."""
+import json
+import os
+import subprocess
+import time
+
+from rooms_admin.cli.report import Refused, Stop, say
+from rooms_admin.host import safe
+from rooms_admin.room import names, passwords, published
+
+from ..scgi import Answer, asked, not_understood
+from . import rules, tries
+
+# The body has two passwords with escapes.
+BODY = 2048
+# How long root's own change may take, which holds the folder for some milliseconds.
+PATIENCE = 5.0
+
+
+def words_of(body: bytes) -> tuple[str, str]:
+    """The present password and the new one."""
+    try:
+        got = json.loads(body)
+    except (ValueError, RecursionError):
+        raise not_understood() from None
+    if not isinstance(got, dict) or set(got) != {"old", "new"}:
+        raise not_understood()
+    old, new = got["old"], got["new"]
+    if not isinstance(old, str) or not isinstance(new, str):
+        raise not_understood()
+    return old, new
+
+
+def is_right(hashed: bytes, password: str) -> bool:
+    """By htpasswd, which knows all kinds that nginx does but {PLAIN} and the like. It gets neither
+    the file nor the name."""
+    number = os.memfd_create("line", 0)
+    with safe.opened(number):
+        safe.write_all(number, b"user:" + hashed + b"\n")
+        try:
+            done = subprocess.run(["htpasswd", "-vi", f"/proc/self/fd/{number}", "user"],
+                                  input=f"{password}\n".encode(), stdout=subprocess.DEVNULL,
+                                  stderr=subprocess.DEVNULL, pass_fds=(number,), check=False)
+        except OSError as fault:
+            raise Stop(f"no htpasswd: {fault.strerror}") from fault
+    return done.returncode == 0
+
+
+def _file(room: str) -> str:
+    if not names.is_room(room):
+        raise not_understood()
+    file = published.ROOT + passwords.kept_of(room)
+    if not os.path.lexists(file):
+        # Its passwords are a directory's, or root's alone.
+        raise Answer("404 Not Found", "not-here")
+    return file
+
+
+def change(room: str, user: str, old: str, new: str) -> None:
+    file = _file(room)
+    if not names.is_user(user):
+        raise not_understood()
+    found = passwords.line_of(file, user)
+    line = found.text if found else passwords.NOBODYS
+    with tries.counted(room, user, line) as wrong:
+        # Whoever has no line takes as long.
+        right = (rules.can_be(old) and is_right(line.partition(b":")[0], old)
+                 and found is not None)
+        if not right:
+            wrong.append(time.time())
+        else:
+            wrong.clear()
+    if not right:
+        raise Answer("403 Forbidden", "old")
+    if why := rules.fault_of(user, old, new):
+        raise Answer("422 Unprocessable Entity", why)
+    # What stands behind the password is the administrator's.
+    made = b":".join([passwords.hashed(new), *line.split(b":")[1:]])
+    try:
+        with passwords.held(file, PATIENCE):
+            # Root may have taken the name away, or given another password, while this was made.
+            if passwords.line_of(file, user) != found:
+                raise Answer("409 Conflict", "changed")
+            passwords.put_lines(file, {user: made})
+            passwords.put_lines(passwords.first_of(file), {user: None})
+    except passwords.Held:
+        raise Answer("503 Service Unavailable", "busy") from None
+
+
+def answer(source: int) -> Answer:
+    try:
+        fields, body = asked(lambda count: os.read(source, count), BODY)
+        if fields.get("CONTENT_TYPE", "").partition(";")[0].strip() != "application/json":
+            # No form of another site's has this type.
+            raise Answer("415 Unsupported Media Type", "type")
+        change(fields.get("ROOM", ""), fields.get("ROOM_USER", ""), *words_of(body))
+    except Answer as given:
+        return given
+    except (Refused, Stop, OSError) as fault:
+        say(f"failed: {fault}")
+        return Answer("500 Internal Server Error", "store")
+    say(f"{fields['ROOM_USER']} of {fields['ROOM']} has a new password")
+    return Answer("204 No Content")
+
+
+def run() -> int:
+    os.umask(0o027)
+    os.chdir("/")
+    safe.write_all(1, answer(0).text())
+    return 0

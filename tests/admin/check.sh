@@ -1,0 +1,418 @@
+# rooms-admin check: one line and a status for monitoring, for a room that is well and for each
+# thing that isn't; and the nightly run, which fails where the site's certificate has expired.
+
+if [ "$loopback" = no ] || [ ! -x /usr/bin/python3 ] || ! has openssl; then
+  skip 'what a check finds' 'no loopback, or python3 or openssl is missing'
+  return
+fi
+/usr/bin/python3 "$here/admin/test_watched.py" >said 2>&1
+status=$?
+holds "its parts: $(tail -n 20 said)" [ "$status" = 0 ]
+make_stand
+open_room office/F
+[ "$STAND_USER" = "$(id -u)" ] || chown -R 65534:65534 office
+unit start
+
+# nginx is played: it answers as a file says.
+cat >front.py <<'END'
+import http.server
+import sys
+class Front(http.server.BaseHTTPRequestHandler):
+    def do_GET(self):
+        with open('front.status') as source:
+            status = int(source.read())
+        with open('front.asked', 'a') as asked:
+            asked.write(f'{self.headers["Host"]} {self.path}\n')
+        self.send_response(status)
+        with open('front.fields') as source:
+            for line in source:
+                name, _, value = line.rstrip().partition(': ')
+                self.send_header(name, value)
+        self.send_header('Content-Length', '0')
+        self.end_headers()
+    def log_message(self, *words):
+        pass
+server = http.server.HTTPServer(('127.0.0.1', 0), Front)
+with open('front.port', 'w') as port:
+    port.write(f'{server.server_port}\n')
+server.serve_forever()
+END
+echo 401 >front.status
+policy=$(grep -om 1 "default-src 'none'; [^\"]*" "$repo/deploy/nginx/site.conf.in")
+ours() { printf '%s\n' "Content-Security-Policy: $policy" >front.fields; }
+ours
+/usr/bin/python3 front.py &
+others+=($!)
+until [ -s front.port ]; do sleep 0.02; done
+ROOMS_FRONT=127.0.0.1:$(<front.port)
+export ROOMS_FRONT
+
+# What systemd says beside the server, and a mail program or none.
+mkdir -p root/etc/nginx/{sites-enabled,sites-available} \
+  root/etc/systemd/system/timers.target.wants root/var/lib/systemd/timers
+: >failed
+echo active >timer
+mv stand/bin/systemctl stand/bin/own
+cat >stand/bin/systemctl <<END
+#!/usr/bin/env bash
+case "\$*" in
+  'list-units '*) cat "$PWD/failed" ;;
+  'is-active rooms-nightly@office.timer') cat "$PWD/timer" ;;
+  'show -p MemoryMax'*) echo 1073741824 ;;
+  'start --no-block '*) echo "\$*" >>"$PWD/told" ;;
+  *) exec "$PWD/stand/bin/own" "\$@" ;;
+esac
+END
+chmod 755 stand/bin/systemctl
+settings() { # LINE ..: those of office, and more
+  printf '%s\n' "FILE=$PWD/office/F" "PORT=$(<"$stand/port")" "BACKUPS=$PWD/backups" \
+    UNIT=rooms@office "PROGRAM=$rooms" "$@" >root/etc/rooms/office.conf
+  echo "upstream room_office { server 127.0.0.1:$(<"$stand/port"); }" \
+    >root/etc/nginx/sites-available/rooms
+}
+settings
+ln -s ../sites-available/rooms root/etc/nginx/sites-enabled/rooms
+backup() { # DATE: a good one of that time
+  local name
+  name=$(date -d "$1" +%F.%H%M%S)
+  mkdir -p "backups/$name"
+  cp office/F "backups/$name/F"
+  touch -d "$1" "backups/$name/F"
+  echo "$name"
+}
+backup '1 hour ago' >/dev/null
+checks() { # NAME STATUS TEXT ..
+  ROOMS_SETTINGS=$PWD/root/etc/rooms PATH=$stand/bin:$PATH timeout "$patience" \
+    "$repo/admin/rooms-admin" check ${words[@]+"${words[@]}"} >"$work/out" 2>"$work/err" </dev/null
+  status=$?
+  told "$@"
+  holds "$1: one line" [ "$(wc -l <"$work/out")" = 1 ]
+  holds "$1: and no other: $(head -c 300 "$work/err")" [ ! -s "$work/err" ]
+}
+words=()
+checks 'a room that is well' 0 'rooms OK - office: answers, nginx answers, ' \
+  ' of 384 MB in use, last good backup 1 h ago'
+holds 'nginx was asked for the room' grep -qx "127.0.0.1:$(<front.port) /can/?" front.asked
+words=(office)
+checks 'by its name' 0 'rooms OK - office: '
+words=("$PWD/root/etc/rooms/office.conf")
+checks 'by its settings' 0 'rooms OK - office: '
+words=()
+tree() {
+  find office backups root -exec ls -ld --time-style=full-iso {} + |
+    grep -v -e front -e 'office$' && cksum office/F backups/*/F
+}
+tree >before
+checks 'once more' 0 'rooms OK'
+tree >after
+same 'nothing is changed' after before
+
+# nginx.
+for status in 404 502 503 504; do
+  echo "$status" >front.status
+  checks "nginx says $status" 2 "rooms CRITICAL - office: nginx answers $status for it"
+done
+# Beside other sites of nginx's it is asked by the site's name, and knows another site's answer.
+printf '%s\n' 'HOSTS=docs.example rooms.example' CERTIFICATE= KEY= >root/etc/rooms/site
+echo 401 >front.status
+: >front.asked
+checks 'the site of a name' 0 'rooms OK - office: answers, nginx answers, '
+holds 'is asked by that' grep -qx 'docs.example /can/?' front.asked
+for status in 200 401 403; do
+  echo "$status" >front.status
+  for field in '' 'Content-Security-Policy: default-src *' \
+    'WWW-Authenticate: Basic realm="wiki"'; do
+    printf '%s' "${field:+$field
+}" >front.fields
+    checks "another site says $status, $field" 2 \
+      "another site of nginx's answers for docs.example: HOSTS in /etc/rooms/site"
+  done
+done
+echo 'WWW-Authenticate: Basic realm="rooms"' >front.fields
+checks 'it asks for a password of rooms' 0 'rooms OK - office: answers, nginx answers, '
+ours
+rm root/etc/rooms/site
+echo 401 >front.status
+echo 'upstream room_office { server 127.0.0.1:1; }' >root/etc/nginx/sites-available/rooms
+checks 'nginx asks at another port' 2 "nginx passes nothing on to port $(<"$stand/port")"
+settings
+ROOMS_FRONT=127.0.0.1:1 checks 'no nginx' 2 "nginx doesn't answer: "
+
+# A room with a socket is asked there, and not at the port at which another server listens.
+settings SOCKET=yes
+checks 'no socket' 2 "rooms@office doesn't answer (active)" 'nginx passes nothing on to its socket'
+mkdir -p run/rooms/office
+chown "$STAND_USER" run/rooms/office
+echo "$PWD/run/rooms/office/socket" >"$stand/socket"
+unit stop
+unit start
+settings SOCKET=yes
+echo 'upstream room_office { server unix:/run/rooms/office/socket; }' \
+  >root/etc/nginx/sites-available/rooms
+checks 'a socket' 0 'rooms OK - office: answers, nginx answers, '
+unit stop
+rm -r "$stand/socket" run/rooms
+unit start
+settings
+
+# A file that was made as root, which its server can't open.
+if [ "$STAND_USER" != "$(id -u)" ]; then
+  chown 0 office/F
+  checks "root's file" 2 "$PWD/office/F isn't its server's, which can't open it: chown --reference="
+  chown "$STAND_USER:$STAND_USER" office/F
+fi
+
+# A directory that checks passwords, and one that is down. Its Apache is played.
+cat >apache.py <<'END'
+import base64
+import http.server
+class Apache(http.server.BaseHTTPRequestHandler):
+    def do_GET(self):
+        named = base64.b64decode(self.headers['Authorization'].split()[1]).decode()
+        with open('apache.asked', 'a') as asked:
+            asked.write(f'{self.path} {self.headers["Rooms-Key"]} {named}\n')
+        with open('apache.status') as source:
+            self.send_response(int(source.read()))
+        self.send_header('Content-Length', '0')
+        self.end_headers()
+    def log_message(self, *words):
+        pass
+server = http.server.HTTPServer(('127.0.0.1', 0), Apache)
+with open('apache.port', 'w') as port:
+    port.write(f'{server.server_port}\n')
+server.serve_forever()
+END
+/usr/bin/python3 apache.py &
+others+=($!)
+until [ -s apache.port ]; do sleep 0.02; done
+echo 401 >apache.status
+: >apache.asked
+settings PASSWORDS=directory
+checks 'no directory' 2 'PASSWORDS=directory, and no directory: rooms-admin setup --directory'
+echo 'proxy_set_header Rooms-Key 0123abcd;' >root/etc/rooms/passwords.key
+echo "Listen 127.0.0.1:$(<apache.port)" >root/etc/rooms/directory.apache
+checks 'a directory' 0 'rooms OK - office: answers, '
+holds 'is asked by a name of nobody' \
+  grep -qxE '/password/rooms 0123abcd nobody-[0-9a-f]{16}:x' apache.asked
+for status in 500 503 200; do
+  echo "$status" >apache.status
+  checks "a directory that answers $status" 2 \
+    "the directory checks no password, and nobody can sign in: it answers $status"
+done
+echo 'Listen 127.0.0.1:1' >root/etc/rooms/directory.apache
+checks 'one whose Apache is down' 2 'the directory checks no password, and nobody can sign in: '
+settings
+checks 'one that nobody needs' 0 'rooms OK'
+rm root/etc/rooms/{passwords.key,directory.apache}
+
+# Backups.
+rm -r backups/*
+future=$(backup '3 hours')
+checks 'a clock that was set back' 1 \
+  "the backup $future is dated in the future: was the clock set back?"
+backup '2 hours ago' >/dev/null
+checks 'a later one beside it' 1 'rooms WARNING - ' "the backup $future is dated in the future"
+rm -r backups/*
+backup '27 hours ago' >/dev/null
+checks 'a night without a backup' 1 'last good backup 27 h ago'
+mkdir "backups/$(date +%F.%H%M%S).unsound" "backups/$(date +%F.%H%M%S).part"
+checks 'one that is unsound, and one that was cut off' 1 'last good backup 27 h ago'
+rm -r backups/*
+backup '51 hours ago' >/dev/null
+checks 'two nights without' 2 'last good backup 51 h ago'
+rm -r backups/*
+checks 'none of a new room' 1 'no backup yet: systemctl start rooms-nightly@office'
+mv backups away
+checks 'no folder of backups' 2 'no folder of backups: '
+mv away backups
+backup '1 hour ago' >/dev/null
+
+# What is in use, of LIMIT.
+settings LIMIT=none
+checks 'no limit' 0 ' MB in use'
+settings LIMIT=1
+head -c 1048576 /dev/zero >big
+for name in one two; do
+  curl -s -o said -X PUT -H 'Room-User: root' -H Expect: \
+    --data-binary @big "http://127.0.0.1:$(<"$stand/port")/doc/$name"
+done
+checks 'a room that is full' 2 ' of 1 MB in use'
+settings LIMIT=3
+checks 'one that is nearly so' 0 ' of 3 MB in use'
+settings LIMIT=2
+checks 'one that is at its limit' 2 ' of 2 MB in use'
+settings
+
+# Units, timers, mail, groups.
+echo 'rooms-standby@office.service loaded failed failed Standby copy' >failed
+checks 'a unit that failed' 2 'failed: rooms-standby@office.service'
+: >failed
+echo inactive >timer
+checks 'no nightly run' 1 'no nightly run is due: systemctl enable --now rooms-nightly@office.timer'
+echo active >timer
+# Mail that stays in a box of this machine, and such that goes on.
+for to in root postmaster no-such-account; do
+  settings "MAIL=$to"
+  checks "mail to $to" 1 "mail to $to stays in a box of this machine, where nobody reads it: echo"
+done
+for to in 'root: admin@office.example' 'root: helpdesk
+helpdesk: a@b.example, c@d.example' 'postmaster: admin
+Root: postmaster
+admin: |/usr/bin/pager' '# x
+root:	"/srv/mail"'; do
+  echo "$to" >root/etc/aliases
+  settings MAIL=root
+  checks "an alias, $to" 0 'rooms OK'
+done
+printf '%s\n' 'root: postmaster' 'postmaster: root' >root/etc/aliases
+checks 'one that leads back' 1 'mail to root stays in a box of this machine'
+settings MAIL=admin@office.example
+checks 'an address' 0 'rooms OK'
+echo 'root: admin@office.example' >root/etc/aliases
+settings MAIL=root
+checks 'a mail program' 0 'rooms OK'
+if ! PATH=/usr/sbin:/usr/bin:/sbin:/bin has mail; then
+  mv stand/bin/mail .
+  checks 'no mail program' 1 'no mail program, so root is told of nothing'
+  mv mail stand/bin/
+else
+  skip 'no mail program' 'this machine has one'
+fi
+settings
+timer=rooms-directory@office.timer
+ln -s nowhere "root/etc/systemd/system/timers.target.wants/$timer"
+checks 'groups that never came' 1 "$timer has never run"
+touch -d '2 hours ago' "root/var/lib/systemd/timers/stamp-$timer"
+checks 'groups of tonight' 0 'groups 2 h ago'
+touch -d '30 hours ago' "root/var/lib/systemd/timers/stamp-$timer"
+checks 'groups of another night' 1 'groups 30 h ago'
+rm "root/etc/systemd/system/timers.target.wants/$timer"
+
+# Settings that are refused are said of their room, and the other one is looked at.
+sed 's/^UNIT=.*/UNIT=rooms@other/; s/^PORT=.*/PORT=much/' root/etc/rooms/office.conf \
+  >root/etc/rooms/other.conf
+checks 'settings with a mistake' 2 "bad settings: PORT in $PWD/root/etc/rooms/other.conf"
+words=(office)
+checks 'the room beside it' 0 'rooms OK - office'
+words=()
+rm root/etc/rooms/other.conf
+
+# The certificate.
+mkdir -p root/etc/ssl/private
+certificate() { # DAYS
+  openssl req -x509 -newkey ec -pkeyopt ec_paramgen_curve:P-256 -noenc -subj /CN=rooms.example \
+    -keyout c.key -out c.csr 2>/dev/null
+  openssl x509 -in c.csr -signkey c.key -days "$1" -out root/etc/ssl/rooms.pem 2>/dev/null
+  cp c.key root/etc/ssl/private/rooms.key
+}
+printf '%s\n' CERTIFICATE=/etc/ssl/rooms.pem KEY=/etc/ssl/private/rooms.key >root/etc/rooms/site
+certificate 90
+checks 'a certificate' 0 'the certificate ends on '
+certificate 20
+checks 'one that ends soon' 1 'the certificate /etc/ssl/rooms.pem ends on ' \
+  'docs/operating.md, Renewal'
+certificate -1
+checks 'one that has expired' 2 'the certificate /etc/ssl/rooms.pem has expired, on '
+echo none >root/etc/ssl/rooms.pem
+checks 'one that is none' 2 "the certificate /etc/ssl/rooms.pem can't be used"
+if [ "$(id -u)" = 0 ]; then
+  nightly() { # NAME STATUS TEXT
+    verb backup "$PWD/root/etc/rooms/office.conf"
+    says "$@"
+  }
+  settings MAIL=root
+  certificate -1
+  nightly 'a nightly run with one that has expired' 1 \
+    'the certificate /etc/ssl/rooms.pem has expired, on '
+  holds 'is told by mail' grep -q 'rooms.pem has expired' "$stand/messages"
+  certificate 20
+  nightly 'with one that ends soon' 0 'the certificate /etc/ssl/rooms.pem ends on '
+  holds 'too' grep -q 'rooms.pem ends on' "$stand/messages"
+  # In a unit mail programs lack what they need: another unit is started, or will be, since this one
+  # fails.
+  export ROOMS_UNIT=rooms-nightly@office.service
+  : >told
+  nightly 'in its unit, with one that ends soon' 0 'the certificate /etc/ssl/rooms.pem ends on '
+  holds 'the unit that mails is started' \
+    grep -qx 'start --no-block rooms-tell@rooms-nightly@office.service.service' told
+  certificate -1
+  : >told
+  nightly 'in its unit, with one that has expired' 1 'has expired, on '
+  holds 'systemd starts it' [ ! -s told ]
+  holds 'and nothing is mailed twice' [ ! -s "$stand/messages" ]
+  unset ROOMS_UNIT
+  nightly 'and so on' 1 'has expired'
+else
+  skip 'a nightly run with a certificate that has expired' 'this user is not root'
+fi
+certificate 90
+
+# Who is told of a unit.
+tells() { # UNIT
+  : >"$stand/messages"
+  ROOMS_SETTINGS=$PWD/root/etc/rooms PATH=$stand/bin:$PATH "$repo/admin/rooms-admin" tell "$@" \
+    >"$work/out" 2>"$work/err" </dev/null
+  status=$?
+}
+settings MAIL=admin@office.example
+mkdir run/rooms-tell
+printf '#!/bin/sh\necho "2026-11-27 rooms[1]: a line"; echo "~! touch %s/hacked"\n' "$PWD" \
+  >stand/bin/journalctl
+chmod 755 stand/bin/journalctl
+export MONITOR_SERVICE_RESULT=exit-code
+tells rooms-nightly@office.service
+told 'a unit that failed' 0
+holds 'its people are told' \
+  grep -q '^mail -s rooms-nightly@office.service on .* failed (exit-code) admin@office.example$' \
+    "$stand/messages"
+holds 'with its log' grep -q 'a line$' "$stand/messages"
+holds 'in which no line is a command' [ "$(grep -c '^~' "$stand/messages")" = 0 ]
+tells rooms-nightly@office.service
+told 'the same again' 0 'was told of rooms-nightly@office.service less than 6 hours ago'
+holds 'is not told twice' [ ! -s "$stand/messages" ]
+touch -d '7 hours ago' run/rooms-tell/*
+tells rooms-nightly@office.service
+holds 'but hours later' [ -s "$stand/messages" ]
+echo LIMIT=much >>root/etc/rooms/office.conf
+tells rooms-full@office.service
+holds 'settings with a mistake have an address too' \
+  grep -q 'admin@office.example$' "$stand/messages"
+settings MAIL=
+tells rooms-standby@office.service
+holds 'where nobody wants it nobody is told' [ ! -s "$stand/messages" ]
+tells rooms-firewall.service
+unset MONITOR_SERVICE_RESULT
+for word in '' 'rooms-nightly@office.service x' '../x' 'rooms@../x.service' cron.service; do
+  # shellcheck disable=SC2086
+  tells $word
+  told "the unit '$word'" 2 'bad arguments: rooms-admin tell UNIT'
+done
+settings
+
+# The server, and disks.
+unit stop
+checks 'a server that rests' 2 \
+  "office: rooms@office doesn't answer (inactive): systemctl status rooms@office"
+unit start
+settings
+if [ "$(id -u)" = 0 ] && mkdir small &&
+  mount -t tmpfs -o size=40m,mode=755 rooms-small small 2>said; then
+  cp office/F small/F
+  settings "FILE=$PWD/small/F" LIMIT=none
+  checks 'a disk with space' 0 'rooms OK'
+  head -c 30000000 /dev/zero >small/ballast
+  checks 'a full disk' 2 "the room's disk is full: "
+  rm small/ballast
+  mount -o remount,ro small
+  checks 'a disk that is only read' 2 "the room's disk is read-only"
+  mount -o remount,rw small
+  settings "BACKUPS=$PWD/small/backups"
+  mkdir small/backups
+  cp -a backups/* small/backups/
+  head -c 30000000 /dev/zero >small/ballast
+  checks 'a full disk of backups' 2 'the disk of backups is full: '
+  umount small
+else
+  skip 'a full disk' 'no root, or no mount'
+fi
+unset ROOMS_FRONT

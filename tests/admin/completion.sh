@@ -1,0 +1,71 @@
+# The completion for bash offers each option of each verb and subcommand, and no other: it is
+# compared with what these say themselves.
+
+completion=$repo/admin/completion/rooms
+completes() { # WORD ..
+  # shellcheck disable=SC2016
+  PATH=$repo/admin:$PATH bash -c '
+    . "$1"; shift; COMP_WORDS=("$@") COMP_CWORD=$(($# - 1))
+    by=$(complete -p "${1##*/}"); by=${by% *}; "${by##* }"
+    printf "%s\n" ${COMPREPLY[@]+"${COMPREPLY[@]}"}' bash "$completion" "$@"
+}
+options() { grep -oE -e '--[a-z]+(-[a-z]+)*' | sort -u; }
+# rooms-admin says its verbs and their options itself, under each of its names.
+"$repo/admin/rooms-admin" --words | sort >wanted
+completes rooms-admin '' | sort >offered
+same 'the verbs' offered wanted
+for pair in rooms-admin:export export:export import:import handover:handover get:get \
+  nightly:backup restore:restore \
+  standby:standby directory:groups full:full add:add setup:setup doctor:doctor; do
+  verb=${pair#*:}
+  "$repo/admin/rooms-admin" --words "$verb" | sort >wanted
+  if [ "$pair" = rooms-admin:export ]; then
+    completes rooms-admin export --
+  else
+    completes "rooms-${pair%:*}" --
+  fi | sort >offered
+  same "the options of $pair" offered wanted
+done
+
+# The program itself, and each of its subcommands.
+subcommands() {
+  "$rooms" --help 2>&1 </dev/null |
+    awk '/^Commands:/ { on = 1; next } /^$/ { on = 0 } on { print $1 }'
+}
+by_rooms() { # WORD ..
+  bash -c '
+    . "$1"; shift; COMP_WORDS=("$@") COMP_CWORD=$(($# - 1)); _rooms
+    printf "%s\n" ${COMPREPLY[@]+"${COMPREPLY[@]}"}' bash "$completion" "$@"
+}
+{ subcommands; "$rooms" --help 2>&1 </dev/null | options; } | sort >wanted
+by_rooms rooms '' | sort >offered
+same 'the subcommands' offered wanted
+for name in $(subcommands); do
+  "$rooms" "$name" --help 2>&1 </dev/null | sed -n '/^Options:/,/^$/p' | options >wanted
+  by_rooms rooms "$name" -- | sort >offered
+  same "the options of rooms $name" offered wanted
+done
+
+offers() { # NAME WANTED WORD ..
+  local got
+  got=$(completes "${@:3}" | grep . | sort | tr '\n' ' ')
+  if [ "$got" = "${2:+$2 }" ]; then pass; else fail "$1" "'$got' instead of '$2'"; fi
+}
+: >conf
+: >latest.tar
+offers 'a part of an option' '--dry-run' rooms-add --dr
+offers 'an option behind another one' '--on' rooms-add --title x --on
+offers 'a file of settings' conf rooms-nightly con
+offers 'a file of settings behind a verb' conf rooms-admin backup con
+offers 'a part of a verb' standby rooms-admin stan
+offers 'a file behind an option' conf rooms-get --conf con
+offers 'a file behind an option of a verb' conf rooms-admin get --conf con
+offers 'the last backup, or a file' 'latest latest.tar' rooms-restore lat
+offers 'the last backup, or a file, of a verb' 'latest latest.tar' rooms-admin restore lat
+offers 'the way back from a directory' none rooms-setup --directory no
+offers 'the same of the verb' none rooms-admin setup --directory no
+offers 'a new name is not known' '' rooms-add con
+offers 'nor is a user of a room' '' rooms-import --as con
+offers 'a user of the machine' root rooms-doctor --user roo
+offers 'the same of the verb' root rooms-admin doctor --user roo
+offers 'what is done with a user' remove rooms-admin user re

@@ -1,0 +1,273 @@
+# Copies of a room that is served: rooms-standby and rooms-nightly beside writers who don't pause,
+# a server that is restarted or stopped meanwhile, and an interruption at each call.
+
+if [ "$loopback" = no ] || ! has flock || ! has setpriv || ! has setsid || ! has curl; then
+  skip 'copies of a room that is served' 'no loopback, or no flock, setpriv, setsid, curl'
+  return
+fi
+make_stand
+stands() { verb standby "$PWD/conf"; }
+set_value() { # NAME VALUE
+  grep -v "^$1=" conf >conf.new
+  echo "$1=$2" >>conf.new
+  mv conf.new conf
+}
+new_office() {
+  unit stop
+  as_user rm -f office/F office/F-wal
+  as_user "$rooms" init "$PWD/office/F" root staff >/dev/null
+  printf '%s\n' 'list:a' "A:fd:root:$ALL" | as_user "$rooms" reset "$PWD/office/F" / dacl >/dev/null
+  unit start
+}
+new_office
+answers() { # NAME
+  read -r port <"$stand/port"
+  asks "$1" "json '200 OK' '{}'" GET '/can/?' root
+}
+has_document() { # FOLDER NAME
+  rm -f look look-wal
+  cp "$1/F" look && { [ ! -e "$1/F-wal" ] || cp "$1/F-wal" look-wal; } &&
+    "$rooms" dump look >dumped 2>&1 && grep -q "^document root staff [0-9]* /$2\$" dumped
+}
+put() { # NAME
+  read -r port <"$stand/port"
+  asks "a document $1" made PUT "/doc/$1" root hello
+}
+
+# Beside writers: each copy is sound, nobody goes without an answer, and what was answered before a
+# copy began is in it, unless somebody has asked to remove it before it ended.
+: >answered >going >other
+write() { # NUMBER: documents of up to 64 kB; every third one is removed again
+  local n name got url
+  read -r port <"$stand/port"
+  url=http://127.0.0.1:$port
+  for ((n = 1; ; n++)); do
+    [ ! -e enough ] || return 0
+    name=w$1-$n
+    head -c $((RANDOM * 2)) /dev/urandom >"body.$1"
+    got=$(curl -q -s -m "$patience" -o "said.$1" -w '%{http_code}' -X PUT -H 'Room-User: root' \
+      -H Expect: \
+      --data-binary "@body.$1" "$url/doc/$name")
+    if [ "$got" = 201 ]; then echo "$name" >>answered; else echo "$got" >>other; fi
+    ((n % 3 == 0)) || continue
+    name=w$1-$((n - 2))
+    echo "$name" >>going
+    got=$(curl -q -s -m "$patience" -o "said.$1" -w '%{http_code}' -X DELETE \
+      -H 'Room-User: root' "$url/object/$name")
+    [ "$got" = 204 ] || echo "$got" >>other
+  done
+}
+missing_in() { # FOLDER: what was answered before, and isn't there
+  rm -f look look-wal
+  cp "$1/F" look
+  [ ! -e "$1/F-wal" ] || cp "$1/F-wal" look-wal
+  "$rooms" dump look 2>&1 | sed -n 's/^document root staff [0-9]* \/\(w[0-9-]*\)$/\1/p' | sort >have
+  sort going >gone
+  sort before | comm -23 - gone | comm -23 - have
+}
+began=$SECONDS
+write 1 &
+writers[1]=$!
+write 2 &
+writers[2]=$!
+lost=0
+copies=0
+for turn in {1..20}; do
+  cp answered before
+  if ((turn % 5 == 0)); then
+    verb backup "$PWD/conf"
+    copy=$(find backups/conf -maxdepth 1 -name '????-??-??.??????' | sort | tail -n 1)
+  else
+    stands
+    copy=backups/conf/standby
+  fi
+  [ "$status" = 0 ] || fail 'a copy beside writers' "status $status: $(cat "$work/err")"
+  [ "$("$rooms" verify "$copy/F" 2>&1)" != sound ] || copies=$((copies + 1))
+  lost=$((lost + $(missing_in "$copy" | wc -l)))
+done
+: >enough
+wait "${writers[@]}"
+holds 'each copy is sound' [ "$copies" = 20 ]
+holds 'has all that was answered before' [ "$lost" = 0 ]
+holds 'and everybody got an answer' [ ! -s other ]
+holds 'of many' [ "$(wc -l <answered)" -gt 40 ]
+unit_runs 'the same server runs after it'
+holds 'it was never stopped' [ "$(cat "$stand/out")" = "listening 127.0.0.1:$(<"$stand/port")" ]
+answers 'and answers'
+rm -rf backups/conf/*
+
+# A standby copy is one file, with all that the log had. (Of a small room, from here on.)
+new_office
+put f
+stands
+holds 'a standby copy' [ "$status" = 0 ]
+holds 'is one file' [ "$(find backups -type f)" = backups/conf/standby/F ]
+holds 'which has the last document' has_document backups/conf/standby f
+holds 'nobody else may read it' [ -z "$(find backups/conf/* -perm /077)" ]
+holds 'nothing is owed' [ -z "$(ls run)" ]
+
+# What happens to the server while it is copied: it is copied once more.
+# The files are read by setpriv, where the room belongs to another user.
+reader=cat
+[ "$STAND_USER" = "$(id -u)" ] || reader=setpriv
+played() {
+  printf 'PATH="%s:$PATH" KILL_AT=0 "%s" %s rooms\n' "$stand/bin" "$stand/bin/systemctl" "$1"
+}
+hooks() { # WORD ..: what somebody does with the unit while the first file is copied
+  local word
+  for word in "$@"; do played "$word"; done >"$stand/at-$reader"
+}
+put before-the-restart
+hooks stop start
+stands
+says 'a server that is restarted meanwhile' 0 'so the room is copied again'
+unit_runs 'a server that is restarted meanwhile: it runs'
+answers 'a server that is restarted meanwhile: it answers'
+holds 'the copy has what was there' has_document backups/conf/standby before-the-restart
+put before-the-stop
+hooks stop
+stands
+says 'a server that is stopped meanwhile' 0 'so the room is copied again'
+unit_rests 'it stays stopped'
+holds 'the copy has what was answered' has_document backups/conf/standby before-the-stop
+unit start
+hooks stop
+verb backup "$PWD/conf"
+says 'a server that is stopped at night' 0 'so the room is copied again'
+unit_rests 'stays stopped'
+holds 'the backup has what was answered' \
+  has_document "backups/conf/$(cd backups/conf && echo 20*)" before-the-stop
+rm -rf backups/conf/20*
+stands
+says 'a server that does not run' 0 "isn't running: the last copy stays"
+holds 'it does' has_document backups/conf/standby before-the-stop
+unit start
+: >"$stand/no-answer"
+unit stop
+unit start
+stands
+says 'a server that has not opened the room' 1 "can't be held"
+holds 'the last copy stays' has_document backups/conf/standby before-the-stop
+verb backup "$PWD/conf"
+holds 'rooms-nightly stops such a server' grep -q ' systemctl stop' "$stand/steps"
+holds 'and has a backup' has_document "backups/conf/$(cd backups/conf && echo 20*)" before-the-stop
+rm -rf backups/conf/20* "$stand/no-answer"
+unit stop
+unit start
+
+# Somebody lets it go while it is copied.
+echo 'kill -CONT "$(cat "$STAND/pid")"' >"$stand/at-$reader"
+stands
+says 'a server that goes on meanwhile' 0 'so the room is copied again'
+
+# What is refused, and what fails.
+cp conf kept
+for line in 'STANDBY=b' 'STANDBY=a b:/x' 'STANDBY=-x:/y' 'STANDBY=b:' 'STANDBY=b::x' 'LIMIT=0'; do
+  { cat kept; echo "$line"; } >conf
+  stands
+  says "settings with $line" 2 'bad settings: '
+done
+cp kept conf
+verb standby --other
+says 'an unknown word' 2 'bad arguments'
+set_value BACKUPS "$PWD/not-mounted"
+stands
+says 'no folder of backups' 2 'no folder'
+cp kept conf
+mkdir -p root/etc
+echo "UUID=none $(realpath backups) ext4 nofail 0 2" >root/etc/fstab
+stands
+says 'backups on a disk that is not mounted' 2 'not mounted: '
+rm root/etc/fstab
+for tool in cat sync mkdir mv; do
+  echo "$tool" >"$stand/no-tool"
+  stands
+  holds "a $tool that fails" [ "$status" = 1 ]
+  rm "$stand/no-tool"
+  answers "a $tool that fails: the server answers"
+  holds "a $tool that fails: the last copy stays" has_document backups/conf/standby before-the-stop
+done
+echo verify >"$stand/no-word"
+stands
+says 'a copy that is not sound' 1 'verify of the copy failed'
+rm "$stand/no-word"
+holds 'does not take the place of the last one' has_document backups/conf/standby before-the-stop
+if mkdir small && mount -t tmpfs -o size=1m,mode=700 none small 2>/dev/null; then
+  set_value BACKUPS "$PWD/small"
+  head -c 2000000 /dev/zero >small/filler 2>/dev/null
+  stands
+  says 'a full disk' 1 'failed'
+  holds 'a full disk is left as it was' [ "$(find small -type f)" = small/filler ]
+  answers 'a full disk: the server answers'
+  umount small
+  cp kept conf
+else
+  skip 'a standby copy on a full disk' 'no leave to mount'
+fi
+exec 8<>run/.rooms-admin/rooms
+flock 8
+stands
+says 'rooms-nightly at work' 0 'at work'
+exec 8<&-
+
+# To another folder, and back into a room.
+if has rsync; then
+  mkdir there
+  set_value STANDBY "$PWD/there"
+  put to-be-sent
+  stands
+  holds 'it is brought there' [ "$status" = 0 ]
+  holds 'all of it' has_document there to-be-sent
+  holds 'as one file' [ "$(ls -A there)" = F ]
+  # While it is sent, which may take long, a nightly run may begin.
+  printf '#!/bin/bash\nflock -n "%s" true && echo free >"%s"\nexec "%s" "$@"\n' \
+    "$PWD/run/.rooms-admin/rooms" "$PWD/lock" "$(command -v rsync)" >"$stand/bin/rsync"
+  chmod 755 "$stand/bin/rsync"
+  put to-be-sent-too
+  stands
+  holds 'the lock is free meanwhile' [ "$status" = 0 -a "$(cat lock)" = free ]
+  rm "$stand/bin/rsync"
+  touch -d '2001-01-01' backups/conf/standby/F there/F
+  stands
+  holds 'once more' has_document there to-be-sent-too
+  watch=$(grep -h 'name office.rooms -mmin' "$here/../docs/machines.md" |
+    sed "s#/var/backups/rooms/standby#$PWD/there#; s/office.rooms/F/")
+  holds 'who watches it there sees it' [ "$(bash -c "$watch")" = "$PWD/there/F" ]
+  touch -d '20 minutes ago' there/F
+  holds 'and sees one that is too old' [ "$(bash -c "$watch")" = 'no standby' ]
+  rm -rf there
+  : >there
+  stands
+  says 'a place that is no folder' 1 "doesn't get the copy"
+  rm there
+  mkdir there
+  stands
+  unit stop
+  cp -Rp office lost
+  as_user rm office/F office/F-wal
+  verb restore --conf "$PWD/conf" "$PWD/there"
+  says 'it is restored' 0 "restored $PWD/office/F"
+  unit start
+  read -r port <"$stand/port"
+  asks 'with the last document' "reply '200 OK' application/octet-stream hello" \
+    GET /doc/to-be-sent-too root
+  cp kept conf
+  . "$here/lib/elsewhere.sh"
+else
+  skip 'a standby copy elsewhere' 'no rsync'
+fi
+
+# An interruption at each call: after a kill too the server goes on.
+for how in TERM KILL; do
+  for number in {1..60}; do
+    cut_off "$how" "$number" stands || break
+    unit_goes_on "$name"
+    answers "$name"
+    if ((number % 2)); then verb standby --after "$PWD/conf"; else stands; fi
+    answers "$name, and after"
+    cp backups/conf/standby/F look
+    holds "$name: there is a copy" [ "$("$rooms" verify look 2>&1)" = sound ]
+    holds "$name: nothing else is left" [ "$(ls -A backups/conf) $(ls run)" = 'standby ' ]
+  done
+  holds "$how: the calls came to an end" [ "$number" -gt 10 -a "$number" -lt 60 ]
+done

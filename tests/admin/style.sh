@@ -1,0 +1,197 @@
+# rooms-admin and its package: types, style and the pure parts; what --help and the page for man say
+# of each verb; and that the names of before lead to the same verbs.
+
+admin=$repo/admin/rooms-admin
+if ! has python3; then
+  skip 'rooms-admin' 'python3 is missing'
+  return
+fi
+printf '%s\n' '[mypy]' 'strict = True' "cache_dir = $PWD/mypy" '[mypy-ldap.*]' \
+  'ignore_missing_imports = True' >mypy.ini
+if has mypy; then
+  MYPYPATH=$repo/admin:$repo/services mypy --config-file mypy.ini "$repo/admin/rooms_admin" \
+    "$repo"/services/rooms_services/{scgi.py,own_password} \
+    "$here"/admin/test_{pure,backups,told}.py >"$work/out" 2>&1
+  status=$?
+  holds "mypy --strict: $(tail -n 5 "$work/out")" [ "$status" = 0 ]
+  MYPYPATH=$repo/admin:$repo/deploy mypy --config-file mypy.ini "$repo/deploy/install" \
+    >"$work/out" 2>&1
+  status=$?
+  holds "mypy --strict of install: $(tail -n 5 "$work/out")" [ "$status" = 0 ]
+else
+  skip 'types' 'mypy is missing'
+fi
+if has flake8; then
+  flake8 --isolated --max-line-length 100 "$repo/admin/rooms_admin" "$repo/deploy/install" \
+    "$repo"/services/rooms_services/{scgi.py,own_password} "$repo/deploy/rooms-service" \
+    "$repo/admin/rooms-admin" "$here"/admin/test_{pure,backups,told}.py >"$work/out" 2>&1
+  status=$?
+  holds "flake8: $(head -n 5 "$work/out")" [ "$status" = 0 ]
+  # (tools/kit.py may leave no byte code behind, so a line stands before the imports)
+  mapfile -t tools < <(grep -lx '#!/usr/bin/env python3' "$here"/../tools/*)
+  flake8 --isolated --max-line-length 100 \
+    --extend-ignore E203,E402,E731 "${tools[@]}" "$here/../tools/"*.py >"$work/out" 2>&1
+  status=$?
+  holds "flake8 of tools: $(head -n 5 "$work/out")" [ "$status" = 0 ]
+else
+  skip 'style' 'flake8 is missing'
+fi
+for tested in test_pure test_backups test_told; do
+  (cd "$here/admin" && PYTHONPATH=$repo/admin python3 -B -m unittest "$tested") >"$work/out" 2>&1
+  status=$?
+  holds "the pure parts, $tested: $(tail -n 20 "$work/out")" [ "$status" = 0 ]
+done
+wc -l "$repo"/{admin/rooms_admin,services/rooms_services}/{,*/}*.py "$repo/deploy/install" |
+  awk '$2 != "total" && $1 >= 500 { print $2 }' >found
+same 'no file has 500 lines' found /dev/null
+
+# Each line that it says when something isn't as it should be stands on the page of messages.
+for one in admin/rooms_admin services/rooms_services; do
+  python3 "$here/admin/messages.py" "$repo/$one" "$here/../docs/messages.md"
+done >found 2>&1
+same 'each message stands on its page' found /dev/null
+mkdir made
+echo 'raise Stop("a line of nobody")' >made/one.py
+python3 "$here/admin/messages.py" made "$here/../docs/messages.md" >found 2>&1
+echo 'one.py:1: a line of nobody' >wanted
+same 'another one is found' found wanted
+
+# Each verb says its usage and all of its options, and so does the page for man.
+run_admin() {
+  "$admin" "$@" >"$work/out" 2>"$work/err" </dev/null
+  status=$?
+}
+options() { grep -oE -e '--[a-z]+(-[a-z]+)*' | sort -u; }
+run_admin --help
+holds 'help' [ "$status" = 0 -a ! -s "$work/err" ]
+cp "$work/out" help
+run_admin
+holds 'no verb' [ "$status" = 2 ]
+cmp -s "$work/out" help
+holds 'no verb, and what there is' [ "$?" = 0 ]
+run_admin --manual
+cp "$work/out" page
+holds 'the page is for man' \
+  [ "$(head -n 1 page)" = '.TH ROOMS\-ADMIN 8 "" "rooms" "System Administration"' ]
+if has groff; then
+  groff -man -Tutf8 -ww page >/dev/null 2>found
+  same 'troff has no complaint' found /dev/null
+fi
+run_admin --words
+grep -v -e '^--' "$work/out" >verbs
+holds 'there are verbs' [ "$(wc -l <verbs)" -ge 9 ]
+while IFS= read -r verb; do
+  holds "help names $verb" grep -q "^  $verb  *[a-z]" help
+  run_admin "$verb" --help
+  holds "$verb --help" [ "$status" = 0 -a ! -s "$work/err" ]
+  holds "$verb: usage" grep -q "^Usage: rooms-admin $verb" "$work/out"
+  holds "$verb: status" grep -q '^Status: 0 ' "$work/out"
+  sed -n '/^Usage:/,/^$/p' "$work/out" | options >used
+  sed -n 's/^  \(--[a-z-]*\).*/\1/p' "$work/out" | sort -u >described
+  run_admin --words "$verb"
+  grep -vx -e --help "$work/out" | sort >taken
+  comm -23 taken described >found
+  same "$verb: each option is described" found /dev/null
+  same "$verb: and is in its usage" used taken
+  sed 's,\\f[A-Z],,g' page | tr -d '\\' | options | comm -13 - taken >found
+  same "$verb: and on the page" found /dev/null
+  run_admin "$verb" --no-such-option
+  told "$verb: another option" 2 'bad arguments: no such option: --no-such-option'
+done <verbs
+run_admin no-such-verb
+told 'no such verb' 2 "bad arguments: there is no verb 'no-such-verb'"
+
+# The version, and the rooms of a machine: one served at a socket, one at a port, one elsewhere.
+mkdir -p rooms-of bin
+printf '%s\n' '#!/bin/sh' '[ "$*" = "is-active rooms@invoices" ] || { echo inactive; exit 3; }' \
+  'echo active' >bin/systemctl
+chmod 755 bin/systemctl
+printf '%s\n' FILE=/var/lib/rooms/office.rooms SOCKET=yes PORT=8780 >rooms-of/office.conf
+printf '%s\n' FILE=/srv/invoices.rooms PORT=8790 'TITLE=All invoices' >rooms-of/invoices.conf
+echo ON=b.example >rooms-of/sales.on
+ROOMS_SETTINGS=$PWD/rooms-of PATH=$PWD/bin:$PATH run_admin rooms
+printf '%s\n' 'invoices  All invoices  active  127.0.0.1:8790  /srv/invoices.rooms' \
+  'office  inactive  /run/rooms/office/socket  /var/lib/rooms/office.rooms' \
+  'sales  elsewhere  on b.example' >wanted
+same 'the rooms of a machine' "$work/out" wanted
+ROOMS_SETTINGS=$PWD/rooms-of PATH=$PWD/bin:$PATH run_admin rooms --json
+holds 'and for a program' [ "$(python3 -c 'import json, sys
+for one in json.load(sys.stdin): print((one["name"], one["state"], one["title"]), end=" ")
+' <"$work/out")" = \
+  "('invoices', 'active', 'All invoices') ('office', 'inactive', '') ('sales', 'elsewhere', '') " ]
+ROOMS_SETTINGS=$PWD/rooms-of run_admin rooms office
+told 'a word' 2 'bad arguments: rooms-admin rooms'
+
+# The names of before are links that the installation makes: the same words, standard output as it
+# was, and the new name on standard error.
+for pair in export:export import:import handover:handover get:get nightly:backup restore:restore \
+  standby:standby directory:groups full:full doctor:doctor; do
+  old=rooms-${pair%:*} verb=${pair#*:}
+  ln -s "$admin" "$old"
+  "./$old" --help >"$work/out" 2>"$work/err" </dev/null
+  holds "$old --help" [ "$?" = 0 ]
+  cp "$work/out" got
+  echo "$old: its name is now rooms-admin $verb" >wanted
+  same "$old names the new one" "$work/err" wanted
+  run_admin "$verb" --help
+  same "$old is $verb" got "$work/out"
+done
+
+# Below a prefix the package is where the launcher looks, and the program is that prefix's.
+for prefix in usr usr/local; do
+  mkdir -p "tree/$prefix/sbin" "tree/$prefix/share/rooms/rooms_admin" "tree/$prefix/bin"
+  cp "$admin" "tree/$prefix/sbin/"
+  ln -s ../sbin/rooms-admin "tree/$prefix/bin/rooms-export"
+  cp -r "$repo/admin/rooms_admin" "tree/$prefix/share/rooms/"
+  find tree -name __pycache__ -prune -exec rm -r {} +
+  "tree/$prefix/sbin/rooms-admin" --help >got 2>&1
+  same "below /$prefix" got help
+  "tree/$prefix/bin/rooms-export" --help >got 2>/dev/null
+  holds "a name of before below /$prefix" grep -q '^Usage: rooms-admin export' got
+  printf 'FILE=%s/F\nBACKUPS=%s\n' "$PWD" "$PWD" >conf
+  "tree/$prefix/sbin/rooms-admin" full --look "$PWD/conf" >got 2>&1
+  holds "the program of /$prefix" grep -qF "no program: $PWD/tree/$prefix/bin/rooms" got
+  holds "no other file is made below /$prefix" [ -z "$(find "tree/$prefix" -name __pycache__)" ]
+done
+
+# What an account has set whose terminal root uses ('su' without '-') runs nothing, and says nothing
+# to a tool or a library that runs as root.
+if [ "$(id -u)" = 0 ]; then
+  mkdir set told told/sbin told/share told/share/rooms told/share/rooms/rooms_admin
+  printf '#!/bin/sh\necho "${0##*/}" >>%s/ran\n' "$PWD" | tee set/systemctl set/openssl >set/stat
+  chmod 755 set/*
+  : >ran
+  printf 'FILE=%s/F\nBACKUPS=%s\nPROGRAM=%s\n' "$PWD" "$PWD" "$rooms" >conf
+  PATH=$PWD/set:$PATH tree/usr/sbin/rooms-admin check "$PWD/conf" >got 2>&1
+  same "a check runs none of its caller's tools" ran /dev/null
+  cp "$admin" told/sbin/
+  printf '%s\n' 'import os' 'def main():' \
+    '    print("\n".join(sorted(f"{one}={os.environ[one]}" for one in os.environ)))' \
+    >told/share/rooms/rooms_admin/__main__.py
+  env -i PATH="$PWD/set" HOME="$PWD" TMPDIR="$PWD" OPENSSL_CONF="$PWD/x" ROOMS_ROOT="$PWD" \
+    ROOMS_SETTINGS="$PWD" LD_LIBRARY_PATH="$PWD" LC_ALL=C TERM=dumb ROOMS_UNIT=u PORT=8780 \
+    MONITOR_UNIT=m told/sbin/rooms-admin >got 2>&1
+  printf '%s\n' HOME=/root LC_ALL=C MONITOR_UNIT=m \
+    PATH=/usr/local/sbin:/usr/local/bin:/usr/sbin:/usr/bin:/sbin:/bin PORT=8780 ROOMS_UNIT=u \
+    TERM=dumb >wanted
+  same 'root is handed on nothing but these' got wanted
+else
+  skip 'what root is handed on' 'not root'
+fi
+
+# A directory whose name only begins as an address of this machine gets nothing in clear.
+needs_starttls() { # URI
+  PYTHONPATH=$repo/admin /usr/bin/python3 -c 'import sys
+from rooms_admin.room.settings import Directory
+sys.exit(not Directory(sys.argv[1], *[""] * 7, 1).needs_starttls)' "$1"
+}
+for uri in ldap://127.a.b.c.example ldap://127.0.0.1.example ldap://localhost.example \
+  ldap://dc.example:389; do
+  needs_starttls "$uri"
+  holds "$uri needs TLS for passwords" [ "$?" = 0 ]
+done
+for uri in ldaps://dc.example ldap://127.0.0.1 ldap://127.0.0.1:389/ ldap://localhost/ \
+  'ldap://[::1]:389'; do
+  needs_starttls "$uri"
+  holds "$uri doesn't" [ "$?" = 1 ]
+done

@@ -1,0 +1,301 @@
+"""Which backups count, which of them go, and whose the program is that works on copies of them."""
+import argparse
+import contextlib
+import io
+import os
+import sys
+import tempfile
+import time
+import unittest
+import unittest.mock
+
+sys.path.insert(0, os.path.join(os.path.dirname(__file__), "..", "..", "admin"))
+
+from rooms_admin.cli.report import Refused  # noqa: E402
+from rooms_admin.host import locks, safe, tempdirs, waiting  # noqa: E402
+from rooms_admin.room import (backups, dump, program, published, server,  # noqa: E402
+                              settings, tidying)
+from rooms_admin.room.backups import Backup  # noqa: E402
+from rooms_admin.verbs import latest, listed, people  # noqa: E402
+
+
+class Folder(unittest.TestCase):
+    """A room office, with BACKUPS in a folder of its own."""
+
+    def setUp(self) -> None:
+        made = tempfile.TemporaryDirectory()
+        self.addCleanup(made.cleanup)
+        self.home = made.name
+        self.backups = f"{made.name}/backups"
+        os.mkdir(self.backups, 0o700)
+        self.room = self.settings("office")
+
+    def settings(self, name: str, **more: str) -> settings.Room:
+        path = f"{self.home}/{name}.conf"
+        values = {"FILE": f"{self.home}/{name}.rooms", "BACKUPS": self.backups,
+                  "PROGRAM": "/bin/true", **more}
+        with open(path, "w", encoding="ascii") as file:
+            file.write("".join(f"{one}={value}\n" for one, value in values.items()))
+        return settings.room(path)
+
+    def backup(self, name: str, number: object = "", room: str = "office", own: bool = True,
+               lists: str = "") -> str:
+        place = f"{self.backups}/{room}/{name}" if own else f"{self.backups}/{name}"
+        os.makedirs(place, 0o700, exist_ok=True)
+        for file, text in ((f"{room}.rooms", "x"), ("run", f"number {number}\n" if number else ""),
+                           ("lists.txt", lists)):
+            if text:
+                with open(f"{place}/{file}", "w", encoding="ascii") as made:
+                    made.write(text)
+        return place
+
+
+class Found(Folder):
+    def test_a_room_has_a_folder_of_its_own(self) -> None:
+        self.assertEqual(backups.folder(self.room), f"{self.backups}/office")
+        # As rooms-admin add names it.
+        self.assertEqual(backups.below("/srv/rooms/invoices/", "invoices"), "/srv/rooms/invoices")
+        self.assertEqual(backups.below("/", "invoices"), "/invoices")
+        for odd in ("/etc/rooms/..conf", "/etc/rooms/...conf", "/etc/rooms/.conf"):
+            self.assertEqual(backups.name_of(odd), "room")
+
+    def test_no_room_sees_those_of_another(self) -> None:
+        """Two rooms with one BACKUPS, as docs/backup.md says: a later night of the other one is not
+        the newest of this one, in both places."""
+        invoices = self.settings("invoices")
+        for own in (False, True):
+            mine = self.backup(f"2026-01-0{1 + own}.040000", 1 + own, own=own, lists="member a b\n")
+            self.backup(f"2026-01-0{1 + own}.040001", 7 + own, "invoices", own=own,
+                        lists="member c d\n")
+            self.assertEqual(backups.newest(self.room, "lists.txt"), f"{mine}/lists.txt")
+            self.assertEqual(dump.members(backups.newest(self.room, "lists.txt")), {("a", "b")})
+        self.assertEqual([one.number for one in backups.look(invoices).backups], [7, 8])
+        self.assertEqual(backups.look(self.room).wrong, [])
+
+    def test_those_of_an_earlier_version_count(self) -> None:
+        old = self.backup("2026-03-01.040000", 3, own=False)
+        new = self.backup("2026-03-02.040000", 4)
+        self.assertEqual([one.place for one in backups.look(self.room).backups], [old, new])
+        for word in ("2026-03-01.040000", old):
+            self.assertEqual(backups.find(self.room, word), old)
+        self.assertEqual(backups.find(self.room, "latest"), new)
+
+    def test_the_newest_is_not_the_one_with_the_latest_name(self) -> None:
+        """After a clock was set back: each that asks gets the same."""
+        ahead = self.backup("2026-12-25.040000", 4, lists="member a old\n")
+        newest = self.backup("2026-12-01.040000", 5, lists="member a new\n")
+        os.utime(f"{ahead}/lists.txt", (4e9, 4e9))
+        self.assertEqual(backups.find(self.room, "latest"), newest)
+        self.assertEqual(backups.newest(self.room, "lists.txt"), f"{newest}/lists.txt")
+        with unittest.mock.patch.object(server, "state", return_value="active"), \
+                unittest.mock.patch.object(published, "FOLDER", f"{self.home}/web"):
+            self.assertEqual(people.known(self.room)[0], {("a", "new")})
+            # What is known since counts more, whatever the clock says.
+            people._keep(self.room, {("a", "newest")}, time.time())
+            self.assertEqual(people.known(self.room)[0], {("a", "newest")})
+            self.backup("2026-12-02.040000", 6, lists="member a night\n")
+            self.assertEqual(people.known(self.room)[0], {("a", "night")})
+        said = io.StringIO()
+        given = argparse.Namespace(conf=self.room.conf, words=["lists.txt"])
+        with contextlib.redirect_stdout(said):
+            self.assertEqual(latest.run(given), 0)
+        self.assertEqual(said.getvalue(), f"{self.backups}/office/2026-12-02.040000/lists.txt\n")
+        given.words = ["no-such.tar"]
+        self.assertRaises(Refused, latest.run, given)
+
+    def test_one_that_is_wrong_keeps_none_from_being_found(self) -> None:
+        good = self.backup("2026-01-02.040000", 5)
+        with open(f"{self.backups}/office/2026-01-01.040000", "w", encoding="ascii"):
+            pass
+        os.symlink(good, f"{self.backups}/office/2026-01-03.040000")
+        # What a taken server had left of a folder that was its own for a while.
+        os.chmod(self.backup("2026-01-04.040000", 6), 0o777)
+        os.chmod(f"{self.backup('2026-01-05.040000', 7)}/office.rooms", 0o666)
+        found = backups.look(self.room)
+        self.assertEqual([one.place for one in found.backups], [good])
+        self.assertEqual([one.removeprefix(f"no backup: {self.backups}/office/2026-01-0")
+                          for one in found.wrong],
+                         ["1.040000 has the name of one, and is no folder",
+                          "3.040000 has the name of one, and is no folder",
+                          "4.040000 is not root's alone",
+                          "5.040000/office.rooms is not root's alone"])
+        said = io.StringIO()
+        with contextlib.redirect_stdout(said), contextlib.redirect_stderr(io.StringIO()):
+            given = argparse.Namespace(words=[self.room.conf], json=False)
+            self.assertEqual(listed.run(given), 1)
+        self.assertEqual(said.getvalue(), f"     5      1 MB  {good}  without records.csv, "
+                         "lists.txt, review.csv\n")
+
+    def test_numbers_that_no_run_has_given(self) -> None:
+        """The largest one made each later backup the oldest: a night removed the last good one."""
+        good = self.backup("2026-01-02.040000", 5)
+        for number in ("999999999", "1000000000", "999999000", "-1", "06"):
+            bad = self.backup("2026-01-03.040000", number)
+            found = backups.look(self.room)
+            self.assertEqual(found.wrong,
+                             [f"bad number: {bad}/run is no number that a run has given"])
+            self.assertEqual(found.backups[-1].place, good)
+            self.assertEqual(max(one.number for one in found.backups), 5)
+        os.unlink(f"{bad}/run")
+        os.symlink(f"{good}/run", f"{bad}/run")
+        self.assertEqual(len(backups.look(self.room).wrong), 1)
+        os.unlink(f"{bad}/run")
+        os.mkfifo(f"{bad}/run")
+        self.assertEqual(len(backups.look(self.room).wrong), 1)
+        os.unlink(f"{bad}/run")
+        self.backup("2026-01-03.040000", 7)
+        self.assertIn("numbers jump: ", backups.jump(backups.look(self.room)))
+        self.backup("2026-01-03.040000", 6)
+        self.assertEqual(backups.jump(backups.look(self.room)), "")
+
+    def test_a_disk_that_knows_no_modes(self) -> None:
+        """Such as vfat: each account would read the key of the site."""
+        makes = os.mkdir
+        with unittest.mock.patch.object(os, "mkdir", lambda place, _: makes(place, 0o755)):
+            with self.assertRaises(OSError) as said:
+                backups.make_closed(f"{self.backups}/part")
+        self.assertIn("umask=0077", str(said.exception))
+        self.assertEqual(os.listdir(self.backups), [])
+        backups.make_closed(f"{self.backups}/part")
+
+    def test_a_word_is_a_name_in_backups_and_no_folder_here(self) -> None:
+        """Root may stand in a folder of somebody else's."""
+        os.makedirs(f"{self.home}/here/evil")
+        with open(f"{self.home}/here/evil/office.rooms", "w", encoding="ascii"):
+            pass
+        before = os.getcwd()
+        os.chdir(f"{self.home}/here")
+        self.addCleanup(os.chdir, before)
+        self.assertRaises(Refused, backups.find, self.room, "evil")
+        self.assertEqual(backups.find(self.room, "./evil"), f"{os.getcwd()}/evil")
+
+    def test_a_disk_that_hangs_holds_nobody(self) -> None:
+        with unittest.mock.patch.object(waiting, "PATIENCE", 0.2), \
+                unittest.mock.patch.object(os, "listdir", lambda _: time.sleep(60)):
+            for look in (backups.newest, backups.find):
+                with self.assertRaises(waiting.Hangs) as said:
+                    look(self.room, "latest")
+                self.assertEqual(str(said.exception), f"{self.backups} doesn't answer within 0 s: "
+                                 "does its disk hang?")
+
+
+class Goes(Folder):
+    def test_the_oldest_go(self) -> None:
+        one, two, three = (Backup(n, f"2026-01-0{n}.040000", "/b") for n in (1, 2, 3))
+        self.assertEqual(tidying.beyond([one, two, three], 2, "2026-01-04.040000"), [one, two])
+        self.assertEqual(tidying.beyond([one, two, three], 9, "2026-01-04.040000"), [])
+        self.assertEqual(tidying.beyond([], 1, "2026-01-04.040000"), [])
+
+    def test_nothing_younger_than_what_stays(self) -> None:
+        """A lower number on the youngest one doesn't make it go; nor does a clock set back."""
+        one, two = (Backup(n, f"2026-01-0{n}.040000", "/b") for n in (1, 2))
+        young = Backup(0, "2026-01-03.040000", "/b")
+        self.assertEqual(tidying.beyond([young, one, two], 2, "2026-01-04.040000"), [one])
+        self.assertEqual(tidying.beyond([young, one, two], 3, "2026-01-04.040000"), [])
+        self.assertEqual(tidying.beyond([one, two, young], 1, "2025-12-01.040000"), [])
+
+    def test_what_was_cut_off_is_told_and_what_cannot_be_read_is_not(self) -> None:
+        os.makedirs(f"{self.backups}/office/2026-01-01.040000.part", 0o700)
+        os.makedirs(f"{self.backups}/2026-01-01.040000.part", 0o700)
+        at = self.backup("2026-01-02.040000.part")
+        with open(f"{self.backups}/office/2026-01-03.040000", "w", encoding="ascii"):
+            pass
+        cut = self.backup("2026-01-04.040000", 5)
+        with open(f"{cut}/unfinished", "w", encoding="ascii"):
+            pass
+        with unittest.mock.patch.object(locks, "RUN", self.home):
+            told = tidying.left(self.room, at)
+        self.assertEqual(sorted(told), [
+            "interrupted: an earlier run was cut off, and left no backup of 2026-01-01.040000; "
+            "what it had copied is removed",
+            "interrupted: an earlier run was cut off, and the backup of 2026-01-04.040000 may lack "
+            "a part of what is written beside it"])
+        self.assertEqual(sorted(os.listdir(f"{self.backups}/office")), [
+            "2026-01-02.040000.part", "2026-01-03.040000", "2026-01-04.040000"])
+        # In BACKUPS itself it may be another room's.
+        self.assertEqual(sorted(os.listdir(self.backups)), ["2026-01-01.040000.part", "office"])
+
+
+class Copies(Folder):
+    """The program on a copy: here it is a script."""
+
+    def program(self, text: str) -> settings.Room:
+        os.chmod(self.home, 0o755)
+        path = f"{self.home}/program"
+        with open(path, "w", encoding="ascii") as file:
+            file.write(f"#!/bin/sh\n{text}\n")
+        os.chmod(path, 0o755)
+        return self.settings("office", PROGRAM=path)
+
+    def run_on_copy(self, text: str, into: int | None = None, stdin: bytes = b""
+                    ) -> tuple[int, bytes, str]:
+        room = self.program(text)
+        with tempdirs.folder("rooms-test") as made:
+            with open(f"{made}/room", "w", encoding="ascii") as file:
+                file.write("x")
+            os.chmod(made, 0o755)
+            return program.on_copy(room, f"{made}/room", ["dump", "/"], 0, into, stdin)
+
+    def test_nobody_has_what_root_holds(self) -> None:
+        """What is written gets to root's file by a pipe: nothing that goes on has it."""
+        with tempfile.TemporaryFile() as target:
+            done = self.run_on_copy("echo $* of room; cat; readlink /proc/self/fd/1\n"
+                                    "(sleep 30; echo late) & echo e >&2; exit 3",
+                                    target.fileno(), b"in\n")
+            target.seek(0)
+            self.assertRegex(target.read(), rb"\Adump ./room / of room\nin\npipe:\[\d+\]\n\Z")
+        self.assertEqual(done, (3, b"", "e"))
+
+    @unittest.skipUnless(os.geteuid() == 0, "only root has the choice")
+    def test_nothing_of_it_goes_on(self) -> None:
+        os.chown(self.home, 65534, 65534)
+        user = program.user_of_copies(self.program(""))[0]
+        self.assertNotEqual(user, 0)
+        before = self.processes(user)
+        self.run_on_copy("setsid sleep 30 </dev/null >/dev/null 2>&1 &\n(sleep 30 & sleep 30) &")
+        self.assertEqual(self.processes(user) - before, set())
+
+    @staticmethod
+    def processes(user: int) -> set[str]:
+        found = set()
+        for one in os.listdir("/proc"):
+            with contextlib.suppress(OSError):
+                if one.isdigit() and os.stat(f"/proc/{one}").st_uid == user:
+                    found.add(one)
+        return found
+
+    def test_more_than_a_pipe_holds(self) -> None:
+        status, out, _ = self.run_on_copy("head -c 9000000 /dev/zero")
+        self.assertEqual((status, len(out)), (0, 9000000))
+
+    @unittest.skipUnless(os.geteuid() == 0, "only root has the choice")
+    def test_it_is_no_user_of_a_server(self) -> None:
+        os.chown(self.home, 65534, 65534)
+        room = self.program("id -u; id -g; id -G")
+        self.assertEqual(room.owner, 65534)
+        user, group = program.user_of_copies(room)
+        self.assertNotIn(user, (0, 65534))
+        self.assertNotIn(group, (0, 65534))
+        self.assertEqual(self.run_on_copy("id -u; id -g; id -G")[1].split(),
+                         [str(one).encode() for one in (user, group, group)])
+
+
+class Own(Folder):
+    def test_files_that_others_may_write_are_not_read(self) -> None:
+        place = self.backup("2026-01-01.040000", 1, lists="member a b\n")
+        with safe.own_file(f"{place}/lists.txt") as source:
+            self.assertEqual(source.read(), b"member a b\n")
+        os.symlink("lists.txt", f"{place}/link")
+        os.mkfifo(f"{place}/fifo")
+        with open(f"{place}/open", "w", encoding="ascii"):
+            os.chmod(f"{place}/open", 0o622)
+        for name in ("link", "fifo", "open", "nothing"):
+            with self.assertRaises(OSError), safe.own_file(f"{place}/{name}"):
+                pass
+        os.chmod(place, 0o777)
+        with self.assertRaises(OSError), safe.own_file(f"{place}/lists.txt"):
+            pass
+
+
+if __name__ == "__main__":
+    unittest.main()

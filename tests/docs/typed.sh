@@ -1,0 +1,473 @@
+# Each block that the pages give an administrator is typed into a shell on a terminal, as a terminal
+# does it that doesn't know of pasted texts. So each line has to get to the shell, and none to a
+# command before it that reads from the terminal. The machine is that of install/package: a copy of
+# the folder ROOMS_DEBIAN, or one that debootstrap makes.
+
+top=$here/..
+. "$here/lib/machine.sh"
+if ! has python3 || ! has dpkg-deb || ! has sha256sum; then
+  skip 'what is typed' 'python3, dpkg-deb or sha256sum is missing'
+  return
+fi
+make_machine 'what is typed' || return
+furnish_machine
+version=$("$rooms" --version 2>&1 </dev/null | sed 's/^rooms //')
+package=rooms_${version}_amd64.deb
+if ! "$top/tools/package" --program "$rooms" "$machine/root" >said 2>&1 </dev/null; then
+  fail 'a package' "$(tail -n 1 said)"
+  return
+fi
+
+# A package that pages get from Debian, with one program, which prints nothing.
+stand_in_package() { # NAME PROGRAM
+  mkdir -p "stand-ins/$1/DEBIAN" "stand-ins/$1/usr/bin" "$machine/root/packages"
+  printf '%s\n' "Package: $1" 'Version: 99' 'Architecture: all' \
+    'Maintainer: nobody <nobody@localhost>' 'Description: stand-in' >"stand-ins/$1/DEBIAN/control"
+  { printf '#!/bin/sh\n' && cat; } >"stand-ins/$1/usr/bin/$1"
+  chmod 755 "stand-ins/$1/usr/bin/$1"
+  dpkg-deb --root-owner-group --build "stand-ins/$1" "$machine/root/packages/$1.deb" >said 2>&1 ||
+    return
+  {
+    cat "stand-ins/$1/DEBIAN/control" &&
+      printf '%s\n' "Filename: ./$1.deb" "Size: $(stat -c %s "$machine/root/packages/$1.deb")" \
+        "SHA256: $(sha256sum <"$machine/root/packages/$1.deb" | cut -d ' ' -f 1)" ''
+  } >>"$machine/root/packages/Packages"
+}
+# A program that the machine lacks.
+stand_in() { # NAME
+  [ -z "$(find "$machine"/{usr/,usr/local/,}{s,}bin -name "$1" -print -quit 2>/dev/null)" ] ||
+    return 0
+  { printf '#!/bin/sh\n' && cat; } >"$machine/usr/local/bin/$1"
+  chmod 755 "$machine/usr/local/bin/$1"
+}
+
+# Terminals for apt-get, which has dpkg at one of its own; passwords that are asked for; a shell
+# that tells of each command.
+furnish_terminal() {
+  printf '%s\n' 'APT::Sandbox::User "root";' \
+    'DPkg::Path "/usr/local/sbin:/usr/local/bin:/usr/sbin:/usr/bin:/sbin:/bin";' \
+    >"$machine/etc/apt/apt.conf.d/99rooms"
+  rm -f "$machine"/etc/apt/sources.list.d/*
+  echo 'deb [trusted=yes] file:/root/packages ./' >"$machine/etc/apt/sources.list"
+  echo 'set enable-bracketed-paste off' >>"$machine/etc/inputrc"
+  cat >"$machine/etc/bash.bashrc" <<'END'
+PS1='[typed]$ ' PS2='> '
+HISTCONTROL= HISTTIMEFORMAT=
+unset HISTFILE
+shopt -s cmdhist lithist
+typed() { printf '%s\n%s\n~\n' "$1" "$(history 1)" >>/srv/typed; }
+PS0='$(typed ">")' PROMPT_COMMAND='typed "=$?"'
+END
+  mkdir -p "$machine/dev/pts" "$machine/srv"
+  nsenter -t "$first" -m mount -t devpts -o newinstance,ptmxmode=0666 devpts "$machine/dev/pts" &&
+    ln -sf pts/ptmx "$machine/dev/ptmx"
+}
+stand_in_package at <<'END' || fail 'what is typed' "no stand-in: $(cat said)"
+{ cat; echo "at $*"; } >>/root/due
+END
+stand_in_package certbot <<'END' || fail 'what is typed' "no stand-in: $(cat said)"
+mkdir -p /etc/letsencrypt/live/rooms.example
+cp /etc/ssl/rooms.pem /etc/letsencrypt/live/rooms.example/fullchain.pem
+cp /etc/ssl/private/rooms.key /etc/letsencrypt/live/rooms.example/privkey.pem
+END
+for name in apache2-bin ldap-utils python3-ldap libapache2-mod-auth-gssapi \
+  libapache2-mod-auth-openidc; do
+  stand_in_package "$name" </dev/null || fail 'what is typed' "no stand-in: $(cat said)"
+done
+# Of Apache and of a directory there is just enough that they are asked: install/directory,
+# install/kerberos and install/session try what they do.
+mkdir -p "$machine/usr/lib/apache2/modules"
+echo >"$machine/usr/lib/apache2/modules/mod_authnz_ldap.so"
+printf '#!/bin/sh\n[ "$1" = -t ] || exec sleep 3600\n' >"$machine/usr/sbin/apache2"
+chmod 755 "$machine/usr/sbin/apache2"
+# What Python asks a directory with, by the program below.
+mkdir -p "$machine/usr/local/lib/python3.11/dist-packages/ldap"
+cat >"$machine/usr/local/lib/python3.11/dist-packages/ldap/__init__.py" <<'END'
+import subprocess
+OPT_REFERRALS = OPT_NETWORK_TIMEOUT = OPT_TIMEOUT = OPT_X_TLS_REQUIRE_CERT = OPT_X_TLS_DEMAND = 0
+OPT_X_TLS_NEWCTX = OPT_X_TLS_CACERTFILE = SCOPE_SUBTREE = SCOPE_BASE = 0
+class LDAPError(Exception): pass
+class TIMEOUT(LDAPError): pass
+class TIMELIMIT_EXCEEDED(LDAPError): pass
+class NO_SUCH_OBJECT(LDAPError): pass
+class DECODING_ERROR(LDAPError): pass
+class Link:
+    def set_option(self, *_given): pass
+    start_tls_s = simple_bind_s = set_option
+    def search_ext(self, base, _scope, text, wanted, **_named):
+        words = ["ldapsearch", "-b", base, text, *wanted]
+        self.said = subprocess.run(words, capture_output=True, text=True).stdout
+    def result3(self, *_given, **_named):
+        rows = []
+        for entry in self.said.strip().split("\n\n"):
+            lines = [line.split(": ", 1) for line in entry.split("\n") if ": " in line]
+            found = {}
+            for name, value in lines[1:]:
+                found.setdefault(name, []).append(value.encode())
+            rows += [(lines[0][1], found)] if lines else []
+        return 0, rows, 0, []
+def initialize(_uri): return Link()
+END
+printf 'class SimplePagedResultsControl:\n    controlType = "x"\n    def __init__(self, *a, **b): pass\n' \
+  >"$machine/usr/local/lib/python3.11/dist-packages/ldap/controls.py"
+printf 'def str2dn(text): return text\ndef dn2str(text): return text\n' \
+  >"$machine/usr/local/lib/python3.11/dist-packages/ldap/dn.py"
+echo 'def escape_filter_chars(text): return text' \
+  >"$machine/usr/local/lib/python3.11/dist-packages/ldap/filter.py"
+stand_in ldapsearch <<'END'
+groups=ou=groups,dc=example,dc=net
+case "$*" in
+  *'(cn=staff)'*) printf 'dn: cn=staff,%s\n\n' "$groups" ;;
+  *'(cn=Human Resources)'*) printf 'dn: cn=hr,%s\n\n' "$groups" ;;
+  *'-b cn=sales,'*) printf 'dn: cn=sales,%s\n\n' "$groups" ;;
+  *' member '*)
+    for name in staff hr sales; do
+      printf 'dn: cn=%s,%s\nmember: uid=alice,ou=people\n\n' "$name" "$groups"
+    done
+    ;;
+  *) printf 'dn: uid=%s,ou=people\nuid: %s\n\n' alice alice bob bob ;;
+esac
+END
+stand_in_package sqlite3 </dev/null || fail 'what is typed' "no stand-in: $(cat said)"
+stand_in_package smbclient <<'END' || fail 'what is typed' "no stand-in: $(cat said)"
+mkdir ' a ' && echo x >' a /b '
+END
+# A firewall, unless the machine has one: install/front tries what the rule does.
+if [ ! -e "$machine/usr/sbin/nft" ]; then
+  stand_in_package nftables </dev/null || fail 'what is typed' "no stand-in: $(cat said)"
+fi
+for name in nft update-ca-certificates journalctl; do stand_in "$name" </dev/null; done
+mkdir -p "$machine/root/deploy" "$machine/usr/local/share/ca-certificates"
+# At the top of a repository. What it does is tried by install/install.
+printf '#!/bin/sh\nexec rooms-admin setup "$@"\n' >"$machine/root/deploy/install"
+chmod 755 "$machine/root/deploy/install"
+if ! furnish_terminal 2>said; then
+  skip 'what is typed' "no terminals: $(head -c 200 said)"
+  return
+fi
+
+# The blocks of a page, each in a file of its own.
+pages='README docs/operating docs/backup docs/people docs/upgrading docs/several docs/capacity
+  docs/lists docs/in-and-out docs/check docs/messages docs/passwords docs/directory'
+mkdir -p blocks/docs
+for page in $pages; do
+  awk -v into="blocks/$page" '
+    /^```/ {
+      if (inside) { inside = 0; close(file) }
+      else { inside = 1; file = "/dev/null"; if ($0 == "```sh") file = into "." ++n }
+      next
+    }
+    inside { print >file }' "$top/$page.md"
+done
+holds 'the pages have blocks' [ "$(find blocks -type f | wc -l)" -gt 80 ]
+
+# The first block of a page that has a text, or that is the text, where it begins with '='.
+block_of() { # PAGE TEXT
+  local block
+  for block in $(printf '%s\n' "blocks/$1".* | sort -V); do
+    if [[ $2 = =* ]]; then
+      [ "$2" = "=$(<"$block")" ]
+    else
+      grep -qF -e "$2" "$block"
+    fi || continue
+    echo "$block"
+    return
+  done
+}
+
+# Types blocks into one shell, one after the other. What differs on this machine is said by a script
+# of sed in `edit`, which statuses other than 0 are right in `statuses`, and a folder in `where`.
+edit='' statuses='' where=/root
+types() { # NAME PAGE TEXT ..
+  local name=$1 block each sent=()
+  shift
+  while [ $# != 0 ]; do
+    block=$(block_of "$1" "$2")
+    [ -n "$block" ] || { fail "$name" "no such block in $1: $2"; return; }
+    for each in "blocks/$1".*; do ! cmp -s "$block" "$each" || echo "$each" >>typed; done
+    sent+=("sent.${#sent[@]}")
+    sed -e "s/rooms_VERSION/rooms_$version/" -e "$edit" "$block" >"${sent[-1]}"
+    shift 2
+  done
+  : >"$machine/srv/typed"
+  rm -f log.faults
+  python3 "$here/lib/typed.py" "$machine/srv/typed" "$patience" "${sent[@]}" \
+    -- nsenter -t "$first" -n -m -p chroot "$machine" /usr/bin/env -i HOME=/root \
+    LC_ALL=C.UTF-8 TERM=dumb PATH=/usr/local/sbin:/usr/local/bin:/usr/sbin:/usr/bin:/sbin:/bin \
+    bash -c "cd '$where' && exec bash -i" >"$work/out" 2>"$work/err" </dev/null
+  if [ -e "$machine/srv/typed.faults" ] &&
+    ! grep -vE "^status (${statuses:-none}): " "$machine/srv/typed.faults" >found; then
+    pass
+  else
+    fail "$name" "$(head -n 5 found) $(head -c 300 "$work/err")"
+    tail -c 900 "$work/out" | tr -d '\r' | sed 's/^/  /'
+  fi
+  rm -f "$machine/srv/typed.faults"
+  edit='' statuses='' where=/root
+}
+shows() { # NAME TEXT ..: what the terminal has shown
+  local name=$1 text
+  shift
+  for text; do holds "$name ($text)" grep -qF -e "$text" "$work/out"; done
+}
+asks_as() { # STATUS USER METHOD TARGET [BODY]
+  printf %s "${5-}" >"$machine/root/body"
+  inside "curl -s -o /dev/null -w '%{http_code}' --unix-socket /run/rooms/office/socket -X $3 \
+    -H 'Room-User: $2' --data-binary @body http://localhost$4"
+  holds "$3 $4 as $2 is answered by $(<"$work/out")" [ "$(<"$work/out")" = "$1" ]
+}
+: >"$machine/srv/typed"
+chmod 666 "$machine/srv/typed"
+
+# The case itself finds what is lost: apt-get takes the lines behind it, unless it is kept from the
+# terminal.
+printf '%s\n' 'apt-get update' 'apt-get install -y lost' 'echo one' 'echo two' >blocks/docs/lost.1
+before=$failed
+types 'lost lines' docs/lost two >/dev/null
+if [ "$failed" = "$before" ]; then fail 'lost lines' 'are not noticed'; else pass; fi
+failed=$before
+rm blocks/docs/lost.1 typed
+
+# The first hour.
+types 'the package' README './rooms_'
+types 'the three commands' README 'rooms init'
+shows 'they make the room' ready
+inside \
+  'systemctl stop rooms@office; rm -f /var/lib/rooms/office.rooms*
+  : >/var/lib/rooms-passwords/rooms.htpasswd'
+types 'the same on its page' docs/operating './rooms_' docs/operating 'rooms init'
+shows 'and there' ready 'New password of alice' 'a password for alice'
+types 'without a package' docs/operating 'nginx apache2-utils' docs/operating '=deploy/install'
+types 'a folder' docs/operating 'rooms.example:80'
+shows 'is made' 201
+types 'groups and lists' docs/operating 'runuser -u rooms bash' docs/operating 'cat >groups.csv' \
+  docs/operating 'office.rooms / dacl' docs/operating 'office.rooms / sacl'
+shows 'are taken' 'groups 2, members 3' 'done'
+does 'the server starts' 'systemctl start rooms@office'
+# The mail program is one of these tests; install/package has the warning where there is none.
+stand_in_package bsd-mailx </dev/null || fail 'what is typed' "no stand-in: $(cat said)"
+printf '#!/bin/sh\ncat >>/srv/mails\n' >"$machine/usr/local/bin/mail"
+chmod 755 "$machine/usr/local/bin/mail"
+statuses='[12]'
+types 'somebody is told' docs/operating 'install -y bsd-mailx' \
+  docs/operating 'systemctl start rooms-nightly@office'
+holds 'by a mail' grep -qx 'Can you read this?' "$machine/srv/mails"
+shows 'and all is looked at' 'office: '
+rm "$machine/usr/local/bin/mail" "$machine/etc/aliases" "$machine/srv/mails"
+types 'a port' docs/operating 'echo SOCKET= '
+does 'the room is there' \
+  'curl -sf "http://127.0.0.1:8780/can/?" && curl -sf -u alice:typed http://127.0.0.1/me >/dev/null'
+does 'the rule is there' 'nft -f /usr/share/rooms/rooms.nft'
+types 'the ports' docs/operating 'nft list table'
+types 'a socket' docs/operating 'echo SOCKET=yes'
+does 'it is there' 'curl -sf --unix-socket /run/rooms/office/socket "http://localhost/can/?" &&
+  curl -sf -u alice:typed http://127.0.0.1/me >/dev/null'
+
+# TLS, and back.
+types 'an authority' docs/operating '=rooms-admin certificate rooms.example' \
+  docs/operating 'rooms-admin setup --tls /etc/ssl' \
+  docs/operating '=nginx -t && systemctl reload nginx' docs/operating update-ca-certificates
+does 'the site with TLS' 'curl -sf --cacert /root/authority/authority.pem \
+  --resolve rooms.example:443:127.0.0.1 -u alice:typed https://rooms.example/me >/dev/null'
+types 'a public name' docs/operating 'install -y certbot' docs/operating certonly \
+  docs/operating letsencrypt/live
+holds 'its certificate is used' grep -q letsencrypt "$machine/etc/nginx/sites-available/rooms"
+types 'back' docs/operating '/etc/rooms/site && rooms-admin setup'
+does 'without TLS' 'curl -sf -u alice:typed http://127.0.0.1/me >/dev/null'
+
+# Lists.
+types 'folders' docs/lists 'for name in policies'
+holds 'one of them was there' [ "$(grep -c '^409' "$work/out")" = 1 ]
+holds 'and the others are made' [ "$(grep -c '^201' "$work/out")" = 8 ]
+types 'each list' docs/lists 'runuser -u rooms bash' docs/lists 'office.rooms /policies' \
+  docs/lists 'office.rooms /minutes' docs/lists 'office.rooms /letters' \
+  docs/lists 'office.rooms /bob' docs/lists 'office.rooms /personnel' \
+  docs/lists 'office.rooms /handbook' docs/lists 'office.rooms /inbox' \
+  docs/lists 'office.rooms /drafts' docs/lists 'office.rooms /contracts' \
+  docs/lists 'systemctl start rooms@office'
+holds 'all are set' [ "$(grep -c '^done' "$work/out")" = 9 ]
+statuses=1
+types 'a list is tried' docs/lists 'caller: ivan'
+does 'the server runs again' 'systemctl is-active rooms@office
+  printf "%s\n" list:ap A:fd:alice:rwanNxDtThHdcCoy A:fdg:staff:rxtc >list.txt'
+types 'a list by a request' docs/lists '@list.txt' docs/lists 'cat list.txt'
+shows 'after a look' granted
+where=/usr/share/doc/rooms/docs/examples
+edit=s#docs/examples/NAME#intern-writes#
+statuses=1
+types 'an example' docs/check docs/examples
+does 'an input' "sed -n '/^caller: alice/,/^\`\`\`/p' /usr/share/doc/rooms/docs/check.md |
+  sed '/^\`\`\`/,\$d' >input.txt"
+types 'a list that is judged' docs/check input.txt
+shows 'is' granted
+
+# People.
+types 'many join' docs/people joining.csv
+shows 'they have passwords and groups' 'groups 2, members 6'
+does 'they leave' 'rooms-admin user remove kim && rooms-admin user remove lee'
+types 'somebody joins' docs/people '=rooms-admin user add dana --groups sales'
+file=$machine/var/lib/rooms-passwords/rooms.htpasswd
+holds 'she has a password' grep -q '^dana:$2y$10\$' "$file"
+shows 'she is in her group' 'groups 2, members 4'
+does 'bob has a password' 'rooms-admin user add bob'
+for path in reply ' odd '; do asks_as 201 bob PUT "/doc/letters/${path// /%20}" x; done
+types 'somebody leaves' docs/people '=rooms-admin user remove bob'
+shows 'what is his' 'document bob staff 1 /letters/ odd ' 'document bob staff 1 /letters/reply'
+holds 'he has no password' [ "$(grep -c '^bob:' "$file")" = 0 ]
+does 'lists of a night' 'systemctl start rooms-nightly@office'
+types 'what would be given' docs/people 'rooms-admin handover --dry-run'
+shows 'is told' "would: /letters/\\ odd\\ " 'would be given 2, of others by now 0, left out 0'
+types 'all of it' docs/people '=rooms-admin user remove bob --to alice'
+shows 'is given' 'given 2, of others by now 0, left out 0'
+types 'a single one' docs/people '/attr/letters/reply'
+shows 'is given too' 204
+asks_as 201 alice POST /folder/projects
+asks_as 201 alice POST /folder/projects/bridge
+types 'somebody from outside' docs/people '=rooms-admin user add eve' docs/people 'A::eve:x' \
+  docs/people 'can/projects/bridge' docs/people 'at 18:00'
+shows 'may read' '"r":"allowed'
+holds 'until a day' grep -q '^at 18:00 2027-01-31$' "$machine/root/due"
+holds 'at which her password goes' \
+  grep -q '^rooms-admin user remove '\''eve'\'' --password$' "$machine/root/due"
+types 'a backup' docs/upgrading 'start rooms-nightly'
+asks_as 204 alice PUT /dacl/letters list:ap
+asks_as 403 alice GET /folder/letters
+types 'somebody is locked out' docs/people 'office.rooms /letters dacl'
+asks_as 200 alice GET /folder/letters
+types 'the list of the night' docs/people 'here && dacl'
+shows 'is printed' A:fdg:staff:rwaxtc A:fi:OWNER@:d
+types 'who can read this folder' docs/people 'rooms review'
+shows 'alice, and staff' '/letters,folder,alice,rwanNxDtThHdcCoy,yes'
+types 'who could change it' docs/people "at='/projects'"
+types 'a new password' docs/people '=rooms-admin user add bob' docs/people 'tr -dc'
+
+# In and out.
+types 'a share of Windows' docs/in-and-out smbclient
+edit=s#https://rooms.example#http://127.0.0.1#
+types 'it comes in' docs/in-and-out 'rooms-admin import --user alice' \
+  docs/in-and-out 'rooms-admin import --as alice'
+shows 'all of it' 'left out 0' 'there already 3'
+types 'it goes out' docs/in-and-out 'rooms-admin export'
+does 'as it was' 'cmp "share/ a /b " "out/ a /b "'
+
+# Several rooms.
+types 'a second room' docs/several 'rooms-admin add --title'
+does 'a password counts' 'curl -sf -u carol:typed http://127.0.0.1/invoices/me >/dev/null'
+types 'a program' docs/passwords 'openssl rand'
+
+# A directory, tickets, sessions.
+# What alice gets with the password of nginx's own file, once nobody remembers anything.
+answers_as() { # NAME STATUS
+  inside 'sleep 11; curl -s -k -L --location-trusted -o /dev/null -w "%{http_code}" -u alice:typed \
+    http://127.0.0.1/me'
+  holds "$1: $(<"$work/out")" [ "$(<"$work/out")" = "$2" ]
+}
+types 'where it is' docs/directory 'ldap-utils' docs/directory URI=
+does 'the password that was asked for' \
+  '[ "$(cat /etc/rooms/directory.secret)" = typed ] &&
+  [ "$(stat -c %a /etc/rooms/directory.secret)" = 600 ]'
+types 'passwords' docs/directory 'rooms-admin groups --names' \
+  docs/directory 'rooms-admin setup --directory /etc'
+shows 'are asked there' 'the directory has 2 users' 'file /etc/rooms/directory.apache'
+answers_as 'nothing answers in its place' 503
+types 'of a further room' docs/directory rooms/invoices.conf docs/directory invoices.apache
+types 'groups' docs/directory 'MOST=10' docs/directory '=rooms-admin groups
+systemctl enable --now rooms-directory@office.timer'
+shows 'come in' '+ hr,alice'
+types 'tickets' docs/directory krb5.conf
+does 'a key' 'echo key >keytab'
+types 'are taken' docs/directory 'install -o rooms-passwords' docs/directory mod_auth_gssapi \
+  docs/directory 'map "$status'
+does 'a key of before, which Apache read as nginx'"'"'s user' \
+  'chown www-data /etc/rooms/kerberos.keytab && rooms-admin setup &&
+  stat -c %U /etc/rooms/kerberos.keytab'
+holds 'gets its new user' [ "$(tail -n 1 "$work/out")" = rooms-passwords ]
+holds 'a password is offered beside' \
+  grep -q '^add_header WWW-Authenticate ' "$machine/etc/rooms/nginx/server.d/tickets.conf"
+types 'and no more' docs/directory 'rm /etc/rooms/directory.d/kerberos.apache'
+types 'the way back' docs/directory 'rooms-admin setup --directory none'
+answers_as 'the file counts' 200
+does 'TLS for sessions' 'rooms-admin setup --tls /etc/ssl/rooms.pem /etc/ssl/private/rooms.key'
+types 'sessions' docs/directory libapache2-mod-auth-openidc docs/directory OIDCProviderMetadataURL \
+  docs/directory '[Service]' docs/directory PASSWORDS=session
+answers_as 'nothing answers in its place either' 503
+types 'passwords again' docs/directory 'disable --now rooms-session'
+answers_as 'the file counts again' 200
+
+types 'taken away' docs/several 'rooms-admin remove'
+
+# What is watched, and what is done when something is wrong.
+statuses='[12]'
+types 'what to watch' docs/capacity '=rooms-admin check'
+shows 'it says what there is' 'rooms WARNING - ' 'office: '
+types 'how much memory it has' docs/capacity MemoryCurrent
+statuses=1
+types 'how full it is' docs/capacity 'restart rooms-full@office'
+shows 'is said' '0 MB of 384 are in use'
+types 'who was here' docs/capacity records.csv
+statuses=1
+types 'by the log too' docs/capacity 'zgrep'
+types 'old records' docs/capacity 'DELETE FROM audits'
+shows 'the room stays sound' sound
+types 'which cause it is' docs/messages '=rooms-admin doctor /var/lib/rooms/office.rooms'
+shows 'the server has it, and answers' \
+  'nothing is wrong: rooms@office serves /var/lib/rooms/office.rooms, and answers'
+types 'a unit that gave up' docs/messages reset-failed
+types 'a full disk' docs/messages 'df -h' docs/messages vacuum docs/messages 'rooms verify'
+shows 'the room is sound' sound
+backup=$(cd "$machine/var/backups/rooms/office" && ls -d ????-??-??.?????? | tail -n 1)
+edit=s/2026-11-20.030000/$backup/
+types 'a restore' docs/backup 'rooms-admin restore --start 2026'
+shows 'is done' "restored /var/lib/rooms/office.rooms from /var/backups/rooms/office/$backup"
+edit=s/2026-11-20.030000/$backup/
+types 'one document' docs/backup 'rooms-admin get 2026' docs/backup @reply
+shows 'is put back' 204
+edit=s/2026-11-20.030000/$backup/
+types 'a folder of it' docs/backup 'rooms-admin export --backup'
+shows 'is written' 'left out 0'
+where=/var/backups/rooms/office/$backup
+types 'the longest list' docs/operating 'where = at'
+
+# Upgrades, and the way back.
+statuses='[12]'
+types 'a newer version' docs/upgrading \
+  '=apt-get install -y ./rooms_VERSION_amd64.deb -o Dpkg::Options::=--force-confold </dev/null' \
+  docs/upgrading 'rooms-admin check'
+shows 'serves' 'rooms WARNING - '
+types 'an older one' docs/upgrading allow-downgrades docs/upgrading "=systemctl restart 'rooms@*'"
+edit=s/2026-11-20.030000/$backup/
+types 'with its file' docs/upgrading 'rooms-restore 2026'
+does 'a file of schema 1' \
+  'systemctl stop rooms@office && mkdir kept && mv /var/lib/rooms/office.rooms* kept'
+take moved.1.db "$machine/var/lib/rooms/office.rooms"
+does 'is the room' 'chown rooms: /var/lib/rooms/office.rooms'
+types 'is upgraded and served' docs/upgrading 'rooms migrate'
+shows 'and so on' migrated
+does 'the room of before' \
+  'systemctl stop rooms@office; rm /var/lib/rooms/office.rooms*; mv kept/* /var/lib/rooms'
+does 'what deploy/install has beside' \
+  'sed -i s#/usr/share/rooms#/usr/local/share/rooms# /etc/rooms/*.apache
+  systemctl enable --now rooms-passwords rooms-standby@office.timer'
+types 'from an install by hand' docs/upgrading 'rm -f bin/rooms' \
+  docs/upgrading 'enable --now "$unit"'
+asks_as 200 alice GET /folder/letters
+holds 'no file of Apache looks below /usr/local' \
+  [ -z "$(grep -l /usr/local "$machine"/etc/rooms/*.apache)" ]
+does 'what was enabled is so' 'systemctl is-active rooms-passwords rooms-standby@office.timer'
+does 'the same command again' 'rooms-admin setup --directory /etc/rooms/directory'
+holds 'has nothing to add' [ "$(grep -c directory.apache "$work/out")" = 0 ]
+
+# The blocks of the README for who builds the program.
+block_of README tools/build >>typed
+block_of README .ci/run >>typed
+# Blocks of a new machine, and of what is copied for it: install/new-machine pastes them.
+for text in './rooms_' 'cp -a /mnt' 'do rooms-admin restore' reload-or-restart machine/about \
+  'rooms-offsite <<' 'openssl rand' \
+  'restore latest' 'mkdir -m 700 /mnt' 'head -n -90' ssh-keygen useradd; do
+  block_of docs/backup "$text"
+done >>typed
+find blocks -type f | sort >wanted
+while IFS= read -r block; do
+  fail "block ${block##*.} of ${block%.*}" "no line here types it: $(head -n 1 "$block")"
+done < <(sort -u typed | comm -13 - wanted)
+holds 'blocks were typed' [ "$(sort -u typed | wc -l)" -gt 80 ]

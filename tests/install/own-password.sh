@@ -1,0 +1,68 @@
+# A user's own password on an installed machine, under systemd: the change, and what a program in
+# the place of the service can do.
+
+top=$here/..
+version=none
+. "$here/lib/machine.sh"
+. "$here/lib/booted.sh"
+boot_machine 'own passwords on a machine' || return
+does 'the package is installed' 'dpkg -i rooms.deb'
+does 'a room' 'runuser -u rooms -- rooms init /var/lib/rooms/office.rooms alice staff &&
+  systemctl enable --now rooms@office && rooms-admin user add alice --first <<<"given to alice" &&
+  systemctl reload-or-restart nginx'
+shows 'the socket' rooms-own-password.socket ActiveState active
+does 'whose the files are' 'cd /var/lib/rooms-passwords && stat -c "%n %U %G %a" . *'
+printf '%s\n' '. rooms-keeper www-data 2750' 'rooms.first rooms-keeper www-data 640' \
+  'rooms.htpasswd rooms-keeper www-data 640' >wanted
+same 'are the service'\''s and nginx'\''s' "$work/out" wanted
+web='curl -s -o /dev/null -w %{http_code}'
+is() { # NAME STATUS TEXT
+  inside "$3"
+  holds "$1: $(cat "$work/out" "$work/err")" [ "$(cat "$work/out")" = "$2" ]
+}
+changes() { # USER:PASSWORD OLD NEW
+  printf "%s -u '%s' -H 'Content-Type: application/json' -d '%s' http://127.0.0.1/password" \
+    "$web" "$1" "{\"old\":\"$2\",\"new\":\"$3\"}"
+}
+until_inside 'nginx asks for it' \
+  "[ \"\$($web -u 'alice:given to alice' http://127.0.0.1/)\" = 200 ]"
+is 'a first password opens nothing' 403 "$web -u 'alice:given to alice' http://127.0.0.1/folder/"
+is 'she chooses her own' 204 \
+  "$(changes 'alice:given to alice' 'given to alice' 'walnuts in december')"
+is 'which opens the room' 200 "$web -u 'alice:walnuts in december' http://127.0.0.1/folder/"
+is 'a wrong one' 403 "$(changes 'alice:walnuts in december' wrong 'gravel under bridges')"
+inside "time -p $(changes 'alice:walnuts in december' 'walnuts in december' 'gravel under bridges')"
+echo "  one change under systemd: $(sed -n 's/^real //p' "$work/err") s"
+is 'the new one counts' 200 "$web -u 'alice:gravel under bridges' http://127.0.0.1/folder/"
+does 'whose the files are then' 'cd /var/lib/rooms-passwords && stat -c "%n %U %G %a" . *'
+same 'they stay' "$work/out" wanted
+does 'what the log has' 'journalctl -t rooms-own-password --no-pager -o cat'
+holds 'a line for each change' [ "$(grep -c 'alice of office has a new password' "$work/out")" = 2 ]
+holds 'and no password' eval '! grep -q -e gravel -e chosen -e given "$work/out"'
+does 'a verb of root' 'rooms-admin user remove alice --password'
+sleep 11
+is 'ends it' 401 "$web -u 'alice:gravel under bridges' http://127.0.0.1/"
+does 'units with faults' 'systemctl list-units --state=failed --no-legend --plain "rooms*"'
+holds 'there are none' [ ! -s "$work/out" ]
+
+# A program of somebody else's in the place of the service.
+cp "$here/install/probe.py" "$machine/usr/local/lib/probe.py"
+place() { # UNIT
+  mkdir -p "$machine/etc/systemd/system/$1.d"
+  printf '%s\n' '[Service]' ExecStart= 'ExecStart=/usr/bin/python3 -I /usr/local/lib/probe.py' \
+    >"$machine/etc/systemd/system/$1.d/probe.conf"
+}
+place rooms-own-password@.service
+does 'it is put there' 'systemctl daemon-reload; echo key >/etc/ssl/private/probe.key
+  chmod 600 /etc/ssl/private/probe.key; rooms-admin user add alice <<<"one of root"
+  systemctl start rooms-nightly@office; chmod 1777 /var/tmp'
+does 'and asked' "python3 -c '
+import socket
+asking = socket.socket(socket.AF_UNIX)
+asking.connect(\"/run/rooms-own-password/socket\")
+asking.shutdown(socket.SHUT_WR)
+print(asking.makefile().read(), end=\"\")'"
+printf '%s\n' 'read /var/lib/rooms-passwords/rooms.htpasswd' 'list /var/lib/rooms-passwords' \
+  'write /var/lib/rooms-passwords' 'write /var/tmp' 'write /dev/shm' >wanted
+same 'what it can do' "$work/out" wanted
+stop_machine

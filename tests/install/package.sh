@@ -1,0 +1,511 @@
+# tools/package: what the package has in it, and a machine of its own on which it is installed over
+# a version that had many files of nginx, serves two rooms, and is removed and purged, while the
+# rooms stay. The machine is a copy of the folder ROOMS_DEBIAN, which debootstrap has made by the
+# command below; without that variable it is made anew. It has a network of its own, without a way
+# out.
+
+top=$here/..
+. "$here/lib/machine.sh"
+. "$here/lib/single.sh"
+can_package 'the package' || return
+older=rooms_0.0.9_amd64.deb
+single=rooms_0.0.8_amd64.deb
+packs() { # ARGUMENT ..
+  "$top/tools/package" "$@" </dev/null >"$work/out" 2>"$work/err"
+  status=$?
+}
+
+packs --program "$PWD/none"
+told 'no program' 2 'no program'
+packs --program "$rooms" --version 'one two'
+told 'a version that is none' 2 'bad version'
+packs --program "$rooms" "$PWD/none"
+told 'no folder' 2 'no folder'
+packs --other x
+told 'an unknown argument' 2 'bad arguments'
+cp /bin/sh ./other 2>/dev/null && chmod 755 other
+packs --program "$PWD/other" --version 1
+told 'another program' 1 'is not rooms'
+packs --program "$rooms"
+told 'a package' 0 "./$package"
+mkdir again
+packs --program "$rooms" again
+told 'the same package again' 0 "again/$package"
+same 'has the same bytes' "again/$package" "$package"
+packs --program "$rooms" --version 0.0.9
+told 'an older one' 0 "./$older"
+holds 'nothing else is left' [ "$(ls)" = "$(printf '%s\n' again other "$older" "$package" | sort)" ]
+
+dpkg-deb -x "$package" files
+dpkg-deb -e "$package" control
+units=usr/lib/systemd/system
+docs=usr/share/doc/rooms
+for file in usr/bin/rooms usr/bin/rooms-import usr/bin/rooms-export usr/sbin/rooms-nightly \
+  usr/sbin/rooms-restore usr/sbin/rooms-get \
+  usr/sbin/rooms-add usr/sbin/rooms-setup usr/sbin/rooms-admin usr/sbin/rooms-doctor \
+  usr/bin/rooms-handover usr/share/man/man8/rooms-doctor.8.gz usr/sbin/rooms-standby \
+  usr/bin/rooms-admin usr/share/rooms/rooms_admin/__main__.py usr/share/man/man8/rooms-admin.8.gz \
+  $units/rooms-standby@.service $units/rooms-standby@.timer usr/share/man/man8/rooms-standby.8.gz \
+  usr/share/rooms/rooms_admin/site/template.py usr/share/rooms/site.conf.in usr/sbin/rooms-full \
+  $units/rooms-full@.service usr/share/man/man8/rooms-full.8.gz usr/share/rooms/before.txt \
+  usr/sbin/rooms-directory usr/share/rooms/room.conf.in usr/share/rooms/directory.apache \
+  usr/share/rooms/signed-in $units/rooms-passwords.service $units/rooms-directory@.service \
+  $units/rooms-directory@.timer usr/share/man/man8/rooms-directory.8.gz $units/rooms@.service \
+  $units/rooms-nightly@.service $units/nginx.service.d/rooms.conf usr/lib/tmpfiles.d/rooms.conf \
+  $units/rooms-nightly@.timer usr/share/rooms/page/index.html usr/share/man/man1/rooms.1.gz \
+  usr/share/man/man8/rooms-add.8.gz usr/share/man/man8/rooms-setup.8.gz \
+  usr/share/bash-completion/completions/rooms usr/share/bash-completion/completions/rooms-setup \
+  usr/share/bash-completion/completions/rooms-nightly $docs/docs/operating.md $docs/CHANGELOG.md \
+  $docs/copyright $units/rooms-door@.service usr/share/rooms/rooms_services/door/__main__.py \
+  usr/share/rooms/door.conf.in usr/share/rooms/proxy.conf.in; do
+  holds "$file is in it" [ -s "files/$file" ]
+done
+same 'the program is the one that was built' files/usr/bin/rooms "$rooms"
+holds 'no setting is a conffile, which no script may edit' \
+  [ ! -e files/etc -a ! -e control/conffiles ]
+dpkg-deb -f "$package" Recommends >found
+holds 'a mail program is recommended, without which nobody is told of a failure' \
+  grep -q 'mailx.*mail-transport-agent' found
+grep -rlE '/usr/local/(s?bin|lib|share)/rooms' files >found
+: >nothing
+same 'no file looks below /usr/local' found nothing
+holds 'nothing is in a room' is_missing files/var
+holds 'the kit or its absence is named' \
+  grep -qE 'rattle-kit|unknown here' "files/$docs/README.proved"
+holds 'and the program' \
+  grep -qF "$(sha256sum <"$rooms" | cut -d ' ' -f 1)" "files/$docs/README.proved"
+for file in preinst postinst prerm postrm; do holds "$file can be read" sh -n "control/$file"; done
+if has lintian; then
+  (umask 022 && lintian --allow-root "$package") >"$work/out" 2>&1
+  grep '^E:' "$work/out" >found || :
+  same 'lintian has no error' found nothing
+else
+  skip 'what lintian says' 'lintian is missing'
+fi
+
+holds 'a package with many files of nginx' single_package
+
+make_machine 'a machine with the package' || return
+if [ ! -x "$machine/usr/bin/python3" ]; then
+  skip 'a machine with the package' "/usr/bin/python3 isn't in it"
+  return
+fi
+furnish_machine
+cp "$single" "$machine/root/"
+
+# That version, with the README's commands, and a further room by its file of nginx.
+does 'a version with many files of nginx' "apt-get install -y ./$single"
+does 'its files are whole' 'dpkg -V rooms'
+holds 'nothing differs' [ ! -s "$work/out" ]
+does 'the three commands' "$(block README.md 'runuser' |
+  sed 's,^rooms-admin user.*,htpasswd -B /etc/nginx/rooms.htpasswd alice,') &&
+  systemctl reload nginx"
+holds 'the room is made' grep -q '^ready$' "$work/out"
+does 'a folder' \
+  "$(block docs/operating.md 'rooms.example:80' | sed 's/-u alice/-s -u alice:typed/')"
+prints 'is made through nginx' 201
+reply=http://127.0.0.1/doc/letters/reply
+does 'a document' "curl -s -u alice:typed -X PUT -d hello -w '%{http_code}\n' $reply"
+prints 'is made' 201
+room() { (cd "$machine/var/lib/rooms" && stat -c '%n %i %s %y %U' ./* && cksum ./*); }
+restarts() { # NAME: all that is amiss is that there is no mail program
+  inside "$(block docs/upgrading.md 'rooms-admin check' | sed 's/admin check/& office/')"
+  holds "$1: status $status, $(head -c 300 "$work/out" "$work/err")" [ "$status" = 1 ]
+  holds "$1: $(head -c 300 "$work/out")" \
+    grep -qx 'rooms WARNING - office: no mail program, so root is told of nothing: apt-get install bsd-mailx\(, no backup yet: .*\)\?' "$work/out"
+}
+replies() { # NAME
+  does "$1" "curl -s -u alice:typed $reply"
+  printf hello >wanted
+  same "$1: what it has" "$work/out" wanted
+}
+before=$machine/etc/nginx
+sed -e 's/@NAME@/hr/g; s/@PORT@/8781/g; s/@HOST@/hr.example/g' "$data/before/room/host" \
+  >"$before/rooms.d/hr.host"
+printf '%s\n' FILE=/var/lib/rooms/hr.rooms PORT=8781 TITLE=hr BACKUPS=/var/backups/rooms \
+  UNIT=rooms@hr PROGRAM=/usr/bin/rooms >"$machine/etc/rooms/hr.conf"
+# What somebody wrote into it: passwords that are remembered, by the block of then, a name, and a
+# line of their own.
+does 'what was set' "cd /etc/nginx &&
+  ln -s ../snippets/rooms-remember.conf conf.d/rooms-remember.conf
+  sed -i 's#^auth_basic \".*;#include snippets/rooms-remembered.conf;#
+    s#^auth_basic_user_file /etc/nginx/\\(.*\\).htpasswd;#auth_request /password/\\1;#' \
+    snippets/rooms-server.conf
+  sed -i 's/rooms.example/rooms.example files.example/' sites-available/rooms
+  sed -i '/^client_max_body_size/a access_log /var/log/nginx/rooms.log;' snippets/rooms-host.conf
+  sed -i '/server_name/a allow 127.0.0.1; deny all; # own' rooms.d/hr.host
+  systemctl reload nginx"
+kept_out() { # NAME: who comes from another address gets no further, whatever the upgrade
+  does "$1" "for from in 127.0.0.1 127.0.0.2; do curl -s -o /dev/null -w '%{http_code}\n' \
+    --interface \$from -H 'Host: hr.example' http://127.0.0.1/doc/x; done"
+  prints "$1: from its own address alone" 401 403
+}
+kept_out 'a line of their own says who gets in'
+replies 'it is so'
+
+# An upgrade from there, by the blocks of upgrading.md: nginx has one file then.
+cp "$package" "$machine/root/"
+does 'a backup' "$(block docs/upgrading.md 'start rooms-nightly')"
+backup=$(cat "$work/out")
+holds 'has the room' [ -s "$machine/$backup/office.rooms" ]
+replies 'the server runs after it'
+# Anybody may hold a file that they can read, which counts for nothing.
+inside ':
+  setpriv --reuid=65534 --regid=65534 --clear-groups bash -c \
+    "exec 9</etc/rooms/hr.conf; flock 9; exec sleep 600" >/dev/null 2>&1 &
+  echo $! >held; until ! flock -n /etc/rooms/hr.conf true; do sleep 0.05; done'
+does 'the newer package' "$(block docs/upgrading.md 'install -y ./rooms_VERSION' | head -n 1) 2>&1"
+cp "$work/out" upgraded
+does 'the other one goes on holding it' \
+  '! flock -n /etc/rooms/hr.conf true && kill "$(cat held)" && rm held'
+cp upgraded "$work/out"
+for line in "systemctl restart 'rooms@\*'" 'nginx goes on with its files of before' \
+  '/etc/nginx/rooms.d/hr.host says who gets in: allow 127.0.0.1; deny all; # own'; do
+  holds "it says: $line" grep -q "$line" "$work/out"
+done
+kept_out 'the site of before goes on'
+does 'nginx started again' 'nginx -s stop; while [ -e /run/nginx.pid ]; do sleep 0.05; done; nginx'
+kept_out 'so does it after a start'
+replies 'the room by the site of before'
+inside 'rooms-admin setup'
+told 'until somebody has decided' 1 '/etc/nginx/rooms.d/hr.host says who gets in: '
+does 'who has' "sed -i '/deny all/d' /etc/nginx/rooms.d/hr.host && rooms-admin setup"
+for line in '/etc/nginx/snippets/rooms-server.conf is removed' \
+  'new file /etc/rooms/hr.conf, with HOST=hr.example' \
+  '/etc/nginx/conf.d/rooms-remember.conf is removed' \
+  '/etc/nginx/snippets/rooms-host.conf is now /etc/nginx/snippets/rooms-host.conf.dpkg-bak' \
+  '/etc/nginx/rooms.htpasswd is now /var/lib/rooms-passwords/rooms.htpasswd' \
+  'no version had: access_log /var/log/nginx/rooms.log;'; do
+  holds "it says: $line" grep -q "$line" "$work/out"
+done
+replies 'the same room by one file'
+(cd "$machine/etc/nginx" && find . ! -type d | grep -E 'rooms|default' | sort) >found
+printf './%s\n' sites-available/default sites-available/rooms sites-enabled/rooms \
+  snippets/rooms-host.conf.dpkg-bak | sort >wanted
+same 'it is all that nginx has of rooms' found wanted
+does 'its names' "grep -E '^HOSTS=' /etc/rooms/site
+  curl -s -o /dev/null -w '%{http_code}\n' -H 'Host: hr.example' http://127.0.0.1/doc/x
+  curl -s -o /dev/null -w '%{http_code}\n' -u alice:no 'http://127.0.0.1/doc/x?[1-120]' | sort -u"
+prints 'with tries that are limited' 'HOSTS=rooms.example files.example' 401 401 429
+does 'a second run' 'rooms-admin setup'
+holds 'has nothing to change' grep -qx 'nothing to change' "$work/out"
+restarts 'the restart'
+sleep 10
+replies 'the room after an upgrade'
+# It has kept its port, until it is given a socket, and gets it back.
+listens() { # NAME LINE ..
+  does "$1" 'grep -o ":224C 00000000:0000 0A" /proc/net/tcp; ls /run/rooms/office'
+  prints "$@"
+}
+listens 'at its port' ':224C 00000000:0000 0A'
+does 'a socket for it' "$(block docs/operating.md 'echo SOCKET=yes')"
+listens 'at its socket' socket
+replies 'the room at a socket'
+does 'a port again' "$(block docs/operating.md 'echo SOCKET= ')"
+listens 'at its port again' ':224C 00000000:0000 0A'
+replies 'the room at its port'
+does 'its next backup' "$(block docs/upgrading.md 'start rooms-nightly')"
+holds 'is beside the others' [ "$(cat "$work/out")" != "$backup" ]
+does 'the start page' 'curl -s http://127.0.0.1/rooms/'
+same 'has the rooms' "$work/out" "$machine/var/lib/rooms-front/start.html"
+does 'all of it goes' 'systemctl stop rooms@office; apt-get purge -y rooms
+  rm -rf /var/lib/rooms /var/backups/rooms /var/lib/rooms-passwords /etc/systemd/system/rooms*'
+holds 'no settings are left' is_missing "$machine/etc/rooms"
+(cd "$machine/etc/nginx" && find . ! -type d | grep rooms | sort) >found
+echo ./snippets/rooms-host.conf.dpkg-bak >wanted
+same 'nor files of nginx, but what somebody edited' found wanted
+rm "$machine/etc/nginx/snippets/rooms-host.conf.dpkg-bak"
+ls "$machine"/etc/systemd/system/*.wants/*rooms* >found 2>/dev/null
+: >nothing
+same 'nor units' found nothing
+
+# The README's commands on a bare machine.
+cp "$older" "$machine/root/"
+does 'the package is installed' \
+  "$(block README.md './rooms_' | sed "s/rooms_\*/${older%_amd64.deb}/")"
+holds 'it prints the address' grep -q '^Users then open http://' "$work/out"
+holds 'and what is left' grep -q 'rooms init' "$work/out"
+holds 'which is the last that it prints' \
+  eval 'tail -n 3 "$work/out" | grep -q "^Users then open http://"'
+does 'its files are whole' 'dpkg -V rooms'
+holds 'nothing differs' [ ! -s "$work/out" ]
+does 'the user has the folder of rooms' 'stat -c "%U %a" /var/lib/rooms /var/backups/rooms
+  cd /etc/nginx/sites-enabled && readlink rooms && ls'
+prints 'and so on' 'rooms 700' 'root 700' ../sites-available/rooms rooms
+does 'the three commands' "$(block README.md 'runuser')"
+holds 'the room is made' grep -q '^ready$' "$work/out"
+does 'a folder' \
+  "$(block docs/operating.md 'rooms.example:80' | sed 's/-u alice/-s -u alice:typed/')"
+prints 'is made through nginx' 201
+does 'a document' "curl -s -u alice:typed -X PUT -d hello -w '%{http_code}\n' $reply"
+prints 'is made' 201
+does 'without a password' 'curl -s -o /dev/null -w "%{http_code}\n" http://127.0.0.1/'
+prints 'nobody gets in' 401
+does 'the page' 'curl -s -u alice:typed http://127.0.0.1/'
+same 'is served' "$work/out" files/usr/share/rooms/page/index.html
+
+# A second room, by the blocks of several.md.
+does 'a second room' "$(block docs/several.md 'invoices carol accounting')"
+holds 'it is made' \
+  grep -q '^room /var/lib/rooms/invoices.rooms, of carol and accounting$' "$work/out"
+does 'and where it is' 'systemctl is-active rooms@invoices
+  cd /etc/systemd/system && ls *.wants/*invoices*
+  stat -c "%U %a" /var/lib/rooms/invoices.rooms /var/backups/rooms/invoices'
+prints 'it runs' active multi-user.target.wants/rooms@invoices.service \
+  timers.target.wants/rooms-nightly@invoices.timer 'rooms 600' 'root 700'
+invoice=http://127.0.0.1/invoices/doc/one
+second() { # NAME
+  does "$1" "curl -s -u carol:typed $invoice; for who in carol:typed@127.0.0.1/doc/letters/reply \
+    alice:typed@127.0.0.1/invoices/doc/one; do
+    curl -s -o /dev/null -w ' %{http_code}' http://\$who; done; echo"
+  prints "$1: each room has its users" 'first 401 401'
+}
+does 'a document in it' "curl -s -u carol:typed -X PUT -d first -w '%{http_code}\n' $invoice"
+prints 'is made' 201
+second 'it comes back'
+replies 'office beside it'
+does 'its backup' 'systemctl start rooms-nightly@invoices && ls /var/backups/rooms/invoices/*'
+holds 'has the room' grep -qx invoices.rooms "$work/out"
+second 'it runs after its backup'
+does 'a tree comes in' 'mkdir -p share/2026 && echo ten >share/2026/bill && echo typed |
+  rooms-import --user carol http://127.0.0.1/invoices share /archive'
+holds 'all of it' grep -q 'left out 0$' "$work/out"
+does 'and goes out' 'echo typed |
+  rooms-export --user carol --no-lists http://127.0.0.1/invoices /archive out &&
+  diff -r share out'
+refused() { # NAME TEXT ARGUMENT ..
+  inside "rooms-admin add ${*:3}"
+  holds "$1 is refused" [ "$status" = 2 ]
+  holds "$1 is refused by its name" grep -qF "$2" "$work/err"
+}
+refused 'a room that is there' 'room exists' invoices
+refused 'a port of nginx' 'port in use: something listens' --port 80 other dora staff
+refused 'a port of a room' 'port in use: /etc/rooms/office.conf has 8780' \
+  --port 8780 other dora staff
+refused 'a room without an owner' 'OWNER and GROUP are needed' other
+inside 'rooms-admin add other "no name" staff'
+holds 'an owner that is none fails' [ "$status" = 1 ]
+holds 'by its name' grep -q 'refused: A3 bad who' "$work/err"
+find "$machine"/etc/{rooms,nginx} "$machine/var/lib/rooms" "$machine/var/backups" -name '*other*' \
+  >found
+same 'and leaves nothing' found nothing
+does 'two rooms of one file' 'sed -i "s/invoices.rooms/office.rooms/" /etc/rooms/invoices.conf
+  systemctl restart rooms@invoices || cat /run/rooms@invoices.fault
+  systemctl is-active rooms@invoices || :'
+prints 'the second one does not start' 'fault: database' inactive
+replies 'the first one goes on'
+does 'its own file' 'sed -i "s/office.rooms/invoices.rooms/" /etc/rooms/invoices.conf &&
+  systemctl start rooms@invoices'
+second 'brings it back'
+does 'timers that somebody enabled' \
+  'systemctl enable --now rooms-directory@invoices.timer rooms-standby@invoices.timer
+  echo MOST=1 >/etc/rooms/invoices.groups'
+does 'what nginx shows of it' 'ls /var/lib/rooms-web/invoices/people.json'
+does 'it is taken away' "$(block docs/several.md 'rooms-admin remove')"
+holds 'with what the web interface was told' is_missing "$machine/var/lib/rooms-web/invoices"
+holds 'its file stays' grep -qx 'kept /var/lib/rooms/invoices.rooms' "$work/out"
+holds 'what it takes from a directory too' grep -qx 'kept /etc/rooms/invoices.groups' "$work/out"
+does 'no unit of it is enabled' \
+  'rm /etc/rooms/invoices.groups; ! ls -d /etc/systemd/system/*.wants/*invoices* 2>/dev/null'
+does 'nobody gets there' "curl -s -o /dev/null -w '%{http_code}\n' -u carol:typed $invoice
+  systemctl is-active rooms@invoices || :"
+prints 'and no server runs' 401 inactive
+does 'the same room again, by the name that the verb had' \
+  'rooms-add --title "Invoices & more" invoices'
+holds 'with its users' \
+  grep -q 'kept /var/lib/rooms-passwords/rooms-invoices.htpasswd: its 1 users may sign in$' \
+    "$work/out"
+second 'it is back'
+# Passwords are remembered, where nginx alone reads them, and checked where it alone enters.
+does 'where they are' 'stat -c "%U %G %a" /run/rooms-front /run/rooms-front/remembered'
+prints 'for one user' 'root www-data 710' 'www-data root 700'
+does 'nobody else has passwords checked' 'setpriv --reuid=65534 --regid=65534 --clear-groups \
+  curl -s -o /dev/null -w "%{http_code}\n" --unix-socket /run/rooms-front/passwords.sock \
+  -u alice:typed http://x/password/rooms || :'
+prints 'not even with the right one' 000
+# A killed nginx leaves its socket, and the next one starts by what is done before.
+does 'nginx is killed, and starts again' 'master=$(cat /run/nginx.pid)
+  workers=$(cat /proc/$master/task/*/children)
+  kill -9 $master $workers; while kill -0 $master 2>/dev/null; do sleep 0.05; done
+  rm -f /run/nginx.pid
+  [ -S /run/rooms-front/passwords.sock ] && ! nginx 2>/dev/null
+  sed -n "s/^ExecStartPre=-//p" /usr/lib/systemd/system/nginx.service.d/rooms.conf | bash -e &&
+  nginx'
+replies 'office after that'
+# Files that nginx refuses, and a site that somebody has edited: what was there goes on.
+inside 'sed -i "s/^HOSTS=.*/HOSTS=rooms.example hr.example/" /etc/rooms/site
+  echo "nonsense;" >/etc/rooms/nginx/server.d/x.conf; rooms-admin setup'
+holds 'files that nginx refuses' [ "$status" = 1 ]
+holds 'by its words' grep -q 'nginx refuses its files, and they are as before' "$work/err"
+holds 'the site is the old one' \
+  eval '! grep -q "server_name rooms.example hr.example" "$machine/etc/nginx/sites-available/rooms"'
+does 'once they are mended' 'rm /etc/rooms/nginx/server.d/x.conf; rooms-admin setup && nginx -t -q'
+holds 'the site is new' \
+  grep -q 'server_name rooms.example hr.example' "$machine/etc/nginx/sites-available/rooms"
+echo '# mine' >>"$machine/etc/nginx/sites-available/rooms"
+inside 'sed -i "s/^HOSTS=.*/HOSTS=rooms.example/" /etc/rooms/site; rooms-admin setup'
+holds 'a site that somebody edited' [ "$status" = 1 ]
+holds 'stays' grep -q '^# mine' "$machine/etc/nginx/sites-available/rooms"
+inside 'rooms-admin add more dora staff'
+holds 'no room is added to it' [ "$status" = 2 -a ! -e "$machine/etc/rooms/more.conf" ]
+does 'the new one in its place' \
+  'cd /etc/nginx/sites-available && mv rooms.new rooms && rooms-admin setup && nginx -t -q'
+second 'nothing else has changed'
+
+# An upgrade to the same form.
+echo '# mine' >>"$machine/etc/rooms/office.conf"
+room >before
+does 'the newer package' "$(block docs/upgrading.md 'install -y ./rooms_VERSION' | head -n 1)"
+holds 'it says what is left' grep -q "systemctl restart 'rooms@\*'" "$work/out"
+room >after
+same 'no room is touched' after before
+holds 'settings stay' grep -q '^# mine' "$machine/etc/rooms/office.conf"
+restarts 'the restart'
+replies 'the room after an upgrade'
+second 'the other room too'
+does 'which version it is' 'dpkg-query -W -f "\${Version}\n" rooms'
+prints 'the newer one' "$version"
+tree() {
+  (cd "$machine" && find etc usr/share/rooms usr/bin usr/sbin var/lib/rooms var/backups/rooms \
+    -exec ls -ld --time-style=full-iso {} +)
+}
+tree >before
+does 'scripts that run twice' \
+  "for turn in 1 2; do /var/lib/dpkg/info/rooms.postinst configure $version; done"
+holds 'have nothing to change' [ "$(grep -c '^nothing to change$' "$work/out")" = 2 ]
+tree >after
+same 'and change nothing' after before
+does 'a backup' "$(block docs/upgrading.md 'start rooms-nightly')"
+backup=$(cat "$work/out")
+
+# A full disk: nothing of the room is lost, and the same command goes on.
+does 'the way back' "$(block docs/upgrading.md allow-downgrades 0.0.9)"
+does 'and its restart' "systemctl restart 'rooms@*'"
+replies 'the room after the way back'
+if nsenter -t "$first" -m mount -t tmpfs -o size=100k tmpfs "$machine/usr/share/doc" 2>said; then
+  inside "apt-get install -y /root/$package"
+  holds 'a full disk is noticed' [ "$status" != 0 ]
+  holds 'by its name' grep -q 'No space left' "$work/out" "$work/err"
+  replies 'the room on a full disk'
+  nsenter -t "$first" -m umount "$machine/usr/share/doc"
+  does 'once there is room' \
+    "apt-get install -y /root/$package && dpkg -V rooms && systemctl restart 'rooms@*'"
+  replies 'the room after that'
+else
+  skip 'a full disk while installing' "no mount: $(head -c 200 said)"
+fi
+
+# It is removed, installed again, and purged. Beside these rooms there is one for the front end of
+# another machine, and a place of one that is there.
+does 'certificates of machines' "mkdir -p -m 700 /etc/rooms/machines && cd /etc/rooms/machines &&
+  openssl req -x509 -newkey rsa:2048 -noenc -days 9 -subj /CN=localhost -keyout machine.key \
+    -out machine.pem 2>/dev/null &&
+  cp machine.pem authority.pem && cp machine.pem front.pem && cp machine.key front.key"
+does 'a room behind another front end, and one on another machine' \
+  'rooms-admin add --behind ledger dora staff && rooms-admin add --on 127.0.0.1 archive'
+behind() { # NAME: who has no certificate gets no further
+  does "$1" "curl -sk -o /dev/null -w '%{http_code}\n' https://localhost:8443/ledger/doc/x"
+  prints "$1, which asks for a certificate" 400
+}
+behind 'the port of the other front end'
+does 'systemctl stops' 'systemctl stop rooms@ledger'
+does 'systemctl stops' 'systemctl stop rooms@office rooms@invoices'
+room >before
+does 'it is removed' 'apt-get remove -y rooms'
+for file in /var/lib/rooms /etc/rooms /var/lib/rooms-passwords/rooms.htpasswd; do
+  holds "it says that it keeps $file" grep -qx "rooms: kept $file" "$work/out"
+done
+holds 'the program is gone' is_missing "$machine/usr/bin/rooms"
+holds 'nginx shows it no more' is_missing "$machine/etc/nginx/sites-enabled/rooms"
+holds 'no unit is enabled' [ -z "$(find "$machine/etc/systemd/system" -name 'rooms*')" ]
+does 'nginx takes the rest' 'nginx -t -q'
+# Nothing makes the folder of its socket when the machine starts.
+does 'nginx starts with the rest' "nginx -s stop; while [ -e /run/nginx.pid ]; do sleep 0.05; done
+  rm -rf /run/rooms-front; nginx"
+room >after
+same 'the room stays' after before
+does 'it is installed again' "$(block docs/upgrading.md 'enable --now "$unit"')"
+for room in office invoices; do
+  holds "it says how $room is served again" grep -qF \
+    "the room $room isn't served, or has no backups, until: systemctl enable --now rooms@$room rooms-nightly@$room.timer" \
+    "$work/out"
+done
+behind 'it is there again'
+does 'so is the check of passwords' \
+  'stat -c "%U %G %a" /run/rooms-front; cd /run/rooms-front && ls *.sock'
+prints 'where nginx alone enters' 'root www-data 710' passwords.sock
+does 'those two rooms go' "systemctl stop rooms@ledger
+  rooms-admin remove ledger && rooms-admin remove archive &&
+  rm -r /etc/rooms/machines /var/lib/rooms-passwords/rooms-archive.* /var/lib/rooms/ledger.rooms* \
+    /var/backups/rooms/ledger"
+room >before
+holds 'settings have stayed' grep -q '^# mine' "$machine/etc/rooms/office.conf"
+replies 'the room is served again'
+second 'the other one too'
+does 'a certificate' 'openssl req -x509 -newkey rsa:2048 -noenc -days 9 \
+  -subj /CN=rooms.example -keyout k.pem -out c.pem 2>/dev/null &&
+  rooms-admin setup --tls c.pem k.pem'
+does 'removed with TLS' 'systemctl stop rooms@office rooms@invoices; apt-get remove -y rooms'
+does 'installed with TLS' \
+  "apt-get install -y /root/$package &&
+  curl -sk -o /dev/null -w '%{http_code}\n' https://127.0.0.1/ &&
+  grep -c 'listen 443' /etc/nginx/sites-available/rooms"
+holds 'TLS stays' grep -qx 401 "$work/out"
+room >before
+# What somebody has put there, as other pages say.
+own='/etc/rooms/directory /etc/rooms/directory.secret /etc/rooms/machines /etc/rooms/nginx
+  /etc/rooms/office.groups /etc/rooms/restic.password /etc/rooms/session.apache
+  /etc/systemd/system/rooms-session.service'
+does 'what is beside the settings' \
+  "mkdir /etc/rooms/machines; : | tee /etc/rooms/nginx/http.d/mine.conf $(echo $own |
+    sed 's# /etc/rooms/\(machines\|nginx\)##g')"
+does 'purged' 'apt-get purge -y rooms'
+printf '%s\n' /var/lib/rooms /var/backups/rooms $own \
+  /var/lib/rooms-passwords/rooms{,-invoices}.{first,htpasswd} | sort >wanted
+# It is removed first, which says that all of /etc/rooms stays.
+sed -n 's/^rooms: kept //p' "$work/out" | tail -n "$(wc -l <wanted)" | sort >found
+same 'it says what stays, and where' found wanted
+does 'it stays' "ls -d $(echo $own)"
+does 'until it is removed' "rm -r $(echo $own)"
+holds 'what the web interface was told is gone' is_missing "$machine/var/lib/rooms-web"
+holds 'the settings are gone' [ -z "$(ls -A "$machine/etc/rooms")" ]
+holds "and nginx's file of rooms" is_missing "$machine/etc/nginx/sites-available/rooms"
+holds 'the passwords stay' [ -s "$machine/var/lib/rooms-passwords/rooms.htpasswd" ]
+holds 'those of the other room too' \
+  [ -s "$machine/var/lib/rooms-passwords/rooms-invoices.htpasswd" ]
+does 'nginx takes what is left' 'nginx -t -q'
+room >after
+same 'the room stays after a purge' after before
+holds 'the backup stays' [ -s "$machine/$backup/office.rooms" ]
+cp "$machine"/var/lib/rooms/office.rooms* .
+gives 'the room is sound' 0 'sound\n' '' verify office.rooms
+
+# Over an install by hand it is refused, until that is taken away.
+"$repo/deploy/install" --destdir "$machine" --program "$rooms" >said 2>&1 </dev/null
+inside "apt-get install -y /root/$package"
+holds 'over an install by hand' [ "$status" != 0 ]
+holds 'the refusal has a name' grep -q 'refused: installed by hand' "$work/out" "$work/err"
+holds 'and leaves that one' [ -x "$machine/usr/local/bin/rooms" ]
+# What the pages on directories, sessions and standbys enable there.
+does 'what is enabled beside' 'for name in directory session; do
+    echo "AliasMatch ^/password/ /usr/local/share/rooms/signed-in" >/etc/rooms/$name.apache
+  done
+  systemctl enable rooms-standby@office.timer rooms-directory@office.timer rooms-passwords.service'
+# As the package itself says it.
+top=$PWD/files/usr/share/doc/rooms
+does 'the install by hand is taken away' "$(block docs/upgrading.md 'rm -f bin/rooms')"
+find "$machine/usr/local" "$machine/etc/systemd" -name 'rooms*' >found
+same 'nothing of it is left' found nothing
+does 'the package after it' "$(block docs/upgrading.md 'enable --now "$unit"')"
+replies 'the same room by the package'
+holds 'its page is the package'\''s' \
+  grep -q 'alias /usr/share/rooms/page/' "$machine/etc/nginx/sites-available/rooms"
+holds 'and its program' grep -qx PROGRAM=/usr/bin/rooms "$machine/etc/rooms/office.conf"
+cat "$machine"/etc/rooms/{directory,session}.apache >found
+printf 'AliasMatch ^/password/ /usr/share/rooms/signed-in\n%.0s' 1 2 >wanted
+same 'Apache is told where the file is now' found wanted
+holds 'the file is there' [ -s "$machine/usr/share/rooms/signed-in" ]
+does 'what was enabled' "[ ! -e rooms.units ] &&
+  readlink -e /etc/systemd/system/*.wants/rooms* | sed 's#.*/systemd/system/##'"
+prints 'is so again, by the units of the package' rooms-passwords.service rooms@.service \
+  rooms-own-password.socket rooms-directory@.timer rooms-nightly@.timer rooms-standby@.timer

@@ -1,0 +1,84 @@
+"""For tests: what a program in the place of a service can do, a line for each thing that it can."""
+import contextlib
+import os
+import signal
+import socket
+import subprocess
+
+can = []
+
+
+def tries(name, act):
+    with contextlib.suppress(Exception):
+        act()
+        can.append(name)
+
+
+def reads(path):
+    with open(path, "rb") as source:
+        assert source.read(1)
+
+
+def listed(path):
+    assert os.listdir(path)
+
+
+def writes(path):
+    number = os.open(path, os.O_WRONLY | os.O_CREAT | os.O_EXCL, 0o600)
+    os.close(number)
+    os.unlink(path)
+
+
+def reaches(path):
+    with socket.socket(socket.AF_UNIX) as asking:
+        asking.settimeout(3)
+        asking.connect(path)
+
+
+def calls(*words):
+    subprocess.run(words, check=True, capture_output=True, timeout=20)
+
+
+def goes_out():
+    socket.create_connection(("127.0.0.1", 80), 3).close()
+
+
+def owns():
+    os.chown("/var/tmp/probe", 0, 0)
+
+
+def main():
+    for path in ("/etc/shadow", "/var/lib/rooms-passwords/rooms.htpasswd", "/etc/rooms/office.conf",
+                 "/etc/rooms/passwords.key", "/etc/ssl/private/probe.key", "/proc/1/environ",
+                 "/root/rooms.deb", "/var/log/nginx/access.log", "/etc/nginx/nginx.conf"):
+        tries(f"read {path}", lambda path=path: reads(path))
+    for path in ("/var/lib/rooms", "/var/backups/rooms", "/var/lib/rooms-web", "/run/rooms/office",
+                 "/run/rooms-front", "/run/rooms-front/remembered", "/var/lib/rooms-passwords",
+                 "/var/cache/rooms-nights", "/var/log/nginx"):
+        tries(f"list {path}", lambda path=path: listed(path))
+    for path in ("/etc", "/etc/nginx", "/etc/rooms", "/usr", "/run", "/run/rooms-full", "/var/lib",
+                 "/var/lib/rooms", "/var/lib/rooms-web", "/var/lib/rooms-passwords", "/var/backups",
+                 "/var/cache/rooms-nights", "/run/rooms-nights", "/var/tmp", "/dev/shm"):
+        tries(f"write {path}", lambda path=path: writes(f"{path}/probe"))
+    for path in ("/run/rooms/office/socket", "/run/rooms-front/passwords.sock",
+                 "/run/rooms-own-password/socket", "/run/rooms-nights/socket",
+                 "/run/rooms-earlier/socket", "/run/dbus/system_bus_socket",
+                 "/run/systemd/private"):
+        tries(f"ask {path}", lambda path=path: reaches(path))
+    tries("ask 127.0.0.1:80", goes_out)
+    with contextlib.suppress(OSError):
+        os.close(os.open("/var/tmp/probe", os.O_CREAT | os.O_WRONLY, 0o600))
+    tries("give a file to root", owns)
+    tries("make a file that runs as its owner", lambda: os.chmod("/var/tmp/probe", 0o4755))
+    tries("mount", lambda: calls("mount", "-t", "tmpfs", "x", "/mnt"))
+    tries("become root", lambda: os.setuid(0))
+    tries("a namespace", lambda: calls("unshare", "-U", "true"))
+    tries("signal the first process", lambda: os.kill(1, signal.SIGCONT))
+    tries("trace", lambda: calls("dmesg"))
+    others = [one for one in os.listdir("/proc") if one.isdigit() and int(one) != os.getpid()]
+    if any(os.stat(f"/proc/{one}").st_uid != os.getuid() for one in others):
+        can.append("see processes of others")
+    print("\n".join(can), flush=True)
+
+
+main()

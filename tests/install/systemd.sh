@@ -1,0 +1,403 @@
+# The units under systemd itself, on a machine that is booted.
+
+top=$here/..
+version=none
+. "$here/lib/machine.sh"
+. "$here/lib/booted.sh"
+boot_machine 'the units under systemd' || return
+
+# The package, and the README's commands.
+does 'the package is installed' 'dpkg -i rooms.deb'
+does 'a room' 'runuser -u rooms -- rooms init /var/lib/rooms/office.rooms alice staff &&
+  systemctl enable --now rooms@office rooms-nightly@office.timer &&
+  rooms-admin user add alice <<<a &&
+  systemctl reload nginx'
+shows 'the server' rooms@office ActiveState active
+shows 'its watch' rooms-full@office ActiveState active
+shows 'its door' rooms-door@office ActiveState active
+does 'units with faults' 'systemctl list-units --state=failed --no-legend --plain "rooms*"'
+holds 'there are none' [ ! -s "$work/out" ]
+does 'when the nightly run begins' \
+  'systemctl show rooms-nightly@office.timer -p NextElapseUSecRealtime --value'
+holds 'at four' grep -q ' 04:00:00 ' "$work/out"
+# Who reaches what: the folder of a socket is passed through by nginx alone, and a port is closed to
+# others.
+does 'the folder for its socket' 'stat -c "%U %G %a" /run/rooms /run/rooms/office'
+printf '%s\n' 'root root 755' 'rooms www-data 710' >wanted
+same 'is for it and nginx' "$work/out" wanted
+does 'who gets there' 'for user in root www-data rooms nobody; do
+  ! setpriv --reuid=$user --regid=$(id -g $user) --clear-groups curl -s -o /dev/null \
+    --unix-socket /run/rooms/office/socket "http://localhost/can/?" || echo $user
+  done; ! (exec 3<>/dev/tcp/127.0.0.1/8780) 2>/dev/null'
+printf '%s\n' root www-data rooms >wanted
+same 'are root, nginx and its own user, and there is no port' "$work/out" wanted
+# What lies on the disk: who else than root reads it.
+does 'a backup, and a key' 'systemctl start rooms-nightly@office
+  : >/etc/rooms/passwords.key; chmod 600 /etc/rooms/passwords.key'
+does 'who reads what' 'for user in nobody www-data rooms rooms-passwords rooms-mail rooms-door \
+  rooms-backup; do
+  for file in /var/lib/rooms/office.rooms /var/backups/rooms/office/2*/office.rooms \
+    /var/backups/rooms/office/2*/machine.tar /etc/nginx/rooms.htpasswd /etc/rooms/passwords.key \
+    /var/lib/rooms-web/office/people.json /etc/shadow; do
+    ! setpriv --reuid=$user --regid=$(id -g $user) --clear-groups head -c 1 "$file" \
+      >/dev/null 2>&1 || echo $user ${file##*/}
+  done; done; rm /etc/rooms/passwords.key'
+printf '%s\n' 'www-data rooms.htpasswd' 'www-data people.json' 'rooms office.rooms' >wanted
+same 'each its own' "$work/out" wanted
+# The door: nginx alone gets to it, and it gets to rooms and to nothing else.
+does 'what it answers' 'curl -s -u alice:a http://127.0.0.1/door/find/?x'
+holds 'as the room would' \
+  grep -qxF '{"all":true,"at":"/","found":[],"unlisted":[]}' "$work/out"
+does 'the folder for its socket' \
+  'cd /run/rooms-door && stat -c "%U %G %a" office office/socket'
+printf '%s\n' 'rooms-door www-data 710' 'rooms-door www-data 660' >wanted
+same 'is for it and nginx' "$work/out" wanted
+does 'who gets to the door' 'for user in root www-data rooms nobody; do
+  ! setpriv --reuid=$user --regid=$(id -g $user) --clear-groups curl -s -o /dev/null \
+    --unix-socket /run/rooms-door/office/socket http://localhost/ || echo $user
+  done'
+printf '%s\n' root www-data >wanted
+same 'are root and nginx' "$work/out" wanted
+does 'what it sees' 'door=$(systemctl show rooms-door@office -p MainPID --value)
+  ls /proc/$door/root/run /proc/$door/root/var /proc/$door/root/etc
+  grep -E "^(Uid|CapEff|NoNewPrivs)" /proc/$door/status | tr "\t" " "
+  ls /proc/$door/root/run/rooms-door; nsenter -t $door -n ls /sys/class/net 2>/dev/null | head -n 1'
+cat "$work/out" >seen
+holds "$(tr '\n' ' ' <seen): it has no capability" grep -qx 'CapEff: 0000000000000000' seen
+holds 'and can get none' grep -qx 'NoNewPrivs: 1' seen
+holds 'no password and no settings' [ "$(grep -c -e nginx -e htpasswd -e '^passwd' seen)" = 0 ]
+does 'it is killed' 'systemctl kill -s KILL rooms-door@office'
+until_inside 'and comes back' \
+  'curl -sf -o /dev/null -u alice:a http://127.0.0.1/door/find/?x'
+does 'without DOOR' "sed -i 's/^DOOR=.*/DOOR=/' /etc/rooms/office.conf
+  rooms-admin setup && systemctl restart rooms@office"
+shows 'there is none' rooms-door@office ActiveState inactive
+until_inside 'nginx has none' \
+  '[ "$(curl -s -o /dev/null -w "%{http_code}" -u alice:a http://127.0.0.1/door/find/?x)" = 404 ]'
+does 'the lines of the page' "$(block docs/door.md 'echo DOOR=yes')"
+shows 'bring it' rooms-door@office ActiveState active
+does 'those of the other page' "$(block docs/drive.md 'echo DRIVE=yes')"
+until_inside 'let documents be edited in place' '[ "$(curl -s -o /dev/null -w "%{http_code}" \
+  -u alice:a -X PROPFIND -H "Depth: 0" http://127.0.0.1/drive/)" = 207 ]'
+does 'nothing is to be closed' \
+  'systemctl is-active rooms-firewall; ! nft list table inet rooms 2>/dev/null'
+holds 'so the table is not loaded' grep -qx inactive "$work/out"
+# The unit has started when the server answers.
+restarts_well() { # NAME HOW-CURL-GETS-THERE
+  local turn
+  for turn in 1 2 3; do
+    does "$1, restart $turn" \
+      "systemctl restart rooms@office && curl -s -w ' %{http_code}\n' $2/can/?"
+    holds "$1, restart $turn: is followed by an answer" grep -qx '{} 200' "$work/out"
+  done
+}
+restarts_well 'at its socket' '--unix-socket /run/rooms/office/socket http://localhost'
+# A port, and a socket again, by the blocks of the page. Before the server listens there the port is
+# closed.
+does 'a port' "$(block docs/operating.md 'echo SOCKET= ')"
+does 'the firewall' 'systemctl is-active rooms-firewall &&
+  nft list table inet rooms | grep -c "tcp dport"; ls /run/rooms/office'
+printf '%s\n' active 1 >wanted
+same 'has one rule, and the room no socket' "$work/out" wanted
+gets_to_port() { # NAME
+  does "$1" 'for user in root www-data rooms nobody; do
+    ! setpriv --reuid=$user --regid=nogroup --clear-groups \
+      bash -c "exec 3<>/dev/tcp/127.0.0.1/8780" 2>/dev/null || echo $user; done'
+  printf '%s\n' root www-data >wanted
+  same "$1: root and nginx" "$work/out" wanted
+}
+gets_to_port 'who gets to the port'
+stop_machine
+holds 'the machine starts again' boot
+does 'and the table is there before the server' 'entered() { systemctl show "$1" -p "$2" --value; }
+  [ "$(entered rooms-firewall ActiveEnterTimestampMonotonic)" -lt \
+    "$(entered rooms@office ExecMainStartTimestampMonotonic)" ]'
+gets_to_port 'who gets to it then'
+restarts_well 'at its port' http://127.0.0.1:8780
+until_inside 'nginx gets there' '[ "$(curl -s -u alice:a http://127.0.0.1/can/?)" = "{}" ]'
+does 'loaded again' 'systemctl restart rooms-firewall && systemctl reload rooms-firewall &&
+  nft list table inet rooms | grep -c "tcp dport"'
+holds 'it has one rule' grep -qx 1 "$work/out"
+# Rules that somebody loads may drop the table. What does it is told, and a room that starts brings
+# it back; one that can't have it doesn't start.
+dropped() { # NAME TEXT
+  does "$1" "printf '#!/usr/sbin/nft -f\nflush ruleset\n' >/etc/nftables.conf; $2"
+}
+dropped 'rules loaded by hand' 'nft -f /etc/nftables.conf
+  setpriv --reuid=nobody --regid=nogroup --clear-groups curl -s -m 9 -H "Room-User: alice" \
+    http://127.0.0.1:8780/can/?'
+holds 'let every account pose as any user' grep -qx '{}' "$work/out"
+inside 'rooms-admin check office'
+told 'the check' 2 'every account of this machine reaches port 8780, and with it all of the room:'
+inside 'systemctl start rooms-nightly@office'
+holds 'the nightly run fails' [ "$status" != 0 ]
+does 'for that' 'journalctl --no-pager -u rooms-nightly@office'
+holds 'and says so' grep -q 'every account of this machine reaches port 8780' "$work/out"
+does 'the room is started again' 'systemctl restart rooms@office; systemctl reset-failed'
+gets_to_port 'who gets to the port then'
+does 'the check' 'rooms-admin check office || [ $? = 1 ]'
+holds 'has nothing to say of it' eval '! grep -q "every account" "$work/out"'
+dropped 'the service of nftables starts' 'systemctl start nftables'
+gets_to_port 'who gets to the port beside it'
+dropped 'it is loaded again' 'systemctl reload nftables'
+gets_to_port 'who gets to the port after that'
+dropped 'it is started again' 'systemctl restart nftables'
+gets_to_port 'who gets to the port after a restart of it'
+dropped 'it stops' 'systemctl disable --now nftables'
+gets_to_port 'who gets to the port without it'
+does 'another upgrade' \
+  'dpkg -i rooms.deb && grep -c ^SOCKET= /etc/rooms/office.conf && tail -n 1 /etc/rooms/office.conf'
+holds 'leaves the port' [ "$(tail -n 2 "$work/out" | tr '\n' ' ')" = '2 SOCKET= ' ]
+does 'settings of an earlier version, in which there is no socket' 'systemctl stop rooms-firewall
+  sed -i /^SOCKET=/d /etc/rooms/office.conf
+  systemctl restart rooms@office; systemctl is-active rooms-firewall'
+does 'a socket again' "$(block docs/operating.md 'echo SOCKET=yes')"
+until_inside 'nginx gets there too' '[ "$(curl -s -u alice:a http://127.0.0.1/can/?)" = "{}" ]'
+does 'the table is not asked for' \
+  'systemctl stop rooms-firewall; systemctl restart rooms@office
+  systemctl is-active rooms-firewall || :; ls /run/rooms/office'
+printf '%s\n' inactive socket >wanted
+same 'by a room with a socket' "$work/out" wanted
+does 'what checks passwords' \
+  'systemctl show rooms-passwords -p Wants -p After | grep -c rooms-firewall.service'
+holds 'asks for it first' grep -qx 2 "$work/out"
+does 'a table that can not be loaded' 'mv /usr/sbin/nft . &&
+  echo SOCKET= >>/etc/rooms/office.conf && ! systemctl restart rooms@office &&
+  systemctl is-failed rooms-firewall; (exec 3<>/dev/tcp/127.0.0.1/8780) 2>/dev/null || echo closed
+  mv nft /usr/sbin; systemctl reset-failed rooms-firewall'
+printf '%s\n' failed closed >wanted
+same 'fails, which is told, and no server listens' "$work/out" wanted
+until_inside 'it does once the table can be loaded' 'systemctl is-active -q rooms@office'
+gets_to_port 'who gets to the port in the end'
+does 'back' 'echo SOCKET=yes >>/etc/rooms/office.conf && systemctl restart rooms@office'
+does 'how long runs may take' \
+  'for unit in nightly standby directory; do
+    systemctl show rooms-$unit@office -p TimeoutStartUSec --value; done'
+printf '%s\n' 4h 1h 1h >wanted
+same 'ends' "$work/out" wanted
+
+# A unit that fails is told of, by a mail program that another user runs.
+mkdir -m 777 "$machine/srv/mailed"
+cat >"$machine/usr/local/bin/mail" <<'END'
+#!/bin/sh
+{ id -un; echo "$*"; cat; } >"/srv/mailed/$(date +%s.%N)"
+END
+chmod 755 "$machine/usr/local/bin/mail"
+echo 'root: admin@office.example' >"$machine/etc/aliases"
+inside 'systemctl start rooms-directory@office'
+holds 'groups without settings fail' [ "$status" = 1 ]
+until_inside 'somebody is told' 'cat /srv/mailed/*'
+for text in rooms-mail 'root$' 'rooms-directory@office.service on .* failed (exit-code)' \
+  'no settings: /etc/rooms/office.groups' 'systemctl status rooms-directory@office.service'; do
+  holds "somebody is told ($text): $(head -c 300 "$work/out")" grep -q -e "$text" "$work/out"
+done
+inside 'systemctl start rooms-directory@office; systemctl start rooms-directory@office'
+until_inside 'they have failed again' \
+  'systemctl is-failed rooms-directory@office &&
+  systemctl show rooms-tell@rooms-directory@office.service -p ActiveState --value |
+  grep -qx inactive'
+does 'how often' 'ls /srv/mailed | wc -l'
+holds 'once' grep -qx 1 "$work/out"
+does 'what failed is forgotten' 'systemctl reset-failed; rm /srv/mailed/*'
+
+answers() { # NAME
+  until_inside "$1: the room answers" \
+    '[ "$(curl -s -m 20 --unix-socket /run/rooms/office/socket "http://localhost/can/?")" = "{}" ]'
+}
+answers 'a start'
+web='curl -s -o said -w %{http_code} -u alice:a'
+# For a moment after a reload of nginx a worker of before may answer, which doesn't know the place
+# yet.
+answer_is() { # NAME STATUS TEXT
+  local began=$SECONDS
+  until inside "$3"; [ "$(cat "$work/out")" != 404 ] || [ "$2" = 404 ] ||
+    [ $((SECONDS - began)) -ge 10 ]; do
+    sleep 0.2
+  done
+  holds "$1: $2" [ "$(cat "$work/out")" = "$2" ]
+}
+answer_is 'a document' 201 "$web -X PUT -d hello http://127.0.0.1/doc/f"
+
+# A nightly run: the same process serves before and after it, and its copy has the document.
+does 'which process serves' 'systemctl show rooms@office -p MainPID --value'
+before=$(cat "$work/out")
+does 'a nightly run' 'systemctl start rooms-nightly@office'
+shows 'without a stop' rooms@office MainPID "$before"
+shows 'it went well' rooms-nightly@office Result success
+does 'its copy' 'rooms dump "$(rooms-admin latest)/office.rooms"'
+holds 'has the document' grep -q '^document alice staff 5 /f$' "$work/out"
+
+# It is killed at whatever it does: ExecStopPost brings all in order.
+for turn in 1 2 3 4 5 6; do
+  inside "systemctl start --no-block rooms-nightly@office; sleep 0.$((turn * 7 % 10))
+    systemctl kill --kill-whom=main -s KILL rooms-nightly@office"
+  ends "a run that is killed, $turn" rooms-nightly@office
+  answers "a run that is killed, $turn"
+  does "what a run that is killed, $turn, owes" \
+    'ls -d /run/rooms-nightly.* /var/backups/rooms/office/*.part 2>/dev/null; :'
+  : >wanted
+  same "a run that is killed, $turn, owes nothing" "$work/out" wanted
+done
+shows 'the server was never restarted' rooms@office MainPID "$before"
+# One that was killed while it held the server, and that nobody has looked after.
+does 'a server that was left held' 'pid=$(systemctl show rooms@office -p MainPID --value)
+  kill -STOP $pid
+  began=$(sed "s/.*) //" /proc/$pid/stat | cut -d " " -f 20)
+  mkdir /var/backups/rooms/office/2020-01-01.030000.part
+  printf "%s\n" /var/backups/rooms/office/2020-01-01.030000.part "held $pid $began" \
+    >/run/rooms-nightly.rooms@office
+  ! curl -s -m 2 --unix-socket /run/rooms/office/socket "http://localhost/can/?"'
+does 'goes on' 'rooms-nightly --after; ! ls -d /var/backups/rooms/office/*.part 2>/dev/null'
+answers 'a server that was left held'
+
+# Copies beside restarts of the unit: each one is sound, and the server runs in the end.
+does 'standby copies' \
+  'systemctl start rooms-standby@office && rooms verify /var/backups/rooms/office/standby/office.rooms'
+for turn in 1 2 3 4; do
+  inside "systemctl start --no-block rooms-standby@office; sleep 0.0$((turn * 3))
+    systemctl restart rooms@office"
+  ends "a copy beside a restart, $turn" rooms-standby@office
+  answers "a copy beside a restart, $turn"
+  does "the copy, $turn" 'rooms verify /var/backups/rooms/office/standby/office.rooms'
+  holds "is sound, $turn" grep -qx sound "$work/out"
+done
+does 'its timer' 'systemctl enable --now rooms-standby@office.timer &&
+  systemctl list-timers --no-legend rooms-standby@office.timer'
+holds 'is set' [ -s "$work/out" ]
+does 'the timer is switched off' 'systemctl disable --now rooms-standby@office.timer'
+
+# A room for another machine's front end, and the place of a room that is on another machine, by the
+# blocks of machines.md.
+does 'certificates' "$(block docs/machines.md 'certificate --machine b.example')
+cd /etc/rooms/machines && cp b.example.pem machine.pem && cp b.example.key machine.key"
+does 'a room for another front end' "$(block docs/machines.md 'rooms-admin add --behind')"
+shows 'its server' rooms@invoices ActiveState active
+front='--cert /etc/rooms/machines/front.pem --key /etc/rooms/machines/front.key'
+there='--cacert /etc/rooms/machines/authority.pem --resolve b.example:8443:127.0.0.1 -H Room-User:carol'
+answer_is 'the front end gets there' 200 \
+  "$web $front $there https://b.example:8443/invoices/folder/"
+answer_is 'nobody else does' 400 "$web $there https://b.example:8443/invoices/folder/"
+answer_is 'its own site does not show it' 404 "$web http://127.0.0.1/invoices/folder/"
+inside 'rooms-admin add --on nowhere.example other'
+holds 'a machine that has no address fails' [ "$status" = 1 ]
+holds 'by its name' grep -q 'host not found in upstream' "$work/err"
+does 'and leaves nothing' \
+  '! ls -d /etc/rooms/other* /etc/nginx/rooms-other* 2>/dev/null && nginx -t -q'
+does 'a place' 'echo 127.0.0.9 c.example >>/etc/hosts && rooms-admin add --on c.example other &&
+  rooms-admin user add alice other <<<a'
+until_inside 'is there' "[ \"\$($web http://127.0.0.1/other/)\" = 200 ]"
+until_inside 'and a machine of another name gets nothing' \
+  "[ \"\$($web http://127.0.0.1/other/folder/)\" = 502 ]"
+does 'timers that somebody enabled' \
+  'systemctl enable --now rooms-directory@invoices.timer rooms-standby@invoices.timer'
+does 'both are taken away' 'rooms-admin remove other && rooms-admin remove invoices'
+for timer in nightly standby directory; do
+  shows "with the timer of rooms-$timer" "rooms-$timer@invoices.timer" ActiveState inactive
+done
+does 'no unit of it is enabled' '! ls -d /etc/systemd/system/*.wants/*invoices* 2>/dev/null'
+shows 'with the server' rooms@invoices ActiveState inactive
+shows 'and its watch' rooms-full@invoices ActiveState inactive
+answer_is 'office is as before' 200 "$web http://127.0.0.1/doc/f"
+
+# A full room. What MemoryMax says is the limit: 260 MB leave 2.
+limit_memory() { # LINE ..
+  does "limits: $*" "mkdir -p /etc/systemd/system/rooms@office.service.d &&
+    printf '%s\n' '[Service]' $(printf "'%s' " "$@") \
+      >/etc/systemd/system/rooms@office.service.d/memory.conf &&
+    systemctl daemon-reload"
+}
+does 'the default' 'rooms-full --look'
+holds 'is 384' grep -qx '0 MB of 384 are in use' "$work/out"
+limit_memory MemoryMax=260M
+does 'the watch takes that over' "$(block docs/capacity.md 'restart rooms-full@office')"
+holds 'two megabytes' grep -qx '0 MB of 2 are in use' "$work/out"
+does 'uploads' 'head -c 1000000 /dev/zero >big; for n in 1 2 3; do
+  curl -s -o said -u alice:a -X PUT -H Expect: --data-binary @big http://127.0.0.1/doc/big$n; done'
+until_inside 'a flag' '[ -e /run/rooms-full/office.full ]'
+answer_is 'what adds' 507 "$web -X PUT -d hello http://127.0.0.1/doc/more"
+answer_is 'what reads' 200 "$web http://127.0.0.1/doc/f"
+does 'the watch is killed' 'systemctl kill -s KILL rooms-full@office'
+until_inside 'and started again' \
+  '[ "$(systemctl show rooms-full@office -p NRestarts --value)" -ge 1 ] &&
+  systemctl is-active -q rooms-full@office'
+answer_is 'the room is as full' 507 "$web -X PUT -d hello http://127.0.0.1/doc/more"
+answer_is 'what removes' 204 "$web -X DELETE http://127.0.0.1/object/big1"
+answer_is 'and once more' 204 "$web -X DELETE http://127.0.0.1/object/big2"
+until_inside 'no flag then' '[ ! -e /run/rooms-full/office.full ]'
+answer_is 'what adds goes on' 201 "$web -X PUT -d hello http://127.0.0.1/doc/more"
+does 'the server stops' 'systemctl stop rooms@office'
+shows 'and its watch with it' rooms-full@office ActiveState inactive
+does 'the server starts' 'systemctl start rooms@office'
+shows 'and its watch with it' rooms-full@office ActiveState active
+does 'a mistake in the settings' \
+  'sed -i "s/^LIMIT=.*/LIMIT=much/" /etc/rooms/office.conf; systemctl restart rooms@office'
+shows 'stops the watch' rooms-full@office ActiveState failed
+answers 'but not the room'
+inside 'systemctl start rooms-nightly@office'
+holds 'the nightly run reports it' [ "$status" != 0 ]
+does 'by its name' 'journalctl --no-pager -u rooms-nightly@office'
+holds 'LIMIT' grep -q "bad settings: LIMIT in /etc/rooms/office.conf" "$work/out"
+checks() { # NAME STATUS TEXT ..
+  local text
+  inside "$(block docs/capacity.md 'rooms-admin check')"
+  holds "$1: $2 and not $status, $(head -c 400 "$work/out" "$work/err")" [ "$status" = "$2" ]
+  for text in "${@:3}"; do
+    holds "$1 ($text): $(head -c 400 "$work/out")" grep -qF -e "$text" "$work/out"
+  done
+}
+checks 'and so does the check' 2 'rooms CRITICAL - ' \
+  'failed: rooms-full@office.service rooms-nightly@office.service' \
+  'bad settings: LIMIT in /etc/rooms/office.conf'
+does 'the setting is mended' \
+  'sed -i "s/^LIMIT=.*/LIMIT=/" /etc/rooms/office.conf; systemctl restart rooms@office'
+shows 'and the watch is back' rooms-full@office ActiveState active
+does 'and the nightly run' 'systemctl start rooms-nightly@office'
+checks 'the check has nothing to say' 0 'rooms OK - office: answers, nginx answers, ' \
+  'of 2 MB in use'
+
+# A server that can't start: by MemoryMax where this machine has that, otherwise by a limit of the
+# process.
+does 'more documents' 'for n in $(seq 30); do
+  curl -s -o said --unix-socket /run/rooms/office/socket -X PUT -H "Room-User: alice" -H Expect: \
+    --data-binary @big http://localhost/doc/m$n; done'
+inside 'systemctl show rooms@office -p MemoryCurrent --value'
+if [[ $(cat "$work/out") =~ ^[0-9]+$ ]]; then
+  limit_memory MemoryMax=20M MemorySwapMax=0
+else
+  skip 'a server that is killed by MemoryMax' 'systemd has no such limit here; LimitAS= is used'
+  limit_memory LimitAS=20M
+fi
+inside 'systemctl restart rooms@office'
+inside 'timeout 110 rooms-nightly'
+holds 'a server that can not start: the nightly run fails' [ "$status" = 1 ]
+holds 'a server that can not start: it says so' \
+  grep -q "rooms@office doesn't \(answer at /run/rooms/office/socket\|stay\|start\)" "$work/err"
+does 'the limit is taken away' \
+  'rm /etc/systemd/system/rooms@office.service.d/memory.conf; systemctl daemon-reload
+  systemctl restart rooms@office'
+answers 'with more memory'
+does 'a nightly run after all' 'systemctl start rooms-nightly@office'
+does 'all is there' 'rooms dump "$(rooms-admin latest)/office.rooms"'
+holds 'also what was answered last' grep -q '^document alice staff 1000000 /m30$' "$work/out"
+
+# The package goes while rooms are served, one by settings that name no unit: none is served then,
+# least of all at a port that is open to every account.
+does 'a room with a port' 'rooms-admin add --port 8790 ledger carol accounting &&
+  sed -i "s/^UNIT=.*/UNIT=/" /etc/rooms/ledger.conf && systemctl is-active rooms@ledger'
+as_nobody='setpriv --reuid=nobody --regid=nogroup --clear-groups curl -s -m 9 -o /dev/null
+  -H Room-User:carol -w %{http_code} http://127.0.0.1:8790/folder/'
+inside "$(tr '\n' ' ' <<<"$as_nobody")"
+holds 'which is closed to others' grep -qx 000 "$work/out"
+does 'the package is removed' 'dpkg -r rooms'
+inside "$(tr '\n' ' ' <<<"$as_nobody")"
+holds 'nobody gets there' grep -qx 000 "$work/out"
+does 'what runs of it' 'pgrep -ax rooms; pgrep -af "^/usr/bin/python3 .*rooms" || :
+  systemctl list-units --plain --no-legend "rooms*"; nft list tables'
+holds "is nothing, and there is no table: $(head -c 300 "$work/out")" [ ! -s "$work/out" ]
+does 'purged' 'mkdir -p /var/lib/rooms-web/ledger && dpkg --purge rooms'
+does 'its settings and what nginx showed' 'ls -d /etc/rooms/*.conf /var/lib/rooms-web 2>/dev/null
+  ls /var/lib/rooms'
+holds 'are gone' eval '! grep -q -e /etc/rooms -e rooms-web "$work/out"'
+holds 'and the rooms stay' grep -qx ledger.rooms "$work/out"
+stop_machine
+rm -rf machine

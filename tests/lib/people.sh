@@ -1,0 +1,41 @@
+# rooms-admin for the room of ./office.conf, with the stand-ins of units.sh.
+
+plays_people() { [ "$loopback" = yes ] && has curl && has setsid && [ -x /usr/bin/python3 ]; }
+
+# The settings' name is the room's.
+make_people() {
+  make_stand
+  mv conf office.conf
+  mv backups/conf backups/office
+  echo PORT= >>office.conf
+}
+room_verb() { verb "$1" "${@:2}" "$PWD/office.conf"; }
+setting() { # NAME VALUE
+  sed "/^$1=/d" office.conf >conf.new
+  echo "$1=$2" >>conf.new
+  mv conf.new office.conf
+}
+ended_well() { holds "$1: $(head -c 300 "$work/err")" [ "$status" = 0 ]; } # NAME
+# The server gets another port with each start.
+starts() {
+  unit start
+  read -r port <"$stand/port"
+  place=127.0.0.1:$port
+  setting PORT "$port"
+}
+
+# The same where the server has a socket in the place of a port.
+starts_at_socket() {
+  sock=$PWD/run/rooms/rooms/socket
+  mkdir -p "${sock%/*}"
+  chown "$STAND_USER" "${sock%/*}"
+  echo "$sock" >"$stand/socket"
+  unit start
+  setting PORT ''
+  setting SOCKET yes
+}
+leaves_socket() {
+  unit stop
+  rm -r "$stand/socket" run/rooms
+  setting SOCKET ''
+}

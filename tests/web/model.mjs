@@ -1,0 +1,107 @@
+// A room as docs/access-lists.md says it, for tests: what each may do, and what a list that is sent
+// does to all below. It shares nothing with the page but the form of an entry.
+
+export const LETTERS = 'rxwaDtcCo';
+
+const isOwn = ({ flags }) => !flags.includes('I');
+const above = (path) => path.slice(0, path.lastIndexOf('/')) || '/';
+
+function means({ who, flags }, caller, { owner, group }) {
+  switch (who) {
+    case 'EVERYONE@': case 'AUTHENTICATED@': return true;
+    case 'ANONYMOUS@': return false;
+    case 'OWNER@': return caller.user !== null && caller.user === owner;
+    case 'GROUP@': return caller.groups.includes(group);
+    default: return flags.includes('g') ? caller.groups.includes(who) : caller.user === who;
+  }
+}
+
+// What the first entry says that is in force, means the caller and has the right: A, D, or nothing.
+function ruling(entries, letter, caller, object) {
+  for (const entry of entries) {
+    if (entry.flags.includes('i') || !entry.mask.includes(letter)) continue;
+    if (means(entry, caller, object)) return entry.type;
+  }
+  return '';
+}
+
+// One entry as a child has it, or none.
+function inherited(entry, kind) {
+  const [f, d, n] = ['f', 'd', 'n'].map((flag) => entry.flags.includes(flag));
+  const rest = ['S', 'F', 'g'].filter((flag) => entry.flags.includes(flag)).join('');
+  const as = (flags) => [{ ...entry, flags }];
+  if (kind === 'document') return f ? as(`${rest}I`) : [];
+  if (d) return as(`${n ? '' : `${f ? 'f' : ''}d`}${rest}I`);
+  return f && !n ? as(`fi${rest}I`) : [];
+}
+
+export class Model {
+  // 'objects' are [{path, kind, owner, group, auto, protect, own: entries}], from the top down.
+  constructor(objects) {
+    this.objects = new Map(objects.map((one) => [one.path, { ...one }]));
+    for (const one of this.objects.values()) this.fill(one);
+  }
+
+  fill(one) {
+    const folder = one.path === '/' ? null : this.objects.get(above(one.path));
+    const isLinked = folder !== null && !one.protect && folder.auto;
+    one.grey = isLinked ? folder.full.flatMap((entry) => inherited(entry, one.kind))
+      : one.grey ?? [];
+    one.full = [...one.own, ...one.grey];
+  }
+
+  copy() {
+    const made = Object.create(Model.prototype);
+    made.objects = new Map([...this.objects].map(([path, one]) => [path, { ...one }]));
+    return made;
+  }
+
+  // Sets a list, as the page sends it.
+  set(path, { auto, protect, entries }) {
+    const one = this.objects.get(path);
+    Object.assign(one, { auto, protect, own: entries.filter(isOwn),
+      grey: entries.filter((entry) => !isOwn(entry)) });
+    for (const each of this.objects.values()) {
+      if (each.path === path || path === '/' || each.path.startsWith(`${path}/`)) this.fill(each);
+    }
+  }
+
+  passes(path, caller) {
+    for (let at = path; at !== '/';) {
+      at = above(at);
+      const folder = this.objects.get(at);
+      if (ruling(folder.full, 'x', caller, folder) !== 'A') return false;
+    }
+    return true;
+  }
+
+  // {letters, removes} of a caller, as the program's review has them.
+  rights(path, caller) {
+    if (!this.passes(path, caller)) return { letters: '', removes: false };
+    const one = this.objects.get(path);
+    const letters = [...LETTERS].filter((letter) => ruling(one.full, letter, caller, one) === 'A')
+      .join('');
+    return { letters, removes: path !== '/' && this.removes(one, this.objects.get(above(path)),
+      caller) };
+  }
+
+  removes(one, folder, caller) {
+    const d = ruling(one.full, 'd', caller, one);
+    const D = ruling(folder.full, 'D', caller, folder);
+    if (d === 'A' || D === 'A') return true;
+    return d === '' && D === '' && ruling(folder.full, 'w', caller, folder) === 'A';
+  }
+
+  // The same of a document that somebody else made in a folder.
+  inside(path, caller) {
+    const folder = this.objects.get(path);
+    if (!this.passes(`${path === '/' ? '' : path}/new`, caller)) {
+      return { letters: '', removes: false };
+    }
+    const one = { owner: '', group: folder.group,
+      full: folder.full.flatMap((entry) => inherited(entry, 'document')) };
+    return { letters: [...LETTERS].filter((letter) =>
+      ruling(one.full, letter, caller, one) === 'A').join(''),
+    removes: this.removes(one, folder, caller) };
+  }
+}

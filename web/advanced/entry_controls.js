@@ -1,0 +1,187 @@
+// One entry of a list: its controls, or its words where it can't be changed.
+
+import { element, freshId } from '../ui/dom.js';
+import { SPECIAL, isGroup, isName, orderFlags, orderMask } from '../acl/entries.js';
+import {
+  GROUPS, REACHES, TYPE_WORDS, coverageOf, faultWords, groupName, reachWords, rightWords, whoWords,
+} from '../text/words.js';
+
+const TYPES = { dacl: ['A', 'D'], sacl: ['U', 'L'] };
+const OUTCOMES = [
+  ['F', 'what was refused'], ['S', 'what was granted'], ['SF', 'both'], ['', 'nothing'],
+];
+
+// Replaces the flags of one set by others.
+const exchange = (flags, set, others) =>
+  orderFlags([...flags].filter((flag) => !set.includes(flag)).join('') + others);
+const flagsOf = (entry, set) => [...set].filter((flag) => entry.flags.includes(flag)).join('');
+
+function select(label, options, value, onPick) {
+  const made = element('select', { 'aria-label': label },
+    options.map(
+      ([key, words]) => element('option', { value: key, selected: key === value }, words)));
+  made.addEventListener('change', () => onPick(made.value));
+  return made;
+}
+
+function typeControl(entry, which, changed) {
+  const types = TYPES[which].map((type) => [type, TYPE_WORDS[type]]);
+  return select('Type', types, entry.type, (type) => {
+    entry.type = type;
+    changed();
+  });
+}
+
+function whoControl(entry, changed) {
+  const wordsOf = (who) =>
+    whoWords({ who, flags: '' }).replace(/^./, (first) => first.toUpperCase());
+  const kinds = [['user', 'User'], ['group', 'Group'],
+    ...SPECIAL.map((who) => [who, wordsOf(who)])];
+  const isSpecial = SPECIAL.includes(entry.who);
+  const hint = element('p', { class: 'hint', id: freshId('who') });
+  const name = element('input', {
+    type: 'text', value: isSpecial ? '' : entry.who, 'aria-label': 'Name', placeholder: 'Name',
+    autocomplete: 'off', autocapitalize: 'none', spellcheck: 'false', hidden: isSpecial,
+    'aria-describedby': hint.id,
+  });
+  const judge = () => {
+    const fits = name.hidden || name.value === '' || isName(name.value);
+    name.setAttribute('aria-invalid', String(!fits));
+    hint.textContent = fits ? '' : faultWords('A3');
+  };
+  const now = isSpecial ? entry.who : isGroup(entry) ? 'group' : 'user';
+  const kind = select('Who', kinds, now, (value) => {
+    name.hidden = SPECIAL.includes(value);
+    entry.who = name.hidden ? value : name.value;
+    entry.flags = exchange(entry.flags, 'g', value === 'group' ? 'g' : '');
+    judge();
+    changed();
+  });
+  name.addEventListener('input', () => {
+    entry.who = name.value;
+    judge();
+    changed();
+  });
+  judge();
+  return element('div', { class: 'who' }, kind, name, hint);
+}
+
+function groupBox(group, entry, kind, changed) {
+  const box = element('input', { type: 'checkbox' });
+  box.addEventListener('change', () => {
+    const own = group.letters + group.idle;
+    const rest = [...entry.mask].filter((letter) => !own.includes(letter)).join('');
+    entry.mask = orderMask(rest + (box.checked ? group.letters : ''));
+    changed();
+  });
+  const show = () => {
+    const extent = coverageOf(group, entry.mask);
+    box.checked = extent === 'all';
+    box.indeterminate = extent === 'some';
+  };
+  return { show, shown: element('label', { class: 'tick' }, box, groupName(group, kind)) };
+}
+
+function letterBox(letter, entry, kind, changed) {
+  const box = element('input', { type: 'checkbox' });
+  box.addEventListener('change', () => {
+    const rest = [...entry.mask].filter((one) => one !== letter).join('');
+    entry.mask = orderMask(rest + (box.checked ? letter : ''));
+    changed();
+  });
+  const show = () => { box.checked = entry.mask.includes(letter); };
+  const said = [element('code', {}, letter), rightWords(letter, kind)];
+  return { show, shown: element('label', { class: 'tick' }, box, ...said) };
+}
+
+function singleRights(entry, kind, changed) {
+  const boxes = [];
+  const part = (legend, letters) => {
+    const made = [...letters].map((letter) => letterBox(letter, entry, kind, changed));
+    boxes.push(...made);
+    return element('fieldset', {}, element('legend', {}, legend), made.map((box) => box.shown));
+  };
+  const parts = GROUPS.map((group) => part(groupName(group, kind), group.letters));
+  parts.push(part('Kept, but nothing asks for it', GROUPS.map((group) => group.idle).join('')));
+  return { boxes, parts };
+}
+
+// The three groups with their letters, and single rights when they are opened.
+function rightsControl(entry, kind, changed) {
+  const letters = element('code', { class: 'letters' });
+  const shows = [];
+  const all = () => {
+    letters.textContent = entry.mask === '' ? 'none' : entry.mask;
+    shows.forEach((show) => show());
+  };
+  const both = () => {
+    all();
+    changed();
+  };
+  const groups = GROUPS.map((group) => groupBox(group, entry, kind, both));
+  // On a folder an entry also applies to what lies below.
+  const { boxes, parts } = singleRights(entry, kind === 'folder' ? 'both' : kind, both);
+  shows.push(...[...groups, ...boxes].map((one) => one.show));
+  all();
+  const heading = element('span', { class: 'unseen' }, 'Single rights: ');
+  return element('div', { class: 'rights-of' },
+    element('div', { class: 'groups', role: 'group', 'aria-label': 'Rights' },
+      groups.map((one) => one.shown)),
+    element('details', {}, element('summary', {}, heading, letters), parts));
+}
+
+// Rarer ways to pass an entry on are offered only where it has them already.
+function reachControl(entry, changed) {
+  const now = flagsOf(entry, 'fdni');
+  const rarer = REACHES.some(([flags]) => flags === now) ? [] : [[now, reachWords(entry)]];
+  return select('Where it counts', [...REACHES, ...rarer], now, (flags) => {
+    entry.flags = exchange(entry.flags, 'fdni', flags);
+    changed();
+  });
+}
+
+function outcomeControl(entry, changed) {
+  return select('Records', OUTCOMES, flagsOf(entry, 'SF'), (flags) => {
+    entry.flags = exchange(entry.flags, 'SF', flags);
+    changed();
+  });
+}
+
+// The cells of an entry that can be changed: [heading, content].
+export function controls(entry, draft, changed) {
+  return [
+    ['Type', typeControl(entry, draft.which, changed)],
+    ['Who', whoControl(entry, changed)],
+    draft.which === 'sacl' ? ['Records', outcomeControl(entry, changed)] : null,
+    ['Rights', rightsControl(entry, draft.kind, changed)],
+    draft.kind === 'folder' ? ['Where it counts', reachControl(entry, changed)] : null,
+  ].filter((cell) => cell !== null);
+}
+
+function groupWords(mask, kind) {
+  const words = GROUPS.map((group) => [groupName(group, kind), coverageOf(group, mask)])
+    .filter(([, extent]) => extent !== 'none')
+    .map(([name, extent]) => (extent === 'all' ? name : `${name} in part`));
+  return words.join(', ') || 'nothing';
+}
+
+// The same cells as words.
+export function words(entry, draft) {
+  const outcome = OUTCOMES.find(([flags]) => flags === flagsOf(entry, 'SF'))[1];
+  return [
+    ['Type', TYPE_WORDS[entry.type]],
+    ['Who', whoWords(entry)],
+    draft.which === 'sacl' ? ['Records', outcome] : null,
+    ['Rights', [`${groupWords(entry.mask, draft.kind)} `,
+      element('code', { class: 'letters' }, entry.mask)]],
+    draft.kind === 'folder' ? ['Where it counts', reachWords(entry)] : null,
+  ].filter((cell) => cell !== null);
+}
+
+export function newEntry(which, kind) {
+  const reach = kind === 'folder' ? 'fd' : '';
+  if (which === 'sacl') {
+    return { type: 'U', flags: `${reach}F`, who: '', mask: kind === 'folder' ? 'rx' : 'r' };
+  }
+  return { type: 'A', flags: reach, who: '', mask: 'rxtc' };
+}

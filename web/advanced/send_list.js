@@ -1,0 +1,69 @@
+// Sends a changed list to the room: the changes are shown first, and nothing is overwritten unseen.
+
+import * as api from '../net/api.js';
+import { changedLines } from '../acl/diff.js';
+import { button, element } from '../ui/dom.js';
+import { linesOf, readEntry } from '../acl/entries.js';
+import { question, showDialog, waitFor } from '../ui/messages.js';
+import { judged } from '../text/warnings.js';
+import { entryWords } from '../text/words.js';
+
+const SIGNS = { '+': ['ins', 'New: '], '-': ['del', 'Gone: '] };
+
+function changedLine({ sign, line }) {
+  const [tag, words] = SIGNS[sign];
+  const isEntry = Boolean(readEntry(line).entry);
+  const said = [element('span', { class: 'unseen' }, words), element('code', {}, line)];
+  return element('li', { class: tag }, element(tag, {}, said),
+    isEntry ? element('span', { class: 'hint' }, entryWords(line)) : null);
+}
+
+export function difference(before, after) {
+  const changes = changedLines(linesOf(before), linesOf(after)).filter(({ sign }) => sign !== ' ');
+  return element('ul', { class: 'difference' }, changes.map(changedLine));
+}
+
+const warning = ({ kind, text }) => element('li', { class: kind }, text);
+
+const review = (before, after, warned) => showDialog('Send these changes?', (finish) => [
+  difference(before, after),
+  warned.length === 0 ? ''
+    : element('ul', { class: 'warnings', 'aria-label': 'Mind this' }, warned.map(warning)),
+  element('div', { class: 'actions' },
+    button('Cancel', () => finish(null)),
+    button('Send', () => finish('send'), { class: 'primary', autofocus: true }))]);
+
+const changedElsewhere = (before, now) => showDialog('The list was changed elsewhere', (finish) => [
+  element('p', {}, 'Since you opened it, somebody changed this list or one that it inherits from:'),
+  difference(before, now),
+  element('p', {}, 'Take the list as it is now and drop your changes, or go on with yours. Then '
+    + 'you are shown what they would undo.'),
+  element('div', { class: 'actions' },
+    button('Cancel', () => finish(null), { autofocus: true }),
+    button('Take the list as it is', () => finish('theirs')),
+    button('Go on with mine', () => finish('mine')))]);
+
+// Nobody gives a list away by a few quick clicks.
+const accepts = (loss) => loss === null
+  || question(loss.title, loss.text, [['send', 'Send it all the same', 'danger']]);
+
+// 'sent'; 'dropped' if the user took the room's list; or null if nothing was done.
+export async function sendList(draft) {
+  for (;;) {
+    const now = await waitFor(api.readList(draft.which, draft.path));
+    if (now !== draft.base) {
+      const answer = await changedElsewhere(draft.base, now);
+      if (!answer) return null;
+      draft.settle(now, answer === 'theirs' ? now : draft.text);
+      if (answer === 'theirs') return 'dropped';
+    }
+    if (!draft.isChanged) return 'dropped';
+    const { loss, warned } = await waitFor(judged(draft, now));
+    if (!(await review(now, draft.text, warned)) || !(await accepts(loss))) return null;
+    // The user may take a while to review the changes.
+    if (await waitFor(api.readList(draft.which, draft.path)) === now) break;
+  }
+  await waitFor(api.setList(draft.which, draft.path, draft.text));
+  draft.settle(await waitFor(api.readList(draft.which, draft.path)).catch(() => draft.text));
+  return 'sent';
+}

@@ -1,0 +1,118 @@
+// The page: who is signed in, which place is open, and what is shown there.
+
+import { accountMenu, changeFirst } from './account/own_password.js';
+import { copyLink, download } from './folder/actions.js';
+import { whenWaiting } from './net/retry.js';
+import * as api from './net/api.js';
+import { button, element, icon, nameText } from './ui/dom.js';
+import { hasUnsent } from './acl/draft.js';
+import { showFolder } from './folder/folder.js';
+import { showDocument } from './folder/preview.js';
+import { linkTo, pathLinks, whereIs } from './ui/links.js';
+import { showList } from './advanced/list_view.js';
+import { clearNotices, notShown, showWaiting, tellFault, waitFor } from './ui/messages.js';
+import { arrived, fullName, people } from './net/directory.js';
+import { kindOf, showRights } from './advanced/my_rights.js';
+import { showAccess } from './share/share.js';
+import { marked } from './text/invisible.js';
+import { isUploading } from './folder/upload.js';
+
+const DOCUMENT = ['show', 'Document'];
+const TABS = [['access', 'Who has access'], ['rights', 'My rights'], ['dacl', 'Advanced'],
+  ['sacl', 'What is recorded']];
+const main = document.querySelector('main');
+
+// Each visit of a place has a number, so that a slow reply isn't shown at a later place.
+let looks = 0;
+
+function objectHead(path, view, kind) {
+  const name = path === '/' ? 'All documents' : nameText(api.nameOf(path));
+  const tabs = kind === 'folder' ? TABS : [DOCUMENT, ...TABS];
+  const links = tabs.map(([word, words]) => element('a', {
+    href: linkTo(path, word), 'aria-current': word === view ? 'page' : null,
+  }, words));
+  const back = linkTo(kind === 'folder' ? path : api.parentOf(path));
+  const act = (words, does, style) =>
+    button(words, () => does().catch(tellFault), { class: style });
+  const ofDocument = kind === 'folder' ? []
+    : act('Download', () => download([{ path, kind }]), 'primary');
+  return [
+    element('div', { class: 'bar' }, element('h1', {}, icon(kind), name),
+      element('div', { class: 'actions' }, ofDocument, act('Copy link', () => copyLink(path)),
+        element('a', { class: 'button', href: back },
+          kind === 'folder' ? 'Open the folder' : 'Back to the folder'))),
+    element('nav', { class: 'views', 'aria-label': 'Access' }, links),
+  ];
+}
+
+// Whoever may not read a document sees whom to ask.
+async function showOrTell(path, box, isCurrent) {
+  await showDocument(path, box, isCurrent).catch((fault) => {
+    if (fault.status !== 403) throw fault;
+    if (isCurrent()) location.replace(linkTo(path, 'access'));
+  });
+}
+
+async function showObject(path, view, isCurrent) {
+  const kind = await waitFor(kindOf(path));
+  if (!isCurrent()) return;
+  const box = element('div', { class: 'sheet padded' });
+  const head = objectHead(path, view, kind);
+  main.replaceChildren(element('section', { 'aria-label': 'Access' }, head, box));
+  if (kind === 'document') arrived(path, kind);
+  if (view === 'show' && kind === 'document') await showOrTell(path, box, isCurrent);
+  else if (view === 'access' || view === 'show') await showAccess(path, kind, box, isCurrent);
+  else if (view === 'rights') await showRights(path, kind, box, isCurrent);
+  else await showList(path, view, kind, box, isCurrent);
+}
+
+async function show() {
+  looks += 1;
+  const look = looks;
+  const isCurrent = () => look === looks;
+  const { path, view } = whereIs(location.hash);
+  document.title = `${path === '/' ? 'All documents' : marked(api.nameOf(path))} – rooms`;
+  document.getElementById('path').replaceChildren(pathLinks(path));
+  clearNotices();
+  try {
+    if (view) await showObject(path, view, isCurrent);
+    else await showFolder(path, main, isCurrent);
+  } catch (fault) {
+    if (!isCurrent()) return;
+    main.replaceChildren(notShown('This place can’t be shown.', show));
+    tellFault(fault);
+  }
+}
+
+async function showMe() {
+  try {
+    const [{ user, isFirst }, known] = await Promise.all([api.me(), people()]);
+    const shown = document.getElementById('me');
+    shown.replaceChildren(icon('person'), nameText(fullName(known, user)), accountMenu(user));
+    shown.title = user;
+    if (isFirst) await changeFirst(user);
+  } catch (fault) {
+    tellFault(fault);
+  }
+}
+
+window.addEventListener('hashchange', () => {
+  window.scrollTo(0, 0);
+  main.focus({ preventScroll: true });
+  show();
+});
+window.addEventListener('beforeunload', (event) => {
+  if (hasUnsent() || isUploading()) event.preventDefault();
+});
+// A file that is dropped outside the folder doesn't replace the page.
+for (const kind of ['dragover', 'drop']) {
+  window.addEventListener(kind, (event) => event.preventDefault());
+}
+document.getElementById('skip').addEventListener('click', (event) => {
+  // The place follows the '#'.
+  event.preventDefault();
+  main.focus();
+});
+whenWaiting(showWaiting);
+showMe();
+show();

@@ -1,0 +1,146 @@
+// What can be done with the objects of a folder. Each act returns what then has the focus, {name},
+// if something changed, and otherwise null.
+
+import * as api from '../net/api.js';
+import { allBelow, amount, barredIn, removalQuestion } from './subtree.js';
+import { element } from '../ui/dom.js';
+import { downloadAll, downloadOne } from './download.js';
+import { inTurn } from './batch.js';
+import { linkTo } from '../ui/links.js';
+import { askedFor } from '../ui/ask_whom.js';
+import { accepted, askMove, askPlace } from './move.js';
+import { readersWords } from './moved.js';
+import { form, question, showDialog, tell, tellFault, waitFor } from '../ui/messages.js';
+import { stoppable } from '../ui/panel.js';
+import { preview } from './preview.js';
+import { counted, isolated, nameFault, placeWords, sentenceOf } from '../text/words.js';
+
+const TAKEN = 'There is already something of this name. Choose another one.';
+
+// Asks again, with what was typed, as long as something of that name is there already. Returns what
+// was typed at last, or null.
+async function untilFree(ask, does) {
+  let [typed, wrong] = [undefined, null];
+  for (;;) {
+    typed = await ask(typed, wrong);
+    if (!typed) return null;
+    try {
+      return await does(typed) ? typed : null;
+    } catch (fault) {
+      if (fault.body?.why !== 'exists') throw fault;
+      wrong = TAKEN;
+    }
+  }
+}
+
+export async function makeFolder(folder) {
+  const ask = async (value, wrong) =>
+    (await form('New folder', [{ label: 'Name', value, fault: nameFault, wrong }], 'Make it'))?.[0];
+  const name = await untilFree(ask, async (typed) => {
+    await waitFor(api.makeFolder(api.join(folder, typed)));
+    return true;
+  });
+  if (name === null) return null;
+  tell('good', `The folder ${isolated(name)} was made.`);
+  return { name };
+}
+
+export async function move(path, kind) {
+  const ask = (typed, wrong) => askMove(path, kind, typed, wrong);
+  const to = await untilFree(ask, async (typed) => {
+    const is = typed !== path && await accepted([{ path, kind }], api.parentOf(typed));
+    if (is) await waitFor(api.move(path, typed));
+    return is;
+  });
+  if (to === null) return null;
+  tell('good', `${isolated(api.nameOf(path))} is now ${placeWords(to)}.`);
+  return { name: api.parentOf(to) === api.parentOf(path) ? api.nameOf(to) : null };
+}
+
+// Several are moved one after the other. What can't be moved stays, and is told.
+export async function moveAll(objects) {
+  const place = await askPlace(objects);
+  if (!place || place === api.parentOf(objects[0].path)) return null;
+  if (!(await accepted(objects, place))) return null;
+  const { done, failed, left, stopped } = await inTurn(objects,
+    ({ path }) => api.move(path, api.join(place, api.nameOf(path))),
+    { title: `Move to ${placeWords(place)}`, verb: 'moved' });
+  if (done > 0) tell('good', `${counted(done, 'object')} moved to ${placeWords(place)}.`);
+  if (stopped) tell('bad', `Stopped. Not moved: ${counted(left.length, 'object')}.`);
+  for (const { object, fault } of failed.slice(0, 3)) {
+    tell('bad', `${isolated(api.nameOf(object.path))} stays here. ${sentenceOf(fault)}`);
+  }
+  const more = failed.length - 3 + (stopped ? 0 : left.length);
+  if (more > 0) tell('bad', `${counted(more, 'more object')} couldn’t be moved.`);
+  return { name: null };
+}
+
+// Whether all of these may be removed, which are what is chosen and all below. Otherwise it is told
+// which one may not, and whom to ask.
+async function mayRemove(all, objects) {
+  const isChosen = ({ path }) => objects.some((one) => one.path === path);
+  const panel = stoppable('Looking at what may be removed', all.length);
+  const chosenFirst = [...all.filter(isChosen), ...all.filter((one) => !isChosen(one))];
+  const barred = await waitFor(barredIn(chosenFirst, panel)).finally(panel.remove);
+  if (panel.isStopped() || barred === null) return !panel.isStopped();
+  const why = element('a', { class: 'button small', href: linkTo(barred.path, 'rights') }, 'Why');
+  tell('bad', `You may not remove ${placeWords(barred.path)}, so nothing was removed. ${
+    await waitFor(askedFor(barred.at))}`, why);
+  return false;
+}
+
+// Nothing comes back, so nothing is removed of what couldn't be removed as a whole.
+export async function remove(objects) {
+  const unseen = [];
+  const all = await waitFor(allBelow(objects, unseen));
+  if (!(await mayRemove(all, objects))) return null;
+  const { title, text } = removalQuestion(objects, all, unseen);
+  const words = objects.length === 1 ? 'Remove it' : 'Remove them';
+  if (!(await question(title, text, [['remove', words, 'danger']]))) return null;
+  const what = objects.length === 1 ? isolated(api.nameOf(objects[0].path)) : amount(objects);
+  // What is in a folder comes before it, so nothing after a fault could be removed either. First
+  // comes what may have something in it that I don't see: then it stays, and all else with it.
+  const isUnseen = ({ path }) => unseen.includes(path);
+  const order = [...all.filter(isUnseen), ...all.filter((one) => !isUnseen(one))];
+  const { done, failed, stopped } = await inTurn(order, ({ path }) => api.remove(path),
+    { title: `Remove ${what}`, verb: 'removed' }, true);
+  const rest = `${done.toLocaleString('en')} of ${all.length.toLocaleString('en')} were removed. `
+    + 'The rest is still there.';
+  if (stopped) tell('bad', `Stopped. ${rest}`);
+  else if (failed.length > 0) {
+    tellFault(failed[0].fault);
+    if (done > 0) tell('bad', rest);
+  } else tell('good', `${what} ${objects.length === 1 ? 'was' : 'were'} removed.`);
+  return { name: null };
+}
+
+export async function download(objects, folder) {
+  const [first] = objects;
+  if (objects.length === 1 && first.kind === 'document') await downloadOne(first.path);
+  else await downloadAll(objects, folder);
+  return null;
+}
+
+export async function look(path) {
+  await preview(path);
+  return null;
+}
+
+// The address of an object. A browser gives the clipboard only to TLS, so otherwise it is shown.
+export async function copyLink(path) {
+  const address = new URL(linkTo(path), location.href).href;
+  const copied = await navigator.clipboard?.writeText(address).then(() => true, () => false);
+  const rights = `It gives nobody a right. ${await waitFor(readersWords(path))}`;
+  if (copied) tell('good', `The link was copied. ${rights}`);
+  else {
+    const field = element('input', {
+      type: 'text', readonly: true, value: address, 'aria-label': 'Link',
+    });
+    field.addEventListener('focus', () => field.select());
+    await showDialog('The link', (finish) => [
+      element('p', {}, `Copy it from here. ${rights}`), field,
+      element('div', { class: 'actions' },
+        element('button', { type: 'button', onclick: () => finish(null) }, 'Close'))]);
+  }
+  return null;
+}

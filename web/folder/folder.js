@@ -1,0 +1,221 @@
+// A folder: its contents, and what can be done with them.
+
+import * as acts from './actions.js';
+import * as api from '../net/api.js';
+import { closedFolder, placesBelow } from './no_listing.js';
+import { button, element, icon, nameText } from '../ui/dom.js';
+import { acceptDrops } from './drop.js';
+import { linkTo } from '../ui/links.js';
+import { notShown, tell, tellFault, waitFor } from '../ui/messages.js';
+import { arrived } from '../net/directory.js';
+import { chosenOf, drawRows, newLook } from './rows.js';
+import { treeOfFiles } from './tree.js';
+import { uploadAll } from './upload.js';
+
+const ASKED = 'rxwaDtcCo';
+const MAY_NOT = { w: 'You may not put documents here.', a: 'You may not make folders here.' };
+
+function fileField(label, properties, take) {
+  const input = element('input', {
+    type: 'file', hidden: true, 'aria-label': label, ...properties,
+  });
+  input.addEventListener('change', () => {
+    if (input.files.length > 0) take([...input.files]);
+    input.value = '';
+  });
+  return input;
+}
+
+// The buttons of the folder. What isn't granted is greyed out, and says so when it is pressed.
+function bar(path, send, make) {
+  const files = fileField('Documents to upload', { multiple: true, class: 'files' },
+    (all) => send(all, [], path));
+  const whole = fileField('Folder to upload', { webkitdirectory: true, class: 'whole' },
+    (all) => send([], [treeOfFiles(all)], path));
+  const needs = [];
+  const act = (letter, mark, words, does, look) => {
+    const made = button([icon(mark), words], () => {
+      if (made.getAttribute('aria-disabled') === 'true') tell('bad', MAY_NOT[letter]);
+      else does();
+    }, { class: look });
+    needs.push([letter, made]);
+    return made;
+  };
+  const shown = element('div', { class: 'bar' },
+    element('h1', {}, path === '/' ? 'All documents' : nameText(api.nameOf(path))),
+    element('div', { class: 'actions' },
+      act('w', 'upload', 'Upload', () => files.click(), 'primary'),
+      act('a', 'upload', 'Upload a folder', () => whole.click()),
+      act('a', 'plus', 'New folder', make),
+      element('a', { class: 'button', href: linkTo(path, 'access') }, icon('key'), 'Access')),
+    files, whole);
+  // In a folder whose contents aren't shown, what isn't granted isn't offered.
+  const grant = (may, isClosed = false) => {
+    for (const [letter, made] of needs) {
+      const lacks = may !== null && may[letter].ruling !== 'allowed';
+      made.setAttribute('aria-disabled', String(lacks));
+      made.hidden = lacks && isClosed;
+      if (lacks) made.title = MAY_NOT[letter];
+      else made.removeAttribute('title');
+    }
+  };
+  return { shown, grant };
+}
+
+// The filter, and what can be done with what is selected. Its place is kept when nothing is.
+function tools(look, does, redraw) {
+  const filter = element('input', {
+    type: 'search', 'aria-label': 'Filter by name', placeholder: 'Filter by name',
+    autocomplete: 'off', spellcheck: 'false',
+  });
+  filter.addEventListener('input', () => {
+    look.filter = filter.value;
+    redraw();
+  });
+  const told = element('span', { class: 'count', role: 'status' });
+  const group = { class: 'chosen', role: 'group', 'aria-label': 'What is selected' };
+  const chosen = element('div', group, told,
+    button('Download', () => does('download'), { class: 'small' }),
+    button('Move', () => does('move'), { class: 'small' }),
+    button('Remove', () => does('remove'), { class: 'small' }));
+  const tell = () => {
+    const count = chosenOf(look).length;
+    told.textContent = count === 0 ? '' : `${count} selected`;
+    chosen.classList.toggle('none', count === 0);
+  };
+  const shown = element('div', { class: 'tools' }, filter, chosen);
+  return { shown, tell };
+}
+
+// Where the focus is in the rows: {name, act, index}, or null.
+function placeIn(body) {
+  /** @type {any} */
+  const control = document.activeElement;
+  const row = control?.closest?.('tr[data-path]');
+  if (!row || !body.contains(row)) return null;
+  const { act } = control.dataset;
+  return { name: api.nameOf(row.dataset.path), act, index: row.rowIndex - 1 };
+}
+
+// The control that gets the focus after the rows were drawn anew.
+function controlAt(table, { name, act, index = 0 }) {
+  const rows = [...table.tBodies[0].rows];
+  const row = rows.find((one) => api.nameOf(one.dataset.path) === name)
+    ?? rows[Math.min(index, rows.length - 1)];
+  return row.querySelector(`[data-act="${act}"]`) ?? row.querySelector('[data-act="open"]');
+}
+
+// An upload that was begun in one view may end while another one of the same folder is shown.
+let shownView = null;
+
+class FolderView {
+  constructor(path, box, isCurrent) {
+    this.path = path;
+    this.box = box;
+    this.isCurrent = isCurrent;
+    this.look = newLook();
+    this.body = element('div', { class: 'sheet' });
+    this.places = element('div', { class: 'more-places' });
+    const send = (files, trees, folder) => uploadAll(files, trees, folder, () => {
+      if (shownView?.isCurrent()) shownView.refresh();
+    });
+    this.bar = bar(path, send, () => this.doing(() => acts.makeFolder(path)));
+    this.tools = tools(this.look, (what) => this.withChosen(what), () => this.draw());
+    this.area = element('section', { class: 'folder-view', 'aria-label': 'Folder' },
+      this.bar.shown, this.tools.shown, this.body, this.places);
+    acceptDrops(this.area, path, send);
+  }
+
+  objects(children) {
+    return children.map(({ name, kind }) => ({ kind, path: api.join(this.path, name) }));
+  }
+
+  acts() {
+    const path = (child) => api.join(this.path, child.name);
+    return {
+      download: (children) => this.doing(() => acts.download(this.objects(children), this.path)),
+      preview: (child) => this.doing(() => acts.look(path(child))),
+      move: (child) => this.doing(() => acts.move(path(child), child.kind)),
+      remove: (children) => this.doing(() => acts.remove(this.objects(children))),
+      copy: (child) => this.doing(() => acts.copyLink(path(child))),
+    };
+  }
+
+  withChosen(what) {
+    const objects = this.objects(chosenOf(this.look));
+    const does = { move: acts.moveAll, remove: acts.remove, download: acts.download }[what];
+    return this.doing(() => does(objects, this.path));
+  }
+
+  // Does something, tells what went wrong, and shows the folder again if something changed.
+  async doing(act) {
+    const place = placeIn(this.body);
+    try {
+      const focus = await act();
+      if (focus) await this.refresh({ ...place, ...focus });
+    } catch (fault) {
+      tellFault(fault);
+      if (fault.status === 0 || fault.status === 404) await this.refresh(place);
+    }
+  }
+
+  draw(focus = null) {
+    drawRows(this.body, this.path, this.look, this.acts(), () => this.tools.tell(),
+      focus && ((table) => controlAt(table, focus)), focus);
+  }
+
+  // 'focus' is where the focus was, or the name of what gets it.
+  async refresh(focus = placeIn(this.body)) {
+    const may = api.can(this.path, ASKED).catch(() => null);
+    try {
+      const children = await waitFor(api.list(this.path));
+      this.bar.grant(await may);
+      if (!this.isCurrent()) return;
+      this.look.children = children;
+      const names = new Set(children.map(({ name }) => name));
+      this.look.chosen = new Set([...this.look.chosen].filter((name) => names.has(name)));
+      this.tools.shown.hidden = children.length === 0;
+      this.draw(focus);
+      arrived(this.path, 'folder');
+      if (this.path === '/') this.showPlaces();
+      // The button that had the focus may be gone.
+      if (document.activeElement === document.body) this.box.focus({ preventScroll: true });
+    } catch (fault) {
+      this.fail(fault, await may);
+    }
+  }
+
+  // What can't be seen from the top, below its list.
+  async showPlaces() {
+    const places = await placesBelow(this.path, true);
+    const shown = places.length === 0 ? [] : [element('div', { class: 'sheet closed' }, places)];
+    if (this.isCurrent()) this.places.replaceChildren(...shown);
+  }
+
+  async showClosed(fault, may) {
+    this.places.replaceChildren();
+    const shown = await closedFolder(fault, may, this.path);
+    if (this.isCurrent()) this.body.replaceChildren(shown);
+  }
+
+  fail(fault, may) {
+    if (!this.isCurrent()) return;
+    this.bar.grant(may, fault.status === 403);
+    this.tools.shown.hidden = true;
+    if (fault.body?.why === 'wrong-kind') location.replace(linkTo(this.path, 'show'));
+    else if (fault.status === 403) this.showClosed(fault, may).catch(tellFault);
+    else {
+      const words = 'What is in this folder can’t be shown.';
+      this.body.replaceChildren(notShown(words, () => this.refresh()));
+      tellFault(fault);
+    }
+  }
+}
+
+// Shows the folder in 'box', as long as 'isCurrent()'.
+export async function showFolder(path, box, isCurrent) {
+  const view = new FolderView(path, box, isCurrent);
+  shownView = view;
+  box.replaceChildren(view.area);
+  await view.refresh(null);
+}

@@ -1,0 +1,68 @@
+// Asks where objects are to go and under which name, and shows what that would bring about.
+
+import * as api from '../net/api.js';
+import { button, element, icon, nameText } from '../ui/dom.js';
+import { movedWords } from './moved.js';
+import { form, showDialog, waitFor } from '../ui/messages.js';
+import { sorted } from './sorting.js';
+import { nameFault, sentenceOf } from '../text/words.js';
+
+// Goes from folder to folder. 'chosen.path' is the one that is looked at, and 'moved' aren't
+// offered.
+function chooser(chosen, moved) {
+  const where = element('p', { class: 'where', 'aria-live': 'polite' });
+  const folders = element('ul', { class: 'chooser', 'aria-label': 'Folders' });
+  const line = (mark, name, path) => element('li', {},
+    button([icon(mark), name], () => goTo(path), { class: 'object' }));
+  const goTo = async (path) => {
+    chosen.path = path;
+    where.replaceChildren('In ', path === '/' ? 'the top of the room' : nameText(path));
+    const above = path === '/' ? [] : [line('up', 'The folder above', api.parentOf(path))];
+    try {
+      const children = sorted(await waitFor(api.list(path)));
+      if (chosen.path !== path) return;
+      const inside = children.filter((child) => child.kind === 'folder')
+        .map((child) => api.join(path, child.name)).filter((one) => !moved.includes(one));
+      folders.replaceChildren(...above,
+        ...inside.map((one) => line('folder', nameText(api.nameOf(one)), one)));
+    } catch (fault) {
+      folders.replaceChildren(...above, element('li', { class: 'hint' }, sentenceOf(fault)));
+    }
+  };
+  goTo(chosen.path);
+  return element('fieldset', {}, element('legend', {}, 'Folder'), where, folders);
+}
+
+// Returns the new path, or null.
+// 'typed' is the path that was chosen before, and 'wrong' what is wrong with it.
+export async function askMove(path, kind, typed = path, wrong = null) {
+  const chosen = { path: api.parentOf(typed) };
+  const name = {
+    label: 'Name', value: api.nameOf(typed), fault: nameFault, isFile: kind === 'document', wrong,
+  };
+  const names = await form(`Rename or move the ${kind}`, [name], 'Move it',
+    chooser(chosen, [path]));
+  return names && api.join(chosen.path, names[0]);
+}
+
+// Returns the folder for several objects, or null.
+export async function askPlace(objects) {
+  const paths = objects.map(({ path }) => path);
+  const chosen = { path: api.parentOf(paths[0]) };
+  const given = await form(`Move ${objects.length} objects`, [], 'Move them here',
+    chooser(chosen, paths));
+  return given && chosen.path;
+}
+
+// Whether these may go into the folder, after a question if more people could then get at them.
+export async function accepted(objects, folder) {
+  const told = await waitFor(movedWords(objects, folder));
+  if (told === null || told.warned.length === 0) return told !== null;
+  const answer = await showDialog(told.title, (finish) => [
+    element('ul', { class: 'warnings', 'aria-label': 'Mind this' },
+      told.warned.map(({ kind, text }) => element('li', { class: kind }, text))),
+    element('div', { class: 'actions' },
+      button('Cancel', () => finish(null), { autofocus: true }),
+      button('Move all the same', () => finish('move'), { class: 'danger' }))]);
+  return answer !== null;
+}

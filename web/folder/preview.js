@@ -1,0 +1,79 @@
+// A document looked at without a download: text, which is set as text, and images.
+
+import * as api from '../net/api.js';
+import { button, element, nameText } from '../ui/dom.js';
+import { save } from './download.js';
+import { showDialog, waitFor } from '../ui/messages.js';
+
+const IMAGES = {
+  png: 'image/png', jpg: 'image/jpeg', jpeg: 'image/jpeg', gif: 'image/gif', webp: 'image/webp',
+  avif: 'image/avif', bmp: 'image/bmp', svg: 'image/svg+xml',
+};
+const NONE = 'There is no preview of this document. Download it to look at it.';
+// A browser's viewer of PDF doesn't run in a frame that is shut off from the page, and the page
+// allows no other frame. In a tab it shows what it is given as PDF, and as nothing else.
+const PDF = 'The browser shows PDF documents in a tab of their own.';
+const STAYS = 600000;
+
+const none = () => element('p', { class: 'empty' }, NONE);
+
+// A picture from a blob runs no script, not even an SVG's.
+function imageOf(bytes, type, name) {
+  const address = URL.createObjectURL(new Blob([bytes], { type }));
+  const image = element('img', { src: address, alt: name });
+  image.addEventListener('load', () => URL.revokeObjectURL(address));
+  image.addEventListener('error', () => {
+    URL.revokeObjectURL(address);
+    image.replaceWith(none());
+  });
+  return image;
+}
+
+// The text, or null where these bytes aren't UTF-8 or are no text.
+function textOf(bytes) {
+  try {
+    const text = new TextDecoder('utf-8', { fatal: true }).decode(bytes);
+    return /[\u0000-\u0008\u000e-\u001a]/.test(text) ? null : text;
+  } catch {
+    return null;
+  }
+}
+
+function pdfOf(bytes, name) {
+  const show = () => {
+    const address = URL.createObjectURL(new File([bytes], name, { type: 'application/pdf' }));
+    open(address, '_blank', 'noopener');
+    setTimeout(() => URL.revokeObjectURL(address), STAYS);
+  };
+  return element('div', { class: 'empty' }, element('p', {}, PDF),
+    button('Open in a tab', show, { class: 'primary' }));
+}
+
+function contentOf(bytes, name) {
+  const ending = name.slice(name.lastIndexOf('.') + 1).toLowerCase();
+  if (Object.hasOwn(IMAGES, ending)) return imageOf(bytes, IMAGES[ending], name);
+  if (ending === 'pdf') return pdfOf(bytes, name);
+  const text = textOf(bytes);
+  if (text === null) return none();
+  if (text === '') return element('p', { class: 'empty' }, 'The document is empty.');
+  return element('pre', { tabindex: '0', dir: 'auto', 'aria-label': name }, text);
+}
+
+export async function preview(path) {
+  const name = api.nameOf(path);
+  const blob = await waitFor(api.read(path));
+  const bytes = await blob.arrayBuffer();
+  await showDialog(nameText(name), (finish) => [
+    element('div', { class: 'content' }, contentOf(bytes, name)),
+    element('div', { class: 'actions' },
+      button('Download', () => save(blob, name)),
+      button('Close', () => finish(null), { class: 'primary', autofocus: true }))], 'preview');
+}
+
+// Shows a document in 'box', as long as 'isCurrent()'.
+export async function showDocument(path, box, isCurrent) {
+  const bytes = await (await waitFor(api.read(path))).arrayBuffer();
+  if (!isCurrent()) return;
+  box.replaceChildren(element('div', { class: 'shown-document' },
+    contentOf(bytes, api.nameOf(path))));
+}

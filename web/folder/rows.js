@@ -1,0 +1,152 @@
+// The rows of a folder: its contents with what can be done with each, sorted, filtered and
+// selected.
+
+import * as api from '../net/api.js';
+import { button, element, icon, nameText } from '../ui/dom.js';
+import { rove } from '../ui/keys.js';
+import { linkTo } from '../ui/links.js';
+import { menuButton } from '../ui/menu.js';
+import { marked } from '../text/invisible.js';
+import { filtered, kindWords, sorted } from './sorting.js';
+
+// What is shown of a folder, and how. 'chosen' has names.
+export const newLook = () => (
+  { children: [], by: 'name', down: false, filter: '', chosen: new Set() });
+
+export const shownOf = (look) => sorted(filtered(look.children, look.filter), look.by, look.down);
+
+// What is chosen and shown. What the filter hides is never moved or removed with the rest.
+export const chosenOf = (look) => shownOf(look).filter(({ name }) => look.chosen.has(name));
+
+function nameOf(child, path, acts) {
+  const label = [icon(child.kind), nameText(child.name)];
+  if (child.kind === 'folder') {
+    return element('a', { class: 'object', href: linkTo(path), 'data-act': 'open' }, label);
+  }
+  const properties = { class: 'object', title: 'Download', 'data-act': 'open' };
+  return button(label, () => acts.download([child]), properties);
+}
+
+function pickBox(child, look, changed) {
+  const box = element('input', {
+    type: 'checkbox', 'aria-label': `Select: ${marked(child.name)}`,
+    checked: look.chosen.has(child.name), 'data-act': 'pick',
+  });
+  box.addEventListener('change', () => {
+    if (box.checked) look.chosen.add(child.name);
+    else look.chosen.delete(child.name);
+    changed();
+  });
+  return box;
+}
+
+// What can be done with an object, by its menu.
+function entriesOf(child, path, acts) {
+  const ofDocument = [{ words: 'Preview', does: () => acts.preview(child) },
+    { words: 'Download', does: () => acts.download([child]) }];
+  return [
+    ...(child.kind === 'folder' ? [] : ofDocument),
+    { words: 'Rename or move', does: () => acts.move(child) },
+    { words: 'Copy link', does: () => acts.copy(child) },
+    { words: 'Access', href: linkTo(path, 'access') },
+    { words: 'Remove', does: () => acts.remove([child]), look: 'remove' },
+  ];
+}
+
+function actsOf(child, path, acts) {
+  return [
+    element('a', {
+      class: 'small button access', href: linkTo(path, 'access'),
+      'aria-label': `Access: ${marked(child.name)}`, 'data-act': 'access',
+    }, 'Access'),
+    menuButton(`Actions: ${marked(child.name)}`, entriesOf(child, path, acts), {
+      class: 'small plain', title: 'Actions', 'data-act': 'menu',
+    }),
+  ];
+}
+
+function row(child, folder, look, acts, changed) {
+  const path = api.join(folder, child.name);
+  return element('tr', { 'data-kind': child.kind, 'data-path': path },
+    element('td', { class: 'pick' }, pickBox(child, look, changed)),
+    element('td', { class: 'what' }, nameOf(child, path, acts)),
+    element('td', { class: 'kind' }, kindWords(child)),
+    element('td', { class: 'acts' }, actsOf(child, path, acts)));
+}
+
+function heading(by, words, look, redraw) {
+  const isIt = look.by === by;
+  const sort = button([words, icon(isIt && look.down ? 'down' : 'up')], () => {
+    Object.assign(look, { by, down: isIt && !look.down });
+    redraw((table) => table.querySelector(`[data-sort="${by}"]`));
+  }, { class: 'plain sort', 'data-sort': by });
+  const direction = look.down ? 'descending' : 'ascending';
+  return element('th', { scope: 'col', 'aria-sort': isIt ? direction : 'none' }, sort);
+}
+
+function pickAll(look, redraw) {
+  const shown = shownOf(look);
+  const count = chosenOf(look).length;
+  const box = element('input', {
+    type: 'checkbox', 'aria-label': 'Select all', checked: count > 0 && count === shown.length,
+  });
+  box.indeterminate = count > 0 && count < shown.length;
+  box.addEventListener('change', () => {
+    look.chosen = new Set(box.checked ? shown.map(({ name }) => name) : []);
+    redraw((table) => table.querySelector('thead input'));
+  });
+  return box;
+}
+
+// So many rows are drawn, and more when somebody comes near the last one.
+const PORTION = 200;
+
+function growing(shown, rowOf, wanted) {
+  const rows = element('tbody');
+  const growTo = (count) =>
+    rows.append(...shown.slice(rows.childElementCount, count).map(rowOf));
+  const at = shown.findIndex(({ name }) => name === wanted?.name);
+  growTo(Math.max(at, wanted?.index ?? 0) + PORTION);
+  const end = element('div');
+  new IntersectionObserver(([{ isIntersecting }]) => {
+    if (isIntersecting) growTo(rows.childElementCount + PORTION);
+  }, { rootMargin: '2000px' }).observe(end);
+  return { rows, end, growTo };
+}
+
+// Draws the rows into 'body'. 'acts' does what is asked for, and 'onChosen' is called when the
+// selection changed. 'focusOn' picks what then has the focus, in the row that is 'wanted'.
+export function drawRows(body, folder, look, acts, onChosen, focusOn = null, wanted = null) {
+  const redraw = (pick) => drawRows(body, folder, look, acts, onChosen, pick);
+  const shown = shownOf(look);
+  if (shown.length === 0) {
+    body.replaceChildren(element('p', { class: 'empty' }, look.children.length === 0
+      ? 'Nothing is in this folder yet. Drop documents here, or use “Upload”.'
+      : 'Nothing in this folder has these letters in its name.'));
+    onChosen();
+    return;
+  }
+  const all = element('th', { class: 'pick', scope: 'col' }, pickAll(look, redraw));
+  const changed = () => {
+    all.replaceChildren(pickAll(look, redraw));
+    onChosen();
+  };
+  const { rows, end, growTo } = growing(shown,
+    (child) => row(child, folder, look, acts, changed), wanted);
+  const table = element('table', { class: 'folder', role: 'grid', 'aria-multiselectable': 'true' },
+    element('caption', { class: 'unseen' },
+      'What is in this folder. The arrow keys go from row to row.'),
+    element('thead', {}, element('tr', {}, all, heading('name', 'Name', look, redraw),
+      heading('kind', 'Kind', look, redraw), element('th', { scope: 'col' },
+        element('span', { class: 'unseen' }, 'What can be done')))), rows);
+  body.replaceChildren(table, end);
+  const ofRow = (does) => ({ rowIndex }) => does(shown[rowIndex - 1]);
+  // The key means what is ticked, if anything is.
+  const remove = (child) => {
+    const chosen = chosenOf(look);
+    acts.remove(chosen.length > 0 ? chosen : [child]);
+  };
+  rove(rows, { F2: ofRow(acts.move), Delete: ofRow(remove), End: () => growTo(shown.length) });
+  onChosen();
+  focusOn?.(table)?.focus();
+}

@@ -1,0 +1,34 @@
+// In which order the contents of a folder are shown, and which of them.
+
+const reading = new Intl.Collator(undefined, { numeric: true });
+const isFolder = ({ kind }) => kind === 'folder';
+
+const byName = (one, other) => reading.compare(one.name, other.name)
+  || (one.name < other.name ? -1 : 1);
+
+// 'Folder', or what the end of a document's name says.
+export function kindWords(child) {
+  if (isFolder(child)) return 'Folder';
+  const [, ending] = /.\.([A-Za-z0-9]{1,5})$/.exec(child.name) ?? [];
+  return ending ? `${ending.toUpperCase()} document` : 'Document';
+}
+
+function byKind(one, other) {
+  if (isFolder(one) !== isFolder(other)) return isFolder(one) ? -1 : 1;
+  return reading.compare(kindWords(one), kindWords(other));
+}
+
+// By 'name' folders come first in either direction, as people expect.
+export function sorted(children, by = 'name', down = false) {
+  const turn = down ? -1 : 1;
+  const order = by === 'kind'
+    ? (one, other) => turn * byKind(one, other) || byName(one, other)
+    : (one, other) => Number(isFolder(other)) - Number(isFolder(one)) || turn * byName(one, other);
+  return [...children].sort(order);
+}
+
+// Upper or lower case and accents don't matter.
+const plain = (text) => text.normalize('NFKD').replace(/\p{M}/gu, '').toLowerCase();
+
+export const filtered = (children, filter) =>
+  children.filter(({ name }) => plain(name).includes(plain(filter.trim())));

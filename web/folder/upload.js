@@ -1,0 +1,218 @@
+// Documents and whole folders sent into a folder, each with its progress.
+
+import { endsAll, interruptionsSeen, isUnanswered } from '../net/retry.js';
+import * as api from '../net/api.js';
+import { button, element } from '../ui/dom.js';
+import { documentLine, faultOf, normal, treeLine } from './jobs.js';
+import { question, tell, tellFault } from '../ui/messages.js';
+import { newPanel } from '../ui/panel.js';
+import { counted, isolated, nameFault, placeWords, sentenceOf } from '../text/words.js';
+
+// The room answers one request after the other, so more at once would not be quicker.
+const AT_ONCE = 3;
+
+// What is to be done with a document that is there already: 'replace', 'both' or 'leave'. Questions
+// come one after the other. A whole upload can be answered at once.
+function replacing(count) {
+  /** @type {Promise<any>} */
+  let turn = Promise.resolve();
+  let always = null;
+  const ask = async (name) => {
+    if (always !== null) return always;
+    const all = element('input', { type: 'checkbox' });
+    const tick = count === 1 ? null : element('p', {}, element('label', { class: 'tick' }, all,
+      'The same for all that are there already'));
+    const answer = await question('Replace the document?',
+      `There is a document ${isolated(name)} in this folder already. If it is replaced, its `
+      + 'contents are lost.',
+      [['both', 'Keep both'], ['replace', 'Replace it', 'danger']], tick) ?? 'leave';
+    if (all.checked) always = answer;
+    return answer;
+  };
+  return (name) => {
+    turn = turn.then(() => ask(name));
+    return turn;
+  };
+}
+
+// A path beside one that is taken: 'Draft (2).txt'.
+async function freeBeside(path) {
+  const dot = path.lastIndexOf('.');
+  const end = dot > path.lastIndexOf('/') + 1 ? dot : path.length;
+  for (let number = 2; ; number += 1) {
+    const free = `${path.slice(0, end)} (${number})${path.slice(end)}`;
+    if (!(await api.isThere(free))) return free;
+  }
+}
+
+// Why a folder can't be made, or null. One that is there already is taken as it is.
+async function makeOne(path, folder) {
+  const fault = path.split('/').map(nameFault).find((one) => one !== null);
+  if (fault) return fault;
+  try {
+    await api.makeFolder(api.join(folder, path));
+    return null;
+  } catch (refusal) {
+    if (endsAll(refusal)) throw refusal;
+    return refusal.body?.why === 'exists' ? null : sentenceOf(refusal);
+  }
+}
+
+// Whether the room has what was sent. Where I may not know that, nothing speaks against it.
+async function isKept({ path, file, made }) {
+  try {
+    if (!(await api.isThere(path))) return false;
+    if (made) return true;
+    const [got, sent] = await Promise.all([api.read(path), file]
+      .map(async (blob) => new Uint8Array(await (await blob).arrayBuffer())));
+    return got.length === sent.length && got.every((byte, at) => byte === sent[at]);
+  } catch (fault) {
+    if (isUnanswered(fault)) throw fault;
+    return true;
+  }
+}
+
+let running = 0;
+export const isUploading = () => running > 0;
+
+class Upload {
+  constructor(files, trees, folder) {
+    this.folder = folder;
+    this.onEnd = () => {};
+    this.lines = [...files.map((file) => documentLine(file, folder)),
+      ...trees.map((tree) => treeLine(tree, folder))];
+    this.jobs = this.lines.flatMap(({ jobs }) => jobs);
+    this.lineOf = new Map(this.lines.flatMap((line) => line.jobs.map((job) => [job, line])));
+    this.mayReplace = replacing(this.jobs.length);
+    this.close = button('Close', () => this.panel.remove(), { class: 'small', hidden: true });
+    this.again = button('Try the failed ones again', () => this.run(),
+      { class: 'small', hidden: true });
+    this.panel = newPanel('Upload', `Upload to ${placeWords(folder)}`, this.again, this.close);
+    this.panel.rows.append(...this.lines.map(({ line }) => line));
+  }
+
+  withState(...states) {
+    return this.jobs.filter(({ state }) => states.includes(state));
+  }
+
+  set(job, changes) {
+    Object.assign(job, changes);
+    this.lineOf.get(job).draw();
+    this.panel.show(this.withState('good', 'bad').length, this.jobs.length);
+  }
+
+  // Makes the folders of a tree, from the top down. What is in one that can't be made isn't sent.
+  async makeFolders({ tree, jobs, faults, draw }) {
+    faults.length = 0;
+    const isIn = (path, above) => path.startsWith(`${above}/`);
+    for (const name of tree.folders.map(normal)) {
+      if (faults.some((above) => isIn(name, above.name))) continue;
+      const words = await makeOne(name, this.folder);
+      if (words !== null) faults.push({ name, words });
+    }
+    const lacks = ({ name, state }) =>
+      state === 'waits' && faults.some((above) => isIn(name, above.name));
+    for (const job of jobs.filter(lacks)) {
+      this.set(job, { state: 'bad', words: 'its folder couldn’t be made', again: true });
+    }
+    draw();
+  }
+
+  async sendOne(job) {
+    const fault = faultOf(job);
+    if (fault) return this.set(job, { state: 'bad', words: fault });
+    if (!job.allowed && await api.isThere(job.path)) {
+      const answer = await this.mayReplace(job.name);
+      if (answer === 'leave') return this.set(job, { state: 'bad', words: 'left as it was' });
+      if (answer === 'both') job.path = await freeBeside(job.path);
+    }
+    this.set(job, { state: 'runs', allowed: true });
+    const made = await api.put(job.path, job.file, (sent, whole) =>
+      this.set(job, { part: whole === 0 ? 1 : sent / whole }));
+    return this.set(job, { state: 'good', made });
+  }
+
+  cut(queue) {
+    this.isCut = true;
+    for (const job of queue.splice(0)) {
+      this.set(job, { state: 'bad', words: 'not sent', again: true });
+    }
+  }
+
+  async sendInTurn(queue) {
+    for (let job = queue.shift(); job; job = queue.shift()) {
+      try {
+        await this.sendOne(job);
+      } catch (refusal) {
+        this.set(job, { state: 'bad', words: sentenceOf(refusal), again: true });
+        if (refusal.status === 401) tellFault(refusal);
+        if (endsAll(refusal)) this.cut(queue);
+      }
+    }
+  }
+
+  // An interrupted room may have been set back to an earlier copy, without what it had taken.
+  async lookAgain() {
+    const lost = [];
+    try {
+      for (const job of this.withState('good')) if (!(await isKept(job))) lost.push(job);
+    } catch {
+      return; // It doesn't answer once more: this is looked at after the next try.
+    }
+    this.interrupted = false;
+    for (const job of lost) {
+      this.set(job, { state: 'bad', again: true, part: 0,
+        words: 'it was uploaded, but the room doesn’t have it any more' });
+    }
+    if (lost.length > 0) {
+      const gone = counted(lost.length, 'document');
+      const are = lost.length === 1 ? 'is' : 'are';
+      tell('bad', 'The room was interrupted during the upload, and '
+        + `${gone} that it had taken ${are} gone. It was probably set back to an earlier copy: `
+        + 'ask the administrator what else is gone, and try the failed ones again.');
+    }
+  }
+
+  // Sends what wasn't sent yet, or failed and may be tried again.
+  async run() {
+    running += 1;
+    this.again.hidden = this.close.hidden = true;
+    for (const job of this.withState('bad').filter(({ again }) => again)) {
+      this.set(job, { state: 'waits', words: '', part: 0, again: false });
+    }
+    const seen = interruptionsSeen();
+    this.isCut = false;
+    try {
+      for (const line of this.lines) if (line.tree) await this.makeFolders(line);
+    } catch (refusal) {
+      tellFault(refusal);
+      this.cut(this.withState('waits'));
+    }
+    const queue = this.withState('waits');
+    await Promise.all(Array.from({ length: AT_ONCE }, () => this.sendInTurn(queue)));
+    this.interrupted ||= interruptionsSeen() !== seen;
+    if (this.interrupted && !this.isCut) await this.lookAgain();
+    running -= 1;
+    this.end();
+  }
+
+  end() {
+    const bad = this.withState('bad');
+    const whole = bad.length === 0 && this.lines.every(({ faults = [] }) => faults.length === 0);
+    this.panel.show(this.jobs.length, this.jobs.length);
+    this.panel.say(whole ? `${counted(this.jobs.length, 'document')} uploaded.`
+      : `${counted(bad.length, 'document')} of ${this.jobs.length} failed.`);
+    this.again.hidden = !bad.some(({ again }) => again);
+    this.close.hidden = false;
+    if (whole) this.panel.leave();
+    this.onEnd();
+  }
+}
+
+// Sends files and trees into the folder. The progress is shown beside whatever is open meanwhile.
+// 'onEnd' is called when all have ended, and again after each further try.
+export async function uploadAll(files, trees, folder, onEnd) {
+  const upload = new Upload(files, trees, folder);
+  upload.onEnd = onEnd;
+  await upload.run();
+}

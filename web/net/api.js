@@ -1,0 +1,153 @@
+// The requests of docs/http.md and their replies, as promises. Nothing here draws the page.
+
+import { untilAnswered } from './retry.js';
+
+export const GREATEST_DOCUMENT = 1048576;
+// The status of a file that this computer can't read any more.
+export const UNREADABLE = -1;
+
+// A reply that isn't 2xx. Status 0 is no reply at all. 'body' is the reply's JSON, or null, and
+// 'asked' says what was asked for: {method, word, path}.
+export class Refusal extends Error {
+  constructor(status, body, asked) {
+    super(`status ${status}`);
+    Object.assign(this, { status, body, asked });
+  }
+}
+
+// A path is '/' alone, or a '/' before each name. In a target each name is percent-encoded. Targets
+// are relative, so a room is asked below the address at which its page is served.
+export function target(word, path) {
+  return `${word}/${path.split('/').slice(1).map(encodeURIComponent).join('/')}`;
+}
+
+export function namesOf(path) {
+  return path === '/' ? [] : path.split('/').slice(1);
+}
+
+export function join(folder, name) {
+  return folder === '/' ? `/${name}` : `${folder}/${name}`;
+}
+
+export function parentOf(path) {
+  return path.slice(0, path.lastIndexOf('/')) || '/';
+}
+
+export function nameOf(path) {
+  return path.slice(path.lastIndexOf('/') + 1);
+}
+
+function jsonOrNull(text) {
+  try {
+    return JSON.parse(text);
+  } catch {
+    return null;
+  }
+}
+
+async function askOnce(method, word, path, body, query = '') {
+  const asked = { method, word, path };
+  const where = word === 'me' ? 'me' : target(word, path) + query;
+  let reply;
+  try {
+    reply = await fetch(where, { method, body, cache: 'no-store' });
+  } catch {
+    throw new Refusal(0, null, asked);
+  }
+  if (!reply.ok) {
+    throw new Refusal(reply.status, jsonOrNull(await reply.text().catch(() => '')), asked);
+  }
+  return reply;
+}
+
+// What adds to a document would add twice, if only the answer was lost.
+const ask = (method, word, path, body) => (method === 'POST' && word === 'doc'
+  ? askOnce(method, word, path, body) : untilAnswered(() => askOnce(method, word, path, body)));
+
+// Reads, and takes the reply in a form that fetch has. It may be cut off.
+const take = (form, word, path, query) => untilAnswered(async () => {
+  const reply = await askOnce('GET', word, path, undefined, query);
+  return reply[form]().catch(() => { throw new Refusal(0, null, { method: 'GET', word, path }); });
+});
+
+// The name, and whether its password is a first one, which opens nothing until it is changed.
+export async function me() {
+  const { headers } = await ask('GET', 'me', '/');
+  return { user: headers.get('Room-User') ?? '', isFirst: headers.has('Room-First') };
+}
+
+export const whoAmI = async () => (await me()).user;
+
+export const read = (path) => take('blob', 'doc', path);
+export const append = (path, bytes) => ask('POST', 'doc', path, bytes);
+export const list = (path) => take('json', 'folder', path);
+
+// What was sent several times may have been done by the first. 'isDone' looks at what the last one
+// got.
+async function onceDone(asked, isDone) {
+  try {
+    await asked;
+  } catch (fault) {
+    if (!fault.repeated || !(await isDone(fault))) throw fault;
+  }
+}
+
+const isGone = (path) => ({ status, body }) => status === 404 && body?.at === path;
+
+export const makeFolder = (path) =>
+  onceDone(ask('POST', 'folder', path), ({ body }) => body?.why === 'exists');
+export const remove = (path) => onceDone(ask('DELETE', 'object', path), isGone(path));
+export const move = (path, to) => onceDone(ask('POST', 'move', path, JSON.stringify({ to })),
+  async (fault) => isGone(path)(fault) && isThere(to));
+export const readList = (which, path) => take('text', which, path);
+export const setList = (which, path, text) => ask('PUT', which, path, text);
+export const readAttributes = (path) => take('json', 'attr', path);
+export const setOwners = (path, owner, group) =>
+  ask('PUT', 'attr', path, JSON.stringify({ group, owner }));
+
+// The ruling of each letter: {r: {ruling: 'allowed', place: 2}, w: {ruling: 'silent', place:
+// null}}.
+export async function can(path, letters) {
+  const rulings = await take('json', 'can', path, `?${letters}`);
+  return Object.fromEntries(Object.entries(rulings).map(([letter, text]) => {
+    const [ruling, place] = text.split(' ');
+    return [letter, { ruling, place: place === undefined ? null : Number(place) }];
+  }));
+}
+
+// Asking for no rights shows whether something exists, if the caller may pass through the folders
+// above.
+export async function isThere(path) {
+  try {
+    await can(path, '');
+    return true;
+  } catch (fault) {
+    if (fault.status === 404) return false;
+    throw fault;
+  }
+}
+
+// XMLHttpRequest, since fetch doesn't report an upload's progress.
+function putOnce(path, bytes, onProgress) {
+  return new Promise((resolve, reject) => {
+    const asking = new XMLHttpRequest();
+    const asked = { method: 'PUT', word: 'doc', path };
+    asking.open('PUT', target('doc', path));
+    asking.upload.onprogress = (event) => onProgress(event.loaded, event.total);
+    // A file that was changed or removed since it was chosen fails as a lost connection does.
+    asking.onerror = async () => {
+      const isRead = await bytes.arrayBuffer().then(() => true, () => false);
+      reject(new Refusal(isRead ? 0 : UNREADABLE, null, asked));
+    };
+    asking.onabort = asking.onerror;
+    asking.onload = () => {
+      if (asking.status >= 200 && asking.status < 300) resolve(asking.status === 201);
+      else reject(new Refusal(asking.status, jsonOrNull(asking.responseText), asked));
+    };
+    asking.send(bytes);
+  });
+}
+
+// A document gets these bytes. Returns whether it was made by that, as far as it is known.
+export const put = (path, bytes, onProgress = () => {}) =>
+  untilAnswered(() => putOnce(path, bytes, onProgress));

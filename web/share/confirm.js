@@ -1,0 +1,105 @@
+// Asks before who has access is changed, and sends it.
+
+import { button, element } from '../ui/dom.js';
+import { showDialog, tell, tellFault, waitFor } from '../ui/messages.js';
+import { followOutcome } from './consequences.js';
+import { lookingLine } from '../ui/progress.js';
+import { placeName } from './access_words.js';
+import { tellOutcome } from './outcome_view.js';
+import { sendAll } from './passage.js';
+import { listed, sentenceOf } from '../text/words.js';
+
+const CHANGED = 'Somebody else changed who has access meanwhile, so nothing was sent. '
+  + 'This is how it is now: do it again.';
+
+const places = (paths) => listed(paths.map(placeName));
+const stays = (paths) => `${places(paths)} ${paths.length === 1 ? 'lets' : 'let'} somebody pass `
+  + 'through now, which couldn’t be taken back. Do that there, under “Only on the way”.';
+
+// Lines that only let somebody pass are taken away after the list was sent, each by itself.
+async function dropAll(leftovers, looking) {
+  for (const step of leftovers) {
+    try {
+      const { done } = await sendAll([step]);
+      if (done) looking.changed(step.path, step.next);
+      else tell('bad', `Somebody changed ${placeName(step.path)} meanwhile: its line stays.`);
+    } catch (fault) {
+      tell('bad', `The line at ${placeName(step.path)} stays. ${sentenceOf(fault)}`);
+    }
+  }
+}
+
+// Sends a list with what was chosen beside it. Returns 'sent' or 'not sent', and tells why not.
+export async function deliver(state, next, told) {
+  const main = { path: state.path, before: state.text, next };
+  try {
+    const { done, left } = await waitFor(sendAll([...told.ways(), main]));
+    if (done) await waitFor(dropAll(told.left(), state.looking));
+    else tell('bad', CHANGED);
+    if (left.length > 0) tell('bad', stays(left));
+    return done ? 'sent' : 'not sent';
+  } catch (fault) {
+    tellFault(fault);
+    if (fault.left?.length > 0) tell('bad', stays(fault.left));
+    else if (fault.taken > 0) tell('bad', 'What was sent first was taken back.');
+    return 'not sent';
+  }
+}
+
+// What comes of a list, drawn as it is seen. Nothing is sent before all further down was looked at,
+// or somebody stopped that: 'send' is the button that it waits for.
+export class Told {
+  constructor(state, subject, send, again) {
+    this.state = state;
+    this.subject = subject;
+    this.send = send;
+    this.ticks = new Map();
+    this.told = null;
+    this.text = null;
+    this.line = lookingLine(state.looking, again);
+    this.box = element('div', {});
+    this.shown = element('div', {}, this.box, this.line.shown);
+  }
+
+  draw(outcome, isBusy) {
+    const told = tellOutcome(this.state, outcome, this.subject, this.ticks);
+    // What says the same stays, with what has the focus in it.
+    if (this.text !== told.shown.textContent) {
+      this.told = told;
+      this.text = told.shown.textContent;
+      this.box.replaceChildren(told.shown);
+    }
+    this.box.firstChild.setAttribute('aria-busy', String(isBusy));
+    this.line.draw(isBusy);
+    this.send.disabled = isBusy;
+  }
+}
+
+// A dialog that says what comes of a list, and sends it. 'words' are {title, words, sentence,
+// subject}. Returns 'sent', 'not sent', or null if it was cancelled.
+export async function confirm(state, next, { title, words, sentence, subject = null }) {
+  let isOpen = true;
+  let danger = false;
+  const said = element('p', {});
+  const [cancel, send] = ['Cancel', words].map((text) => button(text, () => {}));
+  const look = (draw) => followOutcome(state, next, subject, () => isOpen, draw);
+  const told = new Told(state, subject, send, () => look(draw).catch(tellFault));
+  const draw = (outcome, isBusy) => {
+    danger = outcome.lock !== null;
+    said.textContent = sentence(outcome);
+    send.textContent = danger ? `${words} all the same` : words;
+    send.className = danger ? 'danger' : 'primary';
+    told.draw(outcome, isBusy);
+  };
+  await waitFor(new Promise((resolve, reject) => {
+    look((...drawn) => resolve(draw(...drawn))).catch(reject);
+  }));
+  const answer = await showDialog(title, (finish) => {
+    cancel.addEventListener('click', () => finish(null));
+    send.addEventListener('click', () => finish('send'));
+    (danger || send.disabled ? cancel : send).autofocus = true;
+    return [said, told.shown, element('div', { class: 'actions' }, cancel, send)];
+  }, 'sharing');
+  isOpen = false;
+  return answer === null ? null : deliver(state, next, told.told);
+}

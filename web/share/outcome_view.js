@@ -1,0 +1,50 @@
+// What a new list would bring about, drawn, with a box for each of what is offered beside it.
+
+import { listed } from '../text/words.js';
+import { element, icon } from '../ui/dom.js';
+import { MOST_NAMED, hintsOf, saidLines, lockWords, offersOf, warningsOf } from './access_words.js';
+
+const MARKS = { gain: 'plus', loss: 'dash', same: 'check' };
+
+// All the names, where the line counts some of them only.
+const allOf = (names) => (names.length <= MOST_NAMED + 1 ? null : element('details', {},
+  element('summary', {}, `All ${names.length.toLocaleString('en')}`),
+  element('p', { class: 'hint' }, listed(names))));
+
+const lineShown = ({ look, head, words, names }) => element('li', { class: look },
+  icon(MARKS[look]), element('div', {},
+    element('p', {}, element('b', {}, head), ` ${words}`), allOf(names)));
+
+// What somebody ticked or not is kept in 'ticks', since it may be drawn anew.
+function tick({ words, isOn, key }, ticks) {
+  const box = element('input', { type: 'checkbox', checked: ticks.get(key) ?? isOn });
+  box.addEventListener('change', () => ticks.set(key, box.checked));
+  return element('label', { class: 'tick way' }, box, element('span', {}, words));
+}
+
+function warnings(state, outcome) {
+  const all = warningsOf(state, outcome)
+    .map(({ kind, text }) => element('li', { class: kind }, text));
+  if (outcome.lock) {
+    const { title, text } = lockWords(state, outcome.lock);
+    all.push(element('li', { class: 'bad lock-out' }, element('b', {}, title), ` ${text}`));
+  }
+  return all.length === 0 ? null
+    : element('ul', { class: 'warnings', 'aria-label': 'Mind this' }, all);
+}
+
+// {shown, ways, left}: what is said of it, and what is to be sent before the list and after it.
+// 'ticks' are the boxes that somebody ticked or not.
+export function tellOutcome(state, outcome, subject = null, ticks = new Map()) {
+  const offers = offersOf(state, outcome, subject);
+  const taken = (isFirst) => offers.filter((one) => one.isFirst === isFirst
+    && (ticks.get(one.key) ?? one.isOn)).flatMap(({ steps }) => steps);
+  const shown = element('div', { class: 'outcome' },
+    element('ul', { class: 'changes', 'aria-label': 'Who gains and who loses' },
+      saidLines(state, outcome, subject).map(lineShown)),
+    hintsOf(state, outcome).map((words) => element('p', { class: 'hint' }, words)),
+    offers.map((one) => tick(one, ticks)), warnings(state, outcome));
+  // What lies in another one goes first, so that the other one is still as it was seen.
+  const fromBelow = (one, other) => other.path.length - one.path.length;
+  return { shown, ways: () => taken(true), left: () => taken(false).sort(fromBelow) };
+}

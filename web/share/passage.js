@@ -1,0 +1,184 @@
+// The way to an object: the folders above it, which have to let somebody pass, and the lines there
+// that do nothing else.
+
+import * as api from '../net/api.js';
+import { attributesAt } from '../net/ancestors.js';
+import { barring, isGranted, mayPass } from '../acl/decide.js';
+import { callersFor, isNeeded, statesBelow } from './who_can.js';
+import { entriesOf, isLineOf, keyOf, readLevels } from '../acl/levels.js';
+import { isGroup, isInherited, printEntry, printList, readListText } from '../acl/entries.js';
+import { isOld } from '../net/directory.js';
+import { isUnanswered } from '../net/retry.js';
+
+// The folders on the way, from the top down: [{path, text, list, object}].
+export async function wayTo(path) {
+  const names = api.namesOf(path);
+  return Promise.all(names.map(async (_, index) => {
+    const above = `/${names.slice(0, index).join('/')}`;
+    const [text, object] = await Promise.all([
+      api.readList('dacl', above).catch(() => null), attributesAt(above)]);
+    const list = text === null ? null : readListText(text).list ?? null;
+    return { path: above, text, object, list };
+  }));
+}
+
+// Asked once for each panel, which may be drawn several times.
+function mayChange({ changeable }, path) {
+  if (!changeable.has(path)) {
+    changeable.set(path, api.can(path, 'C').then((may) => may.C.ruling === 'allowed', () => false));
+  }
+  return changeable.get(path);
+}
+
+// The list with a line that lets somebody pass, at the end of its own ones.
+function opened(list, { who, isGroup }) {
+  const own = list.entries.filter((entry) => !isInherited(entry));
+  return { ...list, entries: [...own, ...entriesOf('pass', who, isGroup, 'folder'),
+    ...list.entries.filter(isInherited)] };
+}
+
+// The folders that bar those who gain something, and what would let them pass, from the top down:
+// [{path, callers, next, before, folder}]. 'next' is null where I may not change the list, or where
+// that won't do.
+export async function openings(state, gaining, subject) {
+  const { folders } = state;
+  const barred = new Map();
+  for (const caller of gaining) {
+    for (const path of barring(folders, caller)) {
+      barred.set(path, [...barred.get(path) ?? [], caller]);
+    }
+  }
+  return Promise.all(folders.filter(({ path }) => barred.has(path)).map(async (folder) => {
+    const { path } = folder;
+    const callers = barred.get(path);
+    const isOffered = subject !== null && await mayChange(state, path);
+    const next = isOffered ? opened(folder.list, subject) : null;
+    const lets = next !== null && callers.every((caller) =>
+      isGranted({ entries: next.entries, object: folder.object }, 'x', caller));
+    return { path, callers, folder, before: folder.text, next: lets ? next : null };
+  }));
+}
+
+// The folders above as they are once these are opened.
+export const waysAfter = (folders, opening) => folders.map((folder) => (
+  { ...folder, list: opening.find(({ path }) => path === folder.path)?.next ?? folder.list }));
+
+function withoutLine(list, subject) {
+  const key = keyOf({ who: subject.who, flags: subject.isGroup ? 'g' : '' });
+  const row = readLevels(list, 'folder').rows.find((one) => one.key === key && !one.inherited
+    && one.level === 'pass');
+  return row && { ...list, entries: list.entries.filter((entry) => !row.entries.includes(entry)) };
+}
+
+const allowing = ({ list }) => list.entries.filter(({ type, mask }) => type === 'A' && mask !== '');
+
+// Whether it is known who is in the groups by which somebody may need the line: those that are
+// given something further down, and that don't pass by themselves.
+function areGroupsKnown({ known }, states, way) {
+  if (known?.members && !isOld(known.made)) return true;
+  const groups = new Set(states.flatMap(allowing).filter(isGroup).map(({ who }) => who));
+  return [...groups].every((group) => mayPass([way], { user: null, groups: [group] }));
+}
+
+async function leftoverAt(folder, state, next, subject) {
+  const without = folder.list && withoutLine(folder.list, subject);
+  if (!without || !(await mayChange(state, folder.path))) return null;
+  const { nodes, unread, all } = state.looking.below(folder.path);
+  const states = statesBelow(nodes, { path: folder.path, object: folder.object,
+    lists: [folder.list, folder.list], ways: [[], []] }, new Map([[state.path, next]]));
+  const place = { entries: folder.list.entries, object: folder.object };
+  const meant = callersFor([place], [], state.known).filter(({ user, groups }) =>
+    (subject.isGroup ? groups.includes(subject.who) : user === subject.who));
+  // Somebody may be in the group of whom nothing is known.
+  const callers = subject.isGroup ? [...meant, { user: null, groups: [subject.who] }] : meant;
+  const way = { ...folder, list: without };
+  const isRedundant = callers.every((caller) => mayPass([way], caller));
+  if (!isRedundant && isNeeded(states, callers)) return null;
+  const isSeen = all && unread.length === 0 && areGroupsKnown(state, states, way);
+  return { path: folder.path, before: folder.text, next: without, sure: isRedundant || isSeen };
+}
+
+// The lines on the way to an object that only let somebody pass, and that nobody needs any more
+// once its list is this one: [{path, before, next, sure}]. 'sure' is false where not everything
+// below could be looked at, or it isn't known who is in a group. What lets everyone pass stays.
+export async function leftovers(state, next, subject) {
+  if (subject.who.endsWith('@')) return [];
+  const found = await Promise.all(state.folders.map((folder) =>
+    leftoverAt(folder, state, next, subject)));
+  return found.filter((one) => one !== null);
+}
+
+// More places than these aren't offered, since each takes a request.
+const MOST_PLACES = 50;
+
+// The lines of one who is taken off a list that stand further down, from below: [{path, before,
+// next, isSame}]. 'isSame' says that they say nothing but what is taken away with 'next'. 'states'
+// are what follows, as it is then.
+export async function furtherLines(state, next, states, subject) {
+  const sent = next.entries.map(printEntry);
+  const gone = state.list.entries.filter((entry) => !sent.includes(printEntry(entry)));
+  const isGone = (entry) => gone.some((one) => one.type === entry.type && one.flags === entry.flags
+    && one.who === entry.who && [...entry.mask].every((letter) => one.mask.includes(letter)));
+  const found = states.flatMap(({ path, sides }) => {
+    const { list } = sides[1];
+    const lines = list.entries.filter((entry) => isLineOf(entry, subject));
+    const without = { ...list, entries: list.entries.filter((entry) => !lines.includes(entry)) };
+    return lines.length === 0 ? []
+      : [{ path, before: printList(list), next: without, isSame: lines.every(isGone) }];
+  }).slice(0, MOST_PLACES);
+  const may = await Promise.all(found.map(({ path }) => mayChange(state, path)));
+  return found.filter((_, index) => may[index]).reverse();
+}
+
+// A list's text, null where it can't be read, and undefined where the room doesn't answer.
+const textAt = (path) => api.readList('dacl', path)
+  .catch((fault) => (isUnanswered(fault) ? undefined : null));
+const ownText = (text) => {
+  const { list } = readListText(text ?? '');
+  return list && printList({ ...list, entries: list.entries.filter((one) => !isInherited(one)) });
+};
+
+// Takes back what was sent, unless somebody changed it since. Returns the paths where it stays. A
+// room that doesn't answer was waited for long enough.
+async function takeBack(sent, isAway) {
+  const left = [];
+  let away = isAway;
+  for (const { path, before, after } of [...sent].reverse()) {
+    const now = away ? undefined : await textAt(path);
+    away = now === undefined;
+    const isDone = typeof after === 'string' && now === after
+      && await api.setList('dacl', path, before).then(() => true, () => false);
+    if (!isDone) left.push(path);
+  }
+  return left;
+}
+
+// Where a list wasn't sent by what is known: whether it was all the same, as when its answer was
+// lost. Otherwise what was sent before it is taken back, and the fault has what is 'left' of it.
+async function afterFault({ path, next }, fault, sent) {
+  const isOpen = isUnanswered(fault) || fault.status === 500;
+  const now = isOpen ? await textAt(path) : null;
+  if (typeof now === 'string' && ownText(now) === ownText(printList(next))) return;
+  throw Object.assign(fault, { left: await takeBack(sent, now === undefined), taken: sent.length });
+}
+
+// Sends lists one after the other: [{path, before, next}]. Returns {done, left}: nothing is sent
+// unless each list is the one that was judged, and what was sent is taken back if a later one
+// fails. 'left' are the paths where that failed too; a fault has it as well.
+export async function sendAll(steps) {
+  const isSame = async ({ path, before }) => await api.readList('dacl', path) === before;
+  for (const step of steps) if (!(await isSame(step))) return { done: false, left: [] };
+  const sent = [];
+  for (const step of steps) {
+    try {
+      if (sent.length > 0 && !(await isSame(step))) {
+        return { done: false, left: await takeBack(sent, false) };
+      }
+      await api.setList('dacl', step.path, printList(step.next));
+    } catch (fault) {
+      await afterFault(step, fault, sent);
+    }
+    sent.push({ ...step, after: step === steps.at(-1) ? null : await textAt(step.path) });
+  }
+  return { done: true, left: [] };
+}

@@ -1,0 +1,83 @@
+// Asks which of the ready-made lists it shall be, and for the names of its groups or its user.
+
+import { button, element, field } from '../ui/dom.js';
+import { isName } from '../acl/entries.js';
+import { showDialog } from '../ui/messages.js';
+import { READY, readyText } from './ready_lists.js';
+import { faultWords } from '../text/words.js';
+
+function choices(onPick) {
+  const made = READY.map((ready, index) => {
+    const box = element('input', {
+      type: 'radio', name: 'ready', value: String(index), checked: index === 0,
+    });
+    const title = element('span', { class: 'title' });
+    const sentence = element('span', { class: 'hint' });
+    box.addEventListener('change', () => onPick(ready));
+    const shown = element('label', { class: 'choice' }, box, title, sentence);
+    return { ready, title, sentence, shown };
+  });
+  const tell = (me, namesOf) => made.forEach(({ ready, title, sentence }) => {
+    const names = namesOf(ready);
+    title.textContent = ready.title(...names);
+    sentence.textContent = ready.sentence(me, ...names);
+  });
+  return { tell, shown: element('fieldset', { class: 'choices' },
+    element('legend', { class: 'unseen' }, 'Which list'), made.map(({ shown }) => shown)) };
+}
+
+// The fields for the names of a list. 'typed' has what was typed for each example.
+function nameFields(ready, typed, onInput) {
+  const made = ready.asks.map(({ label, example }) => {
+    const input = element('input', {
+      type: 'text', autocomplete: 'off', autocapitalize: 'none', spellcheck: 'false',
+      value: typed.get(example) ?? '',
+    });
+    input.addEventListener('input', () => {
+      typed.set(example, input.value);
+      onInput();
+    });
+    return { input, box: field(label, input) };
+  });
+  // The names, or null where one is none, which is told then.
+  const take = () => {
+    for (const { input, box } of made) {
+      const fits = isName(input.value);
+      input.setAttribute('aria-invalid', String(!fits));
+      box.querySelector('.hint').textContent = fits ? '' : faultWords('A3');
+    }
+    const wrong = made.find(({ input }) => !isName(input.value));
+    wrong?.input.focus();
+    return wrong ? null : made.map(({ input }) => input.value);
+  };
+  return { boxes: made.map(({ box }) => box), take };
+}
+
+// Returns the text of a list, or null.
+export function pickReady(me) {
+  return showDialog('Ready-made lists', (finish) => {
+    const typed = new Map();
+    const namesOf = ({ asks }) => asks.map(({ example }) =>
+      (isName(typed.get(example) ?? '') ? typed.get(example) : example));
+    const place = element('div', { class: 'names' });
+    let [ready, fields] = [null, null];
+    const { tell, shown } = choices((picked) => pick(picked));
+    const pick = (picked) => {
+      ready = picked;
+      fields = nameFields(ready, typed, () => tell(me, namesOf));
+      place.replaceChildren(...fields.boxes);
+    };
+    pick(READY[0]);
+    tell(me, namesOf);
+    const take = (event) => {
+      event.preventDefault();
+      const names = fields.take();
+      if (names) finish(readyText(ready, me, names));
+    };
+    return [element('form', { onsubmit: take },
+      element('p', {}, 'It takes the place of this list. You see what changes before it is sent.'),
+      shown, place, element('div', { class: 'actions' },
+        button('Cancel', () => finish(null)),
+        element('button', { type: 'submit', class: 'primary' }, 'Take this list')))];
+  }, 'ready');
+}

@@ -1,0 +1,33 @@
+// Whom to ask for access, as far as it can be known.
+
+import { attributesAt, listAt } from '../net/ancestors.js';
+import { inForce } from '../acl/decide.js';
+import { isGroup } from '../acl/entries.js';
+import { fullName, mine, people } from '../net/directory.js';
+import { membersOf, some } from './names.js';
+import { isolated } from '../text/words.js';
+
+const MOST_NAMED = 3;
+
+// Those whom the entry means, as far as they are known by name.
+function usersOf(entry, owner, known) {
+  if (entry.who === 'OWNER@') return owner ? [owner] : [];
+  if (entry.who.endsWith('@')) return [];
+  return isGroup(entry) ? membersOf(known, entry.who) ?? [] : [entry.who];
+}
+
+// A sentence that names whoever manages the object at a path: by its list, by what the front end
+// knows of the top, or by its owner, who need not have a right.
+export async function askedFor(path) {
+  const [list, { owner }, known, given] = await Promise.all([
+    listAt(path), attributesAt(path), people(), mine()]);
+  const sentence = (users, why) => `Ask ${some(users.map((user) =>
+    isolated(fullName(known, user))), MOST_NAMED, 'or')}, who ${why}.`;
+  const managing = inForce(list?.entries ?? [], 'C').filter(({ type }) => type === 'A')
+    .flatMap((entry) => usersOf(entry, owner, known));
+  if (managing.length > 0) return sentence([...new Set(managing)], 'can change that');
+  const managers = given?.managers ?? [];
+  const isTop = path === '/' || !owner;
+  if (managers.length > 0 && isTop) return sentence(managers, 'manages the room');
+  return owner ? sentence([owner], 'owns it') : 'Ask your administrator.';
+}

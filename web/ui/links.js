@@ -1,0 +1,38 @@
+// The open place follows the '#' of the address, so that it can be linked and kept as a bookmark.
+
+import { join, namesOf } from '../net/api.js';
+import { element, nameText } from './dom.js';
+
+export const VIEWS = ['show', 'access', 'rights', 'dacl', 'sacl'];
+
+export function linkTo(path, view = null) {
+  const names = namesOf(path).map(encodeURIComponent).join('/');
+  return `#/${names}${view ? `?${view}` : ''}`;
+}
+
+function decoded(name) {
+  try {
+    return decodeURIComponent(name);
+  } catch {
+    return name;
+  }
+}
+
+// {path, view}; without a view the folder itself is shown, or a document by the view 'show'.
+export function whereIs(hash) {
+  const [place, view] = hash.replace(/^#/, '').split('?');
+  const names = place.split('/').filter((name) => name !== '').map(decoded);
+  return { path: `/${names.join('/')}`, view: VIEWS.includes(view) ? view : null };
+}
+
+// The path as links, from the top down.
+export function pathLinks(path) {
+  const items = [element('li', {}, element('a', { href: linkTo('/') }, 'All documents'))];
+  let reached = '/';
+  for (const name of namesOf(path)) {
+    reached = join(reached, name);
+    items.push(element('li', {}, element('a', { href: linkTo(reached) }, nameText(name))));
+  }
+  items.at(-1).firstChild.setAttribute('aria-current', 'page');
+  return element('ol', {}, items);
+}

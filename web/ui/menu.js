@@ -1,0 +1,69 @@
+// A menu of what can be done with something, opened by its button.
+
+import { button, element, icon } from './dom.js';
+
+const GAP = 4;
+
+// Below the button, or above it where there is no space, and inside the window.
+function putBeside(menu, opener) {
+  const at = opener.getBoundingClientRect();
+  const isBelow = at.bottom + GAP + menu.offsetHeight <= window.innerHeight;
+  menu.style.top = `${isBelow ? at.bottom + GAP : Math.max(0, at.top - GAP - menu.offsetHeight)}px`;
+  menu.style.left = `${Math.max(GAP, at.right - menu.offsetWidth)}px`;
+}
+
+// The item that gets the focus by a key, or null.
+function itemFor(key, items, now) {
+  const last = items.length - 1;
+  const index = {
+    ArrowDown: now === last ? 0 : now + 1, ArrowUp: now <= 0 ? last : now - 1, Home: 0, End: last,
+  }[key];
+  return index === undefined ? null : items[index];
+}
+
+function open(opener, label, entries) {
+  const close = (isBack = false) => {
+    menu.remove();
+    opener.setAttribute('aria-expanded', 'false');
+    for (const [target, kind, listen] of listeners) target.removeEventListener(kind, listen, true);
+    if (isBack) opener.focus({ preventScroll: true });
+  };
+  const items = entries.map(({ words, does, href, look = null }) => element(href ? 'a' : 'button', {
+    role: 'menuitem', tabindex: '-1', class: look, href: href ?? null, type: href ? null : 'button',
+    onclick: () => {
+      close(true);
+      does?.();
+    },
+  }, words));
+  const menu = element('div', { class: 'menu', role: 'menu', 'aria-label': label }, items);
+  const follow = () => (opener.isConnected ? putBeside(menu, opener) : close());
+  /** @type {[EventTarget, string, (event: any) => void][]} */
+  const listeners = [
+    [document, 'pointerdown', ({ target }) => {
+      if (!menu.contains(target) && !opener.contains(target)) close();
+    }],
+    [document, 'scroll', follow], [window, 'resize', follow], [window, 'hashchange', () => close()],
+  ];
+  menu.addEventListener('keydown', (event) => {
+    const next = itemFor(event.key, items, items.indexOf(document.activeElement));
+    if (event.key === 'Escape' || event.key === 'Tab') close(true);
+    else next?.focus();
+    if (event.key === 'Escape' || next) event.preventDefault();
+  });
+  for (const [target, kind, listen] of listeners) target.addEventListener(kind, listen, true);
+  document.body.append(menu);
+  putBeside(menu, opener);
+  opener.setAttribute('aria-expanded', 'true');
+  items[0].focus({ preventScroll: true });
+  return close;
+}
+
+// A button that opens a menu of entries {words, does or href, look}.
+export function menuButton(label, entries, properties = {}) {
+  let close = null;
+  const opener = button(icon('more'), () => {
+    if (opener.getAttribute('aria-expanded') === 'true') close();
+    else close = open(opener, label, entries);
+  }, { 'aria-label': label, 'aria-haspopup': 'menu', 'aria-expanded': 'false', ...properties });
+  return opener;
+}

@@ -1,0 +1,161 @@
+// Messages at a fixed place, and questions in a dialog.
+
+import { button, element, field, icon } from './dom.js';
+import { askedFor } from './ask_whom.js';
+import { denialWords, sentenceOf } from '../text/words.js';
+
+const place = () => document.getElementById('notices');
+
+// 'kind' is 'good' or 'bad'. Good news without buttons disappears by itself, all other stays until
+// it is closed.
+export function tell(kind, text, ...actions) {
+  const close = button(icon('cross'), () => notice.remove(),
+    { class: 'plain', 'aria-label': 'Close this message' });
+  const said = element('p', {}, text);
+  const stays = kind === 'good' && actions.length > 0 ? ' stays' : '';
+  if (stays) for (const old of place().querySelectorAll('.stays')) old.remove();
+  const notice = element('div', {
+    class: `notice ${kind}${stays}`, role: kind === 'bad' ? 'alert' : 'status', 'data-text': text,
+  }, icon(kind === 'bad' ? 'cross' : 'check'), said, actions, close);
+  place().append(notice);
+  if (kind === 'good' && !stays) setTimeout(() => notice.remove(), 6000);
+  return said;
+}
+
+// The entry that denies it, for those who want to know.
+function reasonOf({ status, body, asked }) {
+  const why = status === 403 ? denialWords(body, asked).why : null;
+  return why === null ? [] : [element('details', {}, element('summary', {}, 'Why'),
+    element('p', { class: 'hint' }, why))];
+}
+
+// Whom to ask is known a little later.
+function nameManagers(said, fault) {
+  if (fault.status !== 403 || !fault.body?.at) return;
+  askedFor(fault.body.at).then((ask) => { said.textContent = sentenceOf(fault, ask); }, () => {});
+}
+
+export function tellFault(fault) {
+  if (fault.status === undefined) console.error(fault);
+  const again = fault.status === 401
+    ? [button('Sign in again', () => location.reload(), { class: 'small' })] : [];
+  const text = sentenceOf(fault);
+  for (const old of place().querySelectorAll('.notice.bad')) {
+    if (old.getAttribute('data-text') === text) old.remove();
+  }
+  nameManagers(tell('bad', text, ...again, ...reasonOf(fault)), fault);
+}
+
+export function clearNotices() {
+  for (const notice of place().querySelectorAll('.notice.bad, .stays')) notice.remove();
+}
+
+// In the place of what can't be shown at the moment.
+export const notShown = (words, load) => element('div', { class: 'empty' }, element('p', {}, words),
+  button('Load again', () => {
+    clearNotices();
+    load();
+  }, { class: 'small' }));
+
+// Says that the page waits for the room, as long as it does.
+let waitingNotice = null;
+export function showWaiting(isWaiting) {
+  if (!isWaiting) waitingNotice?.remove();
+  else if (!waitingNotice?.isConnected) {
+    waitingNotice = element('div', { class: 'notice waits', role: 'status' }, icon('dash'),
+      element('p', {}, 'The room doesn’t answer. The page tries again for half a minute.'));
+    place().append(waitingNotice);
+  }
+}
+
+// Shows a dialog, once the one before is closed. Returns what 'finish' was called with, or null if
+// the dialog was closed.
+let lastDialog = Promise.resolve(null);
+export function showDialog(title, build, look = null) {
+  lastDialog = lastDialog.catch(() => null).then(() => openDialog(title, build, look));
+  return lastDialog;
+}
+
+function openDialog(title, build, look) {
+  return new Promise((resolve) => {
+    let answer = null;
+    const heading = element('h2', { id: 'dialog-title' }, title);
+    const dialog = element('dialog', { 'aria-labelledby': 'dialog-title', class: look });
+    const finish = (value) => {
+      answer = value;
+      dialog.close();
+    };
+    dialog.append(heading, ...build(finish));
+    dialog.addEventListener('close', () => {
+      dialog.remove();
+      resolve(answer);
+    });
+    document.body.append(dialog);
+    dialog.showModal();
+    const first = document.activeElement;
+    if (first.matches('dialog input[type="text"]')) selectName(first);
+  });
+}
+
+// What is in a field is there to be changed, except the extension of a document.
+function selectName(input) {
+  const dot = input.dataset.isFile === undefined ? -1 : input.value.lastIndexOf('.');
+  input.setSelectionRange(0, dot > 0 ? dot : input.value.length);
+}
+
+// A question with one button for each answer: [['replace', 'Replace it', 'danger'], ..]. 'more' is
+// shown above them.
+export function question(title, text, answers, more = null) {
+  return showDialog(title, (finish) => [
+    element('p', {}, text), ...more === null ? [] : [more],
+    element('div', { class: 'actions' },
+      button('Cancel', () => finish(null), { autofocus: true }),
+      answers.map(([value, words, look]) => button(words, () => finish(value), { class: look }))),
+  ]);
+}
+
+// A form of text fields: [{label, value, hint, wrong, isFile, fault: text => sentence or null}].
+// 'wrong' is what was wrong with the value. Returns the values, or null.
+export function form(title, fields, submit, ...more) {
+  return showDialog(title, (finish) => {
+    const inputs = fields.map((one) => element('input', {
+      type: 'text', value: one.value ?? '', autocomplete: 'off', spellcheck: 'false', dir: 'auto',
+      'data-is-file': one.isFile ?? null,
+    }));
+    const boxes = fields.map((one, index) => field(one.label, inputs[index], one.hint));
+    fields.forEach((one, index) => {
+      if (one.wrong) showFault(inputs[index], boxes[index], one.wrong, one.hint);
+    });
+    const send = (event) => {
+      event.preventDefault();
+      const faults = fields.map((one, index) => one.fault(inputs[index].value));
+      faults.forEach(
+        (fault, index) => showFault(inputs[index], boxes[index], fault, fields[index].hint));
+      const wrong = faults.findIndex((fault) => fault !== null);
+      if (wrong >= 0) inputs[wrong].focus();
+      else finish(inputs.map((input) => input.value));
+    };
+    return [element('form', { onsubmit: send }, boxes, more, element('div', { class: 'actions' },
+      button('Cancel', () => finish(null)),
+      element('button', { type: 'submit', class: 'primary' }, submit)))];
+  });
+}
+
+function showFault(input, box, fault, hint) {
+  box.classList.toggle('wrong', fault !== null);
+  input.setAttribute('aria-invalid', String(fault !== null));
+  box.querySelector('.hint').textContent = fault ?? hint ?? '';
+}
+
+// Shows a thin line at the top while a request runs; the page stays usable.
+let waiting = 0;
+export async function waitFor(promise) {
+  waiting += 1;
+  document.body.classList.add('waiting');
+  try {
+    return await promise;
+  } finally {
+    waiting -= 1;
+    document.body.classList.toggle('waiting', waiting > 0);
+  }
+}

@@ -1,0 +1,149 @@
+// A field to choose a person or a group from a list, by the keyboard too.
+
+import { element, freshId, icon, nameText } from './dom.js';
+import { isName } from '../acl/entries.js';
+import { dayWords, fullName } from '../net/directory.js';
+import { mark, membersOf } from './names.js';
+import { counted } from '../text/words.js';
+
+const MOST = 8;
+const LABEL = 'Add people or groups';
+
+// All who are known, with what a search looks at: [{who, isGroup, sure, text}].
+export function knownNames(known) {
+  const users = (known?.users ?? []).map((who) => (
+    { who, isGroup: false, sure: true, text: `${who}\n${fullName(known, who)}`.toLowerCase() }));
+  const groups = Object.keys(known?.groups ?? {}).map((who) => (
+    { who, isGroup: true, sure: true, text: who.toLowerCase() }));
+  return [...groups, ...users];
+}
+
+const isSame = (one, other) => one.who === other.who && one.isGroup === other.isGroup;
+
+// What may be chosen for what was typed: [{who, isGroup, sure}]. Whose name begins so comes first.
+// 'isKnown' says that names can be looked up: then another one is taken only if none of them fits.
+export function choicesFor(typed, all, isKnown, taken) {
+  const small = typed.toLowerCase();
+  const isFree = (choice) => !taken.some((one) => isSame(one, choice));
+  const [begins, others] = [[], []];
+  // There may be thousands, and each key comes here.
+  for (const choice of all) {
+    const at = choice.text.indexOf(small);
+    const place = at === 0 ? begins : others;
+    if (at >= 0 && place.length < MOST && isFree(choice)) place.push(choice);
+    if (begins.length === MOST) break;
+  }
+  const found = [...begins, ...others].slice(0, MOST);
+  if (!isName(typed) || all.some(({ who }) => who === typed)) return found;
+  const asTyped = [false, true].map((isGroup) => ({ who: typed, isGroup, sure: false }));
+  return isKnown && found.length > 0 ? found : [...found, ...asTyped.filter(isFree)];
+}
+
+function wordsFor({ who, isGroup, sure }, known) {
+  if (!sure) {
+    const words = isGroup ? 'as a group' : 'as a person';
+    return known === null ? words : `add ${words} all the same`;
+  }
+  if (!isGroup) return fullName(known, who) === who ? 'person' : who;
+  const members = membersOf(known, who);
+  return members === null ? 'group' : `group, ${counted(members.length, 'member')}`;
+}
+
+function line(choice, known, id, onPick) {
+  const { who, isGroup, sure } = choice;
+  const look = sure ? null : 'unsure';
+  const made = element('li', { role: 'option', id, 'aria-selected': 'false', class: look },
+    mark(known, who, isGroup),
+    element('span', {}, nameText(isGroup ? who : fullName(known, who))),
+    element('span', { class: 'hint' }, wordsFor(choice, known)));
+  made.addEventListener('pointerdown', (event) => {
+    // The focus stays where it is, since the list closes without it.
+    event.preventDefault();
+    onPick(choice);
+  });
+  return made;
+}
+
+function toldOf(typed, choices, known, taken) {
+  if (taken.some(({ who }) => who === typed)) return 'This one is in the list below.';
+  if (known === null) {
+    return choices.length > 0 ? 'Names can’t be looked up here: spell them exactly.' : '';
+  }
+  if (typed === '' || choices.some(({ sure }) => sure)) return '';
+  return `Nobody of this name is known (as of ${dayWords(known.made)}). Look at the spelling.`;
+}
+
+// The choices below a field: {box, show, step, isOpen, chosen, close}.
+function choiceList(input, known, onPick) {
+  const list = element('ul', {
+    role: 'listbox', id: freshId('choices'), 'aria-label': 'People and groups',
+  });
+  const told = element('p', { class: 'hint', role: 'status' });
+  const box = element('div', { class: 'choices-of', hidden: true }, told, list);
+  input.setAttribute('aria-controls', list.id);
+  let [choices, at] = [[], -1];
+  const point = (next) => {
+    at = next;
+    [...list.children].forEach((one, index) =>
+      one.setAttribute('aria-selected', String(index === at)));
+    if (at < 0) input.removeAttribute('aria-activedescendant');
+    else input.setAttribute('aria-activedescendant', list.children[at].id);
+    list.children[at]?.scrollIntoView({ block: 'nearest' });
+  };
+  const show = (found, words) => {
+    choices = found;
+    list.replaceChildren(...choices.map((choice, index) =>
+      line(choice, known, `${list.id}-${index}`, onPick)));
+    told.textContent = words;
+    box.hidden = choices.length === 0 && words === '';
+    input.setAttribute('aria-expanded', String(choices.length > 0));
+    point(choices[0]?.sure ? 0 : -1);
+  };
+  // Up from nothing leads to the last one.
+  const step = (by) => {
+    const from = at < 0 && by < 0 ? 0 : at;
+    if (choices.length > 0) point((from + by + choices.length) % choices.length);
+  };
+  return {
+    box, show, step, isOpen: () => choices.length > 0, chosen: () => choices[at],
+    close: () => show([], ''),
+  };
+}
+
+// 'taken' are those who have access already. 'onPick' is called with {who, isGroup, sure}.
+export function picker(known, taken, onPick) {
+  const all = knownNames(known);
+  const input = element('input', {
+    type: 'text', role: 'combobox', 'aria-label': LABEL, 'aria-expanded': 'false',
+    'aria-autocomplete': 'list', placeholder: LABEL, autocomplete: 'off',
+    autocapitalize: 'none', spellcheck: 'false',
+  });
+  const pick = (choice) => {
+    input.value = '';
+    choices.close();
+    onPick(choice);
+  };
+  const choices = choiceList(input, known, pick);
+  // Nothing is in the way before something is typed, or asked for.
+  const draw = (isAsked = false) => {
+    const typed = input.value.trim();
+    const isOpen = typed !== '' || (isAsked && known !== null);
+    const found = isOpen ? choicesFor(typed, all, known !== null, taken) : [];
+    choices.show(found, toldOf(typed, found, known, taken));
+  };
+  const keys = {
+    ArrowDown: () => (choices.isOpen() ? choices.step(1) : draw(true)),
+    ArrowUp: () => choices.step(-1),
+    Enter: () => choices.chosen() && pick(choices.chosen()),
+    Escape: () => choices.close(),
+  };
+  input.addEventListener('input', () => draw());
+  input.addEventListener('focus', () => draw());
+  input.addEventListener('blur', choices.close);
+  input.addEventListener('keydown', (event) => {
+    if (!Object.hasOwn(keys, event.key)) return;
+    keys[event.key]();
+    event.preventDefault();
+  });
+  return element('div', { class: 'picker' }, icon('person'), input, choices.box);
+}
