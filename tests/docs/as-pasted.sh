@@ -179,7 +179,7 @@ holds 'a first password' \
 htpasswd -vb $first bob "$(tail -n 1 "$work/out")" >said 2>&1
 holds 'is kept as one' grep -q correct said
 holds 'and no other one counts' [ "$(grep -c ^bob: passwords)" = 0 ]
-paste_in "$(blocks passwords.md 'user add archive')"
+paste_in "$(blocks people.md 'user add archive')"
 holds "a program's password is printed" [ "$(head -n 1 "$work/out" | wc -c)" = 49 ]
 htpasswd -vb passwords archive "$(head -n 1 "$work/out")" >said 2>&1
 holds 'and counts too' grep -q correct said

@@ -71,7 +71,7 @@ cp /etc/ssl/rooms.pem /etc/letsencrypt/live/rooms.example/fullchain.pem
 cp /etc/ssl/private/rooms.key /etc/letsencrypt/live/rooms.example/privkey.pem
 END
 for name in apache2-bin ldap-utils python3-ldap libapache2-mod-auth-gssapi \
-  libapache2-mod-auth-openidc; do
+  libapache2-mod-auth-openidc rsync openssh-client; do
   stand_in_package "$name" </dev/null || fail 'what is typed' "no stand-in: $(cat said)"
 done
 # Of Apache and of a directory there is just enough that they are asked: install/directory,
@@ -147,8 +147,8 @@ if ! furnish_terminal 2>said; then
 fi
 
 # The blocks of a page, each in a file of its own.
-pages='README docs/operating docs/backup docs/people docs/upgrading docs/several docs/capacity
-  docs/lists docs/in-and-out docs/check docs/messages docs/passwords docs/directory'
+pages='README docs/operating docs/backup docs/people docs/upgrading docs/machines docs/capacity
+  docs/lists docs/in-and-out docs/program docs/messages docs/directory'
 mkdir -p blocks/docs
 for page in $pages; do
   awk -v into="blocks/$page" '
@@ -295,11 +295,14 @@ shows 'after a look' granted
 where=/usr/share/doc/rooms/docs/examples
 edit=s#docs/examples/NAME#intern-writes#
 statuses=1
-types 'an example' docs/check docs/examples
-does 'an input' "sed -n '/^caller: alice/,/^\`\`\`/p' /usr/share/doc/rooms/docs/check.md |
+types 'an example' docs/program docs/examples
+does 'an input' "sed -n '/^caller: alice/,/^\`\`\`/p' /usr/share/doc/rooms/docs/program.md |
   sed '/^\`\`\`/,\$d' >input.txt"
-types 'a list that is judged' docs/check input.txt
+types 'a list that is judged' docs/program input.txt
 shows 'is' granted
+does 'a room of its own' 'rooms init office.rooms alice staff'
+types 'a server at a socket' docs/program 'rooms serve'
+shows 'lists what is there' '[]'
 
 # People.
 types 'many join' docs/people joining.csv
@@ -351,9 +354,9 @@ types 'it goes out' docs/in-and-out 'rooms-admin export'
 does 'as it was' 'cmp "share/ a /b " "out/ a /b "'
 
 # Several rooms.
-types 'a second room' docs/several 'rooms-admin add --title'
+types 'a second room' docs/machines 'rooms-admin add --title'
 does 'a password counts' 'curl -sf -u carol:typed http://127.0.0.1/invoices/me >/dev/null'
-types 'a program' docs/passwords 'openssl rand'
+types 'a program' docs/people 'openssl rand'
 
 # A directory, tickets, sessions.
 # What alice gets with the password of nginx's own file, once nobody remembers anything.
@@ -394,7 +397,17 @@ answers_as 'nothing answers in its place either' 503
 types 'passwords again' docs/directory 'disable --now rooms-session'
 answers_as 'the file counts again' 200
 
-types 'taken away' docs/several 'rooms-admin remove'
+types 'taken away' docs/machines 'rooms-admin remove'
+
+# A second machine that can take over, which is this one.
+types 'a standby' docs/machines 'mkdir -p -m 700' docs/machines 'rsync openssh-client'
+does 'a copy' 'rooms-admin standby office
+  cp -a /var/backups/rooms/office/standby/. /var/backups/rooms/standby
+  systemctl disable --now rooms@office'
+types 'it takes over' docs/machines 'rooms-admin restore /var/backups/rooms/standby'
+asks_as 200 alice GET /folder/letters
+types 'the old machine no more' docs/machines 'now rooms@office rooms-{'
+does 'what was enabled' 'systemctl enable --now rooms@office rooms-nightly@office.timer'
 
 # What is watched, and what is done when something is wrong.
 statuses='[12]'
@@ -465,6 +478,11 @@ for text in './rooms_' 'cp -a /mnt' 'do rooms-admin restore' reload-or-restart m
   'rooms-offsite <<' 'openssl rand' \
   'restore latest' 'mkdir -m 700 /mnt' 'head -n -90' ssh-keygen useradd; do
   block_of docs/backup "$text"
+done >>typed
+# Blocks of several machines: install/machines, install/new-machine and admin/standby paste them.
+for text in 'certificate --machine' 'add --behind' 'add --on' \
+  -mmin 'start "rooms-nightly@' 'now "rooms@$room"'; do
+  block_of docs/machines "$text"
 done >>typed
 find blocks -type f | sort >wanted
 while IFS= read -r block; do

@@ -244,8 +244,8 @@ prints 'nobody gets in' 401
 does 'the page' 'curl -s -u alice:typed http://127.0.0.1/'
 same 'is served' "$work/out" files/usr/share/rooms/page/index.html
 
-# A second room, by the blocks of several.md.
-does 'a second room' "$(block docs/several.md 'invoices carol accounting')"
+# A second room, by the blocks of machines.md.
+does 'a second room' "$(block docs/machines.md 'invoices carol accounting')"
 holds 'it is made' \
   grep -q '^room /var/lib/rooms/invoices.rooms, of carol and accounting$' "$work/out"
 does 'and where it is' 'systemctl is-active rooms@invoices
@@ -301,7 +301,7 @@ does 'timers that somebody enabled' \
   'systemctl enable --now rooms-directory@invoices.timer rooms-standby@invoices.timer
   echo MOST=1 >/etc/rooms/invoices.groups'
 does 'what nginx shows of it' 'ls /var/lib/rooms-web/invoices/people.json'
-does 'it is taken away' "$(block docs/several.md 'rooms-admin remove')"
+does 'it is taken away' "$(block docs/machines.md 'rooms-admin remove')"
 holds 'with what the web interface was told' is_missing "$machine/var/lib/rooms-web/invoices"
 holds 'its file stays' grep -qx 'kept /var/lib/rooms/invoices.rooms' "$work/out"
 holds 'what it takes from a directory too' grep -qx 'kept /etc/rooms/invoices.groups' "$work/out"

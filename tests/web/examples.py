@@ -35,9 +35,6 @@ def shown_text(cell):
 def of_docs(docs):
     texts = []
     for path in sorted(glob.glob(f'{docs}/*.md')):
-        # That page shows texts with faults.
-        if path.endswith('/check.md'):
-            continue
         with open(path, encoding='utf-8') as file:
             texts += blocks(file.read())
     rules = ''

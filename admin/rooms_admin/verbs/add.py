@@ -45,7 +45,7 @@ def look_at_name(name: str) -> None:
         raise Refused(f"bad name: '{name}' isn't 1 to 32 of a-z, 0-9 and '-', with a letter or "
                       "digit at both ends")
     if name == "office":
-        raise Refused("bad name: office is the site's own room, and stays (docs/several.md)")
+        raise Refused("bad name: office is the site's own room, and stays (docs/machines.md)")
     if name in template.TAKEN:
         raise Refused(f"bad name: /{name} belongs to the site itself")
 
