@@ -266,7 +266,7 @@ if [ -n "$backup" ]; then
   mkdir kept
   mv room/office.rooms* kept/
   take moved.1.db room/office.rooms
-  paste_in "$(blocks upgrading.md 'rooms migrate')"
+  paste_in "$(blocks messages.md 'rooms migrate')"
   prints 'a file of schema 1' migrated
   holds 'is served then' [ "$(curl -s -o /dev/null -w '%{http_code}' --unix-socket "$sock" \
     'http://localhost/can/?')" = 200 ]

@@ -454,7 +454,7 @@ does 'a file of schema 1' \
   'systemctl stop rooms@office && mkdir kept && mv /var/lib/rooms/office.rooms* kept'
 take moved.1.db "$machine/var/lib/rooms/office.rooms"
 does 'is the room' 'chown rooms: /var/lib/rooms/office.rooms'
-types 'is upgraded and served' docs/upgrading 'rooms migrate'
+types 'is upgraded and served' docs/messages 'rooms migrate'
 shows 'and so on' migrated
 does 'the room of before' \
   'systemctl stop rooms@office; rm /var/lib/rooms/office.rooms*; mv kept/* /var/lib/rooms'
