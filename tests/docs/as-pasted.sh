@@ -356,7 +356,7 @@ for awk in mawk gawk original-awk; do
   printf '%s\n' "/,folder,alice,$ALL,no" '"/a ""b""\n, c ",folder,OFFICE\nbob,C,yes' >wanted
   same "who can have changed it, by $awk" got wanted
   for name in 0815 'OFFICE\nbob'; do
-    paste_in "$(named "$(blocks capacity.md records.csv)" bob "$name")"
+    paste_in "$(named "$(blocks personal.md records.csv)" bob "$name")"
     grep '^1000,' "$work/out" >got
     echo "1000,$name,/x,r,no,1,audit" >wanted
     same "records of $name, by $awk" got wanted

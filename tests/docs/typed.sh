@@ -148,7 +148,7 @@ fi
 
 # The blocks of a page, each in a file of its own.
 pages='README docs/operating docs/backup docs/people docs/upgrading docs/machines docs/capacity
-  docs/lists docs/in-and-out docs/program docs/messages docs/directory'
+  docs/lists docs/in-and-out docs/personal docs/program docs/messages docs/directory'
 mkdir -p blocks/docs
 for page in $pages; do
   awk -v into="blocks/$page" '
@@ -417,9 +417,9 @@ types 'how much memory it has' docs/capacity MemoryCurrent
 statuses=1
 types 'how full it is' docs/capacity 'restart rooms-full@office'
 shows 'is said' '0 MB of 384 are in use'
-types 'who was here' docs/capacity records.csv
+types 'who was here' docs/personal records.csv
 statuses=1
-types 'by the log too' docs/capacity 'zgrep'
+types 'by the log too' docs/personal 'zgrep'
 types 'old records' docs/capacity 'DELETE FROM audits'
 shows 'the room stays sound' sound
 types 'which cause it is' docs/messages '=rooms-admin doctor /var/lib/rooms/office.rooms'
