@@ -92,8 +92,10 @@ ask 'what carol finds in it' 200 \
   carol:c '/door/find/f?PLAN'
 unread='[{"count":1,"in":"/f","kind":"document"}]'
 ask 'what she sees of it' 200 \
-  "{\"at\":\"/f\",\"objects\":[],\"rest\":[],\"unlisted\":[],\"unread\":$unread}" \
+  "{\"at\":\"/f\",\"list\":null,\"objects\":[],\"rest\":[],\"unlisted\":[],\"unread\":$unread}" \
   carol:c /door/below/f
+ask 'what she can not open' 200 '{"at":"/f","closed":["plan"]}' carol:c /door/closed/f
+ask 'what alice can' 200 '{"at":"/f","closed":[]}' alice:a /door/closed/f
 curl -s -u carol:c "$base/door/zip/f" >f.zip
 python3 -c 'import sys, zipfile
 whole = zipfile.ZipFile("f.zip")
@@ -115,7 +117,7 @@ ask 'records of what is denied' 204 '' root:r /sacl/f -X PUT --data-binary "list
 U:fdF:EVERYONE@:rwct
 "
 ask 'a folder that is closed to her' 201 '' root:r /folder/f/board -X POST
-for way in below/f 'find/?x' zip/f; do ask "carol: $way" 200 - carol:c "/door/$way"; done
+for way in below/f closed/f 'find/?x' zip/f; do ask "carol: $way" 200 - carol:c "/door/$way"; done
 copies
 "$rooms" audit F.copy >records
 holds 'nothing is recorded of carol' [ "$(grep -c ,carol, records)" = 0 ]

@@ -10,7 +10,7 @@ from unittest import mock
 
 from over import Local, Over
 from rooms_services.door.ask import room, turns
-from rooms_services.door.folders import archive, below, find, walk
+from rooms_services.door.folders import archive, below, walk
 from rooms_services.door.ask.answers import Stop
 from rooms_services.door.folders.holders import holders
 from rooms_services.door.ask.paths import names_in
@@ -31,7 +31,7 @@ class Below(Over):
     def test_all_follows(self) -> None:
         self.room.owners["f", "b"] = "bob"
         self.assertEqual(self.told("/door/below/f"), (200, {
-            "at": "/f", "objects": [], "unlisted": [], "unread": [], "rest": [
+            "at": "/f", "list": OPEN, "objects": [], "unlisted": [], "unread": [], "rest": [
                 {"below": "/f", "kind": "document", "depth": 1, "owner": "alice",
                  "group": "staff", "count": 1},
                 {"below": "/f", "kind": "document", "depth": 1, "owner": "bob",
@@ -77,16 +77,42 @@ class Below(Over):
                              ("alice", "/f/g", "x"), ("alice", "/f/g/h", "r")}
         _, told = self.told("/door/below/f")
         assert isinstance(told, dict)
-        self.assertEqual(told["unlisted"], ["/f/g/h"])
+        self.assertEqual((told["list"], told["unlisted"]), (OPEN, ["/f/g/h"]))
         self.assertEqual(told["unread"], [
             {"in": "/f", "kind": "document", "count": 1},
-            {"in": "/f/g", "kind": "document", "count": 1},
-            {"in": "/f/g", "kind": "folder", "count": 1}])
+            {"in": "/f/g", "kind": "document", "count": 1}])
+        # What is in a folder can't be told apart from what follows, unless the folder is named.
+        self.assertEqual(told["objects"][-1], {
+            "group": None, "kind": "folder", "list": None, "owner": None, "path": "/f/g/h"})
         self.assertIn({"below": "/f", "kind": "document", "depth": 1, "owner": None,
                        "group": None, "count": 1}, told["rest"])
         # Nothing was asked that is denied: it would be a record of somebody's attempt.
         self.assertEqual([line for line in self.room.seen if "/f/g/" in line
                           or line == "alice GET /dacl/f/a" or line == "alice GET /attr/f/b"], [])
+
+    def test_what_is_told_apart(self) -> None:
+        """A folder whose list says something to its owner, and the way to what is named."""
+        for who, wanted in (("OWNER@", ["/f/g", "/f/g/h"]), ("GROUP@", ["/f/g", "/f/g/h"]),
+                            ("bob", [])):
+            self.room.lists = {("f",): f"list:a\nA:fd:{who}:rwx\n"} | {
+                path: f"list:a\nA:I:{who}:rwx\n" for path in self.room.objects if len(path) > 1}
+            self.assertEqual(self._objects(), wanted, who)
+        self.room.lists["f", "g"] = "list:a\nA:fiI:OWNER@:d\n"
+        self.assertEqual(self._objects(), [])
+        for rest, wanted in (("g/h/d", ["/f/g", "/f/g/h", "/f/g/h/d"]), ("a", ["/f/a"]),
+                             ("none/x", []), ("", [])):
+            status, told = self.told(f"/door/below/f?{rest}")
+            assert status == 200 and isinstance(told, dict)
+            self.assertEqual([one["path"] for one in told["objects"]], wanted)
+        self.assertEqual(self.told("/door/below/f?a//b"), (400, {"why": "bad-target P1"}))
+
+    def test_a_list_that_may_not_be_read(self) -> None:
+        self.room.denied.add(("alice", "/f", "c"))
+        _, told = self.told("/door/below/f")
+        assert isinstance(told, dict)
+        self.assertEqual(told["list"], None)
+        # So it isn't known what follows it.
+        self.assertEqual([one["path"] for one in told["objects"]], ["/f/a", "/f/b", "/f/g"])
 
     def test_as_the_room_says(self) -> None:
         self.room.denied.add(("bob", "/f", "r"))
@@ -101,48 +127,6 @@ class Below(Over):
         self.told("/door/below/f")
         self.assertLessEqual(max(self.room.connections), 64)
         self.assertLess(len(self.room.connections), 40)
-
-
-class Find(Over):
-    def setUp(self) -> None:
-        super().setUp()
-        self.room.make(f=None, f__g=None)
-        for name in ("Brief Müller.odt", "brief", "Rechnung"):
-            self.room.objects["f", "g", name] = b""
-
-    def _found(self, query: str, at: str = "") -> object:
-        status, told = self.told(f"/door/find/{at}?{query}")
-        assert status == 200 and isinstance(told, dict)
-        return [one["path"] for one in told["found"]]
-
-    def test_names(self) -> None:
-        self.assertEqual(self._found("BRIEF"), ["/f/g/Brief Müller.odt", "/f/g/brief"])
-        # ü as one letter, and as u with its two points.
-        for text in ("m%C3%BCller", "MU%CC%88LLER"):
-            self.assertEqual(self._found(text), ["/f/g/Brief Müller.odt"])
-        self.assertEqual(self._found("g", "f/g"), ["/f/g/Rechnung"])
-        self.assertEqual(self._found("%20"), ["/f/g/Brief Müller.odt"])
-        self.assertEqual(self.told("/door/find/?g%25"), (200, {
-            "all": True, "at": "/", "found": [], "unlisted": []}))
-
-    def test_as_far_as_one_may_see(self) -> None:
-        self.room.denied.add(("bob", "/f/g", "r"))
-        self.assertEqual(self.told("/door/find/?brief", "bob"), (200, {
-            "all": True, "at": "/", "found": [], "unlisted": ["/f/g"]}))
-        self.assertNotIn("bob GET /folder/f/g", self.room.seen)
-
-    def test_too_many(self) -> None:
-        for number in range(1001):
-            self.room.objects["f", f"many{number}"] = b""
-        _, told = self.told("/door/find/?many")
-        assert isinstance(told, dict)
-        self.assertEqual((told["all"], len(told["found"])), (False, find.MOST_FOUND))
-
-    def test_texts(self) -> None:
-        for query in ("", "%00", "%0A", "%FF", "x" * 256):
-            self.assertEqual(self.told(f"/door/find/?{query}"), (400, {"why": "bad-query"}))
-        self.assertEqual(self.told("/door/find/"), (400, {"why": "bad-query"}))
-        self.assertEqual(self.told("/door/below/f?x"), (400, {"why": "bad-query"}))
 
 
 class Zip(Over):

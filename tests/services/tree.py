@@ -17,7 +17,8 @@ from urllib.parse import quote
 ALL = "rwanNxDtThHdcCoy"
 LISTS = (f"list:a\nA:fd:root:{ALL}\nA::bob:r\n", f"list:ap\nA:fd:root:{ALL}\n",
          f"list:\nA:fd:root:{ALL}\n", f"list:p\nA:fd:root:{ALL}\nA:fdI:carol:rx\n",
-         f"list:ap\nA:fd:root:{ALL}\nD:fn:eve:r\n")
+         f"list:ap\nA:fd:root:{ALL}\nD:fn:eve:r\n",
+         f"list:a\nA:fd:root:{ALL}\nA:fi:OWNER@:d\nA:d:GROUP@:r\n")
 
 
 class Talk:
@@ -114,8 +115,11 @@ def _objects(dump: str) -> dict[str, Object]:
 
 def _follows(one: Object, above: Object) -> bool:
     flags = one.list[0].removeprefix("list:")
-    is_own = any("I" not in entry.split(":")[1] for entry in one.list[1:])
-    return not (is_own or "p" in flags or one.kind == "folder" and "a" not in flags) \
+    entries = [entry.split(":") for entry in one.list[1:]]
+    is_own = any("I" not in entry[1] for entry in entries)
+    says_owner = any("i" not in entry[1] and entry[2] in ("OWNER@", "GROUP@") for entry in entries)
+    is_apart = one.kind == "folder" and ("a" not in flags or says_owner)
+    return not (is_own or "p" in flags or is_apart) \
         and "a" in above.list[0].removeprefix("list:")
 
 
@@ -135,7 +139,8 @@ def judge(dump: str, top: str) -> dict[str, object]:
             near[path] = path, 0
             told.append({"path": path, "list": "\n".join([*one.list, ""]), "kind": one.kind,
                          "owner": one.owner, "group": one.group})
-    return {"at": top, "objects": told, "unlisted": [], "unread": [], "rest": [
+    return {"at": top, "list": "\n".join([*objects[top].list, ""]), "objects": told,
+            "unlisted": [], "unread": [], "rest": [
         dict(zip(("below", "kind", "depth", "owner", "group"), key), count=count)
         for key, count in rest.items()]}
 

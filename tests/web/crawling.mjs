@@ -1,12 +1,12 @@
 // What web/net/crawl.js keeps of what lies further down, when a list was changed since it looked:
-// node crawling.mjs PAGE ROOMS
-// Each of ROOMS rooms is that of model.mjs. Nothing is asked for twice, and all lists are as the
-// room then has them. The last line is 'ROOMS tried, N faults'.
+// node crawling.mjs PAGE ROOMS [door]
+// Each of ROOMS rooms is that of model.mjs, with a door or without one. Nothing is asked for twice,
+// and all lists are as the room then has them. The last line is 'ROOMS tried, N faults'.
 import { resolve } from 'node:path';
 import { pathToFileURL } from 'node:url';
-import { Model } from './model.mjs';
+import { Model, doorBelow } from './model.mjs';
 
-const [page, rooms] = process.argv.slice(2);
+const [page, rooms, hasDoor] = process.argv.slice(2);
 const module = (name) => import(`${pathToFileURL(resolve(page)).href}/${name}`);
 const [{ Looking }, lists] = await Promise.all(['crawl.js', 'entries.js'].map(module));
 
@@ -35,9 +35,15 @@ function treeAtRandom() {
 
 let [model, asked] = [null, 0];
 const textOf = ({ auto, protect, full }) => lists.printList({ auto, protect, entries: full });
+const NO_DOOR = () => new Response('<html>', { status: 404 });
 globalThis.fetch = async (target) => {
   asked += 1;
-  const [, word, rest] = /^(\w+)(\/.*)$/.exec(decodeURIComponent(target));
+  const [, word, rest] = /^(door\/\w+|\w+)(\/.*)$/.exec(decodeURIComponent(target));
+  if (word === 'door/below' && hasDoor) {
+    const [top, apart = ''] = rest.split('?');
+    return Response.json(doorBelow(model, top, apart, textOf));
+  }
+  if (word.startsWith('door/')) return NO_DOOR();
   const one = model.objects.get(rest);
   if (word === 'dacl') return new Response(textOf(one));
   if (word === 'attr') return Response.json({ owner: one.owner, group: one.group });
@@ -54,21 +60,41 @@ const lookedBelow = async (looking, path) => {
 };
 
 const faults = [];
+// What has no name stands for several, of which all have the list that it has.
+const alike = (path) => {
+  const [folder] = path.split(/\/?\u0000/);
+  const names = [...model.objects.keys()].filter((one) => one.startsWith(`${folder}/`));
+  const lines = (one) => textOf(one).split('\n').slice(1).join('\n');
+  return names.map((one) => lines(model.objects.get(one)));
+};
 const compare = (what, { nodes, all }) => {
   if (!all) faults.push(`${what}: not all was seen`);
   for (const { path, list } of nodes) {
-    const [mine, is] = [lists.printList(list), textOf(model.objects.get(path))];
+    const mine = lists.printList(list);
+    if (path.includes('\u0000')) {
+      const lines = mine.split('\n').slice(1).join('\n');
+      if (!alike(path).includes(lines)) faults.push(`${what}: nothing at ${path} has\n${mine}`);
+      continue;
+    }
+    const is = textOf(model.objects.get(path));
     if (mine !== is) faults.push(`${what}: ${path} has\n${is}not\n${mine}`);
   }
+  const seen = nodes.reduce((sum, { count = 1 }) => sum + count, 0);
+  const are = [...model.objects.keys()].filter((path) => path.startsWith('/r/')).length;
+  if (seen !== are) faults.push(`${what}: ${seen} of ${are} objects`);
 };
+
+// The panel sends lists at the object that it is about, above it, and where something differs.
+const changeable = () => [...model.objects.values()].filter(({ path, own, protect, auto }) =>
+  path !== '/' && (!hasDoor || path === '/r' || own.length > 0 || protect || !auto));
 
 for (let number = 0; number < Number(rooms); number += 1) {
   model = treeAtRandom();
-  const looking = new Looking();
+  const looking = new Looking('/r');
   compare('at first', await lookedBelow(looking, '/r'));
   const first = asked;
   for (let turn = 0; turn < 3; turn += 1) {
-    const one = pick([...model.objects.values()].filter(({ path }) => path !== '/'));
+    const one = pick(changeable());
     model.set(one.path, { auto: one.auto, protect: one.protect,
       entries: [...ownOf(one.kind), ...one.protect || one.grey.length === 0 ? [] : one.grey] });
     const now = model.objects.get(one.path);

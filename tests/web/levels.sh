@@ -29,8 +29,11 @@ node_says 'what is granted, where something is not known' '0 told' "$here/web/no
   "$here/web/deciding.js" page "$here/../docs/lists.md" 20000
 node_says 'what the panel says of one click, in rooms at random' '20000 tried, 0 faults' \
   "$here/web/unsaid.mjs" page 20000
+node_says 'the same by what a door says of it' '5000 tried, 0 faults' \
+  "$here/web/unsaid.mjs" page 5000 7 door
 node_says 'what was seen further down, after changes' '300 tried, 0 faults' \
   "$here/web/crawling.mjs" page 300
+node_says 'the same, seen by a door' '300 tried, 0 faults' "$here/web/crawling.mjs" page 300 door
 # More than 100,000 answers of the program.
 node_says 'rights, removals and lists, as the program has them' '0 differ' \
   "$here/web/compared.mjs" page "$rooms" "$PWD/compared" 6

@@ -105,3 +105,34 @@ export class Model {
     removes: this.removes(one, folder, caller) };
   }
 }
+
+// What docs/door.md says that /door/below/TOP?REST answers to somebody who may see all.
+export function doorBelow(model, top, rest, textOf) {
+  const isIn = (path, folder) => folder === '/' || path.startsWith(`${folder}/`);
+  const names = rest === '' ? [] : rest.split('/');
+  const apart = names.map((_, at) =>
+    `${top === '/' ? '' : top}/${names.slice(0, at + 1).join('/')}`);
+  const saysOwner = ({ full }) => full.some(({ who, flags }) =>
+    ['OWNER@', 'GROUP@'].includes(who) && !flags.includes('i'));
+  const near = new Map([[top, [top, 0]]]);
+  const [objects, rows] = [[], new Map()];
+  for (const one of model.objects.values()) {
+    const { path, kind, owner, group } = one;
+    if (path === top || !isIn(path, top)) continue;
+    const folder = above(path);
+    const follows = one.own.length === 0 && !one.protect && !apart.includes(path)
+      && (kind === 'document' || (one.auto && !saysOwner(one))) && model.objects.get(folder).auto;
+    if (follows) {
+      const [below, depth] = near.get(folder);
+      near.set(path, [below, Math.min(depth + 1, 2)]);
+      const row = { below, kind, depth: near.get(path)[1], owner, group };
+      const key = JSON.stringify(row);
+      rows.set(key, { ...row, count: (rows.get(key)?.count ?? 0) + 1 });
+    } else {
+      near.set(path, [path, 0]);
+      objects.push({ path, kind, owner, group, list: textOf(one) });
+    }
+  }
+  return { at: top, list: textOf(model.objects.get(top)), objects, rest: [...rows.values()],
+    unlisted: [], unread: [] };
+}

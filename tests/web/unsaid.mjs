@@ -1,16 +1,16 @@
 // What the panel of access says of one click, against what comes of it in a room at random:
-// node unsaid.mjs PAGE TREES
-// The room is the one of model.mjs. Whoever gains or loses something has to be named, with words
+// node unsaid.mjs PAGE TREES [SEED [door]]
+// The room is the one of model.mjs; with 'door', what lies further down is what a door says of it. Whoever gains or loses something has to be named, with words
 // that say as much as the right, and nothing may be said that isn't so. The last line is 'TREES
 // tried, N faults'; the status is 1 if there are any.
 import { resolve } from 'node:path';
 import { pathToFileURL } from 'node:url';
-import { Model } from './model.mjs';
+import { Model, doorBelow } from './model.mjs';
 
-const [page, trees, from] = process.argv.slice(2);
+const [page, trees, from, isByDoor] = process.argv.slice(2);
 const module = (name) => import(`${pathToFileURL(resolve(page)).href}/${name}`);
-const [lists, levels, consequences, words] = await Promise.all(
-  ['entries.js', 'levels.js', 'consequences.js', 'access_words.js'].map(module));
+const [lists, levels, consequences, words, { seenBelow }] = await Promise.all(
+  ['entries.js', 'levels.js', 'consequences.js', 'access_words.js', 'seen_below.js'].map(module));
 
 // Alice may change each list.
 globalThis.fetch = async () => new Response('{"C":"allowed 1"}');
@@ -82,14 +82,23 @@ function treeAtRandom() {
 const listOf = ({ auto, protect, full }) => ({ auto, protect, entries: full });
 const objectOf = ({ owner, group }) => ({ owner, group });
 
+// As crawl.js asks for what is above the object that the panel is about.
+const restOf = (path, at) => (at !== path && at.startsWith(path === '/' ? '/' : `${path}/`)
+  ? at.slice(path === '/' ? 1 : path.length + 1) : '');
+const fromTop = (one, other) => Number(other.kind === 'folder') - Number(one.kind === 'folder')
+  || one.path.split('/').length - other.path.split('/').length;
+
 function stateOf(model, one, known) {
   const names = one.path === '/' ? [] : one.path.split('/').slice(1);
   const folders = names.map((_, at) => model.objects.get(`/${names.slice(0, at).join('/')}`));
   const nodeOf = (each) => ({ path: each.path, kind: each.kind, list: listOf(each),
     object: objectOf(each) });
-  const below = (path) => ({ unread: [], all: true, nodes: [...model.objects.values()]
+  const seen = (path) => [...model.objects.values()]
     .filter((each) => each.path !== '/' && (path === '/' || each.path.startsWith(`${path}/`)))
-    .map(nodeOf) });
+    .map(nodeOf);
+  const told = (path) => seenBelow(doorBelow(model, path, restOf(path, one.path),
+    (each) => lists.printList(listOf(each)))).nodes.sort(fromTop);
+  const below = (path) => ({ unread: [], all: true, nodes: (isByDoor ? told : seen)(path) });
   const list = listOf(one);
   return { path: one.path, kind: one.kind, list, text: lists.printList(list), object: objectOf(one),
     me: 'alice', known, looking: { below, isBusy: false }, changeable: new Map(),

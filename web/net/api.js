@@ -37,7 +37,7 @@ export function nameOf(path) {
   return path.slice(path.lastIndexOf('/') + 1);
 }
 
-function jsonOrNull(text) {
+export function jsonOrNull(text) {
   try {
     return JSON.parse(text);
   } catch {

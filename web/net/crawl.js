@@ -1,7 +1,10 @@
-// Looks at what lies below folders, as far as it may be read: some requests at a time, and only
-// while somebody waits for it. It can be stopped and gone on with. Nothing here draws the page.
+// Looks at what lies below folders, as far as it may be read: by one request to the door, or where
+// there is none some at a time, and only while somebody waits for it. It can be stopped and gone on
+// with. Nothing here draws the page.
 
 import * as api from './api.js';
+import { differsBelow } from './door.js';
+import { seenBelow } from './seen_below.js';
 import { readListText } from '../acl/entries.js';
 import { afterMoving } from '../acl/inherit.js';
 
@@ -43,8 +46,15 @@ const fromTop = (one, other) => Number(isFolder(other)) - Number(isFolder(one))
 // What was seen is good for so long.
 const OLD = 5 * 60 * 1000;
 
+// Of two looks that meet, what each couldn't see is told once.
+export const together = (...those) => [...new Map(those.flat()
+  .map((one) => [`${one.path} ${one.count}`, one])).values()];
+
 export class Looking {
-  constructor() {
+  // 'at' is the object that this is about. Where a folder above it is looked below, it has to be
+  // told of by itself.
+  constructor(at = '/') {
+    this.at = at;
     // What says whether somebody still waits for it.
     this.followers = new Set();
     this.resting = new Set();
@@ -59,7 +69,6 @@ export class Looking {
     this.folders = [];
     this.documents = [];
     this.asked = new Map();
-    this.seen = new Map();
     this.known = new Set();
     this.looked = new Set();
     // Why it rests before all was looked at: 'stopped' or 'failed'.
@@ -71,13 +80,16 @@ export class Looking {
 
   // An object has this list now, and what follows it has another one too, as far as it was seen.
   changed(path, list) {
-    const lists = new Map([[path, list]]);
-    if (this.seen.has(path)) this.seen.get(path).list = list;
-    for (const node of [...this.seen.values()].sort(fromTop)) {
-      const above = lists.get(api.parentOf(node.path));
-      if (above === undefined || node.path === path || node.list === null) continue;
-      node.list = { ...node.list, entries: afterMoving(node.list, above, node.kind) };
-      if (isFolder(node)) lists.set(node.path, node.list);
+    for (const { nodes } of this.walks.values()) {
+      const lists = new Map([[path, list]]);
+      for (const node of [...nodes].sort(fromTop)) {
+        const above = lists.get(api.parentOf(node.path));
+        if (node.path === path) node.list = list;
+        else if (above !== undefined && node.list !== null) {
+          node.list = { ...node.list, entries: afterMoving(node.list, above, node.kind) };
+          if (isFolder(node)) lists.set(node.path, node.list);
+        }
+      }
     }
   }
 
@@ -85,18 +97,19 @@ export class Looking {
     return this.ended === null && this.folders.length + this.documents.length + this.running > 0;
   }
 
-  // What was seen below a folder: {nodes: [{path, kind, list, object}], unread: [path], all}, from
-  // the top down. A list is null where it can't be read. 'unread' are the folders whose contents
-  // can't be listed and the objects whose lists can't be read; 'all' is false until all of it was
-  // looked at, which begins by this.
+  // What was seen below a folder: {nodes: [{path, kind, list, object, count}], unread: [{path,
+  // count}], all}, from the top down. A list is null where it can't be read, and what has a 'count'
+  // may stand for so many. 'unread' are the folders whose contents can't be listed and the objects
+  // whose lists can't be read; 'all' is false until all of it was looked at, which begins by this.
   below(path) {
     if (!this.walks.has(path)) {
-      const walk = { nodes: [], unread: new Set(), left: 0 };
+      const walk = { nodes: [], unread: [], left: 0 };
       this.walks.set(path, walk);
       this.add(walk, { path, kind: 'folder', isTop: true });
     }
     const { nodes, unread, left } = this.walks.get(path);
-    return { nodes: [...nodes].sort(fromTop), unread: [...unread].sort(), all: left === 0 };
+    return { nodes: [...nodes].sort(fromTop), all: left === 0,
+      unread: together(unread).sort((one, other) => (one.path < other.path ? -1 : 1)) };
   }
 
   add(walk, one) {
@@ -111,17 +124,26 @@ export class Looking {
     return this.asked.get(key);
   }
 
+  // All at once, if there is a door. Returns whether there is.
+  async takeWhole(walk, path) {
+    const told = await this.once(`below ${path}`, () => differsBelow(path, this.at));
+    if (told === null) return false;
+    const { nodes, unread } = seenBelow(told);
+    walk.nodes.push(...nodes);
+    walk.unread.push(...unread);
+    walk.left -= 1;
+    return true;
+  }
+
   async take({ walk, path, kind, isTop }) {
+    if (isTop && await this.takeWhole(walk, path)) return;
     const node = isTop ? null : await this.once(`list ${path}`, () => nodeAt(path, kind));
     const inside = kind === 'folder' && node !== undefined
       ? await this.once(`inside ${path}`, () => insideOf(path)) : [];
-    if (node) {
-      walk.nodes.push(node);
-      this.seen.set(path, node);
-    }
+    if (node) walk.nodes.push(node);
     if (node === undefined) this.known.delete(path);
     else if (!isTop) this.looked.add(path);
-    if (node?.list === null || inside === null) walk.unread.add(path);
+    if (node?.list === null || inside === null) walk.unread.push({ path, count: 0 });
     for (const one of inside ?? []) this.add(walk, one);
     walk.left -= 1;
   }

@@ -7,6 +7,7 @@ import { insideWords } from '../text/removers.js';
 import { lossWords } from '../text/warnings.js';
 import { capital, counted, isolated, listed, small } from '../text/words.js';
 import { some } from '../ui/names.js';
+import { unreadNames } from './unread.js';
 
 export const MOST_NAMED = 6;
 const MOST_PLACES = 6;
@@ -148,7 +149,8 @@ export function hintsOf({ known }, outcome) {
     changes.length > 0 && apart.length > 0 && `Set to “Only these people”, and left as ${are}: ${
       names(apart.map(({ path }) => path))}.`,
     unread.length > 0
-      && `You may not see who has access to ${names(unread)}: what happens there isn’t known.`,
+      && `You may not see who has access to ${
+        unreadNames(unread, FEW)}: what happens there isn’t known.`,
   ].filter(Boolean);
 }
 

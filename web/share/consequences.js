@@ -5,6 +5,7 @@ import { grantsNobody, isGranted } from '../acl/decide.js';
 import { isGroup } from '../acl/entries.js';
 import { afterSending } from '../acl/inherit.js';
 import { isOwn } from '../acl/levels.js';
+import { together } from '../net/crawl.js';
 import { removalOf } from '../text/removers.js';
 import { lossOf } from '../text/warnings.js';
 import { furtherLines, leftovers, openings, waysAfter } from './passage.js';
@@ -144,7 +145,7 @@ export async function outcomeOf(state, next, subject = null) {
     removal: await removalOf(kind, { path, entries: list.entries, object },
       { path, entries: after.entries, object, protect: next.protect }, () => protectedIn(found)),
     ...linesIn(list, after, kind), lock: lockOf(state, after, callers, tops),
-    isAll: found.all && opened.all, unread: [...new Set([...found.unread, ...opened.unread])],
+    isAll: found.all && opened.all, unread: together(found.unread, opened.unread),
   };
 }
 

@@ -22,6 +22,7 @@ import { people } from '../net/directory.js';
 import { lookingLine } from '../ui/progress.js';
 import { placeName, shownName } from './access_words.js';
 import { wayTo } from './passage.js';
+import { unreadNames } from './unread.js';
 import { some } from '../ui/names.js';
 import { isolated, sentenceOf } from '../text/words.js';
 
@@ -44,7 +45,7 @@ const MOST_NAMED = 6;
 const FIELD = '.picker input';
 
 // What was seen further down is kept as long as the panel is shown, and follows what is changed.
-const newSurroundings = () => ({ looking: new Looking(), texts: new Map() });
+const newSurroundings = (path) => ({ looking: new Looking(path), texts: new Map() });
 
 function follow({ looking, texts }, lists) {
   if (looking.isOld) looking.forget();
@@ -146,8 +147,7 @@ function exceptionsSeen(state) {
   const { nodes, unread, all } = belowOf(state);
   const found = nodes.filter(isException);
   const hints = [
-    unread.length > 0 ? `You may not see who has access to ${
-      some(unread.map((path) => `“${isolated(path)}”`), 3)}.` : null,
+    unread.length > 0 ? `You may not see who has access to ${unreadNames(unread, 3)}.` : null,
     all ? FOLLOWS[found.length + unread.length > 0 ? 'rest' : 'all'] : null,
   ].filter(Boolean);
   return element('div', {}, element('ul', {}, found.map(placeLink)),
@@ -212,7 +212,7 @@ async function unseen(path, kind) {
 
 // Shows who has access in 'box', as long as 'isCurrent()'.
 export async function showAccess(path, kind, box, isCurrent) {
-  const surroundings = newSurroundings();
+  const surroundings = newSurroundings(path);
   // What is changed at 'place' has the focus afterwards, or else the field for a name. 'pick' is
   // what was chosen there and wasn't sent.
   const again = async (place = null, pick = null) => {

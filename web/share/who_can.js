@@ -246,6 +246,9 @@ export function keptBelow(states, callers, tops) {
     kept: callers.flatMap((each) => at(state, each)) })).filter(({ kept }) => kept.length > 0);
 }
 
+// One that was seen may stand for several that are alike.
+const amountOf = (states) => states.reduce((sum, { count = 1 }) => sum + count, 0);
+
 // Those who may then remove what they own in what only follows its folder, and couldn't get there
 // before: [{..caller, count}].
 export function removingOwn(states, callers) {
@@ -257,7 +260,8 @@ export function removingOwn(states, callers) {
   const owned = (caller) => states.filter((state) => !isException(state)
     && state.object.owner === caller.user && has(state, caller) && !had(state, caller));
   return callers.filter(({ user }) => user !== null)
-    .map((caller) => ({ ...caller, count: owned(caller).length })).filter(({ count }) => count > 0);
+    .map((caller) => ({ ...caller, count: amountOf(owned(caller)) }))
+    .filter(({ count }) => count > 0);
 }
 
 // Whether a caller can do more at this place than pass through it.

@@ -5,7 +5,11 @@ import { button, element } from './dom.js';
 const shown = (count) => count.toLocaleString('en');
 const amounts = ({ looked, known }) => [looked.size, known.size].map(shown);
 
+// The door answers all at once.
+const BUSY = 'Looking at what is further down.';
+
 function busyWords(looking) {
+  if (looking.known.size === 0) return BUSY;
   const [looked, known] = amounts(looking);
   return `Looking at what is further down: ${looked} of ${known} so far.`;
 }

@@ -5,6 +5,7 @@ from dataclasses import dataclass
 from .ask.answers import Answer, Stop
 from .folders.archive import archive
 from .folders.below import below
+from .folders.closed import closed
 from .folders.find import find
 from .folders.matched import condition_of, read, replace
 from .ask.paths import Names, names_in
@@ -12,7 +13,7 @@ from .ask.room import Room
 
 PREFIX = "/door/"
 # What may take long, each with its kind.
-LONG_ROUTES = {"below": "walk", "find": "walk", "zip": "zip"}
+LONG_ROUTES = {"below": "walk", "closed": "walk", "find": "walk", "zip": "zip"}
 
 
 @dataclass(frozen=True)
@@ -33,7 +34,11 @@ Route = Callable[[Asked], Answer]
 
 
 def _below(asked: Asked) -> Answer:
-    return below(asked.room, asked.user, asked.names)
+    return below(asked.room, asked.user, asked.names, names_in(asked.query))
+
+
+def _closed(asked: Asked) -> Answer:
+    return closed(asked.room, asked.user, asked.names)
 
 
 def _find(asked: Asked) -> Answer:
@@ -55,7 +60,8 @@ def _replace(asked: Asked) -> Answer:
 
 _MATCHED: dict[str, Route] = {"GET": _read, "PUT": _replace}
 ROUTES: dict[str, dict[str, Route]] = {
-    "below": {"GET": _below}, "find": {"GET": _find}, "zip": {"GET": _zip},
+    "below": {"GET": _below}, "closed": {"GET": _closed}, "find": {"GET": _find},
+    "zip": {"GET": _zip},
     "doc": _MATCHED, "dacl": _MATCHED, "sacl": _MATCHED}
 
 
@@ -67,7 +73,7 @@ def place_of(target: str) -> tuple[str, str, str]:
     route, slash, rest = whole[len(PREFIX):].partition("/")
     if route not in ROUTES or not slash:
         raise Stop(404, "no-route")
-    if mark and route != "find":
+    if mark and route not in ("below", "find"):
         raise Stop(400, "bad-query", "no query may stand here")
     return route, rest, query
 

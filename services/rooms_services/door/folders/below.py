@@ -2,17 +2,29 @@
 the rest are, as far as the caller may see."""
 import json
 from collections import Counter
+from typing import NamedTuple
 
 from ..ask.answers import Answer, told
-from ..ask.paths import Names
+from ..ask.paths import Names, shown
 from ..ask.room import Reply, Room, too_many
 from .walk import Node, Walk, too_late, top_of
 
 Rest = tuple[str, str, int, str | None, str | None]
+_OWNERS = ("OWNER@", "GROUP@")
 
 
 # Of different lists.
 MOST_BYTES = 16_777_216
+
+
+class _Said(NamedTuple):
+    """Of a list: its text, once for all; whether it is protected or has an entry of its own;
+    whether what is below it follows it; and whether it says something of its own object's owner or
+    group."""
+    text: bytes
+    is_own: bool
+    passes: bool
+    names_owners: bool
 
 
 class _Texts:
@@ -20,26 +32,27 @@ class _Texts:
 
     def __init__(self) -> None:
         self._size = 0
-        self._known: dict[bytes, tuple[bytes, bool, bool]] = {}
+        self._known: dict[bytes, _Said] = {}
 
-    def of(self, text: bytes) -> tuple[bytes, bool, bool]:
-        """The text, once for all; whether it is protected or has an entry of its own; whether what
-        is below it follows it."""
+    def of(self, text: bytes) -> _Said:
         known = self._known.get(text)
         if known is None:
             self._size += len(text)
             if self._size > MOST_BYTES:
                 raise too_many()
-            head, *entries = text.decode().splitlines()
+            head, *lines = text.decode().splitlines()
             flags = head.removeprefix("list:")
-            own = any("I" not in entry.split(":", 2)[1] for entry in entries)
-            known = self._known[text] = text, "p" in flags or own, "a" in flags
+            entries = [line.split(":", 3) for line in lines]
+            known = self._known[text] = _Said(
+                text, "p" in flags or any("I" not in entry[1] for entry in entries), "a" in flags,
+                any(entry[2] in _OWNERS and "i" not in entry[1] for entry in entries))
         return known
 
 
 class Below:
-    def __init__(self, room: Room, user: str) -> None:
+    def __init__(self, room: Room, user: str, apart: frozenset[str]) -> None:
         self.walk = Walk(room, user)
+        self.apart = apart
         self.nodes: list[Node] = []
         self.unlisted: list[str] = []
         self.texts = _Texts()
@@ -81,7 +94,7 @@ class Below:
 
     def _list(self, node: Node, reply: Reply) -> None:
         if reply.status == 200:
-            node.list = self.texts.of(reply.body)[0]
+            node.list = self.texts.of(reply.body).text
 
     def _owner(self, node: Node, reply: Reply) -> None:
         if reply.status != 200:
@@ -100,12 +113,14 @@ class Below:
             self._object(child)
 
     def _follows(self, node: Node) -> bool:
-        """Whether its list is what its folder's list passes down, and passes down itself."""
-        if node.list is None or node.above is None or node.above.list is None:
+        """Whether its list is what its folder's list passes down, and passes down itself. What a
+        folder's list says to the folder's own owner isn't the same in another folder."""
+        if node.list is None or node.above is None or node.above.list is None \
+                or node.path in self.apart:
             return False
-        _, is_own, passes = self.texts.of(node.list)
-        return not is_own and (passes or not node.is_folder) and self.texts.of(
-            node.above.list)[2]
+        said = self.texts.of(node.list)
+        follows = not node.is_folder or said.passes and not said.names_owners
+        return follows and not said.is_own and self.texts.of(node.above.list).passes
 
     def _answer(self, top: Node) -> dict[str, object]:
         near: dict[Node, tuple[Node, int]] = {top: (top, 0)}
@@ -122,14 +137,16 @@ class Below:
                 rest[folder.path, kind, near[node][1], node.owner, node.group] += 1
                 continue
             near[node] = node, 0
-            if node.list is None:
+            if node.list is None and not node.is_folder:
                 unread[node.above.path if node.above else "/", kind] += 1
             else:
-                found.append({"group": node.group, "kind": kind, "list": node.list.decode(),
+                text = None if node.list is None else node.list.decode()
+                found.append({"group": node.group, "kind": kind, "list": text,
                               "owner": node.owner, "path": node.path})
-        return {"at": top.path, "objects": found, "rest": _rows(
-            ("below", "kind", "depth", "owner", "group"), rest),
-            "unlisted": self.unlisted, "unread": _rows(("in", "kind"), unread)}
+        return {"at": top.path, "list": None if top.list is None else top.list.decode(),
+                "objects": found,
+                "rest": _rows(("below", "kind", "depth", "owner", "group"), rest),
+                "unlisted": self.unlisted, "unread": _rows(("in", "kind"), unread)}
 
 
 def _rows(names: tuple[str, ...], counted: "Counter[Rest] | Counter[tuple[str, str]]"
@@ -137,5 +154,7 @@ def _rows(names: tuple[str, ...], counted: "Counter[Rest] | Counter[tuple[str, s
     return [dict(zip(names, key), count=count) for key, count in counted.items()]
 
 
-def below(room: Room, user: str, names: Names) -> Answer:
-    return Below(room, user).look(names)
+def below(room: Room, user: str, names: Names, apart: Names) -> Answer:
+    """`apart` leads on from the folder: each object on that way is told of by itself."""
+    ways = (shown(names + apart[:depth]) for depth in range(1, len(apart) + 1))
+    return Below(room, user, frozenset(ways)).look(names)
