@@ -4,7 +4,8 @@
 import * as api from '../net/api.js';
 import { allBelow, amount, barredIn, removalQuestion } from './subtree.js';
 import { element } from '../ui/dom.js';
-import { downloadAll, downloadOne } from './download.js';
+import { downloadAll, downloadOne, downloadWhole } from './download.js';
+import { hasDoor } from '../net/door.js';
 import { inTurn } from './batch.js';
 import { linkTo } from '../ui/links.js';
 import { askedFor } from '../ui/ask_whom.js';
@@ -117,6 +118,7 @@ export async function remove(objects) {
 export async function download(objects, folder) {
   const [first] = objects;
   if (objects.length === 1 && first.kind === 'document') await downloadOne(first.path);
+  else if (objects.length === 1 && hasDoor()) downloadWhole(first.path);
   else await downloadAll(objects, folder);
   return null;
 }

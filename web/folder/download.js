@@ -2,18 +2,23 @@
 
 import * as api from '../net/api.js';
 import { allBelow } from './subtree.js';
+import { zipAddress } from '../net/door.js';
 import { element } from '../ui/dom.js';
 import { tell, waitFor } from '../ui/messages.js';
 import { stoppable } from '../ui/panel.js';
 import { counted, sentenceOf } from '../text/words.js';
 import { zipOf } from '../ui/zip.js';
 
-export function save(blob, name) {
-  const address = URL.createObjectURL(blob);
+function follow(address, name) {
   const link = element('a', { href: address, download: name });
   document.body.append(link);
   link.click();
   link.remove();
+}
+
+export function save(blob, name) {
+  const address = URL.createObjectURL(blob);
+  follow(address, name);
   setTimeout(() => URL.revokeObjectURL(address), 60000);
 }
 
@@ -26,6 +31,10 @@ async function bytesOf(path) {
   const blob = await api.read(path);
   return new Uint8Array(await blob.arrayBuffer());
 }
+
+// A folder with all in it, as the door sends it: the browser writes it down as it comes.
+export const downloadWhole = (path) =>
+  follow(zipAddress(path), `${path === '/' ? 'documents' : api.nameOf(path)}.zip`);
 
 // All of them in one ZIP file. What may not be read is left out, and told.
 export async function downloadAll(objects, folder) {

@@ -8,7 +8,10 @@ import { acceptDrops } from './drop.js';
 import { linkTo } from '../ui/links.js';
 import { notShown, tell, tellFault, waitFor } from '../ui/messages.js';
 import { arrived } from '../net/directory.js';
-import { chosenOf, drawRows, newLook } from './rows.js';
+import { closedIn } from '../net/door.js';
+import { finder } from './find.js';
+import { markAllClosed } from './closed_rows.js';
+import { chosenOf, drawRows, newLook, shownOf } from './rows.js';
 import { treeOfFiles } from './tree.js';
 import { uploadAll } from './upload.js';
 
@@ -62,8 +65,9 @@ function bar(path, send, make) {
   return { shown, grant };
 }
 
-// The filter, and what can be done with what is selected. Its place is kept when nothing is.
-function tools(look, does, redraw) {
+// The filter, which also finds what is further down, and what can be done with what is selected. Its
+// place is kept when nothing is.
+function tools(look, does, redraw, found) {
   const filter = element('input', {
     type: 'search', 'aria-label': 'Filter by name', placeholder: 'Filter by name',
     autocomplete: 'off', spellcheck: 'false',
@@ -83,8 +87,10 @@ function tools(look, does, redraw) {
     told.textContent = count === 0 ? '' : `${count} selected`;
     chosen.classList.toggle('none', count === 0);
   };
-  const shown = element('div', { class: 'tools' }, filter, chosen);
-  return { shown, tell };
+  const finding = finder(found.path, filter, { ...found, redraw });
+  const shown = element('div', { class: 'tools' },
+    element('div', { class: 'finding' }, filter, finding.press), chosen);
+  return { shown, tell, know: () => finding.know() };
 }
 
 // Where the focus is in the rows: {name, act, index}, or null.
@@ -120,7 +126,8 @@ class FolderView {
       if (shownView?.isCurrent()) shownView.refresh();
     });
     this.bar = bar(path, send, () => this.doing(() => acts.makeFolder(path)));
-    this.tools = tools(this.look, (what) => this.withChosen(what), () => this.draw());
+    this.tools = tools(this.look, (what) => this.withChosen(what), () => this.draw(), { path,
+      place: this.body, here: () => this.objects(shownOf(this.look)) });
     this.area = element('section', { class: 'folder-view', 'aria-label': 'Folder' },
       this.bar.shown, this.tools.shown, this.body, this.places);
     acceptDrops(this.area, path, send);
@@ -176,6 +183,7 @@ class FolderView {
       this.look.chosen = new Set([...this.look.chosen].filter((name) => names.has(name)));
       this.tools.shown.hidden = children.length === 0;
       this.draw(focus);
+      this.showShut();
       arrived(this.path, 'folder');
       if (this.path === '/') this.showPlaces();
       // The button that had the focus may be gone.
@@ -183,6 +191,14 @@ class FolderView {
     } catch (fault) {
       this.fail(fault, await may);
     }
+  }
+
+  // What can't be opened, and whether names can be looked for further down, is known a little later.
+  async showShut() {
+    this.look.closed = await closedIn(this.path);
+    if (!this.isCurrent()) return;
+    markAllClosed(this.body, this.look.closed, api.nameOf);
+    this.tools.know();
   }
 
   // What can't be seen from the top, below its list.

@@ -6,12 +6,13 @@ import { button, element, icon, nameText } from '../ui/dom.js';
 import { rove } from '../ui/keys.js';
 import { linkTo } from '../ui/links.js';
 import { menuButton } from '../ui/menu.js';
+import { markClosed } from './closed_rows.js';
 import { marked } from '../text/invisible.js';
 import { filtered, kindWords, sorted } from './sorting.js';
 
-// What is shown of a folder, and how. 'chosen' has names.
-export const newLook = () => (
-  { children: [], by: 'name', down: false, filter: '', chosen: new Set() });
+// What is shown of a folder, and how. 'chosen' has names, and 'closed' those of what I can't open.
+export const newLook = () => ({ children: [], by: 'name', down: false, filter: '',
+  chosen: new Set(), closed: new Set() });
 
 export const shownOf = (look) => sorted(filtered(look.children, look.filter), look.by, look.down);
 
@@ -42,10 +43,9 @@ function pickBox(child, look, changed) {
 
 // What can be done with an object, by its menu.
 function entriesOf(child, path, acts) {
-  const ofDocument = [{ words: 'Preview', does: () => acts.preview(child) },
-    { words: 'Download', does: () => acts.download([child]) }];
   return [
-    ...(child.kind === 'folder' ? [] : ofDocument),
+    ...(child.kind === 'folder' ? [] : [{ words: 'Preview', does: () => acts.preview(child) }]),
+    { words: 'Download', does: () => acts.download([child]) },
     { words: 'Rename or move', does: () => acts.move(child) },
     { words: 'Copy link', does: () => acts.copy(child) },
     { words: 'Access', href: linkTo(path, 'access') },
@@ -67,11 +67,13 @@ function actsOf(child, path, acts) {
 
 function row(child, folder, look, acts, changed) {
   const path = api.join(folder, child.name);
-  return element('tr', { 'data-kind': child.kind, 'data-path': path },
+  const made = element('tr', { 'data-kind': child.kind, 'data-path': path },
     element('td', { class: 'pick' }, pickBox(child, look, changed)),
     element('td', { class: 'what' }, nameOf(child, path, acts)),
     element('td', { class: 'kind' }, kindWords(child)),
     element('td', { class: 'acts' }, actsOf(child, path, acts)));
+  if (look.closed.has(child.name)) markClosed(made);
+  return made;
 }
 
 function heading(by, words, look, redraw) {

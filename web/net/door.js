@@ -5,7 +5,7 @@ import { Refusal, jsonOrNull, namesOf, target } from './api.js';
 
 // Whether there is one: null as long as nobody asked.
 let isThere = null;
-export const mayHaveDoor = () => isThere !== false;
+export const hasDoor = () => isThere === true;
 
 // What the room would be asked for, so that a refusal is told in the same words.
 const WORDS = { below: 'folder', closed: 'folder', find: 'folder', zip: 'folder' };
@@ -47,3 +47,9 @@ export function differsBelow(path, apart) {
 // The names in a folder that can't be opened, as a set; an empty one where that isn't known.
 export const closedIn = (path) =>
   read('closed', path).then((told) => new Set(told?.closed ?? []), () => new Set());
+
+// The names below a folder that contain a text: {all, found: [{path, kind}], unlisted: [path]}.
+export const findBelow = (path, text) => read('find', path, `?${encodeURIComponent(text)}`);
+
+// The address at which a folder with all in it is one ZIP.
+export const zipAddress = (path) => target('door/zip', path);

@@ -3,6 +3,7 @@
 import { isGroup, isInherited, readEntry } from '../acl/entries.js';
 import { GREATEST_DOCUMENT, UNREADABLE, namesOf } from '../net/api.js';
 import { fullName } from '../net/directory.js';
+import { doorWords } from './door_words.js';
 import { marked } from './invisible.js';
 
 // The rights in the groups in which the page shows them. 'idle' ones are kept, but no request asks
@@ -284,6 +285,7 @@ function answerWords(fault, ask) {
   if (status === 409) {
     return CONFLICTS[body?.why]?.(at) ?? 'What is there doesn’t fit. Load the folder again.';
   }
+  if (doorWords(fault) !== null) return doorWords(fault);
   if (status === 413) return tooLarge(body?.at ? at : 'This');
   if (status === 422) return faultWords(body?.why?.split(' ')[1]);
   return SENTENCES[status] ?? `The room answered with status ${status}. Try again; if that doesn’t `

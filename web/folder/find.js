@@ -1,0 +1,139 @@
+// Names further down that contain what was typed, from the open folder on. The door looks for them;
+// without one the button isn't there, and the field filters the open folder alone.
+
+import * as api from '../net/api.js';
+import { button, element, icon, nameText } from '../ui/dom.js';
+import { findBelow, hasDoor } from '../net/door.js';
+import { linkTo } from '../ui/links.js';
+import { tellFault, waitFor } from '../ui/messages.js';
+import { some } from '../ui/names.js';
+import { marked } from '../text/invisible.js';
+import { counted, isolated } from '../text/words.js';
+
+const FIND = 'Find further down';
+const BACK = 'Back to the folder';
+const BUSY = 'Looking further down …';
+const NONE = 'Nothing in this folder or further down has these letters in its name.';
+const MORE = 'There are more, or more to look through than at once: open a folder and find there, '
+  + 'or type more of the name.';
+const TOO_LONG = 'No name is as long as that.';
+const foundWords = (count, text) => `${counted(count, 'name')} with “${isolated(text)}”`;
+const UNSEEN = (places) => `You may not see what is in ${places}.`;
+const inWords = (folder) => (folder === '/' ? 'in All documents' : `in ${marked(folder)}`);
+const LONGEST = 255;
+const MOST_UNSEEN = 3;
+
+function line({ path, kind }, top) {
+  const folder = api.parentOf(path);
+  return element('li', {},
+    element('a', { class: 'object', href: linkTo(path, kind === 'folder' ? null : 'show') },
+      icon(kind), nameText(api.nameOf(path))),
+    folder === top ? null : element('a', { class: 'hint', href: linkTo(folder) }, inWords(folder)));
+}
+
+// The arrow keys go from one to the next; up from the first leads back to the field.
+function goThrough(list, field) {
+  list.addEventListener('keydown', (event) => {
+    const step = { ArrowDown: 1, ArrowUp: -1 }[event.key];
+    const links = [...list.querySelectorAll('a.object')];
+    const at = links.indexOf(event.target.closest('li')?.querySelector('a.object'));
+    const next = step === undefined ? undefined : links[at + step];
+    if (event.key === 'Escape' || (step === -1 && at === 0)) field.focus();
+    else next?.focus();
+    if (event.key === 'Escape' || step !== undefined) event.preventDefault();
+  });
+}
+
+function shown({ found, all, unlisted }, { text, top, field, isBusy }, back) {
+  const list = element('ul', { class: 'places found', 'aria-label': FIND },
+    found.map((one) => line(one, top)));
+  goThrough(list, field);
+  const hidden = unlisted.map((path) => `“${isolated(path)}”`);
+  const told = isBusy ? BUSY : found.length === 0 ? NONE : foundWords(found.length, text);
+  return element('div', { class: 'found-of' },
+    element('div', { class: 'bar' }, element('p', { role: 'status' }, told),
+      button(BACK, back, { class: 'small' })), list,
+    isBusy || all ? null : element('p', { class: 'hint' }, MORE),
+    hidden.length === 0 ? null
+      : element('p', { class: 'hint' }, UNSEEN(some(hidden, MOST_UNSEEN))));
+}
+
+// The field takes the focus by '/', where nothing is typed anywhere else.
+export function takeKey(field) {
+  const take = (event) => {
+    if (!field.isConnected) document.removeEventListener('keydown', take);
+    else if (event.key === '/' && !event.ctrlKey && !event.altKey && !event.metaKey
+      && !event.target.matches('input, textarea, select') && !document.querySelector('dialog[open]')
+      && field.checkVisibility()) {
+      event.preventDefault();
+      field.focus();
+    }
+  };
+  document.addEventListener('keydown', take);
+}
+
+// A search from the folder 'top' on: what was typed in 'field' is looked for, and shown in 'place'.
+class Finder {
+  constructor(top, field, { place, here, redraw }) {
+    this.top = top;
+    this.field = field;
+    this.place = place;
+    this.here = here;
+    this.redraw = redraw;
+    this.looks = 0;
+    this.press = button(FIND, () => this.start(), { class: 'small find', hidden: true });
+  }
+
+  back() {
+    this.field.value = '';
+    this.field.dispatchEvent(new Event('input'));
+    this.field.focus();
+  }
+
+  start() {
+    const { length } = new TextEncoder().encode(this.field.value.trim());
+    this.field.setCustomValidity(length > LONGEST ? TOO_LONG : '');
+    if (length === 0) this.field.focus();
+    else if (this.field.reportValidity()) this.find(this.field.value.trim()).catch(tellFault);
+  }
+
+  // What fits in the open folder is there at once, all else comes later.
+  async find(text) {
+    this.looks += 1;
+    const look = this.looks;
+    const isWanted = () => look === this.looks && this.place.isConnected;
+    const draw = (told, isBusy) => this.place.replaceChildren(
+      shown(told, { text, top: this.top, field: this.field, isBusy }, () => this.back()));
+    draw({ found: this.here(), all: false, unlisted: [] }, true);
+    try {
+      const told = await waitFor(findBelow(this.top, text));
+      this.know();
+      if (isWanted() && told !== null) draw(told, false);
+      else if (isWanted()) this.redraw();
+    } catch (fault) {
+      if (isWanted()) this.redraw();
+      throw fault;
+    }
+  }
+
+  // Whether there is a door is known once it was asked.
+  know() { this.press.hidden = !hasDoor(); }
+
+  take(event) {
+    if (event.key === 'Enter' && !this.press.hidden) this.start();
+    else if (event.key === 'ArrowDown') this.place.querySelector('.found a.object')?.focus();
+    else if (event.key === 'Escape' && this.field.value !== '') this.back();
+    else return;
+    event.preventDefault();
+  }
+}
+
+// The finder of a folder, whose button 'press' stands beside the field. 'place' is where the rows
+// are; 'here' has the objects of the open folder that fit, and 'redraw' shows the rows again.
+export function finder(top, field, shownBy) {
+  const made = new Finder(top, field, shownBy);
+  field.addEventListener('input', () => { made.looks += 1; });
+  field.addEventListener('keydown', (event) => made.take(event));
+  takeKey(field);
+  return made;
+}
