@@ -8,6 +8,7 @@ import { button, element, icon, nameText } from './ui/dom.js';
 import { hasUnsent } from './acl/draft.js';
 import { showFolder } from './folder/folder.js';
 import { showDocument } from './folder/preview.js';
+import { language, texts } from './language/language.js';
 import { linkTo, pathLinks, whereIs } from './ui/links.js';
 import { showList } from './advanced/list_view.js';
 import { clearNotices, notShown, showWaiting, tellFault, waitFor } from './ui/messages.js';
@@ -17,16 +18,16 @@ import { showAccess } from './share/share.js';
 import { marked } from './text/invisible.js';
 import { isUploading } from './folder/upload.js';
 
-const DOCUMENT = ['show', 'Document'];
-const TABS = [['access', 'Who has access'], ['rights', 'My rights'], ['dacl', 'Advanced'],
-  ['sacl', 'What is recorded']];
+const DOCUMENT = ['show', texts.page.document];
+const TABS = [['access', texts.page.whoHasAccess], ['rights', texts.page.myRights],
+  ['dacl', texts.page.advanced], ['sacl', texts.page.recorded]];
 const main = document.querySelector('main');
 
 // Each visit of a place has a number, so that a slow reply isn't shown at a later place.
 let looks = 0;
 
 function objectHead(path, view, kind) {
-  const name = path === '/' ? 'All documents' : nameText(api.nameOf(path));
+  const name = path === '/' ? texts.places.all : nameText(api.nameOf(path));
   const tabs = kind === 'folder' ? TABS : [DOCUMENT, ...TABS];
   const links = tabs.map(([word, words]) => element('a', {
     href: linkTo(path, word), 'aria-current': word === view ? 'page' : null,
@@ -35,13 +36,14 @@ function objectHead(path, view, kind) {
   const act = (words, does, style) =>
     button(words, () => does().catch(tellFault), { class: style });
   const ofDocument = kind === 'folder' ? []
-    : act('Download', () => download([{ path, kind }]), 'primary');
+    : act(texts.acts.download, () => download([{ path, kind }]), 'primary');
   return [
     element('div', { class: 'bar' }, element('h1', {}, icon(kind), name),
-      element('div', { class: 'actions' }, ofDocument, act('Copy link', () => copyLink(path)),
+      element('div', { class: 'actions' }, ofDocument,
+        act(texts.acts.copyLink, () => copyLink(path)),
         element('a', { class: 'button', href: back },
-          kind === 'folder' ? 'Open the folder' : 'Back to the folder'))),
-    element('nav', { class: 'views', 'aria-label': 'Access' }, links),
+          kind === 'folder' ? texts.page.openFolder : texts.page.backToFolder))),
+    element('nav', { class: 'views', 'aria-label': texts.page.access }, links),
   ];
 }
 
@@ -58,7 +60,7 @@ async function showObject(path, view, isCurrent) {
   if (!isCurrent()) return;
   const box = element('div', { class: 'sheet padded' });
   const head = objectHead(path, view, kind);
-  main.replaceChildren(element('section', { 'aria-label': 'Access' }, head, box));
+  main.replaceChildren(element('section', { 'aria-label': texts.page.access }, head, box));
   if (kind === 'document') arrived(path, kind);
   if (view === 'show' && kind === 'document') await showOrTell(path, box, isCurrent);
   else if (view === 'access' || view === 'show') await showAccess(path, kind, box, isCurrent);
@@ -71,7 +73,7 @@ async function show() {
   const look = looks;
   const isCurrent = () => look === looks;
   const { path, view } = whereIs(location.hash);
-  document.title = `${path === '/' ? 'All documents' : marked(api.nameOf(path))} – rooms`;
+  document.title = texts.page.title(path === '/' ? texts.places.all : marked(api.nameOf(path)));
   document.getElementById('path').replaceChildren(pathLinks(path));
   clearNotices();
   try {
@@ -79,7 +81,7 @@ async function show() {
     else await showFolder(path, main, isCurrent);
   } catch (fault) {
     if (!isCurrent()) return;
-    main.replaceChildren(notShown('This place can’t be shown.', show));
+    main.replaceChildren(notShown(texts.page.notShown, show));
     tellFault(fault);
   }
 }
@@ -94,6 +96,14 @@ async function showMe() {
   } catch (fault) {
     tellFault(fault);
   }
+}
+
+// What the page has before anything is known.
+function speak() {
+  document.documentElement.lang = language;
+  document.getElementById('skip').textContent = texts.page.skip;
+  document.getElementById('path').setAttribute('aria-label', texts.page.path);
+  document.getElementById('me').setAttribute('aria-label', texts.page.signedInAs);
 }
 
 window.addEventListener('hashchange', () => {
@@ -113,6 +123,7 @@ document.getElementById('skip').addEventListener('click', (event) => {
   event.preventDefault();
   main.focus();
 });
+speak();
 whenWaiting(showWaiting);
 showMe();
 show();

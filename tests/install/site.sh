@@ -57,6 +57,17 @@ for kind in js css svg; do
   curl -s -I -u alice:pw "$base/doc/$file" >heads
   holds 'is no part of it' [ "$(grep -ci immutable heads)" = 0 ]
 done
+# The script names those with the texts of each language, which are kept as it is.
+script=$(grep -om 1 'page-[0-9a-f]*[.]js' "$installed/share/rooms/page/index.html")
+languages=$(grep -o 'page-[0-9a-f]*[.]js' "$installed/share/rooms/page/$script" | sort -u)
+holds 'it names those of its languages' [ -n "$languages" ]
+for file in $languages; do
+  ask "a language's texts" 200 - alice:pw "/$file"
+  same 'are what was installed' "$work/body" "$installed/share/rooms/page/$file"
+  curl -s -D heads -o packed -u alice:pw -H 'Accept-Encoding: gzip' "$base/$file"
+  holds 'are kept for good' grep -qi '^cache-control: max-age=31536000, immutable' heads
+  holds 'come packed' cmp -s <(gzip -dc packed) "$installed/share/rooms/page/$file"
+done
 ask 'what is no part of it' 404 - alice:pw /nothing.js
 ask 'nor without a password' 401 - '' /nothing.js
 ask 'a name of no room' 404 - alice:pw /nothing

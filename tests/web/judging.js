@@ -40,7 +40,7 @@ Promise.all(modules).then((found) => {
     equal(`deciding ${JSON.stringify(caller)} ${letter}`, found.answer, answer);
   }
   const { depends } = judge(shown, 'w', judging.withOthers(alice), ofRoot);
-  equal('on what it depends', depends, ['the group guests', 'the group sales']);
+  equal('on what it depends', depends, ['g:guests', 'g:sales']);
 
   for (const [parent, folder, file] of examples.passed) {
     for (const [kind, wanted] of [['folder', folder], ['document', file]]) {

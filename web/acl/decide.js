@@ -28,22 +28,22 @@ export const ANYBODY = { user: null, groups: [] };
 export const withOthers = (caller) => ({ ...caller, others: true });
 
 const isMember = (group, { groups, others }) =>
-  groups.includes(group) || (others === true && `the group ${group}`);
+  groups.includes(group) || (others === true && `g:${group}`);
 
 // Nobody owns what somebody else made, whose owner has the empty name.
 function isOwner({ user, owns }, owner) {
-  if (owner === null) return owns === 'OWNER@' || (user !== null && 'the owner');
-  return owns === 'OWNER@' ? owner !== '' && 'the owner' : user !== null && user === owner;
+  if (owner === null) return owns === 'OWNER@' || (user !== null && 'OWNER@');
+  return owns === 'OWNER@' ? owner !== '' && 'OWNER@' : user !== null && user === owner;
 }
 
-// Whether an entry means this caller: true, false, or the name of what that depends on. 'object'
-// has owner and group, which are null where they can't be read.
+// Whether an entry means this caller: true, false, or what that depends on: 'g:' with a group's
+// name, OWNER@ or GROUP@. 'object' has owner and group, which are null where they can't be read.
 export function matchOf(entry, caller, object) {
   if (entry.who === 'EVERYONE@' || entry.who === 'AUTHENTICATED@') return true;
   if (entry.who === 'ANONYMOUS@') return false;
   if (entry.who === 'OWNER@') return isOwner(caller, object.owner);
   if (entry.who === 'GROUP@') {
-    return object.group === null ? caller.owns === 'GROUP@' || 'the owning group'
+    return object.group === null ? caller.owns === 'GROUP@' || 'GROUP@'
       : isMember(object.group, caller);
   }
   return isGroup(entry) ? isMember(entry.who, caller) : entry.who === caller.user;
@@ -91,7 +91,7 @@ function answerOf(grants) {
   return grants.some((one) => one) ? 'perhaps' : 'no';
 }
 
-// Whether a caller is granted this right: {answer, depends: names, entry}. 'entry' is the one that
+// Whether a caller is granted this right: {answer, depends, entry}. 'entry' is the one that
 // surely rules it if no other does, or null.
 export function judge(entries, letter, caller, object) {
   const ruled = decide(entries, caller, object);
@@ -180,7 +180,8 @@ export function callersIn(entries, object) {
 }
 
 const textOf = (entries) => entries.map(printEntry).join('\n');
-const UNREAD_ABOVE = 'the list of the folder above, which you may not read';
+// On what it depends where the list of the folder above can't be read.
+const UNREAD_ABOVE = 'above';
 
 // Whether a caller who has this right now still has it by the list 'after', as afterSending gives
 // it.

@@ -2,6 +2,7 @@
 // anybody, since its mask is empty: A:g:until.2027-05-31.read.u.eve@alice: beside the entries of
 // eve's level. The nightly run takes these away when the day is over, as whoever asked.
 
+import { texts } from '../language/language.js';
 import { isInherited, isName } from './entries.js';
 
 const NAME = /^(until|ended)\.(\d{4}-\d\d-\d\d)\.([a-z]+)\.([ug])\.([^@]+)@([^@]+)$/;
@@ -42,8 +43,7 @@ export function endingOf(entry) {
   return isSame && isName(end.who) && isName(end.asker) ? end : null;
 }
 
-export const endWords = (day) => new Date(`${day}T00:00:00Z`).toLocaleDateString('en-GB',
-  { day: 'numeric', month: 'long', year: 'numeric', timeZone: 'UTC' });
+export const endWords = (day) => texts.lists.day(new Date(`${day}T00:00:00Z`), 'UTC');
 
 const dayOf = (time) => [time.getFullYear(), time.getMonth() + 1, time.getDate()]
   .map((part) => String(part).padStart(2, '0')).join('-');

@@ -15,48 +15,10 @@ export const OWN = 'A:fi:OWNER@:d';
 
 const [READ, CHANGE, REMOVE] = ['rxtc', 'rwaxtc', 'rwaxDtc'];
 
-// The levels, from the least to the most. 'offered' says where a menu has them.
+// The levels, from the least to the most, and where a menu has them.
 export const LEVELS = {
-  pass: {
-    words: 'Can pass through', verb: 'pass through', offered: [],
-    hint: 'to what is named to them further down; sees nothing here',
-  },
-  clear: {
-    words: 'Can remove what is there', verb: 'remove from', offered: [],
-    hint: 'by this line alone; sees nothing here',
-  },
-  drop: {
-    words: 'Can drop documents in', verb: 'drop documents into', offered: [],
-    hint: 'sees nothing of what is there',
-  },
-  see: {
-    words: 'Can see the names here', verb: 'see the names in', offered: [],
-    hint: 'not what is in them',
-  },
-  read: {
-    words: 'Can read', verb: 'read', offered: ['folder', 'document'],
-    hint: 'sees and downloads',
-  },
-  add: {
-    words: 'Can read and add', verb: 'read and add to', offered: [],
-    hint: 'what is there stays as it is',
-  },
-  change: {
-    words: 'Can add and change', ofDocument: 'Can change',
-    verb: 'add to and change', verbOfDocument: 'change', offered: ['folder', 'document'],
-    hint: 'reads, adds and changes; removes only what they added',
-    hintWithoutOwn: 'reads, adds and changes; removes nothing',
-    hintOfDocument: 'reads and replaces it',
-  },
-  remove: {
-    words: 'Can add, change and remove', ofDocument: 'Can change and remove',
-    verb: 'add to, change and remove from', verbOfDocument: 'change and remove',
-    offered: ['folder'], hint: 'removes and renames what others added, too',
-  },
-  manage: {
-    words: 'Can manage', verb: 'manage', offered: ['folder', 'document'],
-    hint: 'everything, and decides who has access',
-  },
+  pass: [], clear: [], drop: [], see: [], read: ['folder', 'document'], add: [],
+  change: ['folder', 'document'], remove: ['folder'], manage: ['folder', 'document'],
 };
 export const RANKS = Object.keys(LEVELS);
 

@@ -2,14 +2,15 @@
 
 import { element, freshId } from '../ui/dom.js';
 import { SPECIAL, isGroup, isName, orderFlags, orderMask } from '../acl/entries.js';
+import { texts } from '../language/language.js';
+import { capital } from '../language/forms.js';
 import {
-  GROUPS, REACHES, TYPE_WORDS, coverageOf, faultWords, groupName, reachWords, rightWords, whoWords,
+  GROUPS, REACHES, coverageOf, faultWords, groupName, reachWords, rightWords, whoWords,
 } from '../text/words.js';
 
 const TYPES = { dacl: ['A', 'D'], sacl: ['U', 'L'] };
-const OUTCOMES = [
-  ['F', 'what was refused'], ['S', 'what was granted'], ['SF', 'both'], ['', 'nothing'],
-];
+const OUTCOMES = ['F', 'S', 'SF', '']
+  .map((flags) => [flags, texts.advanced.outcomes[flags || 'none']]);
 
 // Replaces the flags of one set by others.
 const exchange = (flags, set, others) =>
@@ -25,24 +26,22 @@ function select(label, options, value, onPick) {
 }
 
 function typeControl(entry, which, changed) {
-  const types = TYPES[which].map((type) => [type, TYPE_WORDS[type]]);
-  return select('Type', types, entry.type, (type) => {
+  const types = TYPES[which].map((type) => [type, texts.advanced.types[type]]);
+  return select(texts.advanced.type, types, entry.type, (type) => {
     entry.type = type;
     changed();
   });
 }
 
 function whoControl(entry, changed) {
-  const wordsOf = (who) =>
-    whoWords({ who, flags: '' }).replace(/^./, (first) => first.toUpperCase());
-  const kinds = [['user', 'User'], ['group', 'Group'],
-    ...SPECIAL.map((who) => [who, wordsOf(who)])];
+  const kinds = [['user', texts.advanced.user], ['group', texts.advanced.group],
+    ...SPECIAL.map((who) => [who, capital(whoWords({ who, flags: '' }))])];
   const isSpecial = SPECIAL.includes(entry.who);
   const hint = element('p', { class: 'hint', id: freshId('who') });
   const name = element('input', {
-    type: 'text', value: isSpecial ? '' : entry.who, 'aria-label': 'Name', placeholder: 'Name',
-    autocomplete: 'off', autocapitalize: 'none', spellcheck: 'false', hidden: isSpecial,
-    'aria-describedby': hint.id,
+    type: 'text', value: isSpecial ? '' : entry.who, 'aria-label': texts.acts.name,
+    placeholder: texts.acts.name, autocomplete: 'off', autocapitalize: 'none', spellcheck: 'false',
+    hidden: isSpecial, 'aria-describedby': hint.id,
   });
   const judge = () => {
     const fits = name.hidden || name.value === '' || isName(name.value);
@@ -50,7 +49,7 @@ function whoControl(entry, changed) {
     hint.textContent = fits ? '' : faultWords('A3');
   };
   const now = isSpecial ? entry.who : isGroup(entry) ? 'group' : 'user';
-  const kind = select('Who', kinds, now, (value) => {
+  const kind = select(texts.advanced.who, kinds, now, (value) => {
     name.hidden = SPECIAL.includes(value);
     entry.who = name.hidden ? value : name.value;
     entry.flags = exchange(entry.flags, 'g', value === 'group' ? 'g' : '');
@@ -102,7 +101,7 @@ function singleRights(entry, kind, changed) {
     return element('fieldset', {}, element('legend', {}, legend), made.map((box) => box.shown));
   };
   const parts = GROUPS.map((group) => part(groupName(group, kind), group.letters));
-  parts.push(part('Kept, but nothing asks for it', GROUPS.map((group) => group.idle).join('')));
+  parts.push(part(texts.advanced.kept, GROUPS.map((group) => group.idle).join('')));
   return { boxes, parts };
 }
 
@@ -111,7 +110,7 @@ function rightsControl(entry, kind, changed) {
   const letters = element('code', { class: 'letters' });
   const shows = [];
   const all = () => {
-    letters.textContent = entry.mask === '' ? 'none' : entry.mask;
+    letters.textContent = entry.mask === '' ? texts.advanced.noLetters : entry.mask;
     shows.forEach((show) => show());
   };
   const both = () => {
@@ -123,9 +122,9 @@ function rightsControl(entry, kind, changed) {
   const { boxes, parts } = singleRights(entry, kind === 'folder' ? 'both' : kind, both);
   shows.push(...[...groups, ...boxes].map((one) => one.show));
   all();
-  const heading = element('span', { class: 'unseen' }, 'Single rights: ');
+  const heading = element('span', { class: 'unseen' }, texts.advanced.single);
   return element('div', { class: 'rights-of' },
-    element('div', { class: 'groups', role: 'group', 'aria-label': 'Rights' },
+    element('div', { class: 'groups', role: 'group', 'aria-label': texts.advanced.rights },
       groups.map((one) => one.shown)),
     element('details', {}, element('summary', {}, heading, letters), parts));
 }
@@ -134,14 +133,14 @@ function rightsControl(entry, kind, changed) {
 function reachControl(entry, changed) {
   const now = flagsOf(entry, 'fdni');
   const rarer = REACHES.some(([flags]) => flags === now) ? [] : [[now, reachWords(entry)]];
-  return select('Where it counts', [...REACHES, ...rarer], now, (flags) => {
+  return select(texts.advanced.reach, [...REACHES, ...rarer], now, (flags) => {
     entry.flags = exchange(entry.flags, 'fdni', flags);
     changed();
   });
 }
 
 function outcomeControl(entry, changed) {
-  return select('Records', OUTCOMES, flagsOf(entry, 'SF'), (flags) => {
+  return select(texts.advanced.records, OUTCOMES, flagsOf(entry, 'SF'), (flags) => {
     entry.flags = exchange(entry.flags, 'SF', flags);
     changed();
   });
@@ -150,31 +149,31 @@ function outcomeControl(entry, changed) {
 // The cells of an entry that can be changed: [heading, content].
 export function controls(entry, draft, changed) {
   return [
-    ['Type', typeControl(entry, draft.which, changed)],
-    ['Who', whoControl(entry, changed)],
-    draft.which === 'sacl' ? ['Records', outcomeControl(entry, changed)] : null,
-    ['Rights', rightsControl(entry, draft.kind, changed)],
-    draft.kind === 'folder' ? ['Where it counts', reachControl(entry, changed)] : null,
+    [texts.advanced.type, typeControl(entry, draft.which, changed)],
+    [texts.advanced.who, whoControl(entry, changed)],
+    draft.which === 'sacl' ? [texts.advanced.records, outcomeControl(entry, changed)] : null,
+    [texts.advanced.rights, rightsControl(entry, draft.kind, changed)],
+    draft.kind === 'folder' ? [texts.advanced.reach, reachControl(entry, changed)] : null,
   ].filter((cell) => cell !== null);
 }
 
 function groupWords(mask, kind) {
   const words = GROUPS.map((group) => [groupName(group, kind), coverageOf(group, mask)])
     .filter(([, extent]) => extent !== 'none')
-    .map(([name, extent]) => (extent === 'all' ? name : `${name} in part`));
-  return words.join(', ') || 'nothing';
+    .map(([name, extent]) => (extent === 'all' ? name : texts.advanced.inPart(name)));
+  return words.join(', ') || texts.advanced.nothing;
 }
 
 // The same cells as words.
 export function words(entry, draft) {
   const outcome = OUTCOMES.find(([flags]) => flags === flagsOf(entry, 'SF'))[1];
   return [
-    ['Type', TYPE_WORDS[entry.type]],
-    ['Who', whoWords(entry)],
-    draft.which === 'sacl' ? ['Records', outcome] : null,
-    ['Rights', [`${groupWords(entry.mask, draft.kind)} `,
+    [texts.advanced.type, texts.advanced.types[entry.type]],
+    [texts.advanced.who, whoWords(entry)],
+    draft.which === 'sacl' ? [texts.advanced.records, outcome] : null,
+    [texts.advanced.rights, [`${groupWords(entry.mask, draft.kind)} `,
       element('code', { class: 'letters' }, entry.mask)]],
-    draft.kind === 'folder' ? ['Where it counts', reachWords(entry)] : null,
+    draft.kind === 'folder' ? [texts.advanced.reach, reachWords(entry)] : null,
   ].filter((cell) => cell !== null);
 }
 

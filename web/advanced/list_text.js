@@ -2,6 +2,7 @@
 
 import { element, freshId } from '../ui/dom.js';
 import { linesOf } from '../acl/entries.js';
+import { texts } from '../language/language.js';
 import { faultWords } from '../text/words.js';
 
 function numbers(draft) {
@@ -15,8 +16,9 @@ export function drawText(draft, body) {
   const gutter = element('div', { class: 'gutter', 'aria-hidden': 'true' });
   const told = element('p', { class: 'fault', id: freshId('fault'), role: 'status' });
   const area = element('textarea', {
-    'aria-label': 'The list as text', 'aria-describedby': told.id, spellcheck: 'false', wrap: 'off',
-    autocapitalize: 'none', autocomplete: 'off', readonly: !draft.mayChange, dir: 'ltr',
+    'aria-label': texts.advanced.asText, 'aria-describedby': told.id, spellcheck: 'false',
+    wrap: 'off', autocapitalize: 'none', autocomplete: 'off', readonly: !draft.mayChange,
+    dir: 'ltr',
   });
   const show = (goThere = false) => {
     if (area.value !== draft.text) area.value = draft.text;
@@ -24,7 +26,7 @@ export function drawText(draft, body) {
     area.rows = Math.max(6, linesOf(draft.text).length + 1);
     area.setAttribute('aria-invalid', String(draft.fault !== null));
     told.textContent = draft.fault
-      ? `Line ${draft.fault.line}: ${faultWords(draft.fault.code)}` : '';
+      ? texts.advanced.line(draft.fault.line, faultWords(draft.fault.code)) : '';
     if (goThere) select(area, draft.fault.line);
   };
   area.addEventListener('input', () => {
@@ -33,10 +35,7 @@ export function drawText(draft, body) {
   });
   body.replaceChildren(element('div', { class: 'text' }, gutter, area), told,
     element('p', { class: 'hint' },
-      'The first line is “list:” with a (pass on) and p (protect). Then an entry stands on each '
-        + 'line: ',
-      element('code', {}, 'type:flags:who:rights'),
-      '. Entries with the flag I come from a folder above.'));
+      texts.advanced.form(element('code', {}, texts.advanced.parts))));
   show();
   return show;
 }

@@ -3,6 +3,7 @@
 import * as api from '../net/api.js';
 import { button, element } from '../ui/dom.js';
 import { Draft } from '../acl/draft.js';
+import { texts } from '../language/language.js';
 import { sendList } from './send_list.js';
 import { notShown, tell, tellFault, waitFor } from '../ui/messages.js';
 import { pickReady } from '../share/pick_list.js';
@@ -11,13 +12,7 @@ import { tabs } from '../ui/tabs.js';
 import { drawText } from './list_text.js';
 import { sentenceOf } from '../text/words.js';
 
-const INTRODUCTIONS = {
-  dacl: 'The list is read from top to bottom: each right is decided by the first entry that '
-    + 'applies to the caller and has that right. What no entry allows is denied.',
-  sacl: 'These entries grant and deny nothing. They make the room record what was tried.',
-};
-
-const UNSENT = 'Your changes have no effect until you send them.';
+const INTRODUCTIONS = { dacl: texts.advanced.decides, sacl: texts.advanced.recording };
 
 async function mayChange(path) {
   const rulings = await api.can(path, 'C').catch(() => null);
@@ -26,18 +21,18 @@ async function mayChange(path) {
 
 // The table and the text in their tabs.
 function panes(draft) {
-  let shown = 'Table';
+  const [table, text] = [texts.advanced.table, texts.advanced.text];
+  let shown = table;
   let showTextFault = null;
-  const ways = ['Table', 'Text'];
-  const { strip, panel, show } = tabs(ways, 'Ways to look at the list', (name, body) => {
+  const { strip, panel, show } = tabs([table, text], texts.advanced.ways, (name, body) => {
     shown = name;
-    if (name === 'Text') showTextFault = drawText(draft, body);
+    if (name === text) showTextFault = drawText(draft, body);
     else drawTable(draft, body);
   });
   const showFault = () => {
-    if (shown === 'Table' && draft.faultPlace() >= 0) drawTable(draft, panel);
+    if (shown === table && draft.faultPlace() >= 0) drawTable(draft, panel);
     else {
-      show('Text');
+      show(text);
       showTextFault(true);
     }
   };
@@ -49,7 +44,7 @@ function panes(draft) {
 async function deliver(draft, both) {
   try {
     const done = await sendList(draft);
-    if (done === 'sent') tell('good', 'The list was sent and counts from now on.');
+    if (done === 'sent') tell('good', texts.advanced.sent);
     if (done) both.redraw();
   } catch (fault) {
     if (fault.status !== 422) tellFault(fault);
@@ -63,21 +58,23 @@ async function deliver(draft, both) {
 // What can be done with unsent changes, as long as there are any.
 function changesBar(draft, both) {
   const told = element('p', { class: 'unseen', role: 'status' });
-  const send = button('Review and send', async () => {
+  const send = button(texts.advanced.review, async () => {
     send.disabled = true;
     await deliver(draft, both);
     send.disabled = false;
   }, { class: 'primary' });
-  const drop = button('Drop changes', () => {
+  const drop = button(texts.advanced.drop, () => {
     draft.setText(draft.base);
     both.redraw();
   });
-  const hint = element('span', { class: 'hint' }, UNSENT);
+  const hint = element('span', { class: 'hint' }, texts.advanced.unsent);
   const bar = element('div', { class: 'send' }, hint, drop, send);
   draft.onChange = () => {
     bar.hidden = !draft.isChanged;
     const isTold = told.textContent !== '';
-    if (draft.isChanged !== isTold) told.textContent = draft.isChanged ? UNSENT : '';
+    if (draft.isChanged !== isTold) {
+      told.textContent = draft.isChanged ? texts.advanced.unsent : '';
+    }
   };
   draft.onChange();
   return [told, bar];
@@ -97,7 +94,7 @@ function readyButton(draft, both) {
       tellFault(fault);
     }
   };
-  return [button('Ready-made lists', pick, { class: 'small' })];
+  return [button(texts.advanced.ready, pick, { class: 'small' })];
 }
 
 export async function showList(path, which, kind, box, isCurrent) {
@@ -108,7 +105,7 @@ export async function showList(path, which, kind, box, isCurrent) {
     draft.mayChange = may;
     const both = panes(draft);
     const note = may ? null
-      : element('p', { class: 'hint' }, 'You may look at this list, but not change it (C).');
+      : element('p', { class: 'hint' }, texts.advanced.mayOnlyLook);
     const lead = element('div', { class: 'lead' }, element('p', {}, INTRODUCTIONS[which]),
       readyButton(draft, both));
     box.replaceChildren(lead, ...[note].filter(Boolean), both.strip, both.panel,

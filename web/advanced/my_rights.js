@@ -5,8 +5,9 @@ import * as api from '../net/api.js';
 import { element, icon, button } from '../ui/dom.js';
 import { isInherited, isName, printEntry, readListText } from '../acl/entries.js';
 import { form, notShown, tell, tellFault, waitFor } from '../ui/messages.js';
+import { texts } from '../language/language.js';
 import {
-  faultWords, isolated, placeWords, rightWords, sentenceOf, whoWords,
+  faultWords, isolated, placeWords, rightWords, sentenceOf, whomWords,
 } from '../text/words.js';
 
 const ASKED = { folder: 'rxwaDtcCo', document: 'rwatcCo' };
@@ -19,15 +20,14 @@ async function entriesOf(path) {
   return readListText(text).list?.entries ?? [];
 }
 
-// The entry that decided, as far as I may see it.
-function reason(ruling, entries, where = ' of its list') {
-  if (ruling.ruling === 'silent') return 'Nobody gave it to you.';
+// The entry that decided, as far as I may see it, in the object's own list or in that of a place.
+function reason(ruling, entries, place = null) {
+  if (ruling.ruling === 'silent') return texts.advanced.nobodyGave;
   const entry = entries[ruling.place - 1];
-  if (!entry) return `By line ${ruling.place}${where}.`;
-  const verb = ruling.ruling === 'allowed' ? 'allows' : 'denies';
-  const from = isInherited(entry) ? ', from a folder above' : '';
+  if (!entry) return texts.advanced.byLine(ruling.place, place);
+  const say = ruling.ruling === 'allowed' ? texts.advanced.allowedBy : texts.advanced.deniedBy;
   return element('span', { title: printEntry(entry) },
-    `By line ${ruling.place}${where}${from}, which ${verb} it to ${whoWords(entry)}.`);
+    say(ruling.place, place, isInherited(entry), whomWords(entry)));
 }
 
 // The rule of deleting: the object's list and its folder's list decide together.
@@ -36,27 +36,25 @@ function removal(own, above, entries, folder) {
   const [d, D, w] = ['d', 'D', 'w'].map((letter) => RULINGS[rulings[letter].ruling]);
   const { may, by } = deletion({ d, D, w });
   if (by === 'd') return { may, why: reason(own, entries) };
-  const there = ` of the list of ${placeWords(folder)}`;
   if (by === 'D' || rulings[by].ruling === 'denied') {
-    return { may, why: reason(rulings[by], [], there) };
+    return { may, why: reason(rulings[by], [], placeWords(folder)) };
   }
   // Neither list mentions removing, so the right w on the folder decides.
-  return { may, why: may
-    ? `Nothing says otherwise, and you may put documents into ${placeWords(folder)}.`
-    : 'Nobody gave it to you, here or at the folder above.' };
+  return { may, why: may ? texts.advanced.byAdding(placeWords(folder))
+    : texts.advanced.nobodyGaveHere };
 }
 
 function line(may, words, why) {
   return element('tr', { class: may ? 'may' : 'may-not' },
     element('td', { class: 'mark' }, icon(may ? 'check' : 'dash'),
-      element('span', { class: 'unseen' }, may ? 'Yes' : 'No')),
+      element('span', { class: 'unseen' }, may ? texts.advanced.yes : texts.advanced.no)),
     element('th', { scope: 'row' }, words),
     element('td', { class: 'why' }, why));
 }
 
 async function removalLine(path, rulings, entries) {
-  const what = 'remove it or move it away';
-  if (path === '/') return line(false, what, 'The top of the room stays where it is.');
+  const what = texts.advanced.removeOrMove;
+  if (path === '/') return line(false, what, texts.advanced.topStays);
   const folder = api.parentOf(path);
   const above = await api.can(folder, 'Dw').catch(none);
   if (above.fault) return line(rulings.d.ruling === 'allowed', what, sentenceOf(above.fault));
@@ -71,23 +69,24 @@ async function rightsTable(path, kind) {
     rightWords(letter, kind), reason(rulings[letter], entries)));
   lines.splice(kind === 'folder' ? 5 : 3, 0, await removalLine(path, rulings, entries));
   return element('table', { class: 'rights' },
-    element('caption', {}, 'What you may do'),
-    element('thead', { class: 'unseen' }, element('tr', {}, element('th', { scope: 'col' }, 'May'),
-      element('th', { scope: 'col' }, 'What'), element('th', { scope: 'col' }, 'By which entry'))),
+    element('caption', {}, texts.advanced.whatYouMay),
+    element('thead', { class: 'unseen' }, element('tr', {},
+      [texts.advanced.may, texts.advanced.what, texts.advanced.byWhich]
+        .map((heading) => element('th', { scope: 'col' }, heading)))),
     element('tbody', {}, lines));
 }
 
 const ownerFault = (name) => (isName(name) ? null : faultWords('A3'));
 
 async function changeOwners(path, attributes, refresh) {
-  const names = await form('Owner and group', [
-    { label: 'Owner (a user)', value: attributes.owner, fault: ownerFault },
-    { label: 'Group', value: attributes.group, fault: ownerFault },
-  ], 'Change them');
+  const names = await form(texts.advanced.owners, [
+    { label: texts.advanced.ownerField, value: attributes.owner, fault: ownerFault },
+    { label: texts.advanced.group, value: attributes.group, fault: ownerFault },
+  ], texts.advanced.changeThem);
   if (!names) return;
   try {
     await waitFor(api.setOwners(path, names[0], names[1]));
-    tell('good', `The owner is now ${isolated(names[0])}, the group ${isolated(names[1])}.`);
+    tell('good', texts.advanced.ownersNow(isolated(names[0]), isolated(names[1])));
     await refresh();
   } catch (fault) {
     tellFault(fault);
@@ -98,10 +97,10 @@ function ownersBox(path, attributes, refresh) {
   if (attributes.fault) return element('p', { class: 'hint' }, sentenceOf(attributes.fault));
   return element('div', { class: 'owners' },
     element('dl', {},
-      element('dt', {}, 'Owner'), element('dd', {}, attributes.owner),
-      element('dt', {}, 'Group'), element('dd', {}, attributes.group)),
-    button('Change', () => changeOwners(path, attributes, refresh),
-      { class: 'small', 'aria-label': 'Change owner and group' }));
+      element('dt', {}, texts.advanced.owner), element('dd', {}, attributes.owner),
+      element('dt', {}, texts.advanced.group), element('dd', {}, attributes.group)),
+    button(texts.advanced.change, () => changeOwners(path, attributes, refresh),
+      { class: 'small', 'aria-label': texts.advanced.changeOwners }));
 }
 
 // Whether the object is a folder: by its attributes, by the listing of its parent, or by its own
@@ -126,7 +125,7 @@ export async function showRights(path, kind, box, isCurrent) {
       if (isCurrent()) box.replaceChildren(ownersBox(path, attributes, refresh), table);
     } catch (fault) {
       if (!isCurrent()) return;
-      box.replaceChildren(notShown('Your rights can’t be shown.', refresh));
+      box.replaceChildren(notShown(texts.advanced.rightsNotShown, refresh));
       tellFault(fault);
     }
   };

@@ -4,11 +4,12 @@ import * as api from '../net/api.js';
 import { changedLines } from '../acl/diff.js';
 import { button, element } from '../ui/dom.js';
 import { linesOf, readEntry } from '../acl/entries.js';
+import { texts } from '../language/language.js';
 import { question, showDialog, waitFor } from '../ui/messages.js';
 import { judged } from '../text/warnings.js';
 import { entryWords } from '../text/words.js';
 
-const SIGNS = { '+': ['ins', 'New: '], '-': ['del', 'Gone: '] };
+const SIGNS = { '+': ['ins', texts.advanced.fresh], '-': ['del', texts.advanced.gone] };
 
 function changedLine({ sign, line }) {
   const [tag, words] = SIGNS[sign];
@@ -25,27 +26,26 @@ export function difference(before, after) {
 
 const warning = ({ kind, text }) => element('li', { class: kind }, text);
 
-const review = (before, after, warned) => showDialog('Send these changes?', (finish) => [
+const review = (before, after, warned) => showDialog(texts.advanced.sendChanges, (finish) => [
   difference(before, after),
   warned.length === 0 ? ''
-    : element('ul', { class: 'warnings', 'aria-label': 'Mind this' }, warned.map(warning)),
+    : element('ul', { class: 'warnings', 'aria-label': texts.acts.mindThis }, warned.map(warning)),
   element('div', { class: 'actions' },
-    button('Cancel', () => finish(null)),
-    button('Send', () => finish('send'), { class: 'primary', autofocus: true }))]);
+    button(texts.acts.cancel, () => finish(null)),
+    button(texts.advanced.send, () => finish('send'), { class: 'primary', autofocus: true }))]);
 
-const changedElsewhere = (before, now) => showDialog('The list was changed elsewhere', (finish) => [
-  element('p', {}, 'Since you opened it, somebody changed this list or one that it inherits from:'),
+const changedElsewhere = (before, now) => showDialog(texts.advanced.changedElsewhere, (finish) => [
+  element('p', {}, texts.advanced.since),
   difference(before, now),
-  element('p', {}, 'Take the list as it is now and drop your changes, or go on with yours. Then '
-    + 'you are shown what they would undo.'),
+  element('p', {}, texts.advanced.takeOrGoOn),
   element('div', { class: 'actions' },
-    button('Cancel', () => finish(null), { autofocus: true }),
-    button('Take the list as it is', () => finish('theirs')),
-    button('Go on with mine', () => finish('mine')))]);
+    button(texts.acts.cancel, () => finish(null), { autofocus: true }),
+    button(texts.advanced.takeTheirs, () => finish('theirs')),
+    button(texts.advanced.goOn, () => finish('mine')))]);
 
 // Nobody gives a list away by a few quick clicks.
 const accepts = (loss) => loss === null
-  || question(loss.title, loss.text, [['send', 'Send it all the same', 'danger']]);
+  || question(loss.title, loss.text, [['send', texts.advanced.sendAllTheSame, 'danger']]);
 
 // 'sent'; 'dropped' if the user took the room's list; or null if nothing was done.
 export async function sendList(draft) {

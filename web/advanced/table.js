@@ -3,6 +3,7 @@
 import { button, element, icon } from '../ui/dom.js';
 import { controls, newEntry, words } from './entry_controls.js';
 import { isInherited } from '../acl/entries.js';
+import { texts } from '../language/language.js';
 import { faultWords } from '../text/words.js';
 
 const cell = ([heading, content]) => element('td', { 'data-heading': heading }, content);
@@ -19,16 +20,17 @@ function moves(draft, place, redraw) {
     const next = Math.min(place, draft.ownPlaces().at(-1) ?? -1);
     redraw((body, add) => body.querySelector(`[data-place="${next}"] .drop`) ?? add);
   };
-  return element('td', { class: 'moves', 'data-heading': 'Order' }, element('div', {},
+  return element('td', { class: 'moves', 'data-heading': texts.advanced.order }, element('div', {},
     button(icon('up'), () => shift(-1, 'up'), {
-      class: 'plain up', 'aria-label': `Move entry ${number} up`,
+      class: 'plain up', 'aria-label': texts.advanced.moveUp(number),
       'aria-disabled': String(place === own[0]),
     }),
     button(icon('down'), () => shift(1, 'down'), {
-      class: 'plain down', 'aria-label': `Move entry ${number} down`,
+      class: 'plain down', 'aria-label': texts.advanced.moveDown(number),
       'aria-disabled': String(place === own.at(-1)),
     }),
-    button(icon('cross'), drop, { class: 'plain drop', 'aria-label': `Remove entry ${number}` })));
+    button(icon('cross'), drop,
+      { class: 'plain drop', 'aria-label': texts.advanced.removeEntry(number) })));
 }
 
 function ownRow(draft, place, redraw) {
@@ -45,11 +47,12 @@ function inheritedRow(draft, entry) {
     element('th', { scope: 'row', class: 'number' }, String(draft.list.entries.indexOf(entry) + 1)),
     words(entry, draft).map(cell),
     draft.mayChange
-      ? element('td', { class: 'moves' }, element('span', { class: 'hint' }, 'from above')) : null);
+      ? element('td', { class: 'moves' },
+        element('span', { class: 'hint' }, texts.advanced.fromAbove)) : null);
 }
 
 function faultRow(draft, columns) {
-  const said = `Entry ${draft.faultPlace() + 1}: ${faultWords(draft.fault.code)}`;
+  const said = texts.advanced.faultAt(draft.faultPlace() + 1, faultWords(draft.fault.code));
   return element('tr', { class: 'fault' },
     element('td', { colspan: String(columns), role: 'alert' }, said));
 }
@@ -69,12 +72,11 @@ function flagBox(draft, name, label, hint, redraw) {
 function flags(draft, redraw) {
   const kept = draft.list.protect && draft.mayChange && draft.inherited().length > 0;
   return element('div', { class: 'flags' },
-    draft.kind === 'folder' ? flagBox(draft, 'auto', 'Pass on',
-      'What lies in this folder follows this list, also when it changes.', redraw) : null,
-    draft.path === '/' ? null : flagBox(draft, 'protect', 'Protect',
-      'Nothing comes here from the folder above any more. The grey entries stay as they are now, '
-        + 'unless they are dropped.', redraw),
-    kept ? button('Drop the grey entries', () => {
+    draft.kind === 'folder' ? flagBox(draft, 'auto', texts.advanced.passOn,
+      texts.advanced.passOnHint, redraw) : null,
+    draft.path === '/' ? null : flagBox(draft, 'protect', texts.advanced.protect,
+      texts.advanced.protectHint, redraw),
+    kept ? button(texts.advanced.dropGrey, () => {
       draft.dropInherited();
       redraw((body) => body.querySelector('.flag-protect input'));
     }, { class: 'small' }) : null);
@@ -82,10 +84,12 @@ function flags(draft, redraw) {
 
 // The columns: the name that its width goes by, and its heading.
 function columnsOf(draft) {
-  const order = element('span', { class: 'unseen' }, 'Order and removal');
-  return [['number', 'No.'], ['type', 'Type'], ['who', 'Who'],
-    draft.which === 'sacl' ? ['outcome', 'Records'] : null, ['rights', 'Rights'],
-    draft.kind === 'folder' ? ['reach', 'Where it counts'] : null,
+  const order = element('span', { class: 'unseen' }, texts.advanced.orderAndRemoval);
+  return [['number', texts.advanced.number], ['type', texts.advanced.type],
+    ['who', texts.advanced.who],
+    draft.which === 'sacl' ? ['outcome', texts.advanced.records] : null,
+    ['rights', texts.advanced.rights],
+    draft.kind === 'folder' ? ['reach', texts.advanced.reach] : null,
     draft.mayChange ? ['order', order] : null].filter((column) => column !== null);
 }
 
@@ -103,21 +107,19 @@ function rows(draft, columns, redraw) {
 export function drawTable(draft, body, focusOn = null) {
   if (!draft.list) {
     body.replaceChildren(element('p', { class: 'empty' },
-      `The text can’t be read: line ${draft.fault.line}. ${faultWords(draft.fault.code)} Correct `
-        + 'it under “Text”.'));
+      texts.advanced.unread(draft.fault.line, faultWords(draft.fault.code))));
     return;
   }
   const redraw = (pick) => drawTable(draft, body, pick);
   const columns = columnsOf(draft);
-  const add = button([icon('plus'), 'Add an entry'], () => {
+  const add = button([icon('plus'), texts.advanced.add], () => {
     const place = draft.add(newEntry(draft.which, draft.kind));
     redraw(() => body.querySelector(`[data-place="${place}"] .who input`));
   }, { class: 'add' });
   const content = draft.list.entries.length === 0
-    ? element('p', { class: 'empty' }, 'The list has no entries.')
+    ? element('p', { class: 'empty' }, texts.advanced.empty)
     : element('table', { class: `entries ${draft.which}` },
-      element('caption', { class: 'unseen' }, 'Entries in order. The first one that applies to a '
-        + 'caller and has a right decides it.'),
+      element('caption', { class: 'unseen' }, texts.advanced.caption),
       element('colgroup', {}, columns.map(([name]) => element('col', { class: `col-${name}` }))),
       element('thead', {}, element('tr', {},
         columns.map(([, heading]) => element('th', { scope: 'col' }, heading)))),

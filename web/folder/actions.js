@@ -7,6 +7,7 @@ import { element } from '../ui/dom.js';
 import { downloadAll, downloadOne, downloadWhole } from './download.js';
 import { hasDoor } from '../net/door.js';
 import { inTurn } from './batch.js';
+import { texts } from '../language/language.js';
 import { linkTo } from '../ui/links.js';
 import { askedFor } from '../ui/ask_whom.js';
 import { accepted, askMove, askPlace } from './move.js';
@@ -14,9 +15,7 @@ import { readersWords } from './moved.js';
 import { form, question, showDialog, tell, tellFault, waitFor } from '../ui/messages.js';
 import { stoppable } from '../ui/panel.js';
 import { preview } from './preview.js';
-import { counted, isolated, nameFault, placeWords, sentenceOf } from '../text/words.js';
-
-const TAKEN = 'There is already something of this name. Choose another one.';
+import { isolated, nameFault, placeWords, sentenceOf } from '../text/words.js';
 
 // Asks again, with what was typed, as long as something of that name is there already. Returns what
 // was typed at last, or null.
@@ -29,20 +28,20 @@ async function untilFree(ask, does) {
       return await does(typed) ? typed : null;
     } catch (fault) {
       if (fault.body?.why !== 'exists') throw fault;
-      wrong = TAKEN;
+      wrong = texts.folder.taken;
     }
   }
 }
 
 export async function makeFolder(folder) {
-  const ask = async (value, wrong) =>
-    (await form('New folder', [{ label: 'Name', value, fault: nameFault, wrong }], 'Make it'))?.[0];
+  const ask = async (value, wrong) => (await form(texts.folder.newFolder,
+    [{ label: texts.acts.name, value, fault: nameFault, wrong }], texts.folder.makeIt))?.[0];
   const name = await untilFree(ask, async (typed) => {
     await waitFor(api.makeFolder(api.join(folder, typed)));
     return true;
   });
   if (name === null) return null;
-  tell('good', `The folder ${isolated(name)} was made.`);
+  tell('good', texts.folder.made(isolated(name)));
   return { name };
 }
 
@@ -54,7 +53,7 @@ export async function move(path, kind) {
     return is;
   });
   if (to === null) return null;
-  tell('good', `${isolated(api.nameOf(path))} is now ${placeWords(to)}.`);
+  tell('good', texts.moving.now(isolated(api.nameOf(path)), placeWords(to)));
   return { name: api.parentOf(to) === api.parentOf(path) ? api.nameOf(to) : null };
 }
 
@@ -65,14 +64,15 @@ export async function moveAll(objects) {
   if (!(await accepted(objects, place))) return null;
   const { done, failed, left, stopped } = await inTurn(objects,
     ({ path }) => api.move(path, api.join(place, api.nameOf(path))),
-    { title: `Move to ${placeWords(place)}`, verb: 'moved' });
-  if (done > 0) tell('good', `${counted(done, 'object')} moved to ${placeWords(place)}.`);
-  if (stopped) tell('bad', `Stopped. Not moved: ${counted(left.length, 'object')}.`);
+    { title: texts.moving.to(placeWords(place)), told: texts.moving.movedSomeOf });
+  if (done > 0) tell('good', texts.moving.moved(done, placeWords(place)));
+  if (stopped) tell('bad', texts.moving.stopped(left.length));
   for (const { object, fault } of failed.slice(0, 3)) {
-    tell('bad', `${isolated(api.nameOf(object.path))} stays here. ${sentenceOf(fault)}`);
+    const stays = texts.moving.staysHere(isolated(api.nameOf(object.path)));
+    tell('bad', `${stays} ${sentenceOf(fault)}`);
   }
   const more = failed.length - 3 + (stopped ? 0 : left.length);
-  if (more > 0) tell('bad', `${counted(more, 'more object')} couldn’t be moved.`);
+  if (more > 0) tell('bad', texts.moving.notMoved(more));
   return { name: null };
 }
 
@@ -80,12 +80,13 @@ export async function moveAll(objects) {
 // which one may not, and whom to ask.
 async function mayRemove(all, objects) {
   const isChosen = ({ path }) => objects.some((one) => one.path === path);
-  const panel = stoppable('Looking at what may be removed', all.length);
+  const panel = stoppable(texts.folder.lookingAtRemoval, all.length);
   const chosenFirst = [...all.filter(isChosen), ...all.filter((one) => !isChosen(one))];
   const barred = await waitFor(barredIn(chosenFirst, panel)).finally(panel.remove);
   if (panel.isStopped() || barred === null) return !panel.isStopped();
-  const why = element('a', { class: 'button small', href: linkTo(barred.path, 'rights') }, 'Why');
-  tell('bad', `You may not remove ${placeWords(barred.path)}, so nothing was removed. ${
+  const why = element('a', { class: 'button small', href: linkTo(barred.path, 'rights') },
+    texts.acts.why);
+  tell('bad', `${texts.folder.mayNotRemove(placeWords(barred.path))} ${
     await waitFor(askedFor(barred.at))}`, why);
   return false;
 }
@@ -96,7 +97,7 @@ export async function remove(objects) {
   const all = await waitFor(allBelow(objects, unseen));
   if (!(await mayRemove(all, objects))) return null;
   const { title, text } = removalQuestion(objects, all, unseen);
-  const words = objects.length === 1 ? 'Remove it' : 'Remove them';
+  const words = objects.length === 1 ? texts.folder.removeIt : texts.folder.removeThem;
   if (!(await question(title, text, [['remove', words, 'danger']]))) return null;
   const what = objects.length === 1 ? isolated(api.nameOf(objects[0].path)) : amount(objects);
   // What is in a folder comes before it, so nothing after a fault could be removed either. First
@@ -104,14 +105,15 @@ export async function remove(objects) {
   const isUnseen = ({ path }) => unseen.includes(path);
   const order = [...all.filter(isUnseen), ...all.filter((one) => !isUnseen(one))];
   const { done, failed, stopped } = await inTurn(order, ({ path }) => api.remove(path),
-    { title: `Remove ${what}`, verb: 'removed' }, true);
-  const rest = `${done.toLocaleString('en')} of ${all.length.toLocaleString('en')} were removed. `
-    + 'The rest is still there.';
-  if (stopped) tell('bad', `Stopped. ${rest}`);
+    { title: texts.folder.removing(what), told: texts.folder.removedSomeOf }, true);
+  if (stopped) tell('bad', texts.folder.stoppedRemoval(done, all.length));
   else if (failed.length > 0) {
     tellFault(failed[0].fault);
-    if (done > 0) tell('bad', rest);
-  } else tell('good', `${what} ${objects.length === 1 ? 'was' : 'were'} removed.`);
+    if (done > 0) tell('bad', texts.folder.removedSome(done, all.length));
+  } else {
+    const removed = objects.length === 1 ? texts.folder.removedOne : texts.folder.removedSeveral;
+    tell('good', removed(what));
+  }
   return { name: null };
 }
 
@@ -132,17 +134,17 @@ export async function look(path) {
 export async function copyLink(path) {
   const address = new URL(linkTo(path), location.href).href;
   const copied = await navigator.clipboard?.writeText(address).then(() => true, () => false);
-  const rights = `It gives nobody a right. ${await waitFor(readersWords(path))}`;
-  if (copied) tell('good', `The link was copied. ${rights}`);
+  const rights = `${texts.folder.linkGives} ${await waitFor(readersWords(path))}`;
+  if (copied) tell('good', `${texts.folder.linkCopied} ${rights}`);
   else {
     const field = element('input', {
-      type: 'text', readonly: true, value: address, 'aria-label': 'Link',
+      type: 'text', readonly: true, value: address, 'aria-label': texts.folder.link,
     });
     field.addEventListener('focus', () => field.select());
-    await showDialog('The link', (finish) => [
-      element('p', {}, `Copy it from here. ${rights}`), field,
+    await showDialog(texts.folder.theLink, (finish) => [
+      element('p', {}, `${texts.folder.copyFromHere} ${rights}`), field,
       element('div', { class: 'actions' },
-        element('button', { type: 'button', onclick: () => finish(null) }, 'Close'))]);
+        element('button', { type: 'button', onclick: () => finish(null) }, texts.acts.close))]);
   }
   return null;
 }

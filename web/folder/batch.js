@@ -1,6 +1,7 @@
 // Something done with several objects, one after the other: with a count, a stop, and another try
 // for what failed.
 
+import { texts } from '../language/language.js';
 import { endsAll, mayHelpAgain } from '../net/retry.js';
 import { button, element } from '../ui/dom.js';
 import { showDialog, waitFor } from '../ui/messages.js';
@@ -28,12 +29,12 @@ async function once(objects, does, panel, stopsAtFault) {
 const askAgain = (title, fault) => showDialog(title, (finish) => [
   element('p', {}, sentenceOf(fault)),
   element('div', { class: 'actions' },
-    button('Leave them', () => finish(null), { autofocus: true }),
-    button('Try the failed ones again', () => finish('again'), { class: 'primary' }))]);
+    button(texts.folder.leaveThem, () => finish(null), { autofocus: true }),
+    button(texts.acts.tryAgain, () => finish('again'), { class: 'primary' }))]);
 
-// 'words' are {title, verb}, such as 'Remove x' and 'removed'. Returns {done, failed: [{object,
-// fault}], left, stopped}: how many were done, which failed, and which weren't tried.
-export async function inTurn(objects, does, { title, verb }, stopsAtFault = false) {
+// 'title' is said meanwhile, and 'told(done, whole)' before another try. Returns {done, failed:
+// [{object, fault}], left, stopped}: how many were done, which failed, and which weren't tried.
+export async function inTurn(objects, does, { title, told }, stopsAtFault = false) {
   let [done, rest] = [0, objects];
   for (;;) {
     const panel = stoppable(title, rest.length);
@@ -41,8 +42,8 @@ export async function inTurn(objects, does, { title, verb }, stopsAtFault = fals
     panel.remove();
     done += last.done;
     const fault = last.failed.map((one) => one.fault).find(mayHelpAgain);
-    const told = `${done.toLocaleString('en')} of ${objects.length.toLocaleString('en')} ${verb}`;
-    if (last.stopped || !fault || !(await askAgain(told, fault))) return { ...last, done };
+    if (last.stopped || !fault) return { ...last, done };
+    if (!(await askAgain(told(done, objects.length), fault))) return { ...last, done };
     rest = [...last.failed.map(({ object }) => object), ...last.left];
   }
 }

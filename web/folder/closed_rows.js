@@ -1,15 +1,14 @@
 // What somebody may see in a folder and can't open looks so.
 
+import { texts } from '../language/language.js';
 import { element, icon } from '../ui/dom.js';
-
-const CLOSED = 'You can’t open this';
 
 export function markClosed(row) {
   if (row.classList.contains('shut')) return;
   row.classList.add('shut');
   const name = row.querySelector('[data-act="open"]');
-  name.title = CLOSED;
-  name.append(icon('lock'), element('span', { class: 'unseen' }, `, ${CLOSED}`));
+  name.title = texts.folder.cantOpen;
+  name.append(icon('lock'), element('span', { class: 'unseen' }, `, ${texts.folder.cantOpen}`));
 }
 
 // Those of the rows that are drawn by now.

@@ -2,11 +2,12 @@
 
 import * as api from '../net/api.js';
 import { allBelow } from './subtree.js';
+import { texts } from '../language/language.js';
 import { zipAddress } from '../net/door.js';
 import { element } from '../ui/dom.js';
 import { tell, waitFor } from '../ui/messages.js';
 import { stoppable } from '../ui/panel.js';
-import { counted, sentenceOf } from '../text/words.js';
+import { sentenceOf } from '../text/words.js';
 import { zipOf } from '../ui/zip.js';
 
 function follow(address, name) {
@@ -34,7 +35,7 @@ async function bytesOf(path) {
 
 // A folder with all in it, as the door sends it: the browser writes it down as it comes.
 export const downloadWhole = (path) =>
-  follow(zipAddress(path), `${path === '/' ? 'documents' : api.nameOf(path)}.zip`);
+  follow(zipAddress(path), `${path === '/' ? texts.folder.zip : api.nameOf(path)}.zip`);
 
 // All of them in one ZIP file. What may not be read is left out, and told.
 export async function downloadAll(objects, folder) {
@@ -42,7 +43,7 @@ export async function downloadAll(objects, folder) {
   const files = [];
   const faults = [];
   const all = await waitFor(allBelow(objects, unseen));
-  const panel = stoppable('Download', all.length);
+  const panel = stoppable(texts.acts.download, all.length);
   for (const [index, { path, kind }] of all.entries()) {
     panel.show(index, all.length);
     if (panel.isStopped()) break;
@@ -58,11 +59,11 @@ export async function downloadAll(objects, folder) {
   if (panel.isStopped()) return;
   const left = faults.length + unseen.length;
   const zip = zipOf(files);
-  if (!zip) tell('bad', 'These are too many for one download. Select fewer.');
+  if (!zip) tell('bad', texts.folder.tooMany);
   else if (files.length === 0 && faults.length > 0) throw faults[0];
-  else save(zip, `${folder === '/' ? 'documents' : api.nameOf(folder)}.zip`);
+  else save(zip, `${folder === '/' ? texts.folder.zip : api.nameOf(folder)}.zip`);
   if (zip && files.length > 0 && left > 0) {
     const why = faults.length > 0 ? ` ${sentenceOf(faults[0])}` : '';
-    tell('bad', `Left out, since you may not see it: ${counted(left, 'object')}.${why}`);
+    tell('bad', `${texts.folder.leftOut(left)}${why}`);
   }
 }

@@ -1,5 +1,6 @@
 // Files that are dragged over an open folder, and dropped on it or on one of its rows.
 
+import { texts } from '../language/language.js';
 import { question, tell } from '../ui/messages.js';
 import { treeOf } from './tree.js';
 import { isolated, placeWords } from '../text/words.js';
@@ -26,15 +27,14 @@ async function placeFor(dropped, row, open) {
   if (kind === 'folder') return path;
   const name = isolated(nameOf(path));
   if (dropped.some(({ directory }) => directory)) {
-    tell('bad', `A folder can’t be put into a document, and ${name} is one. `
-      + 'Drop it on a folder, or beside the rows.');
+    tell('bad', texts.upload.folderIntoDocument(name));
     return null;
   }
-  const what = dropped.length === 1 ? isolated(dropped[0].name) : `the ${dropped.length} documents`;
-  const answer = await question('This is a document',
-    `Nothing can be put into ${name}, since it is a document. `
-    + `Put ${what} beside it, into the open folder (${placeWords(open)})?`,
-    [['beside', 'Put beside it', 'primary']]);
+  const beside = placeWords(open);
+  const answer = await question(texts.upload.isDocument, dropped.length === 1
+    ? texts.upload.besideOne(name, isolated(dropped[0].name), beside)
+    : texts.upload.besideSeveral(name, dropped.length, beside),
+  [['beside', texts.upload.beside, 'primary']]);
   return answer && open;
 }
 

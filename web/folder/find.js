@@ -3,23 +3,14 @@
 
 import * as api from '../net/api.js';
 import { button, element, icon, nameText } from '../ui/dom.js';
+import { texts } from '../language/language.js';
 import { findBelow, hasDoor } from '../net/door.js';
 import { linkTo } from '../ui/links.js';
 import { tellFault, waitFor } from '../ui/messages.js';
-import { some } from '../ui/names.js';
+import { shortened } from '../ui/names.js';
 import { marked } from '../text/invisible.js';
-import { counted, isolated } from '../text/words.js';
+import { isolated } from '../text/words.js';
 
-const FIND = 'Find further down';
-const BACK = 'Back to the folder';
-const BUSY = 'Looking further down …';
-const NONE = 'Nothing in this folder or further down has these letters in its name.';
-const MORE = 'There are more, or more to look through than at once: open a folder and find there, '
-  + 'or type more of the name.';
-const TOO_LONG = 'No name is as long as that.';
-const foundWords = (count, text) => `${counted(count, 'name')} with “${isolated(text)}”`;
-const UNSEEN = (places) => `You may not see what is in ${places}.`;
-const inWords = (folder) => (folder === '/' ? 'in All documents' : `in ${marked(folder)}`);
 const LONGEST = 255;
 const MOST_UNSEEN = 3;
 
@@ -28,7 +19,8 @@ function line({ path, kind }, top) {
   return element('li', {},
     element('a', { class: 'object', href: linkTo(path, kind === 'folder' ? null : 'show') },
       icon(kind), nameText(api.nameOf(path))),
-    folder === top ? null : element('a', { class: 'hint', href: linkTo(folder) }, inWords(folder)));
+    folder === top ? null : element('a', { class: 'hint', href: linkTo(folder) },
+      texts.folder.within(folder === '/' ? texts.places.all : marked(folder))));
 }
 
 // The arrow keys go from one to the next; up from the first leads back to the field.
@@ -45,17 +37,19 @@ function goThrough(list, field) {
 }
 
 function shown({ found, all, unlisted }, { text, top, field, isBusy }, back) {
-  const list = element('ul', { class: 'places found', 'aria-label': FIND },
+  const list = element('ul', { class: 'places found', 'aria-label': texts.find.find },
     found.map((one) => line(one, top)));
   goThrough(list, field);
-  const hidden = unlisted.map((path) => `“${isolated(path)}”`);
-  const told = isBusy ? BUSY : found.length === 0 ? NONE : foundWords(found.length, text);
+  const hidden = unlisted.map((path) => texts.places.quoted(isolated(path)));
+  const some = found.length === 0 ? texts.find.none
+    : texts.find.found(found.length, isolated(text));
+  const told = isBusy ? texts.find.busy : some;
   return element('div', { class: 'found-of' },
     element('div', { class: 'bar' }, element('p', { role: 'status' }, told),
-      button(BACK, back, { class: 'small' })), list,
-    isBusy || all ? null : element('p', { class: 'hint' }, MORE),
+      button(texts.page.backToFolder, back, { class: 'small' })), list,
+    isBusy || all ? null : element('p', { class: 'hint' }, texts.find.more),
     hidden.length === 0 ? null
-      : element('p', { class: 'hint' }, UNSEEN(some(hidden, MOST_UNSEEN))));
+      : element('p', { class: 'hint' }, texts.find.unseen(shortened(hidden, MOST_UNSEEN))));
 }
 
 // The field takes the focus by '/', where nothing is typed anywhere else.
@@ -81,7 +75,7 @@ class Finder {
     this.here = here;
     this.redraw = redraw;
     this.looks = 0;
-    this.press = button(FIND, () => this.start(), { class: 'small find', hidden: true });
+    this.press = button(texts.find.find, () => this.start(), { class: 'small find', hidden: true });
   }
 
   back() {
@@ -92,7 +86,7 @@ class Finder {
 
   start() {
     const { length } = new TextEncoder().encode(this.field.value.trim());
-    this.field.setCustomValidity(length > LONGEST ? TOO_LONG : '');
+    this.field.setCustomValidity(length > LONGEST ? texts.find.tooLong : '');
     if (length === 0) this.field.focus();
     else if (this.field.reportValidity()) this.find(this.field.value.trim()).catch(tellFault);
   }

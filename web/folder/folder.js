@@ -5,6 +5,7 @@ import * as api from '../net/api.js';
 import { closedFolder, placesBelow } from './no_listing.js';
 import { button, element, icon, nameText } from '../ui/dom.js';
 import { acceptDrops } from './drop.js';
+import { texts } from '../language/language.js';
 import { linkTo } from '../ui/links.js';
 import { notShown, tell, tellFault, waitFor } from '../ui/messages.js';
 import { arrived } from '../net/directory.js';
@@ -16,7 +17,6 @@ import { treeOfFiles } from './tree.js';
 import { uploadAll } from './upload.js';
 
 const ASKED = 'rxwaDtcCo';
-const MAY_NOT = { w: 'You may not put documents here.', a: 'You may not make folders here.' };
 
 function fileField(label, properties, take) {
   const input = element('input', {
@@ -31,26 +31,27 @@ function fileField(label, properties, take) {
 
 // The buttons of the folder. What isn't granted is greyed out, and says so when it is pressed.
 function bar(path, send, make) {
-  const files = fileField('Documents to upload', { multiple: true, class: 'files' },
+  const files = fileField(texts.folder.filesField, { multiple: true, class: 'files' },
     (all) => send(all, [], path));
-  const whole = fileField('Folder to upload', { webkitdirectory: true, class: 'whole' },
+  const whole = fileField(texts.folder.wholeField, { webkitdirectory: true, class: 'whole' },
     (all) => send([], [treeOfFiles(all)], path));
   const needs = [];
   const act = (letter, mark, words, does, look) => {
     const made = button([icon(mark), words], () => {
-      if (made.getAttribute('aria-disabled') === 'true') tell('bad', MAY_NOT[letter]);
+      if (made.getAttribute('aria-disabled') === 'true') tell('bad', texts.folder.mayNot[letter]);
       else does();
     }, { class: look });
     needs.push([letter, made]);
     return made;
   };
   const shown = element('div', { class: 'bar' },
-    element('h1', {}, path === '/' ? 'All documents' : nameText(api.nameOf(path))),
+    element('h1', {}, path === '/' ? texts.places.all : nameText(api.nameOf(path))),
     element('div', { class: 'actions' },
-      act('w', 'upload', 'Upload', () => files.click(), 'primary'),
-      act('a', 'upload', 'Upload a folder', () => whole.click()),
-      act('a', 'plus', 'New folder', make),
-      element('a', { class: 'button', href: linkTo(path, 'access') }, icon('key'), 'Access')),
+      act('w', 'upload', texts.folder.upload, () => files.click(), 'primary'),
+      act('a', 'upload', texts.folder.uploadFolder, () => whole.click()),
+      act('a', 'plus', texts.folder.newFolder, make),
+      element('a', { class: 'button', href: linkTo(path, 'access') }, icon('key'),
+        texts.folder.access)),
     files, whole);
   // In a folder whose contents aren't shown, what isn't granted isn't offered.
   const grant = (may, isClosed = false) => {
@@ -58,18 +59,18 @@ function bar(path, send, make) {
       const lacks = may !== null && may[letter].ruling !== 'allowed';
       made.setAttribute('aria-disabled', String(lacks));
       made.hidden = lacks && isClosed;
-      if (lacks) made.title = MAY_NOT[letter];
+      if (lacks) made.title = texts.folder.mayNot[letter];
       else made.removeAttribute('title');
     }
   };
   return { shown, grant };
 }
 
-// The filter, which also finds what is further down, and what can be done with what is selected. Its
-// place is kept when nothing is.
+// The filter, which also finds what is further down, and what can be done with what is selected.
+// Its place is kept when nothing is.
 function tools(look, does, redraw, found) {
   const filter = element('input', {
-    type: 'search', 'aria-label': 'Filter by name', placeholder: 'Filter by name',
+    type: 'search', 'aria-label': texts.folder.filter, placeholder: texts.folder.filter,
     autocomplete: 'off', spellcheck: 'false',
   });
   filter.addEventListener('input', () => {
@@ -77,14 +78,14 @@ function tools(look, does, redraw, found) {
     redraw();
   });
   const told = element('span', { class: 'count', role: 'status' });
-  const group = { class: 'chosen', role: 'group', 'aria-label': 'What is selected' };
+  const group = { class: 'chosen', role: 'group', 'aria-label': texts.folder.chosen };
   const chosen = element('div', group, told,
-    button('Download', () => does('download'), { class: 'small' }),
-    button('Move', () => does('move'), { class: 'small' }),
-    button('Remove', () => does('remove'), { class: 'small' }));
+    button(texts.acts.download, () => does('download'), { class: 'small' }),
+    button(texts.folder.move, () => does('move'), { class: 'small' }),
+    button(texts.acts.remove, () => does('remove'), { class: 'small' }));
   const tell = () => {
     const count = chosenOf(look).length;
-    told.textContent = count === 0 ? '' : `${count} selected`;
+    told.textContent = count === 0 ? '' : texts.folder.selected(count);
     chosen.classList.toggle('none', count === 0);
   };
   const finding = finder(found.path, filter, { ...found, redraw });
@@ -128,7 +129,7 @@ class FolderView {
     this.bar = bar(path, send, () => this.doing(() => acts.makeFolder(path)));
     this.tools = tools(this.look, (what) => this.withChosen(what), () => this.draw(), { path,
       place: this.body, here: () => this.objects(shownOf(this.look)) });
-    this.area = element('section', { class: 'folder-view', 'aria-label': 'Folder' },
+    this.area = element('section', { class: 'folder-view', 'aria-label': texts.folder.label },
       this.bar.shown, this.tools.shown, this.body, this.places);
     acceptDrops(this.area, path, send);
   }
@@ -193,7 +194,7 @@ class FolderView {
     }
   }
 
-  // What can't be opened, and whether names can be looked for further down, is known a little later.
+  // What can't be opened, and whether names can be looked for further down, is known a bit later.
   async showShut() {
     this.look.closed = await closedIn(this.path);
     if (!this.isCurrent()) return;
@@ -221,8 +222,7 @@ class FolderView {
     if (fault.body?.why === 'wrong-kind') location.replace(linkTo(this.path, 'show'));
     else if (fault.status === 403) this.showClosed(fault, may).catch(tellFault);
     else {
-      const words = 'What is in this folder can’t be shown.';
-      this.body.replaceChildren(notShown(words, () => this.refresh()));
+      this.body.replaceChildren(notShown(texts.folder.notShown, () => this.refresh()));
       tellFault(fault);
     }
   }

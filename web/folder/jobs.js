@@ -1,8 +1,9 @@
 // What an upload has to send, and the lines that tell how far it is.
 
 import * as api from '../net/api.js';
+import { texts } from '../language/language.js';
 import { element, icon, nameText } from '../ui/dom.js';
-import { counted, isolated, nameFault, tooLarge } from '../text/words.js';
+import { isolated, nameFault } from '../text/words.js';
 
 // Some systems split an umlaut into a letter and dots. The normalized form is what people type.
 export const normal = (name) => name.normalize('NFC');
@@ -12,12 +13,14 @@ export const normal = (name) => name.normalize('NFC');
 const newJob = (path, folder, file) => (
   { path: api.join(folder, path), name: path, file, state: 'waits', words: '', part: 0 });
 
-export const faultOf = ({ name, file }) => (file.size > api.GREATEST_DOCUMENT ? tooLarge('It')
+export const faultOf = ({ name, file }) => (file.size > api.GREATEST_DOCUMENT
+  ? texts.faults.largeFile(api.GREATEST_DOCUMENT)
   : name.split('/').map(nameFault).find((fault) => fault !== null) ?? null);
 
 function newLine(mark, name) {
-  const bar = element('progress', { max: '100', value: '0', 'aria-label': `Upload of ${name}` });
-  const state = element('span', { class: 'state' }, 'waits');
+  const bar = element('progress',
+    { max: '100', value: '0', 'aria-label': texts.upload.of(name) });
+  const state = element('span', { class: 'state' }, texts.upload.waits);
   const line = element('li', {}, icon(mark), nameText(name), bar, state);
   const show = (words, part, look) => {
     state.textContent = words;
@@ -28,10 +31,12 @@ function newLine(mark, name) {
   return { line, show };
 }
 
-const WORDS = { waits: 'waits', runs: 'is sent', good: 'uploaded' };
+const WORDS = {
+  waits: texts.upload.waits, runs: texts.upload.sent, good: texts.upload.uploaded,
+};
 // It may have got another name, beside the one that was there.
 const wordsOf = ({ state, words, path, name }) => (state === 'good' && !path.endsWith(`/${name}`)
-  ? `uploaded as ${isolated(api.nameOf(path))}` : WORDS[state] ?? words);
+  ? texts.upload.uploadedAs(isolated(api.nameOf(path))) : WORDS[state] ?? words);
 
 // A document of its own: {line, jobs, draw}.
 export function documentLine(file, folder) {
@@ -51,19 +56,19 @@ export function treeLine(tree, folder) {
   line.append(listed);
   const jobs = tree.files.map(({ path, file }) => newJob(normal(path), folder, file));
   const faults = [];
-  const count = counted(jobs.length, 'document');
   const draw = () => {
     const [good, bad] = ['good', 'bad'].map((state) => jobs.filter((job) => job.state === state));
     const ended = good.length + bad.length;
     const isWhole = good.length === jobs.length && faults.length === 0;
-    if (ended < jobs.length) show(`${ended} of ${count}`, ended / jobs.length, 'runs');
-    else if (isWhole) show(`uploaded, with ${count}`, 1, 'good');
-    else show(`${good.length} of ${count} uploaded`, 1, 'bad');
+    const whole = jobs.length;
+    if (ended < whole) show(texts.upload.ended(ended, whole), ended / whole, 'runs');
+    else if (isWhole) show(texts.upload.uploadedWith(whole), 1, 'good');
+    else show(texts.upload.uploadedSome(good.length, whole), 1, 'bad');
     const told = [...faults, ...bad].map(({ name, words }) =>
       element('li', {}, nameText(name), `: ${words}`));
     const more = told.length - MOST_FAULTS;
     listed.replaceChildren(...told.slice(0, MOST_FAULTS),
-      ...(more > 0 ? [element('li', {}, `and ${more.toLocaleString('en')} more`)] : []));
+      ...(more > 0 ? [element('li', {}, texts.upload.more(more))] : []));
   };
   return { line, jobs, draw, tree, faults };
 }

@@ -2,6 +2,7 @@
 
 import * as api from '../net/api.js';
 import { button, element, icon, nameText } from '../ui/dom.js';
+import { texts } from '../language/language.js';
 import { movedWords } from './moved.js';
 import { form, showDialog, waitFor } from '../ui/messages.js';
 import { sorted } from './sorting.js';
@@ -11,13 +12,14 @@ import { nameFault, sentenceOf } from '../text/words.js';
 // offered.
 function chooser(chosen, moved) {
   const where = element('p', { class: 'where', 'aria-live': 'polite' });
-  const folders = element('ul', { class: 'chooser', 'aria-label': 'Folders' });
+  const folders = element('ul', { class: 'chooser', 'aria-label': texts.moving.folders });
   const line = (mark, name, path) => element('li', {},
     button([icon(mark), name], () => goTo(path), { class: 'object' }));
   const goTo = async (path) => {
     chosen.path = path;
-    where.replaceChildren('In ', path === '/' ? 'the top of the room' : nameText(path));
-    const above = path === '/' ? [] : [line('up', 'The folder above', api.parentOf(path))];
+    where.replaceChildren(
+      ...texts.moving.into(path === '/' ? texts.places.top : nameText(path)));
+    const above = path === '/' ? [] : [line('up', texts.moving.above, api.parentOf(path))];
     try {
       const children = sorted(await waitFor(api.list(path)));
       if (chosen.path !== path) return;
@@ -30,7 +32,7 @@ function chooser(chosen, moved) {
     }
   };
   goTo(chosen.path);
-  return element('fieldset', {}, element('legend', {}, 'Folder'), where, folders);
+  return element('fieldset', {}, element('legend', {}, texts.moving.folder), where, folders);
 }
 
 // Returns the new path, or null.
@@ -38,10 +40,11 @@ function chooser(chosen, moved) {
 export async function askMove(path, kind, typed = path, wrong = null) {
   const chosen = { path: api.parentOf(typed) };
   const name = {
-    label: 'Name', value: api.nameOf(typed), fault: nameFault, isFile: kind === 'document', wrong,
+    label: texts.acts.name, value: api.nameOf(typed), fault: nameFault, wrong,
+    isFile: kind === 'document',
   };
-  const names = await form(`Rename or move the ${kind}`, [name], 'Move it',
-    chooser(chosen, [path]));
+  const title = kind === 'folder' ? texts.moving.renameFolder : texts.moving.renameDocument;
+  const names = await form(title, [name], texts.moving.moveIt, chooser(chosen, [path]));
   return names && api.join(chosen.path, names[0]);
 }
 
@@ -49,7 +52,7 @@ export async function askMove(path, kind, typed = path, wrong = null) {
 export async function askPlace(objects) {
   const paths = objects.map(({ path }) => path);
   const chosen = { path: api.parentOf(paths[0]) };
-  const given = await form(`Move ${objects.length} objects`, [], 'Move them here',
+  const given = await form(texts.moving.several(objects.length), [], texts.moving.moveHere,
     chooser(chosen, paths));
   return given && chosen.path;
 }
@@ -59,10 +62,10 @@ export async function accepted(objects, folder) {
   const told = await waitFor(movedWords(objects, folder));
   if (told === null || told.warned.length === 0) return told !== null;
   const answer = await showDialog(told.title, (finish) => [
-    element('ul', { class: 'warnings', 'aria-label': 'Mind this' },
+    element('ul', { class: 'warnings', 'aria-label': texts.acts.mindThis },
       told.warned.map(({ kind, text }) => element('li', { class: kind }, text))),
     element('div', { class: 'actions' },
-      button('Cancel', () => finish(null), { autofocus: true }),
-      button('Move all the same', () => finish('move'), { class: 'danger' }))]);
+      button(texts.acts.cancel, () => finish(null), { autofocus: true }),
+      button(texts.moving.allTheSame, () => finish('move'), { class: 'danger' }))]);
   return answer !== null;
 }

@@ -3,20 +3,19 @@
 
 import * as api from '../net/api.js';
 import { attributesAt, foldersAbove, listAt } from '../net/ancestors.js';
+import { texts } from '../language/language.js';
 import { people } from '../net/directory.js';
 import { ANYBODY, callersIn, isGranted, mayDelete, mayPass } from '../acl/decide.js';
 import { afterMoving, childOf } from '../acl/inherit.js';
 import { stoppable } from '../ui/panel.js';
 import { mayRemoveIn } from '../text/removers.js';
-import { callerWords, capital, counted, isolated, listed, placeWords } from '../text/words.js';
+import { callerWords, isolated, placeWords } from '../text/words.js';
 
-const WORDS = { r: 'read', w: 'change', d: 'remove or move away', C: 'manage' };
-const INSIDE = ' and what is in it, apart from what is protected';
 const MOST_NAMED = 3;
 
-// What a caller may do with an object {entries, object, kind}, and with what is in it: letters of
-// WORDS. 'folders' are those above, from the top down, at least one. One whose list isn't known
-// hinders nobody here, and that it isn't known is told.
+// What a caller may do with an object {entries, object, kind}, and with what is in it: the letters
+// r, w, d and C. 'folders' are those above, from the top down, at least one. One whose list isn't
+// known hinders nobody here, and that it isn't known is told.
 export function rightsAt(target, folders, caller) {
   if (!mayPass(folders, caller)) return '';
   const inside = target.kind === 'folder'
@@ -55,19 +54,20 @@ export const lossesOf = (before, after, me) => (after.folders.at(-1).list === nu
 function namesOf(objects) {
   const names = objects.slice(0, MOST_NAMED).map(({ path }) => isolated(api.nameOf(path)));
   const more = objects.length - names.length;
-  return listed(more > 0 ? [...names, counted(more, 'other')] : names);
+  return more > 0 ? [...names, texts.lists.others(more)] : names;
 }
 
-// Objects with the same words share a sentence.
-function sentences(told) {
+// Objects of which the same is told share a sentence: 'say' makes it of what is told of one, their
+// names, and whether there is a folder among them.
+function sentences(told, say) {
   const groups = new Map();
-  for (const { key, object } of told) groups.set(key, [...groups.get(key) ?? [], object]);
-  return [...groups].map(([key, objects]) => [key, namesOf(objects),
-    objects.some(({ kind }) => kind === 'folder')]);
+  for (const { object, ...one } of told) {
+    const key = JSON.stringify(one);
+    groups.set(key, { one, objects: [...groups.get(key)?.objects ?? [], object] });
+  }
+  return [...groups.values()].map(({ one, objects }) =>
+    say(one, namesOf(objects), objects.some(({ kind }) => kind === 'folder')));
 }
-
-const unknownWords = (path) =>
-  `It isn’t known who could do more there: you may not read the list of ${placeWords(path)}.`;
 
 async function stateOf(object, from, to) {
   const list = await listAt(object.path);
@@ -81,28 +81,22 @@ async function stateOf(object, from, to) {
   return [{ target: before, folders: from }, { target: { ...before, entries }, folders: to }];
 }
 
-// What is said of one who gains or loses these rights.
-const gainingWords = (who, letters) =>
-  `${capital(who)} may then ${listed([...letters].map((letter) => WORDS[letter]))}`;
-const losingWords = (who, letters) => `${capital(who)} can then no longer ${
-  listed([...letters].map((letter) => WORDS[letter]), 'or')}`;
-
-// Who gains and who loses what by a move of each of these, and whose lists can't be read: {gained,
-// lost, unread}, each [{key, object}]. Null if that was stopped.
+// Who gains and who loses what by a move of each of these, {who, letters, object}, and whose lists
+// can't be read, {object}: {gained, lost, unread}. Null if that was stopped.
 async function lookAt(objects, from, to) {
   const [me, known] = await Promise.all([api.whoAmI().catch(() => ''), people()]);
   const found = { gained: [], lost: [], unread: [] };
-  const panel = stoppable('Look at the lists', objects.length);
+  const panel = stoppable(texts.moving.lookAtLists, objects.length);
   for (const [index, object] of objects.entries()) {
     panel.show(index, objects.length);
     if (panel.isStopped()) break;
     const states = await stateOf(object, from, to);
-    const say = (those, all, words) => those.push(...all.map(({ caller, letters }) => (
-      { key: words(callerWords(caller, known), letters), object })));
-    if (states === null) found.unread.push({ key: 'unread', object });
+    const say = (those, all) => those.push(...all.map(({ caller, letters }) => (
+      { who: callerWords(caller, known), letters, object })));
+    if (states === null) found.unread.push({ object });
     else {
-      say(found.gained, gainsOf(...states, me), gainingWords);
-      say(found.lost, lossesOf(...states, me), losingWords);
+      say(found.gained, gainsOf(...states, me));
+      say(found.lost, lossesOf(...states, me));
     }
   }
   panel.remove();
@@ -110,9 +104,8 @@ async function lookAt(objects, from, to) {
 }
 
 function titleOf({ gained, lost }) {
-  if (gained.length > 0) return 'More people could get at it there';
-  return lost.length > 0 ? 'Fewer people can get at it there'
-    : 'It isn’t known who can get at it there';
+  if (gained.length > 0) return texts.moving.morePeople;
+  return lost.length > 0 ? texts.moving.fewerPeople : texts.moving.unknownPeople;
 }
 
 // {title, warned: [{kind, text}]} for objects of a folder that are about to be moved into another
@@ -125,13 +118,14 @@ export async function movedWords(objects, folder) {
   if (found === null) return null;
   const closed = to.filter(({ list, path }) => list === null
     && !from.some((one) => one.path === path)).map(({ path }) => path);
-  const say = (kind, those) => sentences(those).map(([may, names, isFolder]) => (
-    { kind, text: `${may} ${names}${isFolder ? INSIDE : ''}.` }));
+  const say = (kind, those, words) => sentences(those, ({ who, letters }, names, isFolder) => (
+    { kind, text: words(who, letters, names, isFolder) }));
   const warned = [
-    ...say('bad', found.gained), ...say('unsure', found.lost),
-    ...closed.map((path) => ({ kind: 'unsure', text: unknownWords(path) })),
-    ...sentences(found.unread).map(([, names]) => ({ kind: 'unsure',
-      text: `It isn’t known who could do more with ${names} there: you may not read the list.` })),
+    ...say('bad', found.gained, texts.moving.gaining),
+    ...say('unsure', found.lost, texts.moving.losing),
+    ...closed.map((path) => ({ kind: 'unsure', text: texts.moving.unknownAt(placeWords(path)) })),
+    ...sentences(found.unread, (_, names) => (
+      { kind: 'unsure', text: texts.moving.unknownOf(names) })),
   ];
   return { warned, title: titleOf(found) };
 }
@@ -140,12 +134,12 @@ export async function movedWords(objects, folder) {
 export async function readersWords(path) {
   const [list, object, folders, known] = await Promise.all([listAt(path), attributesAt(path),
     foldersAbove(path, true), people()]);
-  if (list === null) return 'Who may read there isn’t known: you may not read its list.';
+  if (list === null) return texts.moving.readersUnknown;
   const readers = callersIn(list.entries, object).filter((caller) => mayPass(folders, caller)
     && isGranted({ entries: list.entries, object }, 'r', caller));
-  const everyone = readers.includes(ANYBODY);
-  const who = everyone ? 'everyone' : listed(readers.map((one) => callerWords(one, known)));
-  const unsure = folders.some((one) => one.list === null)
-    ? ', if the folders above let them pass' : '';
-  return `By its list, ${readers.length === 0 ? 'nobody' : who} may read there${unsure}.`;
+  const isSure = folders.every((one) => one.list !== null);
+  if (readers.length === 0) return isSure ? texts.moving.noReaders : texts.moving.noReadersPerhaps;
+  const named = readers.includes(ANYBODY) ? [ANYBODY] : readers;
+  return (isSure ? texts.moving.readers : texts.moving.readersPerhaps)(
+    named.map((one) => callerWords(one, known)));
 }

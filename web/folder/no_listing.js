@@ -3,6 +3,7 @@
 
 import * as api from '../net/api.js';
 import { button, element, field, icon, nameText } from '../ui/dom.js';
+import { texts } from '../language/language.js';
 import { linkTo, whereIs } from '../ui/links.js';
 import { askedFor } from '../ui/ask_whom.js';
 import { dayWords, forget, mine, remembered } from '../net/directory.js';
@@ -29,22 +30,22 @@ function opener() {
     location.hash = linkTo(path, view);
   };
   return element('form', { class: 'opener', onsubmit: open },
-    field('Open an address', input, 'A link to this page, or a path such as /letters/2026.'),
-    element('button', { type: 'submit' }, 'Open'));
+    field(texts.folder.openAddress, input, texts.folder.addressHint),
+    element('button', { type: 'submit' }, texts.folder.open));
 }
 
 const isBelow = (path, folder) => folder === '/' || path.startsWith(`${folder}/`);
 
 function mayWords(rights) {
-  if (rights.includes('C')) return 'Can manage';
-  if (!rights.includes('r')) return 'Can drop documents into it';
-  return /[wa]/.test(rights) ? 'Can change' : 'Can read';
+  if (rights.includes('C')) return texts.folder.canManage;
+  if (!rights.includes('r')) return texts.folder.canDrop;
+  return /[wa]/.test(rights) ? texts.folder.canChange : texts.folder.canRead;
 }
 
 function line({ path, kind, rights = null }) {
   const above = api.parentOf(path);
   const words = [rights === null ? null : mayWords(rights),
-    above === '/' ? null : `in ${marked(above)}`];
+    above === '/' ? null : texts.folder.within(marked(above))];
   return element('li', {},
     element('a', { class: 'object', href: linkTo(path, kind === 'folder' ? null : 'show') },
       icon(kind), nameText(api.nameOf(path))),
@@ -62,13 +63,14 @@ export async function placesBelow(folder, isListed) {
     && !(isListed && api.parentOf(path) === folder));
   const late = remembered(me).filter(({ path }) => isBelow(path, folder)
     && !shared.some((one) => one.path === path));
-  const clear = button('Forget these', () => {
+  const clear = button(texts.folder.forgetThese, () => {
     forget(me);
     lately.remove();
   }, { class: 'small plain' });
-  const lately = late.length === 0 ? null : part('Opened lately', late, clear);
-  return [shared.length === 0 ? null : part('Shared with you', shared,
-    element('span', { class: 'hint' }, `as of ${dayWords(given.made)}`)), lately].filter(Boolean);
+  const lately = late.length === 0 ? null : part(texts.folder.openedLately, late, clear);
+  return [shared.length === 0 ? null : part(texts.folder.sharedWithYou, shared,
+    element('span', { class: 'hint' }, texts.folder.asOf(dayWords(given.made)))), lately]
+    .filter(Boolean);
 }
 
 // What is granted here although the list of what is in it isn't. Passing and looking at the list
@@ -77,7 +79,7 @@ function grantedHere(may) {
   const rights = Object.entries(may ?? {}).filter(([letter, { ruling }]) =>
     ruling === 'allowed' && /[waDdCo]/.test(letter));
   return rights.length === 0 ? null : element('section', {},
-    element('h2', {}, 'What you may do here'), element('ul', { class: 'granted' },
+    element('h2', {}, texts.folder.whatYouMayDo), element('ul', { class: 'granted' },
       rights.map(([letter]) => element('li', {}, rightWords(letter, 'folder')))));
 }
 
@@ -85,13 +87,13 @@ function grantedHere(may) {
 export async function closedFolder(fault, may, folder) {
   const [places, ask] = await Promise.all([placesBelow(folder, false),
     fault.body?.at ? askedFor(fault.body.at) : '']);
-  const here = folder === '/' ? 'the room' : 'this folder';
+  const closed = folder === '/' ? texts.folder.closedRoom : texts.folder.closedFolder;
   const words = may?.x?.ruling === 'allowed'
-    ? `You can’t see the list of what is in ${here}, only what was shared with you. ${ask}`
+    ? `${closed} ${ask}`
     : sentenceOf(fault, ask || undefined);
   return element('div', { class: 'closed' }, places,
     element('p', { class: places.length > 0 ? 'hint' : null }, words), grantedHere(may),
     places.length === 0 ? opener()
-      : element('details', {}, element('summary', {}, 'Open an address'), opener()),
-    button('Load again', () => location.reload(), { class: 'small' }));
+      : element('details', {}, element('summary', {}, texts.folder.openAddress), opener()),
+    button(texts.acts.loadAgain, () => location.reload(), { class: 'small' }));
 }

@@ -1,6 +1,7 @@
 // A document looked at without a download: text, which is set as text, and images.
 
 import * as api from '../net/api.js';
+import { texts } from '../language/language.js';
 import { button, element, nameText } from '../ui/dom.js';
 import { save } from './download.js';
 import { showDialog, waitFor } from '../ui/messages.js';
@@ -9,13 +10,9 @@ const IMAGES = {
   png: 'image/png', jpg: 'image/jpeg', jpeg: 'image/jpeg', gif: 'image/gif', webp: 'image/webp',
   avif: 'image/avif', bmp: 'image/bmp', svg: 'image/svg+xml',
 };
-const NONE = 'There is no preview of this document. Download it to look at it.';
-// A browser's viewer of PDF doesn't run in a frame that is shut off from the page, and the page
-// allows no other frame. In a tab it shows what it is given as PDF, and as nothing else.
-const PDF = 'The browser shows PDF documents in a tab of their own.';
 const STAYS = 600000;
 
-const none = () => element('p', { class: 'empty' }, NONE);
+const none = () => element('p', { class: 'empty' }, texts.folder.noPreview);
 
 // A picture from a blob runs no script, not even an SVG's.
 function imageOf(bytes, type, name) {
@@ -39,14 +36,16 @@ function textOf(bytes) {
   }
 }
 
+// A browser's viewer of PDF doesn't run in a frame that is shut off from the page, and the page
+// allows no other frame. In a tab it shows what it is given as PDF, and as nothing else.
 function pdfOf(bytes, name) {
   const show = () => {
     const address = URL.createObjectURL(new File([bytes], name, { type: 'application/pdf' }));
     open(address, '_blank', 'noopener');
     setTimeout(() => URL.revokeObjectURL(address), STAYS);
   };
-  return element('div', { class: 'empty' }, element('p', {}, PDF),
-    button('Open in a tab', show, { class: 'primary' }));
+  return element('div', { class: 'empty' }, element('p', {}, texts.folder.pdf),
+    button(texts.folder.openInTab, show, { class: 'primary' }));
 }
 
 function contentOf(bytes, name) {
@@ -55,7 +54,7 @@ function contentOf(bytes, name) {
   if (ending === 'pdf') return pdfOf(bytes, name);
   const text = textOf(bytes);
   if (text === null) return none();
-  if (text === '') return element('p', { class: 'empty' }, 'The document is empty.');
+  if (text === '') return element('p', { class: 'empty' }, texts.folder.emptyDocument);
   return element('pre', { tabindex: '0', dir: 'auto', 'aria-label': name }, text);
 }
 
@@ -66,8 +65,9 @@ export async function preview(path) {
   await showDialog(nameText(name), (finish) => [
     element('div', { class: 'content' }, contentOf(bytes, name)),
     element('div', { class: 'actions' },
-      button('Download', () => save(blob, name)),
-      button('Close', () => finish(null), { class: 'primary', autofocus: true }))], 'preview');
+      button(texts.acts.download, () => save(blob, name)),
+      button(texts.acts.close, () => finish(null), { class: 'primary', autofocus: true })),
+  ], 'preview');
 }
 
 // Shows a document in 'box', as long as 'isCurrent()'.

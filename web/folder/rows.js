@@ -3,6 +3,7 @@
 
 import * as api from '../net/api.js';
 import { button, element, icon, nameText } from '../ui/dom.js';
+import { texts } from '../language/language.js';
 import { rove } from '../ui/keys.js';
 import { linkTo } from '../ui/links.js';
 import { menuButton } from '../ui/menu.js';
@@ -24,13 +25,13 @@ function nameOf(child, path, acts) {
   if (child.kind === 'folder') {
     return element('a', { class: 'object', href: linkTo(path), 'data-act': 'open' }, label);
   }
-  const properties = { class: 'object', title: 'Download', 'data-act': 'open' };
+  const properties = { class: 'object', title: texts.acts.download, 'data-act': 'open' };
   return button(label, () => acts.download([child]), properties);
 }
 
 function pickBox(child, look, changed) {
   const box = element('input', {
-    type: 'checkbox', 'aria-label': `Select: ${marked(child.name)}`,
+    type: 'checkbox', 'aria-label': texts.folder.select(marked(child.name)),
     checked: look.chosen.has(child.name), 'data-act': 'pick',
   });
   box.addEventListener('change', () => {
@@ -43,13 +44,14 @@ function pickBox(child, look, changed) {
 
 // What can be done with an object, by its menu.
 function entriesOf(child, path, acts) {
+  const preview = { words: texts.folder.preview, does: () => acts.preview(child) };
   return [
-    ...(child.kind === 'folder' ? [] : [{ words: 'Preview', does: () => acts.preview(child) }]),
-    { words: 'Download', does: () => acts.download([child]) },
-    { words: 'Rename or move', does: () => acts.move(child) },
-    { words: 'Copy link', does: () => acts.copy(child) },
-    { words: 'Access', href: linkTo(path, 'access') },
-    { words: 'Remove', does: () => acts.remove([child]), look: 'remove' },
+    ...(child.kind === 'folder' ? [] : [preview]),
+    { words: texts.acts.download, does: () => acts.download([child]) },
+    { words: texts.folder.renameOrMove, does: () => acts.move(child) },
+    { words: texts.acts.copyLink, does: () => acts.copy(child) },
+    { words: texts.folder.access, href: linkTo(path, 'access') },
+    { words: texts.acts.remove, does: () => acts.remove([child]), look: 'remove' },
   ];
 }
 
@@ -57,10 +59,10 @@ function actsOf(child, path, acts) {
   return [
     element('a', {
       class: 'small button access', href: linkTo(path, 'access'),
-      'aria-label': `Access: ${marked(child.name)}`, 'data-act': 'access',
-    }, 'Access'),
-    menuButton(`Actions: ${marked(child.name)}`, entriesOf(child, path, acts), {
-      class: 'small plain', title: 'Actions', 'data-act': 'menu',
+      'aria-label': texts.folder.accessOf(marked(child.name)), 'data-act': 'access',
+    }, texts.folder.access),
+    menuButton(texts.folder.actionsOf(marked(child.name)), entriesOf(child, path, acts), {
+      class: 'small plain', title: texts.folder.actions, 'data-act': 'menu',
     }),
   ];
 }
@@ -90,7 +92,8 @@ function pickAll(look, redraw) {
   const shown = shownOf(look);
   const count = chosenOf(look).length;
   const box = element('input', {
-    type: 'checkbox', 'aria-label': 'Select all', checked: count > 0 && count === shown.length,
+    type: 'checkbox', 'aria-label': texts.folder.selectAll,
+    checked: count > 0 && count === shown.length,
   });
   box.indeterminate = count > 0 && count < shown.length;
   box.addEventListener('change', () => {
@@ -123,8 +126,7 @@ export function drawRows(body, folder, look, acts, onChosen, focusOn = null, wan
   const shown = shownOf(look);
   if (shown.length === 0) {
     body.replaceChildren(element('p', { class: 'empty' }, look.children.length === 0
-      ? 'Nothing is in this folder yet. Drop documents here, or use “Upload”.'
-      : 'Nothing in this folder has these letters in its name.'));
+      ? texts.folder.empty : texts.folder.nothingFits));
     onChosen();
     return;
   }
@@ -136,11 +138,10 @@ export function drawRows(body, folder, look, acts, onChosen, focusOn = null, wan
   const { rows, end, growTo } = growing(shown,
     (child) => row(child, folder, look, acts, changed), wanted);
   const table = element('table', { class: 'folder', role: 'grid', 'aria-multiselectable': 'true' },
-    element('caption', { class: 'unseen' },
-      'What is in this folder. The arrow keys go from row to row.'),
-    element('thead', {}, element('tr', {}, all, heading('name', 'Name', look, redraw),
-      heading('kind', 'Kind', look, redraw), element('th', { scope: 'col' },
-        element('span', { class: 'unseen' }, 'What can be done')))), rows);
+    element('caption', { class: 'unseen' }, texts.folder.caption),
+    element('thead', {}, element('tr', {}, all, heading('name', texts.acts.name, look, redraw),
+      heading('kind', texts.folder.kind, look, redraw), element('th', { scope: 'col' },
+        element('span', { class: 'unseen' }, texts.folder.whatCanBeDone)))), rows);
   body.replaceChildren(table, end);
   const ofRow = (does) => ({ rowIndex }) => does(shown[rowIndex - 1]);
   // The key means what is ticked, if anything is.

@@ -1,5 +1,7 @@
 // In which order the contents of a folder are shown, and which of them.
 
+import { texts } from '../language/language.js';
+
 const reading = new Intl.Collator(undefined, { numeric: true });
 const isFolder = ({ kind }) => kind === 'folder';
 
@@ -8,9 +10,9 @@ const byName = (one, other) => reading.compare(one.name, other.name)
 
 // 'Folder', or what the end of a document's name says.
 export function kindWords(child) {
-  if (isFolder(child)) return 'Folder';
+  if (isFolder(child)) return texts.folder.folder;
   const [, ending] = /.\.([A-Za-z0-9]{1,5})$/.exec(child.name) ?? [];
-  return ending ? `${ending.toUpperCase()} document` : 'Document';
+  return ending ? texts.folder.ending(ending.toUpperCase()) : texts.folder.document;
 }
 
 function byKind(one, other) {

@@ -2,7 +2,8 @@
 
 import { RULINGS, deletion } from '../acl/decide.js';
 import * as api from '../net/api.js';
-import { counted, isolated, listed, placeWords } from '../text/words.js';
+import { texts } from '../language/language.js';
+import { isolated, placeWords } from '../text/words.js';
 
 // A browser sends six requests at a time: some are left for what is done meanwhile.
 const AT_ONCE = 4;
@@ -38,11 +39,10 @@ export async function allBelow(objects, unseen = [], ask = inPortions()) {
   return found.flat();
 }
 
-// 'two documents and one folder' of these objects.
+// '2 documents and 1 folder' of these objects.
 export function amount(objects) {
   const count = (kind) => objects.filter((one) => one.kind === kind).length;
-  return listed([['document', count('document')], ['folder', count('folder')]]
-    .filter(([, some]) => some > 0).map(([word, some]) => counted(some, word)));
+  return texts.folder.amount(count('document'), count('folder'));
 }
 
 // The path of the list by which I may not remove an object, or null if I may. 'above' asks what I
@@ -81,19 +81,22 @@ export async function barredIn(all, { show, isStopped }) {
   return null;
 }
 
+function goneWords(objects, below) {
+  const one = objects.length === 1;
+  const what = one ? isolated(api.nameOf(objects[0].path)) : amount(objects);
+  if (below.length === 0) return (one ? texts.folder.goneOne : texts.folder.goneSeveral)(what);
+  return (one ? texts.folder.goneOneWith : texts.folder.goneSeveralWith)(what, amount(below));
+}
+
 // The question before these objects are removed, with all that lies below: {title, text}.
 export function removalQuestion(objects, all, unseen) {
-  const [first] = objects;
-  const one = objects.length === 1;
-  const inside = all.length - objects.length;
-  const what = one ? isolated(api.nameOf(first.path)) : amount(objects);
   const below = all.filter(({ path }) => !objects.some((object) => object.path === path));
-  const gone = inside === 0 ? what
-    : `${what} and what is in ${one ? 'it' : 'them'}, ${amount(below)},`;
-  const hidden = unseen.length === 0 ? ''
-    : ` You may not see what is in ${listed(unseen.map(placeWords))}, so it isn’t counted here.`;
+  const gone = goneWords(objects, below);
+  const title = objects[0].kind === 'folder' ? texts.folder.removeFolder
+    : texts.folder.removeDocument;
   return {
-    title: one ? `Remove the ${first.kind}?` : `Remove ${amount(objects)}?`,
-    text: `${gone} will be gone for everybody, and can’t be brought back.${hidden}`,
+    title: objects.length === 1 ? title : texts.folder.removeAmount(amount(objects)),
+    text: unseen.length === 0 ? gone
+      : `${gone} ${texts.folder.notCounted(unseen.map(placeWords))}`,
   };
 }

@@ -2,11 +2,12 @@
 
 import { endsAll, interruptionsSeen, isUnanswered } from '../net/retry.js';
 import * as api from '../net/api.js';
+import { texts } from '../language/language.js';
 import { button, element } from '../ui/dom.js';
 import { documentLine, faultOf, normal, treeLine } from './jobs.js';
 import { question, tell, tellFault } from '../ui/messages.js';
 import { newPanel } from '../ui/panel.js';
-import { counted, isolated, nameFault, placeWords, sentenceOf } from '../text/words.js';
+import { isolated, nameFault, placeWords, sentenceOf } from '../text/words.js';
 
 // The room answers one request after the other, so more at once would not be quicker.
 const AT_ONCE = 3;
@@ -21,11 +22,10 @@ function replacing(count) {
     if (always !== null) return always;
     const all = element('input', { type: 'checkbox' });
     const tick = count === 1 ? null : element('p', {}, element('label', { class: 'tick' }, all,
-      'The same for all that are there already'));
-    const answer = await question('Replace the document?',
-      `There is a document ${isolated(name)} in this folder already. If it is replaced, its `
-      + 'contents are lost.',
-      [['both', 'Keep both'], ['replace', 'Replace it', 'danger']], tick) ?? 'leave';
+      texts.upload.sameForAll));
+    const answer = await question(texts.upload.replace, texts.upload.isThere(isolated(name)),
+      [['both', texts.upload.keepBoth], ['replace', texts.upload.replaceIt, 'danger']], tick)
+      ?? 'leave';
     if (all.checked) always = answer;
     return answer;
   };
@@ -84,10 +84,12 @@ class Upload {
     this.jobs = this.lines.flatMap(({ jobs }) => jobs);
     this.lineOf = new Map(this.lines.flatMap((line) => line.jobs.map((job) => [job, line])));
     this.mayReplace = replacing(this.jobs.length);
-    this.close = button('Close', () => this.panel.remove(), { class: 'small', hidden: true });
-    this.again = button('Try the failed ones again', () => this.run(),
+    this.close = button(texts.acts.close, () => this.panel.remove(),
       { class: 'small', hidden: true });
-    this.panel = newPanel('Upload', `Upload to ${placeWords(folder)}`, this.again, this.close);
+    this.again = button(texts.acts.tryAgain, () => this.run(),
+      { class: 'small', hidden: true });
+    this.panel = newPanel(texts.upload.title, texts.upload.to(placeWords(folder)), this.again,
+      this.close);
     this.panel.rows.append(...this.lines.map(({ line }) => line));
   }
 
@@ -113,7 +115,7 @@ class Upload {
     const lacks = ({ name, state }) =>
       state === 'waits' && faults.some((above) => isIn(name, above.name));
     for (const job of jobs.filter(lacks)) {
-      this.set(job, { state: 'bad', words: 'its folder couldn’t be made', again: true });
+      this.set(job, { state: 'bad', words: texts.upload.noFolder, again: true });
     }
     draw();
   }
@@ -123,7 +125,7 @@ class Upload {
     if (fault) return this.set(job, { state: 'bad', words: fault });
     if (!job.allowed && await api.isThere(job.path)) {
       const answer = await this.mayReplace(job.name);
-      if (answer === 'leave') return this.set(job, { state: 'bad', words: 'left as it was' });
+      if (answer === 'leave') return this.set(job, { state: 'bad', words: texts.upload.left });
       if (answer === 'both') job.path = await freeBeside(job.path);
     }
     this.set(job, { state: 'runs', allowed: true });
@@ -135,7 +137,7 @@ class Upload {
   cut(queue) {
     this.isCut = true;
     for (const job of queue.splice(0)) {
-      this.set(job, { state: 'bad', words: 'not sent', again: true });
+      this.set(job, { state: 'bad', words: texts.upload.notSent, again: true });
     }
   }
 
@@ -161,16 +163,9 @@ class Upload {
     }
     this.interrupted = false;
     for (const job of lost) {
-      this.set(job, { state: 'bad', again: true, part: 0,
-        words: 'it was uploaded, but the room doesn’t have it any more' });
+      this.set(job, { state: 'bad', again: true, part: 0, words: texts.upload.lost });
     }
-    if (lost.length > 0) {
-      const gone = counted(lost.length, 'document');
-      const are = lost.length === 1 ? 'is' : 'are';
-      tell('bad', 'The room was interrupted during the upload, and '
-        + `${gone} that it had taken ${are} gone. It was probably set back to an earlier copy: `
-        + 'ask the administrator what else is gone, and try the failed ones again.');
-    }
+    if (lost.length > 0) tell('bad', texts.upload.interrupted(lost.length));
   }
 
   // Sends what wasn't sent yet, or failed and may be tried again.
@@ -200,8 +195,8 @@ class Upload {
     const bad = this.withState('bad');
     const whole = bad.length === 0 && this.lines.every(({ faults = [] }) => faults.length === 0);
     this.panel.show(this.jobs.length, this.jobs.length);
-    this.panel.say(whole ? `${counted(this.jobs.length, 'document')} uploaded.`
-      : `${counted(bad.length, 'document')} of ${this.jobs.length} failed.`);
+    this.panel.say(whole ? texts.upload.done(this.jobs.length)
+      : texts.upload.failed(bad.length, this.jobs.length));
     this.again.hidden = !bad.some(({ again }) => again);
     this.close.hidden = false;
     if (whole) this.panel.leave();

@@ -4,6 +4,7 @@
 
 import { parentOf, whoAmI } from './api.js';
 import { isName } from '../acl/entries.js';
+import { texts } from '../language/language.js';
 
 const OLD = 36 * 3600 * 1000;
 const MOST_REMEMBERED = 12;
@@ -75,8 +76,8 @@ const timeOf = (made) => (isText(made) ? Date.parse(made) : NaN);
 // Whether this is older than a night and a day, or of an unknown day.
 export const isOld = (made) => !(Date.now() - timeOf(made) <= OLD);
 
-export const dayWords = (made) => (Number.isNaN(timeOf(made)) ? 'an unknown day'
-  : new Date(made).toLocaleDateString('en-GB', { day: 'numeric', month: 'long', year: 'numeric' }));
+export const dayWords = (made) => (Number.isNaN(timeOf(made)) ? texts.lists.unknownDay
+  : texts.lists.day(new Date(made)));
 
 // Several rooms may have the same origin, and several users the same browser.
 const keyFor = (me) => `rooms places ${location.pathname} ${me}`;

@@ -1,7 +1,8 @@
 // The lines of those who have access, and what is changed by the menu of a line.
 
+import { texts } from '../language/language.js';
 import { nameOf } from '../net/api.js';
-import { NO_DATE, PART_OF_DATE, offered, select } from './add_person.js';
+import { offered, select } from './add_person.js';
 import { button, element, nameText } from '../ui/dom.js';
 import { confirm, deliver } from './confirm.js';
 import { RANKS, keyOf, withLevel } from '../acl/levels.js';
@@ -10,8 +11,8 @@ import { endWords, isPast } from '../acl/end_dates.js';
 import { isInherited } from '../acl/entries.js';
 import { tell, tellFault } from '../ui/messages.js';
 import { levelWords, placeName } from './access_words.js';
-import { below, mark, some, whoName } from '../ui/names.js';
-import { capital, isolated, maskWords } from '../text/words.js';
+import { below, mark, shortened, whoName } from '../ui/names.js';
+import { isolated, rightsIn } from '../text/words.js';
 
 const rank = (level) => RANKS.indexOf(level);
 
@@ -28,20 +29,19 @@ function sourceOf(entry, folders) {
 
 function sourceWords({ list, folders }, row) {
   if (!row.inherited) return [];
-  if (list.protect) return ['kept from the folder above'];
+  if (list.protect) return [texts.access.keptFromAbove];
   const path = sourceOf(row.entries[0], folders);
-  if (path === null) return ['from a folder above'];
-  const name = path === '/' ? 'All documents' : nameText(nameOf(path));
-  return ['from ', element('a', { href: linkTo(path, 'access') }, name)];
+  if (path === null) return [texts.access.fromFolderAbove];
+  const name = path === '/' ? texts.places.all : nameText(nameOf(path));
+  return texts.access.from(element('a', { href: linkTo(path, 'access') }, name));
 }
 
 // What is said of a line that is taken away.
 function goneWords(name, row, changes) {
-  const gone = `${name} is taken off the list.`;
-  if (row.isGroup) return `${gone} Members who have access in another way keep that.`;
+  if (row.isGroup) return texts.access.goneGroup(name);
   const change = changes.find(({ user }) => user === row.who);
   const stays = change === undefined || change.to !== 'none';
-  return stays ? `${gone} What a group or a folder above gives stays.` : gone;
+  return (stays ? texts.access.goneKeeping : texts.access.gone)(name);
 }
 
 // What is picked in the menu of a line. 'back' shows the line as it was.
@@ -53,28 +53,29 @@ async function change(state, row, value, again, back) {
   const until = row.until === null ? null : { day: row.until, asker: state.me };
   const next = withLevel(list, kind, row, isGone ? null : value, row.level === 'pass', until);
   if (next === null) {
-    tell('bad', 'This can’t be said by levels. Change it under “Advanced”.');
+    tell('bad', texts.access.notByLevels);
     back();
     return;
   }
   const subject = { who: row.who, isGroup: row.isGroup, name, isLeaving: isGone, level: value };
   const line = `[aria-label="${CSS.escape(labelOf(row))}"]`;
   const done = await confirm(state, next, isGone
-    ? { title: `Remove access to ${placeName(path)}?`, words: 'Remove access', subject,
-      sentence: ({ changes }) => goneWords(capital(name), row, changes) }
-    : { title: 'Change access?', words: 'Change it', subject,
-      sentence: () => `At ${placeName(path)} ${name} goes from “${
-        levelWords(row.level, kind)}” to “${levelWords(value, kind)}”.` });
+    ? { title: texts.access.removeAccessTo(placeName(path)), words: texts.access.removeAccess,
+      allTheSame: texts.access.removeAllTheSame, subject,
+      sentence: ({ changes }) => goneWords(name, row, changes) }
+    : { title: texts.access.changeAccess, words: texts.access.changeIt,
+      allTheSame: texts.access.changeAllTheSame, subject, sentence: () => texts.access.goes(
+        placeName(path), name, levelWords(row.level, kind), levelWords(value, kind)) });
   if (done) await again(line);
   else back();
 }
 
-const labelOf = (row) => `What ${row.isGroup ? 'the group ' : ''}${row.who} can do`;
+const labelOf = ({ isGroup, who }) =>
+  (isGroup ? texts.access.whatGroupCan : texts.access.whatCan)(who);
 
 function levelControl(state, row, again) {
   const { kind, edits, model } = state;
-  const words = row.level === 'custom' ? 'Custom' : levelWords(row.level, kind);
-  const plain = element('span', { class: 'level' }, words);
+  const plain = element('span', { class: 'level' }, levelWords(row.level, kind));
   if (!edits || row.inherited || row.level === 'custom') return plain;
   const hasBoth = model.rows.some((one) => one.inherited && one.key === row.key);
   // What was carried here from above is changed there.
@@ -82,7 +83,7 @@ function levelControl(state, row, again) {
   const levels = row.level === 'pass' ? ['pass'] : [...new Set([...offered(kind), row.level])];
   const options = levels.sort((one, other) => rank(one) - rank(other))
     .map((one) => [one, levelWords(one, kind)]);
-  const all = hasBoth ? options : [...options, ['gone', 'Remove access']];
+  const all = hasBoth ? options : [...options, ['gone', texts.access.removeAccess]];
   return select(labelOf(row), all, row.level, (value, made) => {
     const back = () => { made.value = row.level; };
     change(state, row, value, again, back).catch((fault) => {
@@ -93,17 +94,20 @@ function levelControl(state, row, again) {
 }
 
 const customWords = (row, kind) => row.entries.map((entry) =>
-  `${entry.type === 'A' ? 'may' : 'may not'} ${maskWords(entry.mask, kind)}`).join('; ');
+  (entry.type === 'A' ? texts.access.may : texts.access.mayNot)(rightsIn(entry.mask, kind)))
+  .join('; ');
 
 // What is said of a last day: also that the nightly run can't keep to it, or didn't.
 function untilWords({ until, ends }) {
   const day = endWords(until);
-  if (!ends) return `was to end on ${day}, but was changed since: it doesn’t end by itself`;
-  return isPast(until) ? `was to end on ${day}, and isn’t taken back yet` : `until ${day}`;
+  if (!ends) return texts.access.doesntEnd(day);
+  return (isPast(until) ? texts.access.wasToEnd : texts.access.untilDay)(day);
 }
 
-const nameIn = ({ known }, row) => (row.isGroup ? 'the group ' : '')
-  + isolated(whoName(known, row.who, row.isGroup));
+function nameIn({ known }, { who, isGroup }) {
+  const name = isolated(whoName(known, who, isGroup));
+  return isGroup ? texts.access.theGroup(name) : name;
+}
 
 // A last day changes nobody's rights now, so nothing is asked.
 async function setEnd(state, row, input, again) {
@@ -112,12 +116,13 @@ async function setEnd(state, row, input, again) {
   const next = input.validity.badInput || (day !== '' && isPast(day)) ? null
     : withLevel(state.list, state.kind, row, row.level, false, until);
   if (next === null) {
-    tell('bad', input.validity.badInput ? PART_OF_DATE : NO_DATE);
+    tell('bad', input.validity.badInput ? texts.access.partOfDate : texts.access.noDate);
     input.focus();
   } else if (await deliver(state, next, { ways: () => [], left: () => [] }) === 'sent') {
     await again(`[aria-label="${CSS.escape(labelOf(row))}"]`);
-    tell('good', `The access of ${nameIn(state, row)} ${
-      day === '' ? 'has no end' : `ends on ${endWords(day)}, as far as the nightly run can`}.`);
+    const name = nameIn(state, row);
+    tell('good', day === '' ? texts.access.hasNoEnd(name)
+      : texts.access.ends(name, endWords(day)));
   } else await again();
 }
 
@@ -127,7 +132,7 @@ function endControl(state, row, again) {
   const isFixed = !edits || row.inherited || row.who.endsWith('@')
     || ['pass', 'clear', 'custom'].includes(row.level);
   if (isFixed) return row.until && element('p', { class: 'hint' }, untilWords(row));
-  const name = `Last day of ${row.isGroup ? 'the group ' : ''}${row.who}`;
+  const name = (row.isGroup ? texts.access.lastDayOfGroup : texts.access.lastDay)(row.who);
   const open = () => {
     const input = element('input', { type: 'date', value: row.until ?? '', 'aria-label': name });
     const set = (event) => {
@@ -135,11 +140,12 @@ function endControl(state, row, again) {
       setEnd(state, row, input, again).catch(tellFault);
     };
     shown.replaceChildren(element('form', { class: 'until', onsubmit: set }, input,
-      element('button', { type: 'submit', class: 'small' }, 'Set')));
+      element('button', { type: 'submit', class: 'small' }, texts.access.set)));
     input.focus();
   };
-  const shown = element('div', {}, button(row.until ? untilWords(row) : 'no end', open,
-    { class: 'small plain', 'aria-label': `${name}: ${row.until ? untilWords(row) : 'no end'}` }));
+  const now = row.until ? untilWords(row) : texts.access.noEnd;
+  const shown = element('div', {}, button(now, open,
+    { class: 'small plain', 'aria-label': `${name}: ${now}` }));
   return shown;
 }
 
@@ -178,7 +184,7 @@ export function accessRows(state, again) {
   const all = [...sorted(own), ...sorted(above)];
   const way = all.filter(isWay);
   if (way.length === 0) return [list(all)];
-  const names = some(way.map(({ who, isGroup }) => whoName(state.known, who, isGroup)), 3);
+  const names = shortened(way.map(({ who, isGroup }) => whoName(state.known, who, isGroup)), 3);
   return [list(all.filter((row) => !isWay(row))), element('details', { class: 'on-the-way' },
-    element('summary', {}, `Only on the way to something further down: ${names}`), list(way))];
+    element('summary', {}, texts.access.onTheWay(names)), list(way))];
 }

@@ -4,6 +4,7 @@ import { button, element, nameText } from '../ui/dom.js';
 import { endWords } from '../acl/end_dates.js';
 import { Told, deliver } from './confirm.js';
 import { LEVELS, RANKS, readLevels, withLevel } from '../acl/levels.js';
+import { texts } from '../language/language.js';
 import { copyLink } from '../folder/actions.js';
 import { nameOf } from '../net/api.js';
 import { linkTo } from '../ui/links.js';
@@ -11,19 +12,13 @@ import { tell, tellFault } from '../ui/messages.js';
 import { followOutcome } from './consequences.js';
 import { fullName } from '../net/directory.js';
 import { picker } from '../ui/picker.js';
-import { levelWords, mayWords } from './access_words.js';
+import { levelWords, placeName } from './access_words.js';
 import { below, inSentence, mark, membersOf, whoName } from '../ui/names.js';
-import { capital, isolated } from '../text/words.js';
+import { isolated } from '../text/words.js';
 
 const MOST_MEMBERS = 8;
-const NO_LEVEL = 'This can’t be said by levels. Change it under “Advanced”.';
-export const NO_DATE = 'There can’t be an end on this day: it is over, or a name is too long.';
 
-const LOOKED_AGAIN = 'Some minutes went by, so what is further down is looked at again. Then press '
-  + '“Share” once more.';
-export const PART_OF_DATE = 'The day isn’t complete. Complete it, or clear it for no end.';
-
-export const offered = (kind) => RANKS.filter((level) => LEVELS[level].offered.includes(kind));
+export const offered = (kind) => RANKS.filter((level) => LEVELS[level].includes(kind));
 
 export function select(label, options, value, onPick) {
   const made = element('select', { 'aria-label': label }, options.map(([key, words]) =>
@@ -32,47 +27,43 @@ export function select(label, options, value, onPick) {
   return made;
 }
 
-// Who can do what, once it is sent: 'then', or after that 'now'. 'day' is the last one, or ''.
-function addedWords({ known, kind, path }, subject, level, when, day) {
-  const all = kind === 'folder' ? ' and what is in it' : '';
+// Who can do what, in one of the two sentences of it. 'day' is the last one, or ''.
+function addedWords({ known, kind, path }, subject, level, say, day) {
   const members = subject.isGroup ? membersOf(known, subject.who) : null;
-  const names = members !== null && members.length > 0 && members.length <= MOST_MEMBERS
-    ? ` (${members.map((user) => isolated(fullName(known, user))).join(', ')})` : '';
-  const who = capital(inSentence(known, subject));
-  const until = day === '' ? '' : ` until ${endWords(day)}, as far as the nightly run can`;
-  return `${who}${names} can ${when} ${mayWords(level, kind, path)}${all}${until}.`;
+  const named = members !== null && members.length <= MOST_MEMBERS ? members : [];
+  const many = subject.isGroup ? members?.length ?? null : 1;
+  return say(inSentence(known, subject), named.map((user) => isolated(fullName(known, user))), many,
+    level, kind, placeName(path), day === '' ? null : endWords(day));
 }
 
-function levelHint(kind, level, next) {
-  const { hint, hintOfDocument, hintWithoutOwn } = LEVELS[level];
-  // Where nobody may remove what they added, nobody is told so.
-  const ofFolder = readLevels(next, kind).own ? hint : hintWithoutOwn ?? hint;
-  return `${levelWords(level, kind)}: ${(kind === 'document' && hintOfDocument) || ofFolder}.`;
-}
+// Where nobody may remove what they added, nobody is told so.
+const levelHint = (kind, level, next) => (readLevels(next, kind).own ? texts.access.hint
+  : texts.access.hintWithoutOwn)(level, kind);
 
 const unsureWords = ({ known }, { who, sure }) => (sure || known === null ? null
   : element('p', { class: 'fault' },
-    `${isolated(who)} isn’t among the names that are known here. If it is misspelled, nobody `
-    + 'gets access.'));
+    texts.access.unsure(isolated(who))));
 
 // Where the one who got access is told of it. Only a name with an @ is an address of mail too.
 function mailLink(path, { who }) {
   const address = new URL(linkTo(path), location.href).href;
   const words = `subject=${encodeURIComponent(nameOf(path))}&body=${encodeURIComponent(address)}`;
   return element('a', { class: 'button small',
-    href: `mailto:${who.includes('@') ? encodeURI(who) : ''}?${words}` }, 'Write a mail');
+    href: `mailto:${who.includes('@') ? encodeURI(who) : ''}?${words}` }, texts.access.writeMail);
 }
 
 function tellShared(words, path, choice) {
   const copy = () => copyLink(path).catch(tellFault);
-  tell('good', words, button('Copy link', copy, { class: 'small' }), mailLink(path, choice));
+  tell('good', words, button(texts.acts.copyLink, copy, { class: 'small' }),
+    mailLink(path, choice));
 }
 
 // The levels of one who was picked, and what comes of each. Each drawing has a number, so that a
 // slow one isn't shown for a later level.
 class Picked {
   constructor(state, { choice, level = 'read', day = '' }, again) {
-    const name = choice.isGroup ? `the group ${isolated(choice.who)}` : isolated(choice.who);
+    const name = choice.isGroup ? texts.access.theGroup(isolated(choice.who))
+      : isolated(choice.who);
     this.state = state;
     this.choice = choice;
     this.subject = { ...choice, name };
@@ -80,13 +71,14 @@ class Picked {
     this.looks = 0;
     this.said = element('p', { class: 'said', role: 'status' });
     this.hint = element('p', { class: 'hint' });
-    this.share = button('Share', () => this.send(again), { class: 'primary', disabled: true });
+    this.share = button(texts.access.share, () => this.send(again),
+      { class: 'primary', disabled: true });
     this.told = new Told(state, this.subject, this.share, () => this.draw());
     this.body = this.told.shown;
     this.until = element('input',
-      { type: 'date', value: day, 'aria-label': 'Until, if it is to end' });
+      { type: 'date', value: day, 'aria-label': texts.access.untilLabel });
     this.until.addEventListener('change', () => this.draw());
-    this.levels = select('What they can do', offered(state.kind).map((one) =>
+    this.levels = select(texts.access.whatTheyCan, offered(state.kind).map((one) =>
       [one, levelWords(one, state.kind)]), this.level, (value) => {
       this.level = value;
       this.draw();
@@ -102,7 +94,7 @@ class Picked {
     const until = day === '' ? null : { day, asker: state.me };
     const next = withLevel(state.list, state.kind, choice, level, false, until);
     if (next === null || (day !== '' && Date.parse(`${day}T23:59:59`) < Date.now())) {
-      this.said.textContent = day === '' ? NO_LEVEL : NO_DATE;
+      this.said.textContent = day === '' ? texts.access.notByLevels : texts.access.noDate;
       return;
     }
     const isWanted = () => look === this.looks && this.body.isConnected;
@@ -114,9 +106,11 @@ class Picked {
   show(next, outcome, isBusy) {
     const { state, choice, level } = this;
     this.next = next;
-    this.said.textContent = addedWords(state, choice, level, 'then', this.until.value);
+    this.said.textContent = addedWords(state, choice, level, texts.access.thenCan,
+      this.until.value);
     this.hint.textContent = levelHint(state.kind, level, next);
-    this.share.textContent = outcome.lock === null ? 'Share' : 'Share all the same';
+    this.share.textContent = outcome.lock === null ? texts.access.share
+      : texts.access.shareAllTheSame;
     this.share.className = outcome.lock === null ? 'primary' : 'danger';
     this.told.draw(outcome, isBusy);
   }
@@ -124,7 +118,7 @@ class Picked {
   async send(again) {
     // A day that was typed in part has no value, as if there were to be no end.
     if (this.until.validity.badInput) {
-      this.said.textContent = PART_OF_DATE;
+      this.said.textContent = texts.access.partOfDate;
       this.until.focus();
       return;
     }
@@ -132,11 +126,11 @@ class Picked {
     const { state, choice, level } = this;
     const day = this.until.value;
     if (state.looking.isOld) {
-      tell('good', LOOKED_AGAIN);
+      tell('good', texts.access.lookedAgain);
       await this.draw();
       return;
     }
-    const words = addedWords(state, choice, level, 'now', day);
+    const words = addedWords(state, choice, level, texts.access.nowCan, day);
     const isSent = await deliver(state, this.next, this.told.told) === 'sent';
     await again('.picker input', isSent ? null : { choice, level, day });
     if (isSent) tellShared(words, state.path, choice);
@@ -149,9 +143,9 @@ class Picked {
       element('div', { class: 'name-of' }, element('strong', {}, nameText(name)),
         below(state.known, choice, state.me)), this.levels),
     ...[unsureWords(state, choice)].filter(Boolean),
-    element('label', { class: 'until' }, 'Until', this.until,
-      element('span', { class: 'hint' }, 'only if it is to end')), this.said, this.hint, this.body,
-    element('div', { class: 'actions' }, button('Cancel', cancel), this.share)];
+    element('label', { class: 'until' }, texts.access.until, this.until,
+      element('span', { class: 'hint' }, texts.access.onlyIfEnds)), this.said, this.hint, this.body,
+    element('div', { class: 'actions' }, button(texts.acts.cancel, cancel), this.share)];
   }
 }
 

@@ -1,5 +1,6 @@
 // Asks before who has access is changed, and sends it.
 
+import { texts } from '../language/language.js';
 import { button, element } from '../ui/dom.js';
 import { showDialog, tell, tellFault, waitFor } from '../ui/messages.js';
 import { followOutcome } from './consequences.js';
@@ -7,14 +8,9 @@ import { lookingLine } from '../ui/progress.js';
 import { placeName } from './access_words.js';
 import { tellOutcome } from './outcome_view.js';
 import { sendAll } from './passage.js';
-import { listed, sentenceOf } from '../text/words.js';
+import { sentenceOf } from '../text/words.js';
 
-const CHANGED = 'Somebody else changed who has access meanwhile, so nothing was sent. '
-  + 'This is how it is now: do it again.';
-
-const places = (paths) => listed(paths.map(placeName));
-const stays = (paths) => `${places(paths)} ${paths.length === 1 ? 'lets' : 'let'} somebody pass `
-  + 'through now, which couldn’t be taken back. Do that there, under “Only on the way”.';
+const stays = (paths) => texts.access.wayStays(paths.map(placeName));
 
 // Lines that only let somebody pass are taken away after the list was sent, each by itself.
 async function dropAll(leftovers, looking) {
@@ -22,9 +18,9 @@ async function dropAll(leftovers, looking) {
     try {
       const { done } = await sendAll([step]);
       if (done) looking.changed(step.path, step.next);
-      else tell('bad', `Somebody changed ${placeName(step.path)} meanwhile: its line stays.`);
+      else tell('bad', texts.access.lineChanged(placeName(step.path)));
     } catch (fault) {
-      tell('bad', `The line at ${placeName(step.path)} stays. ${sentenceOf(fault)}`);
+      tell('bad', `${texts.access.lineStays(placeName(step.path))} ${sentenceOf(fault)}`);
     }
   }
 }
@@ -35,13 +31,13 @@ export async function deliver(state, next, told) {
   try {
     const { done, left } = await waitFor(sendAll([...told.ways(), main]));
     if (done) await waitFor(dropAll(told.left(), state.looking));
-    else tell('bad', CHANGED);
+    else tell('bad', texts.access.changedMeanwhile);
     if (left.length > 0) tell('bad', stays(left));
     return done ? 'sent' : 'not sent';
   } catch (fault) {
     tellFault(fault);
     if (fault.left?.length > 0) tell('bad', stays(fault.left));
-    else if (fault.taken > 0) tell('bad', 'What was sent first was taken back.');
+    else if (fault.taken > 0) tell('bad', texts.access.takenBack);
     return 'not sent';
   }
 }
@@ -75,19 +71,21 @@ export class Told {
   }
 }
 
-// A dialog that says what comes of a list, and sends it. 'words' are {title, words, sentence,
-// subject}. Returns 'sent', 'not sent', or null if it was cancelled.
-export async function confirm(state, next, { title, words, sentence, subject = null }) {
+// A dialog that says what comes of a list, and sends it: by a button of these words, or of others
+// where the caller loses the list 'all the same'. Returns 'sent', 'not sent', or null if it was
+// cancelled.
+export async function confirm(state, next,
+  { title, words, allTheSame, sentence, subject = null }) {
   let isOpen = true;
   let danger = false;
   const said = element('p', {});
-  const [cancel, send] = ['Cancel', words].map((text) => button(text, () => {}));
+  const [cancel, send] = [texts.acts.cancel, words].map((text) => button(text, () => {}));
   const look = (draw) => followOutcome(state, next, subject, () => isOpen, draw);
   const told = new Told(state, subject, send, () => look(draw).catch(tellFault));
   const draw = (outcome, isBusy) => {
     danger = outcome.lock !== null;
     said.textContent = sentence(outcome);
-    send.textContent = danger ? `${words} all the same` : words;
+    send.textContent = danger ? allTheSame : words;
     send.className = danger ? 'danger' : 'primary';
     told.draw(outcome, isBusy);
   };

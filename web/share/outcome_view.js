@@ -1,6 +1,6 @@
 // What a new list would bring about, drawn, with a box for each of what is offered beside it.
 
-import { listed } from '../text/words.js';
+import { texts } from '../language/language.js';
 import { element, icon } from '../ui/dom.js';
 import { MOST_NAMED, hintsOf, saidLines, lockWords, offersOf, warningsOf } from './access_words.js';
 
@@ -8,8 +8,8 @@ const MARKS = { gain: 'plus', loss: 'dash', same: 'check' };
 
 // All the names, where the line counts some of them only.
 const allOf = (names) => (names.length <= MOST_NAMED + 1 ? null : element('details', {},
-  element('summary', {}, `All ${names.length.toLocaleString('en')}`),
-  element('p', { class: 'hint' }, listed(names))));
+  element('summary', {}, texts.outcome.all(names.length)),
+  element('p', { class: 'hint' }, texts.lists.and(names))));
 
 const lineShown = ({ look, head, words, names }) => element('li', { class: look },
   icon(MARKS[look]), element('div', {},
@@ -30,7 +30,7 @@ function warnings(state, outcome) {
     all.push(element('li', { class: 'bad lock-out' }, element('b', {}, title), ` ${text}`));
   }
   return all.length === 0 ? null
-    : element('ul', { class: 'warnings', 'aria-label': 'Mind this' }, all);
+    : element('ul', { class: 'warnings', 'aria-label': texts.acts.mindThis }, all);
 }
 
 // {shown, ways, left}: what is said of it, and what is to be sent before the list and after it.
@@ -40,7 +40,7 @@ export function tellOutcome(state, outcome, subject = null, ticks = new Map()) {
   const taken = (isFirst) => offers.filter((one) => one.isFirst === isFirst
     && (ticks.get(one.key) ?? one.isOn)).flatMap(({ steps }) => steps);
   const shown = element('div', { class: 'outcome' },
-    element('ul', { class: 'changes', 'aria-label': 'Who gains and who loses' },
+    element('ul', { class: 'changes', 'aria-label': texts.outcome.changes },
       saidLines(state, outcome, subject).map(lineShown)),
     hintsOf(state, outcome).map((words) => element('p', { class: 'hint' }, words)),
     offers.map((one) => tick(one, ticks)), warnings(state, outcome));

@@ -2,6 +2,7 @@
 
 import { button, element, field } from '../ui/dom.js';
 import { isName } from '../acl/entries.js';
+import { texts } from '../language/language.js';
 import { showDialog } from '../ui/messages.js';
 import { READY, readyText } from './ready_lists.js';
 import { faultWords } from '../text/words.js';
@@ -23,7 +24,8 @@ function choices(onPick) {
     sentence.textContent = ready.sentence(me, ...names);
   });
   return { tell, shown: element('fieldset', { class: 'choices' },
-    element('legend', { class: 'unseen' }, 'Which list'), made.map(({ shown }) => shown)) };
+    element('legend', { class: 'unseen' }, texts.access.whichList),
+    made.map(({ shown }) => shown)) };
 }
 
 // The fields for the names of a list. 'typed' has what was typed for each example.
@@ -55,7 +57,7 @@ function nameFields(ready, typed, onInput) {
 
 // Returns the text of a list, or null.
 export function pickReady(me) {
-  return showDialog('Ready-made lists', (finish) => {
+  return showDialog(texts.advanced.ready, (finish) => {
     const typed = new Map();
     const namesOf = ({ asks }) => asks.map(({ example }) =>
       (isName(typed.get(example) ?? '') ? typed.get(example) : example));
@@ -75,9 +77,9 @@ export function pickReady(me) {
       if (names) finish(readyText(ready, me, names));
     };
     return [element('form', { onsubmit: take },
-      element('p', {}, 'It takes the place of this list. You see what changes before it is sent.'),
+      element('p', {}, texts.access.replaces),
       shown, place, element('div', { class: 'actions' },
-        button('Cancel', () => finish(null)),
-        element('button', { type: 'submit', class: 'primary' }, 'Take this list')))];
+        button(texts.acts.cancel, () => finish(null)),
+        element('button', { type: 'submit', class: 'primary' }, texts.access.takeList)))];
   }, 'ready');
 }

@@ -12,6 +12,7 @@ import { callersFor, isException, removes } from './who_can.js';
 import { confirm } from './confirm.js';
 import { passedDown } from '../acl/inherit.js';
 import { closedUp, cutOff, joined, readLevels } from '../acl/levels.js';
+import { texts } from '../language/language.js';
 import { linkTo } from '../ui/links.js';
 import { Looking } from '../net/crawl.js';
 import { readListText } from '../acl/entries.js';
@@ -23,24 +24,9 @@ import { lookingLine } from '../ui/progress.js';
 import { placeName, shownName } from './access_words.js';
 import { wayTo } from './passage.js';
 import { unreadNames } from './unread.js';
-import { some } from '../ui/names.js';
+import { shortened } from '../ui/names.js';
 import { isolated, sentenceOf } from '../text/words.js';
 
-const WHY = {
-  denies: 'Something here is denied to somebody, so the order of the lines counts. This list is '
-    + 'changed under “Advanced”.',
-  order: 'Somebody here may remove only in part, so the order of the lines counts. This list is '
-    + 'changed under “Advanced”.',
-  apart: 'What is in this folder doesn’t follow its list. It is changed under “Advanced”.',
-  unsent: 'There are changes under “Advanced” that you haven’t sent yet.',
-};
-const OPEN = 'Whoever may add documents here may also remove and rename what others made.';
-const KEEPS = 'Let only those remove who are said to';
-const OWN = 'Whoever adds a document may also remove and rename it.';
-const FOLLOWS = {
-  all: 'Everything further down follows this list.',
-  rest: 'Everything else further down follows this list.',
-};
 const MOST_NAMED = 6;
 const FIELD = '.picker input';
 
@@ -77,44 +63,42 @@ function following(state, again) {
   const from = folders.at(-1).list;
   const coming = from?.auto ? passedDown(from.entries, kind) : [];
   const ask = (isCut) => confirm(state, isCut ? cutOff(list) : joined(list, coming, kind), isCut
-    ? { title: 'Only these people?', words: 'Only these people',
-      sentence: () => `This ${kind} then has a list of its own. Whoever gets access to ${above} `
-        + 'later doesn’t get it here, and whoever loses it there keeps it here. Then remove whom '
-        + 'it isn’t for.' }
-    : { title: `Follow ${above} again?`, words: 'Follow it',
-      sentence: () => `Who has access to ${above} then has it here too, now and whenever that `
-        + 'changes. Those below keep it.' });
+    ? { title: texts.access.cutOff, words: texts.access.onlyThese,
+      allTheSame: texts.access.onlyTheseAllTheSame,
+      sentence: () => texts.access.cutOffSays(kind, above) }
+    : { title: texts.access.followAgain(above), words: texts.access.followIt,
+      allTheSame: texts.access.followAllTheSame,
+      sentence: () => texts.access.followSays(above) });
   box.addEventListener('change', async () => {
     const done = await ask(box.checked).catch(tellFault);
     if (done) await again('.following input');
     else box.checked = list.protect;
   });
-  const linked = from?.auto === false ? `This ${kind} doesn’t follow ${above}.`
-    : `This ${kind} follows ${above}: whoever has access there has it here too.${
-      rowsFromAbove(model.rows).length > 0 ? ' The grey lines come from there.' : ''}`;
-  const hint = list.protect
-    ? `This ${kind} has a list of its own: what changes at ${above} doesn’t count here.` : linked;
+  const follows = rowsFromAbove(model.rows).length === 0 ? texts.access.follows(kind, above)
+    : `${texts.access.follows(kind, above)} ${texts.access.greyLines}`;
+  const linked = from?.auto === false ? texts.access.doesntFollow(kind, above) : follows;
+  const hint = list.protect ? texts.access.ownList(kind, above) : linked;
   return element('div', { class: 'following' }, icon('lock'), element('div', {},
-    element('label', { class: 'tick' }, box, 'Only these people'),
+    element('label', { class: 'tick' }, box, texts.access.onlyThese),
     element('p', { class: 'hint' }, hint)));
 }
 
 function note(state) {
   if (state.why === null || state.why === 'open') return null;
-  return element('div', { class: 'note-of' }, element('p', {}, WHY[state.why]),
-    element('a', { class: 'button small', href: linkTo(state.path, 'dacl') }, 'Advanced'));
+  return element('div', { class: 'note-of' }, element('p', {}, texts.access.why[state.why]),
+    element('a', { class: 'button small', href: linkTo(state.path, 'dacl') },
+      texts.page.advanced));
 }
 
 // Where no line says who may remove, one button says it.
 function openNote(state, again) {
   if (state.why !== 'open') return null;
   const keep = () => confirm(state, closedUp(state.list), {
-    title: 'Keep things in place?', words: 'Keep them in place',
-    sentence: () => 'Then only those remove and rename who “can add, change and remove” or '
-      + '“can manage”.',
+    title: texts.access.keepInPlace, words: texts.access.keepThem,
+    allTheSame: texts.access.keepAllTheSame, sentence: () => texts.access.keepSays,
   }).then((done) => (done ? again(FIELD) : null)).catch(tellFault);
-  return element('div', { class: 'note-of' }, element('p', {}, OPEN),
-    state.isMine ? button(KEEPS, keep, { class: 'small' }) : null);
+  return element('div', { class: 'note-of' }, element('p', {}, texts.access.open),
+    state.isMine ? button(texts.access.letOnly, keep, { class: 'small' }) : null);
 }
 
 // Those who may remove the object, though its own lines don't say so.
@@ -122,10 +106,7 @@ function removersNote({ kind, list, object, known, folders, model }) {
   const above = folders.at(-1);
   if (above === undefined) return null;
   const place = placeName(above.path);
-  const may = `may also remove this ${kind} or move it away`;
-  if (above.list === null) {
-    return `You may not see who has access to ${place}, so it isn’t known who ${may}.`;
-  }
+  if (above.list === null) return texts.access.removersUnseen(place, kind);
   const target = { entries: list.entries, object };
   const folder = { entries: above.list.entries, object: above.object };
   const saying = model.rows.filter(({ level }) => level === 'manage' || level === 'remove');
@@ -134,21 +115,24 @@ function removersNote({ kind, list, object, known, folders, model }) {
   const found = callersFor([target, folder], [], known)
     .filter((caller) => !isSaid(caller) && removes(target, folder, caller));
   if (found.length === 0) return null;
-  const names = some(found.map(shownName(known)), MOST_NAMED);
-  return `By the list of ${place}, or because it is theirs, ${names} ${may}.`;
+  const names = shortened(found.map(shownName(known)), MOST_NAMED);
+  return texts.access.removers(place, names, kind);
 }
 
 const placeLink = ({ path, list }) => element('li', {},
   element('a', { href: linkTo(path, 'access') }, isolated(path)),
-  element('span', { class: 'hint' }, list.protect ? 'only these people' : 'lines of its own'));
+  element('span', { class: 'hint' },
+    list.protect ? texts.access.onlyTheseThere : texts.access.linesThere));
 
 // What is said of what was seen further down: its exceptions, and what can't be seen.
 function exceptionsSeen(state) {
   const { nodes, unread, all } = belowOf(state);
   const found = nodes.filter(isException);
+  const follows = found.length + unread.length > 0 ? texts.access.restFollows
+    : texts.access.allFollows;
   const hints = [
-    unread.length > 0 ? `You may not see who has access to ${unreadNames(unread, 3)}.` : null,
-    all ? FOLLOWS[found.length + unread.length > 0 ? 'rest' : 'all'] : null,
+    unread.length > 0 ? texts.access.unseen(unreadNames(unread, 3)) : null,
+    all ? follows : null,
   ].filter(Boolean);
   return element('div', {}, element('ul', {}, found.map(placeLink)),
     ...hints.map((words) => element('p', { class: 'hint' }, words)));
@@ -169,7 +153,7 @@ function exceptions(state) {
     looking.follow(draw, () => made.open && made.isConnected).catch(tellFault);
   };
   const line = lookingLine(looking, look);
-  const made = element('details', {}, element('summary', {}, 'Exceptions further down'),
+  const made = element('details', {}, element('summary', {}, texts.access.exceptions),
     element('div', { class: 'exceptions' }, seen, line.shown));
   made.addEventListener('toggle', () => made.open && look());
   return made;
@@ -177,12 +161,11 @@ function exceptions(state) {
 
 // An access that the nightly run has taken back.
 const endedHint = ({ who, day }) => element('p', { class: 'hint' },
-  `The access of ${isolated(who)} ended, and was taken back on ${endWords(day)}.`);
+  texts.access.ended(isolated(who), endWords(day)));
 
 // A day that nobody's access has any more, as after an edit of the list itself.
 const looseHint = ({ who, day }) => element('p', { class: 'hint' },
-  `${isolated(who)} was to have access until ${endWords(day)}, and has none now. The day can be `
-  + 'removed under “Advanced”.');
+  texts.access.loose(isolated(who), endWords(day)));
 
 const hintOf = (words) => (words === null ? null : element('p', { class: 'hint' }, words));
 
@@ -190,10 +173,10 @@ function view(state, again, pick) {
   const { edits, isMine, model, kind } = state;
   return element('div', { class: 'sharing-view' },
     edits ? adder(state, again, pick) : null,
-    isMine ? null : hintOf('You can see who has access, but not change it.'),
-    note(state), openNote(state, again), element('h2', {}, 'Who has access'),
+    isMine ? null : hintOf(texts.access.onlyLook),
+    note(state), openNote(state, again), element('h2', {}, texts.page.whoHasAccess),
     accessRows(state, again), model.ended.map(endedHint), model.loose.map(looseHint),
-    hintOf(model.own && kind === 'folder' ? OWN : null),
+    hintOf(model.own && kind === 'folder' ? texts.access.own : null),
     hintOf(removersNote(state)), following(state, again), exceptions(state));
 }
 
@@ -202,12 +185,10 @@ async function unseen(path, kind) {
   const [ask, rulings] = await Promise.all([
     askedFor(path), api.can(path, 'rw').catch(() => null)]);
   const isGranted = (letter) => rulings?.[letter].ruling === 'allowed';
-  const changing = kind === 'document' ? 'You can change this document.'
-    : 'You can put documents into this folder.';
-  const reading = isGranted('r') ? `You can read this ${kind}.` : `You can’t read this ${kind}.`;
+  const changing = kind === 'document' ? texts.access.canChangeDocument : texts.access.canPutInto;
+  const reading = (isGranted('r') ? texts.access.canRead : texts.access.cantRead)(kind);
   return element('div', { class: 'empty' },
-    element('p', {}, `${isGranted('w') ? changing : reading} You may not see who else has access.`),
-    element('p', {}, ask));
+    element('p', {}, isGranted('w') ? changing : reading), element('p', {}, ask));
 }
 
 // Shows who has access in 'box', as long as 'isCurrent()'.

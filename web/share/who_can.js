@@ -1,6 +1,7 @@
 // Who gains and who loses by a list, in people's names where they are known. Nothing here draws or
 // asks. A caller has a 'name' beside what decide.js asks of one.
 
+import { texts } from '../language/language.js';
 import { parentOf } from '../net/api.js';
 import { bit, decide, isDeletable, mayPass, surely } from '../acl/decide.js';
 import { afterMoving, ofOthers, passedDown } from '../acl/inherit.js';
@@ -80,10 +81,10 @@ export function reached(target, folder, caller) {
   return may('x') ? 'pass' : 'none';
 }
 
-const callerName = ({ user, groups }) => user ?? `the group ${groups[0]}`;
+const callerName = ({ user, groups }) => user ?? texts.who.group(groups[0]);
 const named = (caller) => ({ ...caller, name: callerName(caller) });
 const EVERYONE = { user: null, groups: [] };
-const UNKNOWN_OWNERS = { 'OWNER@': 'whoever owns it', 'GROUP@': 'the owning group' };
+const UNKNOWN_OWNERS = { 'OWNER@': texts.who.unknownOwner, 'GROUP@': texts.who.unknownGroup };
 
 // Those whom a list means by what the object's owner and group are, where these can't be read.
 const ownersIn = (places) => Object.keys(UNKNOWN_OWNERS)
@@ -117,12 +118,12 @@ export function callersFor(places, lists, people) {
       .map(({ who }) => who));
     return [...[...users].map((user) => named({ user, groups: [] })),
       ...[...groups].map((group) => named({ user: null, groups: [group] })), ...owners,
-      { ...EVERYONE, name: 'everyone who signs in' }];
+      { ...EVERYONE, name: texts.who.signingIn }];
   }
   const groups = memberships(people.groups);
   const known = [...new Set([...users, ...people.users, ...groups.keys()])].sort();
   return [...known.map((user) => named({ user, groups: groups.get(user) ?? [] })), ...owners,
-    { ...EVERYONE, name: 'everyone else who signs in' }];
+    { ...EVERYONE, name: texts.who.others }];
 }
 
 const hasAll = (powers, others) =>

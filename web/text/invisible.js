@@ -1,6 +1,8 @@
 // Signs in a name that can't be seen, or that turn the text around them. By these a name can look
 // like another one, so they are shown.
 
+import { texts } from '../language/language.js';
+
 // Controls, formatting signs, blanks other than a space, and letters without a shape. A joiner is
 // left alone where it belongs: after signs such as emojis, and in scripts that need it.
 const JOINS = '\\p{Extended_Pictographic}\\p{Emoji_Modifier}\\p{M}\\p{Script=Arabic}';
@@ -10,7 +12,7 @@ const UNSEEN = '[\\u034f\\u115f\\u1160\\u17b4\\u17b5\\u180b-\\u180d\\u2800\\u316
 const BLANKS = '[\\u00a0\\u1680\\u2000-\\u200a\\u202f\\u205f]|^ +| +$';
 const SIGNS = new RegExp([JOINERS, FORMAT, UNSEEN, BLANKS].join('|'), 'gu');
 
-const codeOf = (sign) => (sign.startsWith(' ') ? 'space'
+const codeOf = (sign) => (sign.startsWith(' ') ? texts.lists.space
   : `U+${sign.codePointAt(0).toString(16).toUpperCase().padStart(4, '0')}`);
 
 // The name in pieces: {text}, or {code} for a sign.

@@ -1,17 +1,14 @@
 // Who could remove by a new list what others made, and couldn't before, and the sentences about it,
 // before it is sent. Whoever may remove something may also rename it and move it away.
 
+import { KEEP } from '../acl/levels.js';
 import { callersIn, isGranted, mayDelete } from '../acl/decide.js';
 import { childOf, ofOthers } from '../acl/inherit.js';
 import { protectedBelow } from '../net/ancestors.js';
 import { parentOf } from '../net/api.js';
-import { callerWords, capital, counted, listed, placeWords } from './words.js';
+import { texts } from '../language/language.js';
+import { callerWords, placeWords } from './words.js';
 
-const REMEDY = ' An entry that denies it to everyone (D:d:EVERYONE@:Dd), below the entries of '
-  + 'those who may, prevents that.';
-const OPENS = 'Whoever may move something away can put it into a folder of their own, and there '
-  + 'read what follows that folder’s list. What has to stay shut has to be protected (p).';
-const UNSEEN = 'Not everything below could be looked at: there may be more protected folders.';
 const MOST_NAMED = 3;
 
 // What others made in a folder that follows its list. Folders are {entries, object}.
@@ -64,39 +61,38 @@ export async function removalOf(kind, before, after, look = protectedBelow) {
   return { inside, itself, opens: inside !== null || (itself.length > 0 && !after.protect) };
 }
 
-const named = (callers, known) =>
-  capital(listed(callers.map((one) => callerWords(one, known))));
+const named = (callers, known) => callers.map((one) => callerWords(one, known));
 
 // How folders that have a list of their own are called, by one or several and by their names.
-const PROTECTED = (folders, names) => `the protected ${folders} ${names}`;
+const PROTECTED = [texts.warnings.includesProtected,
+  texts.warnings.includesSeveralProtected];
 
 function shutWords(shut, call) {
+  const [one, several] = call;
   const places = shut.slice(0, MOST_NAMED).map(placeWords);
   const more = shut.length - places.length;
-  const all = listed(more > 0 ? [...places, counted(more, 'other')] : places);
-  return shut.length === 1
-    ? ` That includes ${call('folder', all)}: they could make another one in its place.`
-    : ` That includes ${call('folders', all)}: they could make others in their place.`;
+  const all = more > 0 ? [...places, texts.lists.others(more)] : places;
+  return (shut.length === 1 ? one : several)(all);
 }
 
 // The sentence about what is in a folder. 'call' names its protected folders.
 export function insideWords({ callers, isSaid: said, shut }, call = PROTECTED, known = null) {
-  const may = said ? 'may then'
-    : 'may put documents here, and no entry says who may remove: so they may';
-  return `${named(callers, known)} ${may} remove, rename and move away what others made in this `
-    + `folder, even what they can’t open.${shut.length > 0 ? shutWords(shut, call) : ''}${
-      said ? '' : REMEDY}`;
+  const names = named(callers, known);
+  return [(said ? texts.warnings.removes : texts.warnings.removesUnsaid)(names),
+    ...shut.length > 0 ? [shutWords(shut, call)] : [],
+    ...said ? [] : [texts.warnings.remedy(KEEP)]].join(' ');
 }
 
 // All the sentences, for somebody who edits the list itself: [{kind, text}].
 export function removalWords(kind, { inside, itself, opens }, known = null) {
   const unsure = (text) => ({ kind: 'unsure', text });
+  const ofItself = kind === 'folder' ? texts.warnings.removesFolder
+    : texts.warnings.removesDocument;
   return [
     ...inside === null ? [] : [{ kind: inside.shut.length > 0 ? 'bad' : 'unsure',
       text: insideWords(inside, PROTECTED, known) }],
-    ...inside === null || inside.all ? [] : [unsure(UNSEEN)],
-    ...itself.length === 0 ? [] : [unsure(
-      `${named(itself, known)} may then remove, rename and move away this ${kind} itself.`)],
-    ...opens ? [unsure(OPENS)] : [],
+    ...inside === null || inside.all ? [] : [unsure(texts.warnings.unseen)],
+    ...itself.length === 0 ? [] : [unsure(ofItself(named(itself, known)))],
+    ...opens ? [unsure(texts.warnings.opens)] : [],
   ];
 }

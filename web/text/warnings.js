@@ -5,13 +5,12 @@ import {
 } from '../acl/decide.js';
 import { printEntry, readListText } from '../acl/entries.js';
 import { afterSending } from '../acl/inherit.js';
+import { texts } from '../language/language.js';
 import { attributesAt, foldersAbove } from '../net/ancestors.js';
 import * as api from '../net/api.js';
 import { people } from '../net/directory.js';
 import { removalOf, removalWords } from './removers.js';
-import { callerWords, capital, isolated, listed, placeWords } from './words.js';
-
-const NO_GROUPS = 'This page doesn’t know who is in a group.';
+import { callerWords, isolated, placeWords } from './words.js';
 
 // Whether I might lose this right, C or c, by the new list: null, or {letter, answer, depends,
 // entry, isNobody}.
@@ -24,20 +23,27 @@ function loss(letter, before, after, me, object) {
 // Whether I might lose the list: its change, or else its sight.
 export const lossOf = (...words) => loss('C', ...words) ?? loss('c', ...words);
 
-// The same in words: {title, text}. 'list' is how the list is called there.
-export function lossWords({ letter, answer, depends, entry, isNobody }, list = 'this list') {
-  const verb = letter === 'C' ? 'change' : 'see';
-  const what = `${verb} it (${letter})`;
-  const rest = letter === 'C' ? '' : ' This page can’t change a list that it can’t show.';
+// What an answer depends on, in words.
+function dependsWords(depends) {
+  const { owner, owningGroup, above, group } = texts.warnings.depends;
+  const words = { 'OWNER@': owner, 'GROUP@': owningGroup, above };
+  return depends.map((one) => words[one] ?? group(one.slice(2)));
+}
+
+// Which list I may lose is said in the words of these two.
+export const THIS_LIST = [texts.warnings.losesList, texts.warnings.perhapsLosesList];
+export const WHO_HAS_ACCESS = [texts.warnings.losesAccess, texts.warnings.perhapsLosesAccess];
+
+// The same in words: {title, text}. 'call' says how the list is called there.
+export function lossWords({ letter, answer, depends, entry, isNobody }, call = THIS_LIST) {
+  const [surely, perhaps] = call;
   if (answer !== 'no') {
-    return { title: `After this you perhaps may no longer ${verb} ${list}`,
-      text: `No entry of it surely lets you ${what}: that depends on ${listed(depends)}. ${
-        NO_GROUPS}${rest}` };
+    return { title: perhaps[letter],
+      text: texts.warnings.notSurely(letter, dependsWords(depends)) };
   }
-  const nobody = `No entry of it lets anybody ${what}: then only the administrator can.`;
-  const why = isNobody ? nobody : `No entry of it lets you ${what}.`;
-  const denied = entry && `An entry denies it to you: ${isolated(printEntry(entry))}.`;
-  return { title: `After this you may no longer ${verb} ${list}`, text: `${denied ?? why}${rest}` };
+  const why = (isNobody ? texts.warnings.letsNobody : texts.warnings.letsYouNot)(letter);
+  return { title: surely[letter],
+    text: entry ? texts.warnings.deniesYou(letter, isolated(printEntry(entry))) : why };
 }
 
 // Whoever has signed in, in whichever groups they are.
@@ -46,16 +52,14 @@ const EVERYBODY = withOthers(ANYBODY);
 // A sentence about one who can't get here, or perhaps not: {kind: 'bad' or 'unsure', text}.
 export function passageWords(caller, found, known = null) {
   const who = callerWords(caller, known);
-  const place = found.path === null ? 'this folder' : placeWords(found.path);
-  const there = found.path === null ? 'to what is in this folder' : 'here';
+  const place = found.path === null ? null : placeWords(found.path);
   if (found.answer === 'no' || (caller === EVERYBODY && found.answer === 'perhaps')) {
-    const cant = caller === EVERYBODY ? 'Not everyone can' : `${capital(who)} can’t`;
-    const why = `${place} doesn’t let ${who} pass through (x)`;
-    return { kind: 'bad', text: `${cant} get ${there}: ${why}.` };
+    return { kind: 'bad', text: caller === EVERYBODY ? texts.warnings.noPassageForAll(place)
+      : texts.warnings.noPassage(who, place) };
   }
-  const why = found.answer === 'unread' ? `you may not read the list of ${place}.`
-    : `at ${place} that depends on ${listed(found.depends)}. ${NO_GROUPS}`;
-  return { kind: 'unsure', text: `It isn’t known whether ${who} can get ${there}: ${why}` };
+  return { kind: 'unsure', text: found.answer === 'unread'
+    ? texts.warnings.passageUnread(who, place)
+    : texts.warnings.passageDepends(who, place, dependsWords(found.depends)) };
 }
 
 // Sentences about those who are added and can't get here. 'folders' are those on the way, from the

@@ -3,8 +3,9 @@
 import { attributesAt, listAt } from '../net/ancestors.js';
 import { inForce } from '../acl/decide.js';
 import { isGroup } from '../acl/entries.js';
+import { texts } from '../language/language.js';
 import { fullName, mine, people } from '../net/directory.js';
-import { membersOf, some } from './names.js';
+import { membersOf, shortened } from './names.js';
 import { isolated } from '../text/words.js';
 
 const MOST_NAMED = 3;
@@ -21,13 +22,13 @@ function usersOf(entry, owner, known) {
 export async function askedFor(path) {
   const [list, { owner }, known, given] = await Promise.all([
     listAt(path), attributesAt(path), people(), mine()]);
-  const sentence = (users, why) => `Ask ${some(users.map((user) =>
-    isolated(fullName(known, user))), MOST_NAMED, 'or')}, who ${why}.`;
+  const shown = (users) =>
+    shortened(users.map((user) => isolated(fullName(known, user))), MOST_NAMED);
   const managing = inForce(list?.entries ?? [], 'C').filter(({ type }) => type === 'A')
     .flatMap((entry) => usersOf(entry, owner, known));
-  if (managing.length > 0) return sentence([...new Set(managing)], 'can change that');
+  if (managing.length > 0) return texts.ask.changing(shown([...new Set(managing)]));
   const managers = given?.managers ?? [];
   const isTop = path === '/' || !owner;
-  if (managers.length > 0 && isTop) return sentence(managers, 'manages the room');
-  return owner ? sentence([owner], 'owns it') : 'Ask your administrator.';
+  if (managers.length > 0 && isTop) return texts.ask.managing(shown(managers));
+  return owner ? texts.ask.owning(shown([owner])) : texts.ask.administrator;
 }

@@ -1,5 +1,6 @@
 // Elements. Whatever comes from the room is set as text or as an attribute's value, never as HTML.
 
+import { texts } from '../language/language.js';
 import { piecesOf } from '../text/invisible.js';
 
 const SVG = 'http://www.w3.org/2000/svg';
@@ -17,7 +18,7 @@ export function element(tag, properties = {}, ...children) {
   return made;
 }
 
-const UNSEEN = { class: 'sign', title: 'This sign can’t be seen.' };
+const UNSEEN = { class: 'sign', title: texts.lists.unseenSign };
 
 // A name is isolated, so that right-to-left text doesn't turn the text around it. What can't be
 // seen in it is shown by its number.

@@ -1,5 +1,6 @@
 // The open place follows the '#' of the address, so that it can be linked and kept as a bookmark.
 
+import { texts } from '../language/language.js';
 import { join, namesOf } from '../net/api.js';
 import { element, nameText } from './dom.js';
 
@@ -27,7 +28,7 @@ export function whereIs(hash) {
 
 // The path as links, from the top down.
 export function pathLinks(path) {
-  const items = [element('li', {}, element('a', { href: linkTo('/') }, 'All documents'))];
+  const items = [element('li', {}, element('a', { href: linkTo('/') }, texts.places.all))];
   let reached = '/';
   for (const name of namesOf(path)) {
     reached = join(reached, name);

@@ -1,5 +1,6 @@
 // Messages at a fixed place, and questions in a dialog.
 
+import { texts } from '../language/language.js';
 import { button, element, field, icon } from './dom.js';
 import { askedFor } from './ask_whom.js';
 import { denialWords, sentenceOf } from '../text/words.js';
@@ -10,7 +11,7 @@ const place = () => document.getElementById('notices');
 // it is closed.
 export function tell(kind, text, ...actions) {
   const close = button(icon('cross'), () => notice.remove(),
-    { class: 'plain', 'aria-label': 'Close this message' });
+    { class: 'plain', 'aria-label': texts.messages.close });
   const said = element('p', {}, text);
   const stays = kind === 'good' && actions.length > 0 ? ' stays' : '';
   if (stays) for (const old of place().querySelectorAll('.stays')) old.remove();
@@ -25,7 +26,7 @@ export function tell(kind, text, ...actions) {
 // The entry that denies it, for those who want to know.
 function reasonOf({ status, body, asked }) {
   const why = status === 403 ? denialWords(body, asked).why : null;
-  return why === null ? [] : [element('details', {}, element('summary', {}, 'Why'),
+  return why === null ? [] : [element('details', {}, element('summary', {}, texts.acts.why),
     element('p', { class: 'hint' }, why))];
 }
 
@@ -38,7 +39,7 @@ function nameManagers(said, fault) {
 export function tellFault(fault) {
   if (fault.status === undefined) console.error(fault);
   const again = fault.status === 401
-    ? [button('Sign in again', () => location.reload(), { class: 'small' })] : [];
+    ? [button(texts.messages.signInAgain, () => location.reload(), { class: 'small' })] : [];
   const text = sentenceOf(fault);
   for (const old of place().querySelectorAll('.notice.bad')) {
     if (old.getAttribute('data-text') === text) old.remove();
@@ -52,7 +53,7 @@ export function clearNotices() {
 
 // In the place of what can't be shown at the moment.
 export const notShown = (words, load) => element('div', { class: 'empty' }, element('p', {}, words),
-  button('Load again', () => {
+  button(texts.acts.loadAgain, () => {
     clearNotices();
     load();
   }, { class: 'small' }));
@@ -63,7 +64,7 @@ export function showWaiting(isWaiting) {
   if (!isWaiting) waitingNotice?.remove();
   else if (!waitingNotice?.isConnected) {
     waitingNotice = element('div', { class: 'notice waits', role: 'status' }, icon('dash'),
-      element('p', {}, 'The room doesn’t answer. The page tries again for half a minute.'));
+      element('p', {}, texts.messages.waiting));
     place().append(waitingNotice);
   }
 }
@@ -109,7 +110,7 @@ export function question(title, text, answers, more = null) {
   return showDialog(title, (finish) => [
     element('p', {}, text), ...more === null ? [] : [more],
     element('div', { class: 'actions' },
-      button('Cancel', () => finish(null), { autofocus: true }),
+      button(texts.acts.cancel, () => finish(null), { autofocus: true }),
       answers.map(([value, words, look]) => button(words, () => finish(value), { class: look }))),
   ]);
 }
@@ -136,7 +137,7 @@ export function form(title, fields, submit, ...more) {
       else finish(inputs.map((input) => input.value));
     };
     return [element('form', { onsubmit: send }, boxes, more, element('div', { class: 'actions' },
-      button('Cancel', () => finish(null)),
+      button(texts.acts.cancel, () => finish(null)),
       element('button', { type: 'submit', class: 'primary' }, submit)))];
   });
 }

@@ -1,22 +1,16 @@
 // People and groups as they are shown: a mark, a name, and who is in a group.
 
+import { texts } from '../language/language.js';
 import { element, icon, nameText } from './dom.js';
 import { fullName } from '../net/directory.js';
-import { isolated, listed } from '../text/words.js';
+import { isolated } from '../text/words.js';
 
-const SPECIAL = {
-  'OWNER@': 'The owner of each document',
-  'GROUP@': 'The owning group',
-  'EVERYONE@': 'Everyone',
-  'AUTHENTICATED@': 'Everyone who signs in',
-  'ANONYMOUS@': 'Whoever hasn’t signed in',
-};
-const isSpecial = (who) => Object.hasOwn(SPECIAL, who);
+const isSpecial = (who) => Object.hasOwn(texts.names.special, who);
 // So many are named without being asked for.
 const FEW = 3;
 
 export function whoName(known, who, isGroup) {
-  if (isSpecial(who)) return SPECIAL[who];
+  if (isSpecial(who)) return texts.names.special[who];
   return isGroup ? who : fullName(known, who);
 }
 
@@ -31,43 +25,46 @@ export const membersOf = (known, group) => (
   known?.members && Object.hasOwn(known.groups, group) ? known.groups[group] : null);
 
 // The first of these, and how many more there are.
-export function some(names, most = 4, word = 'and') {
+export function shortened(names, most = 4) {
   const rest = names.length - most;
-  if (rest > 1) return `${names.slice(0, most).join(', ')} ${word} ${rest} others`;
-  return listed(names, word);
+  return rest > 1 ? [...names.slice(0, most), texts.lists.others(rest)] : names;
 }
+
+export const some = (names, most = 4) => texts.lists.and(shortened(names, most));
 
 // 'bob', 'the 5 members of sales' for a sentence.
 export function inSentence(known, { who, isGroup }) {
-  if (isSpecial(who)) return SPECIAL[who].replace(/^./, (first) => first.toLowerCase());
+  if (isSpecial(who)) return texts.names.inSentence[who];
   if (!isGroup) return isolated(fullName(known, who));
   const members = membersOf(known, who);
-  if (members === null) return `the members of ${isolated(who)}`;
-  return `the ${members.length} ${members.length === 1 ? 'member' : 'members'} of ${isolated(who)}`;
+  return members === null ? texts.names.membersOf(isolated(who))
+    : texts.names.countedMembers(members.length, isolated(who));
 }
 
 function personWords(known, who, me) {
   return [
-    who === me ? 'you' : null, fullName(known, who) === who ? null : who,
-    known && !known.users.includes(who) ? 'not among the people who can sign in' : null,
+    who === me ? texts.names.you : null, fullName(known, who) === who ? null : who,
+    known && !known.users.includes(who) ? texts.names.cannotSignIn : null,
   ].filter(Boolean).join(', ');
 }
 
 function groupWords(known, who, members) {
   if (members === null) {
-    return known && !Object.hasOwn(known.groups, who) ? 'a group that has no members' : 'a group';
+    return known && !Object.hasOwn(known.groups, who) ? texts.names.emptyGroup
+      : texts.names.unknownMembers;
   }
-  return members.length === 0 ? 'nobody is in this group'
-    : listed(members.map((user) => isolated(fullName(known, user))));
+  return members.length === 0 ? texts.names.noMembers
+    : texts.lists.and(members.map((user) => isolated(fullName(known, user))));
 }
 
 const memberLine = (known, user, me) => element('li', {}, mark(known, user, false),
-  nameText(fullName(known, user)), user === me ? element('span', { class: 'hint' }, 'you') : null);
+  nameText(fullName(known, user)),
+  user === me ? element('span', { class: 'hint' }, texts.names.you) : null);
 
 function unfolded(known, members, me) {
-  const first = members.slice(0, 2).map((user) => isolated(fullName(known, user))).join(', ');
+  const first = members.slice(0, 2).map((user) => isolated(fullName(known, user)));
   return element('details', { class: 'members' },
-    element('summary', {}, `${members.length} members: ${first} …`),
+    element('summary', {}, texts.names.unfolded(members.length, first)),
     element('ul', {}, members.map((user) => memberLine(known, user, me))));
 }
 

@@ -1,6 +1,7 @@
 // A panel at the edge of the window for what takes long. Its head stays in sight: what is done, how
 // much of it has ended, and its buttons. The page stays usable meanwhile.
 
+import { texts } from '../language/language.js';
 import { button, element } from './dom.js';
 
 const STAYS = 8000;
@@ -15,10 +16,10 @@ export function newPanel(label, title, ...buttons) {
   // Folded to its head when another place is opened, so that it covers nothing there.
   const fold = (isFolded) => {
     rows.hidden = isFolded;
-    more.textContent = isFolded ? 'Details' : 'Fold';
+    more.textContent = isFolded ? texts.messages.details : texts.messages.fold;
     more.setAttribute('aria-expanded', String(!isFolded));
   };
-  const more = button('Fold', () => fold(!rows.hidden),
+  const more = button(texts.messages.fold, () => fold(!rows.hidden),
     { class: 'small plain', 'aria-expanded': 'true' });
   head.querySelector('.actions').prepend(more);
   const away = () => {
@@ -31,7 +32,7 @@ export function newPanel(label, title, ...buttons) {
 
   // Numbers alone go to a screen reader at the end only.
   const show = (done, whole) => {
-    count.textContent = `${done.toLocaleString('en')} of ${whole.toLocaleString('en')}`;
+    count.textContent = texts.messages.progress(done, whole);
     bar.value = whole === 0 ? 1 : done / whole;
     bar.hidden = done === whole;
   };
@@ -52,7 +53,7 @@ const NO_PANEL = { show: () => {}, remove: () => {}, isStopped: () => false };
 export function stoppable(title, count) {
   if (count <= FEW) return NO_PANEL;
   let stopped = false;
-  const stop = button('Stop', () => {
+  const stop = button(texts.acts.stop, () => {
     stopped = true;
     stop.disabled = true;
   }, { class: 'small' });

@@ -1,13 +1,12 @@
 // A field to choose a person or a group from a list, by the keyboard too.
 
 import { element, freshId, icon, nameText } from './dom.js';
+import { texts } from '../language/language.js';
 import { isName } from '../acl/entries.js';
 import { dayWords, fullName } from '../net/directory.js';
 import { mark, membersOf } from './names.js';
-import { counted } from '../text/words.js';
 
 const MOST = 8;
-const LABEL = 'Add people or groups';
 
 // All who are known, with what a search looks at: [{who, isGroup, sure, text}].
 export function knownNames(known) {
@@ -41,12 +40,12 @@ export function choicesFor(typed, all, isKnown, taken) {
 
 function wordsFor({ who, isGroup, sure }, known) {
   if (!sure) {
-    const words = isGroup ? 'as a group' : 'as a person';
-    return known === null ? words : `add ${words} all the same`;
+    if (known === null) return isGroup ? texts.picker.asGroup : texts.picker.asPerson;
+    return isGroup ? texts.picker.groupAllTheSame : texts.picker.personAllTheSame;
   }
-  if (!isGroup) return fullName(known, who) === who ? 'person' : who;
+  if (!isGroup) return fullName(known, who) === who ? texts.picker.person : who;
   const members = membersOf(known, who);
-  return members === null ? 'group' : `group, ${counted(members.length, 'member')}`;
+  return members === null ? texts.picker.group : texts.picker.groupOf(members.length);
 }
 
 function line(choice, known, id, onPick) {
@@ -65,18 +64,18 @@ function line(choice, known, id, onPick) {
 }
 
 function toldOf(typed, choices, known, taken) {
-  if (taken.some(({ who }) => who === typed)) return 'This one is in the list below.';
+  if (taken.some(({ who }) => who === typed)) return texts.picker.isBelow;
   if (known === null) {
-    return choices.length > 0 ? 'Names can’t be looked up here: spell them exactly.' : '';
+    return choices.length > 0 ? texts.picker.spell : '';
   }
   if (typed === '' || choices.some(({ sure }) => sure)) return '';
-  return `Nobody of this name is known (as of ${dayWords(known.made)}). Look at the spelling.`;
+  return texts.picker.nobody(dayWords(known.made));
 }
 
 // The choices below a field: {box, show, step, isOpen, chosen, close}.
 function choiceList(input, known, onPick) {
   const list = element('ul', {
-    role: 'listbox', id: freshId('choices'), 'aria-label': 'People and groups',
+    role: 'listbox', id: freshId('choices'), 'aria-label': texts.picker.choices,
   });
   const told = element('p', { class: 'hint', role: 'status' });
   const box = element('div', { class: 'choices-of', hidden: true }, told, list);
@@ -114,8 +113,8 @@ function choiceList(input, known, onPick) {
 export function picker(known, taken, onPick) {
   const all = knownNames(known);
   const input = element('input', {
-    type: 'text', role: 'combobox', 'aria-label': LABEL, 'aria-expanded': 'false',
-    'aria-autocomplete': 'list', placeholder: LABEL, autocomplete: 'off',
+    type: 'text', role: 'combobox', 'aria-label': texts.picker.add, 'aria-expanded': 'false',
+    'aria-autocomplete': 'list', placeholder: texts.picker.add, autocomplete: 'off',
     autocapitalize: 'none', spellcheck: 'false',
   });
   const pick = (choice) => {
