@@ -26,7 +26,7 @@ holds 'names' grep -q 'Alice Meyer' <<<"$(of 1 /people)"
 holds 'what alice sees' grep -q personnel <<<"$(of 0 /folder/)"
 holds 'what bob may not' [ "$(status_of 1 /folder/personnel)" = 403 ]
 holds 'what bob may' [ "$(status_of 1 /doc/letters/new -X PUT --data-binary x)" = 201 ]
-holds 'the door' grep -q '"path":"/policies/drafts/Draft 1.txt"' <<<"$(of 1 '/door/find/?draft%201')"
+holds 'the door' grep -q '/policies/drafts/Draft 1.txt"' <<<"$(of 1 '/door/find/?draft%201')"
 kill "$dev"
 wait "$dev"
 holds 'nothing is left' [ -z "$(find "$work" -maxdepth 1 -name 'rooms-dev-*')" ]

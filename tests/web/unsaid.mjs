@@ -1,8 +1,9 @@
 // What the panel of access says of one click, against what comes of it in a room at random:
 // node unsaid.mjs PAGE TREES [SEED [door]]
-// The room is the one of model.mjs; with 'door', what lies further down is what a door says of it. Whoever gains or loses something has to be named, with words
-// that say as much as the right, and nothing may be said that isn't so. The last line is 'TREES
-// tried, N faults'; the status is 1 if there are any.
+// The room is the one of model.mjs; with 'door', what lies further down is what a door says of it.
+// Whoever gains or loses something has to be named, with words that say as much as the right, and
+// nothing may be said that isn't so. The last line is 'TREES tried, N faults'; the status is 1 if
+// there are any.
 import { resolve } from 'node:path';
 import { pathToFileURL } from 'node:url';
 import { Model, doorBelow } from './model.mjs';

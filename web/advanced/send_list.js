@@ -6,6 +6,8 @@ import { button, element } from '../ui/dom.js';
 import { linesOf, readEntry } from '../acl/entries.js';
 import { texts } from '../language/language.js';
 import { question, showDialog, waitFor } from '../ui/messages.js';
+import { changersBy, seeList, setIfSame } from '../net/matched_list.js';
+import { whoCould } from '../ui/who_changed.js';
 import { judged } from '../text/warnings.js';
 import { entryWords } from '../text/words.js';
 
@@ -34,14 +36,16 @@ const review = (before, after, warned) => showDialog(texts.advanced.sendChanges,
     button(texts.acts.cancel, () => finish(null)),
     button(texts.advanced.send, () => finish('send'), { class: 'primary', autofocus: true }))]);
 
-const changedElsewhere = (before, now) => showDialog(texts.advanced.changedElsewhere, (finish) => [
-  element('p', {}, texts.advanced.since),
-  difference(before, now),
-  element('p', {}, texts.advanced.takeOrGoOn),
-  element('div', { class: 'actions' },
-    button(texts.acts.cancel, () => finish(null), { autofocus: true }),
-    button(texts.advanced.takeTheirs, () => finish('theirs')),
-    button(texts.advanced.goOn, () => finish('mine')))]);
+const changedElsewhere = (before, now, who) => showDialog(
+  texts.advanced.changedElsewhere, (finish) => [
+    element('p', {}, texts.advanced.since),
+    difference(before, now),
+    element('p', { class: 'hint' }, who),
+    element('p', {}, texts.advanced.takeOrGoOn),
+    element('div', { class: 'actions' },
+      button(texts.acts.cancel, () => finish(null), { autofocus: true }),
+      button(texts.advanced.takeTheirs, () => finish('theirs')),
+      button(texts.advanced.goOn, () => finish('mine')))]);
 
 // Nobody gives a list away by a few quick clicks.
 const accepts = (loss) => loss === null
@@ -49,10 +53,12 @@ const accepts = (loss) => loss === null
 
 // 'sent'; 'dropped' if the user took the room's list; or null if nothing was done.
 export async function sendList(draft) {
+  const { which, path } = draft;
   for (;;) {
-    const now = await waitFor(api.readList(draft.which, draft.path));
+    const { text: now } = await waitFor(seeList(which, path));
     if (now !== draft.base) {
-      const answer = await changedElsewhere(draft.base, now);
+      const who = which === 'dacl' ? await whoCould(changersBy(now)) : '';
+      const answer = await changedElsewhere(draft.base, now, who);
       if (!answer) return null;
       draft.settle(now, answer === 'theirs' ? now : draft.text);
       if (answer === 'theirs') return 'dropped';
@@ -61,9 +67,9 @@ export async function sendList(draft) {
     const { loss, warned } = await waitFor(judged(draft, now));
     if (!(await review(now, draft.text, warned)) || !(await accepts(loss))) return null;
     // The user may take a while to review the changes.
-    if (await waitFor(api.readList(draft.which, draft.path)) === now) break;
+    const seen = await waitFor(seeList(which, path));
+    if (seen.text === now && await waitFor(setIfSame(which, path, draft.text, seen))) break;
   }
-  await waitFor(api.setList(draft.which, draft.path, draft.text));
-  draft.settle(await waitFor(api.readList(draft.which, draft.path)).catch(() => draft.text));
+  draft.settle(await waitFor(api.readList(which, path)).catch(() => draft.text));
   return 'sent';
 }

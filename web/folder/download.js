@@ -4,6 +4,7 @@ import * as api from '../net/api.js';
 import { allBelow } from './subtree.js';
 import { texts } from '../language/language.js';
 import { zipAddress } from '../net/door.js';
+import { noteTag, readWithTag } from '../net/given_out.js';
 import { element } from '../ui/dom.js';
 import { tell, waitFor } from '../ui/messages.js';
 import { stoppable } from '../ui/panel.js';
@@ -25,7 +26,9 @@ export function save(blob, name) {
 
 // Fetches the bytes first, so that a denial can be shown as a sentence.
 export async function downloadOne(path) {
-  save(await waitFor(api.read(path)), api.nameOf(path));
+  const { blob, tag } = await waitFor(readWithTag(path));
+  save(blob, api.nameOf(path));
+  await noteTag(path, tag);
 }
 
 async function bytesOf(path) {

@@ -7,6 +7,7 @@ import { texts } from '../language/language.js';
 import { linkTo, whereIs } from '../ui/links.js';
 import { askedFor } from '../ui/ask_whom.js';
 import { dayWords, forget, mine, remembered } from '../net/directory.js';
+import { forgetTags } from '../net/given_out.js';
 import { marked } from '../text/invisible.js';
 import { rightWords, sentenceOf } from '../text/words.js';
 
@@ -65,6 +66,7 @@ export async function placesBelow(folder, isListed) {
     && !shared.some((one) => one.path === path));
   const clear = button(texts.folder.forgetThese, () => {
     forget(me);
+    forgetTags(me);
     lately.remove();
   }, { class: 'small plain' });
   const lately = late.length === 0 ? null : part(texts.folder.openedLately, late, clear);

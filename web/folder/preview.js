@@ -4,6 +4,7 @@ import * as api from '../net/api.js';
 import { texts } from '../language/language.js';
 import { button, element, nameText } from '../ui/dom.js';
 import { save } from './download.js';
+import { noteTag, readWithTag } from '../net/given_out.js';
 import { showDialog, waitFor } from '../ui/messages.js';
 
 const IMAGES = {
@@ -60,12 +61,16 @@ function contentOf(bytes, name) {
 
 export async function preview(path) {
   const name = api.nameOf(path);
-  const blob = await waitFor(api.read(path));
+  const { blob, tag } = await waitFor(readWithTag(path));
   const bytes = await blob.arrayBuffer();
+  const download = () => {
+    save(blob, name);
+    noteTag(path, tag);
+  };
   await showDialog(nameText(name), (finish) => [
     element('div', { class: 'content' }, contentOf(bytes, name)),
     element('div', { class: 'actions' },
-      button(texts.acts.download, () => save(blob, name)),
+      button(texts.acts.download, download),
       button(texts.acts.close, () => finish(null), { class: 'primary', autofocus: true })),
   ], 'preview');
 }

@@ -3,47 +3,16 @@
 import { endsAll, interruptionsSeen, isUnanswered } from '../net/retry.js';
 import * as api from '../net/api.js';
 import { texts } from '../language/language.js';
-import { button, element } from '../ui/dom.js';
+import { button } from '../ui/dom.js';
 import { documentLine, faultOf, normal, treeLine } from './jobs.js';
-import { question, tell, tellFault } from '../ui/messages.js';
+import { tell, tellFault } from '../ui/messages.js';
 import { newPanel } from '../ui/panel.js';
-import { isolated, nameFault, placeWords, sentenceOf } from '../text/words.js';
+import { askingInTurn, freeBeside } from './replacing.js';
+import { hasSame, putSafely } from './safe_put.js';
+import { nameFault, placeWords, sentenceOf } from '../text/words.js';
 
 // The room answers one request after the other, so more at once would not be quicker.
 const AT_ONCE = 3;
-
-// What is to be done with a document that is there already: 'replace', 'both' or 'leave'. Questions
-// come one after the other. A whole upload can be answered at once.
-function replacing(count) {
-  /** @type {Promise<any>} */
-  let turn = Promise.resolve();
-  let always = null;
-  const ask = async (name) => {
-    if (always !== null) return always;
-    const all = element('input', { type: 'checkbox' });
-    const tick = count === 1 ? null : element('p', {}, element('label', { class: 'tick' }, all,
-      texts.upload.sameForAll));
-    const answer = await question(texts.upload.replace, texts.upload.isThere(isolated(name)),
-      [['both', texts.upload.keepBoth], ['replace', texts.upload.replaceIt, 'danger']], tick)
-      ?? 'leave';
-    if (all.checked) always = answer;
-    return answer;
-  };
-  return (name) => {
-    turn = turn.then(() => ask(name));
-    return turn;
-  };
-}
-
-// A path beside one that is taken: 'Draft (2).txt'.
-async function freeBeside(path) {
-  const dot = path.lastIndexOf('.');
-  const end = dot > path.lastIndexOf('/') + 1 ? dot : path.length;
-  for (let number = 2; ; number += 1) {
-    const free = `${path.slice(0, end)} (${number})${path.slice(end)}`;
-    if (!(await api.isThere(free))) return free;
-  }
-}
 
 // Why a folder can't be made, or null. One that is there already is taken as it is.
 async function makeOne(path, folder) {
@@ -61,17 +30,14 @@ async function makeOne(path, folder) {
 // Whether the room has what was sent. Where I may not know that, nothing speaks against it.
 async function isKept({ path, file, made }) {
   try {
-    if (!(await api.isThere(path))) return false;
-    if (made) return true;
-    const [got, sent] = await Promise.all([api.read(path), file]
-      .map(async (blob) => new Uint8Array(await (await blob).arrayBuffer())));
-    return got.length === sent.length && got.every((byte, at) => byte === sent[at]);
+    return await api.isThere(path) && (made || await hasSame({ path, file }));
   } catch (fault) {
     if (isUnanswered(fault)) throw fault;
     return true;
   }
 }
 
+const LEFT = { state: 'bad', words: texts.upload.left };
 let running = 0;
 export const isUploading = () => running > 0;
 
@@ -83,7 +49,7 @@ class Upload {
       ...trees.map((tree) => treeLine(tree, folder))];
     this.jobs = this.lines.flatMap(({ jobs }) => jobs);
     this.lineOf = new Map(this.lines.flatMap((line) => line.jobs.map((job) => [job, line])));
-    this.mayReplace = replacing(this.jobs.length);
+    this.ask = askingInTurn(this.jobs.length);
     this.close = button(texts.acts.close, () => this.panel.remove(),
       { class: 'small', hidden: true });
     this.again = button(texts.acts.tryAgain, () => this.run(),
@@ -124,14 +90,15 @@ class Upload {
     const fault = faultOf(job);
     if (fault) return this.set(job, { state: 'bad', words: fault });
     if (!job.allowed && await api.isThere(job.path)) {
-      const answer = await this.mayReplace(job.name);
-      if (answer === 'leave') return this.set(job, { state: 'bad', words: texts.upload.left });
+      const answer = await this.ask({ name: job.name, path: job.path, why: 'exists' });
+      if (answer === 'leave') return this.set(job, LEFT);
       if (answer === 'both') job.path = await freeBeside(job.path);
+      job.isThere = answer === 'replace';
     }
     this.set(job, { state: 'runs', allowed: true });
-    const made = await api.put(job.path, job.file, (sent, whole) =>
+    const made = await putSafely(job, job.isThere === true, this.ask, (sent, whole) =>
       this.set(job, { part: whole === 0 ? 1 : sent / whole }));
-    return this.set(job, { state: 'good', made });
+    return this.set(job, made === null ? LEFT : { state: 'good', made });
   }
 
   cut(queue) {

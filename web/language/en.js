@@ -152,6 +152,13 @@ const ASK = {
   whoever: 'Ask whoever manages it.',
 };
 
+// Who could have changed what isn't any more as it was seen.
+const CHANGED = {
+  could: (names) => `By its list, that could have been ${or(names)}.`,
+  unknown: 'Who could have done that isn’t known here, since you may not see who has access.',
+  above: 'By its list nobody else could have done that: it was removed and put there again.',
+};
+
 const ACCOUNT = {
   menu: 'Your account',
   change: 'Change your password',
@@ -185,7 +192,8 @@ const ACCOUNT = {
 
 export const EN = {
   lists: LISTS, who: WHO, names: NAMES, places: PLACES, page: PAGE, acts: ACTS,
-  messages: MESSAGES, picker: PICKER, ask: ASK, account: ACCOUNT, folder: EN_FOLDER,
+  messages: MESSAGES, picker: PICKER, ask: ASK, changed: CHANGED, account: ACCOUNT,
+  folder: EN_FOLDER,
   find: EN_FIND, moving: EN_MOVING, upload: EN_UPLOAD, rights: EN_RIGHTS, faults: EN_FAULTS,
   warnings: EN_WARNINGS, access: EN_ACCESS, outcome: EN_OUTCOME, advanced: EN_ADVANCED,
   ready: EN_READY,

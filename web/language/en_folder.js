@@ -168,11 +168,26 @@ export const EN_UPLOAD = {
   uploadedSome: (good, whole) => `${number(good)} of ${documents(whole)} uploaded`,
   more: (many) => `and ${number(many)} more`,
   sameForAll: 'The same for all that are there already',
-  replace: 'Replace the document?',
-  isThere: (name) => `There is a document ${name} in this folder already. If it is replaced, its `
-    + 'contents are lost.',
   keepBoth: 'Keep both',
-  replaceIt: 'Replace it',
+  showTheirs: 'Show theirs',
+  // Why it isn't simply sent: 'replace' is what the button says that sends it all the same.
+  exists: {
+    title: 'Replace the document?',
+    text: (name) => `There is a document ${name} in this folder already. If it is replaced, its `
+      + 'contents are lost.',
+    replace: 'Replace it',
+  },
+  changed: {
+    title: 'Somebody else changed it meanwhile',
+    text: (name) => `${name} isn’t any more what you downloaded or uploaded last. If it is `
+      + 'replaced, what somebody else wrote is lost.',
+    replace: 'Replace theirs',
+  },
+  gone: {
+    title: 'Somebody removed it meanwhile',
+    text: (name) => `${name} isn’t there any more: somebody removed, renamed or moved it.`,
+    replace: 'Upload it all the same',
+  },
   noFolder: 'its folder couldn’t be made',
   left: 'left as it was',
   notSent: 'not sent',

@@ -127,12 +127,14 @@ export async function isThere(path) {
   }
 }
 
-// XMLHttpRequest, since fetch doesn't report an upload's progress.
-function putOnce(path, bytes, onProgress) {
+// XMLHttpRequest, since fetch doesn't report an upload's progress. Resolves to whether it was made,
+// and to the tag that the door says.
+export function putOnce(word, path, bytes, fields, onProgress) {
   return new Promise((resolve, reject) => {
     const asking = new XMLHttpRequest();
     const asked = { method: 'PUT', word: 'doc', path };
-    asking.open('PUT', target('doc', path));
+    asking.open('PUT', target(word, path));
+    for (const [name, value] of Object.entries(fields)) asking.setRequestHeader(name, value);
     asking.upload.onprogress = (event) => onProgress(event.loaded, event.total);
     // A file that was changed or removed since it was chosen fails as a lost connection does.
     asking.onerror = async () => {
@@ -141,8 +143,9 @@ function putOnce(path, bytes, onProgress) {
     };
     asking.onabort = asking.onerror;
     asking.onload = () => {
-      if (asking.status >= 200 && asking.status < 300) resolve(asking.status === 201);
-      else reject(new Refusal(asking.status, jsonOrNull(asking.responseText), asked));
+      if (asking.status >= 200 && asking.status < 300) {
+        resolve({ made: asking.status === 201, tag: asking.getResponseHeader('ETag') });
+      } else reject(new Refusal(asking.status, jsonOrNull(asking.responseText), asked));
     };
     asking.send(bytes);
   });
@@ -150,4 +153,4 @@ function putOnce(path, bytes, onProgress) {
 
 // A document gets these bytes. Returns whether it was made by that, as far as it is known.
 export const put = (path, bytes, onProgress = () => {}) =>
-  untilAnswered(() => putOnce(path, bytes, onProgress));
+  untilAnswered(() => putOnce('doc', path, bytes, {}, onProgress)).then(({ made }) => made);

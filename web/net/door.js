@@ -1,7 +1,8 @@
 // The door beside a room, which answers in one request what would take thousands (docs/door.md). A
 // site may have none: that is found out once in a visit, and then the page goes without it.
 
-import { Refusal, jsonOrNull, namesOf, target } from './api.js';
+import { Refusal, jsonOrNull, namesOf, putOnce, target } from './api.js';
+import { isUnanswered, untilAnswered } from './retry.js';
 
 // Whether there is one: null as long as nobody asked.
 let isThere = null;
@@ -10,8 +11,10 @@ export const hasDoor = () => isThere === true;
 // What the room would be asked for, so that a refusal is told in the same words.
 const WORDS = { below: 'folder', closed: 'folder', find: 'folder', zip: 'folder' };
 
-// The reply, or null where there is no door. nginx says then that there is nothing at this address,
-// and no more; the room says what isn't there.
+// nginx says that there is nothing at this address, and no more; the room says what isn't there.
+const saysNone = ({ status, body }) => status === 404 && !body?.at;
+
+// The reply, or null where there is no door.
 async function ask(method, word, path, { query = '', body = undefined, fields = {} } = {}) {
   if (isThere === false) return null;
   const asked = { method, word: WORDS[word] ?? word, path };
@@ -23,7 +26,7 @@ async function ask(method, word, path, { query = '', body = undefined, fields = 
     throw new Refusal(0, null, asked);
   }
   const told = reply.ok ? null : jsonOrNull(await reply.text().catch(() => ''));
-  isThere = !(reply.status === 404 && !told?.at);
+  isThere = !saysNone({ status: reply.status, body: told });
   if (!isThere) return null;
   if (!reply.ok) throw new Refusal(reply.status, told, asked);
   return reply;
@@ -53,3 +56,42 @@ export const findBelow = (path, text) => read('find', path, `?${encodeURICompone
 
 // The address at which a folder with all in it is one ZIP.
 export const zipAddress = (path) => target('door/zip', path);
+
+// Sends until there is an answer, for half a minute. Null where there is no door, also where nobody
+// answers in its place for so long: then the room is asked without it.
+async function insisting(send) {
+  // The door says that the room is away where nginx would say that there is no answer.
+  const once = () => send().catch((fault) => {
+    const isAway = fault.status === 503 && Boolean(fault.body?.why);
+    throw isAway ? Object.assign(fault, { status: 502 }) : fault;
+  });
+  if (isThere === false) return null;
+  try {
+    return await untilAnswered(once);
+  } catch (fault) {
+    const isDeserted = isUnanswered(fault) && fault.status !== 0 && fault.body === null;
+    if (!isDeserted && !saysNone(fault)) throw fault;
+    isThere = false;
+    return null;
+  }
+}
+
+// A document or a list with the tag that says which bytes it has: {blob, tag}.
+export const readTagged = (word, path) => insisting(async () => {
+  const reply = await ask('GET', word, path);
+  const asked = { method: 'GET', word, path };
+  return reply && { tag: reply.headers.get('ETag'),
+    blob: await reply.blob().catch(() => { throw new Refusal(0, null, asked); }) };
+});
+
+// Sent only if 'fields', a condition, hold; otherwise it is refused with 412. Returns {made, tag}.
+export const putDocument = (path, bytes, fields, onProgress) => insisting(async () => {
+  const done = await putOnce('door/doc', path, bytes, fields, onProgress);
+  isThere = true;
+  return done;
+});
+
+export const putList = (which, path, text, fields) => insisting(async () => {
+  const reply = await ask('PUT', which, path, { body: text, fields });
+  return reply && { made: false, tag: reply.headers.get('ETag') };
+});

@@ -4,6 +4,8 @@ import { texts } from '../language/language.js';
 import { button, element } from '../ui/dom.js';
 import { showDialog, tell, tellFault, waitFor } from '../ui/messages.js';
 import { followOutcome } from './consequences.js';
+import { changersBy } from '../net/matched_list.js';
+import { whoCould } from '../ui/who_changed.js';
 import { lookingLine } from '../ui/progress.js';
 import { placeName } from './access_words.js';
 import { tellOutcome } from './outcome_view.js';
@@ -29,9 +31,9 @@ async function dropAll(leftovers, looking) {
 export async function deliver(state, next, told) {
   const main = { path: state.path, before: state.text, next };
   try {
-    const { done, left } = await waitFor(sendAll([...told.ways(), main]));
+    const { done, left, changed } = await waitFor(sendAll([...told.ways(), main]));
     if (done) await waitFor(dropAll(told.left(), state.looking));
-    else tell('bad', texts.access.changedMeanwhile);
+    else tell('bad', `${texts.access.changedMeanwhile} ${await whoCould(changersBy(changed))}`);
     if (left.length > 0) tell('bad', stays(left));
     return done ? 'sent' : 'not sent';
   } catch (fault) {

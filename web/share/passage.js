@@ -8,6 +8,7 @@ import { callersFor, isNeeded, statesBelow } from './who_can.js';
 import { entriesOf, isLineOf, keyOf, readLevels } from '../acl/levels.js';
 import { isGroup, isInherited, printEntry, printList, readListText } from '../acl/entries.js';
 import { isOld } from '../net/directory.js';
+import { ownText, seeList, setIfSame } from '../net/matched_list.js';
 import { isUnanswered } from '../net/retry.js';
 
 // The folders on the way, from the top down: [{path, text, list, object}].
@@ -130,13 +131,10 @@ export async function furtherLines(state, next, states, subject) {
   return found.filter((_, index) => may[index]).reverse();
 }
 
-// A list's text, null where it can't be read, and undefined where the room doesn't answer.
-const textAt = (path) => api.readList('dacl', path)
+// A list as it is seen, null where it can't be read, and undefined where the room doesn't answer.
+const seenAt = (path) => seeList('dacl', path)
   .catch((fault) => (isUnanswered(fault) ? undefined : null));
-const ownText = (text) => {
-  const { list } = readListText(text ?? '');
-  return list && printList({ ...list, entries: list.entries.filter((one) => !isInherited(one)) });
-};
+const textAt = async (path) => (await seenAt(path))?.text;
 
 // Takes back what was sent, unless somebody changed it since. Returns the paths where it stays. A
 // room that doesn't answer was waited for long enough.
@@ -144,10 +142,10 @@ async function takeBack(sent, isAway) {
   const left = [];
   let away = isAway;
   for (const { path, before, after } of [...sent].reverse()) {
-    const now = away ? undefined : await textAt(path);
+    const now = away ? undefined : await seenAt(path);
     away = now === undefined;
-    const isDone = typeof after === 'string' && now === after
-      && await api.setList('dacl', path, before).then(() => true, () => false);
+    const isDone = typeof after === 'string' && now?.text === after
+      && await setIfSame('dacl', path, before, now).catch(() => false);
     if (!isDone) left.push(path);
   }
   return left;
@@ -157,28 +155,35 @@ async function takeBack(sent, isAway) {
 // lost. Otherwise what was sent before it is taken back, and the fault has what is 'left' of it.
 async function afterFault({ path, next }, fault, sent) {
   const isOpen = isUnanswered(fault) || fault.status === 500;
-  const now = isOpen ? await textAt(path) : null;
-  if (typeof now === 'string' && ownText(now) === ownText(printList(next))) return;
+  const now = isOpen ? await seenAt(path) : null;
+  if (now && ownText(now.text) === ownText(printList(next))) return;
   throw Object.assign(fault, { left: await takeBack(sent, now === undefined), taken: sent.length });
 }
 
-// Sends lists one after the other: [{path, before, next}]. Returns {done, left}: nothing is sent
-// unless each list is the one that was judged, and what was sent is taken back if a later one
-// fails. 'left' are the paths where that failed too; a fault has it as well.
+// Sends lists one after the other: [{path, before, next}]. Returns {done, left, changed}: nothing
+// is sent unless each list is the one that was judged, and what was sent is taken back if a later
+// one fails. 'left' are the paths where that failed too; a fault has it as well. 'changed' is the
+// text of the list that somebody else changed.
 export async function sendAll(steps) {
-  const isSame = async ({ path, before }) => await api.readList('dacl', path) === before;
-  for (const step of steps) if (!(await isSame(step))) return { done: false, left: [] };
+  const seen = new Map();
+  const isSame = async ({ path, before }) => {
+    seen.set(path, await seeList('dacl', path));
+    return seen.get(path).text === before;
+  };
+  const notSent = async ({ path }, sent) => (
+    { done: false, left: await takeBack(sent, false), changed: seen.get(path).text });
+  for (const step of steps) if (!(await isSame(step))) return notSent(step, []);
   const sent = [];
   for (const step of steps) {
     try {
-      if (sent.length > 0 && !(await isSame(step))) {
-        return { done: false, left: await takeBack(sent, false) };
-      }
-      await api.setList('dacl', step.path, printList(step.next));
+      if (sent.length > 0 && !(await isSame(step))) return await notSent(step, sent);
+      const { path, next } = step;
+      const isSent = await setIfSame('dacl', path, printList(next), seen.get(path));
+      if (!isSent) return await notSent(step, sent);
     } catch (fault) {
       await afterFault(step, fault, sent);
     }
     sent.push({ ...step, after: step === steps.at(-1) ? null : await textAt(step.path) });
   }
-  return { done: true, left: [] };
+  return { done: true, left: [], changed: null };
 }

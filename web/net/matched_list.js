@@ -1,0 +1,42 @@
+// A list that is sent only if it is still the one that was judged: by the door, which lets nobody
+// come between. Without one it is looked at just before.
+
+import * as api from './api.js';
+import { putList, readTagged } from './door.js';
+import { isGroup, isInherited, printList, readListText } from '../acl/entries.js';
+import { inForce } from '../acl/decide.js';
+
+// A list as it is now: {text, tag}.
+export async function seeList(which, path) {
+  const found = await readTagged(which, path);
+  return found === null ? { text: await api.readList(which, path), tag: null }
+    : { text: await found.blob.text(), tag: found.tag };
+}
+
+export function ownText(text) {
+  const { list } = readListText(text ?? '');
+  return list && printList({ ...list, entries: list.entries.filter((one) => !isInherited(one)) });
+}
+
+// Sets a list in the place of the one that was 'seen'. Returns whether it was.
+export async function setIfSame(which, path, text, seen) {
+  try {
+    const fields = { 'If-Match': seen.tag };
+    const done = seen.tag === null ? null : await putList(which, path, text, fields);
+    if (done === null) await api.setList(which, path, text);
+    return true;
+  } catch (fault) {
+    if (fault.status !== 412) throw fault;
+    // It was set, and the answer was lost.
+    return fault.repeated === true && ownText((await seeList(which, path)).text) === ownText(text);
+  }
+}
+
+// Those whom a list's text lets change it, as the door names those of a document: users, and groups
+// as g:NAME.
+export function changersBy(text) {
+  const { list } = readListText(text);
+  return list === null || list === undefined ? null : [...new Set(inForce(list.entries, 'C')
+    .filter(({ type }) => type === 'A')
+    .map((entry) => (isGroup(entry) ? `g:${entry.who}` : entry.who)))];
+}
