@@ -79,6 +79,9 @@ export const EN_ACCESS = {
   gone: (name) => `${capital(name)} is taken off the list.`,
   removeAccessTo: (place) => `Remove access to ${place}?`,
   removeAccess: 'Remove access',
+  removeAccessOf: (name) => `Remove access: ${name}`,
+  removeAccessOfGroup: (name) => `Remove access: the group ${name}`,
+  notThis: (name) => `Not ${name}`,
   removeAllTheSame: 'Remove access all the same',
   changeAccess: 'Change access?',
   changeIt: 'Change it',
@@ -118,8 +121,10 @@ export const EN_ACCESS = {
   onlyTheseAllTheSame: 'Only these people all the same',
   cutOff: 'Only these people?',
   cutOffSays: (kind, above) => `This ${kind} then has a list of its own. Whoever gets access to ${
-    above} later doesn’t get it here, and whoever loses it there keeps it here. Then remove whom `
-    + 'it isn’t for.',
+    above} later doesn’t get it here, and whoever loses it there keeps it here.`,
+  whomFor: 'Tick whom it is for, and nobody else but those who manage it keeps access. Without a '
+    + 'tick all keep what they have.',
+  staysAsIs: (names) => `What ${and(names)} can do isn’t said by a level, and stays as it is.`,
   followAgain: (above) => `Follow ${above} again?`,
   followIt: 'Follow it',
   followAllTheSame: 'Follow it all the same',

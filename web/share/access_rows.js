@@ -3,7 +3,7 @@
 import { texts } from '../language/language.js';
 import { nameOf } from '../net/api.js';
 import { offered, select } from './add_person.js';
-import { button, element, nameText } from '../ui/dom.js';
+import { button, element, icon, nameText } from '../ui/dom.js';
 import { confirm, deliver } from './confirm.js';
 import { RANKS, keyOf, withLevel } from '../acl/levels.js';
 import { linkTo } from '../ui/links.js';
@@ -59,7 +59,7 @@ async function change(state, row, value, again, back) {
   }
   const subject = { who: row.who, isGroup: row.isGroup, name, isLeaving: isGone, level: value };
   const line = `[aria-label="${CSS.escape(labelOf(row))}"]`;
-  const done = await confirm(state, next, isGone
+  const done = await confirm(state, () => next, isGone
     ? { title: texts.access.removeAccessTo(placeName(path)), words: texts.access.removeAccess,
       allTheSame: texts.access.removeAllTheSame, subject,
       sentence: ({ changes }) => goneWords(name, row, changes) }
@@ -68,6 +68,17 @@ async function change(state, row, value, again, back) {
         placeName(path), name, levelWords(row.level, kind), levelWords(value, kind)) });
   if (done) await again(line);
   else back();
+}
+
+// What the menu of a line also does, in one press.
+function goneControl(state, row, again) {
+  const hasBoth = state.model.rows.some((one) => one.inherited && one.key === row.key);
+  if (!state.edits || row.inherited || row.level === 'custom' || hasBoth) return null;
+  const gone = () => change(state, row, 'gone', again, () => {}).catch(tellFault);
+  const label = (row.isGroup ? texts.access.removeAccessOfGroup : texts.access.removeAccessOf)(
+    row.who);
+  return button(icon('cross'), gone, { class: 'small plain gone', 'aria-label': label,
+    title: texts.access.removeAccess });
 }
 
 const labelOf = ({ isGroup, who }) =>
@@ -157,7 +168,7 @@ function line(state, row, again) {
       below(known, row, me, sourceWords(state, row)),
       endControl(state, row, again),
       row.level === 'custom' ? element('p', { class: 'hint' }, customWords(row, kind)) : null),
-    levelControl(state, row, again));
+    levelControl(state, row, again), goneControl(state, row, again));
 }
 
 const isOwnRow = ({ inherited }) => !inherited;

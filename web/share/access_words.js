@@ -7,6 +7,7 @@ import { insideWords } from '../text/removers.js';
 import { WHO_HAS_ACCESS, lossWords } from '../text/warnings.js';
 import { isolated } from '../text/words.js';
 import { shortened } from '../ui/names.js';
+import { subjectsOf } from './subjects.js';
 import { unreadNames } from './unread.js';
 
 export const MOST_NAMED = 6;
@@ -85,9 +86,10 @@ const plain = (look, head, words) => ({ look, head, words, names: [] });
 export function saidLines({ known, kind }, outcome, subject) {
   const { changes, gains, losses, below, isAll, kept } = outcome;
   // What the sentence above says already isn't said twice.
-  const isSaid = subject && !subject.isGroup && gains.length === 1
-    && gains[0].user === subject.who && gains[0].to === subject.level
-    && beyondLevel(gains[0]).length === 0;
+  const isNamed = ({ user }) => subjectsOf(subject)
+    .some((one) => !one.isGroup && one.who === user);
+  const isSaid = gains.every((one) => isNamed(one) && one.to === subject.level
+    && beyondLevel(one).length === 0);
   const deeper = below.slice(0, MOST_PLACES).flatMap((one) =>
     changeLines(one.changes, one.kind, known, one.path));
   const [more, moreKept] = [below, kept].map((those) => those.length - MOST_PLACES);

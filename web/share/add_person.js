@@ -1,6 +1,7 @@
-// Gives somebody access: a name is picked, the panel says what comes of it, and 'Share' sends it.
+// Gives access: one or several names are picked, the panel says what comes of it, and 'Share' sends
+// it.
 
-import { button, element, nameText } from '../ui/dom.js';
+import { button, element, icon, nameText } from '../ui/dom.js';
 import { endWords } from '../acl/end_dates.js';
 import { Told, deliver } from './confirm.js';
 import { LEVELS, RANKS, readLevels, withLevel } from '../acl/levels.js';
@@ -18,6 +19,9 @@ import { isolated } from '../text/words.js';
 
 const MOST_MEMBERS = 8;
 
+// What a press beside a name in the list gives at once.
+const QUICK = 'change';
+
 export const offered = (kind) => RANKS.filter((level) => LEVELS[level].includes(kind));
 
 export function select(label, options, value, onPick) {
@@ -28,12 +32,18 @@ export function select(label, options, value, onPick) {
 }
 
 // Who can do what, in one of the two sentences of it. 'day' is the last one, or ''.
-function addedWords({ known, kind, path }, subject, level, say, day) {
-  const members = subject.isGroup ? membersOf(known, subject.who) : null;
-  const named = members !== null && members.length <= MOST_MEMBERS ? members : [];
-  const many = subject.isGroup ? members?.length ?? null : 1;
-  return say(inSentence(known, subject), named.map((user) => isolated(fullName(known, user))), many,
-    level, kind, placeName(path), day === '' ? null : endWords(day));
+function addedWords({ known, kind, path }, subjects, level, say, day) {
+  const all = subjects.map((subject) => {
+    const members = subject.isGroup ? membersOf(known, subject.who) : null;
+    return { who: inSentence(known, subject), many: subject.isGroup ? members?.length ?? null : 1,
+      members: members !== null && members.length <= MOST_MEMBERS
+        ? members.map((user) => isolated(fullName(known, user))) : [] };
+  });
+  const named = ({ who, members }) => `${who}${
+    members.length === 0 ? '' : ` (${members.join(', ')})`}`;
+  const { who, members, many } = all.length === 1 ? all[0]
+    : { who: texts.lists.and(all.map(named)), members: [], many: all.length };
+  return say(who, members, many, level, kind, placeName(path), day === '' ? null : endWords(day));
 }
 
 // Where nobody may remove what they added, nobody is told so.
@@ -44,36 +54,40 @@ const unsureWords = ({ known }, { who, sure }) => (sure || known === null ? null
   : element('p', { class: 'fault' },
     texts.access.unsure(isolated(who))));
 
-// Where the one who got access is told of it. Only a name with an @ is an address of mail too.
-function mailLink(path, { who }) {
+// Where those who got access are told of it. Only a name with an @ is an address of mail too.
+function mailLink(path, choices) {
   const address = new URL(linkTo(path), location.href).href;
   const words = `subject=${encodeURIComponent(nameOf(path))}&body=${encodeURIComponent(address)}`;
-  return element('a', { class: 'button small',
-    href: `mailto:${who.includes('@') ? encodeURI(who) : ''}?${words}` }, texts.access.writeMail);
+  const to = choices.filter(({ who }) => who.includes('@')).map(({ who }) => encodeURI(who));
+  return element('a', { class: 'button small', href: `mailto:${to.join(',')}?${words}` },
+    texts.access.writeMail);
 }
 
-function tellShared(words, path, choice) {
+function tellShared(words, path, choices) {
   const copy = () => copyLink(path).catch(tellFault);
   tell('good', words, button(texts.acts.copyLink, copy, { class: 'small' }),
-    mailLink(path, choice));
+    mailLink(path, choices));
 }
 
-// The levels of one who was picked, and what comes of each. Each drawing has a number, so that a
-// slow one isn't shown for a later level.
+const subjectOf = (choice) => ({ ...choice,
+  name: choice.isGroup ? texts.access.theGroup(isolated(choice.who)) : isolated(choice.who) });
+
+// Those who were picked, the level that they get, and what comes of it. Each drawing has a number,
+// so that a slow one isn't shown for a later level.
 class Picked {
-  constructor(state, { choice, level = 'read', day = '' }, again) {
-    const name = choice.isGroup ? texts.access.theGroup(isolated(choice.who))
-      : isolated(choice.who);
+  constructor(state, { level = 'read', day = '' }, again, onLess) {
     this.state = state;
-    this.choice = choice;
-    this.subject = { ...choice, name };
+    this.choices = [];
     this.level = level;
+    this.onLess = onLess;
     this.looks = 0;
+    this.names = element('ul', { class: 'chosen-ones' });
+    this.unsure = element('div', {});
     this.said = element('p', { class: 'said', role: 'status' });
     this.hint = element('p', { class: 'hint' });
     this.share = button(texts.access.share, () => this.send(again),
       { class: 'primary', disabled: true });
-    this.told = new Told(state, this.subject, this.share, () => this.draw());
+    this.told = new Told(state, null, this.share, () => this.draw());
     this.body = this.told.shown;
     this.until = element('input',
       { type: 'date', value: day, 'aria-label': texts.access.untilLabel });
@@ -85,28 +99,71 @@ class Picked {
     });
   }
 
+  // A name more. One that was picked with a level gives it to all of them.
+  add({ level = this.level, ...choice }) {
+    this.choices.push(choice);
+    this.level = level;
+    this.levels.value = level;
+    this.drawNames();
+    this.draw();
+  }
+
+  drop(choice) {
+    this.choices = this.choices.filter((one) => one !== choice);
+    this.onLess(this.choices);
+    if (this.choices.length === 0) return;
+    this.drawNames();
+    this.draw();
+  }
+
+  drawNames() {
+    const { state: { known, me } } = this;
+    this.names.replaceChildren(...this.choices.map((choice) => {
+      const name = whoName(known, choice.who, choice.isGroup);
+      return element('li', {}, mark(known, choice.who, choice.isGroup),
+        element('div', { class: 'name-of' }, element('strong', {}, nameText(name)),
+          below(known, choice, me)),
+        button(icon('cross'), () => this.drop(choice),
+          { class: 'small plain', 'aria-label': texts.access.notThis(name),
+            title: texts.access.notThis(name) }));
+    }));
+    this.unsure.replaceChildren(...this.choices.map((one) => unsureWords(this.state, one))
+      .filter(Boolean));
+  }
+
+  // Whom it is about, as those say it who look at what comes of it.
+  get subject() {
+    const all = this.choices.map((choice) => ({ ...subjectOf(choice), level: this.level }));
+    return all.length === 1 ? all[0] : { all, level: this.level };
+  }
+
+  next(until) {
+    const { list, kind } = this.state;
+    return this.choices.reduce((next, choice) =>
+      next && withLevel(next, kind, choice, this.level, false, until), list);
+  }
+
   async draw() {
-    const { state, choice, level } = this;
+    const { state } = this;
     this.looks += 1;
     const look = this.looks;
     this.share.disabled = true;
     const day = this.until.value;
-    const until = day === '' ? null : { day, asker: state.me };
-    const next = withLevel(state.list, state.kind, choice, level, false, until);
+    const next = this.next(day === '' ? null : { day, asker: state.me });
     if (next === null || (day !== '' && Date.parse(`${day}T23:59:59`) < Date.now())) {
       this.said.textContent = day === '' ? texts.access.notByLevels : texts.access.noDate;
       return;
     }
     const isWanted = () => look === this.looks && this.body.isConnected;
-    this.subject.level = level;
+    this.told.subject = this.subject;
     await followOutcome(state, next, this.subject, isWanted, (outcome, isBusy) =>
       this.show(next, outcome, isBusy)).catch(tellFault);
   }
 
   show(next, outcome, isBusy) {
-    const { state, choice, level } = this;
-    this.next = next;
-    this.said.textContent = addedWords(state, choice, level, texts.access.thenCan,
+    const { state, choices, level } = this;
+    this.sent = next;
+    this.said.textContent = addedWords(state, choices, level, texts.access.thenCan,
       this.until.value);
     this.hint.textContent = levelHint(state.kind, level, next);
     this.share.textContent = outcome.lock === null ? texts.access.share
@@ -123,49 +180,56 @@ class Picked {
       return;
     }
     this.share.disabled = true;
-    const { state, choice, level } = this;
+    const { state, choices, level } = this;
     const day = this.until.value;
     if (state.looking.isOld) {
       tell('good', texts.access.lookedAgain);
       await this.draw();
       return;
     }
-    const words = addedWords(state, choice, level, texts.access.nowCan, day);
-    const isSent = await deliver(state, this.next, this.told.told) === 'sent';
-    await again('.picker input', isSent ? null : { choice, level, day });
-    if (isSent) tellShared(words, state.path, choice);
+    const words = addedWords(state, choices, level, texts.access.nowCan, day);
+    const isSent = await deliver(state, this.sent, this.told.told) === 'sent';
+    await again('.picker input', isSent ? null : { choices, level, day });
+    if (isSent) tellShared(words, state.path, choices);
   }
 
   shown(cancel) {
-    const { state, choice } = this;
-    const name = whoName(state.known, choice.who, choice.isGroup);
-    return [element('div', { class: 'picked' }, mark(state.known, choice.who, choice.isGroup),
-      element('div', { class: 'name-of' }, element('strong', {}, nameText(name)),
-        below(state.known, choice, state.me)), this.levels),
-    ...[unsureWords(state, choice)].filter(Boolean),
-    element('label', { class: 'until' }, texts.access.until, this.until,
-      element('span', { class: 'hint' }, texts.access.onlyIfEnds)), this.said, this.hint, this.body,
-    element('div', { class: 'actions' }, button(texts.acts.cancel, cancel), this.share)];
+    return [element('div', { class: 'picked' }, this.names, this.levels), this.unsure,
+      element('label', { class: 'until' }, texts.access.until, this.until,
+        element('span', { class: 'hint' }, texts.access.onlyIfEnds)),
+      this.said, this.hint, this.body,
+      element('div', { class: 'actions' }, button(texts.acts.cancel, cancel), this.share)];
   }
 }
 
-// The field for a name, and in its place the one who was picked. 'pick' is one who was picked
-// before: {choice, level, day}, or null.
+// The field for names, and below it those who were picked. 'pick' are some who were picked before:
+// {choices, level, day}, or null.
 export function adder(state, again, pick) {
-  const place = element('div', { class: 'adding' });
-  const taken = state.model.rows.filter(({ inherited, level }) =>
+  const rows = state.model.rows.filter(({ inherited, level }) =>
     !inherited && level !== 'pass' && level !== 'clear');
-  const take = (given) => {
-    const picked = new Picked(state, given, again);
-    place.replaceChildren(...picked.shown(() => {
-      place.replaceChildren(field);
-      field.querySelector('input').focus();
-    }));
-    picked.draw();
-    picked.levels.focus();
+  const taken = [...rows];
+  const box = element('div', {});
+  let picked = null;
+  const end = () => {
+    picked = null;
+    box.replaceChildren();
+    field.querySelector('input').focus();
   };
-  const field = picker(state.known, taken, (choice) => take({ choice }));
-  if (pick === null) place.append(field);
-  else take(pick);
-  return place;
+  const less = (choices) => {
+    taken.splice(0, taken.length, ...rows, ...choices);
+    if (choices.length === 0) end();
+    else field.querySelector('input').focus();
+  };
+  const take = (choice, given = {}) => {
+    if (picked === null) {
+      picked = new Picked(state, given, again, less);
+      box.replaceChildren(...picked.shown(() => less([])));
+    }
+    taken.push(choice);
+    picked.add(choice);
+  };
+  const field = picker(state.known, taken, take,
+    { words: levelWords(QUICK, state.kind), gives: { level: QUICK } });
+  for (const choice of pick?.choices ?? []) take(choice, pick);
+  return element('div', { class: 'adding' }, field, box);
 }

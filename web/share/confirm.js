@@ -27,6 +27,12 @@ async function dropAll(leftovers, looking) {
   }
 }
 
+// The button that sends what locks me out says so.
+function tellDanger(send, { words, allTheSame }, { lock }) {
+  send.textContent = lock === null ? words : allTheSame;
+  send.className = lock === null ? 'primary' : 'danger';
+}
+
 // Sends a list with what was chosen beside it. Returns 'sent' or 'not sent', and tells why not.
 export async function deliver(state, next, told) {
   const main = { path: state.path, before: state.text, next };
@@ -73,32 +79,41 @@ export class Told {
   }
 }
 
-// A dialog that says what comes of a list, and sends it: by a button of these words, or of others
-// where the caller loses the list 'all the same'. Returns 'sent', 'not sent', or null if it was
-// cancelled.
-export async function confirm(state, next,
-  { title, words, allTheSame, sentence, subject = null }) {
-  let isOpen = true;
-  let danger = false;
+// A dialog that says what comes of the list that 'nextOf' makes, and sends it. 'words' are {title,
+// words, allTheSame, sentence, subject, more}: the button has these words, or others where the
+// caller loses the list 'all the same'; 'more' makes what stands in it beside, and is given what
+// draws the dialog anew. Returns 'sent', 'not sent', or null if it was cancelled.
+export async function confirm(state, nextOf, words) {
+  const { title, subject = null, more = () => null } = words;
+  let [isOpen, looks, next] = [true, 0, null];
   const said = element('p', {});
-  const [cancel, send] = [texts.acts.cancel, words].map((text) => button(text, () => {}));
-  const look = (draw) => followOutcome(state, next, subject, () => isOpen, draw);
+  const [cancel, send] = [texts.acts.cancel, words.words].map((text) => button(text, () => {}));
+  // A look that is slow isn't drawn after a later one.
+  const look = (draw) => {
+    looks += 1;
+    const mine = looks;
+    next = nextOf();
+    return followOutcome(state, next, subject, () => isOpen && mine === looks, draw);
+  };
   const told = new Told(state, subject, send, () => look(draw).catch(tellFault));
   const draw = (outcome, isBusy) => {
-    danger = outcome.lock !== null;
-    said.textContent = sentence(outcome);
-    send.textContent = danger ? allTheSame : words;
-    send.className = danger ? 'danger' : 'primary';
+    said.textContent = words.sentence(outcome);
+    tellDanger(send, words, outcome);
     told.draw(outcome, isBusy);
   };
   await waitFor(new Promise((resolve, reject) => {
     look((...drawn) => resolve(draw(...drawn))).catch(reject);
   }));
+  const beside = more(() => {
+    send.disabled = true;
+    look(draw).catch(tellFault);
+  });
   const answer = await showDialog(title, (finish) => {
     cancel.addEventListener('click', () => finish(null));
     send.addEventListener('click', () => finish('send'));
-    (danger || send.disabled ? cancel : send).autofocus = true;
-    return [said, told.shown, element('div', { class: 'actions' }, cancel, send)];
+    (send.className === 'danger' || send.disabled ? cancel : send).autofocus = true;
+    return [said, ...beside === null ? [] : [beside], told.shown,
+      element('div', { class: 'actions' }, cancel, send)];
   }, 'sharing');
   isOpen = false;
   return answer === null ? null : deliver(state, next, told.told);

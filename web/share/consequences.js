@@ -9,6 +9,7 @@ import { together } from '../net/crawl.js';
 import { removalOf } from '../text/removers.js';
 import { lossOf } from '../text/warnings.js';
 import { furtherLines, leftovers, openings, waysAfter } from './passage.js';
+import { isMeant } from './subjects.js';
 import {
   callersFor, changesBelow, changesOf, extentOf, isException, keptBelow, meantIn, removingOwn,
   statesBelow,
@@ -100,9 +101,6 @@ function lockOf({ list, object, me, known }, after, callers, tops) {
     givers: callers.filter(({ name }) => tops.get(name).to === 'manage') };
 }
 
-const isMeant = (subject) => ({ user, groups }) => subject !== null
-  && (subject.isGroup ? groups.includes(subject.who) : user === subject.who);
-
 // Those who have to be let pass: whoever gains something here, and whom this is about. Everyone at
 // once is no caller who could be.
 function comingTo(gains, callers, subject) {
@@ -112,9 +110,8 @@ function comingTo(gains, callers, subject) {
   return [...gaining, ...callers.filter((one) => isMeant(subject)(one) && !names.has(one.name))];
 }
 
-// 'state' is what share.js shows, 'next' the list that would be sent, and 'subject' the one whom it
-// is about, or null: {who, isGroup, isLeaving}. Returns all that is said of it, by what 'looking'
-// saw further down until now.
+// 'state' is what share.js shows, 'next' the list that would be sent, and 'subject' whom it is
+// about, or null. Returns all that is said of it, by what 'looking' saw further down until now.
 export async function outcomeOf(state, next, subject = null) {
   const { path, kind, list, object, folders } = state;
   const last = folders.at(-1);

@@ -8,6 +8,7 @@ import { callersFor, isNeeded, statesBelow } from './who_can.js';
 import { entriesOf, isLineOf, keyOf, readLevels } from '../acl/levels.js';
 import { isGroup, isInherited, printEntry, printList, readListText } from '../acl/entries.js';
 import { isOld } from '../net/directory.js';
+import { isMeantBy, subjectsOf } from './subjects.js';
 import { ownText, seeList, setIfSame } from '../net/matched_list.js';
 import { isUnanswered } from '../net/retry.js';
 
@@ -38,6 +39,13 @@ function opened(list, { who, isGroup }) {
     ...list.entries.filter(isInherited)] };
 }
 
+// The same for those whom it bars, or where it bars others who come by them, for all.
+function openedFor(list, callers, subject) {
+  const those = subjectsOf(subject);
+  const barred = those.filter((one) => callers.some(isMeantBy(one)));
+  return (barred.length > 0 ? barred : those).reduce(opened, list);
+}
+
 // The folders that bar those who gain something, and what would let them pass, from the top down:
 // [{path, callers, next, before, folder}]. 'next' is null where I may not change the list, or where
 // that won't do.
@@ -53,7 +61,7 @@ export async function openings(state, gaining, subject) {
     const { path } = folder;
     const callers = barred.get(path);
     const isOffered = subject !== null && await mayChange(state, path);
-    const next = isOffered ? opened(folder.list, subject) : null;
+    const next = isOffered ? openedFor(folder.list, callers, subject) : null;
     const lets = next !== null && callers.every((caller) =>
       isGranted({ entries: next.entries, object: folder.object }, 'x', caller));
     return { path, callers, folder, before: folder.text, next: lets ? next : null };

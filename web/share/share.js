@@ -11,7 +11,7 @@ import { endWords } from '../acl/end_dates.js';
 import { callersFor, isException, removes } from './who_can.js';
 import { confirm } from './confirm.js';
 import { passedDown } from '../acl/inherit.js';
-import { closedUp, cutOff, joined, readLevels } from '../acl/levels.js';
+import { closedUp, joined, readLevels } from '../acl/levels.js';
 import { texts } from '../language/language.js';
 import { linkTo } from '../ui/links.js';
 import { Looking } from '../net/crawl.js';
@@ -22,6 +22,7 @@ import { belowOf } from './consequences.js';
 import { people } from '../net/directory.js';
 import { lookingLine } from '../ui/progress.js';
 import { placeName, shownName } from './access_words.js';
+import { onlyThese } from './only_these.js';
 import { wayTo } from './passage.js';
 import { unreadNames } from './unread.js';
 import { shortened } from '../ui/names.js';
@@ -62,13 +63,11 @@ function following(state, again) {
   const box = element('input', { type: 'checkbox', checked: list.protect, disabled: !edits });
   const from = folders.at(-1).list;
   const coming = from?.auto ? passedDown(from.entries, kind) : [];
-  const ask = (isCut) => confirm(state, isCut ? cutOff(list) : joined(list, coming, kind), isCut
-    ? { title: texts.access.cutOff, words: texts.access.onlyThese,
-      allTheSame: texts.access.onlyTheseAllTheSame,
-      sentence: () => texts.access.cutOffSays(kind, above) }
-    : { title: texts.access.followAgain(above), words: texts.access.followIt,
+  const ask = (isCut) => (isCut ? onlyThese(state, above)
+    : confirm(state, () => joined(list, coming, kind), {
+      title: texts.access.followAgain(above), words: texts.access.followIt,
       allTheSame: texts.access.followAllTheSame,
-      sentence: () => texts.access.followSays(above) });
+      sentence: () => texts.access.followSays(above) }));
   box.addEventListener('change', async () => {
     const done = await ask(box.checked).catch(tellFault);
     if (done) await again('.following input');
@@ -93,7 +92,7 @@ function note(state) {
 // Where no line says who may remove, one button says it.
 function openNote(state, again) {
   if (state.why !== 'open') return null;
-  const keep = () => confirm(state, closedUp(state.list), {
+  const keep = () => confirm(state, () => closedUp(state.list), {
     title: texts.access.keepInPlace, words: texts.access.keepThem,
     allTheSame: texts.access.keepAllTheSame, sentence: () => texts.access.keepSays,
   }).then((done) => (done ? again(FIELD) : null)).catch(tellFault);

@@ -48,13 +48,25 @@ function wordsFor({ who, isGroup, sure }, known) {
   return members === null ? texts.picker.group : texts.picker.groupOf(members.length);
 }
 
-function line(choice, known, id, onPick) {
+// What a press on it picks beside the name. By the keyboard that comes after the name.
+function quickPick({ words, gives }, choice, onPick) {
+  const made = element('span', { class: 'quick', 'aria-hidden': 'true' }, words);
+  made.addEventListener('pointerdown', (event) => {
+    event.preventDefault();
+    event.stopPropagation();
+    onPick({ ...choice, ...gives });
+  });
+  return made;
+}
+
+function line(choice, known, id, { onPick, quick }) {
   const { who, isGroup, sure } = choice;
   const look = sure ? null : 'unsure';
   const made = element('li', { role: 'option', id, 'aria-selected': 'false', class: look },
     mark(known, who, isGroup),
     element('span', {}, nameText(isGroup ? who : fullName(known, who))),
-    element('span', { class: 'hint' }, wordsFor(choice, known)));
+    element('span', { class: 'hint' }, wordsFor(choice, known)),
+    quick && sure ? quickPick(quick, choice, onPick) : null);
   made.addEventListener('pointerdown', (event) => {
     // The focus stays where it is, since the list closes without it.
     event.preventDefault();
@@ -73,7 +85,7 @@ function toldOf(typed, choices, known, taken) {
 }
 
 // The choices below a field: {box, show, step, isOpen, chosen, close}.
-function choiceList(input, known, onPick) {
+function choiceList(input, known, picks) {
   const list = element('ul', {
     role: 'listbox', id: freshId('choices'), 'aria-label': texts.picker.choices,
   });
@@ -92,7 +104,7 @@ function choiceList(input, known, onPick) {
   const show = (found, words) => {
     choices = found;
     list.replaceChildren(...choices.map((choice, index) =>
-      line(choice, known, `${list.id}-${index}`, onPick)));
+      line(choice, known, `${list.id}-${index}`, picks)));
     told.textContent = words;
     box.hidden = choices.length === 0 && words === '';
     input.setAttribute('aria-expanded', String(choices.length > 0));
@@ -109,8 +121,9 @@ function choiceList(input, known, onPick) {
   };
 }
 
-// 'taken' are those who have access already. 'onPick' is called with {who, isGroup, sure}.
-export function picker(known, taken, onPick) {
+// 'taken' are those who have access already, as they are at each key. 'onPick' is called with {who,
+// isGroup, sure}, and with what a quick pick gives beside these: {words, gives}.
+export function picker(known, taken, onPick, quick = null) {
   const all = knownNames(known);
   const input = element('input', {
     type: 'text', role: 'combobox', 'aria-label': texts.picker.add, 'aria-expanded': 'false',
@@ -122,7 +135,7 @@ export function picker(known, taken, onPick) {
     choices.close();
     onPick(choice);
   };
-  const choices = choiceList(input, known, pick);
+  const choices = choiceList(input, known, { onPick: pick, quick });
   // Nothing is in the way before something is typed, or asked for.
   const draw = (isAsked = false) => {
     const typed = input.value.trim();
