@@ -120,7 +120,7 @@ holds 'the day is noted' grep -q '^at 18:00 2027-01-31$' due
 
 # Who can have changed the rights at a folder, by the review of a night.
 bin/systemctl stop rooms
-night=backups/office/2026-11-26.030000
+night=backups/office/2026-11-26.040000
 mkdir "$night"
 cp room/office.rooms "$night"
 "$rooms" review room/office.rooms / >"$night/review.csv"
@@ -197,11 +197,11 @@ prints 'the operator sets another' 'done'
 answers 'and she gets in' '[{"kind":"document","name":"reply"}] 200' alice GET /folder/letters
 answers 'the list of before' ' 204' alice PUT /dacl/letters 'list:a'
 
-mkdir backups/office/2026-11-20.030000
+mkdir backups/office/2026-11-20.040000
 
 # One document out of a backup: it is changed meanwhile, and comes back.
 bin/systemctl stop rooms
-cp room/office.rooms* backups/office/2026-11-20.030000/
+cp room/office.rooms* backups/office/2026-11-20.040000/
 bin/systemctl start rooms
 answers 'it is overwritten' ' 204' alice PUT /doc/letters/reply 'Dear Madam'
 paste_in "$(blocks backup.md 'rooms-admin get 2026')"
@@ -223,7 +223,7 @@ END
 stand_in rooms-restore <<END
 exec "$repo/admin/rooms-admin" restore --conf "$PWD/root/etc/rooms/office.conf" "\$@"
 END
-rm -rf backups/office/2026-11-20.030000*
+rm -rf backups/office/2026-11-20.040000*
 export ROOMS_RUN=$PWD/run
 if has flock; then
   paste_in "$(blocks upgrading.md 'start rooms-nightly')"
@@ -259,7 +259,7 @@ prints_nothing 'its program runs'
 answers 'on the same room' 'Dear Sir 200' alice GET /doc/letters/reply
 if [ -n "$backup" ]; then
   answers 'a change after the backup' ' 204' alice PUT /doc/letters/reply 'Dear Madam'
-  paste_in "$(blocks upgrading.md 'rooms-restore 2026' | sed "s/2026-11-20.030000/${backup##*/}/")"
+  paste_in "$(blocks upgrading.md 'rooms-restore 2026' | sed "s/2026-11-20.040000/${backup##*/}/")"
   holds 'the room of the backup' [ "$status" = 0 ]
   answers 'has what was there then' 'Dear Sir 200' alice GET /doc/letters/reply
   bin/systemctl stop rooms

@@ -32,9 +32,9 @@ fi
 
 # The review of last month, and that of now.
 night() { # DATE
-  mkdir -p "backups/office/$1.030000"
+  mkdir -p "backups/office/$1.040000"
   run review "$F" /
-  cp "$work/out" "backups/office/$1.030000/review.csv"
+  cp "$work/out" "backups/office/$1.040000/review.csv"
 }
 night 2026-10-26
 if start_server "$F" 2; then

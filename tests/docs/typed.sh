@@ -429,13 +429,13 @@ types 'a unit that gave up' docs/messages reset-failed
 types 'a full disk' docs/messages 'df -h' docs/messages vacuum docs/messages 'rooms verify'
 shows 'the room is sound' sound
 backup=$(cd "$machine/var/backups/rooms/office" && ls -d ????-??-??.?????? | tail -n 1)
-edit=s/2026-11-20.030000/$backup/
+edit=s/2026-11-20.040000/$backup/
 types 'a restore' docs/backup 'rooms-admin restore --start 2026'
 shows 'is done' "restored /var/lib/rooms/office.rooms from /var/backups/rooms/office/$backup"
-edit=s/2026-11-20.030000/$backup/
+edit=s/2026-11-20.040000/$backup/
 types 'one document' docs/backup 'rooms-admin get 2026' docs/backup @reply
 shows 'is put back' 204
-edit=s/2026-11-20.030000/$backup/
+edit=s/2026-11-20.040000/$backup/
 types 'a folder of it' docs/backup 'rooms-admin export --backup'
 shows 'is written' 'left out 0'
 where=/var/backups/rooms/office/$backup
@@ -448,7 +448,7 @@ types 'a newer version' docs/upgrading \
   docs/upgrading 'rooms-admin check'
 shows 'serves' 'rooms WARNING - '
 types 'an older one' docs/upgrading allow-downgrades docs/upgrading "=systemctl restart 'rooms@*'"
-edit=s/2026-11-20.030000/$backup/
+edit=s/2026-11-20.040000/$backup/
 types 'with its file' docs/upgrading 'rooms-restore 2026'
 does 'a file of schema 1' \
   'systemctl stop rooms@office && mkdir kept && mv /var/lib/rooms/office.rooms* kept'
