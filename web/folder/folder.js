@@ -10,6 +10,7 @@ import { linkTo } from '../ui/links.js';
 import { notShown, tell, tellFault, waitFor } from '../ui/messages.js';
 import { arrived } from '../net/directory.js';
 import { closedIn } from '../net/door.js';
+import { learnEditing } from './editing.js';
 import { finder } from './find.js';
 import { markAllClosed } from './closed_rows.js';
 import { chosenOf, drawRows, newLook, shownOf } from './rows.js';
@@ -186,6 +187,7 @@ class FolderView {
       this.draw(focus);
       this.showShut();
       arrived(this.path, 'folder');
+      learnEditing(children);
       if (this.path === '/') this.showPlaces();
       // The button that had the focus may be gone.
       if (document.activeElement === document.body) this.box.focus({ preventScroll: true });

@@ -8,6 +8,7 @@ import { rove } from '../ui/keys.js';
 import { linkTo } from '../ui/links.js';
 import { menuButton } from '../ui/menu.js';
 import { markClosed } from './closed_rows.js';
+import { editingOf } from './editing.js';
 import { marked } from '../text/invisible.js';
 import { filtered, kindWords, sorted } from './sorting.js';
 
@@ -47,6 +48,7 @@ function entriesOf(child, path, acts) {
   const preview = { words: texts.folder.preview, does: () => acts.preview(child) };
   return [
     ...(child.kind === 'folder' ? [] : [preview]),
+    ...editingOf(child, path),
     { words: texts.acts.download, does: () => acts.download([child]) },
     { words: texts.folder.renameOrMove, does: () => acts.move(child) },
     { words: texts.acts.copyLink, does: () => acts.copy(child) },
@@ -61,7 +63,7 @@ function actsOf(child, path, acts) {
       class: 'small button access', href: linkTo(path, 'access'),
       'aria-label': texts.folder.accessOf(marked(child.name)), 'data-act': 'access',
     }, texts.folder.access),
-    menuButton(texts.folder.actionsOf(marked(child.name)), entriesOf(child, path, acts), {
+    menuButton(texts.folder.actionsOf(marked(child.name)), () => entriesOf(child, path, acts), {
       class: 'small plain', title: texts.folder.actions, 'data-act': 'menu',
     }),
   ];

@@ -43,6 +43,7 @@ export const EN_FOLDER = {
   actions: 'Actions',
   actionsOf: (name) => `Actions: ${name}`,
   preview: 'Preview',
+  openIn: (program) => `Open in ${program}`,
   renameOrMove: 'Rename or move',
   taken: 'There is already something of this name. Choose another one.',
   amount: amountOf,

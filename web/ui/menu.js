@@ -58,12 +58,13 @@ function open(opener, label, entries) {
   return close;
 }
 
-// A button that opens a menu of entries {words, does or href, look}.
+// A button that opens a menu of entries {words, does or href, look}. A function makes them when it
+// is pressed.
 export function menuButton(label, entries, properties = {}) {
   let close = null;
   const opener = button(icon('more'), () => {
     if (opener.getAttribute('aria-expanded') === 'true') close();
-    else close = open(opener, label, entries);
+    else close = open(opener, label, typeof entries === 'function' ? entries() : entries);
   }, { 'aria-label': label, 'aria-haspopup': 'menu', 'aria-expanded': 'false', ...properties });
   return opener;
 }
