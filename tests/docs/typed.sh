@@ -342,7 +342,8 @@ shows 'is printed' A:fdg:staff:rwaxtc A:fi:OWNER@:d
 types 'who can read this folder' docs/people 'rooms review'
 shows 'alice, and staff' '/letters,folder,alice,rwanNxDtThHdcCoy,yes'
 types 'who could change it' docs/people "at='/projects'"
-types 'a new password' docs/people '=rooms-admin user add bob' docs/people 'tr -dc'
+types 'a new password' docs/people '=rooms-admin user add bob' docs/people 'tr -dc' \
+  docs/people 'user add bob --first'
 
 # In and out.
 types 'a share of Windows' docs/in-and-out smbclient
@@ -428,6 +429,8 @@ shows 'the server has it, and answers' \
 types 'a unit that gave up' docs/messages reset-failed
 types 'a full disk' docs/messages 'df -h' docs/messages vacuum docs/messages 'rooms verify'
 shows 'the room is sound' sound
+types 'the counter of records' docs/messages sqlite_sequence
+shows 'the room stays so' sound
 backup=$(cd "$machine/var/backups/rooms/office" && ls -d ????-??-??.?????? | tail -n 1)
 edit=s/2026-11-20.040000/$backup/
 types 'a restore' docs/backup 'rooms-admin restore --start 2026'
