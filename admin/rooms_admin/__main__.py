@@ -1,7 +1,6 @@
 """rooms-admin VERB: one command for all that an administrator does beside the program."""
 import io
 import os
-import subprocess
 import sys
 from importlib import import_module
 
@@ -101,13 +100,8 @@ def _run(verb: str, words: list[str]) -> int:
 
 def _version() -> int:
     """That of the program which was installed with it."""
-    from .room.settings import PROGRAM
-    try:
-        told = subprocess.run([PROGRAM, "--version"], stdin=subprocess.DEVNULL, check=False,
-                              stdout=subprocess.PIPE, stderr=subprocess.STDOUT).stdout
-    except OSError as fault:
-        raise report.Stop(f"no program: {PROGRAM} can't be run: {fault.strerror}") from fault
-    print(f"rooms-admin of {told.decode(errors='replace').strip()}")
+    from .room import program, settings
+    print(f"rooms-admin of rooms {program.version_of(settings.PROGRAM)}")
     return 0
 
 

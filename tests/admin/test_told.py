@@ -14,7 +14,7 @@ import unittest.mock
 from rooms_admin.__main__ import VERBS
 from rooms_admin.cli import manual, report
 from rooms_admin.cli.report import Refused, Stop
-from rooms_admin.host import at_socket, locks, waiting
+from rooms_admin.host import at_socket, locks, mail, waiting
 from rooms_admin.room import (http_client, names, passwords, published, server, settings,
                               size)
 from rooms_admin.verbs import certificate, mail_failure, quota, user
@@ -107,13 +107,13 @@ class Told(unittest.TestCase):
                 unittest.mock.patch.object(mail_failure, "journal", return_value=[]), \
                 unittest.mock.patch.object(shutil, "which", return_value="mail"), \
                 unittest.mock.patch.dict(os.environ, MONITOR_SERVICE_RESULT="exit-code"), \
-                unittest.mock.patch.object(report, "mail") as mail:
+                unittest.mock.patch.object(mail, "deliver") as deliver:
             os.mkdir(f"{run}/rooms-tell")
 
             def send(to: str, *_: object) -> bool:
                 sent.append(to)
                 return len(sent) > 1
-            mail.side_effect = send
+            deliver.side_effect = send
             with self.assertRaises(Stop):
                 mail_failure.run(given)
             self.assertEqual([mail_failure.run(given) for _ in range(2)], [0, 0])

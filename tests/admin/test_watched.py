@@ -10,8 +10,7 @@ import unittest.mock
 
 sys.path.insert(0, os.path.join(os.path.dirname(__file__), "..", "..", "admin"))
 
-from rooms_admin.cli import report  # noqa: E402
-from rooms_admin.host import locks  # noqa: E402
+from rooms_admin.host import locks, mail  # noqa: E402
 from rooms_admin.room import health, members, server, settings  # noqa: E402
 from rooms_admin.verbs import mail_failure, watched  # noqa: E402
 
@@ -167,8 +166,8 @@ class Watched(unittest.TestCase):
             sent.append(text)
             return True
 
-        with unittest.mock.patch.object(report, "_tell", tells):
-            report.mail("root", "x", ["a\n~! b", "~q"])
+        with unittest.mock.patch.object(mail, "_hand", tells):
+            mail.deliver("root", "x", ["a\n~! b", "~q"])
         self.assertEqual(sent, ["a\n ~! b\n ~q\n"])
 
 

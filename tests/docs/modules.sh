@@ -14,6 +14,19 @@ same 'web/acl asks nothing and draws nothing' found /dev/null
 (cd "$repo" && grep -nE '\bdocument\.' web/net/*.js web/text/*.js) >found
 same 'web/net and web/text draw nothing' found /dev/null
 
+# What only one module does. Whoever needs it calls that one.
+only() { # WHAT PATTERN FILE
+  (cd "$repo" && grep -nE "$2" admin/rooms_admin/{,*/}*.py services/rooms_services/{,*/,*/*/}*.py |
+    grep -v "^$3:") >found
+  same "$1 in $3 alone" found /dev/null
+  (cd "$repo" && grep -qE "$2" "$3")
+  holds "$1 in $3" [ "$?" = 0 ]
+}
+host=admin/rooms_admin/host
+only 'commands are run' '\bsubprocess\b|\bos[.](exec|spawn|popen|posix_spawn|system\b)' \
+  $host/commands.py
+only 'children are tied to their parents' '\bprctl\b' $host/processes.py
+
 # What goes the wrong way is found.
 mkdir -p house/{tools,docs,low/a,low/b,low/c}
 cp "$repo/tools/modules" house/tools/

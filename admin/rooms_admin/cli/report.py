@@ -1,8 +1,6 @@
-"""What is printed, how a verb ends, and who is told."""
+"""What is printed, and how a verb ends."""
 import os
-import shutil
 import signal
-import subprocess
 import sys
 import types
 from collections.abc import Iterator
@@ -67,38 +65,6 @@ def signals_wait(how: int = signal.SIG_BLOCK) -> Iterator[None]:
         yield
     finally:
         signal.pthread_sigmask(signal.SIG_SETMASK, before)
-
-
-def mail(to: str, subject: str, lines: list[str]) -> bool:
-    """What is sent may come from a log that anybody writes: to some mail programs a line that
-    begins with ~ is a command."""
-    parts = plain("\n".join(lines)).split("\n")
-    text = "".join(f" {one}\n" if one.startswith("~") else f"{one}\n" for one in parts)
-    return _tell(["mail", "-s", subject, to], text)
-
-
-def send(to: str, subject: str, lines: list[str], level: str = "err") -> None:
-    """By mail if possible, otherwise to the system's log. Standard error has it already, which is
-    the log of a unit: one that fails has it sent by OnFailure=, and a warning by the same unit."""
-    if unit := os.environ.get("ROOMS_UNIT"):
-        if level != "err" and to:
-            _tell(["systemctl", "start", "--no-block", f"rooms-tell@{unit}.service"], "")
-        return
-    if to and shutil.which("mail"):
-        if mail(to, subject, lines):
-            return
-        say(f"mail to {to} failed")
-    if shutil.which("logger"):
-        _tell(["logger", "-p", f"daemon.{level}", "-t", prog.replace(" ", "-"), "--",
-               plain("\n".join(lines))], "")
-
-
-def _tell(words: list[str], text: str) -> bool:
-    try:
-        return subprocess.run(words, input=text.encode(errors="surrogateescape"), timeout=60,
-                              check=False).returncode == 0
-    except (OSError, subprocess.TimeoutExpired):
-        return False
 
 
 _shown = False

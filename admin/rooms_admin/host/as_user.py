@@ -5,13 +5,12 @@ import json
 import os
 import pwd
 import shutil
-import subprocess
 import sys
 import tempfile
 from collections.abc import Callable, Iterator
 from contextlib import contextmanager
 
-from . import tempdirs
+from . import commands, tempdirs
 
 Work = Callable[[], list[list[str]]]
 # Bytes: twice the largest document, and as much for the log.
@@ -148,11 +147,9 @@ def _records(program: str, copy: str) -> list[list[str]]:
 
 
 def _run(program: str, word: str, file: str, quiet: bool = False) -> tuple[int, str]:
-    out = subprocess.DEVNULL if quiet else subprocess.PIPE
+    """A large room takes its time."""
     try:
-        done = subprocess.run([program, word, file], stdin=subprocess.DEVNULL, stdout=out,
-                              stderr=subprocess.PIPE, check=False)
+        done = (commands.faults if quiet else commands.together)([program, word, file], None)
     except OSError as fault:
         return 1, fault.strerror or str(fault)
-    return done.returncode, ((done.stdout or b"") + done.stderr)[:400].decode(
-        errors="replace").strip()
+    return done.status, (done.out + done.said)[:400]

@@ -4,10 +4,9 @@ import os
 import pwd
 import shutil
 import stat
-import subprocess
 from grp import getgrnam
 
-from . import safe
+from . import commands, safe
 from ..cli.report import Stop
 
 # The user whose processes nginx's are, on Debian.
@@ -144,22 +143,22 @@ class Changes:
 def run(*words: str, check: bool = True) -> tuple[int, str]:
     """Status, and all that it said."""
     try:
-        done = subprocess.run(words, stdin=subprocess.DEVNULL, stdout=subprocess.PIPE,
-                              stderr=subprocess.STDOUT, check=False, cwd="/",
-                              env=os.environ | {"LC_ALL": "C"})
+        done = commands.together(words, commands.patience(words))
     except OSError as fault:
         raise Stop(f"no {words[0]}: {fault.strerror}") from fault
-    said = done.stdout.decode(errors="backslashreplace").strip()
-    if check and done.returncode != 0:
-        raise Stop(f"{' '.join(words)} failed: {said or done.returncode}")
-    if check and said:
-        print(said, flush=True)
-    return done.returncode, said
+    if check and done.status != 0:
+        raise Stop(f"{' '.join(words)} failed: {done.out or done.status}")
+    if check and done.out:
+        print(done.out, flush=True)
+    return done.status, done.out
 
 
 def nginx_refuses() -> str:
     """What nginx says against its files."""
     if not shutil.which("nginx"):
         return ""
-    status, said = run("nginx", "-t", "-q", check=False)
+    try:
+        status, said = run("nginx", "-t", "-q", check=False)
+    except commands.Slow as slow:
+        return str(slow)
     return said or "it says nothing" if status else ""

@@ -1,12 +1,19 @@
-"""How a command of the machine is run: it speaks plain English in UTF-8, whatever the language of
-whoever calls, and has a limit of time, since a disk or another machine may hang."""
+"""How a command of the machine is run, and the only module that runs one: it speaks plain English
+in UTF-8, whatever the language of whoever calls, and has a limit of time, since a disk or another
+machine may hang."""
 import os
 import subprocess
+from collections.abc import Callable, Sequence
 from dataclasses import dataclass
+from typing import Any, TypeAlias
 
 from ..cli.report import Stop
 
 SECONDS = 60.0
+PIPE = subprocess.PIPE
+Child: TypeAlias = "subprocess.Popen[bytes]"
+# What systemctl answers at once; all else waits for servers, which may read their files for long.
+_ASKS = ("is-active", "is-enabled", "show", "reset-failed", "list-units")
 
 
 class Slow(Stop):
@@ -20,14 +27,73 @@ class Done:
     said: str
 
 
-def run(words: list[str], given: bytes = b"", seconds: float | None = SECONDS,
-        quiet: bool = True) -> Done:
-    """What it says of faults is shown if not `quiet`. A command that isn't there is an OSError."""
+@dataclass(frozen=True)
+class Who:
+    """As whom a command runs that isn't to be the caller: numbers, and no other group."""
+    user: int
+    group: int
+
+
+def patience(words: Sequence[str]) -> float | None:
+    return None if words[0] == "systemctl" and words[1] not in _ASKS else SECONDS
+
+
+def _ours() -> dict[str, str]:
+    return {**os.environ, "LC_ALL": "C.UTF-8"}
+
+
+def _run(words: Sequence[str], seconds: float | None, **how: Any) -> Done:
     try:
-        done = subprocess.run(words, input=given, stdout=subprocess.PIPE,
-                              stderr=subprocess.PIPE if quiet else None, timeout=seconds,
-                              check=False, env={**os.environ, "LC_ALL": "C.UTF-8"})
+        done = subprocess.run(words, timeout=seconds, check=False, env=_ours(), **how)
     except subprocess.TimeoutExpired as fault:
         raise Slow(f"{words[0]} takes more than {seconds:.0f} s") from fault
-    return Done(done.returncode, done.stdout.decode(errors="replace").strip(),
-                (done.stderr or b"").decode(errors="replace").strip())
+    return Done(done.returncode, (done.stdout or b"").decode(errors="backslashreplace").strip(),
+                (done.stderr or b"").decode(errors="backslashreplace").strip())
+
+
+def run(words: Sequence[str], given: bytes = b"", seconds: float | None = SECONDS,
+        quiet: bool = True, pass_fds: tuple[int, ...] = ()) -> Done:
+    """What it says of faults is shown if not `quiet`. A command that isn't there is an OSError."""
+    return _run(words, seconds, input=given, stdout=subprocess.PIPE, pass_fds=pass_fds,
+                stderr=subprocess.PIPE if quiet else None)
+
+
+def together(words: Sequence[str], seconds: float | None = SECONDS) -> Done:
+    """What it says of faults stands where it says it, among the rest. It runs where nobody can take
+    its folder away."""
+    return _run(words, seconds, stdin=subprocess.DEVNULL, stdout=subprocess.PIPE,
+                stderr=subprocess.STDOUT, cwd="/")
+
+
+def faults(words: Sequence[str], seconds: float | None = SECONDS) -> Done:
+    """What it prints, which may be more than fits into memory, is for nobody."""
+    return _run(words, seconds, stdin=subprocess.DEVNULL, stdout=subprocess.DEVNULL,
+                stderr=subprocess.PIPE)
+
+
+def printed(words: Sequence[str]) -> str:
+    """What it prints, which is nothing where it can't be run."""
+    try:
+        return run(words).out
+    except (OSError, Slow):
+        return ""
+
+
+def shown(words: Sequence[str], given: bytes = b"") -> bool:
+    """Whether it went well. What it says is on standard error, as this process's own lines are."""
+    try:
+        return _run(words, patience(words), input=given, stdout=2).status == 0
+    except (OSError, Slow):
+        return False
+
+
+def started(words: Sequence[str | bytes], before: Callable[[], None], who: Who | None = None,
+            stdin: int = subprocess.PIPE, stdout: int = subprocess.PIPE,
+            pass_fds: tuple[int, ...] = (), cwd: str | None = None) -> Child:
+    """One that goes on beside this process, which looks after it: `before` is done in it first. Its
+    folder is entered before it becomes another user, who need not get there."""
+    how: dict[str, Any] = {}
+    if who is not None:
+        how = {"user": who.user, "group": who.group, "extra_groups": []}
+    return subprocess.Popen(words, stdin=stdin, stdout=stdout, stderr=subprocess.PIPE, umask=0o077,
+                            preexec_fn=before, pass_fds=pass_fds, cwd=cwd, env=_ours(), **how)

@@ -1,5 +1,21 @@
 """Processes of the machine."""
+import ctypes
 import os
+import signal
+
+# Loaded before any child begins, which then only calls it.
+_LIBC = ctypes.CDLL(None)
+_ENDS_WITH_PARENT, _GETS_ORPHANS = 1, 36
+
+
+def end_with_parent() -> None:
+    """For a child that nobody else would end."""
+    _LIBC.prctl(_ENDS_WITH_PARENT, int(signal.SIGKILL))
+
+
+def adopt_orphans() -> None:
+    """What a child leaves behind is a child of this process from then on."""
+    _LIBC.prctl(_GETS_ORPHANS, 1)
 
 
 def _fields(place: str) -> list[str]:

@@ -2,7 +2,6 @@
 so neither its own disk nor that of backups can hold it for longer than HOLD seconds. They are
 copied to the room's own disk if that has space for it, under no name, and otherwise to the disk of
 backups at once."""
-import ctypes
 import errno
 import os
 import select
@@ -10,7 +9,7 @@ import signal
 import time
 from dataclasses import dataclass, field
 
-from ..host import safe
+from ..host import processes, safe
 from . import server
 from ..cli.report import Refused, Stop, say
 from .settings import Room
@@ -19,7 +18,6 @@ HOLD = 30.0
 _CHUNK = 16 << 20
 # What stays free for other rooms on the disk while a copy lies beside the room.
 _SPARE = 256 << 20
-_ENDS_WITH_PARENT = 1
 
 
 class NotHeld(Exception):
@@ -118,7 +116,7 @@ def _child(room: Room, targets: Copy, writer: int, part: str) -> None:
     try:
         for one in (signal.SIGTERM, signal.SIGINT, signal.SIGHUP):
             signal.signal(one, signal.SIG_DFL)
-        ctypes.CDLL(None).prctl(_ENDS_WITH_PARENT, int(signal.SIGKILL))
+        processes.end_with_parent()
         try:
             text = _copy_files(room, targets)
         except OSError as fault:

@@ -5,13 +5,13 @@ import hashlib
 import io
 import os
 import re
-import subprocess
 import tarfile
 import time
 from collections.abc import Iterator
 
 from ..cli.report import Refused
 from ..host import safe
+from ..host.commands import printed
 from . import passwords, settings
 
 # Only tests set another root.
@@ -51,7 +51,7 @@ def see_certificate(file: str) -> tuple[int, str]:
     renews is told of only if that seems to have failed."""
     days = 7 if file.startswith("/etc/letsencrypt/") else 30
     asks = ["openssl", "x509", "-in", ROOT + file, "-noout"]
-    ends = printed([*asks, "-enddate"]).strip().partition("=")[2]
+    ends = printed([*asks, "-enddate"]).partition("=")[2]
     if not ends:
         return 2, (f"the certificate {file} can't be used, and nginx doesn't start again without "
                    "it: docs/operating.md, TLS")
@@ -104,16 +104,6 @@ def _packaged() -> set[str]:
     return found
 
 
-def printed(words: list[str]) -> str:
-    """What a command prints, which is nothing where it can't be run."""
-    try:
-        return subprocess.run(words, stdin=subprocess.DEVNULL, stdout=subprocess.PIPE,
-                              stderr=subprocess.DEVNULL, check=False, timeout=60
-                              ).stdout.decode(errors="replace")
-    except (OSError, subprocess.TimeoutExpired):
-        return ""
-
-
 def _packages() -> str:
     """Those that are installed."""
     rows = printed(["dpkg-query", "-W", "-f=${db:Status-Status} package ${Package} ${Version}\\n",
@@ -123,17 +113,23 @@ def _packages() -> str:
                    if row.startswith("installed "))
 
 
+def _kept(words: list[str]) -> str:
+    """What a command prints, as whole lines."""
+    said = printed(words)
+    return f"{said}\n" if said else ""
+
+
 def _about(version: str) -> str:
     text = (f"rooms {version}\nhost {os.uname().nodename}\n"
             f"date {time.strftime('%FT%TZ', time.gmtime())}\n\n"
             "What follows is to look at: no restore brings it back.\n")
-    text += _packages() + printed(["ip", "-brief", "address"])
+    text += _packages() + _kept(["ip", "-brief", "address"])
     for line in printed(["atq"]).splitlines():
         job = line.split("\t")[0]
         text += f"at {line}\n" + "\n".join(printed(["at", "-c", job]).splitlines()[-2:]) + "\n"
-    return text + printed(["grep", "-rs", "rooms", f"{ROOT}/var/spool/cron/crontabs",
-                           f"{ROOT}/etc/crontab", f"{ROOT}/etc/cron.d", f"{ROOT}/etc/cron.daily",
-                           f"{ROOT}/etc/cron.weekly"])
+    return text + _kept(["grep", "-rs", "rooms", f"{ROOT}/var/spool/cron/crontabs",
+                         f"{ROOT}/etc/crontab", f"{ROOT}/etc/cron.d", f"{ROOT}/etc/cron.daily",
+                         f"{ROOT}/etc/cron.weekly"])
 
 
 def _enabled() -> list[str]:

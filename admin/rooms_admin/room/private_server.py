@@ -7,20 +7,17 @@ import ctypes
 import fcntl
 import os
 import select
-import signal
 import socket
 import struct
-import subprocess
 from collections.abc import Iterator
 from contextlib import AbstractContextManager, contextmanager
 
-from ..host import safe, tempdirs
+from ..host import commands, processes, safe, tempdirs
 from . import program, settings
 from ..cli.report import Stop
 
 PORT = 8780
 USER = "rooms-get"
-_ENDS_WITH_PARENT = 1
 _NEW_USER, _NEW_NETWORK = 0x10000000, 0x40000000
 _GET_FLAGS, _SET_FLAGS, _UP = 0x8913, 0x8914, 1
 
@@ -93,19 +90,14 @@ def set_list(room: settings.Room, copied: str, path: bytes, lines: bytes) -> str
     return "" if status == 0 else said or out.decode(errors="replace").strip() or f"status {status}"
 
 
-def _end_with_parent() -> None:
-    ctypes.CDLL(None).prctl(_ENDS_WITH_PARENT, int(signal.SIGKILL))
-
-
 @contextmanager
 def served(room: settings.Room, copied: str, count: int) -> Iterator[None]:
     own_network()
     words = [room.program, "serve", copied, "--port", str(PORT), "--count", str(count)]
-    server = subprocess.Popen(words, stdin=subprocess.DEVNULL, stdout=subprocess.PIPE,
-                              stderr=subprocess.PIPE, preexec_fn=_end_with_parent,
-                              **program.as_user_of_copies(room))  # type: ignore
+    server = commands.started(words, processes.end_with_parent, program.as_user_of_copies(room))
     try:
-        assert server.stdout and server.stderr
+        assert server.stdin and server.stdout and server.stderr
+        server.stdin.close()
         # A server that ends closes its output: that is an end of the wait too.
         ready, _, _ = select.select([server.stdout], [], [], 600)
         line = server.stdout.readline() if ready else b""
@@ -118,7 +110,7 @@ def served(room: settings.Room, copied: str, count: int) -> Iterator[None]:
         _end(server)
 
 
-def _end(server: subprocess.Popen[bytes]) -> None:
+def _end(server: commands.Child) -> None:
     """Whatever interrupts this: nobody else ends the server, and it is waited for."""
     try:
         server.kill()

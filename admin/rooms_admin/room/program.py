@@ -1,23 +1,20 @@
 """Running the program: as whom, and with how much memory."""
-import ctypes
 import functools
 import os
 import pwd
 import resource
 import select
 import signal
-import subprocess
 import tempfile
 from collections.abc import Callable, Iterator
 from contextlib import contextmanager
 
-from ..host import safe
+from ..host import commands, processes, safe
 from ..cli.report import Stop
 from .settings import Room
 
 # What a change needs at most: twice the largest document, and as much for the log.
 CHANGE = 4 << 20
-_ENDS_WITH_PARENT, _GETS_ORPHANS = 1, 36
 # Who runs the program on copies of a room. No server is this user, who has nothing.
 COPIES = "rooms-backup"
 # Where a machine hasn't it: numbers that Debian gives to nobody, nor systemd to a service.
@@ -47,26 +44,22 @@ def user_of_copies(room: Room) -> tuple[int, int]:
     raise Stop(f"no user {COPIES}: systemd-sysusers rooms.conf")
 
 
-def as_user_of_copies(room: Room) -> dict[str, object]:
+def as_user_of_copies(room: Room) -> commands.Who | None:
     """For a child process."""
     user, group = user_of_copies(room)
-    return {} if user == os.geteuid() else {"user": user, "group": group, "extra_groups": []}
+    return None if user == os.geteuid() else commands.Who(user, group)
 
 
-def user_of(room: Room) -> dict[str, object]:
+def user_of(room: Room) -> commands.Who | None:
     """For a child process: the room's user, unless this process is theirs."""
-    if os.geteuid() == room.owner:
-        return {}
-    return {"user": room.owner, "group": room.group, "extra_groups": []}
+    return None if os.geteuid() == room.owner else commands.Who(room.owner, room.group)
 
 
 def limits(megabytes: int) -> Callable[[], None]:
     """What a child does before the program: nothing here is shared with other threads. It ends with
     what called it; 0 is as much memory as there is."""
-    libc = ctypes.CDLL(None)
-
     def less() -> None:
-        libc.prctl(_ENDS_WITH_PARENT, int(signal.SIGKILL))
+        processes.end_with_parent()
         if not megabytes:
             return
         _, hard = resource.getrlimit(resource.RLIMIT_AS)
@@ -108,18 +101,13 @@ def _first_to_go() -> Iterator[None]:
 
 
 def run(room: Room, words: list[str | bytes], stdin: bytes = b"", as_owner: bool = True,
-        megabytes: int = 0, stdout: int = subprocess.PIPE, pass_fds: tuple[int, ...] = (),
+        megabytes: int = 0, stdout: int = commands.PIPE, pass_fds: tuple[int, ...] = (),
         cwd: str | None = None) -> tuple[int, bytes, str]:
-    """Status, standard output, and what it said, which is standard error. The folder is entered
-    before the child becomes the room's user, who need not get there by its name."""
-    how = user_of(room) if as_owner else {}
-    before = limits(megabytes)
-    child: subprocess.Popen[bytes]
+    """Status, standard output, and what it said, which is standard error."""
+    who = user_of(room) if as_owner else None
     with _first_to_go():
-        child = subprocess.Popen(
-            [room.program, *words], stdin=subprocess.PIPE, stdout=stdout, stderr=subprocess.PIPE,
-            umask=0o077, preexec_fn=before, pass_fds=pass_fds, cwd=cwd,
-            **how)  # type: ignore[call-overload]
+        child = commands.started([room.program, *words], limits(megabytes), who, stdout=stdout,
+                                 pass_fds=pass_fds, cwd=cwd)
     with child:
         try:
             out, err = child.communicate(stdin)
@@ -133,7 +121,7 @@ def run(room: Room, words: list[str | bytes], stdin: bytes = b"", as_owner: bool
 _PIPE = 1 << 20
 
 
-def _pump(child: subprocess.Popen[bytes], take: Callable[[bytes], object]) -> bytes:
+def _pump(child: commands.Child, take: Callable[[bytes], object]) -> bytes:
     """What the child writes gets to a file that stays root's: the child has a pipe. Returns what it
     said. It is over when the child is, whoever else has the pipe by then."""
     assert child.stdout and child.stderr
@@ -180,17 +168,15 @@ def on_copy(room: Room, copied: str, words: list[str | bytes], megabytes: int = 
     """A subcommand on a private copy, as the user of copies: its first word, the copy, the others.
     The copy's folder is entered before. What is written goes to a file, or is returned."""
     user, _ = user_of_copies(room)
-    ctypes.CDLL(None).prctl(_GETS_ORPHANS, 1)
+    processes.adopt_orphans()
     parts: list[bytes] = []
     take: Callable[[bytes], object] = parts.append
     if into is not None:
         take = functools.partial(safe.write_all, into)
     with _first_to_go():
-        child = subprocess.Popen(
+        child = commands.started(
             [room.program, words[0], f"./{os.path.basename(copied)}", *words[1:]],
-            stdin=subprocess.PIPE, stdout=subprocess.PIPE, stderr=subprocess.PIPE, umask=0o077,
-            preexec_fn=limits(megabytes), cwd=os.path.dirname(copied),
-            **as_user_of_copies(room))  # type: ignore[call-overload]
+            limits(megabytes), as_user_of_copies(room), cwd=os.path.dirname(copied))
     with child:
         try:
             assert child.stdin
@@ -210,11 +196,10 @@ def on_copy(room: Room, copied: str, words: list[str | bytes], megabytes: int = 
 def version_of(program: str) -> str:
     """Of one that root's settings name."""
     try:
-        done = subprocess.run([program, "--version"], stdin=subprocess.DEVNULL, check=False,
-                              stdout=subprocess.DEVNULL, stderr=subprocess.PIPE)
+        done = commands.faults([program, "--version"])
     except OSError as fault:
         raise Stop(f"no program: {program} can't be run: {fault.strerror}") from fault
-    return done.stderr.decode(errors="replace").strip().removeprefix("rooms ")
+    return done.said.removeprefix("rooms ")
 
 
 def lacks_space(room: Room) -> str:

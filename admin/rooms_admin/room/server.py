@@ -2,7 +2,6 @@
 import os
 import select
 import signal
-import subprocess
 import time
 from collections.abc import Callable, Iterator
 from contextlib import contextmanager
@@ -14,24 +13,14 @@ from .settings import Room
 
 
 def systemctl(*words: str) -> tuple[int, str]:
-    """What isn't loaded has no failures that could be forgotten: that is no news. A server may take
-    long to read its file, and so may what waits for it."""
-    asks = words[0] in ("is-active", "show", "reset-failed")
+    """What isn't loaded has no failures that could be forgotten: that is no news."""
+    asked = ["systemctl", *words]
     try:
-        done = commands.run(["systemctl", *words], seconds=commands.SECONDS if asks else None,
+        done = commands.run(asked, seconds=commands.patience(asked),
                             quiet=words[0] == "reset-failed")
     except OSError as fault:
         raise Stop(f"no systemctl: {fault.strerror}") from fault
     return done.status, done.out
-
-
-def done(*words: str) -> bool:
-    """Whether a command went well; what it says is on standard error."""
-    try:
-        return subprocess.run(words, stdin=subprocess.DEVNULL, stdout=2, check=False
-                              ).returncode == 0
-    except OSError:
-        return False
 
 
 def state(room: Room) -> str:

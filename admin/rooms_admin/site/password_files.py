@@ -9,7 +9,8 @@ from grp import getgrnam
 from ..cli.report import Stop
 from ..host import changes, safe
 from ..host.changes import Changes
-from ..room import machine, passwords
+from ..host.commands import printed
+from ..room import passwords
 from ..room.settings import Place
 from .template import Site
 
@@ -138,9 +139,9 @@ def finish(made: Changes, gone: list[str]) -> None:
 
 def _tell_jobs(gone: list[str]) -> None:
     """Such as those that take a guest's password away at a date."""
-    for line in machine.printed(["atq"]).splitlines():
+    for line in printed(["atq"]).splitlines():
         job = line.split("\t")[0]
-        said = machine.printed(["at", "-c", job])
+        said = printed(["at", "-c", job])
         for path in gone:
             if path in said:
                 print(f"the job {job} of at names {path}: type it again, by "

@@ -20,7 +20,7 @@ import time
 from contextlib import ExitStack
 
 from ..cli import report
-from ..host import locks, safe
+from ..host import locks, mail, safe
 from ..room import (backups, copying, health, machine, names, private_server, program, server,
                     settings, tidying)
 from . import expire, people, places
@@ -276,7 +276,7 @@ class Night:
             self.failed(text)
         elif text:
             say(text)
-            report.send(self.room.mail, f"the certificate of rooms on {os.uname().nodename}",
+            mail.notify(self.room.mail, f"the certificate of rooms on {os.uname().nodename}",
                         [text], "warning")
         if self.room.review and self.kept and os.path.exists(f"{self.kept}/review.csv"):
             self.put_review()
@@ -368,7 +368,7 @@ class Night:
 
 def tell(room: Room | None, failures: list[str]) -> None:
     name = room.unit if room else "rooms"
-    report.send(room.mail if room else "",
+    mail.notify(room.mail if room else "",
                 f"{name} on {os.uname().nodename}: the nightly run failed", failures)
 
 

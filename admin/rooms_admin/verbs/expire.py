@@ -9,8 +9,7 @@ import time
 from collections.abc import Iterable
 from dataclasses import dataclass, field
 
-from ..cli import report
-from ..host import locks
+from ..host import locks, mail
 from ..room import backups, dump, members, names, program, server, settings
 from ..room.end_dates import Changed, Ending, ending, is_meant, taken_back
 from ..cli.report import Refused, say
@@ -124,7 +123,7 @@ def nightly(room: Room, lists: str) -> list[str]:
     undone = take_back(room, lists)
     if undone:
         rest = [f"and {len(undone) - MAILED} more"] if len(undone) > MAILED else []
-        report.send(room.mail, f"{room.unit} on {os.uname().nodename}: accesses that should have "
+        mail.notify(room.mail, f"{room.unit} on {os.uname().nodename}: accesses that should have "
                     "ended", undone[:MAILED] + rest, "warning")
     return []
 

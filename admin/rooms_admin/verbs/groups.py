@@ -10,7 +10,7 @@ import os
 from contextlib import ExitStack
 
 from ..cli import report
-from ..host import commands, locks, safe
+from ..host import commands, locks, mail, safe
 from ..room import backups, dump, members, names, server, settings
 from . import people
 from ..site.directory import GROUPS, Directory, NoSuchEntry
@@ -321,6 +321,6 @@ def run(given: argparse.Namespace) -> int:
         for failure in failures:
             say(failure)
         if failures and not (given.dry_run or given.names):
-            report.send(room.mail, f"{room.unit} on {os.uname().nodename}: groups of the directory "
+            mail.notify(room.mail, f"{room.unit} on {os.uname().nodename}: groups of the directory "
                         "failed", failures)
     return status

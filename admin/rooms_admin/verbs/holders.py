@@ -7,7 +7,8 @@ from collections.abc import Iterator
 from dataclasses import dataclass
 
 from ..host import locks
-from ..room import machine, settings
+from ..host.commands import printed
+from ..room import settings
 from . import await_server
 from ..cli.report import Refused
 
@@ -74,17 +75,17 @@ def answers(name: str) -> bool:
 
 
 def shown(unit: str, what: str) -> str:
-    return machine.printed(["systemctl", "show", "-p", what, "--value", unit]).strip()
+    return printed(["systemctl", "show", "-p", what, "--value", unit])
 
 
 def mount_of(file: str) -> tuple[str, str]:
     """Where the file's disk is mounted, and how."""
-    target = machine.printed(["findmnt", "-no", "TARGET", "-T", file]).strip()
-    return target, machine.printed(["findmnt", "-no", "OPTIONS", "-T", file]).strip()
+    target = printed(["findmnt", "-no", "TARGET", "-T", file])
+    return target, printed(["findmnt", "-no", "OPTIONS", "-T", file])
 
 
 def is_immutable(place: str) -> bool:
-    return "i" in machine.printed(["lsattr", "-d", "--", place]).partition(" ")[0]
+    return "i" in printed(["lsattr", "-d", "--", place]).partition(" ")[0]
 
 
 def owner_of(place: str) -> str:

@@ -6,8 +6,7 @@ import re
 import shutil
 import time
 
-from ..cli import report
-from ..host import commands, locks
+from ..host import commands, locks, mail
 from ..room import settings
 from ..cli.report import Refused, Stop, say
 
@@ -69,19 +68,19 @@ def run(given: argparse.Namespace) -> int:
         raise Refused(f"bad arguments: rooms-admin {USAGE}")
     unit = given.words[0]
     result = os.environ.get("MONITOR_SERVICE_RESULT", "")
-    mail = mail_of(named["room"] or "office")
-    if not mail:
+    to = mail_of(named["room"] or "office")
+    if not to:
         return 0
     if not shutil.which("mail"):
         raise Stop(f"no mail program, so nobody is told of {unit}: apt-get install bsd-mailx")
     if result and was_told(unit):
-        say(f"{mail} was told of {unit} less than {QUIET // 3600} hours ago")
+        say(f"{to} was told of {unit} less than {QUIET // 3600} hours ago")
         return 0
     failed = f"failed ({result})" if result else "has a warning"
     lines = journal(unit, os.environ.get("MONITOR_INVOCATION_ID", ""))
     lines += ["", f"systemctl status {unit}"]
-    if not report.mail(mail, f"{unit} on {os.uname().nodename} {failed}", lines):
-        raise Stop(f"the mail to {mail} about {unit} failed")
+    if not mail.deliver(to, f"{unit} on {os.uname().nodename} {failed}", lines):
+        raise Stop(f"the mail to {to} about {unit} failed")
     if result:
         keep_told(unit)
     return 0

@@ -17,7 +17,7 @@ import time
 from contextlib import ExitStack
 
 from ..cli import report
-from ..host import locks, safe
+from ..host import commands, locks, safe
 from ..room import backups, health, machine, program, server, settings
 from . import restore_machine
 from ..cli.report import Interrupted, Refused, Stop, say
@@ -287,7 +287,7 @@ def _start_all(tar: restore_machine.Tar) -> int:
         except (Stop, OSError) as fault:
             say(str(fault))
             failed += 1
-    words = [["reload-or-restart", "nginx"]] if server.done("nginx", "-t") else []
+    words = [["reload-or-restart", "nginx"]] if commands.shown(["nginx", "-t"]) else []
     failed += not words
     words += [["enable", "--now", one] for one in tar.lines("machine/enabled")
               if settings.matches(settings.UNIT, one)]

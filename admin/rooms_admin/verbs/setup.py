@@ -6,11 +6,10 @@ import hashlib
 import os
 import re
 import shutil
-import subprocess
 import tempfile
 from pwd import getpwnam
 
-from ..host import changes, locks
+from ..host import changes, commands, locks
 from ..room import passwords, program as runs, settings
 from ..site import apache, apply, directory, legacy, password_files, template
 from ..host.changes import Changes
@@ -122,14 +121,13 @@ def program(root: str) -> str:
     return f"{above}/bin/rooms" if found else settings.PROGRAM
 
 
-def _pem(path: str, *words: str) -> bytes:
+def _pem(path: str, *words: str) -> str:
     """What openssl says of a file that is text; nothing if it is another one."""
     with open(path, "rb") as source:
         if b"-----BEGIN " not in source.read(1 << 20):
-            return b""
-    done = subprocess.run(["openssl", words[0], "-in", path, *words[1:]], stdin=subprocess.DEVNULL,
-                          capture_output=True, check=False)
-    return done.stdout if done.returncode == 0 else b""
+            return ""
+    done = commands.run(["openssl", words[0], "-in", path, *words[1:]])
+    return done.out if done.status == 0 else ""
 
 
 def _look_at_pair(made: Changes, certificate: str, key: str) -> tuple[str, str]:

@@ -5,11 +5,10 @@ BACKUPS/NAME/standby, and STANDBY gets it by rsync when it is whole."""
 import argparse
 import os
 import shutil
-import subprocess
 from contextlib import ExitStack
 
 from ..cli import report
-from ..host import locks, safe
+from ..host import commands, locks, safe
 from ..room import backups, copying, private_server, program, server, settings
 from ..cli.report import Refused, Stop, say
 from ..room.settings import Room
@@ -91,17 +90,17 @@ def _remove_former(room: Room) -> None:
 
 
 def send(room: Room) -> None:
-    """The time isn't asked, which may have been set back."""
+    """The time isn't asked, which may have been set back. A large room takes as long as its way
+    does; rsync itself ends where that is dead."""
     if not room.standby:
         return
-    done = subprocess.run(
+    done = commands.together(
         ["nice", "rsync", "--ignore-times", "--times", "--perms", "--no-whole-file", "--fsync",
          "--timeout=60", "-e", "ssh -o BatchMode=yes -o ConnectTimeout=10", "--",
          f"{backups.folder(room)}/standby/{room.base}", f"{room.standby}/"],
-        stdin=subprocess.DEVNULL, stdout=subprocess.PIPE, stderr=subprocess.STDOUT, check=False)
-    if done.returncode != 0:
-        raise Stop(f"{room.standby} doesn't get the copy: "
-                   f"{done.stdout.decode(errors='replace').strip()}")
+        None)
+    if done.status != 0:
+        raise Stop(f"{room.standby} doesn't get the copy: {done.out}")
 
 
 def run(given: argparse.Namespace) -> int:

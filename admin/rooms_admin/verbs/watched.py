@@ -13,6 +13,7 @@ import time
 from collections.abc import Callable
 
 from ..host import waiting
+from ..host.commands import printed
 from ..room import backups, health, machine, server, settings
 from ..site import apache, legacy, template
 from . import await_server
@@ -211,7 +212,7 @@ def _dated(name: str) -> float:
 
 
 def _none_yet(room: Room, now: float) -> Finding:
-    said = machine.printed(["stat", "-c", "%W", "--", room.file]).strip()
+    said = printed(["stat", "-c", "%W", "--", room.file])
     if said.isdigit() and now - int(said) < 26 * HOUR:
         return WARNING, f"no backup yet: systemctl start rooms-nightly@{room.name}"
     return CRITICAL, "no good backup"
@@ -232,7 +233,7 @@ def see_groups(room: Room) -> list[Finding]:
 
 def see_timer(room: Room) -> list[Finding]:
     timer = f"rooms-nightly@{room.name}.timer"
-    if machine.printed(["systemctl", "is-active", timer]).strip() == "active":
+    if printed(["systemctl", "is-active", timer]) == "active":
         return []
     return [(WARNING, f"no nightly run is due: systemctl enable --now {timer}")]
 
@@ -306,8 +307,8 @@ def see_directory() -> list[Finding]:
 
 
 def see_units() -> list[Finding]:
-    said = machine.printed(["systemctl", "list-units", "--state=failed", "--plain", "--no-legend",
-                            "rooms*"])
+    said = printed(["systemctl", "list-units", "--state=failed", "--plain", "--no-legend",
+                    "rooms*"])
     failed = [line.split()[0] for line in said.splitlines() if line.split()]
     return [(CRITICAL, f"failed: {' '.join(sorted(failed))}")] if failed else []
 

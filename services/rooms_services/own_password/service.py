@@ -5,11 +5,10 @@ check; the present password is asked for again, and its line is replaced only if
 one that this was checked against."""
 import json
 import os
-import subprocess
 import time
 
 from rooms_admin.cli.report import Refused, Stop, say
-from rooms_admin.host import safe
+from rooms_admin.host import commands, safe
 from rooms_admin.room import names, passwords, published
 
 from ..scgi import Answer, asked, not_understood
@@ -42,12 +41,11 @@ def is_right(hashed: bytes, password: str) -> bool:
     with safe.opened(number):
         safe.write_all(number, b"user:" + hashed + b"\n")
         try:
-            done = subprocess.run(["htpasswd", "-vi", f"/proc/self/fd/{number}", "user"],
-                                  input=f"{password}\n".encode(), stdout=subprocess.DEVNULL,
-                                  stderr=subprocess.DEVNULL, pass_fds=(number,), check=False)
+            done = commands.run(["htpasswd", "-vi", f"/proc/self/fd/{number}", "user"],
+                                f"{password}\n".encode(), pass_fds=(number,))
         except OSError as fault:
             raise Stop(f"no htpasswd: {fault.strerror}") from fault
-    return done.returncode == 0
+    return done.status == 0
 
 
 def _file(room: str) -> str:

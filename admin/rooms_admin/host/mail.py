@@ -1,0 +1,35 @@
+"""Who is told when a verb that nobody looks at has failed."""
+import os
+import shutil
+
+from . import commands
+from ..cli import report
+from ..cli.report import plain, say
+
+
+def deliver(to: str, subject: str, lines: list[str]) -> bool:
+    """What is sent may come from a log that anybody writes: to some mail programs a line that
+    begins with ~ is a command."""
+    parts = plain("\n".join(lines)).split("\n")
+    text = "".join(f" {one}\n" if one.startswith("~") else f"{one}\n" for one in parts)
+    return _hand(["mail", "-s", subject, to], text)
+
+
+def notify(to: str, subject: str, lines: list[str], level: str = "err") -> None:
+    """By mail if possible, otherwise to the system's log. Standard error has it already, which is
+    the log of a unit: one that fails has it sent by OnFailure=, and a warning by the same unit."""
+    if unit := os.environ.get("ROOMS_UNIT"):
+        if level != "err" and to:
+            _hand(["systemctl", "start", "--no-block", f"rooms-tell@{unit}.service"], "")
+        return
+    if to and shutil.which("mail"):
+        if deliver(to, subject, lines):
+            return
+        say(f"mail to {to} failed")
+    if shutil.which("logger"):
+        _hand(["logger", "-p", f"daemon.{level}", "-t", report.prog.replace(" ", "-"), "--",
+               plain("\n".join(lines))], "")
+
+
+def _hand(words: list[str], text: str) -> bool:
+    return commands.shown(words, text.encode(errors="surrogateescape"))
