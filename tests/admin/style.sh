@@ -183,7 +183,7 @@ fi
 needs_starttls() { # URI
   PYTHONPATH=$repo/admin /usr/bin/python3 -c 'import sys
 from rooms_admin.room.settings import Directory
-sys.exit(not Directory(sys.argv[1], *[""] * 7, 1).needs_starttls)' "$1"
+sys.exit(not Directory(uri=sys.argv[1]).needs_starttls)' "$1"
 }
 for uri in ldap://127.a.b.c.example ldap://127.0.0.1.example ldap://localhost.example \
   ldap://dc.example:389; do

@@ -21,8 +21,8 @@ from rooms_admin.room import end_dates, http_client, names, published
 from rooms_admin.verbs import expire, people, places
 from rooms_admin.room.settings import Room
 
-ROOM = Room("/etc/rooms/office.conf", "/f/F", "8780", "", "/b", 0, 0, "", "", "", "", "", "rooms",
-            "/bin/true", "file", "", False, False, "names")
+ROOM = Room(conf="/etc/rooms/office.conf", file="/f/F", port="8780", backups="/b", unit="rooms",
+            program="/bin/true", owner=0, group=0)
 DAY = datetime.date(2027, 6, 1)
 READ = "A:fd:eve:rxtc"
 

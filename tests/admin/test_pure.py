@@ -1,7 +1,10 @@
 """The pure parts: python3 -m unittest test_pure. Black boxes are the parts beside it."""
 import argparse
+import contextlib
+import io
 import os
 import random
+import re
 import subprocess
 import sqlite3
 import tempfile
@@ -11,11 +14,15 @@ from importlib import import_module
 
 from rooms_admin.host import safe
 from rooms_admin.room import names, settings
-from rooms_admin.site import template
+from rooms_admin.host.changes import Changes
+from rooms_admin.site import legacy, template
+from rooms_admin.verbs import add
 from rooms_admin.__main__ import VERBS
 from rooms_admin.cli import manual
 from rooms_admin.cli.report import Refused
 from rooms_admin.room.size import Used
+
+HERE = os.path.dirname(os.path.abspath(__file__))
 
 
 class Names(unittest.TestCase):
@@ -118,6 +125,53 @@ class Settings(unittest.TestCase):
                 os.chdir(before)
 
 
+class Lists(unittest.TestCase):
+    """Where an office finds a list of settings, it has those that are read, and their values."""
+
+    def lines(self, text: str) -> dict[str, str]:
+        return dict(re.findall(r"^([A-Z_]+)=(.*)$", text, re.MULTILINE))
+
+    def test_of_a_room(self) -> None:
+        listed = self.lines(template.template("room.conf.in"))
+        known = settings.known(settings.Room)
+        self.assertEqual(sorted(listed), sorted(known))
+        for name in ("KEEP", "PEOPLE", "OWN_PASSWORDS", "MEMORY", "LIMIT", "REVIEW", "STANDBY"):
+            self.assertEqual(listed[name], known[name], name)
+
+    def test_of_a_room_elsewhere(self) -> None:
+        listed = self.lines(add._text_of("hr", "b.example", "8443", "HR"))
+        self.assertEqual(listed, settings.ELSEWHERE | {"TITLE": "HR", "ON": "b.example"})
+
+    def test_of_the_site(self) -> None:
+        with tempfile.TemporaryDirectory() as root, contextlib.redirect_stdout(io.StringIO()):
+            legacy.put_site(Changes(root, False), "rooms.example", "", "")
+            with open(root + template.SETTINGS, encoding="utf-8") as source:
+                self.assertEqual(self.lines(source.read()), settings.known(settings.Front))
+
+    def test_of_a_directory(self) -> None:
+        with open(f"{HERE}/../../docs/directory.md", encoding="utf-8") as source:
+            page = source.read()
+        text = page.partition("cat >/etc/rooms/directory <<'END'\n")[2].partition("END\n")[0]
+        known = settings.known(settings.Directory)
+        self.assertEqual(sorted(self.lines(text)), sorted(known))
+        rows = re.findall(r"^\| (`[A-Z]+`(?:, `[A-Z]+`)*) \| ", page, re.MULTILINE)
+        self.assertEqual(sorted(re.findall("[A-Z]+", " ".join(rows))), sorted(known))
+
+    def test_each_is_refused_by_its_name(self) -> None:
+        bad = {"FILE": "x", "PORT": "0", "BACKUPS": "x", "KEEP": "-1", "MEMORY": "99",
+               "LIMIT": "0", "STANDBY": "x", "MAIL": "-x", "REVIEW": "/x/", "REVIEWER": "a b",
+               "UNIT": "-x", "PROGRAM": "x", "PASSWORDS": "none", "HOST": "a b", "BEHIND": "no",
+               "SOCKET": "no", "DOOR": "no", "DRIVE": "no", "PEOPLE": "all", "OWN_PASSWORDS": ""}
+        self.assertEqual({*bad, "TITLE"}, set(settings.known(settings.Room)))
+        with tempfile.TemporaryDirectory() as at:
+            place = os.path.join(at, "room.conf")
+            for name, value in bad.items():
+                with open(place, "w", encoding="utf-8") as out:
+                    out.write(f"FILE={at}/F\nBACKUPS={at}\nPROGRAM=/bin/true\n{name}={value}\n")
+                with self.assertRaisesRegex(Refused, f"^bad settings: {name} in .* isn't .*: '"):
+                    settings.room(place)
+
+
 class Safe(unittest.TestCase):
     def test_links_and_others(self) -> None:
         with tempfile.TemporaryDirectory() as place, safe.opened(safe.folder(place)) as at:
@@ -204,11 +258,11 @@ class UsedBytes(unittest.TestCase):
 
 class Sites(unittest.TestCase):
     def test_a_room_is_where_its_settings_say(self) -> None:
-        rooms = [settings.Place("office", "8780", "Office", "file", socket=True, door=True),
-                 settings.Place("hr", "8781", "", "file"),
-                 settings.Place("ledger", "", "", "file", behind=True, socket=True)]
+        rooms = [settings.Place(name="office", port="8780", title="Office", socket=True, door=True),
+                 settings.Place(name="hr", port="8781"),
+                 settings.Place(name="ledger", behind=True, socket=True)]
         text = template.render(template.template("site.conf.in"),
-                               template.Site(settings.Front(["x"], "", ""), rooms, "/page"))
+                               template.Site(settings.Front(hosts=["x"]), rooms, "/page"))
         for line in ("upstream room_office { server unix:/run/rooms/office/socket; }",
                      "upstream room_hr { server 127.0.0.1:8781; }",
                      "upstream room_ledger { server unix:/run/rooms/ledger/socket; }",
@@ -222,11 +276,11 @@ class Sites(unittest.TestCase):
 
     def test_an_edited_file_stays(self) -> None:
         made_of = template.template("site.conf.in")
-        rooms = [settings.Place("office", "8780", "Office", "file"),
-                 settings.Place("hr", "8781", "", "file", host="hr.example")]
+        rooms = [settings.Place(name="office", port="8780", title="Office"),
+                 settings.Place(name="hr", port="8781", host="hr.example")]
 
         def shown(host: str) -> str:
-            front = settings.Front([host], "", "")
+            front = settings.Front(hosts=[host])
             return template.render(made_of, template.Site(front, rooms, "/page"))
 
         text = shown("x.example")

@@ -124,8 +124,8 @@ class Watched(unittest.TestCase):
 
     def test_a_server_that_groups_have_left(self) -> None:
         """Its check says what starts it."""
-        room = settings.Room("/etc/rooms/office.conf", "/f/F", "8780", "", "/b", 0, 0, "", "", "",
-                             "", "", "rooms@office", "/bin/true", "file", "", False, False, "names")
+        room = settings.Room(conf="/etc/rooms/office.conf", file="/f/F", port="8780", owner=0,
+                             group=0, backups="/b", unit="rooms@office", program="/bin/true")
         with tempfile.TemporaryDirectory() as run, \
                 unittest.mock.patch.object(locks, "RUN", run), \
                 unittest.mock.patch.object(watched.await_server, "is_well", return_value=False), \

@@ -1,8 +1,11 @@
 """All files of settings: lines NAME=value, never executed. One reader for all of them."""
+import functools
 import os
 import re
 import stat
-from dataclasses import dataclass, field
+from collections.abc import Callable
+from dataclasses import dataclass, field, fields
+from typing import Any
 
 from ..host import locks
 from .names import is_host, is_user
@@ -63,33 +66,97 @@ def matches(form: str, value: str) -> bool:
 
 
 UNIT = r"[A-Za-z0-9_][A-Za-z0-9:_.@-]*"
+_Form = str | Callable[[str], object]
 
 
-@dataclass
-class Room:
+@dataclass(frozen=True)
+class Setting:
+    """A line NAME=value: its form, what a value that hasn't it is said not to be, its value where
+    the file has no such line, and what is made of the text."""
+    name: str
+    form: _Form
+    what: str
+    default: str
+    reads: Callable[[str], Any]
+
+    def of(self, path: str, text: str) -> Any:
+        fits = matches(self.form, text) if isinstance(self.form, str) else self.form(text)
+        need(fits, path, self.name, self.what, text)
+        return self.reads(text)
+
+
+def setting(name: str, form: _Form = lambda _: True, what: str = "", default: str = "",
+            reads: Callable[[str], Any] = str) -> Any:
+    """A field of a record that a line of a file gives."""
+    return field(default_factory=functools.partial(reads, default),
+                 metadata={"setting": Setting(name, form, what, default, reads)})
+
+
+def yes(name: str) -> Any:
+    return setting(name, r"(yes)?", "yes, or empty", reads=lambda text: text == "yes")
+
+
+def of_kind(kind: type) -> dict[str, Setting]:
+    """The settings of a record, by its fields."""
+    return {one.name: one.metadata["setting"] for one in fields(kind) if "setting" in one.metadata}
+
+
+def known(kind: type) -> dict[str, str]:
+    """The names of a file's lines, and the values of those that lack."""
+    return {one.name: one.default for one in of_kind(kind).values()}
+
+
+def given(kind: type, path: str, got: dict[str, str]) -> dict[str, Any]:
+    """The fields of a record that a file's lines give."""
+    return {name: one.of(path, got[one.name]) for name, one in of_kind(kind).items()
+            if one.name in got}
+
+
+def _is_absolute(text: str) -> bool:
+    return text.startswith("/")
+
+
+def _is_folder_of_room(text: str) -> bool:
+    return text in ("", "/") or text.startswith("/") and not text.endswith("/")
+
+
+@dataclass(kw_only=True)
+class Reached:
+    """How a room is reached: what nginx's file has to know of it."""
+    port: str = setting("PORT", r"([1-9][0-9]{0,4})?", "a port")
+    title: str = setting("TITLE")
+    passwords: str = setting("PASSWORDS", r"(file|directory|session)?",
+                             "file, directory or session", reads=lambda text: text or "file")
+    host: str = setting("HOST", lambda text: not text or is_host(text), "a host's name")
+    behind: bool = yes("BEHIND")
+    socket: bool = yes("SOCKET")
+    door: bool = yes("DOOR")
+    drive: bool = yes("DRIVE")
+    own_passwords: bool = setting("OWN_PASSWORDS", r"yes|no", "yes or no", "yes",
+                                  lambda text: text == "yes")
+
+
+@dataclass(kw_only=True)
+class Room(Reached):
+    """A room of this machine. `owner` and `group` are whose its folder is."""
     conf: str
-    file: str
-    port: str
-    title: str
-    backups: str
-    keep: int
-    memory: int
-    limit: str
-    standby: str
-    mail: str
-    review: str
-    reviewer: str
-    unit: str
-    program: str
-    passwords: str
-    host: str
-    behind: bool
-    socket: bool
-    people: str
-    folder: str = field(init=False)
-    base: str = field(init=False)
-    owner: int = field(init=False)
-    group: int = field(init=False)
+    owner: int
+    group: int
+    file: str = setting("FILE", _is_absolute, "an absolute path")
+    backups: str = setting("BACKUPS", _is_absolute, "an absolute path")
+    program: str = setting("PROGRAM", _is_absolute, "an absolute path", PROGRAM)
+    keep: int = setting("KEEP", r"0|[1-9][0-9]{0,5}", "a number", "30", int)
+    memory: int = setting("MEMORY", r"([1-9][0-9]{2,6})?", "a number of megabytes, 100 or more",
+                          reads=lambda text: int(text or 0))
+    limit: str = setting("LIMIT", r"([1-9][0-9]{0,6}|none)?",
+                         "a number of megabytes, 1 or more, or none")
+    standby: str = setting("STANDBY", r"(([A-Za-z0-9_][A-Za-z0-9_.@-]*:)?/[^:]*)?",
+                           "a folder or HOST:FOLDER")
+    unit: str = setting("UNIT", UNIT, "the name of a unit")
+    mail: str = setting("MAIL", r"([^-].*)?", "an address")
+    people: str = setting("PEOPLE", r"full|names|no", "full, names or no", "names")
+    review: str = setting("REVIEW", _is_folder_of_room, "a folder of the room")
+    reviewer: str = setting("REVIEWER", lambda text: not text or is_user(text), "a user's name")
 
     def __post_init__(self) -> None:
         self.folder, self.base = os.path.split(self.file)
@@ -118,11 +185,31 @@ class Room:
         return flag(self.name, self.socket, self.port)
 
 
-_ROOM = {"FILE": "", "PORT": "", "TITLE": "", "BACKUPS": "", "KEEP": "30", "MEMORY": "",
-         "LIMIT": "", "STANDBY": "", "MAIL": "", "REVIEW": "", "REVIEWER": "", "UNIT": "",
-         "PROGRAM": PROGRAM, "PASSWORDS": "", "HOST": "", "BEHIND": "", "SOCKET": "",
-         "DOOR": "", "DRIVE": "", "PEOPLE": "names", "OWN_PASSWORDS": "yes"}
-_YES = "yes, or empty"
+@dataclass(kw_only=True)
+class Place(Reached):
+    """What nginx needs of a room, here or on the machine ON. With `keeps` its file of passwords is
+    the keeper's."""
+    name: str
+    on: str = setting("ON", is_host, "a host's name")
+
+    def __post_init__(self) -> None:
+        self.door, self.drive = self.door and self.socket, self.drive and self.socket
+        self.keeps = self.own_passwords and not self.behind
+
+    @property
+    def own(self) -> bool:
+        """Whether its users change their own passwords."""
+        return self.keeps and self.passwords == "file"
+
+    @property
+    def flag(self) -> str:
+        return flag(self.name, self.socket, self.port)
+
+
+# The lines of a file NAME.on.
+ELSEWHERE = {one.name: one.default for one in of_kind(Place).values()
+             if one.name in ("TITLE", "ON", "PORT", "PASSWORDS", "OWN_PASSWORDS")}
+ELSEWHERE["PORT"] = "8443"
 
 
 def flag(name: str, socket: bool, port: str) -> str:
@@ -147,103 +234,43 @@ def named(words: list[str], usage: str) -> "Room":
 
 def room(word: str = "") -> Room:
     path = file_of(word)
-    got = values(path, _ROOM)
+    got = values(path, known(Room))
     got["UNIT"] = got["UNIT"] or "rooms@" + os.path.basename(path).removesuffix(".conf")
-    for name in ("FILE", "BACKUPS", "PROGRAM"):
-        need(got[name].startswith("/"), path, name, "an absolute path", got[name])
-    for name, form, what in (
-            ("PORT", r"([1-9][0-9]{0,4})?", "a port"),
-            ("KEEP", r"0|[1-9][0-9]{0,5}", "a number"),
-            ("MEMORY", r"([1-9][0-9]{2,6})?", "a number of megabytes, 100 or more"),
-            ("LIMIT", r"([1-9][0-9]{0,6}|none)?", "a number of megabytes, 1 or more, or none"),
-            ("STANDBY", r"(([A-Za-z0-9_][A-Za-z0-9_.@-]*:)?/[^:]*)?", "a folder or HOST:FOLDER"),
-            ("UNIT", UNIT, "the name of a unit"),
-            ("MAIL", r"([^-].*)?", "an address"),
-            ("PEOPLE", r"full|names|no", "full, names or no")):
-        need(matches(form, got[name]), path, name, what, got[name])
-    check_place(path, got)
+    read = given(Room, path, got)
+    _look_at_door(path, got)
     if got["REVIEW"] or got["REVIEWER"]:
-        need(got["REVIEW"] == "/" or (got["REVIEW"].startswith("/")
-                                      and not got["REVIEW"].endswith("/")),
-             path, "REVIEW", "a folder of the room", got["REVIEW"])
-        need(is_user(got["REVIEWER"]), path, "REVIEWER", "a user's name", got["REVIEWER"])
-        need(got["PORT"] or got["SOCKET"] == "yes", path, "PORT", "set, which REVIEW needs", "")
-    found = Room(path, got["FILE"], got["PORT"], got["TITLE"], got["BACKUPS"], int(got["KEEP"]),
-                 int(got["MEMORY"] or 0), got["LIMIT"], got["STANDBY"], got["MAIL"], got["REVIEW"],
-                 got["REVIEWER"], got["UNIT"], got["PROGRAM"], got["PASSWORDS"] or "file",
-                 got["HOST"], got["BEHIND"] == "yes", got["SOCKET"] == "yes",
-                 got["PEOPLE"])
-    if not (os.path.isfile(found.program) and os.access(found.program, os.X_OK)):
-        raise Refused(f"no program: {found.program}, of {path}, isn't there or can't be run")
+        need(got["REVIEW"], path, "REVIEW", "a folder of the room", "")
+        need(got["REVIEWER"], path, "REVIEWER", "a user's name", "")
+        need(got["PORT"] or got["SOCKET"], path, "PORT", "set, which REVIEW needs", "")
+    if not (os.path.isfile(got["PROGRAM"]) and os.access(got["PROGRAM"], os.X_OK)):
+        raise Refused(f"no program: {got['PROGRAM']}, of {path}, isn't there or can't be run")
+    folder = os.path.dirname(got["FILE"])
     try:
-        seen = os.stat(found.folder)
+        seen = os.stat(folder)
     except OSError:
-        raise Refused(f"no folder: {found.folder}, of FILE in {path}, isn't there") from None
-    found.owner, found.group = seen.st_uid, seen.st_gid
-    if os.geteuid() not in (0, found.owner):
-        raise Refused(f"not root: {found.folder} belongs to another user")
-    return found
+        raise Refused(f"no folder: {folder}, of FILE in {path}, isn't there") from None
+    if os.geteuid() not in (0, seen.st_uid):
+        raise Refused(f"not root: {folder} belongs to another user")
+    return Room(conf=path, owner=seen.st_uid, group=seen.st_gid, **read)
 
 
 def is_port(text: str) -> bool:
     return matches(r"[1-9][0-9]{0,4}", text) and int(text) <= 65535
 
 
-def check_place(path: str, got: dict[str, str]) -> None:
-    """How a room is reached: what nginx's file has to know of it."""
-    need(got["PASSWORDS"] in ("", "file", "directory", "session"), path, "PASSWORDS",
-         "file, directory or session", got["PASSWORDS"])
-    need(not got["HOST"] or is_host(got["HOST"]), path, "HOST", "a host's name", got["HOST"])
-    need(got["OWN_PASSWORDS"] in ("yes", "no"), path, "OWN_PASSWORDS", "yes or no",
-         got["OWN_PASSWORDS"])
-    for name in ("BEHIND", "SOCKET", "DOOR", "DRIVE"):
-        need(got[name] in ("", "yes"), path, name, _YES, got[name])
+def _look_at_door(path: str, got: dict[str, str]) -> None:
     need(got["DOOR"] or not got["DRIVE"], path, "DOOR", "yes, which DRIVE needs", "")
-
-
-@dataclass
-class Place:
-    """What nginx needs of a room, here or on the machine ON. With `keeps` its file of passwords is
-    the keeper's."""
-    name: str
-    port: str
-    title: str
-    passwords: str
-    host: str = ""
-    behind: bool = False
-    socket: bool = False
-    on: str = ""
-    door: bool = False
-    drive: bool = False
-    keeps: bool = False
-
-    @property
-    def own(self) -> bool:
-        """Whether its users change their own passwords."""
-        return self.keeps and self.passwords == "file"
-
-    @property
-    def flag(self) -> str:
-        return flag(self.name, self.socket, self.port)
 
 
 def place(path: str) -> Place:
     name, kind = os.path.splitext(os.path.basename(path))
-    if kind == ".on":
-        got = values(path, {"TITLE": "", "ON": "", "PORT": "8443", "PASSWORDS": "",
-                            "OWN_PASSWORDS": "yes"})
-        need(is_host(got["ON"]), path, "ON", "a host's name", got["ON"])
-        got |= {"HOST": "", "BEHIND": "", "SOCKET": "", "DOOR": "", "DRIVE": ""}
-    else:
-        got = values(path, _ROOM)
-    check_place(path, got)
-    need(is_port(got["PORT"]) or (got["SOCKET"] == "yes" and not got["PORT"]), path, "PORT",
+    got = values(path, ELSEWHERE if kind == ".on" else known(Room))
+    read = given(Place, path, got)
+    if kind != ".on":
+        _look_at_door(path, got)
+    need(is_port(got["PORT"]) or (got.get("SOCKET") == "yes" and not got["PORT"]), path, "PORT",
          "a port", got["PORT"])
-    return Place(name, got["PORT"], got["TITLE"], got["PASSWORDS"] or "file", got["HOST"],
-                 got["BEHIND"] == "yes", got["SOCKET"] == "yes", got.get("ON", ""),
-                 got["SOCKET"] == "yes" and got["DOOR"] == "yes",
-                 got["SOCKET"] == "yes" and got["DRIVE"] == "yes",
-                 got["OWN_PASSWORDS"] == "yes" and got["BEHIND"] != "yes")
+    return Place(name=name, **read)
 
 
 def value(path: str, name: str) -> str:
@@ -255,38 +282,49 @@ def value(path: str, name: str) -> str:
     return found[-1].partition("=")[2] if found else ""
 
 
-@dataclass
+_SAFE = r"(/[-A-Za-z0-9._/+@,=:]+)?"
+_SAFE_PATH = "an absolute path of A-Z a-z 0-9 - . _ / + @ , = :"
+
+
+def _are_hosts(text: str) -> bool:
+    hosts = text.split()
+    return bool(hosts) and all(is_host(one) or matches(r"\[?[0-9a-f.:]+\]?", one)
+                               for one in hosts)
+
+
+@dataclass(kw_only=True)
 class Front:
     """The site itself: its names, and its certificate if it has one."""
-    hosts: list[str]
-    certificate: str
-    key: str
+    hosts: list[str] = setting("HOSTS", _are_hosts, "names of hosts", "rooms.example", str.split)
+    certificate: str = setting("CERTIFICATE", _SAFE, _SAFE_PATH)
+    key: str = setting("KEY", _SAFE, _SAFE_PATH)
 
 
 def front(path: str) -> Front:
-    got = values(path, {"HOSTS": "rooms.example", "CERTIFICATE": "", "KEY": ""})
-    hosts = got["HOSTS"].split()
-    need(hosts and all(is_host(one) or matches(r"\[?[0-9a-f.:]+\]?", one) for one in hosts), path,
-         "HOSTS", "names of hosts", got["HOSTS"])
-    for name in ("CERTIFICATE", "KEY"):
-        need(matches(r"(/[-A-Za-z0-9._/+@,=:]+)?", got[name]), path, name,
-             "an absolute path of A-Z a-z 0-9 - . _ / + @ , = :", got[name])
-    if bool(got["CERTIFICATE"]) != bool(got["KEY"]):
+    found = Front(**given(Front, path, values(path, known(Front))))
+    if bool(found.certificate) != bool(found.key):
         raise Refused(f"bad settings: CERTIFICATE and KEY in {path} need one another")
-    return Front(hosts, got["CERTIFICATE"], got["KEY"])
+    return found
 
 
-@dataclass
+_PLAIN = r"(/[-A-Za-z0-9._/]+)?"
+_PLAIN_PATH = "an absolute path of A-Z a-z 0-9 - . _ /"
+
+
+@dataclass(kw_only=True)
 class Directory:
-    uri: str
-    base: str
-    bind: str
-    secret: str
-    ca: str
-    name: str
-    users: str
-    members: str
-    wait: int
+    uri: str = setting("URI", r"ldaps?://([A-Za-z0-9.-]+|\[[0-9a-fA-F:]+\])(:[0-9]{1,5})?/?",
+                       "an address such as ldaps://dc.office.example")
+    base: str = setting("BASE", r"[^\0-\x1f]*=[^\0-\x1f]*", "a name such as dc=office,dc=example")
+    name: str = setting("NAME", r"[A-Za-z][A-Za-z0-9-]*", "an attribute such as uid", "uid")
+    users: str = setting("USERS", r"\([^\0-\x1f]*\)", "a filter such as (objectClass=person)",
+                         "(objectClass=person)")
+    members: str = setting("MEMBERS", r"memberOf|member|memberUid",
+                           "memberOf, member or memberUid", "memberOf")
+    wait: int = setting("WAIT", r"[1-9][0-9]{0,3}", "a number of seconds", "30", int)
+    bind: str = setting("BIND", r'[^\0-\x1f"$]*', 'a name without " and $')
+    secret: str = setting("SECRET", _PLAIN, _PLAIN_PATH)
+    ca: str = setting("CA", _PLAIN, _PLAIN_PATH)
 
     @property
     def needs_starttls(self) -> bool:
@@ -303,34 +341,16 @@ def is_this_machine(host: str) -> bool:
     return host == "localhost" or matches(r"127(\.[0-9]{1,3}){1,3}", host)
 
 
-_DIRECTORY = {"URI": "", "BASE": "", "BIND": "", "SECRET": "", "CA": "", "NAME": "uid",
-              "USERS": "(objectClass=person)", "MEMBERS": "memberOf", "WAIT": "30"}
-
-
 def directory(path: str) -> Directory:
-    got = values(path, _DIRECTORY)
-    host = r"([A-Za-z0-9.-]+|\[[0-9a-fA-F:]+\])"
-    for name, form, what in (
-            ("URI", rf"ldaps?://{host}(:[0-9]{{1,5}})?/?",
-             "an address such as ldaps://dc.office.example"),
-            ("BASE", r"[^\0-\x1f]*=[^\0-\x1f]*", "a name such as dc=office,dc=example"),
-            ("NAME", r"[A-Za-z][A-Za-z0-9-]*", "an attribute such as uid"),
-            ("USERS", r"\([^\0-\x1f]*\)", "a filter such as (objectClass=person)"),
-            ("MEMBERS", r"memberOf|member|memberUid", "memberOf, member or memberUid"),
-            ("WAIT", r"[1-9][0-9]{0,3}", "a number of seconds"),
-            ("BIND", r'[^\0-\x1f"$]*', 'a name without " and $'),
-            ("SECRET", r"(/[-A-Za-z0-9._/]+)?", "an absolute path of A-Z a-z 0-9 - . _ /"),
-            ("CA", r"(/[-A-Za-z0-9._/]+)?", "an absolute path of A-Z a-z 0-9 - . _ /")):
-        need(matches(form, got[name]), path, name, what, got[name])
-    for name in ("SECRET", "CA"):
-        if got[name] and not (os.path.isfile(got[name]) and os.path.getsize(got[name])):
-            raise Refused(f"no file: {got[name]}, of {name} in {path}, isn't there")
-    if bool(got["BIND"]) != bool(got["SECRET"]):
+    found = Directory(**given(Directory, path, values(path, known(Directory))))
+    for name, file in (("SECRET", found.secret), ("CA", found.ca)):
+        if file and not (os.path.isfile(file) and os.path.getsize(file)):
+            raise Refused(f"no file: {file}, of {name} in {path}, isn't there")
+    if bool(found.bind) != bool(found.secret):
         raise Refused(f"bad settings: BIND and SECRET in {path} need one another")
-    if got["SECRET"] and os.stat(got["SECRET"]).st_mode & 0o077:
-        raise Refused(f"not secret: others can read {got['SECRET']}: chmod 600 {got['SECRET']}")
-    return Directory(got["URI"], got["BASE"], got["BIND"], got["SECRET"], got["CA"], got["NAME"],
-                     got["USERS"], got["MEMBERS"], int(got["WAIT"]))
+    if found.secret and os.stat(found.secret).st_mode & 0o077:
+        raise Refused(f"not secret: others can read {found.secret}: chmod 600 {found.secret}")
+    return found
 
 
 def groups(path: str) -> tuple[dict[str, str], int]:

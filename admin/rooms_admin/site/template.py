@@ -74,7 +74,7 @@ def gather(root: str) -> Site:
             raise Refused(f"bad name: {path}: /{word} belongs to the site itself")
         rooms.append(settings.place(path))
     front = (settings.front(root + SETTINGS) if os.path.exists(root + SETTINGS)
-             else Front(["rooms.example"], "", ""))
+             else Front())
     found = Site(front, rooms, os.path.join(share(root), "page"))
     _check(found, folder)
     return found
