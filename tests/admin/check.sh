@@ -93,9 +93,9 @@ words=()
 checks 'a room that is well' 0 'rooms OK - office: answers, nginx answers, ' \
   ' of 384 MB in use, last good backup 1 h ago'
 holds 'nginx was asked for the room' grep -qx "127.0.0.1:$(<front.port) /can/?" front.asked
-words=(office)
+words=(-r office)
 checks 'by its name' 0 'rooms OK - office: '
-words=("$PWD/root/etc/rooms/office.conf")
+words=(--room "$PWD/root/etc/rooms/office.conf")
 checks 'by its settings' 0 'rooms OK - office: '
 words=()
 tree() {
@@ -292,7 +292,7 @@ rm "root/etc/systemd/system/timers.target.wants/$timer"
 sed 's/^UNIT=.*/UNIT=rooms@other/; s/^PORT=.*/PORT=much/' root/etc/rooms/office.conf \
   >root/etc/rooms/other.conf
 checks 'settings with a mistake' 2 "bad settings: PORT in $PWD/root/etc/rooms/other.conf"
-words=(office)
+words=(-r office)
 checks 'the room beside it' 0 'rooms OK - office'
 words=()
 rm root/etc/rooms/other.conf
@@ -317,7 +317,7 @@ echo none >root/etc/ssl/rooms.pem
 checks 'one that is none' 2 "the certificate /etc/ssl/rooms.pem can't be used"
 if [ "$(id -u)" = 0 ]; then
   nightly() { # NAME STATUS TEXT
-    verb backup "$PWD/root/etc/rooms/office.conf"
+    verb backup --room "$PWD/root/etc/rooms/office.conf"
     says "$@"
   }
   settings MAIL=root
@@ -385,7 +385,7 @@ unset MONITOR_SERVICE_RESULT
 for word in '' 'rooms-nightly@office.service x' '../x' 'rooms@../x.service' cron.service; do
   # shellcheck disable=SC2086
   tells $word
-  told "the unit '$word'" 2 'bad arguments: rooms-admin tell UNIT'
+  told "the unit '$word'" 2 'bad arguments: '
 done
 settings
 

@@ -55,11 +55,11 @@ offers() { # NAME WANTED WORD ..
 : >latest.tar
 offers 'a part of an option' '--dry-run' rooms-add --dr
 offers 'an option behind another one' '--on' rooms-add --title x --on
-offers 'a file of settings' conf rooms-nightly con
-offers 'a file of settings behind a verb' conf rooms-admin backup con
+offers 'a file of settings' conf rooms-nightly --room con
+offers 'a file of settings behind a verb' conf rooms-admin backup -r con
 offers 'a part of a verb' standby rooms-admin stan
-offers 'a file behind an option' conf rooms-get --conf con
-offers 'a file behind an option of a verb' conf rooms-admin get --conf con
+offers 'a file behind an option' conf rooms-get --room con
+offers 'a file behind an option of a verb' conf rooms-admin get --room con
 offers 'the last backup, or a file' 'latest latest.tar' rooms-restore lat
 offers 'the last backup, or a file, of a verb' 'latest latest.tar' rooms-admin restore lat
 offers 'the way back from a directory' none rooms-setup --directory no
@@ -69,3 +69,6 @@ offers 'nor is a user of a room' '' rooms-import --as con
 offers 'a user of the machine' root rooms-doctor --user roo
 offers 'the same of the verb' root rooms-admin doctor --user roo
 offers 'what is done with a user' remove rooms-admin user re
+offers 'a name of a user is not known' '' rooms-admin user add con
+offers 'a room of a user' conf rooms-admin user add eve --room con
+offers 'a backup that goes out' 'latest latest.tar' rooms-admin export --backup lat

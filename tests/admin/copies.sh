@@ -12,7 +12,7 @@ setting UNIT rooms@kept
 as_user "$rooms" init "$PWD/office/F" alice staff >"$work/out"
 printf '%s\n' list:a "A:fd:alice:$ALL" | as_user "$rooms" reset "$PWD/office/F" / dacl >"$work/out"
 starts
-night() { verb backup "$PWD/office.conf"; }
+night() { verb backup --room "$PWD/office.conf"; }
 asks 'a document' made PUT /doc/f alice hello
 
 # A program that says as whom and where it runs, and waits at a word until somebody has seen that.
@@ -38,7 +38,7 @@ verb add --destdir "$PWD/machine" kept
 told 'a further room' 0 'file /etc/rooms/kept.conf'
 settings=$(cksum machine/etc/rooms/kept.conf machine/etc/nginx/sites-available/rooms)
 : >wait-verify
-PATH=$stand/bin:$PATH "$repo/admin/rooms-admin" backup "$PWD/office.conf" >night.said 2>&1 \
+PATH=$stand/bin:$PATH "$repo/admin/rooms-admin" backup --room "$PWD/office.conf" >night.said 2>&1 \
   </dev/null &
 running=$!
 until [ -s reading ] || [ ! -d "/proc/$running" ]; do sleep 0.05; done
@@ -81,12 +81,12 @@ lies_on_disk() { # NAME FOLDER WORD: where the copy was when the program ran on 
 }
 night=$(echo backups/office/2*)
 : >ran
-elsewhere get --conf "$PWD/office.conf" latest /f
+elsewhere get --room "$PWD/office.conf" latest /f
 lies_on_disk get rooms-get get
-elsewhere export --backup --conf "$PWD/office.conf" latest / "$PWD/out"
+elsewhere export --room "$PWD/office.conf" --backup latest / "$PWD/out"
 lies_on_disk 'export --backup' rooms-get dump
 mv "$night/review.csv" .
-elsewhere mine "$PWD/office.conf"
+elsewhere mine --room "$PWD/office.conf"
 lies_on_disk 'mine without a review' rooms-get review
 mv review.csv "$night/"
 unit stop
@@ -100,12 +100,12 @@ if [ "$(id -u)" != 0 ] || [ "$STAND_USER" = 0 ]; then
 fi
 # The program never works on a backup itself, wherever that is.
 : >ran
-elsewhere backup "$PWD/office.conf"
+elsewhere backup --room "$PWD/office.conf"
 for word in audit dump review; do
   holds "backup, $word: its copy lies on a disk" grep -q " /var/tmp/rooms-get\.[^ ]* $word " ran
 done
 lies_on_disk backup rooms-get verify
-elsewhere standby "$PWD/office.conf"
+elsewhere standby --room "$PWD/office.conf"
 lies_on_disk standby rooms-get verify
 # What a killed run has left in /var/tmp goes with the next one.
 mkdir -m 1777 tmp
@@ -136,7 +136,7 @@ if mkdir small && mount -t tmpfs -o size=1m,mode=1777 none small 2>/dev/null; th
   told 'no space for a private copy' 1 \
     "the backup can't be copied to $PWD/small: No space left on device"
   holds 'is no backup' [ -z "$(ls backups/office)" ]
-  TMPDIR=$PWD/small verb standby "$PWD/office.conf"
+  TMPDIR=$PWD/small verb standby --room "$PWD/office.conf"
   told 'nor a standby copy' 1 "the disk of $PWD/small/"
   holds 'and nothing is left there' [ "$(ls small)" = filler ]
   unit_runs 'no space for a private copy: the server runs'

@@ -53,7 +53,7 @@ where() {
 }
 where >directory
 asked() { printf '%s\n' "$@" >office.groups; }
-brings() { verb groups "$@" "$PWD/office.conf"; }
+brings() { verb groups "$@" --room "$PWD/office.conf"; }
 members() { as_user "$rooms" groups-out "$PWD/office/F" >got; }
 stopped() { unit stop; members; unit start; }
 new_office() {
@@ -142,7 +142,7 @@ has_members 'is done' "${all[@]}"
 # room, and the next one needn't.
 back_up 2020-01-02.030000
 unit stop
-verb restore --conf "$PWD/office.conf" 2020-01-01.030000
+verb restore --room "$PWD/office.conf" 2020-01-01.030000
 says 'a restore' 0 'restored '
 unit start
 brings --dry-run
@@ -158,7 +158,7 @@ holds 'and the next run has nothing to do' [ "$status" = 0 -a ! -s "$work/out" ]
 holds 'for which it stops nothing' eval '! was_stopped'
 # What is refused after a restore is read from the room once.
 unit stop
-verb restore --conf "$PWD/office.conf" 2020-01-01.030000
+verb restore --room "$PWD/office.conf" 2020-01-01.030000
 says 'another restore' 0 'restored '
 unit start
 asked 'MOST=0' 'group staff = staff'
@@ -382,7 +382,7 @@ brings
 says 'a server that does not start' 1 "doesn't start"
 holds 'is in a mail' grep -qF -e "rooms doesn't start" "$stand/messages"
 rm "$stand/no-start"
-verb groups --after "$PWD/office.conf"
+verb groups --after --room "$PWD/office.conf"
 says 'is started after it' 1 'interrupted'
 holds 'which is in a mail' \
   grep -qF -e 'interrupted: a run that had stopped rooms was cut off' "$stand/messages"
@@ -406,7 +406,7 @@ for how in TERM KILL; do
     asked 'MOST=9' "group staff = $group"
     cut_off "$how" "$number" brings || break
     unit_goes_on "$name"
-    verb groups --after "$PWD/office.conf"
+    verb groups --after --room "$PWD/office.conf"
     unit_runs "$name, and after"
     holds "$name: nothing is owed" [ -z "$(ls run)" ]
     holds "$name: nothing is left in the folder" [ -z "$(ls office | grep groups)" ]

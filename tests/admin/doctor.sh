@@ -56,9 +56,12 @@ well() { # NAME
   told "$1" 0 "nothing is wrong: $user can open $file, and it is sound"
 }
 
-"$repo/admin/rooms-admin" doctor >"$work/out" 2>"$work/err"
+ROOMS_SETTINGS=$PWD/settings "$repo/admin/rooms-admin" doctor >"$work/out" 2>"$work/err"
 status=$?
-told 'without a file' 2 'bad arguments: rooms-admin doctor'
+told 'without a file, and without settings' 2 "no settings: $PWD/settings/office.conf can't be read"
+"$repo/admin/rooms-admin" doctor --room office F >"$work/out" 2>"$work/err"
+status=$?
+told 'a file and a room' 2 'bad arguments: FILE and --room both say which room it is'
 "$repo/admin/rooms-admin" doctor --paint x F >"$work/out" 2>"$work/err"
 status=$?
 told 'an option that is none' 2 'no such option: --paint'

@@ -55,7 +55,7 @@ kill -KILL "$(cat "$stand/pid")"
 night
 says 'a server that does not start' 1 "doesn't start"
 rm "$stand/no-start"
-verb backup --after "$PWD/conf"
+verb backup --after --room "$PWD/conf"
 says 'is started after it' 1 'interrupted'
 unit_runs 'a second start'
 rm -rf backups/conf/*
@@ -129,7 +129,7 @@ printf '%s\n' "# /dev/none $PWD/backups ext4 noauto 0 0" 'proc /proc proc defaul
 night
 holds 'disks that have nothing to do with it' [ "$status" = 0 ]
 rm root/etc/fstab
-verb backup "$PWD/nothing"
+verb backup --room "$PWD/nothing"
 refused 'no settings' 'no settings'
 verb backup --other
 says 'an unknown word' 2 'bad arguments'
@@ -165,7 +165,7 @@ for how in TERM KILL; do
     rm -rf backups/conf/*
     cut_off "$how" "$number" night || break
     unit_goes_on "$name"
-    verb backup --after "$PWD/conf"
+    verb backup --after --room "$PWD/conf"
     unit_runs "$name, and after"
     for copy in backups/conf/*; do
       case $copy in

@@ -15,7 +15,7 @@ write_conf() { # LIMIT
 }
 fulls() { # WORD ..
   PATH=$PWD/bin:$PATH ROOMS_RUN=$PWD/run timeout "$patience" "$repo/admin/rooms-admin" full "$@" \
-    "$PWD/conf" </dev/null >"$work/out" 2>"$work/err"
+    --room "$PWD/conf" </dev/null >"$work/out" 2>"$work/err"
   status=$?
 }
 megabytes() { # USER PLACE COUNT: that many documents of 1 MiB, in one connection
@@ -105,7 +105,7 @@ flag=run/rooms-full/127.0.0.1:$port
 watcher=
 watch() {
   write_conf "$1"
-  PATH=$PWD/bin:$PATH ROOMS_RUN=$PWD/run "$repo/admin/rooms-admin" full "$PWD/conf" \
+  PATH=$PWD/bin:$PATH ROOMS_RUN=$PWD/run "$repo/admin/rooms-admin" full --room "$PWD/conf" \
     </dev/null 2>>watched &
   watcher=$!
 }

@@ -29,7 +29,7 @@ while IFS= read -r name; do printf x >"tree/$name"; done <names
 printf x >'tree/folder/ below '
 start_server F 100000 || return
 room=http://127.0.0.1:$port
-LC_ALL=C.UTF-8 "$repo/admin/rooms-admin" import --replace --as bob "$room" tree /bobs \
+LC_ALL=C.UTF-8 "$repo/admin/rooms-admin" import --replace --as bob --room "$room" tree /bobs \
   >said 2>&1 </dev/null
 holds "documents of bob: $(tail -n 1 said)" grep -q 'left out 0' said
 asked 201 alice PUT /doc/dans x
@@ -52,18 +52,19 @@ asked 204 alice DELETE /object/bobs/plan
 asked 204 alice PUT /attr/bobs/Plan '{"owner":"carol","group":"staff"}'
 
 hands
-told 'without arguments' 2 'bad arguments: rooms-admin handover'
-hands --as alice "$room" lists bob bob
+told 'without arguments' 2 \
+  'bad arguments: the following arguments are required: LISTS, FROM, TO; rooms-admin handover'
+hands --as alice --room "$room" lists bob bob
 told 'to the same user' 2 'bob would give to bob'
-hands --as alice "$room" lists 'b ob' alice
+hands --as alice --room "$room" lists 'b ob' alice
 told 'a name that is none' 2 "'b ob' isn't the name of a user"
-hands --as alice "$room" none bob alice
+hands --as alice --room "$room" none bob alice
 told 'no lists' 2 "no lists: none isn't a file that can be read"
-hands --as alice "$room" names bob alice
+hands --as alice --room "$room" names bob alice
 told 'another text' 2 "no lists: names doesn't begin as what rooms dump prints"
-hands --as alice --paint "$room" lists bob alice
+hands --as alice --paint --room "$room" lists bob alice
 told 'an option that is none' 2 'no such option'
-hands --as alice http://127.0.0.1:1 lists bob alice
+hands --as alice --room http://127.0.0.1:1 lists bob alice
 told 'a room that is not there' 1 'no reply'
 
 stop_server
@@ -71,7 +72,7 @@ dumped >before
 start_server F 100000 || return
 room=http://127.0.0.1:$port
 count=$(grep -ac '^\(document\|folder\) bob ' lists)
-hands --dry-run --as alice "$room" lists bob alice
+hands --dry-run --as alice --room "$room" lists bob alice
 told 'what would be done' 1 "would be given $((count - 3)), of others by now 1, left out 2" \
   "would: /bobs/plan\\ "
 holds 'each has a line' [ "$(grep -c '^would: ' "$work/out")" = $((count - 3)) ]
@@ -81,16 +82,16 @@ same 'changes nothing' after before
 
 start_server F 100000 || return
 room=http://127.0.0.1:$port
-hands --log log --as eve "$room" lists bob alice
+hands --log log --as eve --room "$room" lists bob alice
 told 'a stranger' 1 'given 0, of others by now 0,' '403'
-hands --log log2 --as alice "$room" lists bob alice
+hands --log log2 --as alice --room "$room" lists bob alice
 told 'all that is his' 1 "given $((count - 4)), of others by now 1, left out 3" \
   '/own: not given: 403' "/secret: its owner isn't read: 403" \
   "/bobs/plan: its owner isn't read: 404"
 holds 'the log has the rest' [ "$(wc -l <log2)" = 3 ]
-hands --as alice "$room" lists bob alice
+hands --as alice --room "$room" lists bob alice
 told 'the same once more' 1 "given 0, of others by now $((count - 3)), left out 3"
-hands --as bob "$room" lists bob newcomer
+hands --as bob --room "$room" lists bob newcomer
 told 'what only he may give' 1 'given 2,' "newcomer owns nothing and is in no group, as lists says"
 stop_server
 dumped >after
@@ -107,10 +108,10 @@ stop_server
 dumped >lists
 start_server F 100000 || return
 room=http://127.0.0.1:$port
-hands --as alice "$room" lists 'OFFICE\bob' 'OFFICE\nancy'
+hands --as alice --room "$room" lists 'OFFICE\bob' 'OFFICE\nancy'
 told 'all of a name with a backslash' 0 'given 1, of others by now 0, left out 0'
 stop_server
 dumped >after
 holds 'is of another one' grep -qxF 'document OFFICE\nancy staff 1 /office' after
-hands --user alice http://rooms.example lists bob alice
+hands --user alice --room http://rooms.example lists bob alice
 told 'a password without TLS' 2 'no TLS: rooms.example would get the password'

@@ -7,7 +7,7 @@ if [ "$loopback" = no ] || ! has flock || ! has setpriv || ! has setsid; then
   return
 fi
 make_stand
-night() { verb backup "$PWD/conf"; }
+night() { verb backup --room "$PWD/conf"; }
 setting() { # NAME VALUE
   { grep -v "^$1=" conf; echo "$1=$2"; } >conf.new
   mv conf.new conf
@@ -69,7 +69,7 @@ END
   sleep 1
   night
   holds 'a night by another user' [ "$status" = 0 ]
-  verb standby "$PWD/conf"
+  verb standby --room "$PWD/conf"
   holds 'a standby copy by it' [ "$status" = 0 ]
   reader=$(cut -d ' ' -f 1 ran | sort -u)
   holds "one user has run all, $reader, who is neither root nor the room's" \
@@ -145,7 +145,7 @@ END
   : >ran
   night
   holds "backups that are closed: $(head -c 300 "$work/err")" [ "$status" = 0 ]
-  verb standby "$PWD/conf"
+  verb standby --room "$PWD/conf"
   holds "a standby copy there: $(head -c 300 "$work/err")" [ "$status" = 0 ]
   holds 'nothing of it runs as root' [ "$(cut -d ' ' -f 1 ran | sort -u)" = "$reader" ]
   holds 'a standby copy is one file' [ "$(ls closed/backups/conf/standby)" = F ]
@@ -180,7 +180,7 @@ for turn in 1 2; do
   holds "it made a backup, $turn" [ "$(newest)" != "$before" -a -d "backups/conf/$before" ]
   holds "of all, $turn" [ -s "backups/conf/$(newest)/review.csv" ]
 done
-verb backups "$PWD/conf"
+verb backups --room "$PWD/conf"
 says 'which there are' 1 "$PWD/backups/conf/$(newest)"
 says 'and what is none' 1 'has the name of one, and is no folder'
 rm -r backups/conf/2026-01-0*
@@ -199,7 +199,7 @@ for turn in 1 2; do
     "bad number: $PWD/backups/conf/2026-01-01.040000/run is no number that a run has given"
 done
 holds 'the good ones stay' [ -d "backups/conf/$good" -a "$(count)" = 4 ]
-verb latest --conf "$PWD/conf"
+verb latest --room "$PWD/conf"
 holds 'and the newest is the last one' \
   [ "$(cat "$work/out")" = "$(ls -d "$PWD"/backups/conf/2* | tail -n 1)" ]
 # A number that jumps is told once, and nothing goes that night.
@@ -235,7 +235,7 @@ night
 holds 'it is told once' [ "$status" = 0 ]
 third=$(newest)
 unit stop
-verb restore --conf "$PWD/conf" latest
+verb restore --room "$PWD/conf" latest
 says 'latest is the newest' 0 "restored $PWD/office/F from $PWD/backups/conf/$third"
 unit start
 answers 'with what came last' /doc/later "reply '200 OK' application/octet-stream later"
@@ -279,7 +279,7 @@ if [ "$(id -u)" = 0 ]; then
     night
     says "backups in $place" 2 "not root's: others can change"
     mailed "backups in $place" "not root's"
-    verb standby "$PWD/conf"
+    verb standby --room "$PWD/conf"
     says "a standby copy in $place" 2 "not root's: others can change"
     holds "nothing is written to $place" [ -z "$(find "$place" -type f)" ]
     mv kept conf
@@ -293,7 +293,7 @@ if [ "$(id -u)" = 0 ] && [ "$STAND_USER" != 0 ]; then
   as_user mkdir office/before-restore.2026-11-27.120000
   as_user ln -s "$PWD/secret" office/before-restore.2026-11-27.120000/F
   unit stop
-  verb restore --conf "$PWD/conf" "$PWD/office/before-restore.2026-11-27.120000"
+  verb restore --room "$PWD/conf" "$PWD/office/before-restore.2026-11-27.120000"
   says 'a link in the place of a backup' 1 'a link, which is not followed'
   holds 'nothing of it is copied' [ "$(grep -rls 'secret of root' office)" = '' ]
   as_user rm -r office/before-restore.2026-11-27.120000
@@ -303,7 +303,7 @@ if [ "$(id -u)" = 0 ] && [ "$STAND_USER" != 0 ]; then
 rm -rf "$PWD/office/restoring.F/new"
 ln -s "$PWD/elsewhere" "$PWD/office/restoring.F/new"
 END
-  verb restore --conf "$PWD/conf" latest
+  verb restore --room "$PWD/conf" latest
   holds 'a folder that becomes a link' [ "$status" != 0 ]
   holds 'nothing is written through it' [ -z "$(ls elsewhere)" ]
   rm -rf office/restoring.F
@@ -313,23 +313,23 @@ fi
 
 # A restore that stops and starts the server itself, and one that is killed meanwhile.
 answers 'a document after the backup' /doc/after made PUT after
-verb restore --conf "$PWD/conf" latest
+verb restore --room "$PWD/conf" latest
 says 'a server that runs' 2 'the server runs'
 read -r port <"$stand/port"
-verb restore --conf "$PWD/conf" --start latest
+verb restore --room "$PWD/conf" --start latest
 says 'with --start' 0 "restored $PWD/office/F"
 unit_runs 'with --start'
 answers 'it is the backup' /doc/after \
   "json '404 Not Found' '{\"at\":\"/after\",\"why\":\"no-such\"}'"
 echo verify >"$stand/no-word"
-verb restore --conf "$PWD/conf" --start latest
+verb restore --room "$PWD/conf" --start latest
 says 'no sound backup' 1 'no backup: verify of'
 rm "$stand/no-word"
 unit_runs 'no sound backup: the server runs'
 for how in TERM KILL; do
   for number in {1..60}; do
     rm -rf office/before-restore.*
-    cut_off "$how" "$number" verb restore --conf "$PWD/conf" --start latest || break
+    cut_off "$how" "$number" verb restore --room "$PWD/conf" --start latest || break
     # Another process may have to put the room in place and start the server.
     for turn in {1..400}; do
       read -r port <"$stand/port"

@@ -54,16 +54,16 @@ comes_out() { # NAME
 export_it() {
   before() { afresh; }
   again() { comes_out "$1"; }
-  words=(export --as root "$room" "/$how" out/tree)
+  words=(export --as root --room "$room" "/$how" out/tree)
   at_each_call export 15
-  words=(export --backup --conf "$above/conf" latest "/$how" out/tree)
+  words=(export --room "$above/conf" --backup latest "/$how" out/tree)
   at_each_call 'export of a backup' 20
 }
 
 # Each time into a folder of its own, which is compared at the end.
 import_it() {
   local one
-  before() { words=(import --as root "$room" "$above/source" "/in/$how/$((into += 1))"); }
+  before() { words=(import --as root --room "$room" "$above/source" "/in/$how/$((into += 1))"); }
   again() {
     told "$1: the same command" 0 'left out 0'
     read -r _ made _ _ _ _ there _ <<<"$(tr -d , <"$work/out")"
@@ -86,7 +86,7 @@ hand_over() {
   }
   before() {
     listed "$giver" >lists
-    words=(handover --as root "$room" lists "$giver" "$taker")
+    words=(handover --as root --room "$room" lists "$giver" "$taker")
   }
   again() {
     local path given others
@@ -110,7 +110,7 @@ get_it() {
     holds "$1: the same command" [ "$status" = 0 -a "$(cat "$work/out")" = two ]
     holds "$1: no private copy stays" [ -z "$(ls -A "$TMPDIR")" ]
   }
-  words=(get --conf "$above/conf" latest "/$how/b")
+  words=(get --room "$above/conf" latest "/$how/b")
   at_each_call get 10
 }
 

@@ -102,7 +102,7 @@ shows() { # VERB LEAST FILE ..
   for file in first/mine/*; do
     sed -i 's/"made":"[^"]*"/"made":"2020-01-01T00:00:00Z"/' "$file"
   done
-  words=("$1" "$PWD/office.conf")
+  words=("$1" --room "$PWD/office.conf")
   once_more
   told "$1" 0
   cp -a "$web" last
@@ -142,7 +142,7 @@ until_it() {
     listed >got
     same "$1: the access is taken back" got after
   }
-  words=(until "$PWD/office.conf")
+  words=(until --room "$PWD/office.conf")
   set_over
   listed >before
   printf '%s\n' list:a "A:g:ended.$(date +%F).read.u.eve@alice:" >after
@@ -175,7 +175,7 @@ somebody_joins() {
     holds "$1: and can be chosen" grep -q '"carol","zoe"\]' "$web/people.json"
     nothing_else "$1"
   }
-  words=(user add zoe --groups clerks "$PWD/office.conf")
+  words=(user add zoe --groups clerks --room "$PWD/office.conf")
   at_each_call 'user add' 20
   unset typed
 }
@@ -190,7 +190,7 @@ somebody_leaves() {
       [ "$(seen dump | grep ' /his$')" = 'document alice staff 1 /his' ]
     nothing_else "$1"
   }
-  words=(user remove bob --to alice "$PWD/office.conf")
+  words=(user remove bob --to alice --room "$PWD/office.conf")
   at_each_call 'user remove' 20
 }
 
@@ -229,7 +229,7 @@ watch_it() { # NAME LEAST LIMIT FLAGS
     holds "$1: the flag is as it should be" [ "$(cat "$stand/flags")" = "$wanted" ]
     holds "$1: and goes with the watch" [ "$(flags)" = 0 ]
   }
-  words=(full "$PWD/office.conf")
+  words=(full --room "$PWD/office.conf")
   at_each_call "full, $1" "$2"
   rm -f "$stand/at-sleep"
 }
@@ -239,7 +239,7 @@ full_room() {
     holds 'a large document' [ "$(at_socket alice PUT "doc/large$one" @large)" = 201 ]
   done
   # How its flag is called.
-  words=(full "$PWD/office.conf")
+  words=(full --room "$PWD/office.conf")
   setting LIMIT 1
   printf '%s\n' 'ls "$ROOMS_RUN/rooms-full" | grep -vx locks >"$STAND/flags"' 'kill -TERM $PPID' \
     >"$stand/at-sleep"

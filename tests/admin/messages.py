@@ -12,7 +12,8 @@ package, page = sys.argv[1:]
 # What is said by: the faults, and what prints, mails or logs a line. The number says which argument
 # it is, and the text what a line has before it.
 SAID = {"Stop": (0, ""), "Refused": (0, ""), "Busy": (0, ""), "NoGroup": (0, ""),
-        "Slow": (0, ""), "say": (0, ""), "failed": (0, ""), "NoFile": (0, "X: "), "report": (1, "X: "),
+        "Slow": (0, ""), "say": (0, ""), "failed": (0, ""), "NoFile": (0, "X: "),
+        "report": (1, "X: "),
         "not_done": (2, "not taken back: X: X: "), "Changed": (0, "not taken back: X: X: "),
         "cause": (0, "")}
 # Lists of lines that are told.

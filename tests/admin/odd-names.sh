@@ -49,18 +49,18 @@ gives 'a room' 0 'ready\n' '' init "$room" root staff
 set_list "$room" / dacl list:a "A:fd:root:$ALL" A:fi:bob:r A:d:bob:x
 set_list "$room" / sacl list:a U:fdiS:root:r
 start_server "$room" 100000 || return
-transfers import --as root --replace "http://127.0.0.1:$port" tree /in
+transfers import --as root --replace --room "http://127.0.0.1:$port" tree /in
 told 'odd names go in' 0 "made $(find tree | wc -l), replaced 0, there already 0, left out 0"
 holds 'nothing was carried out' is_missing spoilt
-transfers export --as root --no-lists "http://127.0.0.1:$port" /in out
+transfers export --as root --no-lists --room "http://127.0.0.1:$port" /in out
 told 'and come out' 0 "documents $(find tree -type f | wc -l), left out 0"
 equal 'each byte and each name' tree out
-transfers import --as root "http://127.0.0.1:$port" 'tree/ deep ' '/in/ deep '
+transfers import --as root --room "http://127.0.0.1:$port" 'tree/ deep ' '/in/ deep '
 told 'they are found again' 0 'made 0, replaced 0,' 'left out 0'
 
 # The lists beside them. The file for those of a name with more than 251 bytes isn't one that a file
 # system can have, and a document's own name comes first.
-transfers export --as root "http://127.0.0.1:$port" '/in/ deep ' lists
+transfers export --as root --room "http://127.0.0.1:$port" '/in/ deep ' lists
 told 'with their lists' 1 'File name too long'
 diff -r 'tree/ deep ' lists | grep -av '^Only in lists' >found
 same 'all documents are there' found /dev/null
@@ -78,11 +78,11 @@ for name in $'plan\n' $'\nplan' $'pl\nan' $'plan\t' $'\tplan' $'\177' $'\1' $'no
   $'\xed\xa0\x80' $'plan\r'; do
   printf 'bad' >"bad/$name"
 done
-transfers import --as root --replace "http://127.0.0.1:$port" bad '/in/ deep '
+transfers import --as root --replace --room "http://127.0.0.1:$port" bad '/in/ deep '
 told 'names that a room can not have' 1 'made 0, replaced 0, there already 1, left out 11' \
   "'plan\\n': left out, with all below it: no room can have this name: it has a control character" \
   "'\\tplan': left out, with all below it" "'no\\377text': left out, with all below it"
-transfers export --as root --no-lists "http://127.0.0.1:$port" '/in/ deep ' deep
+transfers export --as root --no-lists --room "http://127.0.0.1:$port" '/in/ deep ' deep
 told 'none became another' 0
 equal 'all is as it was' 'tree/ deep ' deep
 
@@ -92,16 +92,16 @@ mkdir old
 for name in $'caf\xe9' dach ende $'men\xfc' nach $'\xc3' zuletzt; do
   printf %s "$name" >"old/$name"
 done
-transfers import --as root "http://127.0.0.1:$port" old /old
+transfers import --as root --room "http://127.0.0.1:$port" old /old
 told 'names of an older system' 1 'made 5, replaced 0, there already 0, left out 3'
 
 # Folders whose own names are odd in a command line.
 for name in - -x ' ' $'line\nbreak\n'; do
   mkdir -- "./$name"
   printf x >"./$name/x"
-  transfers import --as root "http://127.0.0.1:$port" "$name" "/from"
+  transfers import --as root --room "http://127.0.0.1:$port" "$name" "/from"
   told "a folder called $(printf %q "$name") goes in" 0 'made 2,'
-  transfers export --as root --no-lists "http://127.0.0.1:$port" "/from" "$name.out"
+  transfers export --as root --no-lists --room "http://127.0.0.1:$port" "/from" "$name.out"
   told "and comes out as $(printf %q "$name.out")" 0 'documents 1, left out 0'
   diff -r -- "./$name" "./$name.out" >found 2>&1
   same 'as it was' found /dev/null
@@ -112,21 +112,21 @@ done
 # An export where something else is: nothing of it is touched.
 mkdir there
 printf mine >there/x
-transfers export --as root "http://127.0.0.1:$port" /in there
+transfers export --as root --room "http://127.0.0.1:$port" /in there
 told 'over a folder' 2 'there is something at there'
 printf mine >lists-of.acl
-transfers export --as root "http://127.0.0.1:$port" /in/many/plan lists-of
+transfers export --as root --room "http://127.0.0.1:$port" /in/many/plan lists-of
 told 'where lists would go' 1 \
   "/in/many/plan: its lists aren't written: cannot overwrite existing file" \
   'documents 1, left out 1'
 holds 'what was there stays' [ "$(cat there/x lists-of.acl)" = minemine ]
-transfers export --as root "http://127.0.0.1:$port" /in missing/out
+transfers export --as root --room "http://127.0.0.1:$port" /in missing/out
 told 'into a folder that is missing' 1 'nor what is in it' 'folders 0, documents 0, left out 2'
 # A path that is longer than the system takes.
 deep=$PWD/deeper
 while [ "${#deep}" -lt 3900 ]; do deep+=/$(long 100 d); done
 mkdir -p "$deep"
-transfers export --as root --no-lists "http://127.0.0.1:$port" '/in/ deep ' "$deep/out"
+transfers export --as root --no-lists --room "http://127.0.0.1:$port" '/in/ deep ' "$deep/out"
 told 'where a whole path is longer than the system takes' 0 'left out 0'
 for name in ' plan' 'plan ' plan; do
   holds 'but others have' [ "$(cat "$deep/out/$name")" = "the $name" ]
@@ -138,9 +138,9 @@ mkdir small
 if [ "$(id -u)" = 0 ] && mount -t tmpfs -o size=1000k rooms-small small 2>/dev/null; then
   mkdir filled
   for name in ' a' 'b ' c ' d '; do head -c 400000 /dev/zero | tr '\0' x >"filled/$name"; done
-  transfers import --as root "http://127.0.0.1:$port" filled /filled
+  transfers import --as root --room "http://127.0.0.1:$port" filled /filled
   told 'four large documents' 0
-  transfers export --as root --no-lists "http://127.0.0.1:$port" /filled small/out
+  transfers export --as root --no-lists --room "http://127.0.0.1:$port" /filled small/out
   told 'on a full disk' 1 'not written' 'No space left on device'
   for name in ' a' 'b ' c ' d '; do
     [ ! -e "small/out/$name" ] || holds "'$name' is whole" cmp "small/out/$name" "filled/$name"
@@ -156,7 +156,7 @@ if [ "$(id -u)" = 0 ] && mount -t tmpfs -o size=1000k rooms-small small 2>/dev/n
   told 'no place for replies is needed' 0 'left out 0'
   rm -rf small/* filled.out
   head -c 1019904 /dev/zero >small/ballast
-  TMPDIR=$PWD/small transfers import --as root "http://127.0.0.1:$port" tree /elsewhere
+  TMPDIR=$PWD/small transfers import --as root --room "http://127.0.0.1:$port" tree /elsewhere
   told 'nor for names' 0 'left out 0'
   umount small
 else
@@ -168,7 +168,7 @@ stop_server
 mkdir ' backups ' run
 printf '%s\n' "FILE=$room" "BACKUPS=$PWD/ backups " KEEP=0 MAIL= UNIT=rooms "PROGRAM=$rooms" >conf
 if has flock && has setpriv; then
-  ROOMS_RUN=$PWD/run transfers backup "$PWD/conf"
+  ROOMS_RUN=$PWD/run transfers backup --room "$PWD/conf"
   told 'a backup' 0
   backup=$(ls ' backups /conf')
   cd tree || return
@@ -201,7 +201,7 @@ fi
 if [ -n "$backup" ]; then
   while IFS= read -r name; do
     [ $((${number:=0} % 4)) != 0 ] || {
-      transfers get --conf "$PWD/conf" "$backup" "/in/many/$name"
+      transfers get --room "$PWD/conf" "$backup" "/in/many/$name"
       printf '%s' "$name" >wanted
       same "out of a backup: $(printf %q "$name")" "$work/out" wanted
     }
@@ -211,12 +211,12 @@ if [ -n "$backup" ]; then
   cp "$work/out" before
   rm -f "$room" "$room-wal"
   gives 'an empty room' 0 'ready\n' '' init "$room" root staff
-  transfers restore --conf "$PWD/conf" "$backup"
+  transfers restore --room "$PWD/conf" "$backup"
   told 'a backup comes back' 0 "restored $room"
   run dump "$room"
   same 'with each name and list' "$work/out" before
   start_server "$room" 100000 || return
-  transfers export --as root --no-lists "http://127.0.0.1:$port" '/in/ deep ' restored
+  transfers export --as root --no-lists --room "http://127.0.0.1:$port" '/in/ deep ' restored
   told 'it goes out' 0 'left out 0'
   equal 'with each byte' 'tree/ deep ' restored
   stop_server

@@ -75,7 +75,7 @@ setting PEOPLE names
 verb people a b
 says 'two rooms' 2 'bad arguments'
 cp office.conf Office.conf
-verb people "$PWD/Office.conf"
+verb people --room "$PWD/Office.conf"
 says 'no name of a room' 2 "bad name: 'Office'"
 rm Office.conf
 
@@ -180,12 +180,12 @@ if has htpasswd; then
   printf '%s\n' TITLE=x ON=b.example PORT=8443 >root/etc/rooms/invoices.on
   : >root/etc/nginx/rooms-invoices.htpasswd
   export ROOMS_SETTINGS=$PWD/root/etc/rooms
-  typed=typed verb user add carol invoices
+  typed=typed verb user add carol --room invoices
   says 'a room elsewhere' 0 'a password for carol, in '
   holds 'has its passwords here' grep -q ^carol: root/etc/nginx/rooms-invoices.htpasswd
-  typed=typed verb user add carol invoices --groups clerks
+  typed=typed verb user add carol --room invoices --groups clerks
   says 'and its groups there' 2 'the room invoices is on b.example'
-  verb user remove carol invoices
+  verb user remove carol --room invoices
   holds 'who leaves it' [ "$status" = 0 -a ! -s root/etc/nginx/rooms-invoices.htpasswd ]
   unset ROOMS_SETTINGS
   rm root/etc/rooms/invoices.on root/etc/nginx/rooms-invoices.htpasswd

@@ -5,7 +5,7 @@ if [ "$loopback" = no ] || ! has flock || ! has setpriv || ! has setsid; then
   return
 fi
 make_stand
-restores() { verb restore --conf "$PWD/conf" "$@"; }
+restores() { verb restore --room "$PWD/conf" "$@"; }
 made_by_user() { as_user "$rooms" "$@" >/dev/null; }
 # The old room has carol as its root's owner and the backup has dave; the backup's last writes are
 # in its log.
@@ -69,7 +69,7 @@ for bad in nowhere empty "$PWD/conf"; do
   says "a backup that isn't there: ${bad##*/}" 2 'no backup'
   unchanged "${bad##*/}"
 done
-verb restore --conf "$PWD/nothing" good
+verb restore --room "$PWD/nothing" good
 says 'no settings' 2 'no settings'
 restores
 says 'no words' 2 'bad arguments'

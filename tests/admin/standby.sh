@@ -6,7 +6,7 @@ if [ "$loopback" = no ] || ! has flock || ! has setpriv || ! has setsid || ! has
   return
 fi
 make_stand
-stands() { verb standby "$PWD/conf"; }
+stands() { verb standby --room "$PWD/conf"; }
 set_value() { # NAME VALUE
   grep -v "^$1=" conf >conf.new
   echo "$1=$2" >>conf.new
@@ -75,7 +75,7 @@ copies=0
 for turn in {1..20}; do
   cp answered before
   if ((turn % 5 == 0)); then
-    verb backup "$PWD/conf"
+    verb backup --room "$PWD/conf"
     copy=$(find backups/conf -maxdepth 1 -name '????-??-??.??????' | sort | tail -n 1)
   else
     stands
@@ -132,7 +132,7 @@ unit_rests 'it stays stopped'
 holds 'the copy has what was answered' has_document backups/conf/standby before-the-stop
 unit start
 hooks stop
-verb backup "$PWD/conf"
+verb backup --room "$PWD/conf"
 says 'a server that is stopped at night' 0 'so the room is copied again'
 unit_rests 'stays stopped'
 holds 'the backup has what was answered' \
@@ -148,7 +148,7 @@ unit start
 stands
 says 'a server that has not opened the room' 1 "can't be held"
 holds 'the last copy stays' has_document backups/conf/standby before-the-stop
-verb backup "$PWD/conf"
+verb backup --room "$PWD/conf"
 holds 'rooms-nightly stops such a server' grep -q ' systemctl stop' "$stand/steps"
 holds 'and has a backup' has_document "backups/conf/$(cd backups/conf && echo 20*)" before-the-stop
 rm -rf backups/conf/20* "$stand/no-answer"
@@ -245,7 +245,7 @@ if has rsync; then
   unit stop
   cp -Rp office lost
   as_user rm office/F office/F-wal
-  verb restore --conf "$PWD/conf" "$PWD/there"
+  verb restore --room "$PWD/conf" "$PWD/there"
   says 'it is restored' 0 "restored $PWD/office/F"
   unit start
   read -r port <"$stand/port"
@@ -263,7 +263,7 @@ for how in TERM KILL; do
     cut_off "$how" "$number" stands || break
     unit_goes_on "$name"
     answers "$name"
-    if ((number % 2)); then verb standby --after "$PWD/conf"; else stands; fi
+    if ((number % 2)); then verb standby --after --room "$PWD/conf"; else stands; fi
     answers "$name, and after"
     cp backups/conf/standby/F look
     holds "$name: there is a copy" [ "$("$rooms" verify look 2>&1)" = sound ]

@@ -120,7 +120,7 @@ for one in json.load(sys.stdin): print((one["name"], one["state"], one["title"])
 ' <"$work/out")" = \
   "('invoices', 'active', 'All invoices') ('office', 'inactive', '') ('sales', 'elsewhere', '') " ]
 ROOMS_SETTINGS=$PWD/rooms-of run_admin rooms office
-told 'a word' 2 'bad arguments: rooms-admin rooms'
+told 'a word' 2 "bad arguments: a word too many: 'office'"
 
 # The names of before are links that the installation makes: the same words, standard output as it
 # was, and the new name on standard error.
@@ -149,7 +149,7 @@ for prefix in usr usr/local; do
   "tree/$prefix/bin/rooms-export" --help >got 2>/dev/null
   holds "a name of before below /$prefix" grep -q '^Usage: rooms-admin export' got
   printf 'FILE=%s/F\nBACKUPS=%s\n' "$PWD" "$PWD" >conf
-  "tree/$prefix/sbin/rooms-admin" full --look "$PWD/conf" >got 2>&1
+  "tree/$prefix/sbin/rooms-admin" full --look --room "$PWD/conf" >got 2>&1
   holds "the program of /$prefix" grep -qF "no program: $PWD/tree/$prefix/bin/rooms" got
   holds "no other file is made below /$prefix" [ -z "$(find "tree/$prefix" -name __pycache__)" ]
 done
@@ -162,7 +162,7 @@ if [ "$(id -u)" = 0 ]; then
   chmod 755 set/*
   : >ran
   printf 'FILE=%s/F\nBACKUPS=%s\nPROGRAM=%s\n' "$PWD" "$PWD" "$rooms" >conf
-  PATH=$PWD/set:$PATH tree/usr/sbin/rooms-admin check "$PWD/conf" >got 2>&1
+  PATH=$PWD/set:$PATH tree/usr/sbin/rooms-admin check --room "$PWD/conf" >got 2>&1
   same "a check runs none of its caller's tools" ran /dev/null
   cp "$admin" told/sbin/
   printf '%s\n' 'import os' 'def main():' \

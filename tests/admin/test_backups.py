@@ -96,11 +96,11 @@ class Found(Folder):
             self.backup("2026-12-02.040000", 6, lists="member a night\n")
             self.assertEqual(people.known(self.room)[0], {("a", "night")})
         said = io.StringIO()
-        given = argparse.Namespace(conf=self.room.conf, words=["lists.txt"])
+        given = argparse.Namespace(room=self.room.conf, file="lists.txt")
         with contextlib.redirect_stdout(said):
             self.assertEqual(latest.run(given), 0)
         self.assertEqual(said.getvalue(), f"{self.backups}/office/2026-12-02.040000/lists.txt\n")
-        given.words = ["no-such.tar"]
+        given.file = "no-such.tar"
         self.assertRaises(Refused, latest.run, given)
 
     def test_one_that_is_wrong_keeps_none_from_being_found(self) -> None:
@@ -121,7 +121,7 @@ class Found(Folder):
                           "5.040000/office.rooms is not root's alone"])
         said = io.StringIO()
         with contextlib.redirect_stdout(said), contextlib.redirect_stderr(io.StringIO()):
-            given = argparse.Namespace(words=[self.room.conf], json=False)
+            given = argparse.Namespace(room=self.room.conf, json=False)
             self.assertEqual(listed.run(given), 1)
         self.assertEqual(said.getvalue(), f"     5      1 MB  {good}  without records.csv, "
                          "lists.txt, review.csv\n")

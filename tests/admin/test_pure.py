@@ -10,15 +10,13 @@ import sqlite3
 import tempfile
 import unittest
 import unittest.mock
-from importlib import import_module
 
 from rooms_admin.host import safe
 from rooms_admin.room import names, settings
 from rooms_admin.host.changes import Changes
 from rooms_admin.site import legacy, template
 from rooms_admin.verbs import add
-from rooms_admin.__main__ import VERBS
-from rooms_admin.cli import manual
+from rooms_admin.cli import manual, words
 from rooms_admin.cli.report import Refused
 from rooms_admin.room.size import Used
 
@@ -300,40 +298,91 @@ class Sites(unittest.TestCase):
 class Words(unittest.TestCase):
     """Options stand anywhere, and a room is named by one of them."""
 
-    def read(self, verb: str, *words: str) -> argparse.Namespace:
-        name, _, options = VERBS[verb]
-        module = import_module(f"rooms_admin.verbs.{name}")
-        return manual.read(verb, module, options, list(words))
+    def read(self, verb: str, *typed: str) -> argparse.Namespace:
+        given = words.read(verb, manual.module_of(verb), typed)
+        assert given is not None
+        return given
+
+    def told(self, verb: str, *typed: str) -> tuple[argparse.Namespace, str]:
+        with contextlib.redirect_stderr(io.StringIO()) as said:
+            return self.read(verb, *typed), said.getvalue().partition(": ")[2]
 
     def test_anywhere(self) -> None:
-        for words in (("--start", "latest"), ("latest", "--start")):
-            given = self.read("restore", *words)
-            self.assertEqual((given.words, given.start), (["latest"], True))
+        for typed in (("--start", "latest"), ("latest", "--start")):
+            given = self.read("restore", *typed)
+            self.assertEqual((given.backup, given.start), ("latest", True))
         given = self.read("user", "add", "eve", "--groups", "sales,staff")
-        self.assertEqual((given.words, given.groups), (["add", "eve"], "sales,staff"))
+        self.assertEqual((given.verb, given.name, given.groups), ("add", "eve", "sales,staff"))
         given = self.read("setup", "--dry-run", "--tls", "one.pem", "one.key", "--destdir", "/x")
-        self.assertEqual((given.words, given.tls, given.destdir),
-                         ([], ["one.pem", "one.key"], "/x"))
+        self.assertEqual((given.tls, given.destdir), (["one.pem", "one.key"], "/x"))
+        given = self.read("export", "/letters", "--backup", "latest", "out", "-r", "hr")
+        self.assertEqual((given.path, given.into, given.backup, given.room),
+                         ("/letters", "out", "latest", "hr"))
 
     def test_room(self) -> None:
-        for words in (("-r", "invoices"), ("--room", "invoices"), ("--room=invoices",),
-                      ("invoices",)):
-            self.assertEqual(self.read("backup", *words).words, ["invoices"])
-        for name in ("--room", "--conf", "-r"):
-            given = self.read("get", "latest", name, "invoices", "/letters/reply")
-            if name == "--conf":
-                self.assertEqual(given.conf, "invoices")
-            self.assertEqual((given.words, given.conf),
-                             (["latest", "/letters/reply"], "invoices"))
-        self.assertEqual(self.read("backup").words, [])
+        for verb, *typed in (("backup",), ("get", "latest", "/letters/reply"), ("latest",),
+                             ("import", "share", "/"), ("user", "add", "eve"), ("await",)):
+            for named in (("-r", "hr"), ("--room", "hr"), ("--room=hr",)):
+                for at in range(len(typed) + 1):
+                    got, said = self.told(verb, *typed[:at], *named, *typed[at:])
+                    self.assertEqual((got.room, said), ("hr", ""), (verb, at))
+            self.assertEqual(self.told(verb, *typed)[0].room, "")
+        got = self.read("check", "-r", "hr", "--room", "office")
+        self.assertEqual(got.rooms, ["hr", "office"])
+        self.assertEqual(self.read("check").rooms, [])
+
+    def test_as_before(self) -> None:
+        """For this version, with a word."""
+        for verb, *typed in (("backup", "hr"), ("backup", "--after", "hr"), ("groups", "hr"),
+                             ("get", "--conf", "hr", "latest", "/f"), ("latest", "--conf", "hr"),
+                             ("user", "remove", "eve", "hr"), ("await", "hr"), ("people", "hr"),
+                             ("import", "hr", "share", "/"), ("export", "hr", "/", "out"),
+                             ("handover", "hr", "lists.txt", "eve", "bob"), ("check", "hr"),
+                             ("full", "hr")):
+            got, said = self.told(verb, *typed)
+            self.assertEqual((got.room, said), ("hr", "type --room hr: the next version takes that "
+                                                "in no other way\n"), (verb, typed))
+        got, said = self.told("check", "hr", "office")
+        self.assertEqual(got.rooms, ["hr", "office"])
+        self.assertTrue(said.startswith("type --room hr --room office: "))
+        for typed, room in ((["--backup", "latest", "/", "out"], ""),
+                            (["--backup", "--conf", "hr", "latest", "/", "out"], "hr"),
+                            (["--conf", "hr", "latest", "/", "out", "--backup"], "hr")):
+            got, said = self.told("export", *typed)
+            self.assertEqual((got.backup, got.path, got.into, got.room),
+                             ("latest", "/", "out", room), typed)
+        self.assertTrue(said.startswith("type --backup latest --room hr: "))
 
     def test_dashes(self) -> None:
-        self.assertEqual(self.read("user", "add", "-odd").words, ["add", "-odd"])
-        self.assertEqual(self.read("user", "--", "add", "--groups").words, ["add", "--groups"])
-        self.assertEqual(self.read("restore", "--", "--start").start, False)
-        for words in (("-x", "latest"), ("latest", "--no-such"), ("latest", "--conf")):
-            with self.assertRaisesRegex(Refused, "^bad arguments: "):
-                self.read("get", *words)
+        self.assertEqual(self.read("user", "add", "-odd").name, "-odd")
+        self.assertEqual(self.read("user", "--", "add", "--groups").name, "--groups")
+        got = self.read("restore", "--", "--start")
+        self.assertEqual((got.backup, got.start), ("--start", False))
+
+    def test_what_is_wrong(self) -> None:
+        for typed, what in (
+                (["get"], "the following arguments are required: BACKUP, PATH"),
+                (["get", "latest"], "the following arguments are required: PATH"),
+                (["get", "-x", "latest"], "no such option: -x"),
+                (["get", "latest", "/f", "g"], "a word too many: 'g'"),
+                (["get", "latest", "--conf"], "argument --conf: expected one argument"),
+                (["get", "latest", "/f", "--room"], "argument -r/--room: expected one argument"),
+                (["backup", "--room", "hr", "office"], "a word too many: 'office'"),
+                (["backup", "hr", "office"], "a word too many: 'hr'"),
+                (["export", "--backup", "--room", "hr", "/", "out"],
+                 "argument --backup: expected one argument"),
+                (["groups", "--names", "--after"],
+                 "argument --after: not allowed with argument --names"),
+                (["setup", "--tls", "one.pem"], "argument --tls: expected 2 arguments"),
+                (["rooms", "office"], "a word too many: 'office'"),
+                (["user"], "the following arguments are required: WHAT"),
+                (["tell", "--", "a", "--", "b"], "'--' stands twice")):
+            with self.assertRaises(Refused) as caught:
+                self.read(*typed)
+            self.assertEqual(str(caught.exception).split("; rooms-admin ")[0],
+                             f"bad arguments: {what}", typed)
+        with self.assertRaisesRegex(Refused, r"; rooms-admin get \[--room ROOM\] BACKUP PATH$"):
+            self.read("get")
 
 
 if __name__ == "__main__":

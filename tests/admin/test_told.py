@@ -11,8 +11,7 @@ import time
 import unittest
 import unittest.mock
 
-from rooms_admin.__main__ import VERBS
-from rooms_admin.cli import manual, report
+from rooms_admin.cli import report, words
 from rooms_admin.cli.report import Refused, Stop
 from rooms_admin.host import at_socket, locks, mail, waiting
 from rooms_admin.room import (http_client, names, passwords, published, server, settings,
@@ -101,7 +100,7 @@ class Told(unittest.TestCase):
 
     def test_a_mail_counts_once_it_went(self) -> None:
         sent: list[str] = []
-        given = unittest.mock.Mock(words=["rooms-standby@office.service"])
+        given = unittest.mock.Mock(unit="rooms-standby@office.service")
         with tempfile.TemporaryDirectory() as run, \
                 unittest.mock.patch.object(locks, "RUN", run), \
                 unittest.mock.patch.object(mail_failure, "journal", return_value=[]), \
@@ -148,7 +147,7 @@ class Flags(unittest.TestCase):
                 unittest.mock.patch.object(sys, "stdout") as shown:
             shown.isatty.return_value = True
             with self.assertRaisesRegex(Refused, "rooms-admin full --look"):
-                quota.run(unittest.mock.Mock(words=[], look=False))
+                quota.run(unittest.mock.Mock(rooms=[], look=False))
 
 
 class Passwords(unittest.TestCase):
@@ -194,21 +193,22 @@ class Passwords(unittest.TestCase):
 
 
 class Words(unittest.TestCase):
-    def words(self, text: str) -> user.Words:
+    def typed(self, text: str) -> user.Words:
         """As they are typed."""
-        given = manual.read("user", user, VERBS["user"][2], text.split())
-        return user._words(given.words, user.options(given))
+        given = words.read("user", user, text.split())
+        assert given is not None
+        return user.read_words(given)
 
     def test_options_stand_anywhere(self) -> None:
         for given in ("add newbie --groups sales", "add --groups sales newbie",
                       "--groups sales add newbie", "add newbie --groups sales office",
                       "add newbie office --groups sales"):
-            self.assertEqual(self.words(given),
+            self.assertEqual(self.typed(given),
                              user.Words("add", "newbie", "office", ["sales"], "", ""), given)
-        self.assertEqual(self.words("add x --groups a,b").groups, ["a", "b"])
-        self.assertEqual(self.words("remove -x --to alice hr"),
+        self.assertEqual(self.typed("add x --groups a,b").groups, ["a", "b"])
+        self.assertEqual(self.typed("remove -x --to alice hr"),
                          user.Words("remove", "-x", "hr", [], "", "alice"))
-        self.assertEqual(self.words("add --file f -r hr"),
+        self.assertEqual(self.typed("add --file f -r hr"),
                          user.Words("add", "", "hr", [], "f", ""))
 
     def test_what_is_refused(self) -> None:
@@ -217,7 +217,7 @@ class Words(unittest.TestCase):
                     "remove --file f", "add a --groups x,", "add jürgen", "add a -x",
                     "add --file f a b"):
             with self.assertRaises(Refused, msg=bad):
-                self.words(bad)
+                self.typed(bad)
 
     def rows(self, text: str) -> dict[str, set[str]]:
         with tempfile.NamedTemporaryFile() as held:

@@ -134,7 +134,7 @@ class Watched(unittest.TestCase):
             open(server.left_at_rest(room), "w").close()
             self.assertEqual(watched.see_answer(room), [
                 (2, "rooms@office was stopped while groups were changed, and that was cut off: "
-                 "rooms-admin groups --after office")])
+                 "rooms-admin groups --after --room office")])
 
     def test_lines_that_name_a_user(self) -> None:
         self.assertEqual(list(members.of_user(LISTS, "bob")),

@@ -40,7 +40,7 @@ exec "$repo/admin/rooms-admin" "\$@"
 END
 stand_in systemctl <<END
 if [ "\$*" = 'start rooms-nightly@office' ]; then
-  exec "$repo/admin/rooms-admin" backup "$PWD/root/etc/rooms/office.conf"
+  exec "$repo/admin/rooms-admin" backup --room "$PWD/root/etc/rooms/office.conf"
 fi
 case \$1 in
   is-active) [ -e "$PWD/pid" ] && echo active || echo inactive ;;
@@ -221,7 +221,7 @@ chmod 755 deploy/install
 stand_in nginx <<'END'
 END
 stand_in rooms-restore <<END
-exec "$repo/admin/rooms-admin" restore --conf "$PWD/root/etc/rooms/office.conf" "\$@"
+exec "$repo/admin/rooms-admin" restore --room "$PWD/root/etc/rooms/office.conf" "\$@"
 END
 rm -rf backups/office/2026-11-20.040000*
 export ROOMS_RUN=$PWD/run
@@ -328,8 +328,8 @@ refuses_user 'another verb' 'bad arguments' rename bob
 refuses_user 'a name that is none' "'b ob' can't be the name of a user" add 'b ob'
 refuses_user 'a group that is none' "'a:b' can't be the name of a user" add bob --groups a:b
 refuses_user 'a user who would inherit from themselves' 'bob would give to bob' remove bob --to bob
-refuses_user 'a room that is not there' 'no settings' add bob nowhere
-ROOMS_RUN=$PWD/run "$repo/admin/rooms-admin" user add bob "$PWD/root/etc/rooms/office.conf" \
+refuses_user 'a room that is not there' 'no settings' add bob --room nowhere
+ROOMS_RUN=$PWD/run "$repo/admin/rooms-admin" user add bob --room "$PWD/root/etc/rooms/office.conf" \
   </dev/null >"$work/out" 2>"$work/err"
 status=$?
 told 'no password' 2 'bad password'

@@ -402,7 +402,7 @@ types 'taken away' docs/machines 'rooms-admin remove'
 
 # A second machine that can take over, which is this one.
 types 'a standby' docs/machines 'mkdir -p -m 700' docs/machines 'rsync openssh-client'
-does 'a copy' 'rooms-admin standby office
+does 'a copy' 'rooms-admin standby --room office
   cp -a /var/backups/rooms/office/standby/. /var/backups/rooms/standby
   systemctl disable --now rooms@office'
 types 'it takes over' docs/machines 'rooms-admin restore /var/backups/rooms/standby'

@@ -30,11 +30,11 @@ for turn in 1 2 3 4; do
   done
 done
 does 'what there is' 'cd /var/backups/rooms && ls -d */standby/*.rooms
-  for room in office invoices; do rooms-admin backups $room | wc -l; cat $(
+  for room in office invoices; do rooms-admin backups --room $room | wc -l; cat $(
     rooms-admin latest --room $room)/run; done; ls | wc -l'
 prints 'is all of it' invoices/standby/invoices.rooms office/standby/office.rooms 4 'number 4' 4 \
   'number 4' 2
-does 'the names of one' 'rooms-admin people office; cat /var/lib/rooms-web/office/people.json'
+does 'the names of one' 'rooms-admin people; cat /var/lib/rooms-web/office/people.json'
 holds 'are its own' \
   [ "$(grep -c -e secret -e carol "$work/out") $(grep -c staff "$work/out")" = '0 1' ]
 does 'back to one room' 'rooms-admin remove invoices >/dev/null; rm -r /var/backups/rooms/*'
@@ -183,7 +183,7 @@ holds 'and could do nothing' [ "$(grep -c ^DONE "$work/out")" = 0 ]
 for what in 'ln -s /etc/shadow' mkfifo; do
   does "$what" "systemctl stop rooms@office; cd /var/lib/rooms
     runuser -u rooms -- sh -c 'rm -f office.rooms-wal; $what office.rooms-wal'
-    timeout 60 rooms-admin backup office; [ \$? = 1 ] && rooms-admin latest
+    timeout 60 rooms-admin backup; [ \$? = 1 ] && rooms-admin latest
     ! grep -rl 'root:[*!\$]' /var/backups/rooms/office
     rm office.rooms-wal && systemctl start rooms@office"
   prints "$what: the last backup stays" "$last"

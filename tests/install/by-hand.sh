@@ -77,8 +77,8 @@ for words in 'backup office' 'standby office' 'user add dana --groups staff'; do
 done
 
 # In the place of a disk that hangs, the run itself does.
-does 'a backup, which tells of the one that was cut off' 'rooms-admin backup office || :'
-does 'a run that hangs' "rooms-admin backup office >/dev/null 2>&1 & run=\$!
+does 'a backup, which tells of the one that was cut off' 'rooms-admin backup || :'
+does 'a run that hangs' "rooms-admin backup >/dev/null 2>&1 & run=\$!
   for turn in \$(seq 2000); do pgrep -f 'rooms veri[f]y' >/dev/null && break; done
   kill -STOP \$run; timeout 50 rooms-admin user remove eve &&
     timeout 50 rooms-admin restore --start latest; echo \$?
@@ -132,12 +132,12 @@ class Liar(http.server.BaseHTTPRequestHandler):
 http.server.HTTPServer(("127.0.0.1", 8099), Liar).serve_forever()
 END2
 inside 'python3 liar.py & liar=$!; sleep 1; mkdir share; echo x >share/f
-  rooms-admin import --replace --as alice http://127.0.0.1:8099 share /; kill $liar'
+  rooms-admin import --replace --as alice --room http://127.0.0.1:8099 share /; kill $liar'
 told 'a room that lies' 0 'f: not sent: 403 \x1b]0;owned\x07\x1b[2Kmade 1204, left out 0'
 holds 'moves no cursor' [ -z "$(tr -d '\n -~' <"$work/err")" ]
-does 'what is exported' "rooms-admin export --as alice office / /srv/out; ls /srv/out/large1 &&
+does 'what is exported' "rooms-admin export --as alice / /srv/out; ls /srv/out/large1 &&
   ! setpriv --reuid=nobody --regid=nogroup --clear-groups cat /srv/out/large1 2>/dev/null"
-does 'nothing is left' 'rooms-admin standby office
+does 'nothing is left' 'rooms-admin standby
   ls /run/rooms-nightly.* /run/rooms-standby.* /run/rooms-directory.* 2>/dev/null; :'
 holds 'of any of these runs' [ ! -s "$work/out" ]
 stop_machine

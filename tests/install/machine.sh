@@ -21,7 +21,7 @@ print("\n".join(machine.save(sys.argv[3], program.version_of(sys.argv[2]))), end
 }
 brings() { # FOLDER ARGUMENT ..
   export ROOMS_ROOT=$PWD/$1
-  verb restore --conf "$ROOMS_ROOT/etc/rooms/office.conf" --machine "${@:2}"
+  verb restore --room "$ROOMS_ROOT/etc/rooms/office.conf" --machine "${@:2}"
 }
 tree() {
   (cd "$1" && find . ! -name 'before-machine.*' ! -path ./var/backups/rooms \
@@ -115,7 +115,7 @@ tree new >after
 same 'is not done' after before
 brings new 2026-11-21.030000
 says 'a machine' 0 'file /etc/rooms/invoices.conf'
-says 'what is left: a room' 0 '  rooms-admin restore --conf /etc/rooms/invoices.conf latest'
+says 'what is left: a room' 0 '  rooms-admin restore --room /etc/rooms/invoices.conf latest'
 says 'what is left: a unit' 0 '  systemctl enable --now rooms-nightly@office.timer'
 says 'and one that may be started without it' 0 '  systemctl enable --now rooms@office.service'
 says 'what was taken away is back' 0 \

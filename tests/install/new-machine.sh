@@ -161,7 +161,7 @@ holds 'names the passwords' \
 does 'the machine and its rooms' "$(block docs/backup.md 'do rooms-admin restore --room')"
 holds 'it says that passwords may be back' grep -q '^Passwords are those of 20' "$work/out"
 holds 'it says what is left' \
-  grep -q '^  rooms-admin restore --conf /etc/rooms/invoices.conf latest$' "$work/out"
+  grep -q '^  rooms-admin restore --room /etc/rooms/invoices.conf latest$' "$work/out"
 holds 'the rooms are restored' [ "$(grep -c '^restored /var/lib/rooms/' "$work/out")" = 2 ]
 does 'what else the old machine had' "$(block docs/backup.md machine/about)"
 inside "$(block docs/backup.md reload-or-restart)"

@@ -109,7 +109,7 @@ does 'a document' "curl -s -u alice:typed -X PUT -d hello -w '%{http_code}\n' $r
 prints 'is made' 201
 room() { (cd "$machine/var/lib/rooms" && stat -c '%n %i %s %y %U' ./* && cksum ./*); }
 restarts() { # NAME: all that is amiss is that there is no mail program
-  inside "$(block docs/upgrading.md 'rooms-admin check' | sed 's/admin check/& office/')"
+  inside "$(block docs/upgrading.md 'rooms-admin check' | sed 's/admin check/& --room office/')"
   holds "$1: status $status, $(head -c 300 "$work/out" "$work/err")" [ "$status" = 1 ]
   holds "$1: $(head -c 300 "$work/out")" \
     grep -qx 'rooms WARNING - office: no mail program, so root is told of nothing: apt-get install bsd-mailx\(, no backup yet: .*\)\?' "$work/out"

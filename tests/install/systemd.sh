@@ -127,7 +127,7 @@ dropped 'rules loaded by hand' 'nft -f /etc/nftables.conf
   setpriv --reuid=nobody --regid=nogroup --clear-groups curl -s -m 9 -H "Room-User: alice" \
     http://127.0.0.1:8780/can/?'
 holds 'let every account pose as any user' grep -qx '{}' "$work/out"
-inside 'rooms-admin check office'
+inside 'rooms-admin check --room office'
 told 'the check' 2 'every account of this machine reaches port 8780, and with it all of the room:'
 inside 'systemctl start rooms-nightly@office'
 holds 'the nightly run fails' [ "$status" != 0 ]
@@ -135,7 +135,7 @@ does 'for that' 'journalctl --no-pager -u rooms-nightly@office'
 holds 'and says so' grep -q 'every account of this machine reaches port 8780' "$work/out"
 does 'the room is started again' 'systemctl restart rooms@office; systemctl reset-failed'
 gets_to_port 'who gets to the port then'
-does 'the check' 'rooms-admin check office || [ $? = 1 ]'
+does 'the check' 'rooms-admin check --room office || [ $? = 1 ]'
 holds 'has nothing to say of it' eval '! grep -q "every account" "$work/out"'
 dropped 'the service of nftables starts' 'systemctl start nftables'
 gets_to_port 'who gets to the port beside it'
@@ -284,7 +284,7 @@ holds 'by its name' grep -q 'host not found in upstream' "$work/err"
 does 'and leaves nothing' \
   '! ls -d /etc/rooms/other* /etc/nginx/rooms-other* 2>/dev/null && nginx -t -q'
 does 'a place' 'echo 127.0.0.9 c.example >>/etc/hosts && rooms-admin add --on c.example other &&
-  rooms-admin user add alice other <<<a'
+  rooms-admin user add alice --room other <<<a'
 until_inside 'is there' "[ \"\$($web http://127.0.0.1/other/)\" = 200 ]"
 until_inside 'and a machine of another name gets nothing' \
   "[ \"\$($web http://127.0.0.1/other/folder/)\" = 502 ]"

@@ -99,7 +99,7 @@ start_sshd() {
 }
 stands_there() {
   echo 0 >"$stand/count"
-  PATH=$stand/bin:$PATH there "$repo/admin/rooms-admin" standby "$PWD/conf" \
+  PATH=$stand/bin:$PATH there "$repo/admin/rooms-admin" standby --room "$PWD/conf" \
     </dev/null >"$work/out" 2>"$work/err"
   status=$?
 }

@@ -1,6 +1,6 @@
 # The nightly run of the room that make_stand has made, by the settings in ./conf.
 
-night() { verb backup "$PWD/conf"; }
+night() { verb backup --room "$PWD/conf"; }
 setting() { # NAME VALUE
   sed "s|^$1=.*|$1=$2|" conf >conf.new
   mv conf.new conf

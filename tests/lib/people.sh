@@ -9,7 +9,7 @@ make_people() {
   mv backups/conf backups/office
   echo PORT= >>office.conf
 }
-room_verb() { verb "$1" "${@:2}" "$PWD/office.conf"; }
+room_verb() { verb "$1" "${@:2}" --room "$PWD/office.conf"; }
 setting() { # NAME VALUE
   sed "/^$1=/d" office.conf >conf.new
   echo "$1=$2" >>conf.new

@@ -149,7 +149,7 @@ for trick in "ln -s $PWD/secret" mkfifo; do
   $trick "$kept/rooms-hr.htpasswd"
   printf '%s\n' "FILE=$PWD/F" "BACKUPS=$PWD" "PROGRAM=$rooms" UNIT=rooms@hr >hr.conf
   echo 'a new one of hers' | ROOMS_ROOT=$PWD/machine ROOMS_RUN=$PWD/run timeout 20 \
-    "$repo/admin/rooms-admin" user add alice "$PWD/hr.conf" >got 2>got.err
+    "$repo/admin/rooms-admin" user add alice --room "$PWD/hr.conf" >got 2>got.err
   holds "rooms-admin follows no ${trick%% *}: $(head -n 1 got.err)" grep -q "can't be read" got.err
   holds 'and changes nothing' [ "$(cat secret)" = root:x:colon ]
 done

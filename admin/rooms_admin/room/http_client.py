@@ -1,4 +1,5 @@
 """Requests to a room: whom it asks as, what may go unencrypted, and which replies end a run."""
+import argparse
 import base64
 import getpass
 import http.client
@@ -12,7 +13,7 @@ import urllib.parse
 import urllib.request
 from dataclasses import dataclass
 
-from ..cli import report
+from ..cli import report, words
 from ..host.at_socket import AtSocket
 from . import names, settings
 from ..cli.report import Refused, Stop, say
@@ -65,6 +66,25 @@ class Caller:
     config: str = ""
     log: str = ""
     without_tls: bool = False
+
+
+def caller_arguments(parser: words.Parser) -> None:
+    """Of verbs that ask a room as its users do."""
+    words.room(parser, "first", "the room, by its name or its settings on its own machine, or by "
+               "its address, as https://rooms.example; office without it")
+    words.option(parser, "--user", "NAME", "ask for the password of this user")
+    words.option(parser, "--as", "NAME", "ask in the name of this user, as root on the room's own "
+                 "machine", dest="as_user")
+    words.option(parser, "--config", "FILE", "settings in curl's form: user, cacert, cert, key, "
+                 "header")
+    words.flag(parser, "--without-tls", "take an address with http of another machine; all of it "
+               "then goes in clear")
+    words.option(parser, "--log", "FILE", "add what was left out to this file too, with the time")
+
+
+def caller_of(given: argparse.Namespace) -> Caller:
+    return Caller(user=given.user, as_user=given.as_user, config=given.config, log=given.log,
+                  without_tls=given.without_tls)
 
 
 class Client:
@@ -195,8 +215,8 @@ class Client:
 
 def client(word: str, caller: Caller, next_step: str, ends_by_500: bool) -> Client:
     """Of a room by its address; or, on its own machine, by its name or its settings."""
-    if not word or "://" in word or not os.path.isfile(settings.file_of(word)):
-        return Client(word, caller, next_step, ends_by_500)
+    if "://" in word or not os.path.isfile(settings.file_of(word)):
+        return Client(word or "office", caller, next_step, ends_by_500)
     if caller.user or caller.config:
         raise Refused(f"bad arguments: nobody asks for a password at the room {word} itself: --as "
                       "says who asks, or take its address")
@@ -245,4 +265,5 @@ def argument(text: str) -> bytes:
     return os.fsencode(text)
 
 
-__all__ = ["Caller", "Client", "Reply", "argument", "client", "raise_limits"]
+__all__ = ["Caller", "Client", "Reply", "argument", "caller_arguments", "caller_of", "client",
+           "raise_limits"]

@@ -225,13 +225,6 @@ def file_of(word: str) -> str:
     return word if "/" in word else f"{HOME}/{word}.conf"
 
 
-def named(words: list[str], usage: str) -> "Room":
-    """The room of a verb that takes one at most: the office's where none is named."""
-    if len(words) > 1:
-        raise Refused(f"bad arguments: rooms-admin {usage}")
-    return room("".join(words))
-
-
 def room(word: str = "") -> Room:
     path = file_of(word)
     got = values(path, known(Room))

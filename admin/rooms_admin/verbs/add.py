@@ -6,6 +6,7 @@ import shlex
 import socket
 import time
 
+from ..cli import words
 from ..host import changes, locks
 from ..room import names, published, settings
 from ..site import apply, legacy, password_files, template
@@ -13,29 +14,51 @@ from . import setup
 from ..host.changes import Changes
 from ..cli.report import Refused, Stop
 
-USAGE = ("add [--dry-run] [--destdir DIR] [--host HOST] [--port PORT] [--title TITLE] NAME "
-         "[OWNER GROUP], or add --behind [--port PORT] NAME [OWNER GROUP], or add --on HOST "
-         "[--port PORT] [--title TITLE] NAME")
 _BAD_IN_TITLE = set("\\\"'`$")
 
 
+def arguments(parser: words.Parser) -> None:
+    parser.forms = ["[--dry-run] [--destdir DIR] [--host HOST] [--port PORT] [--title TITLE] NAME "
+                    "[OWNER GROUP]", "--behind [--port PORT] NAME [OWNER GROUP]",
+                    "--on HOST [--port PORT] [--title TITLE] NAME"]
+    words.word(parser, "name", "NAME", "of the room: a part of addresses and of paths")
+    words.word(parser, "owner", "[OWNER]", "who has the new room, a user")
+    words.word(parser, "group", "[GROUP]", "and the group of its root")
+    setup.image(parser)
+    words.option(parser, "--host", "HOST", "at '/' of this host, and not behind its name")
+    words.option(parser, "--port", "PORT", "listen at this port of 127.0.0.1, and not at a "
+                 "socket; or with --on the port of the other machine")
+    words.option(parser, "--title", "TITLE", "what the start page calls it")
+    where = parser.add_mutually_exclusive_group()
+    words.flag(where, "--behind", "for the front end on another machine alone")
+    words.option(where, "--on", "HOST", "the room is on that machine")
+
+
+def _look_at_words(given: argparse.Namespace) -> None:
+    """Behind another front end a room has no place of its own here, and one on another machine has
+    its owners there."""
+    if given.owner and not given.group:
+        raise Refused("bad arguments: OWNER needs a GROUP")
+    if given.behind and (given.host or given.title):
+        raise Refused("bad arguments: --behind takes neither --host nor --title, which the front "
+                      "end's machine has")
+    if given.on and (given.host or given.owner):
+        raise Refused("bad arguments: --on takes neither --host nor OWNER, which the other machine "
+                      "has")
+
+
 def run(given: argparse.Namespace) -> int:
-    words = given.words
-    host, on = given.host.lower(), given.on.lower()
-    # Behind another front end a room has no place of its own here, and one on another machine has
-    # its owners there.
-    if (len(words) not in (1, 3) or given.behind and (on or host or given.title)
-            or on and (host or len(words) == 3)):
-        raise Refused(f"bad arguments: rooms-admin {USAGE}")
+    _look_at_words(given)
+    on = given.on.lower()
     made = setup.look_first(given.destdir, given.dry_run)
-    name, owner, group = (words + ["", ""])[:3]
+    name = given.name
     look_at_name(name)
     look_at_machine(made)
     with locks.machine(made.root, made.dry):
         apply.refuse_edited(made.root)
         if on:
             return _elsewhere(made, name, on, given.port or "8443", given.title or name)
-        room = _Room(made, name, owner, group, given)
+        room = _Room(made, given)
         return room.add()
 
 
@@ -74,11 +97,10 @@ def _look_at_title(title: str) -> None:
 
 
 class _Room:
-    def __init__(self, made: Changes, name: str, owner: str, group: str,
-                 given: argparse.Namespace) -> None:
+    def __init__(self, made: Changes, given: argparse.Namespace) -> None:
         self.made = made
-        self.name = name
-        self.owner, self.group = owner, group
+        self.name = name = given.name
+        self.owner, self.group = given.owner, given.group
         self.behind = given.behind
         self.title = "" if given.behind else given.title or name
         self.host = given.host.lower()
@@ -234,7 +256,7 @@ class _Room:
                   ", with the name of this one")
             return
         print(f"What is left, for each user of {self.name}: rooms-admin user add "
-              f"{shlex.quote(self.owner or 'USER')} {self.name}")
+              f"{shlex.quote(self.owner or 'USER')} --room {self.name}")
         print(f"Users then open {_place(self.name, self.host)}")
 
 
@@ -290,7 +312,7 @@ def _elsewhere(made: Changes, name: str, on: str, port: str, title: str) -> int:
         raise
     if not made.root:
         print(f"What is left, on {on}: rooms-admin add --behind {name} OWNER GROUP")
-        print(f"And here, for each user of {name}: rooms-admin user add USER {name}")
+        print(f"And here, for each user of {name}: rooms-admin user add USER --room {name}")
         print(f"Users then open {_place(name, '')}")
     return 0
 

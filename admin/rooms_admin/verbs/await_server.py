@@ -7,12 +7,12 @@ import os
 import stat
 import time
 
+from ..cli import words
 from ..host import locks, safe
 from ..host.at_socket import AtSocket
 from ..room import names
 from ..cli.report import Refused, Stop
 
-USAGE = "await ROOM"
 FRONT = "www-data"
 
 
@@ -56,21 +56,26 @@ def open_to_front(folder: str, group: int) -> None:
                 os.chmod(f"/proc/self/fd/{handle}", 0o666)
 
 
+def arguments(parser: words.Parser) -> None:
+    words.room(parser)
+
+
 def run(given: argparse.Namespace) -> int:
-    if len(given.words) != 1 or not names.is_room(given.words[0]):
-        raise Refused(f"bad arguments: rooms-admin {USAGE}")
+    room = given.room or "office"
+    if not names.is_room(room):
+        raise Refused(f"bad arguments: '{room}' isn't the name of a room")
     port = os.environ.get("PORT", "")
     if port and not (port.isascii() and port.isdigit() and 0 < int(port) < 65536):
         raise Refused(f"bad settings: PORT isn't a port: '{port}'")
     if os.environ.get("SOCKET", "") == "yes":
         # Whatever else listens at the port isn't this server.
         port = ""
-    folder = os.path.join(locks.RUN, "rooms", given.words[0])
+    folder = os.path.join(locks.RUN, "rooms", room)
     # systemd waits for this process where the server has ended, and only then starts it again.
     server = os.environ.get("MAINPID", "")
     while not answers(port, os.path.join(folder, "socket")):
         if server.isdigit() and not os.path.exists(f"/proc/{server}"):
-            raise Stop(f"the server of {given.words[0]} has ended")
+            raise Stop(f"the server of {room} has ended")
         time.sleep(0.05)
     try:
         open_to_front(folder, grp.getgrnam(FRONT).gr_gid)

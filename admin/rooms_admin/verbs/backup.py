@@ -19,7 +19,7 @@ import os
 import time
 from contextlib import ExitStack
 
-from ..cli import report
+from ..cli import report, words
 from ..host import locks, mail, safe
 from ..room import (backups, copying, health, machine, names, private_server, program, server,
                     settings, tidying)
@@ -28,8 +28,6 @@ from ..room.backups import Found
 from ..room.http_client import Caller, Client
 from ..cli.report import Interrupted, Refused, Stop, say
 from ..room.settings import Room
-
-USAGE = "backup [--after] [--room ROOM | CONF]"
 
 
 class Night:
@@ -372,12 +370,18 @@ def tell(room: Room | None, failures: list[str]) -> None:
                 f"{name} on {os.uname().nodename}: the nightly run failed", failures)
 
 
+def arguments(parser: words.Parser) -> None:
+    words.room(parser)
+    words.flag(parser, "--after", "only do what a run that was cut off still owes; the unit calls "
+               "it")
+
+
 def run(given: argparse.Namespace) -> int:
     os.umask(0o077)
     os.chdir("/")
     room = None
     try:
-        room = settings.named(given.words, USAGE)
+        room = settings.room(given.room)
         # One run at a time. What a run owes waits for whoever is at work, which is root.
         with locks.lock(f"{room.unit}.nightly", 600 if given.after else 10):
             return Night(room).after() if given.after else Night(room).run()

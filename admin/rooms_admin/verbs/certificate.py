@@ -7,12 +7,12 @@ import re
 import shlex
 import tempfile
 
+from ..cli import words
 from ..host import commands, locks, safe
 from ..room import machine, names
 from ..room.machine import ROOT
 from ..cli.report import Refused, Stop, say
 
-USAGE = "certificate HOST [HOST ..], or certificate --machine HOST"
 AUTHORITY = "/root/authority"
 MACHINES = "/etc/rooms/machines"
 SITE, SITE_KEY = "/etc/ssl/rooms.pem", "/etc/ssl/private/rooms.key"
@@ -145,10 +145,15 @@ def _for_machine(host: str, private: str) -> None:
           f"machine.pem, {place}.key as machine.key; keep {authority.key} on another medium")
 
 
+def arguments(parser: words.Parser) -> None:
+    words.word(parser, "hosts", "HOST ..", "a name of the site, or of the other machine")
+    words.flag(parser, "--machine", "for a machine with rooms behind this one's front end")
+
+
 def run(given: argparse.Namespace) -> int:
-    hosts = list(given.words)
-    if not hosts or (given.machine and len(hosts) != 1):
-        raise Refused(f"bad arguments: rooms-admin {USAGE}")
+    hosts = list(given.hosts)
+    if given.machine and len(hosts) != 1:
+        raise Refused("bad arguments: --machine is for one HOST")
     for host in hosts:
         if not names.is_host(host) or host.replace(".", "").isdigit():
             raise Refused(f"bad arguments: '{host}' isn't the name of a machine in a network")

@@ -4,18 +4,22 @@ import argparse
 import glob
 import os
 
+from ..cli import words
 from ..room import settings
 from . import watched
 from ..cli.report import Refused
 from .watched import CRITICAL, OK, WARNING, Finding
 
-USAGE = "check [--room ROOM | CONF ..]"
 STATUS = "0 all is well, 1 there is a warning, 2 something is critical"
 _WORDS = {OK: "OK", WARNING: "WARNING", CRITICAL: "CRITICAL"}
 
 
-def _rooms(words: list[str]) -> list[str]:
-    found = words or sorted(glob.glob(f"{glob.escape(settings.HOME)}/*.conf"))
+def arguments(parser: words.Parser) -> None:
+    words.rooms(parser, "all")
+
+
+def _rooms(named: list[str]) -> list[str]:
+    found = named or sorted(glob.glob(f"{glob.escape(settings.HOME)}/*.conf"))
     if not found:
         raise Refused(f"no settings: {settings.HOME} has no room")
     return found
@@ -35,7 +39,7 @@ def _one(conf: str) -> list[Finding]:
 
 
 def run(given: argparse.Namespace) -> int:
-    found = [one for conf in _rooms(given.words) for one in _one(conf)]
+    found = [one for conf in _rooms(given.rooms) for one in _one(conf)]
     found += watched.see_units()
     found += watched.see_directory()
     found += watched.see_certificates()

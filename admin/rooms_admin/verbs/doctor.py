@@ -6,12 +6,11 @@ import os
 import pwd
 import shlex
 
+from ..cli import words
 from ..host import as_user
 from ..room import settings
 from . import holders
 from ..cli.report import Refused
-
-USAGE = "doctor [--user USER] [--program FILE] FILE"
 
 
 class Doctor:
@@ -190,11 +189,29 @@ def _user(given: str, folder: str) -> pwd.struct_passwd:
         return pwd.getpwuid(os.stat(folder).st_uid if os.path.exists(folder) else os.getuid())
 
 
+def arguments(parser: words.Parser) -> None:
+    words.word(parser, "file", "[FILE]", "the room's file; that of --room without it")
+    words.room(parser, former="")
+    words.option(parser, "--user", "USER", "the room's user, rooms without it")
+    words.option(parser, "--program", "FILE", "the program that verifies a copy")
+
+
+def _file(given: argparse.Namespace) -> str:
+    """Settings that are refused may be why: only this line of them counts."""
+    if given.file and given.room:
+        raise Refused("bad arguments: FILE and --room both say which room it is")
+    if given.file:
+        return os.path.abspath(str(given.file))
+    conf = settings.file_of(given.room)
+    settings.lines(conf)
+    file = settings.value(conf, "FILE")
+    settings.need(file.startswith("/"), conf, "FILE", "an absolute path", file)
+    return file
+
+
 def run(given: argparse.Namespace) -> int:
-    if len(given.words) != 1 or not given.words[0]:
-        raise Refused(f"bad arguments: rooms-admin {USAGE}")
-    file = os.path.join(os.getcwd(), given.words[0])
-    program = given.program or settings.PROGRAM
+    file = _file(given)
+    program = os.path.abspath(given.program or settings.PROGRAM)
     if not (os.path.isfile(program) and os.access(program, os.X_OK)):
         raise Refused(f"no program: {program} isn't there or can't be run")
     user = _user(given.user, os.path.dirname(file))

@@ -9,13 +9,13 @@ import time
 from collections.abc import Iterable
 from dataclasses import dataclass, field
 
+from ..cli import words
 from ..host import locks, mail
 from ..room import backups, dump, members, names, program, server, settings
 from ..room.end_dates import Changed, Ending, ending, is_meant, taken_back
 from ..cli.report import Refused, say
 from ..room.settings import Room
 
-USAGE = "until [--dry-run] [--room ROOM | CONF]"
 NEXT = "the next run goes on"
 
 
@@ -128,10 +128,15 @@ def nightly(room: Room, lists: str) -> list[str]:
     return []
 
 
+def arguments(parser: words.Parser) -> None:
+    words.room(parser)
+    words.flag(parser, "--dry-run", "print what would be done, and change nothing")
+
+
 def run(given: argparse.Namespace) -> int:
     os.umask(0o077)
     os.chdir("/")
-    room = settings.named(given.words, USAGE)
+    room = settings.room(given.room)
     lists = backups.newest(room, "lists.txt")
     if not lists:
         raise Refused("no backup yet, by whose lists end dates are found: systemctl start "

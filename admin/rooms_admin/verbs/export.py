@@ -4,22 +4,18 @@ printed, with the room's reply. Nothing is renamed, and nothing that is there is
 name that no room can have never gets to the disk. Nobody else may read what is written, unless
 --umask says so.
 
-ROOM is an address such as https://rooms.example, or for root on its machine the room's name, such
-as office. With --backup it is a folder with a room's files, the name of one in BACKUPS, or latest;
-the lists are those of that night."""
+With --backup the lists are those of that night."""
 import argparse
 import json
 import os
 
-from ..cli import report
+from ..cli import report, words
 from ..host import safe
 from ..room import backups, names, private_server, program, settings
-from ..room.http_client import Caller, Client, argument, client, raise_limits
+from ..room.http_client import (Caller, Client, argument, caller_arguments, caller_of, client,
+                                raise_limits)
 from ..cli.report import Refused, Stop
 
-USAGE = ("export [--no-lists] [--umask UMASK] [--user NAME] [--as NAME] [--config FILE] "
-         "[--without-tls] [--log FILE] ROOM PATH DIR, or export --backup "
-         "[--room ROOM | --conf CONF] [--no-lists] [--umask UMASK] [--log FILE] BACKUP PATH DIR")
 NEXT = "remove what was written, and try again"
 
 
@@ -112,25 +108,39 @@ class Export:
         self.place(path, within, name, text, "its lists aren't written")
 
 
-def run(given: argparse.Namespace, caller: Caller) -> int:
-    if len(given.words) != 3:
-        raise Refused(f"bad arguments: rooms-admin {USAGE}")
-    if not settings.matches(r"0?[0-7]{3}", given.umask or "077"):
+def arguments(parser: words.Parser) -> None:
+    words.word(parser, "path", "PATH", "a folder or a document of the room")
+    words.word(parser, "into", "DIR", "the folder that is made of it")
+    parser.bare = "backup"
+    parser.add_argument("--backup", metavar="BACKUP", nargs="?", default="",
+                        help="read this backup and not the room: a folder, the name of a "
+                        "backup, or latest")
+    words.flag(parser, "--no-lists", "write no lists")
+    words.option(parser, "--umask", "UMASK", "what others may not do with what is written, such "
+                 "as 022 where all may read it; 077 without it", default="077")
+    caller_arguments(parser)
+
+
+def run(given: argparse.Namespace) -> int:
+    if not settings.matches(r"0?[0-7]{3}", given.umask):
         raise Refused(f"bad arguments: --umask is three digits such as 022, not '{given.umask}'")
-    os.umask(int(given.umask or "077", 8))
-    address, path, into = given.words[0], argument(given.words[1]), argument(given.words[2])
-    into = into.rstrip(b"/")
+    os.umask(int(given.umask, 8))
+    path, into = argument(given.path), argument(given.into).rstrip(b"/")
+    caller = caller_of(given)
     if not into:
         raise Refused("bad arguments: DIR is the root of the file system")
     if os.path.lexists(into):
         raise Refused(f"there is something at {os.fsdecode(into)}: name a folder that isn't there")
     if not names.is_path(path):
         raise Refused("bad arguments: a path in the room begins with a slash and doesn't end with "
-                      f"one, unlike '{given.words[1]}'")
+                      f"one, unlike '{given.path}'")
     if not given.backup:
-        return export(client(address, caller, NEXT, False), path, into, not given.no_lists, None)
-    room = settings.room(given.conf)
-    with private_server.private_copy(room, backups.find(room, address)) as copied:
+        return export(client(given.room, caller, NEXT, False), path, into, not given.no_lists, None)
+    if caller.user or caller.as_user or caller.config or caller.without_tls:
+        raise Refused("bad arguments: nobody is asked for a backup: --user, --as, --config and "
+                      "--without-tls are of rooms")
+    room = settings.room(given.room)
+    with private_server.private_copy(room, backups.find(room, given.backup)) as copied:
         acls, closed = open_all(room, copied, path)
         with private_server.served(room, copied, 1000000):
             here = f"http://127.0.0.1:{private_server.PORT}"

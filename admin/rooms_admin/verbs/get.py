@@ -3,22 +3,25 @@ folder with a room's files, the name of one in BACKUPS, or latest."""
 import argparse
 import sys
 
+from ..cli import words
 from ..room import backups, names, private_server, program, settings
 from ..room.http_client import argument
 from ..cli.report import Refused, Stop
 
-USAGE = "get [--room ROOM | --conf CONF] BACKUP PATH"
+
+def arguments(parser: words.Parser) -> None:
+    words.word(parser, "backup", "BACKUP", "a folder, the name of a backup, or latest")
+    words.word(parser, "path", "PATH", "the document's, in the room")
+    words.room(parser, former="")
 
 
 def run(given: argparse.Namespace) -> int:
-    if len(given.words) != 2 or not given.words[0]:
-        raise Refused(f"bad arguments: rooms-admin {USAGE}")
-    path = argument(given.words[1])
+    path = argument(given.path)
     if path == b"/" or not names.is_path(path):
-        raise Refused(f"bad arguments: '{given.words[1]}' isn't the path of a document")
-    room = settings.room(given.conf)
+        raise Refused(f"bad arguments: '{given.path}' isn't the path of a document")
+    room = settings.room(given.room)
     # A copy, since the program puts the log of a room that it opens into its file.
-    with private_server.private_copy(room, backups.find(room, given.words[0])) as copied:
+    with private_server.private_copy(room, backups.find(room, given.backup)) as copied:
         status, out, text = program.on_copy(room, copied, ["get", path])
     if status != 0:
         why = text or out[:300].decode(errors="replace").strip() or f"status {status}"

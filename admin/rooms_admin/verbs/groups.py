@@ -9,7 +9,7 @@ import argparse
 import os
 from contextlib import ExitStack
 
-from ..cli import report
+from ..cli import report, words
 from ..host import commands, locks, mail, safe
 from ..room import backups, dump, members, names, server, settings
 from . import people
@@ -17,8 +17,6 @@ from ..site.directory import GROUPS, Directory, NoSuchEntry
 from ..cli.report import Refused, Stop, say
 from ..room.settings import Room
 
-USAGE = ("groups [--dry-run] [--force] [--room ROOM | CONF], or groups --names|--after "
-         "[--room ROOM | CONF]")
 LISTS = "lists.txt"
 # The program takes no more from a file.
 LIMIT = 20000
@@ -302,12 +300,23 @@ def _all_of(stop: BaseException | None) -> list[str]:
     return [*([] if stop.__suppress_context__ else _all_of(stop.__context__)), str(stop)]
 
 
+def arguments(parser: words.Parser) -> None:
+    parser.forms = ["[--dry-run] [--force] [--room ROOM]", "--names [--room ROOM]",
+                    "--after [--room ROOM]"]
+    words.room(parser)
+    how = parser.add_mutually_exclusive_group()
+    words.flag(how, "--dry-run", "print what would come and go, and change nothing")
+    words.flag(how, "--names", "print users whom the directory writes in other capitals")
+    words.flag(how, "--after", "only do what a run that was cut off still owes; the unit calls it")
+    words.flag(parser, "--force", "change more than MOST, and empty a group")
+
+
 def run(given: argparse.Namespace) -> int:
     os.umask(0o077)
     os.chdir("/")
-    if len(given.words) > 1 or given.names + given.after + (given.dry_run or given.force) > 1:
-        raise Refused(f"bad arguments: rooms-admin {USAGE}")
-    room = settings.room("".join(given.words))
+    if given.force and (given.names or given.after):
+        raise Refused("bad arguments: --force goes with neither --names nor --after")
+    room = settings.room(given.room)
     failures: list[str] = []
     with ExitStack() as owned:
         task = Run(room, given, owned)

@@ -1,21 +1,16 @@
 """Gives all documents and folders of the user FROM to TO, for instance when somebody has left.
-ROOM is an address such as https://rooms.example, or for root on its machine the room's name, such
-as office. LISTS is a file with what `rooms dump` prints, such as lists.txt of a backup: it says
-where they are. Each keeps its group and its lists. Whoever asks needs the rights t and o on each
-object. What belongs to somebody else by now stays as it is, and the same command can be
-repeated."""
+LISTS is a file with what `rooms dump` prints, such as lists.txt of a backup: it says where they
+are. Each keeps its group and its lists. Whoever asks needs the rights t and o on each object. What
+belongs to somebody else by now stays as it is, and the same command can be repeated."""
 import argparse
 import json
 import os
 from collections.abc import Iterator
 
-from ..cli import report
+from ..cli import report, words
 from ..room import names
-from ..room.http_client import Caller, client
+from ..room.http_client import Caller, caller_arguments, caller_of, client
 from ..cli.report import Refused, say
-
-USAGE = ("handover [--dry-run] [--user NAME] [--as NAME] [--config FILE] [--without-tls] "
-         "[--log FILE] ROOM LISTS FROM TO")
 
 
 def objects(path: str) -> Iterator[tuple[str, bytes]]:
@@ -36,10 +31,16 @@ def knows(path: str, user: str) -> bool:
                    for line in source) or any(owner == user for owner, _ in objects(path))
 
 
-def _look_at(words: list[str]) -> None:
-    if len(words) != 4:
-        raise Refused(f"bad arguments: rooms-admin {USAGE}")
-    _, lists, giver, taker = words
+def arguments(parser: words.Parser) -> None:
+    words.word(parser, "lists", "LISTS", "what rooms dump printed of the room, as lists.txt of a "
+               "backup")
+    words.word(parser, "giver", "FROM", "whose objects they are")
+    words.word(parser, "taker", "TO", "who gets them")
+    words.flag(parser, "--dry-run", "print what would be given")
+    caller_arguments(parser)
+
+
+def _look_at(lists: str, giver: str, taker: str) -> None:
     for name in (giver, taker):
         if not names.is_user(name):
             raise Refused(f"bad arguments: '{name}' isn't the name of a user")
@@ -52,10 +53,13 @@ def _look_at(words: list[str]) -> None:
         raise Refused(f"no lists: {lists} doesn't begin as what rooms dump prints")
 
 
-def run(given: argparse.Namespace, caller: Caller) -> int:
-    _look_at(given.words)
-    address, lists, giver, taker = given.words
-    asked = client(address, caller, "the same command goes on where this one stopped", True)
+def run(given: argparse.Namespace) -> int:
+    return give(given.room, caller_of(given), given.lists, given.giver, given.taker, given.dry_run)
+
+
+def give(room: str, caller: Caller, lists: str, giver: str, taker: str, dry: bool) -> int:
+    _look_at(lists, giver, taker)
+    asked = client(room, caller, "the same command goes on where this one stopped", True)
     if not knows(lists, taker):
         say(f"{taker} owns nothing and is in no group, as {lists} says: is the name right?")
     mine = [path for owner, path in objects(lists) if owner == giver]
@@ -69,7 +73,7 @@ def run(given: argparse.Namespace, caller: Caller) -> int:
         row = json.loads(got.body)
         if row["owner"] != giver:
             others += 1
-        elif given.dry_run:
+        elif dry:
             handed += 1
             report.end_progress()
             print(f"would: {names.shown(path)}")
@@ -81,6 +85,6 @@ def run(given: argparse.Namespace, caller: Caller) -> int:
             else:
                 asked.report(path, f"not given: {got.text()}")
     report.end_progress()
-    would = "would be " if given.dry_run else ""
+    would = "would be " if dry else ""
     print(f"{would}given {handed}, of others by now {others}, left out {asked.left_out}")
     return 0 if asked.left_out == 0 else 1

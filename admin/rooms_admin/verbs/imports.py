@@ -1,20 +1,18 @@
 """Uploads what is in the folder DIR into the folder PATH of a room, by the requests that any client
-may send. ROOM is an address such as https://rooms.example, or for root on its machine the room's
-name, such as office. PATH is made if it is missing, with the folders above it. No link is followed.
-A document that is there is never replaced without --replace, so the same command goes on where one
-was cut off. What isn't sent is printed, with the room's reply: a link, a device, a file that can't
-be read or has more than 1048576 bytes, and what the room refuses."""
+may send. PATH is made if it is missing, with the folders above it. No link is followed. A document
+that is there is never replaced without --replace, so the same command goes on where one was cut
+off. What isn't sent is printed, with the room's reply: a link, a device, a file that can't be read
+or has more than 1048576 bytes, and what the room refuses."""
 import argparse
 import os
 
-from ..cli import report
+from ..cli import report, words
 from ..host import safe
 from ..room import names
-from ..room.http_client import Caller, Client, argument, client, raise_limits
+from ..room.http_client import (Client, argument, caller_arguments, caller_of, client,
+                                raise_limits)
 from ..cli.report import Refused, say
 
-USAGE = ("import [--replace] [--user NAME] [--as NAME] [--config FILE] [--without-tls] "
-         "[--log FILE] ROOM DIR PATH")
 MOST = 1048576
 
 
@@ -133,10 +131,15 @@ def count(at: int) -> int:
     return total
 
 
-def run(given: argparse.Namespace, caller: Caller) -> int:
-    if len(given.words) != 3:
-        raise Refused(f"bad arguments: rooms-admin {USAGE}")
-    address, source, to = given.words[0], given.words[1], argument(given.words[2])
+def arguments(parser: words.Parser) -> None:
+    words.word(parser, "source", "DIR", "a folder of this machine")
+    words.word(parser, "path", "PATH", "the folder of the room that gets all in it")
+    words.flag(parser, "--replace", "replace documents that are there and differ")
+    caller_arguments(parser)
+
+
+def run(given: argparse.Namespace) -> int:
+    source, to = given.source, argument(given.path)
     raise_limits()
     try:
         at = safe.folder(source)
@@ -145,8 +148,9 @@ def run(given: argparse.Namespace, caller: Caller) -> int:
         raise Refused(f"no folder: {source} isn't a folder that can be read") from fault
     if not names.is_path(to):
         raise Refused("bad arguments: a path in the room begins with a slash and doesn't end with "
-                      f"one, unlike '{given.words[2]}'")
-    asked = client(address, caller, "the same command goes on where this one stopped", True)
+                      f"one, unlike '{given.path}'")
+    asked = client(given.room, caller_of(given), "the same command goes on where this one stopped",
+                   True)
     task = Import(asked, given.replace)
     if os.isatty(2):
         task.total = count(at)

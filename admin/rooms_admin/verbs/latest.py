@@ -3,19 +3,23 @@ clock said. With FILE it is that file of the newest backup that has one, such as
 import argparse
 import os
 
+from ..cli import words
 from ..room import backups, settings
 from ..cli.report import Refused
 
-USAGE = "latest [--room ROOM | --conf CONF] [FILE]"
+
+def arguments(parser: words.Parser) -> None:
+    words.word(parser, "file", "[FILE]", "a name such as lists.txt")
+    words.room(parser, former="")
 
 
 def run(given: argparse.Namespace) -> int:
-    if len(given.words) > 1 or "/" in "".join(given.words):
-        raise Refused(f"bad arguments: rooms-admin {USAGE}")
-    room = settings.room(given.conf)
-    name = "".join(given.words) or room.base
+    if "/" in given.file:
+        raise Refused(f"bad arguments: '{given.file}' isn't the name of a file in a backup")
+    room = settings.room(given.room)
+    name = given.file or room.base
     found = backups.newest(room, name)
     if not found:
         raise Refused(f"no backup: {room.backups} has none of this room with {name}")
-    print(found if given.words else os.path.dirname(found))
+    print(found if given.file else os.path.dirname(found))
     return 0

@@ -7,16 +7,21 @@ import argparse
 import json
 import os
 
+from ..cli import words
 from ..host import waiting
 from ..room import backups, server, settings
 from ..cli.report import Stop, say
 
-USAGE = "backups [--json] [--room ROOM | CONF]"
 _BESIDE = ("records.csv", "lists.txt", "review.csv")
 
 
+def arguments(parser: words.Parser) -> None:
+    words.room(parser)
+    words.flag(parser, "--json", "print them for a program")
+
+
 def run(given: argparse.Namespace) -> int:
-    room = settings.named(given.words, USAGE)
+    room = settings.room(given.room)
 
     def asked() -> object:
         found = backups.look(room)

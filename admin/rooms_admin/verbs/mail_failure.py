@@ -6,11 +6,11 @@ import re
 import shutil
 import time
 
+from ..cli import words
 from ..host import commands, locks, mail
 from ..room import settings
 from ..cli.report import Refused, Stop, say
 
-USAGE = "tell UNIT"
 # Standby copies may fail every five minutes: one mail for so many seconds.
 QUIET = 6 * 3600
 _UNIT = re.compile(r"rooms[a-z-]*(@(?P<room>[a-z0-9-]+))?\.(service|timer)", re.ASCII)
@@ -62,11 +62,15 @@ def keep_told(unit: str) -> None:
         say(f"{stamp} can't be written: {fault.strerror}")
 
 
+def arguments(parser: words.Parser) -> None:
+    words.word(parser, "unit", "UNIT", "a unit of rooms, such as rooms@office.service")
+
+
 def run(given: argparse.Namespace) -> int:
-    named = _UNIT.fullmatch(given.words[0]) if len(given.words) == 1 else None
+    unit = given.unit
+    named = _UNIT.fullmatch(unit)
     if named is None:
-        raise Refused(f"bad arguments: rooms-admin {USAGE}")
-    unit = given.words[0]
+        raise Refused(f"bad arguments: '{unit}' isn't a unit of rooms")
     result = os.environ.get("MONITOR_SERVICE_RESULT", "")
     to = mail_of(named["room"] or "office")
     if not to:

@@ -8,6 +8,7 @@ import re
 import time
 import unicodedata
 
+from ..cli import words
 from ..host import locks, safe, waiting
 from ..room import backups, dump, names, passwords, program, published, server, settings
 from ..room.dump import Pair
@@ -15,7 +16,6 @@ from ..room.members import as_text, of_text, read
 from ..cli.report import Refused, say
 from ..room.settings import Room
 
-USAGE = "people [--room ROOM | CONF]"
 FILE = "people.json"
 # What was known last of the groups, for root alone.
 MEMBERS = "members.csv"
@@ -150,10 +150,14 @@ def known(room: Room) -> tuple[set[Pair], float]:
     return dump.members(last), last_at
 
 
+def arguments(parser: words.Parser) -> None:
+    words.room(parser)
+
+
 def run(given: argparse.Namespace) -> int:
     os.umask(0o077)
     os.chdir("/")
-    room = settings.named(given.words, USAGE)
+    room = settings.room(given.room)
     published.name_of(room)
     with locks.lock(room.unit, 60):
         members, at = known(room) if room.people != "no" else (set(), 0.0)

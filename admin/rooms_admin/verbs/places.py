@@ -8,12 +8,12 @@ import os
 from collections.abc import Iterable
 from dataclasses import dataclass, field
 
+from ..cli import words
 from ..host import locks, safe
 from ..room import backups, private_server, program, published, settings
 from ..cli.report import Refused, Stop, say
 from ..room.settings import Room
 
-USAGE = "mine [--room ROOM | CONF]"
 NAME = "mine"
 OTHERS = "*"
 # After moves a path may be longer than any request can name.
@@ -89,10 +89,14 @@ def nightly(room: Room, path: str) -> list[str]:
     return []
 
 
+def arguments(parser: words.Parser) -> None:
+    words.room(parser)
+
+
 def run(given: argparse.Namespace) -> int:
     os.umask(0o077)
     os.chdir("/")
-    room = settings.named(given.words, USAGE)
+    room = settings.room(given.room)
     published.name_of(room)
     last = backups.newest(room, room.base)
     if not last:

@@ -15,14 +15,11 @@ import sys
 import time
 from contextlib import ExitStack
 
-from ..cli import report
+from ..cli import report, words
 from ..host import locks
 from ..room import server, settings
 from ..cli.report import Interrupted, Refused, Stop, say
 from ..room.size import NoRoom, Used
-
-USAGE = "full [--look] [--room ROOM | CONF ..]"
-
 
 FOLDER = os.path.join(locks.RUN, "rooms-full")
 
@@ -132,15 +129,20 @@ def _remove(place: str) -> bool:
         return False
 
 
+def arguments(parser: words.Parser) -> None:
+    words.rooms(parser, "office")
+    words.flag(parser, "--look", "print how much is in use, and end")
+
+
 def run(given: argparse.Namespace) -> int:
-    rooms = [settings.room(one) for one in given.words or [""]]
+    rooms = [settings.room(one) for one in given.rooms or [""]]
     for room in rooms:
         if not room.port and not room.socket:
             raise Refused(f"bad settings: PORT in {room.conf} is empty, and nginx knows a room by "
                           "its port")
     if given.look:
         if len(rooms) != 1:
-            raise Refused(f"bad arguments: rooms-admin {USAGE}")
+            raise Refused("bad arguments: --look looks at one room")
         limit = server.limit_of(rooms[0])
         try:
             used = Reader(rooms[0]).look()

@@ -5,6 +5,7 @@ import argparse
 import os
 from contextlib import ExitStack
 
+from ..cli import words
 from ..host import locks
 from ..room import published, settings
 from ..site import apply, password_files
@@ -12,14 +13,15 @@ from . import add, setup
 from ..host.changes import Changes
 from ..cli.report import Refused
 
-USAGE = "remove [--dry-run] [--destdir DIR] NAME"
+
+def arguments(parser: words.Parser) -> None:
+    words.word(parser, "name", "NAME", "of the room")
+    setup.image(parser)
 
 
 def run(given: argparse.Namespace) -> int:
-    if len(given.words) != 1:
-        raise Refused(f"bad arguments: rooms-admin {USAGE}")
     made = setup.look_first(given.destdir, given.dry_run)
-    name = given.words[0]
+    name = given.name
     add.look_at_name(name)
     add.look_at_machine(made)
     with locks.machine(made.root, made.dry):

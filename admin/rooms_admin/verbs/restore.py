@@ -16,16 +16,12 @@ import os
 import time
 from contextlib import ExitStack
 
-from ..cli import report
+from ..cli import report, words
 from ..host import commands, locks, safe
 from ..room import backups, health, machine, program, server, settings
 from . import restore_machine
 from ..cli.report import Interrupted, Refused, Stop, say
 from ..room.settings import Room
-
-USAGE = ("restore [--room ROOM | --conf CONF] [--start] BACKUP, or restore [--room ROOM | "
-         "--conf CONF] [--start] --undo, or restore [--room ROOM | --conf CONF] --machine "
-         "[--dry-run] [--start] BACKUP")
 
 
 def refuse_while_served(room: Room) -> None:
@@ -259,7 +255,7 @@ def restore_room(conf: str, backup: str, start: bool) -> None:
                 refuse_while_served(room)
                 task.settle("an earlier restore")
             if found:
-                task.restore(found, f"--conf {conf} " if conf else "")
+                task.restore(found, f"--room {conf} " if conf else "")
         except (Stop, OSError) as stop:
             report.ignore_signals()
             if task.own:
@@ -312,7 +308,7 @@ def _tell_rest(task: restore_machine.Machine) -> None:
     print("What is left, where this is a new machine (docs/backup.md), which --start does:")
     for name in sorted(tar.files):
         if name.startswith("etc/rooms/") and name.endswith(".conf"):
-            print(f"  rooms-admin restore --conf /{name} latest")
+            print(f"  rooms-admin restore --room /{name} latest")
     print("  rooms-admin setup; systemctl daemon-reload; nginx -t && "
           "systemctl reload-or-restart nginx")
     # One after the other, since systemctl refuses all of them where one isn't there.
@@ -323,8 +319,8 @@ def _tell_rest(task: restore_machine.Machine) -> None:
 def bring_back_machine(given: argparse.Namespace) -> int:
     if not machine.ROOT and os.geteuid() != 0:
         raise Refused("not root")
-    conf = settings.file_of(given.conf)
-    tar = restore_machine.read(restore_machine.find(conf, given.words[0]))
+    conf = settings.file_of(given.room)
+    tar = restore_machine.read(restore_machine.find(conf, given.backup))
     with ExitStack() as owned:
         task = restore_machine.Machine(tar, owned)
         task.lock()
@@ -347,18 +343,33 @@ def bring_back_machine(given: argparse.Namespace) -> int:
     return 0
 
 
+def arguments(parser: words.Parser) -> None:
+    parser.forms = ["[--room ROOM] [--start] BACKUP", "[--room ROOM] [--start] --undo",
+                    "[--room ROOM] --machine [--dry-run] [--start] BACKUP"]
+    words.word(parser, "backup", "[BACKUP]", "a folder, the name of a backup, or latest")
+    words.room(parser, former="")
+    what = parser.add_mutually_exclusive_group()
+    words.flag(what, "--undo", "put the old room back after a restore that was cut off")
+    words.flag(what, "--machine", "bring back what the machine had beside its rooms")
+    words.flag(parser, "--start", "stop the server if it runs, and start it; with --machine, "
+               "restore rooms that aren't there, and enable what was enabled")
+    words.flag(parser, "--dry-run", "with --machine, print what would be done")
+
+
 def run(given: argparse.Namespace) -> int:
     os.umask(0o077)
-    if len(given.words) != (0 if given.undo else 1) or given.words == [""] or (
-            given.undo and given.machine) or (given.dry_run and not given.machine):
-        raise Refused(f"bad arguments: rooms-admin {USAGE}")
+    if bool(given.backup) == given.undo:
+        raise Refused("bad arguments: --undo takes no BACKUP" if given.undo else
+                      "bad arguments: BACKUP is missing, or --undo")
+    if given.dry_run and not given.machine:
+        raise Refused("bad arguments: --dry-run is for --machine")
     if given.machine:
         return bring_back_machine(given)
     # A path may be named by where this was called.
-    backup = given.words[0] if given.words else ""
+    backup = given.backup
     if "/" in backup:
         backup = os.path.abspath(backup)
-    conf = given.conf and os.path.abspath(settings.file_of(given.conf))
+    conf = given.room and os.path.abspath(settings.file_of(given.room))
     os.chdir("/")
     restore_room(conf, backup, given.start)
     return 0

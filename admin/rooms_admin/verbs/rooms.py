@@ -7,10 +7,8 @@ import glob
 import json
 import os
 
-from ..cli.report import Refused
+from ..cli import words
 from ..room import server, settings
-
-USAGE = "rooms [--json]"
 
 
 def _place(conf: str, name: str) -> str:
@@ -29,9 +27,11 @@ def _state(conf: str, name: str) -> str:
     return server.systemctl("is-active", settings.value(conf, "UNIT") or f"rooms@{name}")[1]
 
 
+def arguments(parser: words.Parser) -> None:
+    words.flag(parser, "--json", "print them for a program")
+
+
 def run(given: argparse.Namespace) -> int:
-    if given.words:
-        raise Refused(f"bad arguments: rooms-admin {USAGE}")
     found = []
     for conf in sorted(glob.glob(f"{glob.escape(settings.HOME)}/*.conf")
                        + glob.glob(f"{glob.escape(settings.HOME)}/*.on")):

@@ -9,20 +9,32 @@ import shutil
 import tempfile
 from pwd import getpwnam
 
+from ..cli import words
 from ..host import changes, commands, locks
 from ..room import passwords, program as runs, settings
 from ..site import apache, apply, directory, legacy, password_files, template
 from ..host.changes import Changes
 from ..cli.report import Refused, Stop
 
-USAGE = "setup [--dry-run] [--tls CERTIFICATE KEY] [--directory FILE|none] [--destdir DIR]"
 _OFFICE = "/etc/rooms/office.conf"
 _UNIT = "rooms-passwords.service"
 
 
+def image(parser: words.Parser) -> None:
+    """What all verbs take that change a machine."""
+    words.flag(parser, "--dry-run", "print what would be done, and change nothing")
+    words.option(parser, "--destdir", "DIR", "change an image of a machine in this folder, and "
+                 "start nothing")
+
+
+def arguments(parser: words.Parser) -> None:
+    image(parser)
+    words.option(parser, "--tls", "CERTIFICATE KEY", "serve the site with TLS, by these two files")
+    words.option(parser, "--directory", "FILE", "have passwords of office checked by the "
+                 "directory that FILE names; 'none' goes back to files of passwords")
+
+
 def run(given: argparse.Namespace) -> int:
-    if given.words:
-        raise Refused(f"bad arguments: rooms-admin {USAGE}")
     made = look_first(given.destdir, given.dry_run)
     with locks.machine(made.root, made.dry):
         pair = _look_at_pair(made, *given.tls) if given.tls else None

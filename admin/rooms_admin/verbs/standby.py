@@ -7,13 +7,12 @@ import os
 import shutil
 from contextlib import ExitStack
 
-from ..cli import report
+from ..cli import report, words
 from ..host import commands, locks, safe
 from ..room import backups, copying, private_server, program, server, settings
 from ..cli.report import Refused, Stop, say
 from ..room.settings import Room
 
-USAGE = "standby [--after] [--room ROOM | CONF]"
 LAST = "the last copy stays"
 
 
@@ -103,10 +102,16 @@ def send(room: Room) -> None:
         raise Stop(f"{room.standby} doesn't get the copy: {done.out}")
 
 
+def arguments(parser: words.Parser) -> None:
+    words.room(parser)
+    words.flag(parser, "--after", "only do what a run that was cut off still owes; the unit calls "
+               "it")
+
+
 def run(given: argparse.Namespace) -> int:
     os.umask(0o077)
     os.chdir("/")
-    room = settings.named(given.words, USAGE)
+    room = settings.room(given.room)
     mark = server.Mark(os.path.join(locks.RUN, f"rooms-standby.{room.unit}"))
     if given.after:
         # Before all that may be refused. A run that is still at work would notice, and copy again.

@@ -12,6 +12,7 @@ from collections.abc import Iterator
 from contextlib import ExitStack, contextmanager
 from dataclasses import dataclass
 
+from ..cli import words
 from ..host import locks
 from ..room import members, names, passwords, published, server, settings
 from . import handover, people
@@ -20,9 +21,6 @@ from ..room.http_client import Caller
 from ..cli.report import Interrupted, Refused, Stop, say
 from ..room.settings import Room
 
-USAGE = ("user add NAME [--groups A,B] [--first] [--room ROOM | CONF], or user add --file FILE "
-         "[--first] [--room ROOM | CONF], or user remove NAME [--to HEIR | --password] "
-         "[--room ROOM | CONF]")
 _OPTIONS = {"add": ("--groups", "--file", "--first"), "remove": ("--to", "--password")}
 
 
@@ -38,24 +36,52 @@ class Words:
     is_password: bool = False
 
 
-def _words(given: list[str], options: dict[str, str]) -> Words:
-    """A name may begin with a dash, a room can't."""
-    bad = Refused(f"bad arguments: rooms-admin {USAGE}")
-    verb, rest = (given[0], given[1:]) if given else ("", [])
-    found = {option: value for option, value in options.items() if value}
-    if verb not in _OPTIONS or set(found) - set(_OPTIONS[verb]) or len(
-            set(found) - {"--first"}) > 1:
-        raise bad
-    file, heir = options["--file"], options["--to"]
-    groups = options["--groups"].split(",") if options["--groups"] else []
-    name = "" if file else rest.pop(0) if rest else ""
-    if bool(name) == bool(file) or len(rest) > 1 or "".join(rest)[:1] == "-" or not all(groups):
-        raise bad
-    for one in [name, *groups, heir]:
-        if one and not names.is_user(one):
+def arguments(parser: words.Parser) -> None:
+    parser.forms = ["add NAME [--groups GROUPS] [--first] [--room ROOM]",
+                    "add --file FILE [--first] [--room ROOM]",
+                    "remove NAME [--to HEIR | --password] [--room ROOM]"]
+    parser.add_argument("verb", metavar="WHAT", choices=list(_OPTIONS), help="add or remove")
+    words.word(parser, "name", "[NAME]", "the user")
+    words.room(parser)
+    words.option(parser, "--groups", "GROUPS", "add the user to these groups, with commas between "
+                 "them")
+    words.option(parser, "--file", "FILE", "add all users of this file, and stop the server once")
+    words.flag(parser, "--first", "a password that opens nothing until the user has changed it")
+    words.option(parser, "--to", "HEIR", "give all that belongs to the user to HEIR, who asks for "
+                 "it")
+    words.flag(parser, "--password", "take the password away, and nothing else; the server isn't "
+               "stopped")
+
+
+def _refuse_mixed(given: argparse.Namespace) -> None:
+    """Options of the other form, or two that each say all."""
+    found = [option for options in _OPTIONS.values() for option in options
+             if getattr(given, option[2:])]
+    for one in found:
+        if one not in _OPTIONS[given.verb]:
+            raise Refused(f"bad arguments: {one} isn't for {given.verb}")
+    if len(set(found) - {"--first"}) > 1:
+        raise Refused(f"bad arguments: {' and '.join(found)} don't go together")
+
+
+def read_words(given: argparse.Namespace) -> Words:
+    _refuse_mixed(given)
+    name, room = given.name, given.room
+    if given.file and name:
+        # Where a name would be, an earlier version had the room.
+        if room:
+            raise Refused(f"bad arguments: a word too many: '{name}'")
+        name, room = "", name
+        words.tell_former([f"--room {room}"])
+    if not name and not given.file:
+        raise Refused("bad arguments: NAME is missing" + (", or --file FILE" if given.verb == "add"
+                                                          else ""))
+    groups = given.groups.split(",") if given.groups else []
+    for one in [*([name] if name else []), *groups, *([given.to] if given.to else [])]:
+        if not names.is_user(one):
             raise Refused(f"bad arguments: '{one}' can't be the name of a user or a group")
-    return Words(verb, name, "".join(rest) or "office", groups, file, heir, "--first" in found,
-                 "--password" in found)
+    return Words(given.verb, name, room or "office", groups, given.file, given.to, given.first,
+                 given.password)
 
 
 def rows(path: str) -> dict[str, set[str]]:
@@ -196,9 +222,8 @@ def _hand_over(room: Room, lists: bytes, name: str, heir: str) -> int:
     with os.fdopen(number, "wb") as file:
         file.write(lists)
         file.flush()
-        given = argparse.Namespace(words=[room.conf, f"/proc/self/fd/{number}", name, heir],
-                                   dry_run=False)
-        return handover.run(given, Caller(as_user=heir))
+        return handover.give(room.conf, Caller(as_user=heir), f"/proc/self/fd/{number}", name, heir,
+                             False)
 
 
 def _room(asked: Words) -> tuple[str, Room | None]:
@@ -218,14 +243,9 @@ def _room(asked: Words) -> tuple[str, Room | None]:
     return published.name_of(room), room
 
 
-def options(given: argparse.Namespace) -> dict[str, str]:
-    return {"--groups": given.groups, "--file": given.file, "--to": given.to,
-            "--first": "yes" if given.first else "", "--password": "yes" if given.password else ""}
-
-
 def run(given: argparse.Namespace) -> int:
     """What is asked on a terminal is asked before anything is locked."""
-    asked = _words(given.words, options(given))
+    asked = read_words(given)
     wanted = rows(asked.file) if asked.file else {}
     os.umask(0o077)
     os.chdir("/")

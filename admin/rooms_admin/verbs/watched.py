@@ -64,7 +64,7 @@ def see_answer(room: Room) -> list[Finding]:
     state = server.state(room) or "no unit"
     if state == "inactive" and os.path.exists(server.left_at_rest(room)):
         return [(CRITICAL, f"{room.unit} was stopped while groups were changed, and that was cut "
-                 f"off: rooms-admin groups --after {room.name}")]
+                 f"off: rooms-admin groups --after --room {room.name}")]
     return [(CRITICAL, f"{room.unit} doesn't answer ({state}): systemctl status {room.unit}")]
 
 
