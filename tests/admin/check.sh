@@ -294,6 +294,20 @@ sed 's/^UNIT=.*/UNIT=rooms@other/; s/^PORT=.*/PORT=much/' root/etc/rooms/office.
 checks 'settings with a mistake' 2 "bad settings: PORT in $PWD/root/etc/rooms/other.conf"
 words=(-r office)
 checks 'the room beside it' 0 'rooms OK - office'
+words=(--json)
+ROOMS_SETTINGS=$PWD/root/etc/rooms PATH=$stand/bin:$PATH \
+  "$repo/admin/rooms-admin" check --json >"$work/out" 2>"$work/err" </dev/null
+holds 'the same for a program' [ "$?" = 2 ]
+python3 -c 'import json, sys
+for one in json.load(sys.stdin): print(one["room"] or "-", one["level"], one["text"])
+' <"$work/out" >got
+grep '^other ' got >rows
+printf 'other critical bad settings: PORT in %s isn'"'"'t a port: '"'"'much'"'"'\n' \
+  "$PWD/root/etc/rooms/other.conf" >wanted
+same 'what is wrong with one room' rows wanted
+for seen in 'answers' 'nginx answers' 'last good backup 1 h ago'; do
+  holds "what is well: $seen" grep -qx "office ok $seen" got
+done
 words=()
 rm root/etc/rooms/other.conf
 

@@ -35,9 +35,9 @@ new_file() {
   rm -rf var/*
   as_user "$rooms" init "$file" root staff >/dev/null
 }
-doctor() { # FILE
+doctor() { # FILE [WORD ..]
   ROOMS_SETTINGS=$PWD/settings ROOMS_RUN=$PWD/run PATH=$PWD/bin:$PATH "$repo/admin/rooms-admin" \
-    doctor --user "$user" --program "$program" "$1" </dev/null >"$work/out" 2>"$work/err"
+    doctor --user "$user" --program "$program" "$@" </dev/null >"$work/out" 2>"$work/err"
   status=$?
 }
 fails() { # NAME FAULT [FILE]: the program does, as the room's user
@@ -260,8 +260,16 @@ printf '#!/bin/sh\necho %s\n' "$PWD/var" >bin/systemctl
 chmod 755 bin/systemctl
 doctor "$file"
 told 'two rooms of one file' 1 'busy: two rooms name this file'
+doctor "$file" --json
+text='two rooms name this file, so that only one of them runs'
+rows_are 'the same for a program' \
+  '{"cause": "busy", "text": "'"$text: grep -H ^FILE= $PWD/settings/*.conf"'"}'
+holds 'and its status' [ "$status" = 1 ]
 rm settings/two.conf
 well 'one room, in a folder that its unit may write'
+doctor "$file" --json
+rows_are 'nothing for a program'
+holds 'and the status of that' [ "$status" = 0 ]
 echo '#!/bin/sh' >bin/systemctl
 doctor "$file"
 told 'a folder that its unit may not write' 1 "read-only: the unit rooms@one may not write there" \

@@ -57,6 +57,16 @@ means 104857600 '' 1
 means infinity '' 'any number'
 means 1073741824 none 'any number'
 means 104857600 7 7
+fulls --json
+rows_are 'for a program' '{"room": "rooms", "used": '"$(stat -c %s room/F)"', "limit": 7340032, "full": false}'
+holds 'a room that is not full' [ "$status" = 0 ]
+write_conf none
+fulls --json --room ./conf
+rows_are 'two rooms' \
+  '{"room": "rooms", "used": '"$(stat -c %s room/F)"', "limit": null, "full": false}' \
+  '{"room": "rooms", "used": '"$(stat -c %s room/F)"', "limit": null, "full": false}'
+fulls --look --room ./conf
+told 'two rooms in one line' 2 'bad arguments: --look looks at one room, --json at several'
 printf '#!/bin/sh\nexit 1\n' >bin/systemctl
 write_conf ''
 fulls --look
@@ -80,6 +90,9 @@ write_conf 5
 megabytes root /m 8
 fulls --look
 told 'a room that is too large' 1 '8 MB of 5 are in use'
+fulls --json
+holds 'the same for a program' [ "$status" = 1 ]
+holds 'which says so' grep -q '"full": true' "$work/out"
 size=$(stat -c %s room/F)
 for n in 1 2 3 4 5; do asks "document $n is removed" done_reply DELETE "/object/m$n" root; done
 fulls --look

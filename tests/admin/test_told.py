@@ -147,7 +147,7 @@ class Flags(unittest.TestCase):
                 unittest.mock.patch.object(sys, "stdout") as shown:
             shown.isatty.return_value = True
             with self.assertRaisesRegex(Refused, "rooms-admin full --look"):
-                quota.run(unittest.mock.Mock(rooms=[], look=False))
+                quota.run(unittest.mock.Mock(rooms=[], look=False, json=False))
 
 
 class Passwords(unittest.TestCase):

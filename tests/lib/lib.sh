@@ -48,6 +48,13 @@ told() { # NAME STATUS TEXT ..
   done
 }
 
+# A verb with --json has printed a list of these objects and of no other.
+rows_are() { # NAME OBJECT ..
+  holds "$1: $(head -c 400 "$work/out" "$work/err")" python3 -c 'import json, sys
+wanted = [json.loads(one) for one in sys.argv[2:]]
+sys.exit(json.load(open(sys.argv[1], encoding="utf-8")) != wanted)' "$work/out" "${@:2}"
+}
+
 # Runs the program on $input, with what it writes in $work/out and $work/err, and its status in
 # $status.
 run() {

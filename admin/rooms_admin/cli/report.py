@@ -1,9 +1,10 @@
 """What is printed, and how a verb ends."""
+import json
 import os
 import signal
 import sys
 import types
-from collections.abc import Iterator
+from collections.abc import Iterator, Mapping, Sequence
 from contextlib import contextmanager
 
 prog = "rooms-admin"
@@ -65,6 +66,11 @@ def signals_wait(how: int = signal.SIG_BLOCK) -> Iterator[None]:
         yield
     finally:
         signal.pthread_sigmask(signal.SIG_SETMASK, before)
+
+
+def put_rows(rows: Sequence[Mapping[str, object]]) -> None:
+    """For a program, by --json: a list of objects, whatever the verb."""
+    print(json.dumps(rows, indent=1), flush=True)
 
 
 _shown = False

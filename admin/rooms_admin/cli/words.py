@@ -111,6 +111,11 @@ def option(parser: argparse._ActionsContainer, name: str, value: str, about: str
         parser.add_argument(name, metavar=value, default=default, help=about, dest=dest)
 
 
+def rows(parser: Parser) -> None:
+    """Of a verb whose findings a program may want."""
+    flag(parser, "--json", "print a list of objects, for a program")
+
+
 def of(verb: str, module: ModuleType) -> Parser:
     parser = Parser(verb)
     module.arguments(parser)

@@ -1,10 +1,13 @@
 """Whether all is well, in one line, for monitoring: 0 if so, 1 with a warning, 2 where something is
-critical. Nothing is changed."""
+critical. Nothing is changed.
+
+With --json it is a list of objects with the names 'room', 'level' and 'text', one for each thing
+that was seen: 'level' is 'ok', 'warning' or 'critical', and 'room' is empty for the machine."""
 import argparse
 import glob
 import os
 
-from ..cli import words
+from ..cli import report, words
 from ..room import settings
 from . import watched
 from ..cli.report import Refused
@@ -16,6 +19,7 @@ _WORDS = {OK: "OK", WARNING: "WARNING", CRITICAL: "CRITICAL"}
 
 def arguments(parser: words.Parser) -> None:
     words.rooms(parser, "all")
+    words.rows(parser)
 
 
 def _rooms(named: list[str]) -> list[str]:
@@ -25,27 +29,37 @@ def _rooms(named: list[str]) -> list[str]:
     return found
 
 
-def _one(conf: str) -> list[Finding]:
+def _of_room(conf: str) -> list[Finding]:
     """Settings that are refused are a finding, and the other rooms are looked at all the same."""
-    name = os.path.basename(settings.file_of(conf)).removesuffix(".conf")
     try:
-        found = watched.of_room(conf)
+        return watched.of_room(conf)
     except Refused as stop:
         return [(CRITICAL, str(stop))]
+
+
+def _told(name: str, found: list[Finding]) -> Finding:
     worst = max(level for level, _ in found)
     # Of a room that is well all that was seen is told, otherwise what isn't.
     texts = [text for level, text in found if text and level in (worst, max(worst, WARNING), 2)]
-    return [(worst, f"{name}: {', '.join(dict.fromkeys(texts))}")]
+    return worst, f"{name}: {', '.join(dict.fromkeys(texts))}"
 
 
-def run(given: argparse.Namespace) -> int:
-    found = [one for conf in _rooms(given.rooms) for one in _one(conf)]
-    found += watched.see_units()
-    found += watched.see_directory()
-    found += watched.see_certificates()
+def _line(found: list[Finding]) -> str:
     worst = max(level for level, _ in found)
     told = [text for level, text in sorted(found, key=lambda one: -one[0])
             if text and (worst == OK or level > OK)]
     line = f"rooms {_WORDS[worst]} - {'; '.join(told)}"
-    print("".join(one if one.isprintable() else "?" for one in line))
-    return worst
+    return "".join(one if one.isprintable() else "?" for one in line)
+
+
+def run(given: argparse.Namespace) -> int:
+    rooms = [(os.path.basename(settings.file_of(conf)).removesuffix(".conf"), _of_room(conf))
+             for conf in _rooms(given.rooms)]
+    machine = [*watched.see_units(), *watched.see_directory(), *watched.see_certificates()]
+    if given.json:
+        report.put_rows([{"room": name, "level": _WORDS[level].lower(), "text": text}
+                         for name, found in [*rooms, ("", machine)]
+                         for level, text in found if text])
+    else:
+        print(_line([*(_told(name, found) for name, found in rooms), *machine]))
+    return max(level for _, found in [*rooms, ("", machine)] for level, _ in found)

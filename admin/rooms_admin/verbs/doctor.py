@@ -1,12 +1,15 @@
 """Looks at a room and what is around it, and says why the program prints `fault: database` or
 `fault: file` of it. The room isn't opened or changed; everything is tried as the room's user, in a
-process of that user, which also takes the copy that is verified. Each cause is a line."""
+process of that user, which also takes the copy that is verified. Each cause is a line.
+
+With --json they are a list of objects with the names 'cause' and 'text', and the list is empty
+where nothing is wrong."""
 import argparse
 import os
 import pwd
 import shlex
 
-from ..cli import words
+from ..cli import report, words
 from ..host import as_user
 from ..room import settings
 from . import holders
@@ -19,12 +22,14 @@ class Doctor:
         self.folder, self.base = os.path.split(file)
         self.user = user
         self.program = program
-        self.causes = 0
+        self.causes: list[dict[str, str]] = []
         self.fixed = False
+        self.prints = True
 
     def cause(self, what: str, text: str) -> None:
-        self.causes += 1
-        print("".join(c if c.isprintable() else "?" for c in f"{what}: {text}"), flush=True)
+        self.causes.append({"cause": what, "text": text})
+        if self.prints:
+            print("".join(c if c.isprintable() else "?" for c in f"{what}: {text}"), flush=True)
 
     def as_user(self, work: as_user.Work) -> list[list[str]]:
         return as_user.as_user(self.user, work)
@@ -160,7 +165,8 @@ class Doctor:
                     lambda: as_user.verify(self.program, self.file, place)):
                 self.cause(what, text)
 
-    def run(self) -> int:
+    def look(self) -> str:
+        """All of it; by whom it is served."""
         served = ""
         if self.look_at_way() and self.look_at_file():
             self.look_at_mount()
@@ -170,11 +176,17 @@ class Doctor:
             self.look_at_space()
             if self.look_at_kind() and not served:
                 self.look_inside()
-        if self.causes:
-            return 1
-        print(f"nothing is wrong: {served} serves {self.file}, and answers" if served else
-              f"nothing is wrong: {self.user.pw_name} can open {self.file}, and it is sound")
-        return 0
+        return served
+
+    def run(self, as_rows: bool) -> int:
+        self.prints = not as_rows
+        served = self.look()
+        if as_rows:
+            report.put_rows(self.causes)
+        elif not self.causes:
+            print(f"nothing is wrong: {served} serves {self.file}, and answers" if served else
+                  f"nothing is wrong: {self.user.pw_name} can open {self.file}, and it is sound")
+        return 1 if self.causes else 0
 
 
 def _user(given: str, folder: str) -> pwd.struct_passwd:
@@ -194,6 +206,7 @@ def arguments(parser: words.Parser) -> None:
     words.room(parser, former="")
     words.option(parser, "--user", "USER", "the room's user, rooms without it")
     words.option(parser, "--program", "FILE", "the program that verifies a copy")
+    words.rows(parser)
 
 
 def _file(given: argparse.Namespace) -> str:
@@ -219,4 +232,4 @@ def run(given: argparse.Namespace) -> int:
         raise Refused(f"not root: only root and {user.pw_name} can look at it")
     os.chdir("/")
     os.umask(0o077)
-    return Doctor(file, user, program).run()
+    return Doctor(file, user, program).run(given.json)

@@ -4,10 +4,9 @@ backup and is none, or can't be read, is told.
 
 With --json it is a list of objects with the names 'number', 'bytes', 'folder' and 'without'."""
 import argparse
-import json
 import os
 
-from ..cli import words
+from ..cli import report, words
 from ..host import waiting
 from ..room import backups, server, settings
 from ..cli.report import Stop, say
@@ -17,7 +16,7 @@ _BESIDE = ("records.csv", "lists.txt", "review.csv")
 
 def arguments(parser: words.Parser) -> None:
     words.room(parser)
-    words.flag(parser, "--json", "print them for a program")
+    words.rows(parser)
 
 
 def run(given: argparse.Namespace) -> int:
@@ -32,7 +31,7 @@ def run(given: argparse.Namespace) -> int:
     if not isinstance(got, list):
         raise Stop(f"not read: {room.backups}: the look failed")
     if given.json:
-        print(json.dumps(got[0], indent=1))
+        report.put_rows(got[0])
     for one in got[0] if not given.json else []:
         lacks = f"  without {', '.join(one['without'])}" if one["without"] else ""
         print(f"{one['number']:6} {one['bytes'] + 0xfffff >> 20:6} MB  {one['folder']}{lacks}")

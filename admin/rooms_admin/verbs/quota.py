@@ -5,7 +5,9 @@ the file and its log, without free ones. It looks each second, or each five whil
 LIMIT is in use; it locks and changes nothing of the room, and runs as the room's user. The flag
 goes below 95 hundredths of LIMIT, and when this ends; after a kill it stays until this runs again.
 
-With --look the status is 0 if the room isn't full, and 1 if it is."""
+With --look the status is 0 if the room isn't full, and 1 if it is. With --json it looks too, and
+prints a list of objects with the names 'room', 'used', 'limit' and 'full': bytes, 'limit' is null
+where there is none, and the status is 1 if one of several rooms is full."""
 import argparse
 import os
 import signal
@@ -132,6 +134,32 @@ def _remove(place: str) -> bool:
 def arguments(parser: words.Parser) -> None:
     words.rooms(parser, "office")
     words.flag(parser, "--look", "print how much is in use, and end")
+    words.rows(parser)
+
+
+def _look(room: settings.Room) -> tuple[int, int | None]:
+    """How many bytes are in use, and how many may be."""
+    limit = server.limit_of(room)
+    try:
+        return Reader(room).look(), None if limit is None else limit << 20
+    except NoRoom:
+        raise Refused(f"{room.file} can't be read") from None
+
+
+def _tell_one(rooms: list[settings.Room]) -> int:
+    if len(rooms) != 1:
+        raise Refused("bad arguments: --look looks at one room, --json at several")
+    used, limit = _look(rooms[0])
+    print(f"{used >> 20} MB of {'any number' if limit is None else limit >> 20} are in use")
+    return 0 if limit is None or used <= limit else 1
+
+
+def _tell_rows(rooms: list[settings.Room]) -> int:
+    seen = [(room.name, *_look(room)) for room in rooms]
+    rows = [{"room": name, "used": used, "limit": limit,
+             "full": limit is not None and used > limit} for name, used, limit in seen]
+    report.put_rows(rows)
+    return int(any(row["full"] for row in rows))
 
 
 def run(given: argparse.Namespace) -> int:
@@ -140,16 +168,10 @@ def run(given: argparse.Namespace) -> int:
         if not room.port and not room.socket:
             raise Refused(f"bad settings: PORT in {room.conf} is empty, and nginx knows a room by "
                           "its port")
+    if given.json:
+        return _tell_rows(rooms)
     if given.look:
-        if len(rooms) != 1:
-            raise Refused("bad arguments: --look looks at one room")
-        limit = server.limit_of(rooms[0])
-        try:
-            used = Reader(rooms[0]).look()
-        except NoRoom:
-            raise Refused(f"{rooms[0].file} can't be read") from None
-        print(f"{used >> 20} MB of {limit or 'any number'} are in use")
-        return 0 if limit is None or used <= limit << 20 else 1
+        return _tell_one(rooms)
     if sys.stdout is not None and sys.stdout.isatty():
         raise Refused("bad arguments: without --look this goes on until somebody ends it, which is "
                       "what the unit of a room needs: rooms-admin full --look")

@@ -4,10 +4,9 @@ on another machine has no file here.
 With --json it is a list of objects with the names 'name', 'title', 'state', 'at' and 'file'."""
 import argparse
 import glob
-import json
 import os
 
-from ..cli import words
+from ..cli import report, words
 from ..room import server, settings
 
 
@@ -28,7 +27,7 @@ def _state(conf: str, name: str) -> str:
 
 
 def arguments(parser: words.Parser) -> None:
-    words.flag(parser, "--json", "print them for a program")
+    words.rows(parser)
 
 
 def run(given: argparse.Namespace) -> int:
@@ -40,7 +39,7 @@ def run(given: argparse.Namespace) -> int:
                       "state": _state(conf, name), "at": _place(conf, name),
                       "file": settings.value(conf, "FILE")})
     if given.json:
-        print(json.dumps(found, indent=1))
+        report.put_rows(found)
         return 0
     for one in found:
         line = "  ".join(word for word in one.values() if word)
