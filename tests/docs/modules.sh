@@ -25,6 +25,7 @@ only() { # WHAT PATTERN FILE
 host=admin/rooms_admin/host
 only 'commands are run' '\bsubprocess\b|\bos[.](exec|spawn|popen|posix_spawn|system\b)' \
   $host/commands.py
+only 'locks are taken' '\bflock\(' $host/locks.py
 only 'children are tied to their parents' '\bprctl\b' $host/processes.py
 
 # What goes the wrong way is found.

@@ -18,6 +18,20 @@ class Busy(Refused):
     """Another verb is at work."""
 
 
+def taken(number: int, seconds: float) -> bool:
+    """Whether an open file or folder is nobody else's, from now until it is closed; or becomes so
+    within these seconds."""
+    ends = time.monotonic() + seconds
+    while True:
+        try:
+            fcntl.flock(number, fcntl.LOCK_EX | fcntl.LOCK_NB)
+            return True
+        except BlockingIOError:
+            if time.monotonic() >= ends:
+                return False
+            time.sleep(0.02)
+
+
 @contextmanager
 def lock(name: str, seconds: float, folder: str = FOLDER) -> Iterator[None]:
     """`name` is a unit such as rooms@office, or 'machine'. It ends with the process, whatever
@@ -36,16 +50,8 @@ def lock(name: str, seconds: float, folder: str = FOLDER) -> Iterator[None]:
     finally:
         os.close(at)
     try:
-        ends = time.monotonic() + seconds
-        while True:
-            try:
-                fcntl.flock(number, fcntl.LOCK_EX | fcntl.LOCK_NB)
-                break
-            except BlockingIOError:
-                if time.monotonic() >= ends:
-                    raise Busy(f"busy: another verb of rooms-admin is at work with {name}"
-                               ) from None
-                time.sleep(0.1)
+        if not taken(number, seconds):
+            raise Busy(f"busy: another verb of rooms-admin is at work with {name}")
         yield
     finally:
         os.close(number)

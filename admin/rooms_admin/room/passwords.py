@@ -4,7 +4,6 @@ rooms-keeper in a folder of its own, and then nothing there is trusted: no link 
 what is written has this owner and this mode again. They have a lock of their own, which nobody
 holds for longer than it takes to write them: so whatever else is at work, somebody can be shut
 out."""
-import fcntl
 import getpass
 import os
 import pwd
@@ -12,7 +11,6 @@ import re
 import secrets
 import stat
 import sys
-import time
 from collections.abc import Iterator
 from contextlib import contextmanager
 from dataclasses import dataclass
@@ -171,15 +169,8 @@ def held(file: str, seconds: float) -> Iterator[None]:
     """One change at a time, root's and users' own. Nobody else opens the folder, so nobody else can
     hold it."""
     with safe.opened(safe.folder(os.path.dirname(file))) as number:
-        ends = time.monotonic() + seconds
-        while True:
-            try:
-                fcntl.flock(number, fcntl.LOCK_EX | fcntl.LOCK_NB)
-                break
-            except BlockingIOError:
-                if time.monotonic() >= ends:
-                    raise Held(f"busy: something else changes {file}") from None
-                time.sleep(0.02)
+        if not locks.taken(number, seconds):
+            raise Held(f"busy: something else changes {file}")
         yield
 
 

@@ -18,7 +18,7 @@ from contextlib import ExitStack
 
 from ..cli import report, words
 from ..host import commands, locks, safe
-from ..room import backups, health, machine, program, server, settings
+from ..room import backups, health, machine, private_server, program, server, settings
 from . import restore_machine
 from ..cli.report import Interrupted, Refused, Stop, say
 from ..room.settings import Room
@@ -134,6 +134,7 @@ class Restore:
         while is_there(self.at, kept):
             turn += 1
             kept = f"{name}.{turn}"
+        self.give(self.old)
         os.rename("old", kept, src_dir_fd=self.stage, dst_dir_fd=self.at)
         self.kept = os.path.join(self.room.folder, kept)
 
@@ -142,40 +143,36 @@ class Restore:
             os.fchown(number, self.room.owner, self.room.group)
 
     def make_copy(self, backup: str) -> None:
-        """A copy in the room's folder, which is verified. Verifying writes to the copy; the backup
-        isn't changed. It may lie in the room's folder, so no link is followed."""
+        """What was verified is a private copy, where the room's user changes nothing, and that one
+        gets to the room's folder. Verifying writes to it; the backup isn't changed."""
+        with private_server.private_copy(self.room, backup) as copied:
+            status, out, text = program.on_copy(self.room, copied, ["verify"])
+            if status != 0:
+                raise Stop(f"no backup: verify of {backup}/{self.base} gives status {status}: "
+                           f"{text or out.decode(errors='replace').strip()}")
+            self.make_stage()
+            assert self.new is not None
+            try:
+                with safe.opened(safe.folder(os.path.dirname(copied))) as source:
+                    private_server.copy_files(os.path.basename(copied), source, self.new, self.base)
+                for name in os.listdir(self.new):
+                    with safe.opened(safe.file_below(self.new, name)) as number:
+                        os.fsync(number)
+                        self.give(number)
+            except (OSError, safe.NoFile) as fault:
+                raise Stop(f"copy of {backup}/{self.base} failed: {safe.why(fault)}") from fault
+
+    def make_stage(self) -> None:
+        """Until all is done it is root's, and nobody else changes anything in it."""
         try:
             os.mkdir(self.name, 0o700, dir_fd=self.at)
             self.open_stage()
             for name in ("new", "old"):
                 os.mkdir(name, 0o700, dir_fd=self.stage)
             self.open_stage()
-            for one in (self.stage, self.new, self.old):
-                assert one is not None
-                self.give(one)
         except OSError as fault:
             raise Stop(f"no folder: {self.room.folder}/{self.name} can't be made: {fault.strerror}"
                        ) from fault
-        with safe.opened(safe.folder(backup)) as within:
-            for name in (self.base, self.log):
-                try:
-                    if name == self.log and not is_there(within, name):
-                        continue
-                    with safe.opened(safe.file_below(within, name)) as source:
-                        target = os.open(name, os.O_WRONLY | os.O_CREAT | os.O_EXCL | os.O_NOFOLLOW,
-                                         0o600, dir_fd=self.new)
-                        with safe.opened(target):
-                            while os.sendfile(target, source, None, 1 << 30):
-                                pass
-                            os.fsync(target)
-                            self.give(target)
-                except (OSError, safe.NoFile) as fault:
-                    raise Stop(f"copy of {backup}/{name} failed: {fault}") from fault
-        place = os.path.join(self.room.folder, self.name, "new", self.base)
-        status, out, text = program.run(self.room, ["verify", place])
-        if status != 0:
-            raise Stop(f"no backup: verify of {backup}/{self.base} gives status {status}: "
-                       f"{text or out.decode(errors='replace').strip()}")
 
     def swap(self) -> None:
         """In this order no file is ever beside the log of another."""

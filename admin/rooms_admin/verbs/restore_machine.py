@@ -7,7 +7,6 @@ import os
 import re
 import shutil
 import tarfile
-import stat
 import time
 from collections import Counter
 from collections.abc import Iterator
@@ -91,16 +90,19 @@ def _is_own_name(name: str, certificates: list[str]) -> bool:
 
 
 def _opened(place: str) -> int:
-    """What it has runs as root, so nobody else may have written it. What is looked at is read."""
+    """What it has runs as root, so nobody else may have written it. Links on the way are those of
+    whoever has named it; what is looked at is what is read, whatever gets its name meanwhile."""
+    above, name = os.path.split(place)
     try:
-        number = os.open(place, os.O_RDONLY | os.O_NONBLOCK | os.O_CLOEXEC)
+        with safe.opened(safe.folder(above)) as within:
+            number = safe.file_below(within, name)
+    except safe.NoFile:
+        raise Refused(f"no machine: {place} isn't a file") from None
     except OSError:
         raise Refused(f"no machine: {place} isn't there or can't be read") from None
     seen = os.fstat(number)
     fault = ""
-    if not stat.S_ISREG(seen.st_mode):
-        fault = f"no machine: {place} isn't a file"
-    elif seen.st_uid not in (0, os.geteuid()) or seen.st_mode & 0o022:
+    if seen.st_uid not in (0, os.geteuid()) or seen.st_mode & 0o022:
         fault = (f"not safe: {place} is one that others can write, and what it has runs as root: "
                  "copy it to where only root does, once you know that it is yours")
     elif seen.st_size > _MOST:

@@ -1,6 +1,5 @@
 """Wrong tries of a password, which are counted in files: there is a process for each request, and
 none remembers anything."""
-import fcntl
 import hashlib
 import os
 import time
@@ -19,21 +18,6 @@ PATIENCE = 5.0
 
 
 @contextmanager
-def _held(number: int) -> Iterator[None]:
-    """The lock ends with the file, whoever closes it."""
-    ends = time.monotonic() + PATIENCE
-    while True:
-        try:
-            fcntl.flock(number, fcntl.LOCK_EX | fcntl.LOCK_NB)
-            break
-        except BlockingIOError:
-            if time.monotonic() >= ends:
-                raise Answer("503 Service Unavailable", "busy") from None
-            time.sleep(0.02)
-    yield
-
-
-@contextmanager
 def counted(room: str, user: str, line: bytes) -> Iterator[list[float]]:
     """The moments of wrong tries of this password of a user's, which nobody else reads or adds to
     meanwhile: of many requests at once each waits for the one before. With one that root gave they
@@ -42,7 +26,9 @@ def counted(room: str, user: str, line: bytes) -> Iterator[list[float]]:
     name = hashlib.sha256(f"{room} {user} ".encode() + line).hexdigest()
     number = os.open(f"{FOLDER}/{name}", os.O_RDWR | os.O_CREAT | os.O_CLOEXEC | os.O_NOFOLLOW,
                      0o600)
-    with safe.opened(number), _held(number):
+    with safe.opened(number):
+        if not locks.taken(number, PATIENCE):
+            raise Answer("503 Service Unavailable", "busy")
         now = time.time()
         wrong = [float(one) for one in os.read(number, 4096).split()]
         # A clock that was set back leaves moments to come.
