@@ -288,6 +288,18 @@ touch -d '30 hours ago' "root/var/lib/systemd/timers/stamp-$timer"
 checks 'groups of another night' 1 'groups 30 h ago'
 rm "root/etc/systemd/system/timers.target.wants/$timer"
 
+# How many may be connected, as nginx's own file says it; without a line nginx has 512.
+conf=root/etc/nginx/nginx.conf
+for said in 'worker_connections 768;' 'events { worker_connections 4096; }'; do
+  echo "$said" >"$conf"
+  checks "nginx.conf has $said" 0 'rooms OK - office'
+done
+echo 'events { }' >"$conf"
+checks 'no number of connections' 1 'nginx holds 512 connections for each of its processes'
+printf '%s\n' 'events {' '    worker_connections 100;' '    # worker_connections 800;' '}' >"$conf"
+checks 'too few connections' 1 'rooms WARNING - nginx holds 100 connections for each of its processes'
+rm "$conf"
+
 # Settings that are refused are said of their room, and the other one is looked at.
 sed 's/^UNIT=.*/UNIT=rooms@other/; s/^PORT=.*/PORT=much/' root/etc/rooms/office.conf \
   >root/etc/rooms/other.conf

@@ -26,6 +26,8 @@ Finding = tuple[int, str]
 HOUR = 3600
 # Less than this is a full disk: twice the largest document, in the log and on its way.
 FULL = 16 << 20
+# What Debian's nginx.conf has, and docs/capacity.md counts on.
+CONNECTIONS = 768
 # The clocks of a disk and of the machine may differ by so much.
 AHEAD = 120
 # Only tests set another address of nginx.
@@ -311,6 +313,25 @@ def see_units() -> list[Finding]:
                     "rooms*"])
     failed = [line.split()[0] for line in said.splitlines() if line.split()]
     return [(CRITICAL, f"failed: {' '.join(sorted(failed))}")] if failed else []
+
+
+def see_connections() -> list[Finding]:
+    """How many connections nginx holds for each of its processes, where it shows rooms."""
+    if not os.path.lexists(f"{machine.ROOT}/etc/nginx/sites-enabled/rooms"):
+        return []
+    try:
+        with open(f"{machine.ROOT}/etc/nginx/nginx.conf", encoding="utf-8",
+                  errors="replace") as source:
+            found = re.findall(r"^[^#\n]*\bworker_connections\s+(\d+)\s*;", source.read(),
+                               re.MULTILINE | re.ASCII)
+    except OSError:
+        return []
+    # Without a line it is this many.
+    most = int(found[-1]) if found else 512
+    if most >= CONNECTIONS:
+        return [(OK, "")]
+    return [(WARNING, f"nginx holds {most} connections for each of its processes, less than the "
+             f"{CONNECTIONS} of Debian: worker_connections in /etc/nginx/nginx.conf")]
 
 
 def see_certificates() -> list[Finding]:
