@@ -14,19 +14,32 @@ same 'web/acl asks nothing and draws nothing' found /dev/null
 (cd "$repo" && grep -nE '\bdocument\.' web/net/*.js web/text/*.js) >found
 same 'web/net and web/text draw nothing' found /dev/null
 
-# What only one module does. Whoever needs it calls that one.
-only() { # WHAT PATTERN FILE
-  (cd "$repo" && grep -nE "$2" admin/rooms_admin/{,*/}*.py services/rooms_services/{,*/,*/*/}*.py |
-    grep -v "^$3:") >found
-  same "$1 in $3 alone" found /dev/null
-  (cd "$repo" && grep -qE "$2" "$3")
-  holds "$1 in $3" [ "$?" = 0 ]
+# What only one module knows or does: no line of another one looks like it. Whoever needs it calls
+# that one. (legacy.py has the text of nginx's files of before; the door has nothing of admin.)
+only() { # WHAT PATTERN MODULE, of admin/rooms_admin
+  (cd "$repo" && grep -nE "$2" admin/rooms_admin/{,*/}*.py deploy/install \
+    services/rooms_services/{,own_password/}*.py |
+    grep -vE "^admin/rooms_admin/($3|site/legacy)[.]py:") >found
+  same "$1 by $3 alone" found /dev/null
+  (cd "$repo" && grep -qE "$2" "admin/rooms_admin/$3.py")
+  status=$?
+  holds "$1 by $3" [ "$status" = 0 ]
 }
-host=admin/rooms_admin/host
-only 'commands are run' '\bsubprocess\b|\bos[.](exec|spawn|popen|posix_spawn|system\b)' \
-  $host/commands.py
-only 'locks are taken' '\bflock\(' $host/locks.py
-only 'children are tied to their parents' '\bprctl\b' $host/processes.py
+only 'a command is run' '\bsubprocess\b|\bos[.](exec|spawn|popen|posix_spawn|system\b)' host/commands
+only 'a child is tied to its parent' '[.]prctl\(' host/processes
+only 'a lock is taken' '\bflock\(' host/locks
+only 'a socket in the file system is asked' '\bAF_UNIX\b' host/at_socket
+only 'the number of a run is read' '"number \(|DATED = ' room/backups
+only 'a file of passwords is named' '[.]htpasswd' room/passwords
+only "members' rows are written and read" 'group,user' room/members
+only 'a server is stopped' 'systemctl\("stop"' room/server
+only 'a server is started' 'systemctl\("start", [a-z.]*unit' room/server
+only 'a setting has its form' 'setting\("[A-Z_]+",|yes\("[A-Z_]+"\)' room/settings
+only 'a line of settings is read' 'startswith\(f?"[A-Z_{}a-z]+=' room/settings
+echo 'import subprocess' >two.py
+grep -cE '\bsubprocess\b' two.py >found
+echo 1 >wanted
+same 'a second one is found' found wanted
 
 # What goes the wrong way is found.
 mkdir -p house/{tools,docs,low/a,low/b,low/c}

@@ -87,6 +87,11 @@ def shown(words: Sequence[str], given: bytes = b"") -> bool:
         return False
 
 
+def in_place(words: Sequence[str]) -> int:
+    """Its status. It has this process's terminal and streams, and as much time as it takes."""
+    return subprocess.run(words, check=False).returncode
+
+
 def started(words: Sequence[str | bytes], before: Callable[[], None], who: Who | None = None,
             stdin: int = subprocess.PIPE, stdout: int = subprocess.PIPE,
             pass_fds: tuple[int, ...] = (), cwd: str | None = None) -> Child:

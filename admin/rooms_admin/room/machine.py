@@ -17,8 +17,8 @@ from . import passwords, settings
 # Only tests set another root.
 ROOT = os.environ.get("ROOMS_ROOT", "")
 OWN = re.compile(
-    r"etc/rooms/.+|var/lib/rooms-passwords/rooms(-[a-z0-9-]+)?\.(htpasswd|first)"
-    r"|etc/nginx/(rooms(-[a-z0-9-]+)?\.htpasswd|sites-available/rooms(-tls)?"
+    rf"etc/rooms/.+|{passwords.KEPT[1:]}/{passwords.NAME}|{passwords.KEPT[1:]}/{passwords.FIRST}"
+    rf"|etc/nginx/({passwords.NAME}|sites-available/rooms(-tls)?"
     r"|sites-enabled/rooms|snippets/rooms-[a-z]+\.conf|rooms\.d/[^/]+|conf\.d/rooms[^/]*\.conf)"
     r"|etc/systemd/system/rooms[^/]*\.d/[^/]+\.conf|etc/letsencrypt/.+", re.ASCII | re.DOTALL)
 # What an editor, dpkg, an install or a restore leaves beside them.

@@ -1,6 +1,7 @@
 """Members of a room's groups: how they are written, and how the program reads and changes them
 while no server runs."""
 import os
+import re
 from collections.abc import Iterator
 
 from ..cli.report import Stop
@@ -15,8 +16,16 @@ def of_text(text: str) -> set[Pair]:
     return {(row[0], row[1]) for row in rows if len(row) == 2}
 
 
-def as_text(members: set[Pair], head: str = "group,user") -> str:
-    return f"{head}\n" + "".join(f"{group},{user}\n" for group, user in sorted(members))
+def as_text(members: set[Pair], after: int | None = None) -> str:
+    """After which backup they were known may stand in the first line."""
+    known = "" if after is None else f" after {after}"
+    return f"group,user{known}\n" + "".join(f"{group},{user}\n"
+                                            for group, user in sorted(members))
+
+
+def after(text: str) -> int | None:
+    found = re.match(r"group,user after (\d{1,9})\n", text, re.ASCII)
+    return int(found[1]) if found else None
 
 
 def _done(what: str, done: tuple[int, bytes, str]) -> bytes:

@@ -28,6 +28,9 @@ LONGEST = 72
 NOBODYS = b"$2y$10$" + b"." * 53
 KEPT = "/var/lib/rooms-passwords"
 FOLDER = published.ROOT + KEPT
+OLD = "/etc/nginx"
+# Of a room's file, and of that with first passwords.
+NAME, FIRST = r"rooms(-[a-z0-9-]+)?\.htpasswd", r"rooms(-[a-z0-9-]+)?\.first"
 SITE = "/etc/nginx/sites-available/rooms"
 KEEPER = "rooms-keeper"
 # Bytes: some 100,000 users.
@@ -84,7 +87,7 @@ def kept_of(name: str) -> str:
 
 def old_of(name: str) -> str:
     """Of a room where root alone does."""
-    return f"/etc/nginx/{_base(name)}.htpasswd"
+    return f"{OLD}/{_base(name)}.htpasswd"
 
 
 def file_of(root: str, name: str) -> str:
@@ -121,6 +124,11 @@ def first_of(file: str) -> str:
 
 def is_kept(file: str) -> bool:
     return os.path.dirname(file) == FOLDER
+
+
+def is_old(file: str) -> bool:
+    """By its place: one that root alone changes, of a room here or of a site of somebody's own."""
+    return os.path.dirname(file) == OLD and file.endswith(".htpasswd")
 
 
 def read(file: str) -> bytes | None:

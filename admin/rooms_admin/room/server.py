@@ -27,6 +27,23 @@ def state(room: Room) -> str:
     return systemctl("is-active", room.unit)[1]
 
 
+def stop(room: Room) -> None:
+    """Only while something is there that starts it again, whatever happens."""
+    if systemctl("stop", room.unit)[0] != 0:
+        raise Stop(f"{room.unit} doesn't stop")
+
+
+def start(room: Room) -> None:
+    if systemctl("start", room.unit)[0] != 0:
+        raise Stop(f"{room.unit} doesn't start: systemctl status {room.unit}")
+
+
+def look_whether_it_stays(room: Room) -> None:
+    """One that finds a fault ends at once, and systemd keeps restarting it."""
+    if state(room) != "active":
+        raise Stop(f"{room.unit} doesn't stay: systemctl status {room.unit}")
+
+
 def settled(room: Room) -> str:
     """Its state, once a server that starts answers. That takes as long as reading its file: half a
     minute is enough, and a second for each megabyte."""
@@ -215,20 +232,16 @@ def at_rest(room: Room) -> Iterator[None]:
         raise Stop(f"no mark: {mark} can't be written, so {room.unit} was not stopped: "
                    f"{fault.strerror}") from fault
     with guarded(lambda: start_again(room)):
-        if systemctl("stop", room.unit)[0] != 0:
-            raise Stop(f"{room.unit} doesn't stop")
+        stop(room)
         yield
 
 
 def start_again(room: Room) -> None:
     """A server that rested."""
-    if systemctl("start", room.unit)[0] != 0:
-        raise Stop(f"{room.unit} doesn't start: systemctl status {room.unit}")
+    start(room)
     if os.path.exists(left_at_rest(room)):
         os.unlink(left_at_rest(room))
-    # One that finds a fault ends at once, and systemd keeps restarting it.
-    if state(room) != "active":
-        raise Stop(f"{room.unit} doesn't stay: systemctl status {room.unit}")
+    look_whether_it_stays(room)
 
 
 def has_open(process: int, file: str) -> bool:

@@ -3,7 +3,7 @@ import functools
 import os
 import re
 import stat
-from collections.abc import Callable
+from collections.abc import Callable, Iterable
 from dataclasses import dataclass, field, fields
 from typing import Any
 
@@ -79,9 +79,11 @@ class Setting:
     default: str
     reads: Callable[[str], Any]
 
+    def fits(self, text: str) -> bool:
+        return bool(matches(self.form, text) if isinstance(self.form, str) else self.form(text))
+
     def of(self, path: str, text: str) -> Any:
-        fits = matches(self.form, text) if isinstance(self.form, str) else self.form(text)
-        need(fits, path, self.name, self.what, text)
+        need(self.fits(text), path, self.name, self.what, text)
         return self.reads(text)
 
 
@@ -266,13 +268,18 @@ def place(path: str) -> Place:
     return Place(name=name, **read)
 
 
+def last(rows: Iterable[str], name: str) -> str | None:
+    """The last value of a name, in lines of settings that were read without a look at the rest."""
+    found = [row for row in rows if row.startswith(f"{name}=")]
+    return found[-1].partition("=")[2] if found else None
+
+
 def value(path: str, name: str) -> str:
-    """The last value of a name, of any file of settings; nothing if there is none."""
+    """The same, of a file; nothing if there is none, or if that is refused."""
     try:
-        found = [line for _, line in lines(path) if line.startswith(f"{name}=")]
+        return last((line for _, line in lines(path)), name) or ""
     except Refused:
         return ""
-    return found[-1].partition("=")[2] if found else ""
 
 
 _SAFE = r"(/[-A-Za-z0-9._/+@,=:]+)?"

@@ -146,8 +146,7 @@ class Night:
             # One that is being restarted over and over, or whose unit runs something else.
             self.mark.write(self.part, "stopped")
             with server.guarded(self.bring_back):
-                if server.systemctl("stop", self.room.unit)[0] != 0:
-                    raise Stop(f"{self.room.unit} doesn't stop")
+                server.stop(self.room)
                 copied = copying.copy_stopped(self.room, self.part)
         return copied
 
@@ -167,13 +166,16 @@ class Night:
         if not self.mark.read():
             return
         if not self.mark.let_go():
-            if server.systemctl("start", self.room.unit)[0] != 0:
-                self.failed(f"{self.room.unit} doesn't start: systemctl status {self.room.unit}")
+            try:
+                server.start(self.room)
+            except Stop as stop:
+                self.failed(str(stop))
                 self.starts = False
                 return
-            # One that finds a fault ends at once, and systemd keeps restarting it.
-            if server.state(self.room) != "active":
-                self.failed(f"{self.room.unit} doesn't stay: systemctl status {self.room.unit}")
+            try:
+                server.look_whether_it_stays(self.room)
+            except Stop as stop:
+                self.failed(str(stop))
         os.rename(self.mark.place, self.note.place)
 
     def on_copy(self, word: str, rest: list[str], into: int | None = None

@@ -10,7 +10,6 @@ from ..host import locks
 from ..host.commands import printed
 from ..room import settings
 from . import await_server
-from ..cli.report import Refused
 
 
 @dataclass
@@ -55,11 +54,7 @@ def rooms_of(file: str) -> list[str]:
     """The rooms whose settings name the file."""
     found = []
     for conf in sorted(glob.glob(f"{glob.escape(settings.HOME)}/*.conf")):
-        try:
-            named = [line for _, line in settings.lines(conf) if line.startswith("FILE=")]
-        except Refused:
-            continue
-        if named and named[-1] == f"FILE={file}":
+        if settings.value(conf, "FILE") == file:
             found.append(os.path.basename(conf).removesuffix(".conf"))
     return found
 

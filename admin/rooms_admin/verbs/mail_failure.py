@@ -20,12 +20,12 @@ def mail_of(room: str) -> str:
     """Settings that are refused may be what the unit failed by: only this line counts."""
     for name in (room, "office"):
         try:
-            found = [line.removeprefix("MAIL=") for _, line in
-                     settings.lines(f"{settings.HOME}/{name}.conf") if line.startswith("MAIL=")]
+            rows = settings.lines(f"{settings.HOME}/{name}.conf")
         except Refused:
             continue
-        if found:
-            return found[-1] if settings.matches(r"([^-].*)?", found[-1]) else ""
+        found = settings.last((line for _, line in rows), "MAIL")
+        if found is not None:
+            return found if settings.of_kind(settings.Room)["mail"].fits(found) else ""
     return "root"
 
 

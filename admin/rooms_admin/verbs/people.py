@@ -4,7 +4,6 @@ import argparse
 import csv
 import json
 import os
-import re
 import time
 import unicodedata
 
@@ -12,7 +11,7 @@ from ..cli import words
 from ..host import locks, safe, waiting
 from ..room import backups, dump, names, passwords, program, published, server, settings
 from ..room.dump import Pair
-from ..room.members import as_text, of_text, read
+from ..room.members import after, as_text, of_text, read
 from ..cli.report import Refused, say
 from ..room.settings import Room
 
@@ -110,11 +109,11 @@ def _keep(room: Room, members: set[Pair], made: float) -> None:
     """So that a run which only has other passwords knows the groups. After which backup they were
     known stands in the first line: a clock may be set back. Nobody waits for a disk that hangs."""
     try:
-        after = f" after {_last_number(room)}"
+        number = _last_number(room)
     except waiting.Hangs:
-        after = ""
-    text = as_text(members, f"group,user{after}")
-    safe.put_file(f"{published.folder(room)}/{MEMBERS}", text.encode(), 0o600, at=made)
+        number = None
+    safe.put_file(f"{published.folder(room)}/{MEMBERS}", as_text(members, number).encode(), 0o600,
+                  at=made)
 
 
 def _last_number(room: Room) -> int:
@@ -144,8 +143,8 @@ def known(room: Room) -> tuple[set[Pair], float]:
         return of_text(text), kept_at
     last_at = os.stat(last).st_mtime
     # By the time where an earlier version has written it.
-    after = re.match(r"group,user after (\d{1,9})\n", text, re.ASCII)
-    if text and (int(after[1]) >= _last_number(room) if after else kept_at >= last_at):
+    number = after(text)
+    if text and (kept_at >= last_at if number is None else number >= _last_number(room)):
         return of_text(text), kept_at
     return dump.members(last), last_at
 

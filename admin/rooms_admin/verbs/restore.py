@@ -18,7 +18,8 @@ from contextlib import ExitStack
 
 from ..cli import report, words
 from ..host import commands, locks, safe
-from ..room import backups, health, machine, private_server, program, server, settings
+from ..room import (backups, health, machine, passwords, private_server, program, server,
+                    settings)
 from . import restore_machine
 from ..cli.report import Interrupted, Refused, Stop, say
 from ..room.settings import Room
@@ -211,8 +212,7 @@ class Restore:
             return
         self.guard = server.Guard(self.repair)
         if server.state(self.room) not in ("inactive", "failed"):
-            if server.systemctl("stop", self.room.unit)[0] != 0:
-                raise Stop(f"{self.room.unit} doesn't stop")
+            server.stop(self.room)
 
     def repair(self) -> None:
         """After a kill: a whole room in place, and the server."""
@@ -220,19 +220,17 @@ class Restore:
             self.settle("this restore")
         except (Stop, OSError) as fault:
             say(str(fault))
-        server.systemctl("start", self.room.unit)
+        server.start(self.room)
 
     def start_server(self) -> None:
         """Whatever happened, if this run has stopped it or was to start it."""
         if self.guard is None:
             return
         server.systemctl("reset-failed", self.room.unit)
-        if server.systemctl("start", self.room.unit)[0] != 0:
-            raise Stop(f"{self.room.unit} doesn't start: systemctl status {self.room.unit}")
+        server.start(self.room)
         self.guard.end()
         time.sleep(1)
-        if server.state(self.room) != "active":
-            raise Stop(f"{self.room.unit} doesn't stay: systemctl status {self.room.unit}")
+        server.look_whether_it_stays(self.room)
         why = health.answer(self.room)
         if why:
             raise Stop(why)
@@ -297,7 +295,8 @@ def _tell_rest(task: restore_machine.Machine) -> None:
     tar = task.tar
     if "machine/added" in tar.words:
         return
-    if any(name.endswith((".htpasswd", ".first")) for name in task.added + task.changed):
+    if any(passwords.is_old(f"/{name}") or passwords.is_kept(f"{machine.ROOT}/{name}")
+           for name in task.added + task.changed):
         date = [one.removeprefix("date ") for one in tar.lines("machine/about")
                 if one.startswith("date ")]
         print(f"Passwords are those of {''.join(date[:1])}: take away again what was taken away "

@@ -51,9 +51,7 @@ def find(conf: str, backup: str) -> str:
     folder = "/var/backups/rooms"
     try:
         with open(conf, encoding="utf-8", errors="surrogateescape") as source:
-            for line in source:
-                if line.startswith("BACKUPS="):
-                    folder = line.rstrip("\n").removeprefix("BACKUPS=") or folder
+            folder = settings.last(source.read().split("\n"), "BACKUPS") or folder
     except OSError:
         pass
     folder = ROOT + folder
@@ -193,9 +191,7 @@ def _look_at_places(tar: Tar, certificates: list[str]) -> None:
 
 
 def _settings_of(data: bytes, name: str) -> str:
-    rows = [line for line in data.decode("utf-8", "replace").split("\n")
-            if line.startswith(name + "=")]
-    return rows[-1].removeprefix(name + "=") if rows else ""
+    return settings.last(data.decode("utf-8", "replace").split("\n"), name) or ""
 
 
 def look_at_version(tar: Tar, conf: str) -> str:
@@ -358,8 +354,8 @@ def _follow_passwords(tar: Tar) -> None:
     """Those of a machine of before users changed their own, to where they are here."""
     for name in list(tar.files):
         kept = f"{passwords.KEPT[1:]}/{os.path.basename(name)}"
-        if (name.startswith("etc/nginx/") and name.endswith(".htpasswd")
-                and kept not in tar.files and os.path.lexists(f"{ROOT}/{kept}")):
+        if (passwords.is_old(f"/{name}") and kept not in tar.files
+                and os.path.lexists(f"{ROOT}/{kept}")):
             tar.files[kept] = tar.files.pop(name)
 
 
@@ -384,7 +380,7 @@ def _runs_as_root(name: str, file: File) -> bool:
         return template.is_edited(file.data.decode("utf-8", "surrogateescape"))
     return (name.startswith(("etc/systemd/", "etc/letsencrypt/renewal", "etc/rooms/nginx/"))
             or name.endswith(".apache")
-            or (name.startswith("etc/nginx/") and not name.endswith(".htpasswd")
+            or (name.startswith("etc/nginx/") and not passwords.is_old(f"/{name}")
                 and name != "etc/nginx/sites-enabled/rooms"))
 
 
@@ -450,7 +446,7 @@ def _give(number: int, name: str) -> None:
     if os.geteuid() != 0:
         return
     try:
-        if name.startswith("etc/nginx/") and name.endswith(".htpasswd"):
+        if passwords.is_old(f"/{name}"):
             os.fchown(number, -1, grp.getgrnam("www-data").gr_gid)
             os.fchmod(number, 0o640)
         elif name.startswith("etc/rooms/") and name.endswith(".keytab"):
