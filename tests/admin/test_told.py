@@ -33,6 +33,8 @@ class Killed(unittest.TestCase):
                 self.begun.touch()
                 time.sleep(60)
             os._exit(0)
+        # What it owes is done before its folder goes.
+        self.addCleanup(self.comes, self.place)
         self.addCleanup(os.waitpid, process, 0)
         self.addCleanup(os.kill, process, signal.SIGKILL)
         self.assertTrue(self.comes(self.begun))
