@@ -161,8 +161,8 @@ told 'with a password' 2 'bad arguments: nobody asks for a password at the room 
 transfers import --as root --room invoices tree /in
 told 'a room that is not there' 2 \
   "bad arguments: the room is an address such as https://rooms.example, or the name of one on this machine, not 'invoices'"
-transfers import --as root '' tree /in
-told 'no room' 2 'bad arguments: the room is an address'
+transfers import --as root --room '' tree /in
+told 'no room' 2 'bad arguments: a word is empty'
 stop_server
 if start_at_socket F "$PWD/run/rooms/office/socket" 1000; then
   transfers import --as root --room office tree /in

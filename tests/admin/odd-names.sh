@@ -99,7 +99,7 @@ told 'names of an older system' 1 'made 5, replaced 0, there already 0, left out
 for name in - -x ' ' $'line\nbreak\n'; do
   mkdir -- "./$name"
   printf x >"./$name/x"
-  transfers import --as root --room "http://127.0.0.1:$port" "$name" "/from"
+  transfers import --as root --room "http://127.0.0.1:$port" -- "$name" "/from"
   told "a folder called $(printf %q "$name") goes in" 0 'made 2,'
   transfers export --as root --no-lists --room "http://127.0.0.1:$port" "/from" "$name.out"
   told "and comes out as $(printf %q "$name.out")" 0 'documents 1, left out 0'

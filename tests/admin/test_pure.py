@@ -376,7 +376,9 @@ class Words(unittest.TestCase):
                 (["setup", "--tls", "one.pem"], "argument --tls: expected 2 arguments"),
                 (["rooms", "office"], "a word too many: 'office'"),
                 (["user"], "the following arguments are required: WHAT"),
-                (["tell", "--", "a", "--", "b"], "'--' stands twice")):
+                (["tell", "--", "a", "--", "b"], "'--' stands twice"),
+                (["import", "--room", "", "share", "/"], "a word is empty"),
+                (["restore", ""], "a word is empty")):
             with self.assertRaises(Refused) as caught:
                 self.read(*typed)
             self.assertEqual(str(caught.exception).split("; rooms-admin ")[0],

@@ -140,6 +140,9 @@ def _apart(parser: Parser, words: Sequence[str]) -> tuple[list[str], list[str]]:
     """Options, wherever they stand, with their values, and the other words. Behind '--' there is no
     option; and a word with one dash is a word once one has begun, as a name may be."""
     takes = parser.values()
+    if "" in words:
+        # As of a variable that isn't set: what it was to name would be something else.
+        parser.error("a word is empty")
     found: list[str] = []
     rest: list[str] = []
     left = list(words)
@@ -155,7 +158,7 @@ def _apart(parser: Parser, words: Sequence[str]) -> tuple[list[str], list[str]]:
                 most = int(left != [] and not left[0].startswith("-"))
             found += [one, *left[:int(most)]]
             del left[:int(most)]
-        elif one.startswith("--") or (one.startswith("-") and not rest):
+        elif one.startswith("--") or (one.startswith("-") and one != "-" and not rest):
             if (one.partition("=")[0] if one.startswith("--") else one[:2]) not in takes:
                 parser.error(f"no such option: {one}")
             found.append(one)
