@@ -297,7 +297,7 @@ done
 echo 'events { }' >"$conf"
 checks 'no number of connections' 1 'nginx holds 512 connections for each of its processes'
 printf '%s\n' 'events {' '    worker_connections 100;' '    # worker_connections 800;' '}' >"$conf"
-checks 'too few connections' 1 'rooms WARNING - nginx holds 100 connections for each of its processes'
+checks 'too few connections' 1 'rooms WARNING - nginx holds 100 connections for each of its'
 rm "$conf"
 
 # Settings that are refused are said of their room, and the other one is looked at.

@@ -58,7 +58,8 @@ means infinity '' 'any number'
 means 1073741824 none 'any number'
 means 104857600 7 7
 fulls --json
-rows_are 'for a program' '{"room": "rooms", "used": '"$(stat -c %s room/F)"', "limit": 7340032, "full": false}'
+rows_are 'for a program' \
+  '{"room": "rooms", "used": '"$(stat -c %s room/F)"', "limit": 7340032, "full": false}'
 holds 'a room that is not full' [ "$status" = 0 ]
 write_conf none
 fulls --json --room ./conf

@@ -25,7 +25,8 @@ only() { # WHAT PATTERN MODULE, of admin/rooms_admin
   status=$?
   holds "$1 by $3" [ "$status" = 0 ]
 }
-only 'a command is run' '\bsubprocess\b|\bos[.](exec|spawn|popen|posix_spawn|system\b)' host/commands
+only 'a command is run' '\bsubprocess\b|\bos[.](exec|spawn|popen|posix_spawn|system\b)' \
+  host/commands
 only 'a child is tied to its parent' '[.]prctl\(' host/processes
 only 'a lock is taken' '\bflock\(' host/locks
 only 'a socket in the file system is asked' '\bAF_UNIX\b' host/at_socket
