@@ -1,6 +1,7 @@
 // The page: who is signed in, which place is open, and what is shown there.
 
-import { accountMenu, changeFirst } from './account/own_password.js';
+import { accountMenu } from './account/account_menu.js';
+import { changeFirst } from './account/own_password.js';
 import { copyLink, download } from './folder/actions.js';
 import { whenWaiting } from './net/retry.js';
 import * as api from './net/api.js';

@@ -2,7 +2,6 @@
 
 import { texts } from '../language/language.js';
 import { button, element, field } from '../ui/dom.js';
-import { menuButton } from '../ui/menu.js';
 import { showDialog, tell, tellFault, waitFor } from '../ui/messages.js';
 
 // nginx remembers a right password for ten seconds.
@@ -59,7 +58,7 @@ function askFor(user, title, hint) {
     element('button', { type: 'submit', class: 'primary' }, texts.account.changeIt)))]);
 }
 
-async function changePassword(user) {
+export async function changePassword(user) {
   const reply = await waitFor(fetch('password', { cache: 'no-store' })).catch(() => null);
   if (reply?.status !== 204) {
     const said = await reply?.json().catch(() => null);
@@ -73,10 +72,6 @@ async function changePassword(user) {
   tell('good', texts.account.changed);
   keepNew(user, chosen);
 }
-
-export const accountMenu = (user) => menuButton(texts.account.menu, [
-  { words: texts.account.change, does: () => changePassword(user).catch(tellFault) },
-], { class: 'plain' });
 
 // Whoever has a first password can do nothing but this.
 export async function changeFirst(user) {

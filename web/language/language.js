@@ -3,9 +3,11 @@
 
 const LOADS = {
   en: () => import('./en.js').then(({ EN }) => EN),
+  de: () => import('./de.js').then(({ DE }) => DE),
+  fr: () => import('./fr.js').then(({ FR }) => FR),
 };
 // Each in its own words.
-export const LANGUAGES = { en: 'English' };
+export const LANGUAGES = { en: 'English', de: 'Deutsch', fr: 'Français' };
 const KEY = 'rooms language';
 const isThere = (language) => Object.hasOwn(LANGUAGES, language);
 
@@ -34,5 +36,5 @@ export function chooseLanguage(next) {
   }
 }
 
-/** @type {Awaited<ReturnType<LOADS['en']>>} */
+/** @type {Awaited<ReturnType<typeof LOADS['en']>>} */
 export const texts = await LOADS[language]();

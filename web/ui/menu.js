@@ -21,6 +21,19 @@ function itemFor(key, items, now) {
   return index === undefined ? null : items[index];
 }
 
+// 'isChosen' says which one of several holds now.
+function itemOf({ words, does, href, look = null, lang = null, isChosen = null }, close) {
+  const role = isChosen === null ? 'menuitem' : 'menuitemradio';
+  return element(href ? 'a' : 'button', {
+    role, tabindex: '-1', class: look, lang, href: href ?? null, type: href ? null : 'button',
+    'aria-checked': isChosen === null ? null : String(isChosen),
+    onclick: () => {
+      close();
+      does?.();
+    },
+  }, words, isChosen ? icon('check') : null);
+}
+
 function open(opener, label, entries) {
   const close = (isBack = false) => {
     menu.remove();
@@ -28,13 +41,7 @@ function open(opener, label, entries) {
     for (const [target, kind, listen] of listeners) target.removeEventListener(kind, listen, true);
     if (isBack) opener.focus({ preventScroll: true });
   };
-  const items = entries.map(({ words, does, href, look = null }) => element(href ? 'a' : 'button', {
-    role: 'menuitem', tabindex: '-1', class: look, href: href ?? null, type: href ? null : 'button',
-    onclick: () => {
-      close(true);
-      does?.();
-    },
-  }, words));
+  const items = entries.map((entry) => itemOf(entry, () => close(true)));
   const menu = element('div', { class: 'menu', role: 'menu', 'aria-label': label }, items);
   const follow = () => (opener.isConnected ? putBeside(menu, opener) : close());
   /** @type {[EventTarget, string, (event: any) => void][]} */
@@ -58,8 +65,8 @@ function open(opener, label, entries) {
   return close;
 }
 
-// A button that opens a menu of entries {words, does or href, look}. A function makes them when it
-// is pressed.
+// A button that opens a menu of entries {words, does or href, look, lang, isChosen}. A function makes
+// them when it is pressed.
 export function menuButton(label, entries, properties = {}) {
   let close = null;
   const opener = button(icon('more'), () => {
