@@ -18,26 +18,28 @@ def found(*names):
     return next((path for path in map(shutil.which, names) if path), None)
 
 
-def options_for(folder, rules):
+def options_for(folder, rules, languages):
     options = Options()
     options.binary_location = found('chromium', 'chromium-browser', 'google-chrome')
     for word in ('--headless=new', '--no-sandbox', '--disable-gpu', '--disable-dev-shm-usage',
                  '--no-proxy-server', '--no-first-run', '--disable-background-networking',
-                 '--disable-component-update', '--lang=en', '--window-size=1200,900',
+                 '--disable-component-update', '--lang=en', f'--accept-lang={languages}',
+                 '--window-size=1200,900',
                  f'--user-data-dir={folder}/profile', f'--host-resolver-rules={rules}'):
         options.add_argument(word)
-    options.add_experimental_option('prefs', {'download.default_directory': f'{folder}/downloads'})
+    options.add_experimental_option('prefs', {'download.default_directory': f'{folder}/downloads',
+                                              'intl.accept_languages': languages})
     options.set_capability('goog:loggingPrefs', {'browser': 'ALL'})
     return options
 
 
 class Browser:
-    def __init__(self, folder, base, user, password, rules=''):
+    def __init__(self, folder, base, user, password, rules='', languages='en'):
         os.makedirs(f'{folder}/downloads')
         self.base = base
         self.downloads = f'{folder}/downloads'
         self.driver = webdriver.Chrome(service=Service(found('chromedriver')),
-                                       options=options_for(folder, rules))
+                                       options=options_for(folder, rules, languages))
         self.debugger = self.driver.capabilities['goog:chromeOptions']['debuggerAddress']
         self.driver.set_page_load_timeout(PATIENCE)
         self.driver.set_script_timeout(PATIENCE)

@@ -13,7 +13,7 @@ import { isolated } from '../text/words.js';
 const LOOKS = { exists: 'danger', changed: 'danger', gone: 'primary' };
 const answersTo = (why) => [
   ...why === 'gone' ? [] : [['both', texts.upload.keepBoth, why === 'changed' ? 'primary' : null]],
-  ['replace', texts.upload[why].replace, LOOKS[why]]];
+  ['replace', texts.upload.taken[why].replace, LOOKS[why]]];
 
 // Beside the question: who could have done it, and what is there now.
 async function theirs({ why, who, path }) {
@@ -32,7 +32,7 @@ export function askingInTurn(count) {
   const ask = async (one) => {
     const { name, why } = one;
     if (always.has(why)) return always.get(why);
-    const { title, text } = texts.upload[why];
+    const { title, text } = texts.upload.taken[why];
     const all = element('input', { type: 'checkbox' });
     const tick = count === 1 ? null
       : element('p', {}, element('label', { class: 'tick' }, all,

@@ -5,13 +5,13 @@ import { DE_FAULTS } from './de_faults.js';
 import { DE_FIND, DE_FOLDER, DE_MOVING, DE_UPLOAD } from './de_folder.js';
 import { DE_ADVANCED, DE_RIGHTS, DE_WARNINGS } from './de_lists.js';
 import { DE_READY } from './de_ready.js';
-import { EVERYONE, OTHERS, SIGNED_IN } from './de_people.js';
+import { EVERYONE, OTHERS, SIGNED_IN, verb } from './de_people.js';
 import { formsOf } from './forms.js';
 
 const { number, and, or, count, day } = formsOf('de', 'und', 'oder');
 
 const LISTS = {
-  and, or, number, day,
+  and, number, day,
   others: (rest) => count(rest, 'weiterer', 'weitere'),
   unknownDay: 'unbekannt',
   space: 'Leerzeichen',
@@ -159,6 +159,15 @@ const ASK = {
   whoever: 'Fragen Sie, wer es verwaltet.',
 };
 
+const CHANGED = {
+  could: (names) => `Nach der Liste ${verb(names.slice(0, 1), 'kann', 'können')} das ${or(names)} `
+    + 'gewesen sein.',
+  unknown: 'Wer das getan haben kann, ist hier nicht bekannt, da Sie nicht sehen dürfen, wer '
+    + 'Zugriff hat.',
+  above: 'Nach der Liste kann das niemand anders getan haben: Es wurde entfernt und neu dorthin '
+    + 'gelegt.',
+};
+
 const ACCOUNT = {
   menu: 'Ihr Konto',
   change: 'Kennwort ändern',
@@ -195,8 +204,8 @@ const ACCOUNT = {
 
 export const DE = {
   lists: LISTS, who: WHO, names: NAMES, places: PLACES, page: PAGE, acts: ACTS,
-  messages: MESSAGES, picker: PICKER, ask: ASK, account: ACCOUNT, folder: DE_FOLDER,
-  find: DE_FIND, moving: DE_MOVING, upload: DE_UPLOAD, rights: DE_RIGHTS, faults: DE_FAULTS,
-  warnings: DE_WARNINGS, access: DE_ACCESS, outcome: DE_OUTCOME, advanced: DE_ADVANCED,
-  ready: DE_READY,
+  messages: MESSAGES, picker: PICKER, ask: ASK, changed: CHANGED, account: ACCOUNT,
+  folder: DE_FOLDER, find: DE_FIND, moving: DE_MOVING, upload: DE_UPLOAD, rights: DE_RIGHTS,
+  faults: DE_FAULTS, warnings: DE_WARNINGS, access: DE_ACCESS, outcome: DE_OUTCOME,
+  advanced: DE_ADVANCED, ready: DE_READY,
 };

@@ -93,6 +93,9 @@ export const DE_ACCESS = {
   gone: (name) => `${capital(name)} wird aus der Liste genommen.`,
   removeAccessTo: (place) => `Zugriff auf ${place} entfernen?`,
   removeAccess: 'Zugriff entfernen',
+  removeAccessOf: (name) => `Zugriff entfernen: ${name}`,
+  removeAccessOfGroup: (name) => `Zugriff entfernen: die Gruppe ${name}`,
+  notThis: (name) => `Ohne ${name}`,
   removeAllTheSame: 'Zugriff trotzdem entfernen',
   changeAccess: 'Zugriff ändern?',
   changeIt: 'Ändern',
@@ -134,8 +137,11 @@ export const DE_ACCESS = {
   onlyTheseAllTheSame: 'Trotzdem nur diese Personen',
   cutOff: 'Nur diese Personen?',
   cutOffSays: (kind, above) => `${THIS[kind]} hat dann eine eigene Liste. Wer später Zugriff auf ${
-    above} bekommt, bekommt ihn hier nicht, und wer ihn dort verliert, behält ihn hier. `
-    + 'Entfernen Sie dann alle, für die es nicht gedacht ist.',
+    above} bekommt, bekommt ihn hier nicht, und wer ihn dort verliert, behält ihn hier.`,
+  whomFor: 'Haken Sie an, für wen es gedacht ist: Dann behält sonst niemand Zugriff, außer denen, '
+    + 'die es verwalten. Ohne Haken behalten alle, was sie haben.',
+  staysAsIs: (names) => `Was ${and(names)} ${verb(names, 'kann', 'können')}, sagt keine Stufe, `
+    + 'und es bleibt, wie es ist.',
   followAgain: (above) => `Wieder ${above} folgen?`,
   followIt: 'Folgen',
   followAllTheSame: 'Trotzdem folgen',

@@ -47,6 +47,7 @@ export const DE_FOLDER = {
   actions: 'Aktionen',
   actionsOf: (name) => `Aktionen: ${name}`,
   preview: 'Vorschau',
+  openIn: (program) => `In ${program} öffnen`,
   renameOrMove: 'Umbenennen oder verschieben',
   taken: 'Es gibt schon etwas dieses Namens. Wählen Sie einen anderen.',
   amount: amountOf,
@@ -176,11 +177,28 @@ export const DE_UPLOAD = {
     count(whole, 'Dokument', 'Dokumenten')} hochgeladen`,
   more: (many) => `und ${number(many)} mehr`,
   sameForAll: 'Dasselbe für alle, die schon da sind',
-  replace: 'Das Dokument ersetzen?',
-  isThere: (name) => `In diesem Ordner gibt es schon ein Dokument ${name}. Wenn es ersetzt wird, `
-    + 'geht sein Inhalt verloren.',
   keepBoth: 'Beide behalten',
-  replaceIt: 'Ersetzen',
+  showTheirs: 'Das andere zeigen',
+  taken: {
+    exists: {
+      title: 'Das Dokument ersetzen?',
+      text: (name) => `In diesem Ordner gibt es schon ein Dokument ${name}. Wenn es ersetzt wird, `
+        + 'geht sein Inhalt verloren.',
+      replace: 'Ersetzen',
+    },
+    changed: {
+      title: 'Jemand anders hat es inzwischen geändert',
+      text: (name) => `${name} ist nicht mehr das, was Sie zuletzt herunter- oder hochgeladen `
+        + 'haben. Wenn es ersetzt wird, geht verloren, was jemand anders geschrieben hat.',
+      replace: 'Das andere ersetzen',
+    },
+    gone: {
+      title: 'Jemand hat es inzwischen entfernt',
+      text: (name) => `${name} ist nicht mehr da: Jemand hat es entfernt, umbenannt oder `
+        + 'verschoben.',
+      replace: 'Trotzdem hochladen',
+    },
+  },
   noFolder: 'sein Ordner konnte nicht angelegt werden',
   left: 'blieb, wie es war',
   notSent: 'nicht gesendet',

@@ -76,7 +76,6 @@ export const DE_ADVANCED = {
   who: 'Wer',
   user: 'Benutzer',
   group: 'Gruppe',
-  name: 'Name',
   rights: 'Berechtigungen',
   records: 'Protokolliert',
   reach: 'Wo es gilt',

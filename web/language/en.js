@@ -10,7 +10,7 @@ import { formsOf } from './forms.js';
 const { number, and, or, count, day } = formsOf('en-GB', 'and', 'or');
 
 const LISTS = {
-  and, or, number, day,
+  and, number, day,
   others: (rest) => count(rest, 'other', 'others'),
   unknownDay: 'an unknown day',
   // Beside 'space' there are signs without a name, such as U+202E.
@@ -193,8 +193,7 @@ const ACCOUNT = {
 export const EN = {
   lists: LISTS, who: WHO, names: NAMES, places: PLACES, page: PAGE, acts: ACTS,
   messages: MESSAGES, picker: PICKER, ask: ASK, changed: CHANGED, account: ACCOUNT,
-  folder: EN_FOLDER,
-  find: EN_FIND, moving: EN_MOVING, upload: EN_UPLOAD, rights: EN_RIGHTS, faults: EN_FAULTS,
-  warnings: EN_WARNINGS, access: EN_ACCESS, outcome: EN_OUTCOME, advanced: EN_ADVANCED,
-  ready: EN_READY,
+  folder: EN_FOLDER, find: EN_FIND, moving: EN_MOVING, upload: EN_UPLOAD, rights: EN_RIGHTS,
+  faults: EN_FAULTS, warnings: EN_WARNINGS, access: EN_ACCESS, outcome: EN_OUTCOME,
+  advanced: EN_ADVANCED, ready: EN_READY,
 };

@@ -172,22 +172,24 @@ export const EN_UPLOAD = {
   keepBoth: 'Keep both',
   showTheirs: 'Show theirs',
   // Why it isn't simply sent: 'replace' is what the button says that sends it all the same.
-  exists: {
-    title: 'Replace the document?',
-    text: (name) => `There is a document ${name} in this folder already. If it is replaced, its `
-      + 'contents are lost.',
-    replace: 'Replace it',
-  },
-  changed: {
-    title: 'Somebody else changed it meanwhile',
-    text: (name) => `${name} isn’t any more what you downloaded or uploaded last. If it is `
-      + 'replaced, what somebody else wrote is lost.',
-    replace: 'Replace theirs',
-  },
-  gone: {
-    title: 'Somebody removed it meanwhile',
-    text: (name) => `${name} isn’t there any more: somebody removed, renamed or moved it.`,
-    replace: 'Upload it all the same',
+  taken: {
+    exists: {
+      title: 'Replace the document?',
+      text: (name) => `There is a document ${name} in this folder already. If it is replaced, its `
+        + 'contents are lost.',
+      replace: 'Replace it',
+    },
+    changed: {
+      title: 'Somebody else changed it meanwhile',
+      text: (name) => `${name} isn’t any more what you downloaded or uploaded last. If it is `
+        + 'replaced, what somebody else wrote is lost.',
+      replace: 'Replace theirs',
+    },
+    gone: {
+      title: 'Somebody removed it meanwhile',
+      text: (name) => `${name} isn’t there any more: somebody removed, renamed or moved it.`,
+      replace: 'Upload it all the same',
+    },
   },
   noFolder: 'its folder couldn’t be made',
   left: 'left as it was',

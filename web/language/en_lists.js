@@ -74,7 +74,6 @@ export const EN_ADVANCED = {
   who: 'Who',
   user: 'User',
   group: 'Group',
-  name: 'Name',
   rights: 'Rights',
   records: 'Records',
   reach: 'Where it counts',

@@ -10,7 +10,7 @@ import { FR_READY } from './fr_ready.js';
 const { number, and, or, count, day } = formsOf('fr', 'et', 'ou');
 
 const LISTS = {
-  and, or, number, day,
+  and, number, day,
   others: (rest) => count(rest, 'autre', 'autres'),
   unknownDay: 'date inconnue',
   space: 'espace',
@@ -155,6 +155,13 @@ const ASK = {
   whoever: 'Demandez à la personne qui le gère.',
 };
 
+const CHANGED = {
+  could: (names) => `D’après la liste, cela peut avoir été ${or(names)}.`,
+  unknown: 'On ne sait pas ici qui a pu faire cela, car vous ne pouvez pas voir qui a accès.',
+  above: 'D’après la liste, personne d’autre n’a pu faire cela : cela a été supprimé et mis là de '
+    + 'nouveau.',
+};
+
 const ACCOUNT = {
   menu: 'Votre compte',
   change: 'Changer votre mot de passe',
@@ -191,8 +198,8 @@ const ACCOUNT = {
 
 export const FR = {
   lists: LISTS, who: WHO, names: NAMES, places: PLACES, page: PAGE, acts: ACTS,
-  messages: MESSAGES, picker: PICKER, ask: ASK, account: ACCOUNT, folder: FR_FOLDER,
-  find: FR_FIND, moving: FR_MOVING, upload: FR_UPLOAD, rights: FR_RIGHTS, faults: FR_FAULTS,
-  warnings: FR_WARNINGS, access: FR_ACCESS, outcome: FR_OUTCOME, advanced: FR_ADVANCED,
-  ready: FR_READY,
+  messages: MESSAGES, picker: PICKER, ask: ASK, changed: CHANGED, account: ACCOUNT,
+  folder: FR_FOLDER, find: FR_FIND, moving: FR_MOVING, upload: FR_UPLOAD, rights: FR_RIGHTS,
+  faults: FR_FAULTS, warnings: FR_WARNINGS, access: FR_ACCESS, outcome: FR_OUTCOME,
+  advanced: FR_ADVANCED, ready: FR_READY,
 };

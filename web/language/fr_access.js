@@ -90,6 +90,9 @@ export const FR_ACCESS = {
   gone: (name) => `${capital(name)} est retiré de la liste.`,
   removeAccessTo: (place) => `Supprimer l’accès à ${place} ?`,
   removeAccess: 'Supprimer l’accès',
+  removeAccessOf: (name) => `Supprimer l’accès : ${name}`,
+  removeAccessOfGroup: (name) => `Supprimer l’accès : le groupe ${name}`,
+  notThis: (name) => `Sans ${name}`,
   removeAllTheSame: 'Supprimer quand même l’accès',
   changeAccess: 'Changer l’accès ?',
   changeIt: 'Changer',
@@ -129,8 +132,11 @@ export const FR_ACCESS = {
   onlyTheseAllTheSame: 'Quand même seulement ces personnes',
   cutOff: 'Seulement ces personnes ?',
   cutOffSays: (kind, above) => `${THIS[kind]} a alors sa propre liste. Quiconque obtient plus tard `
-    + `l’accès à ${above} ne l’obtient pas ici, et quiconque le perd là-bas le garde ici. `
-    + 'Supprimez ensuite ceux pour qui ce n’est pas prévu.',
+    + `l’accès à ${above} ne l’obtient pas ici, et quiconque le perd là-bas le garde ici.`,
+  whomFor: 'Cochez ceux pour qui c’est prévu : alors personne d’autre ne garde l’accès, sauf ceux '
+    + 'qui le gèrent. Sans coche, tous gardent ce qu’ils ont.',
+  staysAsIs: (names) => `Ce que ${and(names)} ${names.length === 1 ? 'peut' : 'peuvent'} faire `
+    + 'n’est dit par aucun niveau, et reste tel quel.',
   followAgain: (above) => `Suivre de nouveau ${above} ?`,
   followIt: 'Suivre',
   followAllTheSame: 'Suivre quand même',

@@ -46,6 +46,7 @@ export const FR_FOLDER = {
   actions: 'Actions',
   actionsOf: (name) => `Actions : ${name}`,
   preview: 'Aperçu',
+  openIn: (program) => `Ouvrir dans ${program}`,
   renameOrMove: 'Renommer ou déplacer',
   taken: 'Il y a déjà quelque chose de ce nom. Choisissez-en un autre.',
   amount: amountOf,
@@ -179,11 +180,27 @@ export const FR_UPLOAD = {
     `${number(good)} sur ${documents(whole)} ${good < 2 ? 'envoyé' : 'envoyés'}`,
   more: (many) => `et ${number(many)} de plus`,
   sameForAll: 'De même pour tous ceux qui sont déjà là',
-  replace: 'Remplacer le document ?',
-  isThere: (name) => `Il y a déjà un document ${name} dans ce dossier. S’il est remplacé, son `
-    + 'contenu est perdu.',
   keepBoth: 'Garder les deux',
-  replaceIt: 'Remplacer',
+  showTheirs: 'Montrer l’autre',
+  taken: {
+    exists: {
+      title: 'Remplacer le document ?',
+      text: (name) => `Il y a déjà un document ${name} dans ce dossier. S’il est remplacé, son `
+        + 'contenu est perdu.',
+      replace: 'Remplacer',
+    },
+    changed: {
+      title: 'Quelqu’un d’autre l’a modifié entre-temps',
+      text: (name) => `${name} n’est plus ce que vous avez téléchargé ou envoyé en dernier. S’il `
+        + 'est remplacé, ce que quelqu’un d’autre a écrit est perdu.',
+      replace: 'Remplacer l’autre',
+    },
+    gone: {
+      title: 'Quelqu’un l’a supprimé entre-temps',
+      text: (name) => `${name} n’est plus là : quelqu’un l’a supprimé, renommé ou déplacé.`,
+      replace: 'Envoyer quand même',
+    },
+  },
   noFolder: 'son dossier n’a pas pu être créé',
   left: 'laissé tel quel',
   notSent: 'pas envoyé',

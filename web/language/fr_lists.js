@@ -75,7 +75,6 @@ export const FR_ADVANCED = {
   who: 'Qui',
   user: 'Utilisateur',
   group: 'Groupe',
-  name: 'Nom',
   rights: 'Droits',
   records: 'Journalise',
   reach: 'Où cela compte',

@@ -43,13 +43,13 @@ export function coverageOf(group, mask) {
 }
 
 // Somebody may be called 'constructor'.
-const nameIn = ({ special, group, user }, entry) => {
-  if (Object.hasOwn(special, entry.who)) return special[entry.who];
-  return isGroup(entry) ? group(entry.who) : user(entry.who);
-};
-export const whoWords = (entry) => nameIn(texts.who, entry);
+const nameIn = (special, { who }, say) =>
+  (Object.hasOwn(special, who) ? special[who] : say(who));
+export const whoWords = (entry) => nameIn(texts.who.special, entry,
+  isGroup(entry) ? texts.who.group : texts.who.user);
 // The same as the object of a sentence.
-export const whomWords = (entry) => nameIn(texts.who.whom, entry);
+export const whomWords = (entry) => nameIn(texts.who.whom.special, entry,
+  isGroup(entry) ? texts.who.whom.group : texts.who.whom.user);
 
 // Those who are judged, as decide.js has them, by their names as far as these are 'known'.
 export function callerWords({ user, groups }, known = null) {

@@ -65,8 +65,8 @@ function open(opener, label, entries) {
   return close;
 }
 
-// A button that opens a menu of entries {words, does or href, look, lang, isChosen}. A function makes
-// them when it is pressed.
+// A button that opens a menu of entries {words, does or href, look, lang, isChosen}. A function
+// makes them when it is pressed.
 export function menuButton(label, entries, properties = {}) {
   let close = null;
   const opener = button(icon('more'), () => {
