@@ -101,6 +101,8 @@ moved 'a change by another site' /doc/f -X POST -H 'Origin: http://elsewhere.exa
 # Port 443 serves, by TLS alone.
 base=http://127.0.0.1:$secure
 ask 'port 443 without TLS' 400 - bob:b /doc/f
+head -c 1048576 /dev/urandom >large
+head -c 1048577 /dev/urandom >larger
 base=https://rooms.example:$secure
 reach=(--resolve "rooms.example:$secure:127.0.0.1" --cacert "$authority.pem")
 ask 'no password with TLS' 401 - '' /doc/f
@@ -119,6 +121,16 @@ done
 for field in 'Sec-Fetch-Site: same-origin' "Origin: $base"; do
   ask "PUT with TLS, $field" 204 - alice:a /doc/tls -X PUT --data-binary hello -H "$field"
 done
+version=$(curl -s -o "$work/body" -w '%{http_version}' "${reach[@]}" -u bob:b "$base/doc/tls")
+holds "HTTP/2 is spoken with TLS: $version" [ "$version" = 2 ]
+same 'and all of the document comes' "$work/body" <(printf hello)
+ask 'a program that speaks HTTP/1.1' 200 hello bob:b /doc/tls --http1.1
+ask 'a large document by HTTP/2' 201 '' alice:a /doc/large -X PUT --data-binary @large
+curl -s -o "$work/body" "${reach[@]}" -u bob:b "$base/doc/large"
+same 'comes back' "$work/body" large
+ask 'too large by HTTP/2' 413 - alice:a /doc/large -X PUT --data-binary @larger
+"$nginx" -t -p "$PWD" -c "$PWD/nginx.conf" >"$work/out" 2>&1
+holds "nginx warns of nothing: $(head -c 300 "$work/out")" [ "$(grep -c warn "$work/out")" = 0 ]
 says_all bob:b /doc/tls
 only_tls() { grep -qx $'Strict-Transport-Security: max-age=31536000\r' "$work/head"; }
 holds 'and that it is asked for with TLS only' only_tls

@@ -232,7 +232,8 @@ if has openssl; then
   same 'TLS would be, and is not yet' after before
   sets_up --tls one.pem one.key
   says 'TLS' 0 'new file /etc/nginx/sites-available/rooms'
-  holds 'TLS is served' grep -qx '    listen 443 ssl;' machine/etc/nginx/sites-available/rooms
+  holds 'TLS is served' \
+    grep -qxE '    listen 443 ssl( http2)?;' machine/etc/nginx/sites-available/rooms
   holds 'by this certificate' \
     grep -qxF "    ssl_certificate $PWD/one.pem;" machine/etc/nginx/sites-available/rooms
   holds 'and this key' \

@@ -40,7 +40,8 @@ fi
 start_front 'sessions by OpenID Connect' tls || return
 provider=$((port + 6))
 base=https://rooms.example:$secure
-reach=(--resolve "rooms.example:$secure:127.0.0.1" --cacert rooms.pem)
+# (HTTP/2 has its fields in small letters)
+reach=(--http1.1 --resolve "rooms.example:$secure:127.0.0.1" --cacert rooms.pem)
 
 # The provider, and Apache as the page has it, but for ports, folders and TLS.
 openssl genrsa -out provider.key 2048 2>/dev/null

@@ -146,9 +146,10 @@ ask() { # NAME STATUS BODY USER:PASSWORD TARGET ARGUMENT ..
   same "$name" "$work/body" "$work/want.body"
 }
 
-# The head of an answer is in $work/head.
+# The head of an answer is in $work/head. (HTTP/2 has its fields in small letters.)
 answer() { # USER:PASSWORD TARGET ARGUMENT ..
-  curl -s -o "$work/body" -D "$work/head" ${reach[@]+"${reach[@]}"} -u "$1" "${@:3}" "$base$2"
+  curl -s --http1.1 -o "$work/body" -D "$work/head" ${reach[@]+"${reach[@]}"} -u "$1" "${@:3}" \
+    "$base$2"
 }
 
 # nginx takes its files: its workers of before are gone, and the command succeeds.
@@ -165,7 +166,8 @@ policy="Content-Security-Policy: default-src 'none'; script-src 'self'; style-sr
 says_all() { # USER:PASSWORD TARGET
   local line
   answer "$1" "$2"
-  for line in "$policy" 'X-Content-Type-Options: nosniff' 'Referrer-Policy: no-referrer'; do
+  for line in "$policy" 'X-Content-Type-Options: nosniff' 'Referrer-Policy: no-referrer' \
+    'Cross-Origin-Resource-Policy: same-origin'; do
     holds "$1 $base$2 says ${line%%:*}" grep -qxF "$line"$'\r' "$work/head"
   done
 }

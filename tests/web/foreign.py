@@ -82,17 +82,36 @@ def submit(browser, base, log, path, there):
     browser.driver.get(there)
 
 
-def sends_password(browser, base, log):
-    """Else the checks would show little: reading goes through in the user's name, and can't be
-    looked at."""
+def sends_password(browser, base, log, status):
+    """Else the checks would show little. Where a browser doesn't say which site asks, reading goes
+    through in the user's name, and can't be looked at."""
     before = len(lines(log))
     seen = browser.driver.execute_async_script(
         "const done = arguments[1]; fetch(arguments[0], {mode: 'no-cors', credentials: 'include'})"
         ".then((reply) => done(reply.type), (fault) => done(String(fault)));",
         f'{base}/folder/letters')
-    assert seen == 'opaque', seen
+    # What is for its own site alone isn't handed on at all.
+    assert seen == 'opaque' or 'Failed to fetch' in seen, seen
     told = [line[:4] for line in lines(log)[before:] if line[2] == '/folder/letters']
-    assert told == [['200', 'GET', '/folder/letters', 'alice']], f'{told}'
+    assert told == [[status, 'GET', '/folder/letters', 'alice']], f'{told}'
+
+
+def shown(browser, base, log):
+    """A picture, of which no script hears what came."""
+    before = len(lines(log))
+    browser.script("document.body.append(Object.assign(new Image(), {src: arguments[0]}))",
+                   f'{base}/doc/letters/reply')
+    refused(browser, log, before, '/doc/letters/reply')
+
+
+def followed(browser, base, log, there):
+    """A link, as in a mail, leads to the page."""
+    before = len(lines(log))
+    browser.script("location.href = arguments[0]", f'{base}/#/letters')
+    told = browser.until(lambda: [line for line in lines(log)[before:] if line[2] == '/'],
+                         'the page')
+    assert told[0][0] == '200', told
+    browser.driver.get(there)
 
 
 def framed(browser, base):
@@ -105,11 +124,16 @@ def framed(browser, base):
 
 
 def play(browser, checks, base, there, log, is_near):
+    says_site = '127.0.0.1' in base
     browser.driver.get(there)
     name = f'{there.split("//")[1].split(":")[0]} asks {base.split("//")[1].split(":")[0]}:'
     # This browser keeps the passwords of fetch apart for each site. Others don't.
     if is_near:
-        checks.step(f'{name} the password is sent', lambda: sends_password(browser, base, log))
+        checks.step(f'{name} the password is sent', lambda: sends_password(
+            browser, base, log, '403' if says_site else '200'))
+    if says_site:
+        checks.step(f'{name} a picture', lambda: shown(browser, base, log))
+    checks.step(f'{name} a link', lambda: followed(browser, base, log, there))
     for kind, method, path, how in ATTACKS:
         checks.step(f'{name} {kind} {method} {path}', lambda: attack(browser, base, log, path, how))
     for path in ('/move/letters', '/folder/evil'):

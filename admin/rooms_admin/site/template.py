@@ -6,7 +6,7 @@ import os
 import re
 from dataclasses import dataclass
 
-from ..host import safe
+from ..host import commands, safe
 from ..room import names, settings
 from ..cli.report import Refused, say
 from ..room.settings import Front, Place
@@ -31,6 +31,8 @@ class Site:
     front: Front
     rooms: list[Place]
     page: str
+    # How nginx is told to speak HTTP/2: 'on' by a line, 'listen' by a word behind a port, or not.
+    http2: str = ""
 
     @property
     def shown(self) -> list[Place]:
@@ -75,9 +77,29 @@ def gather(root: str) -> Site:
         rooms.append(settings.place(path))
     front = (settings.front(root + SETTINGS) if os.path.exists(root + SETTINGS)
              else Front())
-    found = Site(front, rooms, os.path.join(share(root), "page"))
+    found = Site(front, rooms, os.path.join(share(root), "page"), _http2(root))
     _check(found, folder)
     return found
+
+
+# From this version on a word behind a port is an old form, of which each test of the file warns.
+_HTTP2_ON = (1, 25, 1)
+_VERSION = re.compile(r"(?:^|/)(?:[0-9]+:)?([0-9]+)\.([0-9]+)\.([0-9]+)", re.ASCII)
+
+
+def _http2(root: str) -> str:
+    """By the version of nginx, which Debian says also of a machine that isn't running yet."""
+    admin = f"{root}/var/lib/dpkg"
+    words = (["dpkg-query", f"--admindir={admin}", "-W", "-f", "${Version}", "nginx"]
+             if root and os.path.isdir(admin) else ["/usr/sbin/nginx", "-v"])
+    try:
+        done = commands.run(words)
+    except OSError:
+        return ""
+    found = _VERSION.search(done.out or done.said)
+    if done.status or not found:
+        return ""
+    return "on" if tuple(map(int, found.groups())) >= _HTTP2_ON else "listen"
 
 
 def _check(site: Site, folder: str) -> None:
@@ -109,7 +131,8 @@ def render(text: str, site: Site) -> str:
         "TLS": bool(front.certificate), "PLAIN": not front.certificate,
         "DIRECTORY": bool(files["directory"]), "SESSION": bool(files["session"]),
         "PASSWORD_PAGE": not files["session"], "OWN": bool(files["own"]),
-        "MACHINES": any(one.on for one in shown), "BEHIND": bool(site.behind)})
+        "MACHINES": any(one.on for one in shown), "BEHIND": bool(site.behind),
+        "HTTP2_ON": bool(front.certificate) and site.http2 == "on"})
     for name, rows in _maps(site).items():
         text = text.replace(f"@{name}@\n", "".join(f"    {row};\n" for row in rows))
     text = text.replace("@UPSTREAMS@\n", "".join(f"{row}\n" for one in site.rooms
@@ -119,7 +142,7 @@ def render(text: str, site: Site) -> str:
             ("CERTIFICATE", front.certificate), ("KEY", front.key), ("PAGE", site.page),
             ("ERRORS", os.path.join(os.path.dirname(site.page), "errors")),
             ("DIRECTORY_FILES", files["directory"]), ("SESSION_FILES", files["session"]),
-            ("OWN_FILES", files["own"])):
+            ("OWN_FILES", files["own"]), ("HTTP2", " http2" if site.http2 == "listen" else "")):
         text = text.replace(f"@{name}@", value)
     return text.replace("@SUM@", _sum(text), 1)
 
