@@ -432,7 +432,7 @@ ask 'no server behind it' 502 - bob:b /doc/f
 stop_proxy
 gives 'sound' 0 'sound\n' '' verify F
 run audit F
-holds 'nothing is on record' [ "$(wc -l <"$work/out")" = 1 ]
+holds 'nothing else is on record' [ "$(grep -vc ,bob,/watched, "$work/out")" = 1 ]
 
 # The ports of rooms, closed to other users by a rule of the firewall, in a network of its own.
 if [ "$(id -u)" != 0 ] || ! has nft || ! has ip || ! has setpriv ||

@@ -160,8 +160,8 @@ ask 'is one of the room' 200 x root:r /doc/door
 ask 'and of the door' 200 x root:r /door/doc/door
 for field in 'Sec-Fetch-Site: cross-site' 'Sec-Fetch-Site: same-site' \
   'Origin: https://x.example'; do
-  ask "a page of another site ($field)" 403 '{"why":"another-site"}' \
-    root:r /door/below/f -H "$field"
+  ask "a page of another site ($field)" 403 - root:r /door/below/f -H "$field"
+  holds 'is refused before it comes to the door' grep -q '<title>403' "$work/body"
 done
 ask 'its own' 200 - root:r /door/below/f -H 'Sec-Fetch-Site: same-origin'
 mkdir -p run/rooms-full

@@ -34,12 +34,14 @@ def options_for(folder, rules, languages):
 
 
 class Browser:
-    def __init__(self, folder, base, user, password, rules='', languages='en'):
+    def __init__(self, folder, base, user, password, rules='', languages='en', words=()):
         os.makedirs(f'{folder}/downloads')
         self.base = base
         self.downloads = f'{folder}/downloads'
-        self.driver = webdriver.Chrome(service=Service(found('chromedriver')),
-                                       options=options_for(folder, rules, languages))
+        options = options_for(folder, rules, languages)
+        for word in words:
+            options.add_argument(word)
+        self.driver = webdriver.Chrome(service=Service(found('chromedriver')), options=options)
         self.debugger = self.driver.capabilities['goog:chromeOptions']['debuggerAddress']
         self.driver.set_page_load_timeout(PATIENCE)
         self.driver.set_script_timeout(PATIENCE)
