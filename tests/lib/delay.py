@@ -1,9 +1,9 @@
 #!/usr/bin/env python3
 """A line to another machine: delay.py PORT TO-PORT MILLISECONDS
 
-Listens at 127.0.0.1:PORT, and hands on to 127.0.0.1:TO-PORT what comes, later by half of the time in
-each direction. A connection takes a whole round before it says anything. What is under way at the
-same time isn't late for that. A signal USR1 ends all connections."""
+Listens at 127.0.0.1:PORT, and hands on to 127.0.0.1:TO-PORT what comes, later by half of the time
+in each direction. A connection takes a whole round before it says anything. What is under way at
+the same time isn't late for that. A signal USR1 ends all connections."""
 import asyncio
 import signal
 import sys

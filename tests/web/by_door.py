@@ -96,7 +96,7 @@ class ByDoor:
         bob.until(lambda: bob.all('.find'), 'the button')
         bob.write('.tools input', 'nothing of this name')
         bob.press('Find further down')
-        bob.until(lambda: 'Nothing in this folder' in bob.texts('.found-of')[0], 'that none is there')
+        bob.until(lambda: 'Nothing in this folder' in bob.texts('.found-of')[0], 'none')
         bob.press('Back to the folder')
         bob.lists('2026', 'plan.txt')
 

@@ -4,7 +4,7 @@
 import { Refusal, jsonOrNull, namesOf, putOnce, target } from './api.js';
 import { isUnanswered, untilAnswered } from './retry.js';
 
-// Whether there is one: null as long as nobody asked.
+// Whether there is one: null as long as none has answered.
 let isThere = null;
 export const hasDoor = () => isThere === true;
 
@@ -12,7 +12,14 @@ export const hasDoor = () => isThere === true;
 const WORDS = { below: 'folder', closed: 'folder', find: 'folder', zip: 'folder' };
 
 // nginx says that there is nothing at this address, and no more; the room says what isn't there.
-const saysNone = ({ status, body }) => status === 404 && !body?.at;
+const saysNone = (fault) => fault.status === 404 && !fault.body?.at;
+// nginx says that nobody answers, and not why.
+const isDeserted = (fault) => isUnanswered(fault) && fault.status !== 0 && fault.body === null;
+
+function note(fault) {
+  if (saysNone(fault)) isThere = false;
+  else if (fault.body !== null) isThere = true;
+}
 
 // The reply, or null where there is no door.
 async function ask(method, word, path, { query = '', body = undefined, fields = {} } = {}) {
@@ -25,11 +32,14 @@ async function ask(method, word, path, { query = '', body = undefined, fields = 
   } catch {
     throw new Refusal(0, null, asked);
   }
-  const told = reply.ok ? null : jsonOrNull(await reply.text().catch(() => ''));
-  isThere = !saysNone({ status: reply.status, body: told });
-  if (!isThere) return null;
-  if (!reply.ok) throw new Refusal(reply.status, told, asked);
-  return reply;
+  if (reply.ok) {
+    isThere = true;
+    return reply;
+  }
+  const fault = new Refusal(reply.status, jsonOrNull(await reply.text().catch(() => '')), asked);
+  note(fault);
+  if (saysNone(fault)) return null;
+  throw fault;
 }
 
 async function read(word, path, query = '') {
@@ -57,8 +67,8 @@ export const findBelow = (path, text) => read('find', path, `?${encodeURICompone
 // The address at which a folder with all in it is one ZIP.
 export const zipAddress = (path) => target('door/zip', path);
 
-// Sends until there is an answer, for half a minute. Null where there is no door, also where nobody
-// answers in its place for so long: then the room is asked without it.
+// Sends until there is an answer, for half a minute, if a door has answered before. Null where
+// there is none, also where nobody answers in its place: then the room is asked without it.
 async function insisting(send) {
   // The door says that the room is away where nginx would say that there is no answer.
   const once = () => send().catch((fault) => {
@@ -66,12 +76,13 @@ async function insisting(send) {
     throw isAway ? Object.assign(fault, { status: 502 }) : fault;
   });
   if (isThere === false) return null;
+  const isKnown = isThere === true;
   try {
-    return await untilAnswered(once);
+    return await (isKnown ? untilAnswered(once) : once());
   } catch (fault) {
-    const isDeserted = isUnanswered(fault) && fault.status !== 0 && fault.body === null;
-    if (!isDeserted && !saysNone(fault)) throw fault;
-    isThere = false;
+    note(fault);
+    if (!isDeserted(fault) && !saysNone(fault)) throw fault;
+    if (isKnown) isThere = false;
     return null;
   }
 }
