@@ -118,15 +118,16 @@ class ByDoor:
         alice.until(lambda: alice.all('.adding .outcome[aria-busy=false]'), 'what comes of it')
 
     def shared(self):
-        """One request for 121 objects, another one for those above, and none for the next person.
-        What differs is named."""
+        """One request for 121 objects, another one for what the top lets pass to, and none for the
+        next person. What differs is named."""
         alice = self.alice
         alice.open('#/letters?access')
         alice.until(lambda: alice.all('.holders'), 'the panel')
         before = len(self.requests())
         self.pick('zoe')
         asked = self.requests()[before:]
-        assert [one for one in asked if 'door/' in one] == ['/door/below/letters'], asked
+        assert [one for one in asked if 'door/' in one] == [
+            '/door/below/letters', '/door/below/?letters'], asked
         assert len(asked) < 6, asked
         assert 'Let zoe pass' in alice.texts('.adding')[0], alice.texts('.adding')
         alice.press('Exceptions further down')

@@ -15,7 +15,7 @@ openssl req -x509 -newkey ec -pkeyopt ec_paramgen_curve:P-256 -nodes -days 2 -ke
 openssl x509 -in rooms.pem -noout -pubkey | openssl pkey -pubin -outform der |
   openssl dgst -sha256 -binary | openssl base64 >spki
 open_room F
-set_list F / dacl list:a "A:fd:alice:$ALL" A:g:staff:rxtc
+set_list F / dacl list:a "A:fd:alice:$ALL" A::AUTHENTICATED@:xt
 start_room F 1000000 || return
 start_front 'how long the page takes' tls || return
 mkdir -p run/door/office

@@ -195,13 +195,15 @@ class Handling:
             alice.says(words, css='dialog .content')
             alice.press('Close', 'dialog')
         alice.act('Preview', 'paper.pdf')
-        self.opens_a_tab()
+        self.opens_a_tab('Open in a tab', 'dialog')
         alice.press('Close', 'dialog')
+        # By one press of its name, too.
+        self.opens_a_tab('paper.pdf', 'table.folder')
 
-    def opens_a_tab(self):
+    def opens_a_tab(self, words, within):
         driver = self.alice.driver
         before = driver.current_window_handle
-        self.alice.press('Open in a tab', 'dialog')
+        self.alice.press(words, within)
         self.alice.until(lambda: len(driver.window_handles) == 2, 'a tab')
         driver.switch_to.window(next(one for one in driver.window_handles if one != before))
         self.alice.until(lambda: driver.current_url.startswith(f'blob:{self.base}/'), 'the PDF')

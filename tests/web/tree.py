@@ -82,7 +82,9 @@ class Tree:
         alice.until(lambda: alice.texts('[role=option] .name') == ['kim'], 'the choice')
         self.key(Keys.ENTER)
         alice.until(lambda: alice.all('.adding .outcome[aria-busy=false]'), 'what comes of it')
-        assert self.focused() == 'What they can do', self.focused()
+        # The next name can be typed at once.
+        assert self.focused() == 'Add people or groups', self.focused()
+        self.tab_to('What they can do')
         self.tab_to('Share')
         self.key(Keys.ENTER)
         alice.says('can now')

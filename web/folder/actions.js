@@ -14,7 +14,7 @@ import { accepted, askMove, askPlace } from './move.js';
 import { readersWords } from './moved.js';
 import { form, question, showDialog, tell, tellFault, waitFor } from '../ui/messages.js';
 import { stoppable } from '../ui/panel.js';
-import { preview } from './preview.js';
+import { openPdf, preview } from './preview.js';
 import { isolated, nameFault, placeWords, sentenceOf } from '../text/words.js';
 
 // Asks again, with what was typed, as long as something of that name is there already. Returns what
@@ -122,6 +122,11 @@ export async function download(objects, folder) {
   if (objects.length === 1 && first.kind === 'document') await downloadOne(first.path);
   else if (objects.length === 1 && hasDoor()) downloadWhole(first.path);
   else await downloadAll(objects, folder);
+  return null;
+}
+
+export async function openInTab(path) {
+  await openPdf(path);
   return null;
 }
 

@@ -144,6 +144,7 @@ class FolderView {
     return {
       download: (children) => this.doing(() => acts.download(this.objects(children), this.path)),
       preview: (child) => this.doing(() => acts.look(path(child))),
+      open: (child) => this.doing(() => acts.openInTab(path(child))),
       move: (child) => this.doing(() => acts.move(path(child), child.kind)),
       remove: (children) => this.doing(() => acts.remove(this.objects(children))),
       copy: (child) => this.doing(() => acts.copyLink(path(child))),

@@ -39,29 +39,42 @@ function textOf(bytes) {
 
 // A browser's viewer of PDF doesn't run in a frame that is shut off from the page, and the page
 // allows no other frame. In a tab it shows what it is given as PDF, and as nothing else.
-function pdfOf(bytes, name) {
-  const show = () => {
-    const address = URL.createObjectURL(new File([bytes], name, { type: 'application/pdf' }));
-    open(address, '_blank', 'noopener');
-    setTimeout(() => URL.revokeObjectURL(address), STAYS);
-  };
-  return element('div', { class: 'empty' }, element('p', {}, texts.folder.pdf),
-    button(texts.folder.openInTab, show, { class: 'primary' }));
+const endingOf = (name) => name.slice(name.lastIndexOf('.') + 1).toLowerCase();
+export const isPdf = (name) => endingOf(name) === 'pdf';
+
+// Returns whether the browser let it.
+function showInTab(bytes, name) {
+  const address = URL.createObjectURL(new File([bytes], name, { type: 'application/pdf' }));
+  setTimeout(() => URL.revokeObjectURL(address), STAYS);
+  const tab = open(address, '_blank');
+  if (tab !== null) tab.opener = null;
+  return tab !== null;
 }
 
+const pdfOf = (bytes, name) => element('div', { class: 'empty' },
+  element('p', {}, texts.folder.pdf),
+  button(texts.folder.openInTab, () => showInTab(bytes, name), { class: 'primary' }));
+
 function contentOf(bytes, name) {
-  const ending = name.slice(name.lastIndexOf('.') + 1).toLowerCase();
+  const ending = endingOf(name);
   if (Object.hasOwn(IMAGES, ending)) return imageOf(bytes, IMAGES[ending], name);
-  if (ending === 'pdf') return pdfOf(bytes, name);
+  if (isPdf(name)) return pdfOf(bytes, name);
   const text = textOf(bytes);
   if (text === null) return none();
   if (text === '') return element('p', { class: 'empty' }, texts.folder.emptyDocument);
   return element('pre', { tabindex: '0', dir: 'auto', 'aria-label': name }, text);
 }
 
-export async function preview(path) {
+// A browser opens a tab only soon after a press. Later it asks for another one.
+export async function openPdf(path) {
+  const read = await waitFor(readWithTag(path));
+  if (!showInTab(await read.blob.arrayBuffer(), api.nameOf(path))) await showPreview(path, read);
+}
+
+export const preview = async (path) => showPreview(path, await waitFor(readWithTag(path)));
+
+async function showPreview(path, { blob, tag }) {
   const name = api.nameOf(path);
-  const { blob, tag } = await waitFor(readWithTag(path));
   const bytes = await blob.arrayBuffer();
   const download = () => {
     save(blob, name);

@@ -9,6 +9,7 @@ import { linkTo } from '../ui/links.js';
 import { menuButton } from '../ui/menu.js';
 import { markClosed } from './closed_rows.js';
 import { editingOf } from './editing.js';
+import { isPdf } from './preview.js';
 import { marked } from '../text/invisible.js';
 import { filtered, kindWords, sorted } from './sorting.js';
 
@@ -26,8 +27,9 @@ function nameOf(child, path, acts) {
   if (child.kind === 'folder') {
     return element('a', { class: 'object', href: linkTo(path), 'data-act': 'open' }, label);
   }
-  const properties = { class: 'object', title: texts.acts.download, 'data-act': 'open' };
-  return button(label, () => acts.download([child]), properties);
+  const [title, does] = isPdf(child.name) ? [texts.folder.openInTab, () => acts.open(child)]
+    : [texts.acts.download, () => acts.download([child])];
+  return button(label, does, { class: 'object', title, 'data-act': 'open' });
 }
 
 function pickBox(child, look, changed) {
