@@ -12,6 +12,31 @@ use sqlite::Row;
 use sqlite::types::ValueRef;
 use std::alloc::{AllocError, Global};
 
+// The columns of `nodes`, as each statement over whole rows of it names them.
+const ID: usize = 0;
+
+const PARENT: usize = 1;
+
+const NAME: usize = 2;
+
+const KIND: usize = 3;
+
+const OWNER: usize = 4;
+
+const GROUP: usize = 5;
+
+const DACL_FLAGS: usize = 6;
+
+const SACL_FLAGS: usize = 7;
+
+const DACL_OWN: usize = 8;
+
+const DACL_INH: usize = 9;
+
+const SACL_OWN: usize = 10;
+
+const SACL_INH: usize = 11;
+
 /// The value in a column, and NULL past the end.
 pub fn value_at(row: &Row, index: usize) -> ValueRef<'_>
     ensures { owned result ≡ column row.now index }
@@ -167,6 +192,34 @@ fn held_of(
     Ok(Some(Held::new(flags, own, inh)?))
 }
 
+fn dacl_in(alloc: Global, lists: &mut RecentLists, row: &Row) -> Result<Option<Held>, AllocError>
+    ensures { IfOk result
+        (λ held. held ≡ held_in (column row.now 6) (column row.now 8) (column row.now 9)) }
+{
+    let flags = value_at(row, DACL_FLAGS);
+    held_of(
+        alloc,
+        lists,
+        flags,
+        value_at(row, DACL_OWN),
+        value_at(row, DACL_INH),
+    )
+}
+
+fn sacl_in(alloc: Global, lists: &mut RecentLists, row: &Row) -> Result<Option<Held>, AllocError>
+    ensures { IfOk result
+        (λ held. held ≡ held_in (column row.now 7) (column row.now 10) (column row.now 11)) }
+{
+    let flags = value_at(row, SACL_FLAGS);
+    held_of(
+        alloc,
+        lists,
+        flags,
+        value_at(row, SACL_OWN),
+        value_at(row, SACL_INH),
+    )
+}
+
 /// The object in a row of all columns of `nodes`, if it can be read.
 pub(crate) fn read_node(
     alloc: Global,
@@ -175,39 +228,25 @@ pub(crate) fn read_node(
 ) -> Result<Option<Node>, AllocError>
     ensures { IfOk result (λ node. node ≡ node_in row.now) }
 {
-    let Some(id) = number_of(value_at(row, 0)) else {
+    let Some(id) = number_of(value_at(row, ID)) else {
         return Ok(None);
     };
-    let Some(parent) = parent_of(value_at(row, 1)) else {
+    let Some(parent) = parent_of(value_at(row, PARENT)) else {
         return Ok(None);
     };
-    let Some(kind) = kind_of(value_at(row, 3)) else {
+    let Some(kind) = kind_of(value_at(row, KIND)) else {
         return Ok(None);
     };
-    let Some(name) = text_at(alloc, value_at(row, 2))? else {
+    let Some(name) = text_at(alloc, value_at(row, NAME))? else {
         return Ok(None);
     };
-    let Some(owners) = owners_of(alloc, value_at(row, 4), value_at(row, 5))? else {
+    let Some(owners) = owners_of(alloc, value_at(row, OWNER), value_at(row, GROUP))? else {
         return Ok(None);
     };
-    let Some(dacl) = held_of(
-        alloc,
-        lists,
-        value_at(row, 6),
-        value_at(row, 8),
-        value_at(row, 9),
-    )?
-    else {
+    let Some(dacl) = dacl_in(alloc, lists, row)? else {
         return Ok(None);
     };
-    let Some(sacl) = held_of(
-        alloc,
-        lists,
-        value_at(row, 7),
-        value_at(row, 10),
-        value_at(row, 11),
-    )?
-    else {
+    let Some(sacl) = sacl_in(alloc, lists, row)? else {
         return Ok(None);
     };
     Ok(Some(Node {
