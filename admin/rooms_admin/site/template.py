@@ -267,7 +267,7 @@ def start_page(site: Site) -> str:
 <body>
   <main id="main">
     <div class="sheet padded">
-      <h1>Rooms</h1>
+      <h1>Rooms · <span lang="de">Räume</span> · <span lang="fr">Salles</span></h1>
       <ul>
 {"".join(rows)}      </ul>
     </div>
