@@ -9,9 +9,12 @@ import { LITERAL, literalsOf } from './literals.mjs';
 
 const [web, page] = process.argv.slice(2);
 const module = (name) => import(`${pathToFileURL(resolve(page)).href}/${name}`);
-const [{ EN }, { DE }, { FR }, { LANGUAGES }] = await Promise.all(
-  ['en.js', 'de.js', 'fr.js', 'language.js'].map(module));
-const TABLES = { de: DE, fr: FR };
+const { LANGUAGES } = await module('language.js');
+const tableOf = async (language) => (await module(`${language}.js`))[language.toUpperCase()];
+const EN = await tableOf('en');
+const others = Object.keys(LANGUAGES).filter((one) => one !== 'en');
+const TABLES = Object.fromEntries(await Promise.all(
+  others.map(async (one) => [one, await tableOf(one)])));
 const told = [];
 
 const kindOf = (value) => (Array.isArray(value) ? 'list' : typeof value);
@@ -119,9 +122,7 @@ for (const [language, table] of Object.entries(TABLES)) {
     }
   }
 }
-if (Object.keys(LANGUAGES).join() !== ['en', ...Object.keys(TABLES)].join()) {
-  told.push(`the languages are ${Object.keys(LANGUAGES).join()}`);
-}
+if (others.length < 2) told.push(`the languages are ${Object.keys(LANGUAGES).join()}`);
 for (const [path, value] of entriesOf(EN)) if (typeof value === 'function') say(path, value);
 
 // What the other modules say, and which entries they use.

@@ -1,7 +1,8 @@
 # The texts of the page: complete in each language, and nowhere else; and in Chromium the language
 # that a browser has or that was chosen, with sharing on a telephone in each.
 
-if has node && node -e 'process.exit(Number(process.versions.node.split(".")[0]) < 18 ? 1 : 0)'; then
+if has node &&
+  node -e 'process.exit(Number(process.versions.node.split(".")[0]) < 18 ? 1 : 0)'; then
   "$repo/deploy/bundle.py" "$PWD/page"
   echo '{"type":"module"}' >page/package.json
   timeout 120 node "$here/web/languages.mjs" "$repo/web" page >"$work/out" 2>"$work/err"
