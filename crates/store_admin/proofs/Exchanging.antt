@@ -159,6 +159,8 @@ emptied old new count room h =
             (all_among (db 3) asked.0 room.members.1 all);
         meta = at 5 ∙ applies.tables.1.1.1.0 (λ e. let e' : 5 ≡ 3 = e in omega (arith, e'));
         audits = at 7 ∙ applies.tables.1.1.1.1.0 (λ e. let e' : 7 ≡ 3 = e in omega (arith, e'));
+        counters =
+            at 8 ∙ applies.tables.1.1.1.1.1.0 (λ e. let e' : 8 ≡ 3 = e in omega (arith, e'));
       };
       shown = w.shown;
     }
@@ -223,6 +225,8 @@ joined group user old new count has h =
           members = at 3 ∙ applies.rows ∙ ap (put_all (db 3)) news;
           meta = at 5 ∙ applies.tables.1.1.1.0 (λ e. let e' : 5 ≡ 3 = e in omega (arith, e'));
           audits = at 7 ∙ applies.tables.1.1.1.1.0 (λ e. let e' : 7 ≡ 3 = e in omega (arith, e'));
+          counters =
+              at 8 ∙ applies.tables.1.1.1.1.1.0 (λ e. let e' : 8 ≡ 3 = e in omega (arith, e'));
         };
         shown = w.shown;
       };

@@ -201,5 +201,6 @@ replaced pairs order old mid new moved gone held = (
     bodies = held.bodies ∙ gone.bodies;
     meta = held.meta ∙ gone.meta;
     audits = held.audits ∙ gone.audits;
+    counters = held.counters ∙ gone.counters;
   },
 )

@@ -49,6 +49,7 @@ pub record ChangesPairsAlone (old new : Database) : Type 0 where
   pub bodies : new.trees tree.bodies ≡ old.trees tree.bodies
   pub meta : new.trees tree.meta ≡ old.trees tree.meta
   pub audits : new.trees tree.audits ≡ old.trees tree.audits
+  pub counters : new.trees tree.counters ≡ old.trees tree.counters
 
 -- The pairs are replaced by these, and nothing else is changed or left.
 abbrev pub ExchangesMembers : List (List ℕ × List ℕ) → Database → Unit {0} → Database → Type 0
@@ -93,13 +94,14 @@ record_seen r = audit_in (Null ∷ Null ∷ r)
 
 -- ---- how they are exchanged
 
--- The rows of members become these, and the other tables of rows are as they were.
+-- The rows of members become these, and the other tables are as they were.
 pub record Exchanges (rows : List Row) (db next : Trees) : Type 0 where
   pub nodes : next tree.nodes ≡ db tree.nodes
   pub bodies : next tree.bodies ≡ db tree.bodies
   pub members : next tree.members ≡ rows
   pub meta : next tree.meta ≡ db tree.meta
   pub audits : next tree.audits ≡ db tree.audits
+  pub counters : next tree.counters ≡ db tree.counters
 
 -- a row of members as it is stored
 abbrev pub stored_pair : ℤ → List ℕ → List ℕ → Row
@@ -111,13 +113,14 @@ pub record Joins (group user : List ℕ) (db next : Trees) : Type 0 where
   pub fresh : is_taken (db tree.members) (stored_pair id group user) ≡ false
   pub puts : Exchanges (put_row (stored_pair id group user) (db tree.members)) db next
 
--- The rows of members mean the set of these pairs, and the other tables of rows are as they were.
+-- The rows of members mean the set of these pairs, and the other tables are as they were.
 pub record HoldsPairs (pairs : List (List ℕ × List ℕ)) (db next : Trees) : Type 0 where
   pub nodes : next tree.nodes ≡ db tree.nodes
   pub bodies : next tree.bodies ≡ db tree.bodies
   pub members : pairs_of (next tree.members) ≡ set_of pairs
   pub meta : next tree.meta ≡ db tree.meta
   pub audits : next tree.audits ≡ db tree.audits
+  pub counters : next tree.counters ≡ db tree.counters
   -- where each row was a pair, each still is
   pub only : are_pairs (db tree.members) ≡ true → are_pairs (next tree.members) ≡ true
 

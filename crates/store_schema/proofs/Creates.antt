@@ -126,7 +126,7 @@ module _ (old new : State) (count : ℕ) where
 
   pub makes_audits : HasEmpty after_meta (0 ∷ 2 ∷ 3 ∷ 5 ∷ []) old.now
       → Executes audits_text [] old new (Ok count)
-      → HasEmpty room_schema (0 ∷ 2 ∷ 3 ∷ 5 ∷ 7 ∷ []) new.now
+      → HasEmpty room_schema (0 ∷ 2 ∷ 3 ∷ 5 ∷ 7 ∷ 8 ∷ []) new.now
   makes_audits before h =
       let both =
       creates_counted audits_text old new after_meta audits before.has audits_is count h
@@ -143,7 +143,7 @@ module _ (old new : State) (count : ℕ) where
               two.others.1.1.0 ∙ one.others.1.1.0 ∙ before.empty.1.1.0,
               (
                 two.others.1.1.1.0 ∙ one.others.1.1.1.0 ∙ before.empty.1.1.1.0,
-                (two.others.1.1.1.1.0 ∙ one.empty, tt),
+                (two.others.1.1.1.1.0 ∙ one.empty, (two.empty, tt)),
               ),
             ),
           ),

@@ -95,7 +95,7 @@ version_put old new count has h =
     }
 
 pub makes_version : (old new : State) (count : ℕ)
-    → HasEmpty room_schema (0 ∷ 2 ∷ 3 ∷ 5 ∷ 7 ∷ []) old.now
+    → HasEmpty room_schema (0 ∷ 2 ∷ 3 ∷ 5 ∷ 7 ∷ 8 ∷ []) old.now
     → Executes version_text [] old new (Ok count) → IsBare new.now
 makes_version old new count before h =
     let put = version_put old new count before.has h in
@@ -108,10 +108,22 @@ makes_version old new count before h =
         others.0 (λ e. let e' : 0 ≡ 5 = e in omega (arith, e')) ∙ before.empty.0,
         (
           others.1.0 (λ e. let e' : 2 ≡ 5 = e in omega (arith, e')) ∙ before.empty.1.0,
-          grind (arith, others.1.1.0, before.empty.1.1.0, others.1.1.1.1.0, before.empty.1.1.1.1.0),
+          (
+            others.1.1.0 (λ e. let e' : 3 ≡ 5 = e in omega (arith, e')) ∙ before.empty.1.1.0,
+            (
+              others.1.1.1.1.0 (λ e. let e' : 7 ≡ 5 = e in omega (arith, e'))
+                  ∙ before.empty.1.1.1.1.0,
+              (
+                others.1.1.1.1.1.0 (λ e. let e' : 8 ≡ 5 = e in omega (arith, e'))
+                    ∙ before.empty.1.1.1.1.1.0,
+                tt,
+              ),
+            ),
+          ),
         ),
       );
       version = ap told rows ∙ version_told;
+      meta = rows;
     }
 
 -- ---- the root
@@ -186,6 +198,10 @@ makes_root owners one two three four old new count before h =
       };
       version =
           ap told (others.1.1.1.0 (λ e. let e' : 5 ≡ 0 = e in omega (arith, e'))) ∙ before.version;
+      meta = others.1.1.1.0 (λ e. let e' : 5 ≡ 0 = e in omega (arith, e')) ∙ before.meta;
+      counters =
+          others.1.1.1.1.1.0 (λ e. let e' : 8 ≡ 0 = e in omega (arith, e'))
+          ∙ before.empty.1.1.1.1.0;
       rows = room_read new.now owners one two three four nodes bodies members audits;
       texts = subst ArePrinted (sym nodes) (root_printed owners.owner owners.group);
     }

@@ -12,3 +12,4 @@ pub mod Others
 pub mod Stamped
 pub mod Moving
 pub mod Migrated
+pub mod Counting

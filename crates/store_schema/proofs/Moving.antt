@@ -9,7 +9,8 @@ use Rattle.sqlite.specs.State.{HasCleanDisk}
 use Rattle.room_rows.specs.declared.{keep.KeepFault.KeepFault, report.Report.TheVariants.Sound}
 use Rattle.store_tables.specs.{Meaning.{IsRecord, rows_of}, Tables.no_schema, RoomRows.room_rows}
 use Rattle.store_tables.specs.{Shown.{IsRoom, Retains, Stays}, Trust.IsTrusted, Within.IsWithin}
-use Rattle.store_tables.{specs.Within.within_on, proofs.{Calls.retains_same, Printed.keeps_on}}
+use Rattle.store_tables.{specs.Within.within_on, proofs.Calls.{counted_on, retains_same}}
+use Rattle.store_tables.{specs.Counters.AreCounted, proofs.Printed.keeps_on}
 use Rattle.store_schema.specs.{NewRoom.{is_version, meta_of, number_shown}, Opening.Expects}
 use Rattle.store_schema.specs.{Opening.ShowsVersion, Migrating.{AnswersMigration, AreMigrated}}
 use Rattle.store_schema.specs.Migrating.{IsInside, IsNoRoom, IsMigrated, RetainsOthers}
@@ -28,6 +29,9 @@ others_on a b c p q =
       more = p.more ++ q.more;
       audits = q.audits ∙ ap (λ l. l ++ q.more) p.audits ∙ append_assoc (a 7) p.more q.more;
       records = All-append IsRecord p.more q.more p.records q.records;
+      counters =
+          counted_on (a 8) (a 7) p.more q.more (b 8) (c 8) p.counters
+          (subst (λ l. AreCounted (b 8) l q.more (c 8)) p.audits q.counters);
       texts = keeps_on (a 0) (b 0) (c 0) p.texts q.texts;
     }
 

@@ -1,12 +1,10 @@
 -- A room that is opened by the number of its schema, and by its tables.
 use Rattle.std.proofs.Common.{◌≡◌, ℤ, Bool, true, false, IsTrue, OnOk, Result, Ok, Err, arith, refl}
-use Rattle.std.proofs.Common.{sym, ◌∙◌}
-use Rattle.std.proofs.lemmas.Fmt.{decimal_digit}
+use Rattle.std.proofs.{Common.{sym, ◌∙◌}, lemmas.Fmt.decimal_digit}
 use Rattle.sqlite.specs.State.{State}
 use Rattle.store_tables.specs.Tables.{room_schema}
-use Rattle.store_schema.specs.Recognizing.{key_indexes}
-use Rattle.store_schema.specs.Opening.{FailsByDisk, Recognizes, when_known}
-use Rattle.store_schema.specs.declared.fault.OpenFault.{OpenFault, TheVariants.OtherTables}
+use Rattle.store_schema.specs.{Recognizing.key_indexes, Opening.{FailsByDisk, Recognizes}}
+use Rattle.store_schema.specs.{Opening.when_known, declared.fault.OpenFault.OpenFault}
 
 pub same_indexes : room_schema.indexes ≡ key_indexes
 same_indexes = rw (decimal_digit 1 (omega arith)) refl

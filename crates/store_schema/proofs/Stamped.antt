@@ -116,6 +116,7 @@ stamp_others old new count room n number h =
       more = [];
       audits = search (rules, it.others.1.1.1.1.0, append-nil, old.now.trees);
       records = All-nil IsRecord;
+      counters = it.others.1.1.1.1.1.0 (λ e. let e' : 8 ≡ 5 = e in omega (arith, e'));
       texts = keeps_same _ _ (it.others.0 (λ e. let e' : 0 ≡ 5 = e in omega (arith, e')));
     }
 

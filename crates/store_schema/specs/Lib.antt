@@ -3,3 +3,4 @@ pub mod Making
 pub mod Opening
 pub mod Recognizing
 pub mod Migrating
+pub mod Counting

@@ -11,7 +11,8 @@ use Rattle.sqlite_trees.specs.View.{doubt}
 use Rattle.store_tables.specs.Within.{IsWithin, LeavesOnly, LeavesOrCommits, TreesOf}
 use Rattle.store_tables.specs.Seeing.{wants_memory}
 use Rattle.store_tables.specs.Tables.{no_schema, room_schema}
-use Rattle.store_schema.specs.NewRoom.{IsNewRoom, meta_of}
+use Rattle.store_tables.specs.Trees as tree
+use Rattle.store_schema.specs.NewRoom.{IsNewRoom, meta_of, version_row}
 use Rattle.store_schema.specs.declared.fault.CreateFault.{CreateFault}
 use Rattle.store_schema.specs.declared.fault.CreateFault.TheVariants.{Memory, Db}
 use Rattle.room_entry.specs.declared.parties.Owners.{Owners}
@@ -30,8 +31,9 @@ pub record Makes {X E : Type 0} (Before After : Database → Type 0) (old new : 
 -- a room's tables with the schema's number, and nothing else
 pub record IsBare (db : Database) : Type 0 where
   pub has : db.schema ≡ room_schema
-  pub empty : AllByRecursion (λ tree. db.trees tree ≡ []) (0 ∷ 2 ∷ 3 ∷ 7 ∷ [])
+  pub empty : AllByRecursion (λ tree. db.trees tree ≡ []) (0 ∷ 2 ∷ 3 ∷ 7 ∷ 8 ∷ [])
   pub version : meta_of db ≡ Some (pos 2)
+  pub meta : db.trees tree.meta ≡ version_row ∷ []
 
 -- the fault for a statement or a commit that fails
 abbrev pub create_fault_of : Error → CreateFault

@@ -9,6 +9,7 @@ use Rattle.sqlite.specs.Order.{Row}
 use Rattle.sqlite.specs.Tree.{Trees}
 use Rattle.sqlite.specs.State.{State, HasCleanDisk}
 use Rattle.sqlite.specs.declared.error.Error.{Error}
+use Rattle.store_tables.specs.Counters.{AreCounted}
 use Rattle.store_tables.specs.Meaning.{IsRecord, rows_of}
 use Rattle.store_tables.specs.Printed.{KeepsPrinted}
 use Rattle.store_tables.specs.Shown.{HasTables, IsRoom}
@@ -84,6 +85,7 @@ pub record RetainsOthers (db next : Trees) : Type 0 where
   pub more : List Row
   pub audits : next tree.audits ≡ db tree.audits ++ more
   pub records : All IsRecord more
+  pub counters : AreCounted (db tree.counters) (db tree.audits) more (next tree.counters)
   pub texts : KeepsPrinted (db tree.nodes) (next tree.nodes)
 
 -- The number of the schema is written anew, and nothing else.

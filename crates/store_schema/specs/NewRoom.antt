@@ -87,8 +87,15 @@ rows_of_root owners = record {
 abbrev pub NewRoomIsSound : Type 0
 NewRoomIsSound = (owners : Owners) → AreSound (rows_of_root owners)
 
+-- the only row of `meta`
+abbrev pub version_row : Row
+version_row = Int (pos 1) ∷ Text (codes "rooms") ∷ Int (pos 2) ∷ []
+
+-- The tables have the root and the schema's number, and nothing else. No record was counted yet.
 pub record IsNewRoom (owners : Owners) (db : Database) : Type 0 where
   pub room : IsRoom db
   pub version : meta_of db ≡ Some (pos 2)
+  pub meta : db.trees tree.meta ≡ version_row ∷ []
+  pub counters : db.trees tree.counters ≡ []
   pub rows : rows_of db ≡ rows_of_root owners
   pub texts : ArePrinted (db.trees tree.nodes)

@@ -14,7 +14,7 @@ const OWNER_ENTRY: &str = "A:fd:OWNER@:rwanNxDtThHdcCoy\n";
 /// Writes the number of the schema.
 pub(crate) fn insert_version<S: Alter>(tx: &mut Transaction<'_, S>) -> Result<usize, Error>
     ensures same_reference { tx.new.conn.ghost_name ≡ tx.old.conn.ghost_name }
-    ensures makes { Makes (HasEmpty room_schema (0 ∷ 2 ∷ 3 ∷ 5 ∷ 7 ∷ [])) IsBare
+    ensures makes { Makes (HasEmpty room_schema (0 ∷ 2 ∷ 3 ∷ 5 ∷ 7 ∷ 8 ∷ [])) IsBare
         (state S.Store tx.old.conn.now) (state S.Store tx.new.conn.now) result }
 {
     tx.execute(

@@ -73,7 +73,7 @@ fn create_meta<S: Alter>(tx: &mut Transaction<'_, S>) -> Result<usize, Error>
 fn create_audits<S: Alter>(tx: &mut Transaction<'_, S>) -> Result<usize, Error>
     ensures same_reference { tx.new.conn.ghost_name ≡ tx.old.conn.ghost_name }
     ensures makes { Makes (HasEmpty after_meta (0 ∷ 2 ∷ 3 ∷ 5 ∷ []))
-        (HasEmpty room_schema (0 ∷ 2 ∷ 3 ∷ 5 ∷ 7 ∷ []))
+        (HasEmpty room_schema (0 ∷ 2 ∷ 3 ∷ 5 ∷ 7 ∷ 8 ∷ []))
         (state S.Store tx.old.conn.now) (state S.Store tx.new.conn.now) result }
 {
     tx.execute(
@@ -88,7 +88,7 @@ fn create_audits<S: Alter>(tx: &mut Transaction<'_, S>) -> Result<usize, Error>
 pub(crate) fn make_tables<S: Alter>(tx: &mut Transaction<'_, S>) -> Result<(), Error>
     ensures same_reference { tx.new.conn.ghost_name ≡ tx.old.conn.ghost_name }
     ensures makes { Makes (HasEmpty no_schema [])
-        (HasEmpty room_schema (0 ∷ 2 ∷ 3 ∷ 5 ∷ 7 ∷ []))
+        (HasEmpty room_schema (0 ∷ 2 ∷ 3 ∷ 5 ∷ 7 ∷ 8 ∷ []))
         (state S.Store tx.old.conn.now) (state S.Store tx.new.conn.now) result }
 {
     create_nodes(tx)?;

@@ -98,6 +98,7 @@ pub record Follows (id : ℤ) (first next : Trees) : Type 0 where
   pub members : next 3 ≡ first 3
   pub meta : next 5 ≡ first 5
   pub audits : next 7 ≡ first 7
+  pub counters : next 8 ≡ first 8
 
 -- the row is the parent's, so it is a child of the row that is taken out
 is_of : (id : ℤ) (cells : Row) (b : Row) → rowid b ≡ Int id
@@ -228,6 +229,7 @@ module _ (id : ℤ) (db next : Trees) (rows : List Row) (bodies : IsShaped Shape
         members = done.members ∙ other.1.1.0 (λ e. let e' : 3 ≡ 0 = e in omega (arith, e'));
         meta = done.meta ∙ other.1.1.1.0 (λ e. let e' : 5 ≡ 0 = e in omega (arith, e'));
         audits = done.audits ∙ other.1.1.1.1.0 (λ e. let e' : 7 ≡ 0 = e in omega (arith, e'));
+        counters = done.counters ∙ other.1.1.1.1.1.0 (λ e. let e' : 8 ≡ 0 = e in omega (arith, e'));
       }
 
   -- there was no row to take out
@@ -295,9 +297,9 @@ delete_room id old new inside count h room =
       ],
       d.shown.mode ∙ inside,
       elim (deletes id old new count room d) [
-        | inl same ↦ retains_by _ _ same.1.meta same.1.audits (keeps_same _ _ same.1.nodes)
+        | inl same ↦ retains_by _ _ same.1.meta same.1.audits same.1.counters (keeps_same _ _ same.1.nodes)
         | inr gone ↦
-            retains_by _ _ gone.meta gone.audits
+            retains_by _ _ gone.meta gone.audits gone.counters
             (subst (KeepsPrinted (old.now.trees 0)) (sym gone.nodes)
             (keeps_fewer id (old.now.trees 0)))
       ],

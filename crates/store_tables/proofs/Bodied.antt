@@ -72,5 +72,5 @@ put_room id bytes old new inside count h room =
             (IsShaped-put_row (stored_body id bytes) _ refl room.bodies);
       },
       d.shown.mode ∙ inside,
-      retains_by _ _ d.puts.meta d.puts.audits (keeps_same _ _ d.puts.nodes),
+      retains_by _ _ d.puts.meta d.puts.audits d.puts.counters (keeps_same _ _ d.puts.nodes),
     )

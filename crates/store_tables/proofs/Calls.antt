@@ -1,8 +1,9 @@
 -- What a read or a failure leaves of a connection.
 use Rattle.std.proofs.Common.{◌≡◌, ℕ, List, [], ◌++◌, Result, Ok, Err, Option, inl, inr, ◌⊎◌, map}
-use Rattle.std.proofs.Common.{filter, ap, ◌∙◌, false, IfOk, OnOk, Vec, Global, arith}
-use Rattle.std.proofs.lemmas.List.{append-nil, append_assoc, Elements.All-append}
-use Rattle.std.{proofs.lemmas.Bool.Decides.nat_tests, specs.List.Sorted.IsPermutation}
+use Rattle.std.proofs.Common.{filter, ap, ◌∙◌, false, IfOk, OnOk, Vec, Global, arith, ◌∷◌, subst}
+use Rattle.std.proofs.{Common.{subst₂, sym}, lemmas.List.{append-nil, append_assoc}}
+use Rattle.std.proofs.lemmas.{List.Elements.{All-append, All-nil}, Bool.Decides.nat_tests}
+use Rattle.std.specs.List.Sorted.{IsPermutation}
 use Rattle.sqlite.specs.{declared.{types.Value.TheVariants.Null, error.Error.Error}, Order.Row}
 use Rattle.sqlite.specs.{Effect.Database, Program.overlay, Tree.Trees, Term.Term}
 use Rattle.sqlite.specs.{Listing.{understood, reads_listing}, State.{State, HasCleanDisk}}
@@ -11,18 +12,38 @@ use Rattle.sqlite.{specs.State.FailsToShow, proofs.Callers.{IsPlain, command_of,
 use Rattle.sqlite_value.specs.declared.keys.Key.{Key}
 use Rattle.sqlite_resolve.specs.declared.compiled.Compiled.{Compiled}
 use Rattle.sqlite_schema.specs.declared.command.Returning.{Returning}
-use Rattle.store_tables.specs.{Tables.room_schema, Meaning.IsRecord, Shown.{Retains, Stays}}
-use Rattle.store_tables.{specs.Printed.KeepsPrinted, proofs.Texts.{query_of, selects}}
-use Rattle.store_tables.proofs.{Answers.{passes, shows, selected}, Bare.{IsReading, shown_same}}
-use Rattle.store_tables.proofs.{Printed.{keeps_on, keeps_itself}, Within.CommitsNothing}
-use Rattle.store_tables.proofs.Within.{as_before, unchanged_within, undone_within}
+use Rattle.store_tables.specs.{Counters.{AreCounted, counted_to, next_record}, Tables.room_schema}
+use Rattle.store_tables.specs.{Meaning.IsRecord, Shown.{Retains, Stays}, Printed.KeepsPrinted}
+use Rattle.store_tables.proofs.{Texts.{query_of, selects}, Answers.{passes, shows, selected}}
+use Rattle.store_tables.proofs.{Bare.{IsReading, shown_same}, Printed.{keeps_on, keeps_itself}}
+use Rattle.store_tables.proofs.Within.{CommitsNothing, as_before, unchanged_within, undone_within}
 
 -- ---- what is retained
 
--- where `meta` and `audits` are as they were, no record is lost or added
-pub retains_by : (db next : Trees) → next 5 ≡ db 5 → next 7 ≡ db 7 → KeepsPrinted (db 0) (next 0)
-    → Retains db next
-retains_by db next meta audits texts = grind (arith, nat_tests, append-nil)
+-- where `meta`, `audits` and the counters are as they were, no record is lost or added
+pub retains_by : (db next : Trees) → next 5 ≡ db 5 → next 7 ≡ db 7 → next 8 ≡ db 8
+    → KeepsPrinted (db 0) (next 0) → Retains db next
+retains_by db next meta audits counters texts = record {
+  meta = meta;
+  more = [];
+  audits = audits ∙ sym (append-nil (db 7));
+  records = All-nil IsRecord;
+  counters = counters;
+  texts = texts;
+}
+
+-- records that are counted, and then others, are counted together
+pub counted_on : (counters audits first then mid last : List Row)
+    → AreCounted counters audits first mid → AreCounted mid (audits ++ first) then last
+    → AreCounted counters audits (first ++ then) last
+counted_on counters audits [] then mid last p q =
+    subst₂ (λ c a. AreCounted c a then last) p (append-nil audits) q
+counted_on counters audits (r ∷ first) then mid last p q = (
+  p.0,
+  counted_on (counted_to (next_record counters audits) counters) (audits ++ r ∷ []) first then mid
+      last p.1
+      (subst (λ a. AreCounted mid a then last) (sym (append_assoc audits (r ∷ []) first)) q),
+)
 
 -- two changes, each of which keeps `meta` and all records, keep them together
 pub retains_on : (a b c : Trees) → Retains a b → Retains b c → Retains a c
@@ -32,6 +53,9 @@ retains_on a b c p q =
       more = p.more ++ q.more;
       audits = q.audits ∙ ap (λ l. l ++ q.more) p.audits ∙ append_assoc (a 7) p.more q.more;
       records = All-append IsRecord p.more q.more p.records q.records;
+      counters =
+          counted_on (a 8) (a 7) p.more q.more (b 8) (c 8) p.counters
+          (subst (λ l. AreCounted (b 8) l q.more (c 8)) p.audits q.counters);
       texts = keeps_on (a 0) (b 0) (c 0) p.texts q.texts;
     }
 

@@ -81,6 +81,7 @@ record Left (old new : State) (rows : List Row) : Type 0 where
   pub members : new.now.trees 3 ≡ old.now.trees 3
   pub meta : new.now.trees 5 ≡ old.now.trees 5
   pub audits : new.now.trees 7 ≡ old.now.trees 7
+  pub counters : new.now.trees 8 ≡ old.now.trees 8
 
 left : (id : ℤ) (old new : State) (count : ℕ) (d : Cleared id old new count) → Left old new d.rows
 left id old new count d =
@@ -94,6 +95,7 @@ left id old new count d =
       members = at 3 ∙ applies.tables.1.1.0 (λ e. let e' : 3 ≡ 2 = e in omega (arith, e'));
       meta = at 5 ∙ applies.tables.1.1.1.0 (λ e. let e' : 5 ≡ 2 = e in omega (arith, e'));
       audits = at 7 ∙ applies.tables.1.1.1.1.0 (λ e. let e' : 7 ≡ 2 = e in omega (arith, e'));
+      counters = at 8 ∙ applies.tables.1.1.1.1.1.0 (λ e. let e' : 8 ≡ 2 = e in omega (arith, e'));
     }
 
 pub clears : (id : ℤ) (old new : State) (count : ℕ) → IsRoom old.now → Cleared id old new count
@@ -116,6 +118,7 @@ clears id old new count room d = go (at_most_one id (old.now.trees 2) room.bodie
             members = it.members;
             meta = it.meta;
             audits = it.audits;
+            counters = it.counters;
           },
         )
     go (inr (r, one)) =
@@ -132,6 +135,7 @@ clears id old new count room d = go (at_most_one id (old.now.trees 2) room.bodie
           members = it.members;
           meta = it.meta;
           audits = it.audits;
+          counters = it.counters;
         })
 
 -- the tables are still rooms tables, and nothing is committed
@@ -155,7 +159,7 @@ clear_room id old new inside count h room =
         ];
       },
       d.shown.mode ∙ inside,
-      retains_by _ _ it.meta it.audits (keeps_same _ _ it.nodes),
+      retains_by _ _ it.meta it.audits it.counters (keeps_same _ _ it.nodes),
     )
 
 -- one row was deleted

@@ -94,6 +94,7 @@ record Left (old new : State) (rows : List Row) : Type 0 where
   pub members : new.now.trees 3 ≡ old.now.trees 3
   pub meta : new.now.trees 5 ≡ old.now.trees 5
   pub audits : new.now.trees 7 ≡ old.now.trees 7
+  pub counters : new.now.trees 8 ≡ old.now.trees 8
 
 left : (id : ℤ) (bytes : List ℕ) (old new : State) (count : ℕ) (d : Filled id bytes old new count)
     → works room_schema Enforced 0 2 (taken_by old.now.trees (fill_edit old.now.trees d.rows))
@@ -108,6 +109,7 @@ left id bytes old new count d none =
       members = at 3 ∙ applies.tables.1.1.0 (λ e. let e' : 3 ≡ 2 = e in omega (arith, e'));
       meta = at 5 ∙ applies.tables.1.1.1.0 (λ e. let e' : 5 ≡ 2 = e in omega (arith, e'));
       audits = at 7 ∙ applies.tables.1.1.1.1.0 (λ e. let e' : 7 ≡ 2 = e in omega (arith, e'));
+      counters = at 8 ∙ applies.tables.1.1.1.1.1.0 (λ e. let e' : 8 ≡ 2 = e in omega (arith, e'));
     }
 
 pub fills : (id : ℤ) (bytes : List ℕ) (old new : State) (count : ℕ) → IsRoom old.now
@@ -135,6 +137,7 @@ fills id bytes old new count room d = go (at_most_one id (old.now.trees 2) room.
             members = it.members;
             meta = it.meta;
             audits = it.audits;
+            counters = it.counters;
           },
         )
     go (inr (r, one)) =
@@ -161,6 +164,7 @@ fills id bytes old new count room d = go (at_most_one id (old.now.trees 2) room.
           members = it.members;
           meta = it.meta;
           audits = it.audits;
+          counters = it.counters;
         })
 
 pub fill_room : (id : ℤ) (bytes : List ℕ) (old new : State) → IsTrue old.in_transaction
@@ -192,9 +196,9 @@ fill_room id bytes old new inside count h room =
       ],
       d.shown.mode ∙ inside,
       elim (fills id bytes old new count room d) [
-        | inl same ↦ retains_by _ _ same.1.meta same.1.audits (keeps_same _ _ same.1.nodes)
+        | inl same ↦ retains_by _ _ same.1.meta same.1.audits same.1.counters (keeps_same _ _ same.1.nodes)
         | inr put ↦
-            retains_by _ _ put.meta put.audits (keeps_same _ _ put.nodes)
+            retains_by _ _ put.meta put.audits put.counters (keeps_same _ _ put.nodes)
       ],
     )
 

@@ -36,6 +36,7 @@ replaced {id = id} {bytes = bytes} gone put = record {
   members = put.members ∙ gone.members;
   meta = put.meta ∙ gone.meta;
   audits = put.audits ∙ gone.audits;
+  counters = put.counters ∙ gone.counters;
 }
 
 pub filled_rows : (db next : Database) (id : ℕ) (bytes : List ℕ) → IsRoom db → 0 < id

@@ -100,7 +100,7 @@ insert_room c printed old new inside count h room =
         bodies = subst (IsShaped Shape.Table) (sym d.adds.bodies) room.bodies;
       },
       d.shown.mode ∙ inside,
-      retains_by _ _ d.adds.meta d.adds.audits
+      retains_by _ _ d.adds.meta d.adds.audits d.adds.counters
           (subst (KeepsPrinted (old.now.trees 0)) (sym d.adds.nodes)
           (keeps_more (stored_node (next_rowid (old.now.trees 0)) (values c)) (old.now.trees 0)
           (old.now.trees 0) (keeps_itself (old.now.trees 0))

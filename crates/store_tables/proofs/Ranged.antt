@@ -309,7 +309,7 @@ module _ (text : List ℕ) (terms : List Term)
         d.shown.committed_is ∙ ap (λ b. if b then old.committed else new.now) within,
         grind (arith, nat_tests, mapped_shaped),
         d.shown.mode ∙ within,
-        retains_by _ _ it.meta it.audits
+        retains_by _ _ it.meta it.audits it.counters
             (subst (KeepsPrinted (old.now.trees 0)) (sym it.nodes)
             (keeps_each old.now room change printed first last)),
       )

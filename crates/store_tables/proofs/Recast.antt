@@ -180,9 +180,9 @@ module _ (text : List ℕ) (terms : List Term)
         ],
         d.shown.mode ∙ inside,
         elim (did terms id given change gives old new count room d) [
-          | inl same ↦ retains_by _ _ same.1.meta same.1.audits (keeps_same _ _ same.1.nodes)
+          | inl same ↦ retains_by _ _ same.1.meta same.1.audits same.1.counters (keeps_same _ _ same.1.nodes)
           | inr put ↦
-              retains_by _ _ put.2.meta put.2.audits
+              retains_by _ _ put.2.meta put.2.audits put.2.counters
               (subst (KeepsPrinted (old.now.trees 0)) (sym put.2.nodes)
               (keeps_over old.now room id change printed put.0 put.1))
         ],

@@ -3,8 +3,10 @@ pub mod MetaCells
 pub mod PairCells
 pub mod BodyCells
 pub mod NodeCells
+pub mod CounterCells
 pub mod Trees
 pub mod Tables
+pub mod Counters
 pub mod Printed
 pub mod Shown
 pub mod Statements

@@ -13,6 +13,7 @@ use Rattle.sqlite_trees.specs.declared.store.Shape.TheVariants.{Table}
 use Rattle.sqlite.specs.Effect.{Database, IsDatabase}
 use Rattle.sqlite.specs.State.{State, HasCleanDisk}
 use Rattle.sqlite.specs.Edit.{next_rowid, is_taken}
+use Rattle.store_tables.specs.Counters.{AreCounted, counted_to, next_record}
 use Rattle.store_tables.specs.Tables.{nodes, room_schema}
 use Rattle.store_tables.specs.Meaning.{IsRecord}
 pub use Rattle.store_tables.specs.Meaning.{shown_node}
@@ -77,22 +78,25 @@ tables_of room = record {
   audits = room.audits;
 }
 
--- the four tables that rows are read from are as they were, and so is `meta`
+-- the four tables that rows are read from are as they were, and so are `meta` and the counters
 pub record KeepsAll (db next : Trees) : Type 0 where
   pub nodes : next tree.nodes ≡ db tree.nodes
   pub bodies : next tree.bodies ≡ db tree.bodies
   pub members : next tree.members ≡ db tree.members
   pub meta : next tree.meta ≡ db tree.meta
   pub audits : next tree.audits ≡ db tree.audits
+  pub counters : next tree.counters ≡ db tree.counters
 
 -- What every request keeps to: `meta` is as it was, and each row of `audits` is there with its
--- number. New rows come after them, and each can be read as a record. Where a list column was
+-- number. New rows come after them, each can be read as a record, and their numbers are the next
+-- ones; the counter of records is at the last of them, or as it was. Where a list column was
 -- written, it holds printed entries.
 pub record Retains (db next : Trees) : Type 0 where
   pub meta : next tree.meta ≡ db tree.meta
   pub more : List Row
   pub audits : next tree.audits ≡ db tree.audits ++ more
   pub records : All IsRecord more
+  pub counters : AreCounted (db tree.counters) (db tree.audits) more (next tree.counters)
   pub texts : KeepsPrinted (db tree.nodes) (next tree.nodes)
 
 -- what any call inside a transaction leaves, whatever it answers
@@ -113,6 +117,7 @@ pub record RemovesRow (id : ℤ) (db next : Trees) : Type 0 where
   pub members : next tree.members ≡ db tree.members
   pub meta : next tree.meta ≡ db tree.meta
   pub audits : next tree.audits ≡ db tree.audits
+  pub counters : next tree.counters ≡ db tree.counters
 
 -- a row of nodes as it is stored: its number, and what the other columns are given
 abbrev pub stored_node : ℤ → Row → Row
@@ -125,6 +130,7 @@ pub record Replaces (id : ℤ) (values : Row) (db next : Trees) : Type 0 where
   pub members : next tree.members ≡ db tree.members
   pub meta : next tree.meta ≡ db tree.meta
   pub audits : next tree.audits ≡ db tree.audits
+  pub counters : next tree.counters ≡ db tree.counters
 
 -- the cells of a row of nodes after its number, with this text for what a list inherits
 abbrev pub sets_inh : Which → List ℕ → Row → Row
@@ -185,6 +191,7 @@ pub record RecastsAll (change : Row → Row) (first last : ℤ) (db next : Trees
   pub members : next tree.members ≡ db tree.members
   pub meta : next tree.meta ≡ db tree.meta
   pub audits : next tree.audits ≡ db tree.audits
+  pub counters : next tree.counters ≡ db tree.counters
 
 -- a row of bytes as it is stored
 abbrev pub stored_body : ℤ → List ℕ → Row
@@ -197,6 +204,7 @@ pub record RemovesBytes (id : ℤ) (db next : Trees) : Type 0 where
   pub members : next tree.members ≡ db tree.members
   pub meta : next tree.meta ≡ db tree.meta
   pub audits : next tree.audits ≡ db tree.audits
+  pub counters : next tree.counters ≡ db tree.counters
 
 -- the bytes of this number are replaced
 pub record Fills (id : ℤ) (bytes : List ℕ) (db next : Trees) : Type 0 where
@@ -205,6 +213,7 @@ pub record Fills (id : ℤ) (bytes : List ℕ) (db next : Trees) : Type 0 where
   pub members : next tree.members ≡ db tree.members
   pub meta : next tree.meta ≡ db tree.meta
   pub audits : next tree.audits ≡ db tree.audits
+  pub counters : next tree.counters ≡ db tree.counters
 
 -- a row with this number, which none had, is put in
 pub record AddsRow (id : ℤ) (values : Row) (db next : Trees) : Type 0 where
@@ -215,6 +224,7 @@ pub record AddsRow (id : ℤ) (values : Row) (db next : Trees) : Type 0 where
   pub members : next tree.members ≡ db tree.members
   pub meta : next tree.meta ≡ db tree.meta
   pub audits : next tree.audits ≡ db tree.audits
+  pub counters : next tree.counters ≡ db tree.counters
 
 -- bytes with this number, which had none, are put in
 pub record Bodies (id : ℤ) (bytes : List ℕ) (db next : Trees) : Type 0 where
@@ -224,6 +234,7 @@ pub record Bodies (id : ℤ) (bytes : List ℕ) (db next : Trees) : Type 0 where
   pub members : next tree.members ≡ db tree.members
   pub meta : next tree.meta ≡ db tree.meta
   pub audits : next tree.audits ≡ db tree.audits
+  pub counters : next tree.counters ≡ db tree.counters
 
 -- a document gets these bytes, and another object none
 abbrev pub GetsBytes : Bool → ℤ → List ℕ → Database → Database → Type 0
@@ -234,9 +245,11 @@ GetsBytes false id bytes old new = new ≡ old
 abbrev pub stored_record : ℤ → Row → Row
 stored_record seq values = Int seq ∷ Null ∷ values
 
--- a record is put in after the others
+-- a record is put in after the others, with the next number, and counted
 pub record AddsRecordRow (values : Row) (db next : Trees) : Type 0 where
   pub seq : ℤ
+  pub number : seq ≡ next_record (db tree.counters) (db tree.audits)
+  pub counters : next tree.counters ≡ counted_to seq (db tree.counters)
   pub nodes : next tree.nodes ≡ db tree.nodes
   pub bodies : next tree.bodies ≡ db tree.bodies
   pub members : next tree.members ≡ db tree.members

@@ -15,3 +15,6 @@ meta = 5
 
 abbrev pub audits : ℕ
 audits = 7
+
+abbrev pub counters : ℕ
+counters = 8

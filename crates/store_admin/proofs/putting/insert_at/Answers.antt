@@ -16,6 +16,7 @@ returns-then-is_again-clause-carries g c = record {
         search (rules, again, c.requires, c.is_again.ensures.0, c.if-is_again.true);
     meta = refl;
     audits = refl;
+    counters = refl;
     only = λ all. all;
   };
   blames = λ trust id is. absurd is;
@@ -41,6 +42,7 @@ returns-in-Ok-clause-carries g c =
                 (sym (so_far c.args.order.now c.args.index p c.requires c.index-order-index.is));
             meta = join.puts.meta;
             audits = join.puts.audits;
+            counters = join.puts.counters;
             only = λ all. subst (λ rows. are_pairs rows ≡ true) (sym join.puts.members)
                 (pairs_put (stored_pair join.id p.now.0 p.now.1)
                 ((state g.S.Store c.args.tx.now.conn.now).now.trees 3)
