@@ -75,7 +75,8 @@ fn perform_by<S: Alter>(
 
 // Whether nothing was written and nothing failed.
 fn has_read(touched: bool, done: &Result<Reply, KeepFault>) -> bool
-    ensures { result ≡ true → (touched ≡ false) × IsOk done.now }
+    ensures read { result ≡ true → (touched ≡ false) × IsOk done.now }
+    ensures rest { touched ≡ false → IsOk done.now → result ≡ true }
 {
     !touched && done.is_ok()
 }
