@@ -35,12 +35,12 @@ pub struct Service<'a, P, M> {
 }
 
 /// Serves `count` connections to the room of the database, at this place, one after the other. It
-/// returns the connection with the status: 0 where all is done, 2 where the database
-/// holds no room of this version, which is printed on `out`, and 3 at a fault, which is printed on
-/// `err`. The connection has no transaction open. A fault of the disk that shuts the connection ends the service after the client's
-/// connection that met it; any other fault of a request doesn't. A power cut leaves all requests
-/// that were answered, and at most one that wasn't, as a whole: at any moment, by the argument that
-/// `docs/statement.md` has among its premises.
+/// returns the connection, with no transaction open, and the status: 0 where all is done, 2 where
+/// the database holds no room of this version, which is printed on `out`, and 3 at a fault, which is
+/// printed on `err`. A fault of the disk that shuts the connection ends the service after the
+/// client's connection that met it; any other fault of a request doesn't. A power cut leaves all
+/// requests that were answered, and at most one that wasn't, as a whole: at any moment, by the
+/// argument that `docs/statement.md` has among its premises.
 pub fn host<S: Alter, P: Ports, M: Moments, O: Write, E: Write>(
     alloc: Global,
     conn: Connection<S>,
