@@ -28,6 +28,7 @@ for_here() { # FILE
     -e "s|unix:/run/rooms/|unix:$PWD/run/rooms/|; s|unix:/run/rooms-door|unix:$PWD/run/door|" \
     -e "s|/var/lib/rooms-web|$PWD/root/var/lib/rooms-web|g" \
     -e "s|/etc/nginx/|$PWD/|; s|/var/lib/rooms-passwords/|$PWD/|" \
+    -e "s|/run/rooms-earlier/|$PWD/run/rooms-earlier/|" \
     -e "s|/run/rooms-own-password/|$PWD/|; s|/etc/rooms/|$PWD/machine/etc/rooms/|" \
     -e "s|/var/lib/rooms-front|$PWD/machine/var/lib/rooms-front|" "$1"
 }

@@ -141,6 +141,15 @@ def dated(backups: str, name: str, file: str) -> Found:
     return found
 
 
+def of_night(backups: str, name: str, night: str, file: str) -> str:
+    """The folder of one backup of the room of this name, or nothing."""
+    found = Found([], [])
+    for above in dict.fromkeys((below(backups, name), backups.rstrip("/") or "/")):
+        if DATED.fullmatch(night):
+            _look_at(above, night, file, found)
+    return found.backups[0].place if found.backups else ""
+
+
 def jump(found: Found) -> str:
     """Each run gives its backup the number of the one before it and one more."""
     last = found.backups[-2:]

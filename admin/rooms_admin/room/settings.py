@@ -136,17 +136,30 @@ class Reached:
     drive: bool = yes("DRIVE")
     own_passwords: bool = setting("OWN_PASSWORDS", r"yes|no", "yes or no", "yes",
                                   lambda text: text == "yes")
+    earlier: str = setting("EARLIER", r"owners|members|no", "owners, members or no", "owners")
+    first_night: str = setting("EARLIER_FROM", r"(\d{4}-\d\d-\d\d(\.\d{6})?)?",
+                               "a day or the name of a backup, or empty")
+
+    @property
+    def shows_nights(self) -> bool:
+        """Whether its users see earlier nights. Who judges that asks at a socket alone."""
+        return self.socket and self.earlier != "no"
 
 
 @dataclass(kw_only=True)
-class Room(Reached):
-    """A room of this machine. `owner` and `group` are whose its folder is."""
+class Kept(Reached):
+    """What whoever doesn't get to a room itself knows of it and its backups."""
     conf: str
-    owner: int
-    group: int
     file: str = setting("FILE", _is_absolute, "an absolute path")
     backups: str = setting("BACKUPS", _is_absolute, "an absolute path")
     program: str = setting("PROGRAM", _is_absolute, "an absolute path", PROGRAM)
+
+
+@dataclass(kw_only=True)
+class Room(Kept):
+    """A room of this machine. `owner` and `group` are whose its folder is."""
+    owner: int
+    group: int
     keep: int = setting("KEEP", r"0|[1-9][0-9]{0,5}", "a number", "30", int)
     memory: int = setting("MEMORY", r"([1-9][0-9]{2,6})?", "a number of megabytes, 100 or more",
                           reads=lambda text: int(text or 0))
@@ -247,6 +260,10 @@ def room(word: str = "") -> Room:
     if os.geteuid() not in (0, seen.st_uid):
         raise Refused(f"not root: {folder} belongs to another user")
     return Room(conf=path, owner=seen.st_uid, group=seen.st_gid, **read)
+
+
+def kept(path: str) -> Kept:
+    return Kept(conf=path, **given(Kept, path, values(path, known(Room))))
 
 
 def is_port(text: str) -> bool:

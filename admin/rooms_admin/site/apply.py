@@ -77,8 +77,21 @@ def show(made: Changes) -> bool:
     if changed:
         made.systemctl("reload", "nginx")
     password_files.finish(made, gone)
-    password_files.serve(made, wanted)
+    serve(made, wanted)
     return True
+
+
+def serve(made: Changes, wanted: template.Site) -> None:
+    """A service waits at its socket where there is a room for it."""
+    if made.root:
+        return
+    own = any(one.own for one in wanted.shown)
+    earlier = any(one.shows_nights for one in wanted.rooms)
+    for name, is_wanted in (("own-password", own), ("nights", earlier), ("earlier", earlier)):
+        unit = f"rooms-{name}.socket"
+        is_on = os.path.islink(f"/etc/systemd/system/sockets.target.wants/{unit}")
+        if is_wanted != is_on:
+            made.systemctl("disable" if is_on else "enable", "--now", unit)
 
 
 def enable(made: Changes) -> bool:

@@ -14,9 +14,6 @@ from ..room import passwords
 from ..room.settings import Place
 from .template import Site
 
-SOCKET = "rooms-own-password.socket"
-_WANTED = f"/etc/systemd/system/sockets.target.wants/{SOCKET}"
-
 
 def folder(made: Changes) -> None:
     made.folder(passwords.KEPT, 0o2750, passwords.KEEPER, changes.NGINX)
@@ -146,12 +143,3 @@ def _tell_jobs(gone: list[str]) -> None:
             if path in said:
                 print(f"the job {job} of at names {path}: type it again, by "
                       "rooms-admin user remove --password")
-
-
-def serve(made: Changes, wanted: Site) -> None:
-    """The keeper waits where there is a room for it."""
-    if made.root:
-        return
-    is_on = os.path.islink(_WANTED)
-    if any(one.own for one in wanted.shown) != is_on:
-        made.systemctl("disable" if is_on else "enable", "--now", SOCKET)

@@ -23,7 +23,7 @@ _SUM = re.compile(r"checksum\n# ([0-9a-f]{64}|@SUM@)\.\n", re.ASCII)
 # What the site itself has at '/': the routes of office, its page, the start page, the check of
 # passwords. No room has such a name.
 TAKEN = {"doc", "folder", "object", "move", "dacl", "sacl", "attr", "can", "me", "people",
-         "mine", "rooms", "password", "door", "drive"}
+         "mine", "rooms", "password", "door", "drive", "earlier"}
 
 
 @dataclass
@@ -192,6 +192,7 @@ def _maps(site: Site) -> dict[str, list[str]]:
                   if one.on or one.door],
         "DRIVES": [f"{one.name} {'room' if one.on else 'door'}_{one.name}" for one in site.shown
                    if one.on or one.drive],
+        "EARLIER": [f"{one.name} yes" for one in site.shown if one.on or one.shows_nights],
         "SESSIONS": [f"{one.name} 1" for one in site.shown if one.passwords == "session"],
         "CHANGES": [f'"{one.name} {f"/{one.name}" if one.on else ""}/password" {_changes(one)}'
                     for one in site.shown],
@@ -199,6 +200,7 @@ def _maps(site: Site) -> dict[str, list[str]]:
         "BEHIND_FLAGS": [f"{one.name} {one.flag}" for one in site.behind],
         "BEHIND_DOORS": [f"{one.name} door_{one.name}" for one in site.behind if one.door],
         "BEHIND_DRIVES": [f"{one.name} door_{one.name}" for one in site.behind if one.drive],
+        "BEHIND_EARLIER": [f"{one.name} yes" for one in site.behind if one.shows_nights],
     }
 
 

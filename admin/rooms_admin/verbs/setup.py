@@ -103,11 +103,11 @@ def _end(made: Changes, good: bool) -> int:
 
 def _user(made: Changes) -> None:
     """For the servers, mail about them, the check of passwords, users' own changes of theirs,
-    copies, and the doors."""
+    copies, the doors, and earlier nights."""
     if made.root:
         return
     for name in ("rooms", "rooms-mail", changes.CHECKER, passwords.KEEPER, runs.COPIES,
-                 "rooms-door"):
+                 "rooms-door", "rooms-night", "rooms-earlier"):
         try:
             getpwnam(name)
         except KeyError:

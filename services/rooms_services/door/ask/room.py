@@ -146,7 +146,7 @@ class Row:
         try:
             with at_fault():
                 self._at = room.connected()
-                self._at.settimeout(ANSWER_SECONDS)
+                self._at.settimeout(room.seconds)
                 self._at.sendall(b"".join([ask.message(user) for ask in asks]))
                 # The room answers all that came before the end, and then lets others in.
                 self._at.shutdown(socket.SHUT_WR)
@@ -201,9 +201,10 @@ def at_fault() -> Iterator[None]:
 
 
 class Room:
-    def __init__(self, place: str) -> None:
-        """The path of a socket."""
+    def __init__(self, place: str, seconds: float = ANSWER_SECONDS) -> None:
+        """The path of a socket, and how long an answer may take."""
         self.place = place
+        self.seconds = seconds
         self._turn = InTurn()
 
     def take(self) -> None:
@@ -240,7 +241,7 @@ class Room:
             with at_fault():
                 at = self.connected()
                 with at:
-                    at.settimeout(ANSWER_SECONDS)
+                    at.settimeout(self.seconds)
                     yield Talk(at, user)
         finally:
             self.give()

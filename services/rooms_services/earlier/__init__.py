@@ -1,0 +1,2 @@
+"""Rooms as they were on earlier nights, for their users: nginx asks here, with the name that it has
+checked."""

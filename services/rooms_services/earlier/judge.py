@@ -1,0 +1,106 @@
+"""Earlier nights for users: nginx asks here by SCGI, with the name that it has checked, for a
+reading request of docs/http.md as it would have been answered that night. This process reads no
+file and reaches no backup: it asks today's room, as nginx does, and copies that others have
+opened."""
+import os
+import re
+import socket
+import threading
+import traceback
+
+from rooms_admin.cli.report import say
+from rooms_admin.host import locks
+from rooms_admin.room import names
+
+from .. import listening, scgi
+from ..door.ask.answers import Answer, Stop, reason, told
+from ..door.ask.paths import Names, names_in
+from ..door.ask.room import Room
+from ..door.ask.turns import Users
+from . import gate
+from .judging import Look
+
+# Connections at once, and seconds until it ends if nobody asks.
+MOST, IDLE = 64, 600.0
+# How long a copy may take for an answer. (A server reads nothing of the disk for one.)
+PATIENCE = float(os.environ.get("ROOMS_NIGHTS_PATIENCE", "20"))
+_TARGET = re.compile(r"/earlier/(?:(nights)|(\d{4}-\d\d-\d\d\.\d{6})/(doc|folder|dacl)/([^?]*))",
+                     re.ASCII)
+
+
+class Today:
+    """A room of today, and who asks about its nights: so many at once, of one user and of all."""
+
+    def __init__(self, name: str) -> None:
+        self.room = Room(os.path.join(locks.RUN, "rooms", name, "socket"))
+        self.users = Users()
+
+
+class Judge:
+    def __init__(self) -> None:
+        self._lock = threading.Lock()
+        self._rooms: dict[str, Today] = {}
+
+    def _today(self, name: str) -> Today:
+        with self._lock:
+            return self._rooms.setdefault(name, Today(name))
+
+    def answer(self, fields: dict[str, str]) -> Answer:
+        name, user = fields.get("ROOM", ""), fields.get("ROOM_USER", "")
+        found = _TARGET.fullmatch(fields.get("TARGET", ""))
+        if not names.is_room(name):
+            raise Stop(400, "bad-user")
+        if not names.is_user(user):
+            # Whoever has a first password has no name for a room.
+            raise Stop(403, "first") if not user else Stop(400, "bad-user")
+        if not found:
+            raise Stop(404, "no-route")
+        listed, night, word, rest = found.groups()
+        today = self._today(name)
+        with today.users.turn(user):
+            if listed:
+                return told(gate.nights(name))
+            return self._looked(today, name, user, night, word, names_in(rest))
+
+    def _looked(self, today: Today, name: str, user: str, night: str, word: str, path: Names
+                ) -> Answer:
+        """A copy whose server was killed, or hangs, is opened anew; once for one request."""
+        look = Look(today.room, user, word, path)
+        try:
+            return look.answer(lambda: gate.opened(name, night), PATIENCE)
+        except Stop as stop:
+            if stop.why not in ("room-ended", "room-hangs", "no-room") or look.then is None:
+                raise
+        gate.ended(name, night)
+        look = Look(today.room, user, word, path)
+        return look.answer(lambda: gate.opened(name, night), PATIENCE)
+
+    def one(self, connection: socket.socket) -> None:
+        connection.settimeout(10)
+        try:
+            given = _as_scgi(self.answer(scgi.asked(connection.recv, 0)[0]))
+        except scgi.Answer as refused:
+            given = refused
+        except Stop as stop:
+            given = _as_scgi(stop.answer(False))
+        except OSError:
+            raise
+        except Exception as fault:  # One request ends nothing for others.
+            say(f"failed: {type(fault).__name__}: {fault}")
+            traceback.print_exc()
+            given = scgi.Answer("500 Internal Server Error", "store")
+        connection.settimeout(65)
+        connection.sendall(given.text())
+
+
+def _as_scgi(answer: Answer) -> scgi.Answer:
+    return scgi.Answer(f"{answer.status} {reason(answer.status)}", body=answer.body,
+                       kind=answer.kind,
+                       fields=tuple(f"{name}: {text}" for name, text in answer.fields.items()))
+
+
+def run() -> int:
+    os.umask(0o077)
+    os.chdir("/")
+    listening.serve(listening.handed(), MOST, IDLE, Judge().one)
+    return 0

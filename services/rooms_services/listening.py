@@ -1,0 +1,52 @@
+"""A service at the socket that systemd has made for it: nginx waits there while it starts, and it
+ends when nobody has asked for a while."""
+import os
+import socket
+import threading
+import time
+from collections.abc import Callable
+
+# The number of the first file that systemd hands over.
+_FIRST = 3
+# Seconds between two looks whether anything is left to do.
+_TICK = 5.0
+
+
+def handed() -> socket.socket:
+    """The socket of this service's unit."""
+    if os.environ.get("LISTEN_FDS") != "1":
+        raise SystemExit("rooms-service: no socket of systemd's: its unit starts this")
+    os.set_inheritable(_FIRST, False)
+    return socket.socket(fileno=_FIRST)
+
+
+def serve(listener: socket.socket, most: int, idle: float,
+          one: Callable[[socket.socket], None], is_needed: Callable[[], bool] = lambda: False
+          ) -> None:
+    """A thread for each connection, up to so many: more wait in the socket. It goes on until nobody
+    has come for `idle` seconds, and nothing else needs it."""
+    free = threading.BoundedSemaphore(most)
+
+    def answer(connection: socket.socket) -> None:
+        try:
+            with connection:
+                one(connection)
+        except OSError:
+            pass  # Whoever asked is gone.
+        finally:
+            free.release()
+
+    threading.stack_size(524_288)
+    listener.settimeout(_TICK)
+    last = time.monotonic()
+    while True:
+        free.acquire()
+        try:
+            connection, _ = listener.accept()
+        except TimeoutError:
+            free.release()
+            if time.monotonic() - last > idle and not is_needed():
+                return
+            continue
+        last = time.monotonic()
+        threading.Thread(target=answer, args=(connection,), daemon=True).start()

@@ -1,0 +1,303 @@
+"""Who sees what of an earlier night, over two rooms in memory: that of today and that of then."""
+import json
+import os
+import socket
+import tempfile
+import threading
+import unittest
+from unittest import mock
+
+from fake_room import FakeRoom, Served
+from rooms_admin.host import locks
+from rooms_services import scgi
+from rooms_services.door.ask.answers import Answer, Stop
+from rooms_services.earlier import gate, judge, nights
+from rooms_services.earlier.gate import Opened
+
+NIGHT = "2026-11-01.030000"
+
+
+class Over(unittest.TestCase):
+    def setUp(self) -> None:
+        folder = tempfile.TemporaryDirectory()
+        self.addCleanup(folder.cleanup)
+        os.makedirs(f"{folder.name}/rooms/office")
+        run = mock.patch.object(locks, "RUN", folder.name)
+        run.start()
+        self.addCleanup(run.stop)
+        self.now, self.then = FakeRoom(), FakeRoom()
+        self.copy = f"{folder.name}/copy"
+        for place, room in ((f"{folder.name}/rooms/office/socket", self.now),
+                            (self.copy, self.then)):
+            server = Served(place, room)
+            thread = threading.Thread(target=server.serve_forever, args=(0.01,), daemon=True)
+            thread.start()
+            self.addCleanup(server.server_close)
+            self.addCleanup(thread.join)
+            self.addCleanup(server.shutdown)
+        for room in (self.now, self.then):
+            room.make(letters=None, letters__reply=b"now" if room is self.now else b"then")
+            room.owners["letters", "reply"] = "carol"
+        self.shown_to = "owners"
+        self.opened: list[str] = []
+        opens = mock.patch.object(gate, "opened", self._opened)
+        opens.start()
+        self.addCleanup(opens.stop)
+        self.judge = judge.Judge()
+
+    def _opened(self, room: str, night: str) -> Opened:
+        self.opened.append(f"{room} {night}")
+        return Opened(self.shown_to, self.copy)
+
+    def deny(self, room: FakeRoom, user: str, path: str, bits: str) -> None:
+        room.denied |= {(user, path, bit) for bit in bits}
+
+    def told(self, user: str, rest: str) -> tuple[int, object]:
+        try:
+            given: Answer = self.judge.answer(
+                {"ROOM": "office", "ROOM_USER": user, "TARGET": f"/earlier/{NIGHT}/{rest}"})
+        except Stop as stop:
+            given = stop.answer(False)
+        body = given.body
+        return given.status, json.loads(body) if given.kind == "application/json" else body
+
+    def names(self, user: str, rest: str) -> list[str]:
+        status, told = self.told(user, rest)
+        assert status == 200 and isinstance(told, list), (status, told)
+        return [one["name"] for one in told]
+
+
+NOT_NOW = (403, {"why": "now"})
+
+
+class There(Over):
+    """What is there that night and now."""
+
+    def test_both_say_yes(self) -> None:
+        self.assertEqual(self.told("bob", "doc/letters/reply"), (200, b"then"))
+        self.assertEqual(self.told("bob", "folder/letters"),
+                         (200, [{"kind": "document", "name": "reply"}]))
+        self.assertEqual(self.told("bob", "dacl/letters"), (200, b"list:a\nA:I:alice:rw\n"))
+
+    def test_today_says_no(self) -> None:
+        self.deny(self.now, "bob", "/letters/reply", "r")
+        self.assertEqual(self.told("bob", "doc/letters/reply"), NOT_NOW)
+        self.deny(self.now, "bob", "/letters", "x")
+        self.assertEqual(self.told("bob", "dacl/letters/reply"), NOT_NOW)
+        # No night is opened for that.
+        self.assertEqual(self.opened, [])
+
+    def test_that_night_says_no(self) -> None:
+        self.deny(self.then, "bob", "/letters/reply", "r")
+        self.assertEqual(self.told("bob", "doc/letters/reply")[0], 403)
+        self.deny(self.then, "bob", "/letters", "c")
+        self.assertEqual(self.told("bob", "dacl/letters")[0], 403)
+
+    def test_reading_is_asked_for_as_such(self) -> None:
+        self.told("bob", "doc/letters/reply")
+        self.assertEqual(self.now.seen[0], "bob GET /doc/letters/reply")
+        self.assertTrue(all(" GET " in one for one in self.now.seen + self.then.seen))
+
+    def test_made_since(self) -> None:
+        self.now.make(letters__new=b"x")
+        self.assertEqual(self.told("bob", "doc/letters/new"),
+                         (404, {"at": "/letters/new", "why": "no-such"}))
+
+    def test_the_root(self) -> None:
+        self.now.owners[()] = "dave"
+        self.assertEqual(self.names("bob", "folder/"), ["letters"])
+        self.assertEqual(self.told("bob", "doc/")[0], 409)
+
+
+class Another(Over):
+    """Another object has taken its name since: no way to what was there."""
+
+    def test_of_another_owner(self) -> None:
+        self.now.owners["letters", "reply"] = "bob"
+        self.deny(self.now, "bob", "/letters", "C")
+        self.assertEqual(self.told("bob", "doc/letters/reply"), NOT_NOW)
+        self.assertEqual(self.told("bob", "dacl/letters/reply"), NOT_NOW)
+        # Its owner that night, and who manages the folder.
+        self.deny(self.now, "carol", "/letters", "C")
+        self.assertEqual(self.told("carol", "doc/letters/reply"), (200, b"then"))
+        self.assertEqual(self.told("alice", "doc/letters/reply"), (200, b"then"))
+
+    def test_of_another_kind(self) -> None:
+        self.now.objects["letters", "reply"] = None
+        self.deny(self.now, "bob", "/letters", "C")
+        self.assertEqual(self.told("bob", "doc/letters/reply"), NOT_NOW)
+        self.assertEqual(self.told("carol", "doc/letters/reply"), (200, b"then"))
+        # That night it was no folder.
+        self.assertEqual(self.told("bob", "folder/letters/reply"), NOT_NOW)
+
+    def test_whose_owner_is_not_told(self) -> None:
+        for room in (self.now, self.then):
+            room.denied.clear()
+            self.deny(room, "bob", "/letters/reply", "t")
+            self.deny(self.now, "bob", "/letters", "C")
+            self.assertEqual(self.told("bob", "doc/letters/reply"), NOT_NOW)
+
+
+class Gone(Over):
+    def setUp(self) -> None:
+        super().setUp()
+        self.then.make(letters__gone=b"gone", letters__old=None, letters__old__deep=b"deep")
+        self.then.owners |= {("letters", "gone"): "carol", ("letters", "old"): "carol",
+                             ("letters", "old", "deep"): "dave"}
+        for user in ("bob", "carol", "dave"):
+            self.deny(self.now, user, "/letters", "C")
+
+    def test_who_owned_it(self) -> None:
+        self.assertEqual(self.told("carol", "doc/letters/gone"), (200, b"gone"))
+        self.assertEqual(self.told("bob", "doc/letters/gone"), NOT_NOW)
+        self.assertEqual(self.told("dave", "doc/letters/old/deep"), (200, b"deep"))
+        self.assertEqual(self.told("carol", "doc/letters/old/deep"), NOT_NOW)
+
+    def test_who_manages_what_is_left(self) -> None:
+        self.assertEqual(self.told("alice", "doc/letters/gone"), (200, b"gone"))
+        self.assertEqual(self.told("alice", "doc/letters/old/deep"), (200, b"deep"))
+        self.assertEqual(self.names("alice", "folder/letters/old"), ["deep"])
+
+    def test_only_what_they_could_read(self) -> None:
+        self.deny(self.then, "carol", "/letters/gone", "r")
+        self.deny(self.then, "alice", "/letters/gone", "r")
+        for user in ("carol", "alice"):
+            self.assertEqual(self.told(user, "doc/letters/gone")[0], 403)
+
+    def test_whose_way_there_is_barred(self) -> None:
+        self.deny(self.now, "carol", "/letters", "x")
+        self.assertEqual(self.told("carol", "doc/letters/gone"), NOT_NOW)
+
+    def test_its_name_neither(self) -> None:
+        self.assertEqual(self.names("bob", "folder/letters"), ["reply"])
+        self.assertEqual(self.names("carol", "folder/letters"), ["gone", "old", "reply"])
+        self.assertEqual(self.names("dave", "folder/letters"), ["reply"])
+        self.assertEqual(self.names("alice", "folder/letters"), ["gone", "old", "reply"])
+        # Of a folder that is gone, each sees what was theirs.
+        self.assertEqual(self.names("carol", "folder/letters/old"), [])
+
+    def test_nothing_that_was_never_there_is_told(self) -> None:
+        self.assertEqual(self.told("bob", "doc/letters/never"), NOT_NOW)
+        self.assertEqual(self.told("alice", "doc/letters/never")[0], 404)
+
+    def test_members(self) -> None:
+        self.shown_to = "members"
+        self.assertEqual(self.told("bob", "doc/letters/gone"), (200, b"gone"))
+        self.assertEqual(self.told("bob", "doc/letters/old/deep"), (200, b"deep"))
+        self.assertEqual(self.names("bob", "folder/letters"), ["gone", "old", "reply"])
+        self.assertIn("bob GET /folder/letters", self.now.seen)
+        for bits in "wa":
+            self.deny(self.now, "carol", "/letters", bits)
+            self.assertEqual(self.told("carol", "doc/letters/gone"), NOT_NOW)
+            self.assertEqual(self.names("carol", "folder/letters"), ["reply"])
+        self.deny(self.now, "dave", "/letters", "r")
+        self.assertEqual(self.told("dave", "doc/letters/gone"), NOT_NOW)
+
+
+class Asked(Over):
+    """What comes from nginx."""
+
+    def test_targets(self) -> None:
+        for rest in ("object/letters/reply", "move/letters/reply", "sacl/letters", "attr/letters",
+                     "can/letters?r", "doc/letters/reply?r", "doc"):
+            self.assertEqual(self.told("alice", rest)[0], 404, rest)
+        for rest in ("doc/letters//reply", "doc/letters/../x", "doc/.", "doc/%2e%2e/x", "doc/%ff",
+                     "doc/a%00b", "doc/letters%2Freply", "doc/letters/reply/", "doc/" + "a" * 256,
+                     "doc/" + "/".join(["a" * 200] * 21)):
+            status, told = self.told("alice", rest)
+            self.assertEqual(status, 400, rest)
+        self.assertEqual(self.now.seen, [])
+        self.assertEqual(self.opened, [])
+
+    def test_nights_that_are_none(self) -> None:
+        for night in ("../../etc", ".", "..", "latest", "2026-11-01", f"{NIGHT}.part",
+                      "2026-11-01.03000", "2026-11-01.0300000", f"..%2F{NIGHT}", f"{NIGHT}%00",
+                      "２026-11-01.030000", ""):
+            with self.assertRaises(Stop) as stopped:
+                self.judge.answer({"ROOM": "office", "ROOM_USER": "alice",
+                                   "TARGET": f"/earlier/{night}/doc/letters/reply"})
+            self.assertEqual(stopped.exception.status, 404, night)
+
+    def test_who(self) -> None:
+        for room, user, status in (("office", "", 403), ("office", "a b", 400),
+                                   ("../x", "alice", 400), ("", "alice", 400),
+                                   ("office", "alice\r\nX: y", 400)):
+            with self.assertRaises(Stop) as stopped:
+                self.judge.answer({"ROOM": room, "ROOM_USER": user,
+                                   "TARGET": f"/earlier/{NIGHT}/doc/letters/reply"})
+            self.assertEqual(stopped.exception.status, status, (room, user))
+
+    def test_by_scgi(self) -> None:
+        ours, theirs = socket.socketpair()
+        thread = threading.Thread(target=self.judge.one, args=(theirs,))
+        thread.start()
+        fields = {"CONTENT_LENGTH": "0", "ROOM": "office", "ROOM_USER": "bob",
+                  "TARGET": f"/earlier/{NIGHT}/doc/letters/reply"}
+        text = b"".join(f"{name}\0{value}\0".encode() for name, value in fields.items())
+        ours.sendall(b"%d:%b," % (len(text), text))
+        thread.join(10)
+        theirs.close()
+        said = ours.makefile("rb").read()
+        ours.close()
+        self.assertEqual(said, b"Status: 200 OK\r\nContent-Type: application/octet-stream\r\n"
+                               b"Content-Length: 4\r\n\r\nthen")
+
+    def test_a_copy_that_is_killed_or_hangs_is_opened_anew(self) -> None:
+        deaf = socket.socket(socket.AF_UNIX)
+        place = self.copy + ".deaf"
+        deaf.bind(place)
+        deaf.listen(8)
+        self.addCleanup(deaf.close)
+        for first in (place, self.copy + ".none"):
+            places = [first, self.copy]
+            ended: list[str] = []
+
+            def opened(_room: str, _night: str, places: list[str] = places) -> Opened:
+                return Opened("owners", places.pop(0))
+
+            def ends(room: str, night: str, ended: list[str] = ended) -> None:
+                ended.append(night)
+            with mock.patch.object(gate, "opened", opened), \
+                    mock.patch.object(judge, "PATIENCE", 0.2), \
+                    mock.patch.object(gate, "ended", ends):
+                self.assertEqual(self.told("bob", "doc/letters/reply"), (200, b"then"))
+            self.assertEqual(ended, [NIGHT])
+
+    def test_today_is_away(self) -> None:
+        with self.assertRaises(Stop) as stopped:
+            self.judge.answer({"ROOM": "other", "ROOM_USER": "alice",
+                               "TARGET": f"/earlier/{NIGHT}/doc/letters/reply"})
+        self.assertEqual(stopped.exception.why, "no-room")
+        self.assertEqual(self.opened, [])
+
+
+class Said(unittest.TestCase):
+    def test_words_of_the_supervisor(self) -> None:
+        for line, status, why in (
+                ("none", 404, "no-night"), ("busy", 503, "busy"), ("large", 503, "large"),
+                ("damaged", 410, "damaged"), ("failed", 502, "away"), ("", 502, "away"),
+                ("ready", 502, "away"), ("ready owners", 502, "away")):
+            with mock.patch.object(gate, "_told", return_value=line.split()):
+                with self.assertRaises(Stop) as stopped:
+                    gate.opened("office", NIGHT)
+                self.assertEqual((stopped.exception.status, stopped.exception.why), (status, why))
+        with mock.patch.object(gate, "_told", return_value=["nights", "owners", f"{NIGHT}=5"]):
+            self.assertEqual(gate.nights("office"),
+                             {"gone": "owners", "nights": [{"at": 5, "night": NIGHT}]})
+        with mock.patch.object(gate, "_told", return_value=["none"]):
+            with self.assertRaises(Stop) as stopped:
+                gate.nights("office")
+            self.assertEqual(stopped.exception.why, "no-earlier")
+
+    def test_moments(self) -> None:
+        self.assertIsNotNone(nights.moment(NIGHT))
+        for night in ("9999-99-99.999999", "2026-02-30.000000", "2026-11-01.240000"):
+            self.assertIsNone(nights.moment(night))
+
+    def test_no_fields(self) -> None:
+        with self.assertRaises(scgi.Answer):
+            scgi.asked(lambda count: b"", 0)
+
+
+if __name__ == "__main__":
+    unittest.main()
