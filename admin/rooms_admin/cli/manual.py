@@ -103,7 +103,7 @@ def page() -> str:
     for verb in VERBS:
         out += _verb_roff(verb)
     names = ", ".join(_roff(f"{one} is {verb}") for one, verb in OLD.items())
-    out += [".SH OLD NAMES", f"For this version, links keep the names that scripts had: {names}.",
+    out += [".SH OLD NAMES", f"Links keep the names that scripts had before: {names}.",
             ".SH \"EXIT STATUS\"", _roff(_STATUS) + ".", ".SH FILES", ".TP",
             ".I /etc/rooms/NAME.conf", "The settings of a room, each with its comment.",
             ".SH \"SEE ALSO\"", ".BR rooms (1),", "/usr/share/doc/rooms"]
