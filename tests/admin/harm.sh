@@ -92,14 +92,14 @@ fi
 exec "$rooms" "\$@"
 END
   as_other() { setpriv --reuid=65532 --regid=65532 --clear-groups "$@" >/dev/null 2>&1; }
-  watched() { # NAME VERB WORD
+  watched() { # NAME VERB WORD [MORE ..]: while the program is at WORD
     local copy one
     rm -f seen
     echo "$3" >word
     chmod 644 word
     : >reading
     chmod 666 reading
-    TMPDIR=$PWD/tmp verb "$2" "$PWD/conf" &
+    TMPDIR=$PWD/tmp verb "$2" --room "$PWD/conf" "${@:4}" &
     until [ -s reading ] || [ ! -d "/proc/$!" ]; do sleep 0.05; done
     holds "$1: all is root's" [ -z "$(find backups -not -user 0)" ]
     holds "$1: and nobody else's" [ -z "$(find backups -perm /077)" ]
@@ -116,6 +116,7 @@ END
     holds "$1: nor by the program that reads it" [ "$?" != 0 ]
     as_user bash -c "kill -STOP $(<reading)" 2>/dev/null
     holds "$1: whom that user can't hold" [ "$?" != 0 ]
+    holds "$1: nothing of it lies beside the room" [ -z "$(find office -name 'restoring*')" ]
     : >seen
     wait "$!"
   }
@@ -124,6 +125,13 @@ END
     watched "a night that is watched at $word" backup "$word"
   done
   watched 'a standby copy that is watched' standby verify
+  watched 'a restore that is watched' restore verify --start latest
+  holds "a restore of what was verified: $(head -c 300 "$work/err")" \
+    grep -q "^restored $PWD/office/F from " "$work/out"
+  holds 'the room is its user'"'"'s, and whole' \
+    [ -z "$(find office -mindepth 1 -not -user "$STAND_USER")" -a \
+    "$(as_user "$rooms" verify "$PWD/office/before-restore."*/F 2>&1)" = sound ]
+  rm -r office/before-restore.*
   holds 'both have a copy' \
     [ "$("$rooms" verify "backups/conf/$(newest)/F" 2>&1) $(
       "$rooms" verify backups/conf/standby/F 2>&1
