@@ -308,12 +308,15 @@ if [ "$(id -u)" = 0 ] && [ "$STAND_USER" != 0 ]; then
   # A folder of the restore that somebody swaps for a link while the copy is made.
   mkdir elsewhere
   cat >"$stand/at-cat" <<END
+# The copy that is verified comes first, and lies elsewhere.
+[ -d "$PWD/office/restoring.F/new" ] || exec cp "$stand/hook" "$stand/at-cat"
 rm -rf "$PWD/office/restoring.F/new"
 ln -s "$PWD/elsewhere" "$PWD/office/restoring.F/new"
 END
   verb restore --room "$PWD/conf" latest
   holds 'a folder that becomes a link' [ "$status" != 0 ]
   holds 'nothing is written through it' [ -z "$(ls elsewhere)" ]
+  holds 'somebody was there meanwhile' is_missing "$stand/at-cat"
   rm -rf office/restoring.F
   unit start
   answers 'the room is as it was' /doc/later "reply '200 OK' application/octet-stream later"

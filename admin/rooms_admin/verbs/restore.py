@@ -156,7 +156,9 @@ class Restore:
             try:
                 with safe.opened(safe.folder(os.path.dirname(copied))) as source:
                     private_server.copy_files(os.path.basename(copied), source, self.new, self.base)
-                for name in os.listdir(self.new):
+                for name in (self.base, self.log):
+                    if name == self.log and not is_there(self.new, name):
+                        continue
                     with safe.opened(safe.file_below(self.new, name)) as number:
                         os.fsync(number)
                         self.give(number)
