@@ -137,6 +137,15 @@ for pair in export:export import:import handover:handover get:get nightly:backup
   same "$old is $verb" got "$work/out"
 done
 
+# A room as it was named before, and as it is: the same, but for a word on standard error.
+printf 'FILE=%s/F\nBACKUPS=%s\nPROGRAM=/bin/true\n' "$PWD" "$PWD" >old.conf
+run_admin latest --room ./old.conf
+cp "$work/err" wanted
+run_admin latest --conf ./old.conf
+told 'a room as before' 2 'rooms-admin latest: type --room ./old.conf: this is the last version'
+sed 1d "$work/err" | cmp -s - wanted
+holds 'and all else as now' [ "$?" = 0 ]
+
 # Below a prefix the package is where the launcher looks, and the program is that prefix's.
 for prefix in usr usr/local; do
   mkdir -p "tree/$prefix/sbin" "tree/$prefix/share/rooms/rooms_admin" "tree/$prefix/bin"

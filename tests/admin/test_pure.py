@@ -341,8 +341,9 @@ class Words(unittest.TestCase):
                              ("handover", "hr", "lists.txt", "eve", "bob"), ("check", "hr"),
                              ("full", "hr")):
             got, said = self.told(verb, *typed)
-            self.assertEqual((got.room, said), ("hr", "type --room hr: the next version takes that "
-                                                "in no other way\n"), (verb, typed))
+            self.assertEqual((got.room, said), ("hr", "type --room hr: this is the last version "
+                                                "that understands what you typed\n"),
+                             (verb, typed))
         got, said = self.told("check", "hr", "office")
         self.assertEqual(got.rooms, ["hr", "office"])
         self.assertTrue(said.startswith("type --room hr --room office: "))

@@ -198,4 +198,4 @@ def _take_former(parser: Parser, given: argparse.Namespace, before: list[str]) -
 
 def tell_former(typed: list[str]) -> None:
     if typed:
-        say(f"type {' '.join(typed)}: the next version takes that in no other way")
+        say(f"type {' '.join(typed)}: this is the last version that understands what you typed")
