@@ -38,7 +38,8 @@ refuses 'no value' 'bad arguments' --port
 refuses 'an owner without a group' 'bad arguments' invoices carol
 refuses 'too much' 'bad arguments' invoices carol accounting more
 refuses 'an option that remove has not' 'bad arguments' --remove --port 8790 invoices
-for name in '' . .. a/b A Rechnung ä 'a b' -a a- a_b 'a;b' "$(printf 'a%.0s' {1..33})"; do
+refuses 'an empty name' 'bad arguments: a word is empty' ''
+for name in . .. a/b A Rechnung ä 'a b' -a a- a_b 'a;b' "$(printf 'a%.0s' {1..33})"; do
   [ "${name:0:1}" != - ] || continue
   refuses "the name '$name'" 'bad name' "$name"
 done
