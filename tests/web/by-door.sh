@@ -1,6 +1,6 @@
-# The page of a room that has a door, behind nginx, in Chromium: what can't be opened, names further
-# down, a folder as one ZIP, shares of many objects and with several people, documents that somebody
-# else changed, and a door that ends.
+# The page of a room that has a door, behind nginx, in Chromium: how many clicks things take; what
+# can't be opened, names further down, a folder as one ZIP, shares of many objects and with several
+# people, documents that somebody else changed, and a door that ends.
 
 . "$here/lib/front.sh"
 . "$here/lib/browsers.sh"
@@ -21,6 +21,9 @@ python3 -IB "$repo/services/rooms_services/door/__main__.py" --room "$PWD/run/ro
 door=$!
 others+=("$door")
 until [ -s door.err ]; do sleep 0.05; done
+mkdir -p root/var/lib/rooms-web/office/mine
+ln -s root/var/lib/rooms-web/office names
+play 'clicks' counted.py "$PWD" "$front"
 play 'the page by a door' by_door.py "$PWD" "$front" "$PWD/access.log" "$door"
 stop_server
 stop_proxy

@@ -130,7 +130,8 @@ class ByDoor:
             '/door/below/letters', '/door/below/?letters'], asked
         assert len(asked) < 6, asked
         assert 'Let zoe pass' in alice.texts('.adding')[0], alice.texts('.adding')
-        alice.press('Exceptions further down')
+        alice.script("""[...document.querySelectorAll('summary')]
+            .find((one) => one.textContent === 'Exceptions further down').click()""")
         alice.until(lambda: alice.texts('.exceptions a') == ['/letters/2026/letter 7.txt'],
                     'the exception')
         alice.press('Share', '.adding')
@@ -226,6 +227,32 @@ class ByDoor:
         bob.until(lambda: self.ask('GET', '/doc/letters/plan.txt') == 'five', 'his')
         self.ask('DELETE', '/object/letters/plan.txt')
 
+    def by_another_file(self):
+        """A file of any name takes the place of a document, and not of what somebody else wrote."""
+        bob = self.bob
+        self.ask('PUT', '/doc/letters/plan.txt', b'new')
+        bob.open('#/letters')
+        bob.press('plan.txt')
+        assert bob.downloaded('plan.txt') == b'new'
+        for text, before in ((b'newer', b'new'), (b'newest', b'hers')):
+            if before == b'hers':
+                self.ask('PUT', '/doc/letters/plan.txt', before)
+            path = f'{self.folder}/plan of tuesday.txt'
+            with open(path, 'wb') as file:
+                file.write(text)
+            bob.act('Replace by a file', 'plan.txt')
+            bob.script("document.querySelector('input.version').hidden = false")
+            bob.one('input.version').send_keys(path)
+            if before == b'hers':
+                bob.says('Somebody else changed it meanwhile', css='dialog')
+                bob.press('Cancel', 'dialog')
+                bob.says('left as it was', css='.uploads .bad')
+            else:
+                bob.until(lambda: self.ask('GET', '/doc/letters/plan.txt') == 'newer', 'his')
+        assert self.ask('GET', '/doc/letters/plan.txt') == 'hers'
+        assert 'tuesday' not in self.ask('GET', '/folder/letters')
+        self.ask('DELETE', '/object/letters/plan.txt')
+
     def gone_meanwhile(self):
         """Between the question and its answer."""
         bob = self.bob
@@ -260,6 +287,7 @@ PLAY = [
     ('several people at once', ByDoor.several),
     ('only those who are ticked', ByDoor.only_ticked),
     ('a document that isn’t what was seen', ByDoor.not_what_was_seen),
+    ('a document by another file', ByDoor.by_another_file),
     ('one that is gone', ByDoor.gone_meanwhile),
     ('no door any more', ByDoor.deserted),
 ]

@@ -249,7 +249,7 @@ class Sharing(Known, Deeper, Looking, Tree):
         assert 'Loses: kim – can manage now' in told, told
         assert 'Keeps: kim – can manage, at /team/offers, by lines there' in told, told
         assert 'Also take back what is kept there: “/team/offers”.' in told, told
-        assert alice.one('dialog .way input').is_selected()
+        assert alice.script("return document.querySelector('dialog .way input').checked")
         self.confirm('Remove access')
         alice.until(lambda: self.own_of('/team/offers') == [], 'nothing that is kept')
         self.ask('DELETE', '/object/team/offers')

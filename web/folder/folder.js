@@ -15,7 +15,7 @@ import { finder } from './find.js';
 import { markAllClosed } from './closed_rows.js';
 import { chosenOf, drawRows, newLook, shownOf } from './rows.js';
 import { treeOfFiles } from './tree.js';
-import { uploadAll } from './upload.js';
+import { replaceBy, uploadAll } from './upload.js';
 
 const ASKED = 'rxwaDtcCo';
 
@@ -28,6 +28,17 @@ function fileField(label, properties, take) {
     input.value = '';
   });
   return input;
+}
+
+// A press opens the browser's own choice of a file.
+function chooseFile(take) {
+  const input = fileField(texts.folder.newVersion, { class: 'version' }, ([file]) => {
+    input.remove();
+    take(file);
+  });
+  document.querySelector('input.version')?.remove();
+  document.body.append(input);
+  input.click();
 }
 
 // The buttons of the folder. What isn't granted is greyed out, and says so when it is pressed.
@@ -116,6 +127,10 @@ function controlAt(table, { name, act, index = 0 }) {
 // An upload that was begun in one view may end while another one of the same folder is shown.
 let shownView = null;
 
+function shownAgain() {
+  if (shownView?.isCurrent()) shownView.refresh();
+}
+
 class FolderView {
   constructor(path, box, isCurrent) {
     this.path = path;
@@ -124,9 +139,7 @@ class FolderView {
     this.look = newLook();
     this.body = element('div', { class: 'sheet' });
     this.places = element('div', { class: 'more-places' });
-    const send = (files, trees, folder) => uploadAll(files, trees, folder, () => {
-      if (shownView?.isCurrent()) shownView.refresh();
-    });
+    const send = (files, trees, folder) => uploadAll(files, trees, folder, shownAgain);
     this.bar = bar(path, send, () => this.doing(() => acts.makeFolder(path)));
     this.tools = tools(this.look, (what) => this.withChosen(what), () => this.draw(), { path,
       place: this.body, here: () => this.objects(shownOf(this.look)) });
@@ -145,6 +158,7 @@ class FolderView {
       download: (children) => this.doing(() => acts.download(this.objects(children), this.path)),
       preview: (child) => this.doing(() => acts.look(path(child))),
       open: (child) => this.doing(() => acts.openInTab(path(child))),
+      replace: (child) => chooseFile((file) => replaceBy(file, path(child), shownAgain)),
       move: (child) => this.doing(() => acts.move(path(child), child.kind)),
       remove: (children) => this.doing(() => acts.remove(this.objects(children))),
       copy: (child) => this.doing(() => acts.copyLink(path(child))),

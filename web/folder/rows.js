@@ -52,6 +52,8 @@ function entriesOf(child, path, acts) {
     ...(child.kind === 'folder' ? [] : [preview]),
     ...editingOf(child, path),
     { words: texts.acts.download, does: () => acts.download([child]) },
+    ...(child.kind === 'folder' ? []
+      : [{ words: texts.folder.newVersion, does: () => acts.replace(child) }]),
     { words: texts.folder.renameOrMove, does: () => acts.move(child) },
     { words: texts.acts.copyLink, does: () => acts.copy(child) },
     { words: texts.folder.access, href: linkTo(path, 'access') },

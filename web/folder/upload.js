@@ -178,3 +178,11 @@ export async function uploadAll(files, trees, folder, onEnd) {
   upload.onEnd = onEnd;
   await upload.run();
 }
+
+// Sends a file, whatever its name is, in the place of a document, which was chosen for that.
+export async function replaceBy(file, path, onEnd) {
+  const upload = new Upload([new File([file], api.nameOf(path))], [], api.parentOf(path));
+  Object.assign(upload.jobs[0], { path, allowed: true, isThere: true });
+  upload.onEnd = onEnd;
+  await upload.run();
+}

@@ -48,6 +48,7 @@ export const DE_FOLDER = {
   actionsOf: (name) => `Aktionen: ${name}`,
   preview: 'Vorschau',
   openIn: (program) => `In ${program} öffnen`,
+  newVersion: 'Durch eine Datei ersetzen',
   renameOrMove: 'Umbenennen oder verschieben',
   taken: 'Es gibt schon etwas dieses Namens. Wählen Sie einen anderen.',
   amount: amountOf,

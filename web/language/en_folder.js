@@ -44,6 +44,7 @@ export const EN_FOLDER = {
   actionsOf: (name) => `Actions: ${name}`,
   preview: 'Preview',
   openIn: (program) => `Open in ${program}`,
+  newVersion: 'Replace by a file',
   renameOrMove: 'Rename or move',
   taken: 'There is already something of this name. Choose another one.',
   amount: amountOf,

@@ -47,6 +47,7 @@ export const FR_FOLDER = {
   actionsOf: (name) => `Actions : ${name}`,
   preview: 'Aperçu',
   openIn: (program) => `Ouvrir dans ${program}`,
+  newVersion: 'Remplacer par un fichier',
   renameOrMove: 'Renommer ou déplacer',
   taken: 'Il y a déjà quelque chose de ce nom. Choisissez-en un autre.',
   amount: amountOf,
