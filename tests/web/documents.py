@@ -168,7 +168,7 @@ class Documents:
         alice.one('dialog input').send_keys('keys', Keys.ENTER)
         alice.says('keys', 'was made')
         alice.button('Actions: keys').send_keys(Keys.ENTER)
-        for key, words in ((Keys.ARROW_UP, 'Remove'), (Keys.ARROW_DOWN, 'Rename or move'),
+        for key, words in ((Keys.ARROW_UP, 'Remove'), (Keys.ARROW_DOWN, 'Download'),
                            (Keys.END, 'Remove')):
             alice.driver.switch_to.active_element.send_keys(key)
             assert alice.script('return document.activeElement.textContent') == words
