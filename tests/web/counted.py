@@ -116,7 +116,7 @@ class Counted:
         self.row('/work/deep/deeper', 'paper.pdf')
         self.press('Remove access: eve')
         self.confirm('Remove access')
-        assert self.own_of('/work/deep/deeper/paper.pdf') == []
+        self.alice.until(lambda: self.own_of('/work/deep/deeper/paper.pdf') == [], 'the list')
         for path in ('/work', '/work/deep', '/work/deep/deeper'):
             self.alice.until(lambda: 'A::eve:x' not in self.own_of(path), path)
 
