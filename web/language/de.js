@@ -156,7 +156,7 @@ const ASK = {
   owning: (names) => (names.length === 1 ? `Fragen Sie ${names[0]}: Dieser Person gehört es.`
     : `Fragen Sie ${or(names)}: Diesen Personen gehört es.`),
   administrator: 'Fragen Sie Ihren Administrator.',
-  whoever: 'Fragen Sie, wer es verwaltet.',
+  whoever: 'Fragen Sie die Person, die es verwaltet.',
 };
 
 const CHANGED = {

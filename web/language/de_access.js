@@ -36,8 +36,8 @@ const HINTS = {
 
 const DOES = {
   read: (place) => `${place} und den ganzen Inhalt lesen`,
-  change: (place) => `in ${place} hinzufügen und den ganzen Inhalt ändern`,
-  remove: (place) => `in ${place} hinzufügen und den ganzen Inhalt ändern und entfernen`,
+  change: (place) => `in ${place} etwas hinzufügen und den ganzen Inhalt ändern`,
+  remove: (place) => `in ${place} etwas hinzufügen und den ganzen Inhalt ändern und entfernen`,
   manage: (place) => `${place} und den ganzen Inhalt verwalten`,
 };
 const DOES_WITH_DOCUMENT = {
@@ -104,7 +104,7 @@ export const DE_ACCESS = {
   whatCan: (name) => `Was ${name} kann`,
   whatGroupCan: (name) => `Was die Gruppe ${name} kann`,
   may: (rights) => `darf ${and(rights)}`,
-  mayNot: (rights) => `darf nicht ${and(rights)}`,
+  mayNot: (rights) => `darf nicht ${or(rights)}`,
   untilDay: (day) => `bis ${day}`,
   wasToEnd: (day) => `sollte am ${day} enden und ist noch nicht zurückgenommen`,
   doesntEnd: (day) =>
@@ -156,8 +156,8 @@ export const DE_ACCESS = {
   keepInPlace: 'Alles an seinem Platz lassen?',
   keepThem: 'An seinem Platz lassen',
   keepAllTheSame: 'Trotzdem an seinem Platz lassen',
-  keepSays: 'Dann entfernen und benennen nur noch die um, bei denen „Kann hinzufügen, ändern und '
-    + 'entfernen“ oder „Kann verwalten“ steht.',
+  keepSays: 'Dann entfernen und umbenennen dürfen nur noch die, bei denen „Kann hinzufügen, '
+    + 'ändern und entfernen“ oder „Kann verwalten“ steht.',
   removersUnseen: (place, kind) => `Sie dürfen nicht sehen, wer Zugriff auf ${place} hat, daher `
     + `ist nicht bekannt, wer ${THIS_AS_OBJECT[kind]} noch entfernen oder wegverschieben darf.`,
   removers: (place, names, kind) => `Nach der Liste von ${place}, oder als Eigentümer, ${
@@ -220,7 +220,7 @@ export const DE_OUTCOME = {
   losesAll: (from, kind) => `kein Zugriff mehr (jetzt ${named(from, kind)})`,
   keeps: withRemovals,
   keepsRemoving: (removals) => `möglich: ${and(removing(removals))}`,
-  keepsMore: (places) => `etwas an ${count(places, 'weiteren Stelle', 'weiteren Stellen')}`,
+  keepsMore: (places) => `etwas an ${count(places, 'weiterer Stelle', 'weiteren Stellen')}`,
   changesMore: (places) => (places === 1 ? '1 weitere Stelle weiter unten ändert sich'
     : `${number(places)} weitere Stellen weiter unten ändern sich`),
   nobody: 'Niemand erhält oder verliert etwas',
@@ -240,7 +240,7 @@ export const DE_OUTCOME = {
   ownNew: 'Wer hier ein Dokument angelegt hat, darf es dann auch entfernen und umbenennen.',
   aboveUnknown: 'Sie dürfen nicht sehen, wer Zugriff auf den übergeordneten Ordner hat, daher ist '
     + 'nicht bekannt, wer ihn hier bekommt.',
-  apart: (names, places) => `Auf „Nur diese Personen“ gesetzt, und ${
+  apart: (names, places) => `Auf „Nur diese Personen“ gesetzt und ${
     places === 1 ? 'bleibt, wie es ist' : 'bleiben, wie sie sind'}: ${and(names)}.`,
   unreadThere: (names) => `Sie dürfen nicht sehen, wer Zugriff auf ${and(names)} hat: Was dort `
     + 'geschieht, ist nicht bekannt.',

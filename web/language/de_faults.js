@@ -117,7 +117,7 @@ export const DE_FAULTS = {
     `Für ${place} fehlt Ihnen diese Berechtigung: ${rights.join(' oder ')}.`,
   deniedRemoval: (place) => `An ${place} dürfen Sie weder Enthaltenes entfernen noch Dokumente `
     + 'ablegen.',
-  deniedHere: { w: 'hier Dokumente ablegen', a: 'hier Ordner anlegen' },
+  deniedHere: { w: 'Dokumente ablegen', a: 'Ordner anlegen' },
   noEntry: 'Kein Eintrag der Zugriffsliste gewährt das.',
   byEntry: (number, words, entry) =>
     `Eintrag ${number} der Zugriffsliste verweigert es; er ${words} (${entry}).`,

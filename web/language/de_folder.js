@@ -95,10 +95,9 @@ export const DE_FOLDER = {
   sharedWithYou: 'Für Sie freigegeben',
   asOf: (day) => `Stand: ${day}`,
   whatYouMayDo: 'Was Sie hier dürfen',
-  closedRoom: 'Sie dürfen die Liste dessen, was im Raum liegt, nicht sehen, nur was für Sie '
+  closedRoom: 'Sie können nicht sehen, was alles im Raum liegt, nur was für Sie freigegeben wurde.',
+  closedFolder: 'Sie können nicht sehen, was alles in diesem Ordner liegt, nur was für Sie '
     + 'freigegeben wurde.',
-  closedFolder: 'Sie dürfen die Liste dessen, was in diesem Ordner liegt, nicht sehen, nur was für '
-    + 'Sie freigegeben wurde.',
   noPreview: 'Für dieses Dokument gibt es keine Vorschau. Laden Sie es herunter, um es anzusehen.',
   pdf: 'Der Browser zeigt PDF-Dokumente in einem eigenen Tab.',
   openInTab: 'In einem Tab öffnen',

@@ -115,7 +115,7 @@ export const DE_ADVANCED = {
   passOnHint: 'Was in diesem Ordner liegt, folgt dieser Liste, auch wenn sie sich ändert.',
   protect: 'Schützen',
   protectHint: 'Vom übergeordneten Ordner kommt nichts mehr hierher. Die grauen Einträge bleiben, '
-    + 'wie sie jetzt sind, wenn sie nicht entfernt werden.',
+    + 'wie sie jetzt sind, solange sie nicht entfernt werden.',
   dropGrey: 'Die grauen Einträge entfernen',
   number: 'Nr.',
   unread: (line, fault) => `Der Text kann nicht gelesen werden: Zeile ${line}. ${fault} `
@@ -164,7 +164,7 @@ export const DE_ADVANCED = {
   rightsNotShown: 'Ihre Berechtigungen können nicht gezeigt werden.',
 };
 
-const LOSING = { C: 'ändern (C)', c: 'sehen (c)' };
+const LOSING = { C: 'sie zu ändern (C)', c: 'sie zu sehen (c)' };
 const CANT_SHOW = ' Diese Seite kann keine Liste ändern, die sie nicht zeigen kann.';
 const ending = (letter) => (letter === 'C' ? '' : CANT_SHOW);
 const NO_GROUPS = 'Diese Seite weiß nicht, wer in einer Gruppe ist.';
@@ -197,11 +197,12 @@ export const DE_WARNINGS = {
     C: 'Danach dürfen Sie vielleicht nicht mehr ändern, wer Zugriff hat.',
     c: 'Danach dürfen Sie vielleicht nicht mehr sehen, wer Zugriff hat.',
   },
-  notSurely: (letter, depends) => `Kein Eintrag darin lässt Sie sie sicher ${LOSING[letter]}: Das `
-    + `hängt von ${and(depends)} ab. ${NO_GROUPS}${ending(letter)}`,
-  letsNobody: (letter) => `Kein Eintrag darin lässt irgendjemanden sie ${LOSING[letter]}: Dann `
+  notSurely: (letter, depends) => `Kein Eintrag der Liste erlaubt Ihnen sicher, ${LOSING[letter]}: `
+    + `Das hängt von ${and(depends)} ab. ${NO_GROUPS}${ending(letter)}`,
+  letsNobody: (letter) => `Kein Eintrag der Liste erlaubt irgendjemandem, ${LOSING[letter]}: Dann `
     + `kann das nur der Administrator.${ending(letter)}`,
-  letsYouNot: (letter) => `Kein Eintrag darin lässt Sie sie ${LOSING[letter]}.${ending(letter)}`,
+  letsYouNot: (letter) =>
+    `Kein Eintrag der Liste erlaubt Ihnen, ${LOSING[letter]}.${ending(letter)}`,
   deniesYou: (letter, text) => `Ein Eintrag verweigert es Ihnen: ${text}.${ending(letter)}`,
   noPassage: (who, place) => `${capital(who)} ${verb([who], 'kann', 'können')} nicht `
     + `${there(place)} gelangen: ${capital(folderAt(place))} lässt ${who} nicht durch (x).`,

@@ -17,9 +17,9 @@ export const DE_READY = {
   changeTitle: (who) =>
     `Die Gruppe ${who} darf lesen, hinzufügen und ändern, und nur Eigenes entfernen`,
   change: (me, who) => `Die Gruppe ${who} liest alles, fügt Dokumente und Ordner hinzu und ändert `
-    + 'jedes Dokument. Alle in ihr dürfen die Dokumente entfernen, umbenennen und wegverschieben, '
-    + `die sie selbst hinzugefügt haben. Nur ${me} entfernt, benennt und verschiebt Ordner und `
-    + 'was andere hinzugefügt haben.',
+    + 'jedes Dokument. Ihre Mitglieder dürfen die Dokumente entfernen, umbenennen und '
+    + `wegverschieben, die sie selbst hinzugefügt haben. Ordner, und was andere hinzugefügt `
+    + `haben, darf nur ${me} entfernen, umbenennen und verschieben.`,
   oneUserTitle: 'Privat für einen Benutzer',
   oneUser: (me, who) => `Der Benutzer ${who} ${ALL_BUT_LISTS}. Außer ${who} und ${me} kann niemand `
     + 'sehen, was darin ist.',

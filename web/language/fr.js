@@ -58,9 +58,9 @@ const NAMES = {
     'AUTHENTICATED@': 'toute personne connectée',
     'ANONYMOUS@': 'toute personne non connectée',
   },
-  membersOf: (name) => `les membres de ${name}`,
-  countedMembers: (members, name) => (members === 1 ? `l’unique membre de ${name}`
-    : `les ${number(members)} membres de ${name}`),
+  membersOf: (name) => `les membres du groupe ${name}`,
+  countedMembers: (members, name) => (members === 1 ? `l’unique membre du groupe ${name}`
+    : `les ${number(members)} membres du groupe ${name}`),
   unfolded: (members, first) => `${number(members)} membres : ${first.join(', ')} …`,
   you: 'vous',
   cannotSignIn: 'absent de la liste des personnes qui peuvent se connecter',
@@ -117,12 +117,12 @@ const MESSAGES = {
   lookingAtAll: 'Examen de ce qui se trouve plus bas.',
   looking: (looked, known) => 'Examen de ce qui se trouve plus bas : '
     + `${number(looked)} sur ${number(known)} pour l’instant.`,
-  stopped: (looked, known) => 'Tout ce qui se trouve plus bas n’a pas été examiné, car vous l’avez '
-    + `arrêté : ${number(looked)} sur ${number(known)} ou plus. Des exceptions peuvent manquer `
-    + 'ici.',
-  failed: (looked, known) => 'Tout ce qui se trouve plus bas n’a pas été examiné, car la salle n’a '
-    + `pas pu être lue : ${number(looked)} sur ${number(known)} ou plus. Des exceptions peuvent `
-    + 'manquer ici.',
+  stopped: (looked, known) => 'Ce qui se trouve plus bas n’a pas été examiné en entier, car vous '
+    + `l’avez arrêté : ${number(looked)} sur ${number(known)} ou plus. Des exceptions qui s’y `
+    + 'trouvent peuvent manquer ici.',
+  failed: (looked, known) => 'Ce qui se trouve plus bas n’a pas été examiné en entier, car la '
+    + `salle n’a pas pu être lue : ${number(looked)} sur ${number(known)} ou plus. Des exceptions `
+    + 'qui s’y trouvent peuvent manquer ici.',
   lookAtRest: 'Examiner le reste',
 };
 

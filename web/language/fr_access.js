@@ -35,8 +35,8 @@ const HINTS = {
 
 const DOES = {
   read: (place) => `lire ${place} et tout son contenu`,
-  change: (place) => `ajouter à ${place} et modifier tout son contenu`,
-  remove: (place) => `ajouter à ${place}, et modifier et supprimer tout son contenu`,
+  change: (place) => `faire des ajouts dans ${place} et modifier tout son contenu`,
+  remove: (place) => `faire des ajouts dans ${place}, et modifier et supprimer tout son contenu`,
   manage: (place) => `gérer ${place} et tout son contenu`,
 };
 const DOES_WITH_DOCUMENT = {
@@ -82,7 +82,7 @@ export const FR_ACCESS = {
   whatTheyCan: 'Ce qui sera permis',
   keptFromAbove: 'gardé du dossier au-dessus',
   fromFolderAbove: 'd’un dossier au-dessus',
-  from: (place) => ['de ', place],
+  from: (place) => ['du dossier ', place],
   goneGroup: (name) => `${capital(name)} est retiré de la liste. Les membres qui ont accès d’une `
     + 'autre manière le gardent.',
   goneKeeping: (name) => `${capital(name)} est retiré de la liste. Ce que donne un groupe ou un `
@@ -101,7 +101,8 @@ export const FR_ACCESS = {
   whatCan: (name) => `Ce que peut ${name}`,
   whatGroupCan: (name) => `Ce que peut le groupe ${name}`,
   may: (rights) => `peut ${and(rights)}`,
-  mayNot: (rights) => `ne peut pas ${and(rights)}`,
+  mayNot: (rights) => (rights.length === 1 ? `ne peut pas ${rights[0]}`
+    : `ne peut ni ${rights.join(' ni ')}`),
   untilDay: (day) => `jusqu’au ${day}`,
   wasToEnd: (day) => `devait finir le ${day}, et n’est pas encore retiré`,
   doesntEnd: (day) => `devait finir le ${day}, mais a changé depuis : cela ne finit pas tout seul`,
@@ -109,8 +110,8 @@ export const FR_ACCESS = {
   hasNoEnd: (name) => `L’accès pour ${name} n’a pas de fin.`,
   ends: (name, day) =>
     `L’accès pour ${name} finit le ${day}, autant que le traitement de nuit le peut.`,
-  lastDay: (name) => `Dernier jour de ${name}`,
-  lastDayOfGroup: (name) => `Dernier jour du groupe ${name}`,
+  lastDay: (name) => `Dernier jour : ${name}`,
+  lastDayOfGroup: (name) => `Dernier jour : le groupe ${name}`,
   set: 'Fixer',
   noEnd: 'sans fin',
   onTheWay: (names) => `Seulement en chemin vers quelque chose plus bas : ${and(names)}`,
@@ -135,13 +136,13 @@ export const FR_ACCESS = {
     + `l’accès à ${above} ne l’obtient pas ici, et quiconque le perd là-bas le garde ici.`,
   whomFor: 'Cochez ceux pour qui c’est prévu : alors personne d’autre ne garde l’accès, sauf ceux '
     + 'qui le gèrent. Sans coche, tous gardent ce qu’ils ont.',
-  staysAsIs: (names) => `Ce que ${and(names)} ${names.length === 1 ? 'peut' : 'peuvent'} faire `
+  staysAsIs: (names) => `Ce que ${names.length === 1 ? 'peut' : 'peuvent'} faire ${and(names)} `
     + 'n’est dit par aucun niveau, et reste tel quel.',
   followAgain: (above) => `Suivre de nouveau ${above} ?`,
   followIt: 'Suivre',
   followAllTheSame: 'Suivre quand même',
   followSays: (above) => `Quiconque a accès à ${above} l’a alors aussi ici, maintenant et chaque `
-    + 'fois que cela change. Ceux ci-dessous le gardent.',
+    + 'fois que cela change. Les personnes ci-dessous le gardent.',
   doesntFollow: (kind, above) => `${THIS[kind]} ne suit pas ${above}.`,
   follows: (kind, above) =>
     `${THIS[kind]} suit ${above} : quiconque a accès là-bas l’a aussi ici.`,
@@ -245,8 +246,8 @@ export const FR_OUTCOME = {
   letPass: (names, places) => `Laisser passer ${and(names)} par ${and(places)} en chemin vers ici.`,
   nothingShown: 'Par cela seul, rien n’y est montré.',
   takeKept: (places) => `Retirer aussi ce qui est gardé là-bas : ${and(places)}.`,
-  takeGiven: (name, places) =>
-    `Retirer aussi ce que ${name} avait reçu là-bas séparément : ${and(places)}.`,
+  takeGiven: (name, places) => `Retirer aussi ce qui a été donné là-bas séparément pour ${name} : `
+    + `${and(places)}.`,
   takePassing: (name, places) => `Retirer aussi le passage par ${and(places)} pour ${name}. Rien `
     + 'plus bas n’en a plus besoin.',
   takePassingPerhaps: (name, places) => `Retirer aussi le passage par ${and(places)} pour `
@@ -255,9 +256,9 @@ export const FR_OUTCOME = {
     + 'l’y ouvrir, même sans pouvoir l’ouvrir ici. Ce qui est réglé sur « Seulement ces '
     + 'personnes » reste fermé.',
   cantGet: (names, place) => `${capital(and(names))} ne ${
-    names.length === 1 ? 'peut' : 'peuvent'} pas accéder ici : ${place} ne laisse pas passer. `
+    names.length === 1 ? 'peut' : 'peuvent'} pas parvenir ici : ${place} ne laisse pas passer. `
     + 'Quiconque gère cet endroit peut le changer.',
-  givers: (names) => `Alors seul ${or(names)} peut le rendre.`,
+  givers: (names) => `Alors cela ne peut être rendu que par ${names.join(' ou par ')}.`,
   noGiver: 'Personne d’autre ne le peut non plus : alors seul l’administrateur peut le rendre.',
   all: (many) => `Tous (${number(many)})`,
   changes: 'Qui gagne et qui perd',

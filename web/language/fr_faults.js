@@ -31,7 +31,7 @@ const OF_LISTS = {
 const CONFLICTS = {
   'not-folder': (at) => `À ${at} se trouve un document, donc il n’y a rien dessous. Rechargez le `
     + 'dossier.',
-  'wrong-kind': (at) => `À ${at} se trouve un objet d’une autre sorte : un dossier là où un `
+  'wrong-kind': (at) => `À ${at} se trouve un objet d’un autre type : un dossier là où un `
     + 'document est attendu, ou l’inverse. Choisissez un autre nom.',
   exists: (at) => `À ${at} se trouve déjà quelque chose. Choisissez un autre nom, ou supprimez `
     + 'd’abord ce qui s’y trouve.',
@@ -93,8 +93,8 @@ export const FR_FAULTS = {
   conflicts: CONFLICTS,
   conflict: 'Ce qui se trouve là ne convient pas. Rechargez le dossier.',
   targets: {
-    P1: 'Un nom ne peut être ni vide, ni « . » ou « .. », ni plus long que 255 octets, ni avoir de '
-      + 'caractères invisibles. Choisissez un autre nom.',
+    P1: 'Un nom ne peut être ni vide, ni « . », ni « .. », ni plus long que 255 octets, et il ne '
+      + 'peut pas avoir de caractères invisibles. Choisissez un autre nom.',
     P2: 'Le chemin est plus long que 4 096 octets. Choisissez des noms plus courts, ou un endroit '
       + 'plus haut.',
     P3: 'Le nom a des caractères qui ne peuvent pas être envoyés. Choisissez un autre nom.',
@@ -109,10 +109,10 @@ export const FR_FAULTS = {
     + 'vôtre.',
   frontEnd: 'Le serveur web a refusé cela, comme si un autre site l’avait demandé. Rechargez la '
     + 'page.',
-  denied: (place, rights) => `Il vous manque ce droit à ${place} : ${rights.join(' ou ')}.`,
+  denied: (place, rights) => `À ${place}, il vous manque ce droit : ${rights.join(' ou ')}.`,
   deniedRemoval: (place) => `À ${place}, vous ne pouvez ni supprimer le contenu ni déposer de `
     + 'documents.',
-  deniedHere: { w: 'déposer des documents ici', a: 'créer des dossiers ici' },
+  deniedHere: { w: 'y déposer des documents', a: 'y créer des dossiers' },
   noEntry: 'Aucune entrée de sa liste d’accès ne l’accorde.',
   byEntry: (number, words, entry) =>
     `L’entrée ${number} de sa liste d’accès le refuse ; elle ${words} (${entry}).`,

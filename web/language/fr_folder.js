@@ -2,7 +2,7 @@
 
 import { capital, formsOf } from './forms.js';
 
-const { number, and, or, count } = formsOf('fr', 'et', 'ou');
+const { number, and, count } = formsOf('fr', 'et', 'ou');
 
 const objects = (many) => count(many, 'objet', 'objets');
 const documents = (many) => count(many, 'document', 'documents');
@@ -147,7 +147,7 @@ export const FR_MOVING = {
   gaining: (who, letters, names, isFolder) => `${capital(who)} pourra alors `
     + `${and(rightsOf(letters))} ${objectsIn(names, isFolder)}.`,
   losing: (who, letters, names, isFolder) => `${capital(who)} ne pourra alors plus `
-    + `${or(rightsOf(letters))} ${objectsIn(names, isFolder)}.`,
+    + `${rightsOf(letters).join(' ni ')} ${objectsIn(names, isFolder)}.`,
   morePeople: 'Plus de personnes pourraient y accéder là-bas',
   fewerPeople: 'Moins de personnes peuvent y accéder là-bas',
   unknownPeople: 'On ne sait pas qui peut y accéder là-bas',
@@ -168,7 +168,7 @@ export const FR_MOVING = {
 };
 
 export const FR_UPLOAD = {
-  of: (name) => `Envoi de ${name}`,
+  of: (name) => `Envoi : ${name}`,
   title: 'Envoi',
   to: (place) => `Envoyer vers ${place}`,
   waits: 'en attente',

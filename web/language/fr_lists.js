@@ -18,7 +18,7 @@ export const FR_RIGHTS = {
       both: 'lire des documents ou voir le contenu de dossiers',
     },
     x: { both: 'passer vers le contenu' },
-    t: { both: 'voir la sorte, le propriétaire et le groupe' },
+    t: { both: 'voir le type, le propriétaire et le groupe' },
     c: { both: 'voir les listes d’accès' },
     n: { both: 'lire les attributs nommés' },
     w: {
@@ -194,20 +194,20 @@ export const FR_WARNINGS = {
     C: 'Après cela, vous ne pourrez peut-être plus changer qui a accès.',
     c: 'Après cela, vous ne pourrez peut-être plus voir qui a accès.',
   },
-  notSurely: (letter, depends) => `Aucune de ses entrées ne vous permet à coup sûr de la `
+  notSurely: (letter, depends) => `Aucune entrée de la liste ne vous permet à coup sûr de la `
     + `${LOSING[letter]} : cela dépend ${and(depends)}. ${NO_GROUPS}${ending(letter)}`,
-  letsNobody: (letter) => `Aucune de ses entrées ne permet à quiconque de la ${LOSING[letter]} : `
-    + `alors seul l’administrateur le peut.${ending(letter)}`,
+  letsNobody: (letter) => `Aucune entrée de la liste ne permet à quiconque de la `
+    + `${LOSING[letter]} : alors seul l’administrateur le peut.${ending(letter)}`,
   letsYouNot: (letter) =>
-    `Aucune de ses entrées ne vous permet de la ${LOSING[letter]}.${ending(letter)}`,
+    `Aucune entrée de la liste ne vous permet de la ${LOSING[letter]}.${ending(letter)}`,
   deniesYou: (letter, text) => `Une entrée vous le refuse : ${text}.${ending(letter)}`,
-  noPassage: (who, place) => `${capital(who)} ne peut pas accéder ${there(place)} : `
+  noPassage: (who, place) => `${capital(who)} ne peut pas parvenir ${there(place)} : `
     + `${folderAt(place)} ne laisse pas passer ${who} (x).`,
-  noPassageForAll: (place) => `Tout le monde ne peut pas accéder ${there(place)} : `
+  noPassageForAll: (place) => `Tout le monde ne peut pas parvenir ${there(place)} : `
     + `${folderAt(place)} ne laisse pas passer tout le monde (x).`,
-  passageUnread: (who, place) => `On ne sait pas si ${who} peut accéder ${there(place)} : vous ne `
+  passageUnread: (who, place) => `On ne sait pas si ${who} peut parvenir ${there(place)} : vous ne `
     + `pouvez pas lire la liste de ${folderAt(place)}.`,
-  passageDepends: (who, place, depends) => `On ne sait pas si ${who} peut accéder `
+  passageDepends: (who, place, depends) => `On ne sait pas si ${who} peut parvenir `
     + `${there(place)} : à ${folderAt(place)}, cela dépend ${and(depends)}. ${NO_GROUPS}`,
   removes: (names) => `${will(names)} alors ${INSIDE}.`,
   removesUnsaid: (names) => `${will(names)} déposer des documents ici, et aucune entrée ne dit qui `
@@ -225,8 +225,8 @@ export const FR_WARNINGS = {
   opens: 'Quiconque peut déplacer quelque chose ailleurs peut le mettre dans son propre dossier, '
     + 'et y lire ce qui suit la liste de ce dossier. Ce qui doit rester fermé doit être protégé '
     + '(p).',
-  unseen: 'Tout ce qui se trouve en dessous n’a pas pu être examiné : il y a peut-être d’autres '
-    + 'dossiers protégés.',
+  unseen: 'Ce qui se trouve en dessous n’a pas pu être examiné en entier : il y a peut-être '
+    + 'd’autres dossiers protégés.',
   removesFolder: (names) =>
     `${will(names)} alors supprimer, renommer et déplacer ailleurs ce dossier lui-même.`,
   removesDocument: (names) =>

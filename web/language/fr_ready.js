@@ -30,7 +30,7 @@ export const FR_READY = {
     + 'personne ne peut voir ce qu’il y a dedans.',
   twoGroupsTitle: 'Un groupe travaille, un autre lit',
   twoGroups: (me, works, reads) => `Le groupe ${works} ${ALL_BUT_LISTS}. Le groupe ${reads} lit. `
-    + `Les membres de ${works} n’ont pas besoin d’être dans ${reads}.`,
+    + `Les membres du groupe ${works} n’ont pas besoin d’être dans le groupe ${reads}.`,
   dropTitle: 'Un dossier où déposer des documents',
   drop: (me, empties, fills) => `Le groupe ${fills} dépose des documents dans le dossier et ne `
     + 'voit rien de ce qui s’y trouve, pas même ce que ses membres y ont déposé. Le groupe '
