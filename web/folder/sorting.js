@@ -1,8 +1,8 @@
 // In which order the contents of a folder are shown, and which of them.
 
-import { texts } from '../language/language.js';
+import { language, texts } from '../language/language.js';
 
-const reading = new Intl.Collator(undefined, { numeric: true });
+const reading = new Intl.Collator(language, { numeric: true });
 const isFolder = ({ kind }) => kind === 'folder';
 
 const byName = (one, other) => reading.compare(one.name, other.name)
