@@ -12,7 +12,7 @@ does 'a room' 'runuser -u rooms -- rooms init /var/lib/rooms/office.rooms alice 
   systemctl reload-or-restart nginx'
 shows 'the socket' rooms-own-password.socket ActiveState active
 does 'whose the files are' 'cd /var/lib/rooms-passwords && stat -c "%n %U %G %a" . *'
-printf '%s\n' '. rooms-keeper www-data 2750' 'rooms.first rooms-keeper www-data 640' \
+printf '%s\n' '. rooms-keeper www-data 2710' 'rooms.first rooms-keeper www-data 640' \
   'rooms.htpasswd rooms-keeper www-data 640' >wanted
 same 'are the service'\''s and nginx'\''s' "$work/out" wanted
 web='curl -s -o /dev/null -w %{http_code}'

@@ -49,7 +49,7 @@ start_own() { # NAME ENTRY ..
   start_server F 100000 || return
   start_front "$1" || return
   chown "$keeper:www-data" "$kept"
-  chmod 2750 "$kept"
+  chmod 2710 "$kept"
   set_passwords
   start_keeper
   sed -i -e "s|auth_basic_user_file $PWD/|auth_basic_user_file $kept/|" -e 's|10r/m|6000r/m|' \

@@ -2,13 +2,12 @@
 import glob
 import os
 import re
-import shutil
 import tempfile
 from collections.abc import Iterator
 from contextlib import contextmanager
 
 from ..cli.report import Stop
-from . import processes, safe
+from . import commands, processes, safe
 
 
 def place() -> str:
@@ -30,8 +29,13 @@ def folder(name: str, *users: int) -> Iterator[str]:
     try:
         yield made
     finally:
-        # It may be another user's by now, and have anything in it: no link is followed.
-        shutil.rmtree(made, ignore_errors=True)
+        _remove(made)
+
+
+def _remove(place: str) -> None:
+    """It may be another user's by now, and have anything in it. No link is followed, and folders
+    may stand in one another deeper than Python goes."""
+    commands.run(["rm", "-rf", "--", place], seconds=None)
 
 
 def _remove_left(place: str, name: str, users: set[int]) -> None:
@@ -44,4 +48,4 @@ def _remove_left(place: str, name: str, users: set[int]) -> None:
             # Whoever made it has removed it meanwhile.
             continue
         if found and seen.st_uid in users and processes.began(int(found[1])) != found[2]:
-            shutil.rmtree(one, ignore_errors=True)
+            _remove(one)

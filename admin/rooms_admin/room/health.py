@@ -5,7 +5,9 @@ import os
 import pwd
 import socket
 import time
+from collections.abc import Callable
 
+from ..host import waiting
 from . import http_client, machine, program, server
 from ..cli.report import Stop
 from .settings import Room
@@ -13,6 +15,20 @@ from .size import NoRoom, Used
 
 
 _CONNECTED, _REFUSED = 10, 11
+
+
+def patiently(room: Room, look: Callable[[Room], str]) -> str:
+    """What is asked of a server, or tried as its user, that user could hold up for ever."""
+    def looked() -> str:
+        try:
+            return look(room)
+        except Stop as stop:
+            return str(stop)
+    try:
+        got = waiting.answer(server.patience(room) + 60, looked, room.unit)
+    except waiting.Hangs as hangs:
+        return str(hangs)
+    return got if isinstance(got, str) else f"{room.unit} can't be looked at"
 
 
 def answer(room: Room, patience: float = 0) -> str:

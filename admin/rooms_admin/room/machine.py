@@ -8,6 +8,8 @@ import re
 import tarfile
 import time
 from collections.abc import Iterator
+from contextlib import suppress
+from dataclasses import dataclass, field
 
 from ..cli.report import Refused
 from ..host import safe
@@ -76,7 +78,7 @@ def is_own_link(name: str, target: str) -> bool:
 
 
 def _names() -> Iterator[str]:
-    places = ["etc/rooms", "etc/nginx", "etc/systemd/system", passwords.KEPT[1:]]
+    places = ["etc/rooms", "etc/nginx", "etc/systemd/system"]
     # A certificate of certbot is renewed by what lies beside it.
     if any(one.startswith("/etc/letsencrypt/") for one in certificates()):
         places.append("etc/letsencrypt")
@@ -85,6 +87,9 @@ def _names() -> Iterator[str]:
             links = [one for one in folders if os.path.islink(os.path.join(at, one))]
             for name in files + links:
                 yield os.path.relpath(os.path.join(at, name), f"{ROOT}/")
+    # The keeper may have made folders there, in one another without end: none is entered.
+    with suppress(FileNotFoundError):
+        yield from (f"{passwords.KEPT[1:]}/{name}" for name in os.listdir(ROOT + passwords.KEPT))
 
 
 def _packaged() -> set[str]:
@@ -144,21 +149,26 @@ def save(target: str, version: str, added: list[str] | None = None,
     keeps of before has all files, of the package too, those that it will add by their names, and
     `more` certificates."""
     lacks = _lacks_site()
+    theirs = _Theirs()
     wanted = sorted({*certificates(), *(more or [])})
     with tarfile.open(target, "x", format=tarfile.GNU_FORMAT, errorlevel=2) as tar:
         ours = {one for one in _names() if OWN.fullmatch(one) and not LEFT.search(one)}
         if added is None:
             ours -= _packaged()
-        for name in sorted(ours | {one[1:] for one in wanted if one[1:] not in (added or [])}):
+        ours |= {one[1:] for one in wanted if one[1:] not in (added or [])}
+        for name in sorted(ours, key=lambda name: (_is_of_no_room(name), name)):
             if not name.isprintable():
                 lacks.append(f"it lacks {name!r}, whose name isn't plain text")
                 continue
             try:
-                _add(tar, name)
+                _add(tar, name, theirs)
             except OSError as fault:
                 if fault.errno in (errno.ENOSPC, errno.EDQUOT, errno.EIO, errno.EFBIG):
                     raise
-                lacks.append(f"it lacks /{name}, which can't be read")
+                if _is_theirs(name):
+                    theirs.left_out.append(name)
+                else:
+                    lacks.append(f"it lacks /{name}, which can't be read")
         _add_text(tar, "machine/about", _about(version))
         if added is not None:
             _add_text(tar, "machine/added", "".join(one + "\n" for one in added))
@@ -166,6 +176,9 @@ def save(target: str, version: str, added: list[str] | None = None,
         _add_text(tar, "machine/enabled", "".join(one + "\n" for one in _enabled()))
     with open(target, "rb") as written:
         os.fsync(written.fileno())
+    if theirs.left_out:
+        lacks.append(f"it lacks /{theirs.left_out[0]} and {len(theirs.left_out) - 1} more, which "
+                     "can't be read or are far more than passwords are")
     return lacks
 
 
@@ -186,7 +199,36 @@ def _opened(place: str) -> int:
             raise OSError(errno.ELOOP, str(fault)) from fault
 
 
-def _add(tar: tarfile.TarFile, name: str) -> None:
+def _is_theirs(name: str) -> bool:
+    return os.path.dirname(name) == passwords.KEPT[1:]
+
+
+def _is_of_no_room(name: str) -> bool:
+    """A file of passwords of a room that was removed, or of none."""
+    if not _is_theirs(name):
+        return False
+    room = os.path.splitext(os.path.basename(name))[0].removeprefix("rooms").removeprefix("-")
+    return not any(os.path.exists(f"{ROOT}/etc/rooms/{room or 'office'}{end}")
+                   for end in (".conf", ".on"))
+
+
+@dataclass
+class _Theirs:
+    """Files of the keeper's, who could have made any: a tar that is brought back has an end."""
+    space: int = 16 << 20
+    left_out: list[str] = field(default_factory=list)
+
+    def read(self, number: int, name: str) -> bytes | None:
+        data = safe.read_at_most(number, max(0, self.space))
+        if len(data) > self.space:
+            self.left_out.append(name)
+            return None
+        # (each costs a head in the tar)
+        self.space -= len(data) + tarfile.BLOCKSIZE
+        return data
+
+
+def _add(tar: tarfile.TarFile, name: str, theirs: _Theirs) -> None:
     """The content of a file, even if it is a link here that leads elsewhere, unless somebody else
     than root could have put that there. All of it is read before anything of it is written, so that
     the tar stays whole."""
@@ -197,7 +239,9 @@ def _add(tar: tarfile.TarFile, name: str) -> None:
         tar.addfile(member)
         return
     with safe.opened(_opened(place)) as number, open(number, "rb", closefd=False) as source:
-        data = source.read()
+        data = theirs.read(number, name) if _is_theirs(name) else source.read()
         seen = os.fstat(number)
+    if data is None:
+        return
     member.size, member.mode, member.mtime = len(data), seen.st_mode & 0o777, int(seen.st_mtime)
     tar.addfile(member, io.BytesIO(data))

@@ -174,8 +174,8 @@ def line_of(file: str, user: str) -> Line | None:
 
 @contextmanager
 def held(file: str, seconds: float) -> Iterator[None]:
-    """One change at a time, root's and users' own. Nobody else opens the folder, so nobody else can
-    hold it."""
+    """One change at a time, root's and users' own. nginx may only pass through the folder, and
+    nobody else gets there, so nobody else can hold it."""
     with safe.opened(safe.folder(os.path.dirname(file))) as number:
         if not locks.taken(number, seconds):
             raise Held(f"busy: something else changes {file}")

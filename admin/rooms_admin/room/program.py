@@ -213,6 +213,8 @@ def lacks_space(room: Room) -> str:
                 os.setgroups([])
                 os.setgid(room.group)
                 os.setuid(room.owner)
+            # Whoever else is that user may hold it.
+            ctypes.CDLL(None).prctl(_ENDS_WITH_PARENT, int(signal.SIGKILL))
             with tempfile.TemporaryFile(dir=room.folder) as trial:
                 os.posix_fallocate(trial.fileno(), 0, CHANGE)
         except OSError as fault:

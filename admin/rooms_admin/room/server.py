@@ -55,8 +55,9 @@ def settled(room: Room) -> str:
 
 
 def patience(room: Room) -> int:
-    """How many seconds a start may take."""
-    return 30 + (size_of(room.file) >> 20)
+    """How many seconds a start may take. No room has more than fits into memory, but its user could
+    have made a file with holes of any size."""
+    return 30 + min(size_of(room.file) >> 20, 3600)
 
 
 def size_of(file: str) -> int:

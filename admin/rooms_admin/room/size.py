@@ -6,6 +6,10 @@ import struct
 from dataclasses import dataclass
 
 
+# Of a page.
+_SIZES = {1 << one for one in range(9, 17)}
+
+
 class NoRoom(Exception):
     """The file isn't there, can't be read or is no database."""
 
@@ -46,10 +50,15 @@ class Used:
         if len(start) < 32 or struct.unpack(">I", start[:4])[0] & ~1 != 0x377f0682:
             return b""
         size = int(struct.unpack(">8xI20x", start)[0])
+        if size not in _SIZES:
+            return b""
         if start[16:24] != self.salt:
             self.salt, self.at, self.head, self.newer = start[16:24], 32, b"", b""
         while len(frame := os.pread(log, 64, self.at)) == 64 and frame[8:16] == self.salt:
             page, commit = struct.unpack(">II", frame[:8])
+            if page == 0:
+                # None has this number, but a file with holes has it without end.
+                break
             if page == 1:
                 self.newer = frame[24:]
             if commit and self.newer:

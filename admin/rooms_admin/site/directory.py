@@ -84,6 +84,9 @@ class Directory:
                                     if one.controlType == page.controlType), b"")
                 if not page.cookie:
                     return found
+                if time.monotonic() > ends:
+                    # One that has always another page would never end.
+                    raise self._ldap.TIMEOUT
         except self._ldap.NO_SUCH_OBJECT as fault:
             if not whole:
                 raise NoSuchEntry from fault

@@ -16,7 +16,7 @@ from .template import Site
 
 
 def folder(made: Changes) -> None:
-    made.folder(passwords.KEPT, 0o2750, passwords.KEEPER, changes.NGINX)
+    made.folder(passwords.KEPT, 0o2710, passwords.KEEPER, changes.NGINX)
 
 
 def of(root: str, name: str) -> str:

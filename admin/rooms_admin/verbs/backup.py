@@ -266,11 +266,11 @@ class Night:
             self.failed(f"the backup {self.kept} is sound, and of its machine.tar: {one}")
 
     def look(self) -> None:
-        self.failed(health.disk(self.room))
+        self.failed(health.patiently(self.room, health.disk))
         if self.starts:
-            self.failed(health.answer(self.room))
-            self.failed(health.port(self.room))
-        self.failed(health.size(self.room))
+            self.failed(health.patiently(self.room, health.answer))
+            self.failed(health.patiently(self.room, health.port))
+        self.failed(health.patiently(self.room, health.size))
         text, over = health.certificate(self.room)
         if over:
             self.failed(text)

@@ -55,7 +55,8 @@ def _line(found: list[Finding]) -> str:
 def run(given: argparse.Namespace) -> int:
     rooms = [(os.path.basename(settings.file_of(conf)).removesuffix(".conf"), _of_room(conf))
              for conf in _rooms(given.rooms)]
-    machine = [*watched.see_units(), *watched.see_directory(), *watched.see_connections(),
+    directory = watched.within(watched.PATIENCE, watched.see_directory, "what asks the directory")
+    machine = [*watched.see_units(), *directory, *watched.see_connections(),
                *watched.see_certificates()]
     if given.json:
         report.put_rows([{"room": name, "level": _WORDS[level].lower(), "text": text}

@@ -20,6 +20,8 @@ from ..room.settings import Room
 LISTS = "lists.txt"
 # The program takes no more from a file.
 LIMIT = 20000
+# A directory that always names another one would never end.
+GROUPS_IN_ONE = 10000
 Pair = tuple[str, str]
 
 
@@ -78,6 +80,9 @@ class Asked:
                 if self.directory.key(one) not in seen:
                     seen.add(self.directory.key(one))
                     todo.append(one)
+            if len(seen) > GROUPS_IN_ONE:
+                raise Stop(f"the directory failed, at '{what}': more than {GROUPS_IN_ONE} groups "
+                           "in one another")
         return found
 
     def _by_member_of(self, dn: str) -> tuple[list[str], list[str]]:

@@ -24,6 +24,8 @@ from ..room.size import NoRoom, Used
 OK, WARNING, CRITICAL = 0, 1, 2
 Finding = tuple[int, str]
 HOUR = 3600
+# Seconds. Whoever a server or nginx is by now could answer so slowly that it never ends.
+PATIENCE = 150
 # Less than this is a full disk: twice the largest document, in the log and on its way.
 FULL = 16 << 20
 # What Debian's nginx.conf has, and docs/capacity.md counts on.
@@ -40,8 +42,13 @@ _REALM = re.compile(r'Basic realm="rooms(-[a-z0-9-]+)?"', re.ASCII)
 
 def within(seconds: float, look: Callable[[], list[Finding]], what: str) -> list[Finding]:
     """A disk that hangs holds whoever looks at it, so a process of its own does."""
+    def looked() -> list[Finding]:
+        try:
+            return look()
+        except Stop as stop:
+            return [(CRITICAL, str(stop))]
     try:
-        found = waiting.answer(seconds, look, what)
+        found = waiting.answer(seconds, looked, what)
     except waiting.Hangs as hangs:
         return [(CRITICAL, str(hangs))]
     if not isinstance(found, list):
@@ -355,6 +362,7 @@ def see_certificates() -> list[Finding]:
 def of_room(conf: str) -> list[Finding]:
     room = settings.room(conf)
     looks = [see_owner, see_answer, see_port, see_front, see_groups, see_timer, see_mail]
-    return [*(found for look in looks for found in look(room)),
+    return [*(found for look in looks
+              for found in within(PATIENCE, lambda: look(room), f"{room.unit} or nginx")),
             *within(20, lambda: see_disk(room), f"{room.folder}"),
             *within(20, lambda: see_backups(room), f"{room.backups}")]

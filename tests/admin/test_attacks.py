@@ -1,0 +1,224 @@
+"""What others than root can leave where rooms-admin looks as root, and how it can be kept waiting:
+python3 -m unittest test_attacks."""
+import argparse
+import os
+import signal
+import struct
+import sys
+import tarfile
+import tempfile
+import time
+import types
+import unittest
+import unittest.mock
+
+_MADE = tempfile.TemporaryDirectory()
+ROOT = _MADE.name
+os.environ["ROOMS_ROOT"] = ROOT
+sys.path.insert(0, os.path.join(os.path.dirname(__file__), "..", "..", "admin"))
+
+from rooms_admin.cli.report import Stop  # noqa: E402
+from rooms_admin.host import tempdirs, waiting  # noqa: E402
+from rooms_admin.room import health, machine, passwords, server, settings  # noqa: E402
+from rooms_admin.room.size import Used  # noqa: E402
+from rooms_admin.site.directory import Directory  # noqa: E402
+from rooms_admin.verbs import groups, watched  # noqa: E402
+
+# More than Python's functions go into one another.
+DEEP = 1500
+
+
+def tearDownModule() -> None:
+    os.system(f"rm -rf '{ROOT}'/*")
+    _MADE.cleanup()
+
+
+def make_deep(place: str) -> None:
+    at = os.open(place, os.O_RDONLY)
+    for _ in range(DEEP):
+        os.mkdir("a", dir_fd=at)
+        below = os.open("a", os.O_RDONLY, dir_fd=at)
+        os.close(at)
+        at = below
+    os.close(at)
+
+
+class Deep(unittest.TestCase):
+    """Folders in one another."""
+
+    def test_a_copys_folder_goes(self) -> None:
+        with tempfile.TemporaryDirectory() as above, unittest.mock.patch.dict(
+                os.environ, {"TMPDIR": above}):
+            with tempdirs.folder("rooms-get") as made:
+                make_deep(made)
+            self.assertEqual(os.listdir(above), [])
+            left = f"{above}/rooms-get.999999999.1.left"
+            os.mkdir(left)
+            make_deep(left)
+            with tempdirs.folder("rooms-get"):
+                self.assertFalse(os.path.exists(left))
+
+
+class Kept(unittest.TestCase):
+    """What whoever keeps own passwords has put beside them."""
+
+    def setUp(self) -> None:
+        self.kept = ROOT + passwords.KEPT
+        for place in (self.kept, f"{ROOT}/etc/rooms", f"{ROOT}/etc/nginx"):
+            os.makedirs(place)
+        self.addCleanup(os.system, f"rm -rf '{ROOT}'/*")
+        self.put(f"{ROOT}/etc/rooms/office.conf", "FILE=/x\n")
+        self.put(f"{self.kept}/rooms.htpasswd", "alice:x\n")
+        self.put(f"{self.kept}/rooms-gone.htpasswd", "carol:x\n")
+
+    def put(self, path: str, text: str) -> None:
+        with open(path, "w", encoding="ascii") as made:
+            made.write(text)
+
+    def saved(self) -> tuple[dict[str, int], list[str]]:
+        place = f"{ROOT}/machine.tar"
+        lacks = machine.save(place, "1.1.0")
+        with tarfile.open(place) as tar:
+            return {one.name: one.size for one in tar}, lacks
+
+    def test_all_of_an_office(self) -> None:
+        found, lacks = self.saved()
+        self.assertEqual(lacks, [])
+        for name in ("rooms", "rooms-gone"):
+            self.assertIn(f"var/lib/rooms-passwords/{name}.htpasswd", found)
+
+    def test_folders_are_not_entered(self) -> None:
+        make_deep(self.kept)
+        found, lacks = self.saved()
+        self.assertEqual(lacks, [])
+        self.assertIn("var/lib/rooms-passwords/rooms.htpasswd", found)
+
+    def test_no_file_fills_the_memory_or_the_tar(self) -> None:
+        with open(f"{self.kept}/rooms-a.htpasswd", "w", encoding="ascii") as made:
+            made.truncate(1 << 40)
+        for number in range(40):
+            with open(f"{self.kept}/rooms-b{number}.htpasswd", "w", encoding="ascii") as made:
+                made.truncate(1 << 20)
+        os.symlink("/etc/shadow", f"{self.kept}/rooms-link.htpasswd")
+        found, lacks = self.saved()
+        self.assertIn("var/lib/rooms-passwords/rooms.htpasswd", found)
+        self.assertLess(os.path.getsize(f"{ROOT}/machine.tar"), 20 << 20)
+        self.assertEqual(len(lacks), 1, lacks)
+        self.assertRegex(lacks[0], r"it lacks /var/lib/rooms-passwords/rooms-\S+ and \d+ more, ")
+
+    def test_nor_do_very_many(self) -> None:
+        for number in range(40000):
+            self.put(f"{self.kept}/rooms-{number}.htpasswd", "")
+        found, lacks = self.saved()
+        self.assertIn("var/lib/rooms-passwords/rooms.htpasswd", found)
+        self.assertLess(os.path.getsize(f"{ROOT}/machine.tar"), 64 << 20)
+        self.assertEqual(len(lacks), 1)
+
+
+class Log(unittest.TestCase):
+    """How much of a room is in use is looked at as root, in files of the servers' user."""
+
+    def test_a_log_with_holes(self) -> None:
+        for size in (0, 24, 512, 4096):
+            with tempfile.TemporaryDirectory() as folder:
+                with open(f"{folder}/R", "wb") as base:
+                    base.write(b"SQLite format 3\0" + struct.pack(">H10xI4xI", 4096, 7, 2))
+                with open(f"{folder}/R-wal", "wb") as log:
+                    log.write(struct.pack(">III", 0x377f0682, 3007000, size))
+                    log.truncate(1 << 43)
+                began = time.monotonic()
+                self.assertEqual(waiting.answer(
+                    20, lambda: Used().look(f"{folder}/R"), folder), 5 * 4096)
+                self.assertLess(time.monotonic() - began, 10)
+
+
+def room_of(folder: str) -> settings.Room:
+    path = f"{folder}/x.conf"
+    with open(path, "w", encoding="ascii") as made:
+        made.write(f"FILE={folder}/R\nBACKUPS={folder}\nPROGRAM=/bin/true\n")
+    return settings.room(path)
+
+
+class Held(unittest.TestCase):
+    """What is tried as the servers' user can be held by whoever is that user."""
+
+    def test_a_night_goes_on(self) -> None:
+        def stopped(_room: settings.Room) -> str:
+            os.kill(os.getpid(), signal.SIGSTOP)
+            return ""
+        with tempfile.TemporaryDirectory() as folder, unittest.mock.patch.object(
+                server, "patience", lambda _room: -58):
+            room = room_of(folder)
+            self.assertRegex(health.patiently(room, stopped), "doesn't answer within 2 s")
+            self.assertEqual(health.patiently(room, lambda _room: "said"), "said")
+            with self.subTest("what it can't do is told"):
+                def fails(_room: settings.Room) -> str:
+                    raise Stop("no systemctl")
+                self.assertEqual(health.patiently(room, fails), "no systemctl")
+
+    def test_so_does_the_check(self) -> None:
+        def fails() -> list[watched.Finding]:
+            raise Stop("no systemctl")
+        self.assertEqual(watched.within(5, fails, "x"), [(watched.CRITICAL, "no systemctl")])
+
+    def test_no_start_is_waited_for_without_end(self) -> None:
+        with tempfile.TemporaryDirectory() as folder:
+            room = room_of(folder)
+            with open(room.file, "wb") as made:
+                made.truncate(1 << 43)
+            self.assertLessEqual(server.patience(room), 3630)
+
+
+class _Error(Exception):
+    pass
+
+
+class _Cookie:
+    controlType = "page"
+    cookie = b"always another one"
+
+
+class _Endless:
+    """A link to a directory which has always another page."""
+
+    def set_option(self, *_given: object) -> None: ...
+
+    def simple_bind_s(self, *_given: object) -> None: ...
+
+    def search_ext(self, *_given: object, **_more: object) -> int:
+        return 1
+
+    def result3(self, _number: int, timeout: float) -> tuple[int, list[object], int, list[object]]:
+        return 1, [("cn=x", {})], 1, [_Cookie()]
+
+
+def endless(wait: int) -> Directory:
+    made = Directory.__new__(Directory)
+    ldap = types.SimpleNamespace(
+        controls=types.SimpleNamespace(SimplePagedResultsControl=lambda *_a, **_b: _Cookie()),
+        SCOPE_SUBTREE=2, SCOPE_BASE=0, LDAPError=_Error, TIMEOUT=type("T", (_Error,), {}),
+        TIMELIMIT_EXCEEDED=type("L", (_Error,), {}), NO_SUCH_OBJECT=type("N", (_Error,), {}))
+    made.__dict__.update(_ldap=ldap, _link=_Endless(), _bound=False, where=types.SimpleNamespace(
+        wait=wait, secret="", bind="", needs_starttls=False))
+    return made
+
+
+class Lies(unittest.TestCase):
+    """A directory that has no end."""
+
+    def test_pages(self) -> None:
+        with self.assertRaisesRegex(Stop, "the directory failed: no answer within 1 seconds"):
+            endless(1).search("dc=x", True, "(x=y)", [])
+
+    def test_groups_in_groups(self) -> None:
+        asked = groups.Asked.__new__(groups.Asked)
+        told = argparse.Namespace(where=argparse.Namespace(members="member"), key=str)
+        numbers = iter(range(1 << 40))
+        asked.__dict__.update(directory=told, users={}, _find_group=lambda _what: "top",
+                              _by_member=lambda _dn: ([], [str(next(numbers))]))
+        with self.assertRaisesRegex(Stop, "more than 10000 groups in one another"):
+            asked.members("staff")
+
+
+if __name__ == "__main__":
+    unittest.main()
