@@ -354,6 +354,13 @@ class Hostile(Drive):
             conditions.read_if("(" * 100_000)
         self.assertLess(time.monotonic() - start, 1)
 
+    def test_many_conditions_are_one_look(self) -> None:
+        # Nobody else is answered meanwhile.
+        self.make(a=b"0123456789")
+        many = "(" + 'Not ["x"] ' * 400 + ")"
+        self.assertEqual(self.status("PUT", "/a", b"new", If=many), 204)
+        self.assertEqual(self.room.seen.count("alice GET /doc/a"), 1)
+
     def test_legal(self) -> None:
         for text in ("\ufffe", "a\x0bb", "<&>\"'", "\U0001f600"):
             ElementTree.fromstring(f"<a>{bodies.legal(text)}</a>")

@@ -103,7 +103,9 @@ class Drive:
         """Ends the request with 412 if its conditions don't hold, and notes the locks it names."""
         if text := call.field("If"):
             lists = read_if(text)
-            if not any(self._holds(call, listed) for listed in lists):
+            # Nobody comes between, so that one look at each document is enough.
+            tags: dict[Names, str] = {}
+            if not any(self._holds(call, listed, tags) for listed in lists):
                 raise Stop(412, "changed", "a condition of the field If doesn't hold")
             named = {condition.token for listed in lists for condition in listed.conditions}
             call.tokens = frozenset(token for token in named if self.locks.of(call.user, token))
@@ -123,19 +125,21 @@ class Drive:
             return tag_of(found.body)
         return "unknown"
 
-    def _holds(self, call: Call, listed: Listed) -> bool:
+    def _holds(self, call: Call, listed: Listed, tags: dict[Names, str]) -> bool:
         names = call.names
         if listed.address is not None:
             try:
                 names = other_names(listed.address, call.field("Host"), call.prefix)
             except Stop:
                 return False
-        return all(self._is(call, names, condition) == condition.positive
+        return all(self._is(call, names, condition, tags) == condition.positive
                    for condition in listed.conditions)
 
-    def _is(self, call: Call, names: Names, condition: Condition) -> bool:
+    def _is(self, call: Call, names: Names, condition: Condition, tags: dict[Names, str]) -> bool:
         if condition.tag:
-            return condition.tag == self._tag(call, names)
+            if names not in tags:
+                tags[names] = self._tag(call, names)
+            return condition.tag == tags[names]
         lock = self.locks.of(call.user, condition.token)
         return lock is not None and lock.covers(names)
 
