@@ -131,7 +131,7 @@ same 'comes back' "$work/body" large
 ask 'too large by HTTP/2' 413 - alice:a /doc/large -X PUT --data-binary @larger
 "$nginx" -t -p "$PWD" -c "$PWD/nginx.conf" >"$work/out" 2>&1
 holds "nginx warns of nothing: $(head -c 300 "$work/out")" [ "$(grep -c warn "$work/out")" = 0 ]
-says_all bob:b /doc/tls
+says_all bob:b /doc/tls '; sandbox'
 only_tls() { grep -qx $'Strict-Transport-Security: max-age=31536000\r' "$work/head"; }
 holds 'and that it is asked for with TLS only' only_tls
 holds 'a document is a file with TLS' grep -qx $'Content-Disposition: attachment\r' "$work/head"

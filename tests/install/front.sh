@@ -44,7 +44,10 @@ same 'which came in whole' "$work/body" rooms.htpasswd
 # What every answer says, and who may ask for changes: a browser sends passwords whichever site asks
 # it to.
 for target in / /style.css /none /me /doc/f /doc/none /folder/ /dacl/f '/can/f?r'; do
-  for who in bob:b bob:x; do says_all $who "$target"; done
+  more=
+  [[ ! $target =~ ^/(doc|folder|dacl|can)/ ]] || more='; sandbox'
+  says_all bob:b "$target" "$more"
+  says_all bob:x "$target"
 done
 answer bob:b /doc/f
 holds 'nothing of TLS without TLS' [ "$(grep -ci Strict-Transport-Security "$work/head")" = 0 ]
@@ -261,9 +264,8 @@ ask 'a way out of it' 401 - carol:c /invoices/../doc/f --path-as-is
 ask 'a way that the room judges' 400 '{"why":"bad-target P1"}' \
   carol:c /invoices/folder/../doc/f --path-as-is
 makes_deepest /invoices carol:c bob:x
-for target in /invoices/ /invoices/style.css /invoices/me /invoices/doc/f /invoices/folder/; do
-  says_all bob:x "$target"
-done
+for target in /invoices/ /invoices/style.css /invoices/me; do says_all bob:x "$target"; done
+for target in /invoices/doc/f /invoices/folder/; do says_all bob:x "$target" '; sandbox'; done
 answer bob:x /invoices/doc/f
 holds 'a document of a room at a path is a file' \
   grep -qx $'Content-Disposition: attachment\r' "$work/head"
@@ -417,7 +419,7 @@ curl -s -o "$work/body" -w '%{http_code}\n' -u alice:a "$base/style.css?[1-500]"
 holds 'a page that asks for much meets no limit' [ "$(awk '{ print $1, $2 }' asked)" = '500 200' ]
 curl -s -o "$work/body" -w '%{http_code}\n' "$base/doc/f?[1-100]" | sort | uniq -c >asked
 holds 'what has no password is asked for one' [ "$(awk '{ print $1, $2 }' asked)" = '100 401' ]
-says_all bob:b /doc/f
+says_all bob:b /doc/f '; sandbox'
 # A room is taken away: nobody gets to it, and its file stays.
 holds 'it is taken away' adds remove invoices
 take_front

@@ -162,12 +162,12 @@ reloaded() { # COMMAND ..
   until "$@" || [ $((SECONDS - began)) -ge "$patience" ]; do sleep 0.1; done
 }
 
-# What every answer says, also one to a wrong password.
+# What every answer says, also one to a wrong password. MORE is what those of a room have.
 policy="Content-Security-Policy: default-src 'none'; script-src 'self'; style-src 'self'; img-src 'self' blob:; connect-src 'self'; base-uri 'none'; form-action 'none'; frame-ancestors 'none'"
-says_all() { # USER:PASSWORD TARGET
+says_all() { # USER:PASSWORD TARGET [MORE]
   local line
   answer "$1" "$2"
-  for line in "$policy" 'X-Content-Type-Options: nosniff' 'Referrer-Policy: no-referrer' \
+  for line in "$policy${3-}" 'X-Content-Type-Options: nosniff' 'Referrer-Policy: no-referrer' \
     'Cross-Origin-Resource-Policy: same-origin'; do
     holds "$1 $base$2 says ${line%%:*}" grep -qxF "$line"$'\r' "$work/head"
   done
