@@ -158,6 +158,31 @@ does 'the attacker' 'touch /opt/over; sleep 1; journalctl -u evil@office -o cat 
   grep -v -e "^Started" -e "^evil@office" -e Consumed -e Deactivated'
 holds "has seen nobody: $(cat "$work/out")" \
   [ "$(grep -c -e ^DONE -e ^seen "$work/out") $(grep -c '^list: Permission' "$work/out")" = '0 1' ]
+# Something else runs as that user, as `rooms init` of a page does: by it nobody leaves the unit.
+cat >"$machine/opt/leave.py" <<'END'
+import os
+import time
+
+ends = time.monotonic() + 4
+while time.monotonic() < ends:
+    for one in os.listdir("/proc"):
+        if one.isdigit() and int(one) != os.getpid():
+            for place, how in (("root/var/tmp/left", "w"), ("mem", "r+b"), ("cwd/left", "w")):
+                try:
+                    open(f"/proc/{one}/{place}", how).close()
+                    print("DONE", one, place, flush=True)
+                except OSError:
+                    pass
+    time.sleep(0.02)
+print("tried", flush=True)
+END
+does 'what tries to leave its unit' 'chmod 644 /opt/leave.py; systemctl stop evil@office
+  sed -e "s#/opt/attacker.py /opt/over#/opt/leave.py#" /etc/systemd/system/evil@.service \
+    >/etc/systemd/system/leaving@.service; systemctl daemon-reload
+  systemctl start leaving@office; cd /var/tmp; runuser -u rooms -- sleep 5
+  journalctl -u leaving@office -o cat --no-pager | grep -e ^DONE -e ^tried | sort | uniq -c |
+    sort -rn | head -n 5; systemctl stop leaving@office; ls /var/tmp/left 2>/dev/null || :'
+holds "does not: $(cat "$work/out")" [ "$(awk '{ print $2 }' "$work/out" | sort -u)" = tried ]
 # A shell of that user, as a page of this product gives it for `rooms init`.
 waits 'without them' 'setsid runuser -u rooms -- python3 -I /opt/attacker.py /opt/over \
   >/root/attacked 2>&1 </dev/null &'

@@ -12,7 +12,8 @@ import socketserver
 import sys
 
 FIELDS = {"X-Accel-Redirect": "/rooms/start.html",
-          "Set-Cookie": "mod_auth_openidc_session=theirs; Path=/", "Refresh": "0; url=//evil.example",
+          "Set-Cookie": "mod_auth_openidc_session=theirs; Path=/",
+          "Refresh": "0; url=//evil.example",
           "Location": "//evil.example/", "WWW-Authenticate": 'Basic realm="rooms"',
           "Clear-Site-Data": '"*"', "Alt-Svc": 'h2="evil.example:443"',
           "Service-Worker-Allowed": "/", "Access-Control-Allow-Origin": "https://evil.example",
@@ -56,7 +57,7 @@ for target in /folder/200 /doc/200 /can/403 /attr/302 /dacl/401; do
   ask "$target comes as it is" "${target##*/}" "$page" alice:a "$target"
   answer alice:a "$target"
   holds "$target is no page of the site" grep -qxF "$policy; sandbox"$'\r' "$work/head"
-  grep -iE '^(X-Accel|Set-Cookie|Refresh|Location|WWW-Authenticate|Clear-Site|Alt-Svc|Service-W|Access-C)' \
-    "$work/head" >found
+  grep -iE -e '^(X-Accel|Set-Cookie|Refresh|Location|WWW-Authenticate|Clear-Site-Data)' \
+    -e '^(Alt-Svc|Service-Worker|Access-Control)' "$work/head" >found
   same "$target has a browser do nothing" found /dev/null
 done

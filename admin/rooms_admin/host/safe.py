@@ -3,9 +3,10 @@ no link is followed."""
 import errno
 import fcntl
 import os
+import secrets
 import stat
 from collections.abc import Iterator
-from contextlib import contextmanager
+from contextlib import contextmanager, suppress
 from typing import BinaryIO
 
 _FOLDER = os.O_RDONLY | os.O_DIRECTORY | os.O_CLOEXEC
@@ -182,6 +183,35 @@ def put_folder(path: str, mode: int, owner: int = -1, group: int = -1) -> None:
     os.chown(fresh, owner, group)
     os.chmod(fresh, mode)
     os.rename(fresh, path)
+
+
+def remove_folder(path: str) -> None:
+    """Whoever's it is by now, and whatever is in it: no link is followed. Folders may stand in one
+    another without end, so what is in one is brought up before that goes. What can't be removed
+    stays."""
+    with suppress(OSError):
+        with opened(os.open(path, _FOLDER | os.O_NOFOLLOW)) as top:
+            left = os.listdir(top)
+            while left:
+                with suppress(OSError):
+                    left += _remove_below(top, left.pop())
+        os.rmdir(path)
+
+
+def _remove_below(top: int, name: str) -> list[str]:
+    """Returns what was brought up."""
+    try:
+        os.unlink(name, dir_fd=top)
+        return []
+    except IsADirectoryError:
+        pass
+    above = []
+    with opened(folder_below(top, name)) as at:
+        for one in os.listdir(at):
+            above.append(secrets.token_hex(16))
+            os.rename(one, above[-1], src_dir_fd=at, dst_dir_fd=top)
+    os.rmdir(name, dir_fd=top)
+    return above
 
 
 def reason(fault: OSError) -> str:

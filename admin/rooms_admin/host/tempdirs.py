@@ -7,7 +7,7 @@ from collections.abc import Iterator
 from contextlib import contextmanager
 
 from ..cli.report import Stop
-from . import commands, processes, safe
+from . import processes, safe
 
 
 def place() -> str:
@@ -29,13 +29,7 @@ def folder(name: str, *users: int) -> Iterator[str]:
     try:
         yield made
     finally:
-        _remove(made)
-
-
-def _remove(place: str) -> None:
-    """It may be another user's by now, and have anything in it. No link is followed, and folders
-    may stand in one another deeper than Python goes."""
-    commands.run(["rm", "-rf", "--", place], seconds=None)
+        safe.remove_folder(made)
 
 
 def _remove_left(place: str, name: str, users: set[int]) -> None:
@@ -48,4 +42,4 @@ def _remove_left(place: str, name: str, users: set[int]) -> None:
             # Whoever made it has removed it meanwhile.
             continue
         if found and seen.st_uid in users and processes.began(int(found[1])) != found[2]:
-            _remove(one)
+            safe.remove_folder(one)
