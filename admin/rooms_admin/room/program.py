@@ -214,7 +214,7 @@ def lacks_space(room: Room) -> str:
                 os.setgid(room.group)
                 os.setuid(room.owner)
             # Whoever else is that user may hold it.
-            ctypes.CDLL(None).prctl(_ENDS_WITH_PARENT, int(signal.SIGKILL))
+            processes.end_with_parent()
             with tempfile.TemporaryFile(dir=room.folder) as trial:
                 os.posix_fallocate(trial.fileno(), 0, CHANGE)
         except OSError as fault:
