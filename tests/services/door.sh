@@ -11,7 +11,7 @@ services=$repo/services
 printf '%s\n' '[mypy]' 'strict = True' "cache_dir = $PWD/mypy" >mypy.ini
 if has mypy; then
   MYPYPATH=$services:$here/services mypy --config-file mypy.ini "$services/rooms_services/door" \
-    "$here"/services/*.py >"$work/out" 2>&1
+    "$here"/services/{fake_room,over,tree,test_door*}.py >"$work/out" 2>&1
   status=$?
   holds "mypy --strict: $(tail -n 5 "$work/out")" [ "$status" = 0 ]
 else
