@@ -81,7 +81,7 @@ linked() { # STATUS TARGET SITE MODE DEST ARGUMENT ..
 }
 for site in cross-site same-site; do
   for target in /folder/ /dacl/watched '/can/watched?r' /attr/watched /door/find/?x \
-    /drive/watched /people /mine /password; do
+    /drive/watched /earlier/ /people /mine /password; do
     linked 403 "$target" $site navigate document
     linked 403 "$target" $site no-cors image
   done
