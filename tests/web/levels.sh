@@ -33,6 +33,8 @@ node_says 'the same by what a door says of it' '5000 tried, 0 faults' \
   "$here/web/unsaid.mjs" page 5000 7 door
 node_says 'what was seen further down, after changes' '300 tried, 0 faults' \
   "$here/web/crawling.mjs" page 300
+node_says 'what can not be seen further down, by a door or not' '3000 tried, 0 faults' \
+  "$here/web/unseen.mjs" page 3000
 node_says 'the same, seen by a door' '300 tried, 0 faults' "$here/web/crawling.mjs" page 300 door
 # More than 100,000 answers of the program.
 node_says 'rights, removals and lists, as the program has them' '0 differ' \

@@ -106,8 +106,11 @@ export class Model {
   }
 }
 
-// What docs/door.md says that /door/below/TOP?REST answers to somebody who may see all.
-export function doorBelow(model, top, rest, textOf) {
+const NOTHING = { lists: new Set(), listings: new Set() };
+
+// What docs/door.md says that /door/below/TOP?REST answers. 'closed' are the paths whose lists the
+// caller may not read, and of folders whose contents they may not list.
+export function doorBelow(model, top, rest, textOf, closed = NOTHING) {
   const isIn = (path, folder) => folder === '/' || path.startsWith(`${folder}/`);
   const names = rest === '' ? [] : rest.split('/');
   const apart = names.map((_, at) =>
@@ -115,14 +118,20 @@ export function doorBelow(model, top, rest, textOf) {
   const saysOwner = ({ full }) => full.some(({ who, flags }) =>
     ['OWNER@', 'GROUP@'].includes(who) && !flags.includes('i'));
   const near = new Map([[top, [top, 0]]]);
-  const [objects, rows] = [[], new Map()];
+  const [objects, rows, unread] = [[], new Map(), new Map()];
+  const isSeen = (path) => path === top || !closed.listings.has(path);
+  const isRead = (path) => !closed.lists.has(path);
   for (const one of model.objects.values()) {
     const { path, kind, owner, group } = one;
-    if (path === top || !isIn(path, top)) continue;
     const folder = above(path);
+    if (path === top || !isIn(path, top) || !near.has(folder) || !isSeen(folder)) continue;
     const follows = one.own.length === 0 && !one.protect && !apart.includes(path)
-      && (kind === 'document' || (one.auto && !saysOwner(one))) && model.objects.get(folder).auto;
-    if (follows) {
+      && (kind === 'document' || (one.auto && !saysOwner(one))) && model.objects.get(folder).auto
+      && isRead(path) && isRead(folder);
+    if (!isRead(path) && kind === 'document') {
+      near.set(path, [path, 0]);
+      unread.set(folder, (unread.get(folder) ?? 0) + 1);
+    } else if (follows) {
       const [below, depth] = near.get(folder);
       near.set(path, [below, Math.min(depth + 1, 2)]);
       const row = { below, kind, depth: near.get(path)[1], owner, group };
@@ -130,9 +139,12 @@ export function doorBelow(model, top, rest, textOf) {
       rows.set(key, { ...row, count: (rows.get(key)?.count ?? 0) + 1 });
     } else {
       near.set(path, [path, 0]);
-      objects.push({ path, kind, owner, group, list: textOf(one) });
+      objects.push({ path, kind, owner, group, list: isRead(path) ? textOf(one) : null });
     }
   }
-  return { at: top, list: textOf(model.objects.get(top)), objects, rest: [...rows.values()],
-    unlisted: [], unread: [] };
+  const listOf = (path) => (isRead(path) ? textOf(model.objects.get(path)) : null);
+  return { at: top, list: listOf(top), objects, rest: [...rows.values()],
+    unlisted: [...near.keys()].filter((path) => !isSeen(path)
+      && model.objects.get(path).kind === 'folder'),
+    unread: [...unread].map(([path, count]) => ({ in: path, kind: 'document', count })) };
 }

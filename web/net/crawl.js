@@ -34,8 +34,10 @@ async function nodeAt(path, kind) {
   return { path, kind, list, object };
 }
 
-const insideOf = async (path) => (await unlessDenied(api.list(path)))?.map(({ name, kind }) => (
-  { path: api.join(path, name), kind }));
+async function insideOf(path) {
+  const found = await unlessDenied(api.list(path));
+  return found ? found.map(({ name, kind }) => ({ path: api.join(path, name), kind })) : found;
+}
 
 // Folders before documents, since more depends on them, from the top down.
 const isFolder = ({ kind }) => kind === 'folder';
