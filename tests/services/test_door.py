@@ -394,7 +394,7 @@ class Busy(Over):
     def test_a_room_that_hangs(self) -> None:
         """Nobody waits for ever, also who waits for their turn behind somebody else."""
         with socket.socket(socket.AF_UNIX) as at, mock.patch.object(
-                room, "ANSWER_SECONDS", 0.3), mock.patch.object(room, "PATIENCE", 0.1):
+                self.door.room, "seconds", 0.3), mock.patch.object(room, "PATIENCE", 0.1):
             at.bind(self.at("hangs"))
             at.listen()
             self.door.room.place = self.at("hangs")
