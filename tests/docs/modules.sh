@@ -15,10 +15,10 @@ same 'web/acl asks nothing and draws nothing' found /dev/null
 same 'web/net and web/text draw nothing' found /dev/null
 
 # What only one module knows or does: no line of another one looks like it. Whoever needs it calls
-# that one. (legacy.py has the text of nginx's files of before; the door has nothing of admin.)
+# that one. (legacy.py has the text of nginx's files of before.)
 only() { # WHAT PATTERN MODULE, of admin/rooms_admin
   (cd "$repo" && grep -nE "$2" admin/rooms_admin/{,*/}*.py deploy/install \
-    services/rooms_services/{,own_password/}*.py |
+    services/rooms_services/{,*/,*/*/}*.py |
     grep -vE "^admin/rooms_admin/($3|site/legacy)[.]py:") >found
   same "$1 by $3 alone" found /dev/null
   (cd "$repo" && grep -qE "$2" "admin/rooms_admin/$3.py")
@@ -29,7 +29,7 @@ only 'a command is run' '\bsubprocess\b|\bos[.](exec|spawn|popen|posix_spawn|sys
   host/commands
 only 'a child is tied to its parent' '[.]prctl\(' host/processes
 only 'a lock is taken' '\bflock\(' host/locks
-only 'a socket in the file system is asked' '\bAF_UNIX\b' host/at_socket
+only 'HTTP goes to a socket in the file system' '\(http[.]client[.]HTTPConnection\):' host/at_socket
 only 'the number of a run is read' '"number \(|DATED = ' room/backups
 only 'a file of passwords is named' '[.]htpasswd' room/passwords
 only "members' rows are written and read" 'group,user' room/members

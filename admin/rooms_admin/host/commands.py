@@ -10,7 +10,7 @@ from typing import Any, TypeAlias
 from ..cli.report import Stop
 
 SECONDS = 60.0
-PIPE = subprocess.PIPE
+PIPE, NOTHING = subprocess.PIPE, subprocess.DEVNULL
 Child: TypeAlias = "subprocess.Popen[bytes]"
 # What systemctl answers at once; all else waits for servers, which may read their files for long.
 _ASKS = ("is-active", "is-enabled", "show", "reset-failed", "list-units")
@@ -93,12 +93,12 @@ def in_place(words: Sequence[str]) -> int:
 
 
 def started(words: Sequence[str | bytes], before: Callable[[], None], who: Who | None = None,
-            stdin: int = subprocess.PIPE, stdout: int = subprocess.PIPE,
-            pass_fds: tuple[int, ...] = (), cwd: str | None = None) -> Child:
+            stdin: int = PIPE, stdout: int = PIPE, pass_fds: tuple[int, ...] = (),
+            cwd: str | None = None, umask: int = 0o077) -> Child:
     """One that goes on beside this process, which looks after it: `before` is done in it first. Its
     folder is entered before it becomes another user, who need not get there."""
     how: dict[str, Any] = {}
     if who is not None:
         how = {"user": who.user, "group": who.group, "extra_groups": []}
-    return subprocess.Popen(words, stdin=stdin, stdout=stdout, stderr=subprocess.PIPE, umask=0o077,
+    return subprocess.Popen(words, stdin=stdin, stdout=stdout, stderr=subprocess.PIPE, umask=umask,
                             preexec_fn=before, pass_fds=pass_fds, cwd=cwd, env=_ours(), **how)

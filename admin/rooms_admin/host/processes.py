@@ -5,12 +5,17 @@ import signal
 
 # Loaded before any child begins, which then only calls it.
 _LIBC = ctypes.CDLL(None)
-_ENDS_WITH_PARENT, _GETS_ORPHANS = 1, 36
+_ENDS_WITH_PARENT, _GETS_ORPHANS, _AMBIENT, _CLEAR_ALL = 1, 36, 47, 4
 
 
 def end_with_parent() -> None:
     """For a child that nobody else would end."""
     _LIBC.prctl(_ENDS_WITH_PARENT, int(signal.SIGKILL))
+
+
+def hand_on_no_right() -> None:
+    """For a child that need not have what its parent's unit allows that one."""
+    _LIBC.prctl(_AMBIENT, _CLEAR_ALL, 0, 0, 0)
 
 
 def adopt_orphans() -> None:

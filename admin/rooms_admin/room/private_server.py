@@ -94,10 +94,10 @@ def set_list(room: settings.Room, copied: str, path: bytes, lines: bytes) -> str
 def served(room: settings.Room, copied: str, count: int) -> Iterator[None]:
     own_network()
     words = [room.program, "serve", copied, "--port", str(PORT), "--count", str(count)]
-    server = commands.started(words, processes.end_with_parent, program.as_user_of_copies(room))
+    server = commands.started(words, processes.end_with_parent, program.as_user_of_copies(room),
+                              stdin=commands.NOTHING)
     try:
-        assert server.stdin and server.stdout and server.stderr
-        server.stdin.close()
+        assert server.stdout and server.stderr
         # A server that ends closes its output: that is an end of the wait too.
         ready, _, _ = select.select([server.stdout], [], [], 600)
         line = server.stdout.readline() if ready else b""

@@ -1,12 +1,10 @@
 """Copies of nights that are open. Each is served by the program at a socket that nobody but the
 judge reaches, without the right by which its backup was read. It ends when nobody has asked for it
 for a while, when another one needs its place, or when its backup is gone."""
-import ctypes
 import itertools
 import os
 import select
 import shutil
-import subprocess
 import threading
 import time
 from collections.abc import Callable
@@ -14,7 +12,7 @@ from concurrent.futures import ThreadPoolExecutor
 from dataclasses import dataclass, field
 
 from rooms_admin.cli.report import Stop, say
-from rooms_admin.host import locks, safe
+from rooms_admin.host import commands, locks, processes, safe
 from rooms_admin.room import private_server, program
 
 from . import nights
@@ -33,7 +31,6 @@ IDLE = float(os.environ.get("ROOMS_NIGHTS_IDLE", "300"))
 BESIDE, PATIENCE = 256, 60.0
 # Bytes of the disk that stay free.
 SPARE = 256 << 20
-_AMBIENT, _CLEAR_ALL = 47, 4
 Key = tuple[str, str]
 
 
@@ -56,7 +53,7 @@ class Copy:
     said: str = ""
     folder: str = ""
     place: str = ""
-    server: subprocess.Popen[bytes] | None = None
+    server: commands.Child | None = None
 
     def is_dead(self) -> bool:
         return self.server is not None and self.server.poll() is not None
@@ -74,11 +71,11 @@ class Copy:
 
 def _before(megabytes: int) -> Callable[[], None]:
     """What a child does before the program. This process may read backups; the program need not."""
-    libc, less = ctypes.CDLL(None), program.limits(megabytes)
+    less = program.limits(megabytes)
 
     def before() -> None:
         less()
-        libc.prctl(_AMBIENT, _CLEAR_ALL, 0, 0, 0)
+        processes.hand_on_no_right()
     return before
 
 
@@ -180,7 +177,7 @@ class Copies:
         copied = _copied(room, backup, made.folder)
         # The program makes the socket, and the judge's group gets to it.
         os.chmod(os.path.dirname(made.place), 0o710)
-        made.server = self._starter.submit(self._popen, room, copied, made).result()
+        made.server = self._starter.submit(self._begin, room, copied, made).result()
         assert made.server.stdout and made.server.stderr
         ready, _, _ = select.select([made.server.stdout], [], [], PATIENCE)
         line = made.server.stdout.readline() if ready else b""
@@ -190,11 +187,10 @@ class Copies:
             raise Ends("damaged", said or f"nothing came of it for {PATIENCE:.0f} s")
 
     @staticmethod
-    def _popen(room: Nights, copied: str, made: Copy) -> subprocess.Popen[bytes]:
-        return subprocess.Popen(
+    def _begin(room: Nights, copied: str, made: Copy) -> commands.Child:
+        return commands.started(
             [room.program, "serve", copied, "--socket", made.place, "--count", "1000000"],
-            stdin=subprocess.DEVNULL, stdout=subprocess.PIPE, stderr=subprocess.PIPE, umask=0o007,
-            preexec_fn=_before(made.megabytes + BESIDE))
+            _before(made.megabytes + BESIDE), stdin=commands.NOTHING, umask=0o007)
 
     def close(self, key: Key, only: Copy | None = None) -> None:
         with self._lock:
