@@ -380,7 +380,8 @@ class Words(unittest.TestCase):
                 (["user"], "the following arguments are required: WHAT"),
                 (["tell", "--", "a", "--", "b"], "'--' stands twice"),
                 (["import", "--room", "", "share", "/"], "a word is empty"),
-                (["restore", ""], "a word is empty")):
+                (["restore", ""], "a word is empty"),
+                (["backup", "--room="], "the value of --room is empty")):
             with self.assertRaises(Refused) as caught:
                 self.read(*typed)
             self.assertEqual(str(caught.exception).split("; rooms-admin ")[0],

@@ -159,8 +159,11 @@ def _apart(parser: Parser, words: Sequence[str]) -> tuple[list[str], list[str]]:
             found += [one, *left[:int(most)]]
             del left[:int(most)]
         elif one.startswith("--") or (one.startswith("-") and one != "-" and not rest):
-            if (one.partition("=")[0] if one.startswith("--") else one[:2]) not in takes:
+            name, equals, value = one.partition("=")
+            if (name if one.startswith("--") else one[:2]) not in takes:
                 parser.error(f"no such option: {one}")
+            if equals and not value:
+                parser.error(f"the value of {name} is empty")
             found.append(one)
         else:
             rest.append(one)
