@@ -11,7 +11,7 @@ from ..cli.report import Stop
 
 SECONDS = 60.0
 PIPE, NOTHING = subprocess.PIPE, subprocess.DEVNULL
-Child: TypeAlias = "subprocess.Popen[bytes]"
+Child: TypeAlias = subprocess.Popen[bytes]
 # What systemctl answers at once; all else waits for servers, which may read their files for long.
 _ASKS = ("is-active", "is-enabled", "show", "reset-failed", "list-units")
 
