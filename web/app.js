@@ -3,10 +3,12 @@
 import { accountMenu } from './account/account_menu.js';
 import { changeFirst } from './account/own_password.js';
 import { copyLink, download } from './folder/actions.js';
+import { hasNights, knowNights } from './net/nights.js';
 import { whenWaiting } from './net/retry.js';
 import * as api from './net/api.js';
 import { button, element, icon, nameText } from './ui/dom.js';
 import { hasUnsent } from './acl/draft.js';
+import { showEarlier } from './earlier/earlier.js';
 import { showFolder } from './folder/folder.js';
 import { showDocument } from './folder/preview.js';
 import { language, texts } from './language/language.js';
@@ -38,10 +40,13 @@ function objectHead(path, view, kind) {
     button(words, () => does().catch(tellFault), { class: style });
   const ofDocument = kind === 'folder' ? []
     : act(texts.acts.download, () => download([{ path, kind }]), 'primary');
+  const earlier = hasNights()
+    ? element('a', { class: 'button', href: linkTo(path, 'earlier') }, texts.earlier.earlier)
+    : null;
   return [
     element('div', { class: 'bar' }, element('h1', {}, icon(kind), name),
       element('div', { class: 'actions' }, ofDocument,
-        act(texts.acts.copyLink, () => copyLink(path)),
+        act(texts.acts.copyLink, () => copyLink(path)), earlier,
         element('a', { class: 'button', href: back },
           kind === 'folder' ? texts.page.openFolder : texts.page.backToFolder))),
     element('nav', { class: 'views', 'aria-label': texts.page.access }, links),
@@ -57,7 +62,7 @@ async function showOrTell(path, box, isCurrent) {
 }
 
 async function showObject(path, view, isCurrent) {
-  const kind = await waitFor(kindOf(path));
+  const [kind] = await waitFor(Promise.all([kindOf(path), knowNights()]));
   if (!isCurrent()) return;
   const box = element('div', { class: 'sheet padded' });
   const head = objectHead(path, view, kind);
@@ -73,12 +78,13 @@ async function show() {
   looks += 1;
   const look = looks;
   const isCurrent = () => look === looks;
-  const { path, view } = whereIs(location.hash);
+  const { path, view, night } = whereIs(location.hash);
   document.title = texts.page.title(path === '/' ? texts.places.all : marked(api.nameOf(path)));
   document.getElementById('path').replaceChildren(pathLinks(path));
   clearNotices();
   try {
-    if (view) await showObject(path, view, isCurrent);
+    if (view === 'earlier') await showEarlier(path, night, main, isCurrent);
+    else if (view) await showObject(path, view, isCurrent);
     else await showFolder(path, main, isCurrent);
   } catch (fault) {
     if (!isCurrent()) return;

@@ -92,7 +92,7 @@ class Lasting:
         assert box['top'] >= 0 and box['bottom'] <= 844 and box['left'] >= 0 and \
             box['right'] <= 390, box
         assert alice.texts('.menu > *') == ['Preview', 'Download', 'Rename or move', 'Copy link',
-                                            'Access', 'Remove']
+                                            'Earlier', 'Access', 'Remove']
         assert alice.unnamed() == [], alice.unnamed()
         alice.one('h1').click()
         assert not alice.all('.menu')

@@ -6,6 +6,8 @@ import { allBelow, amount, barredIn, removalQuestion } from './subtree.js';
 import { element } from '../ui/dom.js';
 import { downloadAll, downloadOne, downloadWhole } from './download.js';
 import { hasDoor } from '../net/door.js';
+import { hasNights, nightsKept } from '../net/nights.js';
+import { wayBack } from '../text/night_words.js';
 import { inTurn } from './batch.js';
 import { texts } from '../language/language.js';
 import { linkTo } from '../ui/links.js';
@@ -91,12 +93,13 @@ async function mayRemove(all, objects) {
   return false;
 }
 
-// Nothing comes back, so nothing is removed of what couldn't be removed as a whole.
+// What comes back does so one by one, so nothing is removed of what couldn't be removed as a whole.
 export async function remove(objects) {
   const unseen = [];
   const all = await waitFor(allBelow(objects, unseen));
   if (!(await mayRemove(all, objects))) return null;
-  const { title, text } = removalQuestion(objects, all, unseen);
+  const nights = hasNights() ? await waitFor(nightsKept()).catch(() => null) : null;
+  const { title, text } = removalQuestion(objects, all, unseen, wayBack(nights));
   const words = objects.length === 1 ? texts.folder.removeIt : texts.folder.removeThem;
   if (!(await question(title, text, [['remove', words, 'danger']]))) return null;
   const what = objects.length === 1 ? isolated(api.nameOf(objects[0].path)) : amount(objects);

@@ -10,6 +10,7 @@ import { linkTo } from '../ui/links.js';
 import { notShown, tell, tellFault, waitFor } from '../ui/messages.js';
 import { arrived } from '../net/directory.js';
 import { closedIn } from '../net/door.js';
+import { hasNights, knowNights } from '../net/nights.js';
 import { learnEditing } from './editing.js';
 import { finder } from './find.js';
 import { markAllClosed } from './closed_rows.js';
@@ -56,12 +57,15 @@ function bar(path, send, make) {
     needs.push([letter, made]);
     return made;
   };
+  const earlier = element('a', { class: 'button', href: linkTo(path, 'earlier'), hidden: true },
+    texts.earlier.earlier);
   const shown = element('div', { class: 'bar' },
     element('h1', {}, path === '/' ? texts.places.all : nameText(api.nameOf(path))),
     element('div', { class: 'actions' },
       act('w', 'upload', texts.folder.upload, () => files.click(), 'primary'),
       act('a', 'upload', texts.folder.uploadFolder, () => whole.click()),
       act('a', 'plus', texts.folder.newFolder, make),
+      earlier,
       element('a', { class: 'button', href: linkTo(path, 'access') }, icon('key'),
         texts.folder.access)),
     files, whole);
@@ -75,7 +79,8 @@ function bar(path, send, make) {
       else made.removeAttribute('title');
     }
   };
-  return { shown, grant };
+  const offer = () => { earlier.hidden = !hasNights(); };
+  return { shown, grant, offer };
 }
 
 // The filter, which also finds what is further down, and what can be done with what is selected.
@@ -192,7 +197,8 @@ class FolderView {
   async refresh(focus = placeIn(this.body)) {
     const may = api.can(this.path, ASKED).catch(() => null);
     try {
-      const children = await waitFor(api.list(this.path));
+      const [children] = await waitFor(Promise.all([api.list(this.path), knowNights()]));
+      this.bar.offer();
       this.bar.grant(await may);
       if (!this.isCurrent()) return;
       this.look.children = children;

@@ -7,6 +7,7 @@ import { texts } from '../language/language.js';
 import { rove } from '../ui/keys.js';
 import { linkTo } from '../ui/links.js';
 import { menuButton } from '../ui/menu.js';
+import { hasNights } from '../net/nights.js';
 import { markClosed } from './closed_rows.js';
 import { editingOf } from './editing.js';
 import { isPdf } from './preview.js';
@@ -56,6 +57,7 @@ function entriesOf(child, path, acts) {
       : [{ words: texts.folder.newVersion, does: () => acts.replace(child) }]),
     { words: texts.folder.renameOrMove, does: () => acts.move(child) },
     { words: texts.acts.copyLink, does: () => acts.copy(child) },
+    ...(hasNights() ? [{ words: texts.earlier.earlier, href: linkTo(path, 'earlier') }] : []),
     { words: texts.folder.access, href: linkTo(path, 'access') },
     { words: texts.acts.remove, does: () => acts.remove([child]), look: 'remove' },
   ];

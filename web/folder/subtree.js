@@ -88,10 +88,20 @@ function goneWords(objects, below) {
   return (one ? texts.folder.goneOneWith : texts.folder.goneSeveralWith)(what, amount(below));
 }
 
-// The question before these objects are removed, with all that lies below: {title, text}.
-export function removalQuestion(objects, all, unseen) {
+// The same where it comes back.
+function goneFromHere(objects, below) {
+  const one = objects.length === 1;
+  const what = one ? isolated(api.nameOf(objects[0].path)) : amount(objects);
+  if (below.length === 0) return (one ? texts.earlier.goneOne : texts.earlier.goneSeveral)(what);
+  return (one ? texts.earlier.goneOneWith : texts.earlier.goneSeveralWith)(what, amount(below));
+}
+
+// The question before these objects are removed, with all that lies below: {title, text}. 'wayBack'
+// says how they come back, or is null.
+export function removalQuestion(objects, all, unseen, wayBack = null) {
   const below = all.filter(({ path }) => !objects.some((object) => object.path === path));
-  const gone = goneWords(objects, below);
+  const gone = wayBack === null ? goneWords(objects, below)
+    : `${goneFromHere(objects, below)} ${wayBack}`;
   const title = objects[0].kind === 'folder' ? texts.folder.removeFolder
     : texts.folder.removeDocument;
   return {

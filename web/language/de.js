@@ -1,6 +1,7 @@
 // The texts of the page in German: what stands everywhere. de_*.js have the rest.
 
 import { DE_ACCESS, DE_OUTCOME } from './de_access.js';
+import { DE_EARLIER } from './de_earlier.js';
 import { DE_FAULTS } from './de_faults.js';
 import { DE_FIND, DE_FOLDER, DE_MOVING, DE_UPLOAD } from './de_folder.js';
 import { DE_ADVANCED, DE_RIGHTS, DE_WARNINGS } from './de_lists.js';
@@ -207,5 +208,5 @@ export const DE = {
   messages: MESSAGES, picker: PICKER, ask: ASK, changed: CHANGED, account: ACCOUNT,
   folder: DE_FOLDER, find: DE_FIND, moving: DE_MOVING, upload: DE_UPLOAD, rights: DE_RIGHTS,
   faults: DE_FAULTS, warnings: DE_WARNINGS, access: DE_ACCESS, outcome: DE_OUTCOME,
-  advanced: DE_ADVANCED, ready: DE_READY,
+  advanced: DE_ADVANCED, ready: DE_READY, earlier: DE_EARLIER,
 };

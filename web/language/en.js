@@ -1,6 +1,7 @@
 // The texts of the page in English: what stands everywhere. en_*.js have the rest.
 
 import { EN_ACCESS, EN_OUTCOME } from './en_access.js';
+import { EN_EARLIER } from './en_earlier.js';
 import { EN_FAULTS } from './en_faults.js';
 import { EN_FIND, EN_FOLDER, EN_MOVING, EN_UPLOAD } from './en_folder.js';
 import { EN_ADVANCED, EN_RIGHTS, EN_WARNINGS } from './en_lists.js';
@@ -195,5 +196,5 @@ export const EN = {
   messages: MESSAGES, picker: PICKER, ask: ASK, changed: CHANGED, account: ACCOUNT,
   folder: EN_FOLDER, find: EN_FIND, moving: EN_MOVING, upload: EN_UPLOAD, rights: EN_RIGHTS,
   faults: EN_FAULTS, warnings: EN_WARNINGS, access: EN_ACCESS, outcome: EN_OUTCOME,
-  advanced: EN_ADVANCED, ready: EN_READY,
+  advanced: EN_ADVANCED, ready: EN_READY, earlier: EN_EARLIER,
 };

@@ -2,6 +2,7 @@
 
 import { formsOf } from './forms.js';
 import { FR_ACCESS, FR_OUTCOME } from './fr_access.js';
+import { FR_EARLIER } from './fr_earlier.js';
 import { FR_FAULTS } from './fr_faults.js';
 import { FR_FIND, FR_FOLDER, FR_MOVING, FR_UPLOAD } from './fr_folder.js';
 import { FR_ADVANCED, FR_RIGHTS, FR_WARNINGS } from './fr_lists.js';
@@ -201,5 +202,5 @@ export const FR = {
   messages: MESSAGES, picker: PICKER, ask: ASK, changed: CHANGED, account: ACCOUNT,
   folder: FR_FOLDER, find: FR_FIND, moving: FR_MOVING, upload: FR_UPLOAD, rights: FR_RIGHTS,
   faults: FR_FAULTS, warnings: FR_WARNINGS, access: FR_ACCESS, outcome: FR_OUTCOME,
-  advanced: FR_ADVANCED, ready: FR_READY,
+  advanced: FR_ADVANCED, ready: FR_READY, earlier: FR_EARLIER,
 };

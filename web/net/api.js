@@ -65,7 +65,7 @@ const ask = (method, word, path, body) => (method === 'POST' && word === 'doc'
   ? askOnce(method, word, path, body) : untilAnswered(() => askOnce(method, word, path, body)));
 
 // Reads, and takes the reply in a form that fetch has. It may be cut off.
-const take = (form, word, path, query) => untilAnswered(async () => {
+export const take = (form, word, path, query) => untilAnswered(async () => {
   const reply = await askOnce('GET', word, path, undefined, query);
   return reply[form]().catch(() => { throw new Refusal(0, null, { method: 'GET', word, path }); });
 });

@@ -4,7 +4,7 @@ import { texts } from '../language/language.js';
 import { join, namesOf } from '../net/api.js';
 import { element, nameText } from './dom.js';
 
-export const VIEWS = ['show', 'access', 'rights', 'dacl', 'sacl'];
+export const VIEWS = ['show', 'access', 'rights', 'dacl', 'sacl', 'earlier'];
 
 export function linkTo(path, view = null) {
   const names = namesOf(path).map(encodeURIComponent).join('/');
@@ -19,11 +19,13 @@ function decoded(name) {
   }
 }
 
-// {path, view}; without a view the folder itself is shown, or a document by the view 'show'.
+// {path, view, night}; without a view the folder itself is shown, or a document by the view 'show'.
+// 'night' is the one of the view 'earlier', or null.
 export function whereIs(hash) {
-  const [place, view] = hash.replace(/^#/, '').split('?');
+  const [place, rest = ''] = hash.replace(/^#/, '').split('?');
+  const [view, night = null] = rest.split('=');
   const names = place.split('/').filter((name) => name !== '').map(decoded);
-  return { path: `/${names.join('/')}`, view: VIEWS.includes(view) ? view : null };
+  return { path: `/${names.join('/')}`, view: VIEWS.includes(view) ? view : null, night };
 }
 
 // The path as links, from the top down.

@@ -1,0 +1,208 @@
+"""The play of earlier nights: earlier.py FOLDER FRONT BROWSER [PORT]
+
+BROWSER is chromium or firefox, which listens at PORT; with 'none' the room shows no nights. bob
+works in /letters, which alice manages, and eve reads it. The second night has all of his folder
+tender; that day he has spoiled reply.txt."""
+
+import io
+import os
+import sys
+import urllib.request
+import zipfile
+
+sys.path.insert(0, os.path.dirname(os.path.realpath(__file__)))
+from browser import Browser, Checks  # noqa: E402
+
+ONE, TWO = '2026-11-01.030000', '2026-11-02.030000'
+
+
+class Nights:
+    def __init__(self, start, base):
+        self.base = base
+        self.bob = start('bob', 'b')
+        self.eve = start('eve', 'e')
+        self.alice = start('alice', 'a')
+
+    def read(self, path):
+        """By today's room, without the page."""
+        asked = urllib.request.Request(f'{self.base}/doc/{path}')
+        asked.add_header('Authorization', 'Basic Ym9iOmI=')
+        with urllib.request.urlopen(asked, timeout=30) as reply:
+            return reply.read().decode()
+
+    @staticmethod
+    def rows(user):
+        """{name: what is there now} of a night."""
+        return dict(user.script("""
+            return [...document.querySelectorAll('table.then tr[data-path]')].map((row) =>
+              [row.querySelector('.name').textContent, row.querySelector('.now').textContent]);"""))
+
+    def shows(self, user, wanted):
+        try:
+            user.until(lambda: self.rows(user) == wanted, 'the rows')
+        except Exception:
+            raise AssertionError(f'{self.rows(user)} and not {wanted}; '
+                                 f"{user.texts('main .empty, .notice')}") from None
+
+    @staticmethod
+    def chooses(user, night):
+        user.script("""
+            const choice = document.querySelector('select.night');
+            choice.value = arguments[0];
+            choice.dispatchEvent(new Event('change'));""", night)
+
+    def removed(self):
+        """The question says how it comes back."""
+        bob = self.bob
+        bob.open('#/letters')
+        bob.act('Remove', 'tender')
+        said = bob.until(lambda: ' '.join(bob.texts('dialog p')), 'the question')
+        assert 'whoever owned it, and whoever manages the folder, can get it back by “Earlier”' \
+            in said, said
+        assert '2 November 2026' in said and 'can’t be brought back' not in said, said
+        bob.press('Remove it', 'dialog')
+        bob.says('was removed')
+        bob.lists('kept.txt', 'new.txt', 'reply.txt')
+
+    def is_seen(self):
+        """What was there, and what is there now."""
+        bob = self.bob
+        bob.press('Earlier', 'main .bar')
+        self.shows(bob, {'kept.txt': 'still there', 'reply.txt': 'still there',
+                         'tender': 'not there any more', 'new.txt': 'came later'})
+        days = bob.script("return [...document.querySelectorAll('select.night optgroup')]"
+                          '.map((one) => one.label);')
+        assert [one.split(' ')[1] for one in days] == ['2', '1'], days
+        assert bob.unnamed() == [], bob.unnamed()
+
+    def is_not_seen(self):
+        """Who only reads sees neither it nor its name; who manages the folder does."""
+        self.eve.open('#/letters?earlier')
+        self.shows(self.eve, {'kept.txt': 'still there', 'reply.txt': 'still there',
+                              'new.txt': 'came later'})
+        self.eve.open('#/letters/tender?earlier')
+        self.eve.until(lambda: any('You can’t see this' in text
+                                   for text in self.eve.texts('main .empty')), 'the refusal')
+        self.alice.open('#/letters?earlier')
+        self.shows(self.alice, {'kept.txt': 'still there', 'reply.txt': 'still there',
+                                'tender': 'not there any more', 'new.txt': 'came later'})
+
+    def comes_back(self):
+        bob = self.bob
+        bob.press('Put tender back')
+        said = bob.until(lambda: ' '.join(bob.texts('dialog p')), 'the question')
+        for words in ('2 November 2026', '4 objects that are missing come back as yours',
+                      '1 object had an access list of its own, which doesn’t come back'):
+            assert words in said, said
+        bob.press('Put back', 'dialog')
+        bob.says('4 objects put back')
+        self.shows(bob, {'kept.txt': 'still there', 'reply.txt': 'still there',
+                         'tender': 'still there', 'new.txt': 'came later'})
+        assert self.read('letters/tender/offer.txt') == 'the better offer'
+        assert self.read('letters/tender/plans/roof.txt') == 'a flat roof'
+
+    def a_part_of_it(self):
+        """What was in a folder that is gone, by its own row."""
+        bob = self.bob
+        bob.open('#/letters')
+        bob.act('Remove', 'tender')
+        bob.press('Remove it', 'dialog')
+        bob.says('was removed')
+        bob.open(f'#/letters/tender/plans?earlier={TWO}')
+        self.shows(bob, {'roof.txt': 'not there any more'})
+        bob.press('Put roof.txt back')
+        bob.press('Put back', 'dialog')
+        # With the two folders above it.
+        bob.says('3 objects put back')
+        assert self.read('letters/tender/plans/roof.txt') == 'a flat roof'
+        bob.open('#/letters/tender?earlier')
+        self.shows(bob, {'offer.txt': 'not there any more', 'plans': 'still there'})
+        bob.press('Put back what is missing')
+        bob.press('Only what is missing', 'dialog')
+        bob.says('1 object put back')
+        assert self.read('letters/tender/offer.txt') == 'the better offer'
+
+    def replaced(self):
+        bob = self.bob
+        bob.open('#/letters')
+        bob.act('Earlier', 'reply.txt')
+        bob.says('There is another one now.', css='main [role=status]')
+        bob.press('Get reply.txt as it was')
+        assert bob.downloaded('reply.txt') == b'Dear Sirs'
+        bob.press('Put reply.txt back')
+        said = bob.until(lambda: ' '.join(bob.texts('dialog p')), 'the question')
+        assert '1 document is still there: replaced, what is in it now is lost' in said, said
+        bob.press('Replace what is there', 'dialog')
+        bob.says('1 object put back')
+        bob.says('It is the same now.', css='main [role=status]')
+        assert self.read('letters/reply.txt') == 'Dear Sirs'
+
+    def another_night(self):
+        bob = self.bob
+        bob.open('#/letters/tender?earlier')
+        bob.one('select.night')
+        self.chooses(bob, ONE)
+        bob.until(lambda: ONE in bob.script('return location.hash'), 'the address')
+        self.shows(bob, {'offer.txt': 'still there', 'plans': 'still there'})
+        bob.press('Get offer.txt as it was')
+        assert bob.downloaded('offer.txt') == b'the first offer'
+        bob.press('Get all of it')
+        with zipfile.ZipFile(io.BytesIO(bob.downloaded(f'tender {ONE}.zip'))) as made:
+            assert made.read('offer.txt') == b'the first offer', made.namelist()
+            assert sorted(made.namelist()) == ['offer.txt', 'plans/', 'plans/roof.txt']
+        bob.press('Back to now')
+        bob.lists('plans', 'offer.txt')
+
+    def quiet(self):
+        for user in (self.bob, self.eve, self.alice):
+            assert user.errors() == [], user.errors()
+
+
+def without(bob):
+    """A room that shows no nights offers none."""
+    bob.open('#/letters')
+    assert not bob.script("return [...document.querySelectorAll('main .bar a')].some((one) =>"
+                          " one.checkVisibility() && one.innerText.trim() === 'Earlier')")
+    bob.press('Actions: kept.txt')
+    assert 'Earlier' not in bob.texts('.menu > *'), bob.texts('.menu > *')
+    bob.press('Remove', '.menu')
+    assert 'can’t be brought back' in ' '.join(bob.until(lambda: bob.texts('dialog p'), 'words'))
+    bob.press('Cancel', 'dialog')
+    bob.open('#/letters?earlier')
+    bob.until(lambda: any('shows no earlier nights' in one for one in bob.texts('main .empty')),
+              'that there are none')
+
+
+def main():
+    folder, front, browser, *port = sys.argv[1:]
+    made = []
+    base = f'http://127.0.0.1:{front}'
+
+    def start(user, password):
+        place = f'{folder}/{browser}-{user}'
+        if browser == 'firefox':
+            from firefox import Firefox
+            made.append(Firefox(place, base, user, password, int(port[0]) + len(made)))
+        else:
+            made.append(Browser(place, base, user, password))
+        return made[-1]
+    checks = Checks()
+    try:
+        if browser == 'none':
+            checks.step('without nights', lambda: without(start('bob', 'b')))
+        else:
+            play = Nights(start, base)
+            for name, act in (
+                    ('a folder is removed', play.removed), ('what was there', play.is_seen),
+                    ('who sees it', play.is_not_seen), ('it comes back', play.comes_back),
+                    ('a part of it', play.a_part_of_it),
+                    ('what was replaced', play.replaced), ('another night', play.another_night),
+                    ('no fault in the console', play.quiet)):
+                checks.step(f'{browser}: {name}', act)
+    finally:
+        for one in made:
+            one.quit()
+    print('end', flush=True)
+
+
+main()

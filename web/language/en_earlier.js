@@ -1,0 +1,100 @@
+// What was there on an earlier night, and how it comes back, in English.
+
+import { formsOf } from './forms.js';
+
+const LOCALE = 'en-GB';
+const { count, and } = formsOf(LOCALE, 'and', 'or');
+const objects = (many) => count(many, 'object', 'objects');
+
+const moment = (time) =>
+  time.toLocaleString(LOCALE, { dateStyle: 'long', timeStyle: 'short' });
+
+export const EN_EARLIER = {
+  earlier: 'Earlier',
+  titleOf: (name) => [name, ' – earlier'],
+  which: 'Which night',
+  dayOf: (time) => time.toLocaleString(LOCALE, { dateStyle: 'full' }),
+  timeOf: (time) => time.toLocaleString(LOCALE, { timeStyle: 'short' }),
+  timeOnDay: (at, day) => `${at}, ${day}`,
+  backToNow: 'Back to now',
+  hint: 'You see what you could see that night and may see now. What was made and removed between '
+    + 'two nights is in none.',
+  get: 'Get',
+  getOf: (name) => `Get ${name} as it was`,
+  getAll: 'Get all of it',
+  putBack: 'Put back',
+  putBackOf: (name) => `Put ${name} back`,
+  putBackMissing: 'Put back what is missing',
+  headings: ['Name', 'Kind', 'Now', 'What can be done'],
+  caption: 'What was in this folder that night, and what is there now.',
+  // What is there now of a row.
+  still: 'still there',
+  anotherKind: 'something else has this name',
+  goneNow: 'not there any more',
+  cameLater: 'came later',
+  unknownNow: 'what is there now isn’t shown to you',
+  // And of a document.
+  same: 'It is the same now.',
+  changed: 'There is another one now.',
+  gone: 'It isn’t there any more.',
+  unknown: 'What is there now isn’t shown to you.',
+  empty: 'Nothing was in this folder that night that you can see now.',
+  noNights: 'No night is kept yet. The first one comes with the next backup.',
+  notShown: 'This can’t be shown as it was.',
+  notThere: 'It wasn’t there that night.',
+  notOpen: 'You couldn’t see it that night.',
+  why: {
+    now: 'You can’t see this: it isn’t open to you now; or it is gone, was not yours, and you '
+      + 'don’t manage the folder where it was.',
+    'no-night': 'This night isn’t kept any more. Choose another one.',
+    'no-earlier': 'This room shows no earlier nights. Ask the administrator for what is lost.',
+    busy: 'Others look at earlier nights too, and no more can be open. Try again in a minute.',
+    large: 'This room is too large for its nights to be shown. Ask the administrator.',
+    damaged: 'The backup of this night can’t be read. Choose another one, and tell the '
+      + 'administrator.',
+    away: 'Earlier nights can’t be shown at the moment. Try again in a minute; if that doesn’t '
+      + 'help, tell the administrator.',
+    'too-many-requests': 'You have asked for too much at once. Wait a moment, and try again.',
+  },
+  // Before something comes back.
+  question: (name) => `Put ${name} back?`,
+  asOf: (time) => `As of ${moment(time)}:`,
+  missing: (many) => (many === 1
+    ? '1 object that is missing comes back as yours, and follows the access list of its folder.'
+    : `${objects(many)} that are missing come back as yours, and follow the access list of their `
+      + 'folder.'),
+  there: (many) => (many === 1
+    ? '1 document is still there: replaced, what is in it now is lost, and its access stays.'
+    : `${count(many, 'document', 'documents')} are still there: replaced, what is in them now is `
+      + 'lost, and their access stays.'),
+  closed: (many) => (many === 1
+    ? '1 object had an access list of its own, which doesn’t come back: everybody who may read the '
+      + 'folder will read it.'
+    : `${objects(many)} had access lists of their own, which don’t come back: everybody who may `
+      + 'read the folder will read them.'),
+  perhapsClosed: (many) => (many === 1
+    ? '1 object may have had an access list of its own, which you can’t see and which doesn’t come '
+      + 'back: everybody who may read the folder will read it.'
+    : `${objects(many)} may have had access lists of their own, which you can’t see and which `
+      + 'don’t come back: everybody who may read the folder will read them.'),
+  onlyMissing: 'Only what is missing',
+  allOfIt: 'All, and replace what is there',
+  replace: 'Replace what is there',
+  nothingMissing: 'Nothing is missing: all of it is still there.',
+  putting: (name) => `Put ${name} back`,
+  putSomeOf: (done, whole) => `${done} of ${objects(whole)} put back`,
+  isBack: (many, place) => `${objects(many)} put back in ${place}.`,
+  notBack: (many) => `Not put back: ${objects(many)}.`,
+  leftOut: (places) => `Left out, since you may not see all of it: ${and(places)}.`,
+  // Before something is removed, in the place of what texts.folder says where nothing comes back.
+  goneOne: (name) => `${name} will be gone for everybody.`,
+  goneOneWith: (name, amount) =>
+    `${name} and what is in it, ${amount}, will be gone for everybody.`,
+  goneSeveral: (amount) => `${amount} will be gone for everybody.`,
+  goneSeveralWith: (amount, inside) =>
+    `${amount} and what is in them, ${inside}, will be gone for everybody.`,
+  backByOwners: (time) => `As it was on ${moment(time)}, whoever owned it, and whoever manages the `
+    + 'folder, can get it back by “Earlier”; what came later is lost.',
+  backByMembers: (time) => `As it was on ${moment(time)}, whoever may add to the folder can get it `
+    + 'back by “Earlier”; what came later is lost.',
+};

@@ -1,0 +1,101 @@
+// What was there on an earlier night, and how it comes back, in French.
+
+import { formsOf } from './forms.js';
+
+const LOCALE = 'fr';
+const { count, and } = formsOf(LOCALE, 'et', 'ou');
+const objects = (many) => count(many, 'objet', 'objets');
+
+const moment = (time) =>
+  time.toLocaleString(LOCALE, { dateStyle: 'long', timeStyle: 'short' });
+
+export const FR_EARLIER = {
+  earlier: 'Avant',
+  titleOf: (name) => [name, ' – avant'],
+  which: 'Quelle nuit',
+  dayOf: (time) => time.toLocaleString(LOCALE, { dateStyle: 'full' }),
+  timeOf: (time) => time.toLocaleString(LOCALE, { timeStyle: 'short' }),
+  timeOnDay: (at, day) => `${at}, ${day}`,
+  backToNow: 'Retour à maintenant',
+  hint: 'Vous voyez ce que vous pouviez voir cette nuit-là et pouvez voir maintenant. Ce qui a été '
+    + 'créé et supprimé entre deux nuits n’est dans aucune.',
+  get: 'Récupérer',
+  getOf: (name) => `Récupérer ${name} tel quel`,
+  getAll: 'Tout récupérer',
+  putBack: 'Remettre',
+  putBackOf: (name) => `Remettre ${name}`,
+  putBackMissing: 'Remettre ce qui manque',
+  headings: ['Nom', 'Type', 'Maintenant', 'Ce qu’on peut faire'],
+  caption: 'Ce qui était dans ce dossier cette nuit-là, et ce qui y est maintenant.',
+  still: 'toujours là',
+  anotherKind: 'autre chose a ce nom',
+  goneNow: 'n’est plus là',
+  cameLater: 'venu plus tard',
+  unknownNow: 'ce qui est là maintenant ne vous est pas montré',
+  same: 'C’est le même maintenant.',
+  changed: 'Il y en a un autre maintenant.',
+  gone: 'Il n’est plus là.',
+  unknown: 'Ce qui est là maintenant ne vous est pas montré.',
+  empty: 'Rien de ce que vous pouvez voir maintenant n’était dans ce dossier cette nuit-là.',
+  noNights: 'Aucune nuit n’est encore conservée. La première vient avec la prochaine sauvegarde.',
+  notShown: 'Ceci ne peut pas être montré tel quel.',
+  notThere: 'Il n’était pas là cette nuit-là.',
+  notOpen: 'Vous ne pouviez pas le voir cette nuit-là.',
+  why: {
+    now: 'Vous ne pouvez pas le voir : il ne vous est pas ouvert maintenant ; ou il a disparu, '
+      + 'n’était pas à vous, et vous ne gérez pas le dossier où il était.',
+    'no-night': 'Cette nuit n’est plus conservée. Choisissez-en une autre.',
+    'no-earlier': 'Cette salle ne montre pas de nuits passées. Demandez à l’administrateur ce qui '
+      + 'est perdu.',
+    busy: 'D’autres regardent aussi des nuits passées, et il ne peut pas y en avoir plus. '
+      + 'Réessayez dans une minute.',
+    large: 'Cette salle est trop grande pour que ses nuits soient montrées. Demandez à '
+      + 'l’administrateur.',
+    damaged: 'La sauvegarde de cette nuit est illisible. Choisissez-en une autre, et dites-le à '
+      + 'l’administrateur.',
+    away: 'Les nuits passées ne peuvent pas être montrées en ce moment. Réessayez dans une minute '
+      + '; si cela n’aide pas, dites-le à l’administrateur.',
+    'too-many-requests': 'Vous avez trop demandé à la fois. Attendez un instant, et réessayez.',
+  },
+  question: (name) => `Remettre ${name} ?`,
+  asOf: (time) => `État du ${moment(time)} :`,
+  missing: (many) => (many === 1
+    ? '1 objet qui manque revient comme le vôtre, et suit la liste d’accès de son dossier.'
+    : `${objects(many)} qui manquent reviennent comme les vôtres, et suivent la liste d’accès de `
+      + 'leur dossier.'),
+  there: (many) => (many === 1
+    ? '1 document est toujours là : s’il est remplacé, son contenu actuel est perdu, et son accès '
+      + 'reste.'
+    : `${count(many, 'document', 'documents')} sont toujours là : s’ils sont remplacés, leur `
+      + 'contenu actuel est perdu, et leur accès reste.'),
+  closed: (many) => (many === 1
+    ? '1 objet avait sa propre liste d’accès, qui ne revient pas : tous ceux qui peuvent lire le '
+      + 'dossier le liront.'
+    : `${objects(many)} avaient leurs propres listes d’accès, qui ne reviennent pas : tous ceux `
+      + 'qui peuvent lire le dossier les liront.'),
+  perhapsClosed: (many) => (many === 1
+    ? '1 objet avait peut-être sa propre liste d’accès, que vous ne voyez pas et qui ne revient '
+      + 'pas : tous ceux qui peuvent lire le dossier le liront.'
+    : `${objects(many)} avaient peut-être leurs propres listes d’accès, que vous ne voyez pas et `
+      + 'qui ne reviennent pas : tous ceux qui peuvent lire le dossier les liront.'),
+  onlyMissing: 'Seulement ce qui manque',
+  allOfIt: 'Tout, et remplacer ce qui est là',
+  replace: 'Remplacer ce qui est là',
+  nothingMissing: 'Rien ne manque : tout est toujours là.',
+  putting: (name) => `Remettre ${name}`,
+  putSomeOf: (done, whole) => `${done} sur ${objects(whole)} remis`,
+  isBack: (many, place) => `${objects(many)} remis dans ${place}.`,
+  notBack: (many) => `Non remis : ${objects(many)}.`,
+  leftOut: (places) => `Omis, car vous ne pouvez pas tout y voir : ${and(places)}.`,
+  goneOne: (name) => `${name} disparaîtra pour tout le monde.`,
+  goneOneWith: (name, amount) =>
+    `${name} et son contenu, ${amount}, disparaîtront pour tout le monde.`,
+  goneSeveral: (amount) => `${amount} disparaîtront pour tout le monde.`,
+  goneSeveralWith: (amount, inside) =>
+    `${amount} et leur contenu, ${inside}, disparaîtront pour tout le monde.`,
+  backByOwners: (time) => `Tel que c’était le ${moment(time)}, le propriétaire et les `
+    + 'gestionnaires du dossier peuvent le récupérer par « Avant » ; ce qui est venu plus tard est '
+    + 'perdu.',
+  backByMembers: (time) => `Tel que c’était le ${moment(time)}, ceux qui peuvent ajouter au `
+    + 'dossier peuvent le récupérer par « Avant » ; ce qui est venu plus tard est perdu.',
+};
