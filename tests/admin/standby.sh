@@ -106,6 +106,102 @@ holds 'which has the last document' has_document backups/conf/standby f
 holds 'nobody else may read it' [ -z "$(find backups/conf/* -perm /077)" ]
 holds 'nothing is owed' [ -z "$(ls run)" ]
 
+# Hourly copies: HOURS=0 keeps none, and otherwise as many as it says, one an hour.
+hours() { (cd backups/conf/hours && ls); }
+hour() { hours | sed -n "$1p"; }
+earlier() { # FOLDER SECONDS: as if it had been made so long before
+  mv "backups/conf/hours/$1" "backups/conf/hours/$(date -d "$2 seconds ago" +%F.%H%M%S)"
+}
+set_value HOURS 2
+stands
+says 'the first hourly copy' 0 'hourly copies of rooms begin: 2 of them take'
+holds 'is there' [ "$(hours | wc -l)" = 1 ]
+holds 'and is whole' has_document "backups/conf/hours/$(hour 1)" f
+holds 'for root alone' [ -z "$(find backups/conf/hours -perm /077)" ]
+stands
+holds 'no other one within the hour' [ "$(hours | wc -l)" = 1 ]
+put within-the-hour
+earlier "$(hour 1)" 8000
+stands
+holds 'after an hour another one' [ "$(hours | wc -l)" = 2 ]
+holds 'of now' has_document "backups/conf/hours/$(hour 2)" within-the-hour
+holds 'by their numbers' [ "$(cat backups/conf/hours/*/run | tr '\n' ' ')" = 'number 1 number 2 ' ]
+earlier "$(hour 2)" 4000
+stands
+holds 'the oldest goes' \
+  [ "$(cat backups/conf/hours/*/run | tr '\n' ' ')" = 'number 2 number 3 ' ]
+# A clock that was set back: the last one is of a time to come.
+earlier "$(hour 2)" -8000
+stands
+holds 'one of a time to come hinders no other one' \
+  [ "$(cat backups/conf/hours/*/run | tr '\n' ' ')" = 'number 4 number 3 ' ]
+rm -r "backups/conf/hours/$(hour 2)"
+mkdir backups/conf/hours/2001-01-01.000000.part
+stands
+holds 'what was cut off goes' is_missing backups/conf/hours/2001-01-01.000000.part
+# Backups, and what tidies them, know nothing of them.
+verb backup "$PWD/conf"
+verb latest --room "$PWD/conf"
+holds 'the newest backup is one of a night' grep -qx "$PWD/backups/conf/20[^/]*" "$work/out"
+verb backups --room "$PWD/conf"
+holds 'all of them are listed' \
+  [ "$(grep -c "/backups/conf/hours/20[^/]*  hourly$" "$work/out")" = "$(hours | wc -l)" ]
+before=$(hours)
+set_value KEEP 1
+for turn in 1 2; do
+  verb backup "$PWD/conf"
+  sleep 1
+done
+holds 'one night is kept' [ "$(cd backups/conf && ls -d 20* | wc -l)" = 1 ]
+holds 'and each hourly copy' [ "$(hours)" = "$before" ]
+set_value KEEP 0
+rm -r backups/conf/20*
+# One of them can be taken by its name.
+put after-the-hour
+unit stop
+verb restore --room "$PWD/conf" "$(hour 1)"
+says 'it is restored' 0 "restored $PWD/office/F"
+unit start
+holds 'without what came later' eval '! has_document office after-the-hour'
+verb get --room "$PWD/conf" "$(hour 1)" /f
+holds 'a document of it' [ "$(cat "$work/out")" = hello ]
+rm -rf office/before-restore*
+# What isn't as a run leaves it keeps the others.
+earlier "$(hour 1)" 3700
+mkdir backups/conf/hours/2001-01-01.000000
+: >backups/conf/hours/2001-01-01.000000/F
+chown 64126 backups/conf/hours/2001-01-01.000000
+before=$(hours | wc -l)
+stands
+says 'something else is told' 1 'no older hourly copy is removed: '
+holds 'and none goes' [ "$(hours | wc -l)" = $((before + 1)) ]
+has_document backups/conf/standby f
+holds 'the copy for the standby is there even so' [ "$?" = 0 ]
+rm -r backups/conf/hours/2001-01-01.000000
+for line in HOURS=-1 HOURS=x HOURS=1000 HOURS=; do
+  cp conf kept
+  echo "$line" >>conf
+  stands
+  says "settings with $line" 2 'bad settings: HOURS'
+  cp kept conf
+done
+if mkdir tiny && mount -t tmpfs -o size=100m,mode=700 none tiny 2>/dev/null; then
+  set_value BACKUPS "$PWD/tiny"
+  stands
+  says 'a disk with no space for more' 1 'no hourly copy: the disk of '
+  holds 'has the copy for the standby' has_document tiny/conf/standby f
+  holds 'and no other' [ -z "$(ls tiny/conf/hours)" ]
+  umount tiny
+  set_value BACKUPS "$PWD/backups"
+else
+  skip 'hourly copies on a full disk' 'no leave to mount'
+fi
+set_value HOURS 0
+rm -rf backups/conf/hours
+new_office
+put f
+stands
+
 # What happens to the server while it is copied: it is copied once more.
 # The files are read by setpriv, where the room belongs to another user.
 reader=cat

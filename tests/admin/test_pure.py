@@ -160,7 +160,7 @@ class Lists(unittest.TestCase):
                "LIMIT": "0", "STANDBY": "x", "MAIL": "-x", "REVIEW": "/x/", "REVIEWER": "a b",
                "UNIT": "-x", "PROGRAM": "x", "PASSWORDS": "none", "HOST": "a b", "BEHIND": "no",
                "SOCKET": "no", "DOOR": "no", "DRIVE": "no", "PEOPLE": "all", "OWN_PASSWORDS": "",
-               "EARLIER": "yes", "EARLIER_FROM": "2026-11"}
+               "EARLIER": "yes", "EARLIER_FROM": "2026-11", "HOURS": "1000"}
         self.assertEqual({*bad, "TITLE"}, set(settings.known(settings.Room)))
         with tempfile.TemporaryDirectory() as at:
             place = os.path.join(at, "room.conf")

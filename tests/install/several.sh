@@ -162,7 +162,7 @@ sed -i 's#^BACKUPS=.*#BACKUPS=/var/backups/rooms#' machine/etc/rooms/office.conf
 for room in office invoices hr; do
   grep -vE '^(#|$)' "machine/etc/rooms/$room.conf" | sed 's/=.*//' | tr '\n' ' ' >got
   echo FILE SOCKET PORT DOOR DRIVE TITLE HOST BEHIND PASSWORDS OWN_PASSWORDS BACKUPS KEEP \
-    EARLIER EARLIER_FROM MEMORY LIMIT STANDBY MAIL REVIEW REVIEWER PEOPLE UNIT PROGRAM |
+    EARLIER EARLIER_FROM MEMORY LIMIT STANDBY HOURS MAIL REVIEW REVIEWER PEOPLE UNIT PROGRAM |
     tr '\n' ' ' >wanted
   same "the settings of $room" got wanted
 done

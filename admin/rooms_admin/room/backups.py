@@ -7,6 +7,7 @@ the name of one is told, and as long as it is there no backup is removed."""
 import errno
 import os
 import re
+from collections.abc import Iterable
 from dataclasses import dataclass, field
 
 from ..host import safe, waiting
@@ -124,9 +125,12 @@ def _look_at(above: str, name: str, file: str, found: Found) -> None:
 
 def dated(backups: str, name: str, file: str) -> Found:
     """Those of the room of this name that have this file, below BACKUPS of its settings."""
+    return _in(dict.fromkeys((backups.rstrip("/") or "/", below(backups, name))), file)
+
+
+def _in(folders: Iterable[str], file: str) -> Found:
     found = Found([], [])
-    own = below(backups, name)
-    for above in dict.fromkeys((backups.rstrip("/") or "/", own)):
+    for above in folders:
         try:
             names = os.listdir(above)
         except FileNotFoundError:
@@ -141,10 +145,21 @@ def dated(backups: str, name: str, file: str) -> Found:
     return found
 
 
+def hours_below(backups: str, name: str) -> str:
+    """Where standby keeps hourly copies (HOURS): nothing that tidies backups looks there."""
+    return os.path.join(below(backups, name), "hours")
+
+
+def hourly(backups: str, name: str, file: str) -> Found:
+    """Those copies, from the oldest to the newest, by the number that each was given."""
+    return _in([hours_below(backups, name)], file)
+
+
 def of_night(backups: str, name: str, night: str, file: str) -> str:
-    """The folder of one backup of the room of this name, or nothing."""
+    """The folder of one backup or hourly copy of the room of this name, or nothing."""
     found = Found([], [])
-    for above in dict.fromkeys((below(backups, name), backups.rstrip("/") or "/")):
+    for above in dict.fromkeys((below(backups, name), backups.rstrip("/") or "/",
+                                hours_below(backups, name))):
         if DATED.fullmatch(night):
             _look_at(above, night, file, found)
     return found.backups[0].place if found.backups else ""
@@ -202,7 +217,8 @@ def find(room: Room, backup: str) -> str:
             raise Refused(f"no backup: {room.backups} has none of this room")
         return found[-1].place
     places = [backup] if "/" in backup else [
-        os.path.join(above, backup) for above in (folder(room), room.backups)]
+        os.path.join(above, backup) for above in (
+            folder(room), room.backups, hours_below(room.backups, name_of(room.conf)))]
 
     def asked() -> object:
         there = [one for one in places if os.path.isdir(one)]

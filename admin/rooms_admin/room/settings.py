@@ -172,6 +172,7 @@ class Room(Kept):
     people: str = setting("PEOPLE", r"full|names|no", "full, names or no", "names")
     review: str = setting("REVIEW", _is_folder_of_room, "a folder of the room")
     reviewer: str = setting("REVIEWER", lambda text: not text or is_user(text), "a user's name")
+    hours: int = setting("HOURS", r"0|[1-9][0-9]{0,2}", "a number of copies, 0 to 999", "0", int)
 
     def __post_init__(self) -> None:
         self.folder, self.base = os.path.split(self.file)

@@ -1,8 +1,9 @@
 """Prints the room's backups, from the oldest to the newest: the number of the run, how many MB
-the room's two files take, the folder, and what is missing beside them. What has the name of a
-backup and is none, or can't be read, is told.
+the room's two files take, the folder, and what is missing beside them. Hourly copies, if standby
+keeps any, come after them. What has the name of a backup and is none, or can't be read, is told.
 
-With --json it is a list of objects with the names 'number', 'bytes', 'folder' and 'without'."""
+With --json it is a list of objects with the names 'number', 'bytes', 'folder' and 'without'; an
+hourly copy has 'hourly' besides."""
 import argparse
 import os
 
@@ -25,8 +26,11 @@ def run(given: argparse.Namespace) -> int:
     def asked() -> object:
         found = backups.look(room)
         jumps = backups.jump(found)
-        return [[_row(one, room.base) for one in found.backups],
-                [*found.wrong, *([jumps] if jumps else [])]]
+        hourly = backups.hourly(room.backups, backups.name_of(room.conf), room.base)
+        return [[*(_row(one, room.base) for one in found.backups),
+                 *({**_row(one, room.base), "without": [], "hourly": True}
+                   for one in hourly.backups)],
+                [*found.wrong, *hourly.wrong, *([jumps] if jumps else [])]]
     got = waiting.answer(waiting.PATIENCE, asked, room.backups)
     if not isinstance(got, list):
         raise Stop(f"not read: {room.backups}: the look failed")
@@ -34,7 +38,9 @@ def run(given: argparse.Namespace) -> int:
         report.put_rows(got[0])
     for one in got[0] if not given.json else []:
         lacks = f"  without {', '.join(one['without'])}" if one["without"] else ""
-        print(f"{one['number']:6} {one['bytes'] + 0xfffff >> 20:6} MB  {one['folder']}{lacks}")
+        kind = "  hourly" if "hourly" in one else ""
+        size = one["bytes"] + 0xfffff >> 20
+        print(f"{one['number']:6} {size:6} MB  {one['folder']}{kind}{lacks}")
     for text in got[1]:
         say(text)
     return 1 if got[1] else 0

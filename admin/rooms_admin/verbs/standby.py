@@ -1,7 +1,8 @@
 """Copies a room while it is served, for another machine that can take over; a timer runs it every
 five minutes. The server is held for the copy, as by the nightly run. The copy is verified, which
 also puts its log into its file: one file is the whole copy. It takes the place of the last one in
-BACKUPS/NAME/standby, and STANDBY gets it by rsync when it is whole."""
+BACKUPS/NAME/standby, and STANDBY gets it by rsync when it is whole. With HOURS in the settings one
+copy each hour stays in BACKUPS/NAME/hours, and as many as HOURS says."""
 import argparse
 import os
 import shutil
@@ -10,6 +11,7 @@ from contextlib import ExitStack
 from ..cli import report, words
 from ..host import commands, locks, safe
 from ..room import backups, copying, private_server, program, server, settings
+from . import hours
 from ..cli.report import Refused, Stop, say
 from ..room.settings import Room
 
@@ -125,17 +127,24 @@ def run(given: argparse.Namespace) -> int:
             # What a killed run has left.
             mark.let_go()
             shutil.rmtree(part, ignore_errors=True)
+            hours.remove_left(room)
             if not given.after:
                 own = owned.enter_context(private_server.own_folder(room))
                 copied = copy(room, mark, own)
                 if copied is not None:
                     keep(room, copied, own, part)
                     _remove_former(room)
-                    send(room)
+                    try:
+                        send(room)
+                    finally:
+                        # Whether or not the other machine has it.
+                        if room.hours:
+                            hours.keep(room, os.path.join(backups.folder(room), "standby"))
         finally:
             report.ignore_signals()
             mark.let_go()
             shutil.rmtree(part, ignore_errors=True)
+            hours.remove_left(room)
             if os.path.exists(mark.place):
                 os.unlink(mark.place)
     return 0

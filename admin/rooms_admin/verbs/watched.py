@@ -16,7 +16,7 @@ from ..host import waiting
 from ..host.commands import printed
 from ..room import backups, health, machine, server, settings
 from ..site import apache, legacy, template
-from . import await_server
+from . import await_server, hours
 from ..cli.report import Refused, Stop
 from ..room.settings import Room
 from ..room.size import NoRoom, Used
@@ -215,6 +215,24 @@ def see_backups(room: Room) -> list[Finding]:
     return [*found, (level, f"last good backup {age} h ago")]
 
 
+def see_hours(room: Room) -> list[Finding]:
+    """Hourly copies: whether they come, and whether the disk has space for all that may be."""
+    if not room.hours:
+        return []
+    seen = hours.found(room)
+    said = [(CRITICAL, one) for one in seen.wrong]
+    disk = os.statvfs(room.backups)
+    free, wanted = disk.f_bavail * disk.f_frsize, hours.wants(room, seen.backups)
+    if free < wanted:
+        said.append((WARNING, f"{room.hours} hourly copies want {wanted >> 20} MB more, and the "
+                     f"disk of backups has {free >> 20} MB free"))
+    timer = f"rooms-standby@{room.name}.timer"
+    if not seen.backups:
+        return [*said, (WARNING, f"no hourly copy: systemctl enable --now {timer}")]
+    age = int(time.time() - hours.moment(seen.backups[-1].name)) // HOUR
+    return [*said, (WARNING if age >= 3 else OK, f"last hourly copy {age} h ago")]
+
+
 def _dated(name: str) -> float:
     """By its name, which is local time: the hour that an autumn night has twice isn't known."""
     return time.mktime(time.strptime(name, "%Y-%m-%d.%H%M%S")) - HOUR
@@ -365,4 +383,4 @@ def of_room(conf: str) -> list[Finding]:
     return [*(found for look in looks
               for found in within(PATIENCE, lambda: look(room), f"{room.unit} or nginx")),
             *within(20, lambda: see_disk(room), f"{room.folder}"),
-            *within(20, lambda: see_backups(room), f"{room.backups}")]
+            *within(20, lambda: [*see_backups(room), *see_hours(room)], f"{room.backups}")]

@@ -49,13 +49,14 @@ def moment(night: str) -> int | None:
 
 
 def all_of(room: Nights) -> list[Night]:
-    """From the newest to the oldest, by the number that each run gave."""
-    found = []
-    for one in reversed(backups.dated(room.backups, room.name, room.base).backups):
-        at = moment(one.name)
-        if at is not None and one.name >= room.first:
-            found.append(Night(one.name, at, one.place))
-    return found
+    """From the newest to the oldest, hourly copies among them."""
+    found = {}
+    for kept in (backups.hourly, backups.dated):
+        for one in kept(room.backups, room.name, room.base).backups:
+            at = moment(one.name)
+            if at is not None and one.name >= room.first:
+                found[one.name] = Night(one.name, at, one.place)
+    return sorted(found.values(), key=lambda one: one.at, reverse=True)
 
 
 def place_of(room: Nights, night: str) -> str:
