@@ -362,6 +362,14 @@ class Bounded(Over):
             self.room.lists["f", "g"] = "list:a\nA::bob:r\n" * 3
             self.assertEqual(self.told("/door/below/f"), (413, {"why": "too-many"}))
 
+    def test_one_list_of_many(self) -> None:
+        self.room.make(f__g__c=b"", f__g__d=b"")
+        with mock.patch.object(below, "MOST_BYTES", 200):
+            for name in ("a", "b", "c", "d"):
+                self.assertEqual(self.told("/door/below/f")[0], 200)
+                self.room.lists["f", "g", name] = "list:p\nA::" + "b" * 50 + ":r\n"
+            self.assertEqual(self.told("/door/below/f"), (413, {"why": "too-many"}))
+
     def test_a_listing(self) -> None:
         with mock.patch.object(room, "MOST_ANSWERED", 400):
             self.assertEqual(self.told("/door/below/f"), (413, {"why": "too-many"}))

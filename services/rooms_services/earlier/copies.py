@@ -4,7 +4,6 @@ for a while, when another one needs its place, or when its backup is gone."""
 import itertools
 import os
 import select
-import shutil
 import threading
 import time
 from collections.abc import Callable
@@ -66,7 +65,7 @@ class Copy:
                 pass
         for one in (self.folder, os.path.dirname(self.place)):
             if one:
-                shutil.rmtree(one, ignore_errors=True)
+                safe.remove_folder(one)
 
 
 def _before(megabytes: int) -> Callable[[], None]:

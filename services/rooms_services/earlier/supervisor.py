@@ -7,7 +7,6 @@ that doesn't answer, gets 'ended'. Or it gets 'none', 'busy', 'large', 'damaged'
 import os
 import pwd
 import re
-import shutil
 import signal
 import socket
 import struct
@@ -118,7 +117,7 @@ def _remove_left() -> None:
     for folder in (COPIES, OPEN):
         with safe.opened(safe.own_folder(folder)) as at:
             for one in os.listdir(at):
-                shutil.rmtree(os.path.join(folder, one), ignore_errors=True)
+                safe.remove_folder(os.path.join(folder, one))
 
 
 def run() -> int:

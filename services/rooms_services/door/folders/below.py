@@ -13,7 +13,7 @@ Rest = tuple[str, str, int, str | None, str | None]
 _OWNERS = ("OWNER@", "GROUP@")
 
 
-# Of different lists.
+# Of different lists, and of all that are answered: one text may be that of many objects.
 MOST_BYTES = 16_777_216
 
 
@@ -127,6 +127,7 @@ class Below:
         rest: Counter[Rest] = Counter()
         unread: Counter[tuple[str, str]] = Counter()
         found = []
+        size = 0
         # (each stands behind the folder that it is in)
         for node in self.nodes:
             kind = "folder" if node.is_folder else "document"
@@ -141,6 +142,9 @@ class Below:
                 unread[node.above.path if node.above else "/", kind] += 1
             else:
                 text = None if node.list is None else node.list.decode()
+                size += len(text or "")
+                if size > MOST_BYTES:
+                    raise too_many()
                 found.append({"group": node.group, "kind": kind, "list": text,
                               "owner": node.owner, "path": node.path})
         return {"at": top.path, "list": None if top.list is None else top.list.decode(),
