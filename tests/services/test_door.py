@@ -309,7 +309,8 @@ class Hostile(Over):
 
     def test_other_sites(self) -> None:
         for fields in ({"Sec_Fetch_Site": "cross-site"}, {"Sec_Fetch_Site": "same-site"},
-                       {"Origin": "https://evil.example"}, {"Origin": "null"}):
+                       {"Origin": "https://evil.example"}, {"Origin": "null"},
+                       {"Origin": "http://["}):
             self.assertEqual(self.told("/door/below/", Host="rooms.example", **fields),
                              (403, {"why": "another-site"}), fields)
         self.assertEqual(self.room.seen, [])

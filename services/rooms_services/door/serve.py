@@ -69,8 +69,12 @@ class Handler(http.server.BaseHTTPRequestHandler):
         """A browser sends a saved password with what a page of another site causes. Nobody there
         has a reason to ask here, not even to read: it costs work, and may leave a record."""
         site, origin = self._field("Sec-Fetch-Site"), self._field("Origin")
-        if site not in ("", "same-origin", "none") or origin and urlsplit(
-                origin).netloc.lower() != self._field("Host").lower():
+        try:
+            from_here = not origin or urlsplit(origin).netloc.lower() == self._field("Host").lower()
+        except ValueError:
+            # Such as http://[, which is no address.
+            from_here = False
+        if site not in ("", "same-origin", "none") or not from_here:
             raise Stop(403, "another-site", "a page of another site may not ask here")
 
     def _length(self) -> int:
