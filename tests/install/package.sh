@@ -247,7 +247,7 @@ does 'the page' 'curl -s -u alice:typed http://127.0.0.1/'
 same 'is served' "$work/out" files/usr/share/rooms/page/index.html
 
 # A second room, by the blocks of machines.md.
-does 'a second room' "$(block docs/machines.md 'invoices carol accounting')"
+does 'a second room' "$(block docs/machines.md "year' invoices carol accounting")"
 holds 'it is made' \
   grep -q '^room /var/lib/rooms/invoices.rooms, of carol and accounting$' "$work/out"
 does 'and where it is' 'systemctl is-active rooms@invoices

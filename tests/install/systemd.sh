@@ -37,8 +37,8 @@ does 'a backup, and a key' 'systemctl start rooms-nightly@office
 does 'who reads what' 'for user in nobody www-data rooms rooms-passwords rooms-mail rooms-door \
   rooms-backup rooms-night rooms-earlier; do
   for file in /var/lib/rooms/office.rooms /var/backups/rooms/office/2*/office.rooms \
-    /var/backups/rooms/office/2*/machine.tar /etc/nginx/rooms.htpasswd /etc/rooms/passwords.key \
-    /var/lib/rooms-web/office/people.json /etc/shadow; do
+    /var/backups/rooms/office/2*/machine.tar /var/lib/rooms-passwords/rooms.htpasswd \
+    /etc/rooms/passwords.key /var/lib/rooms-web/office/people.json /etc/shadow; do
     ! setpriv --reuid=$user --regid=$(id -g $user) --clear-groups head -c 1 "$file" \
       >/dev/null 2>&1 || echo $user ${file##*/}
   done; done; rm /etc/rooms/passwords.key'
