@@ -405,6 +405,7 @@ types 'a standby' docs/machines 'mkdir -p -m 700' docs/machines 'rsync openssh-c
 does 'a copy' 'rooms-admin standby --room office
   cp -a /var/backups/rooms/office/standby/. /var/backups/rooms/standby
   systemctl disable --now rooms@office'
+types 'hourly copies' docs/backup HOURS=24
 types 'it takes over' docs/machines 'rooms-admin restore /var/backups/rooms/standby'
 asks_as 200 alice GET /folder/letters
 types 'the old machine no more' docs/machines 'now rooms@office rooms-{'
