@@ -96,8 +96,9 @@ class Figures:
             return len(file.readlines())
 
     def note(self, what, milliseconds, before):
+        asked = self.requests() - before
         self.rows.setdefault(what, []).append(
-            f'{milliseconds / 1000:.2f} s, {self.requests() - before} requests')
+            f'{milliseconds / 1000:.2f} s, {asked} request{"" if asked == 1 else "s"}')
 
     def load(self, what):
         """As by somebody who comes: no connection is open."""
