@@ -91,8 +91,9 @@ class Lasting:
         box = alice.script(BOX, '.menu')
         assert box['top'] >= 0 and box['bottom'] <= 844 and box['left'] >= 0 and \
             box['right'] <= 390, box
-        assert alice.texts('.menu > *') == ['Preview', 'Download', 'Rename or move', 'Copy link',
-                                            'Earlier', 'Access', 'Remove']
+        assert alice.texts('.menu > *') == [
+            'Preview', 'Download', 'Replace by a file', 'Rename or move', 'Copy link', 'Earlier',
+            'Access', 'Remove']
         assert alice.unnamed() == [], alice.unnamed()
         alice.one('h1').click()
         assert not alice.all('.menu')
