@@ -15,6 +15,8 @@ does 'whose the files are' 'cd /var/lib/rooms-passwords && stat -c "%n %U %G %a"
 printf '%s\n' '. rooms-keeper www-data 2710' 'rooms.first rooms-keeper www-data 640' \
   'rooms.htpasswd rooms-keeper www-data 640' >wanted
 same 'are the service'\''s and nginx'\''s' "$work/out" wanted
+does 'nginx can not hold them' '! setpriv --reuid=www-data --regid=www-data --clear-groups \
+  flock -n /var/lib/rooms-passwords true 2>/dev/null'
 web='curl -s -o /dev/null -w %{http_code}'
 is() { # NAME STATUS TEXT
   inside "$3"
@@ -63,6 +65,6 @@ asking.connect(\"/run/rooms-own-password/socket\")
 asking.shutdown(socket.SHUT_WR)
 print(asking.makefile().read(), end=\"\")'"
 printf '%s\n' 'read /var/lib/rooms-passwords/rooms.htpasswd' 'list /var/lib/rooms-passwords' \
-  'write /var/lib/rooms-passwords' 'write /var/tmp' 'write /dev/shm' >wanted
+  'write /var/lib/rooms-passwords' 'write /var/tmp' >wanted
 same 'what it can do' "$work/out" wanted
 stop_machine

@@ -60,10 +60,10 @@ def main():
                  "/var/lib/rooms", "/var/lib/rooms-web", "/var/lib/rooms-passwords", "/var/backups",
                  "/var/cache/rooms-nights", "/run/rooms-nights", "/var/tmp", "/dev/shm"):
         tries(f"write {path}", lambda path=path: writes(f"{path}/probe"))
-    for path in ("/run/rooms/office/socket", "/run/rooms-front/passwords.sock",
-                 "/run/rooms-own-password/socket", "/run/rooms-nights/socket",
-                 "/run/rooms-earlier/socket", "/run/dbus/system_bus_socket",
-                 "/run/systemd/private"):
+    for path in ("/run/rooms/office/socket", "/run/rooms/invoices/socket",
+                 "/run/rooms-front/passwords.sock", "/run/rooms-own-password/socket",
+                 "/run/rooms-nights/socket", "/run/rooms-earlier/socket",
+                 "/run/dbus/system_bus_socket", "/run/systemd/private"):
         tries(f"ask {path}", lambda path=path: reaches(path))
     tries("ask 127.0.0.1:80", goes_out)
     with contextlib.suppress(OSError):
