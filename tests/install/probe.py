@@ -56,7 +56,8 @@ def main():
                  "/run/rooms-front", "/run/rooms-front/remembered", "/var/lib/rooms-passwords",
                  "/var/cache/rooms-nights", "/var/log/nginx"):
         tries(f"list {path}", lambda path=path: listed(path))
-    for path in ("/etc", "/etc/nginx", "/etc/rooms", "/usr", "/run", "/run/rooms-full", "/var/lib",
+    for path in ("/etc", "/etc/nginx", "/etc/rooms", "/usr", "/run", "/run/rooms-full",
+                 "/run/rooms/invoices", "/var/lib",
                  "/var/lib/rooms", "/var/lib/rooms-web", "/var/lib/rooms-passwords", "/var/backups",
                  "/var/cache/rooms-nights", "/run/rooms-nights", "/var/tmp", "/dev/shm"):
         tries(f"write {path}", lambda path=path: writes(f"{path}/probe"))

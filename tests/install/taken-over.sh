@@ -37,10 +37,10 @@ probed 'in the place of a watch' rooms-full office \
 # It is the server itself: nobody listens in its place.
 probed 'in the place of a server' rooms office \
   'read /etc/rooms/office.conf' 'read /etc/nginx/nginx.conf' 'list /var/lib/rooms' \
-  'list /run/rooms/office' 'list /var/log/nginx' 'write /var/lib/rooms' 'write /var/tmp' \
+  'list /var/log/nginx' 'write /var/lib/rooms' 'write /var/tmp' \
   'ask /run/rooms/invoices/socket' 'ask /run/dbus/system_bus_socket' 'ask 127.0.0.1:80'
 probed 'in the place of what sends mail' rooms-tell probe \
   'read /etc/rooms/office.conf' 'read /etc/nginx/nginx.conf' 'list /var/log/nginx' \
   'write /var/tmp' 'write /dev/shm' 'ask /run/dbus/system_bus_socket' 'ask 127.0.0.1:80' \
-  'a namespace' 'see processes of others'
+  'make a file that runs as its owner' 'a namespace' 'see processes of others'
 stop_machine
