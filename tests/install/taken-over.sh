@@ -31,14 +31,13 @@ probed 'in the place of a door' rooms-door office \
   'write /var/tmp' 'ask /run/rooms/office/socket' 'ask /run/rooms/invoices/socket'
 probed 'in the place of a watch' rooms-full office \
   'read /etc/rooms/office.conf' 'read /etc/nginx/nginx.conf' 'list /var/lib/rooms' \
-  'list /run/rooms/office' 'list /var/log/nginx' 'write /run/rooms-full' 'write /var/tmp' \
-  'ask /run/rooms/office/socket' 'ask /run/rooms/invoices/socket' \
+  'list /var/log/nginx' 'write /run/rooms-full' 'write /var/tmp' \
   'ask /run/dbus/system_bus_socket'
 # It is the server itself: nobody listens in its place.
 probed 'in the place of a server' rooms office \
   'read /etc/rooms/office.conf' 'read /etc/nginx/nginx.conf' 'list /var/lib/rooms' \
   'list /var/log/nginx' 'write /var/lib/rooms' 'write /var/tmp' \
-  'ask /run/rooms/invoices/socket' 'ask /run/dbus/system_bus_socket' 'ask 127.0.0.1:80'
+  'ask /run/dbus/system_bus_socket' 'ask 127.0.0.1:80'
 probed 'in the place of what sends mail' rooms-tell probe \
   'read /etc/rooms/office.conf' 'read /etc/nginx/nginx.conf' 'list /var/log/nginx' \
   'write /var/tmp' 'write /dev/shm' 'ask /run/dbus/system_bus_socket' 'ask 127.0.0.1:80' \
