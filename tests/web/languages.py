@@ -79,6 +79,27 @@ class Languages:
             user.quit()
             self.browsers.remove(user)
 
+    def asked(self, act):
+        """The files of the page that nginx was asked for meanwhile."""
+        with open(f'{self.folder}/access.log', encoding='utf-8') as log:
+            before = len(log.readlines())
+        act()
+        with open(f'{self.folder}/access.log', encoding='utf-8') as log:
+            targets = [line.split(' ')[2] for line in log.readlines()[before:]]
+        return [one for one in targets if one == '/' or one.startswith('/page-')]
+
+    def files(self):
+        """Five at the first visit: the page, its script, a language, the style, the sign. One later."""
+        user = self.begin('files', 'fr')
+        first = self.asked(lambda: user.open('#/'))
+        assert len(first) == len(set(first)) == 5, first
+        endings = sorted(one.rpartition('.')[2] for one in first)
+        assert endings == ['/', 'css', 'js', 'js', 'svg'], first
+        later = self.asked(lambda: user.open('#/letters'))
+        assert later == ['/'], later
+        user.quit()
+        self.browsers.remove(user)
+
     def choose(self, language):
         """At the name's menu, and kept after that."""
         alice = self.alice
@@ -170,6 +191,7 @@ def main():
     try:
         checks.step('objects', languages.make)
         checks.step('the language of a browser', languages.of_browser)
+        checks.step('files of the page', languages.files)
         for language, name in [*NAMES.items(), ('en', 'English')][1:]:
             checks.step(f'{name} is chosen', lambda: languages.choose(language))
             checks.step(f'sharing in {name}', lambda: languages.share(language))
