@@ -67,7 +67,7 @@ const OTHERS = {
   'access.nowCan members': [[], ...names], 'outcome.keepsMore places': counts,
   'outcome.changesMore places': counts, 'outcome.apart places': counts,
   'access.goes from': ['Fex'], 'access.goes to': ['Tox'], 'lists.and words': names,
-  'lists.or words': names, 'lists.number count': counts, 'warnings.noPassage place': ['Pqx', null],
+  'warnings.noPassage place': ['Pqx', null],
   'warnings.noPassageForAll place': ['Pqx', null], 'warnings.passageUnread place': ['Pqx', null],
   'warnings.passageDepends place': ['Pqx', null], 'advanced.byLine place': ['Pqx', null],
   'advanced.allowedBy place': ['Pqx', null], 'advanced.deniedBy place': ['Pqx', null],

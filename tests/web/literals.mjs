@@ -1,48 +1,71 @@
 // The literals of a module, and which of them are texts for people.
 
+// Where the next sign of code is to be looked at, past a comment or a pattern, or null.
+function skipped(source, at) {
+  if (source.startsWith('//', at) && source[at - 1] !== ':') return endOf(source, '\n', at) - 1;
+  if (source.startsWith('/**', at)) return endOf(source, '*/', at) + 1;
+  return source[at] === '/' && isPattern(source, at) ? endOfPattern(source, at) : null;
+}
+
+// Reads a module: the literals in which it is are kept from outside, as their quotes, and as the
+// open braces of the code in a template.
+class Reader {
+  constructor(source) {
+    Object.assign(this, { source, found: [], inside: [], text: '', begin: 0 });
+  }
+
+  end() {
+    const { source, text, begin } = this;
+    const from = source.lastIndexOf('\n', begin) + 1;
+    const line = source.slice(0, begin).split('\n').length;
+    this.found.push({ text, line, before: source.slice(from, begin) });
+    this.text = '';
+  }
+
+  // Each returns where it has read to.
+  readCode(at, top) {
+    const sign = this.source[at];
+    const next = skipped(this.source, at);
+    if (next !== null) return next;
+    if (sign === '\'' || sign === '`') {
+      this.inside.push(sign);
+      this.begin = at;
+    } else if (sign === '{' && top) top.depth += 1;
+    else if (sign === '}' && top?.depth === 0) {
+      this.inside.pop();
+      this.begin = at;
+    } else if (sign === '}' && top) top.depth -= 1;
+    return at;
+  }
+
+  readLiteral(at, top) {
+    const sign = this.source[at];
+    if (sign === top) {
+      this.end();
+      this.inside.pop();
+    } else if (top === '`' && this.source.startsWith('${', at)) {
+      this.end();
+      this.inside.push({ depth: 0 });
+      return at + 1;
+    } else if (sign === '\\') {
+      this.text += this.source.slice(at, at + 2);
+      return at + 1;
+    } else this.text += sign;
+    return at;
+  }
+
+  read() {
+    for (let at = 0; at < this.source.length; at += 1) {
+      const top = this.inside.at(-1);
+      at = typeof top === 'string' ? this.readLiteral(at, top) : this.readCode(at, top);
+    }
+    return this.found;
+  }
+}
+
 // The parts of a module's text that are literals: [{text, line, before}]. 'before' is what stands
 // before one on its line.
-export function literalsOf(source) {
-  const found = [];
-  // The literals in which we are, from outside: their quotes, and braces in the code of a template.
-  const inside = [];
-  let [text, begin] = ['', 0];
-  const lineAt = (at) => source.slice(0, at).split('\n').length;
-  const end = () => {
-    const from = source.lastIndexOf('\n', begin) + 1;
-    found.push({ text, line: lineAt(begin), before: source.slice(from, begin) });
-    text = '';
-  };
-  for (let at = 0; at < source.length; at += 1) {
-    const [sign, top] = [source[at], inside.at(-1)];
-    const isCode = top === undefined || typeof top === 'object';
-    if (isCode && source.startsWith('//', at) && source[at - 1] !== ':') {
-      at = endOf(source, '\n', at) - 1;
-    } else if (isCode && source.startsWith('/**', at)) at = endOf(source, '*/', at) + 1;
-    else if (isCode && sign === '/' && isPattern(source, at)) at = endOfPattern(source, at);
-    else if (isCode && (sign === '\'' || sign === '`')) {
-      inside.push(sign);
-      begin = at;
-    } else if (isCode && sign === '{') top && (top.depth += 1);
-    else if (isCode && sign === '}' && top) {
-      if (top.depth === 0) {
-        inside.pop();
-        begin = at;
-      } else top.depth -= 1;
-    } else if (!isCode && sign === '\\') {
-      text += source.slice(at, at + 2);
-      at += 1;
-    } else if (!isCode && sign === top) {
-      end();
-      inside.pop();
-    } else if (top === '`' && source.startsWith('${', at)) {
-      end();
-      inside.push({ depth: 0 });
-      at += 1;
-    } else if (!isCode) text += sign;
-  }
-  return found;
-}
+export const literalsOf = (source) => new Reader(source).read();
 
 function endOf(source, sign, from) {
   const at = source.indexOf(sign, from);

@@ -12,7 +12,7 @@ import { formsOf } from './forms.js';
 const { number, and, or, count, day } = formsOf('de', 'und', 'oder');
 
 const LISTS = {
-  and, number, day,
+  and, day,
   others: (rest) => count(rest, 'weiterer', 'weitere'),
   unknownDay: 'unbekannt',
   space: 'Leerzeichen',

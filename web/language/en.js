@@ -11,7 +11,7 @@ import { formsOf } from './forms.js';
 const { number, and, or, count, day } = formsOf('en-GB', 'and', 'or');
 
 const LISTS = {
-  and, number, day,
+  and, day,
   others: (rest) => count(rest, 'other', 'others'),
   unknownDay: 'an unknown day',
   // Beside 'space' there are signs without a name, such as U+202E.

@@ -11,7 +11,7 @@ import { FR_READY } from './fr_ready.js';
 const { number, and, or, count, day } = formsOf('fr', 'et', 'ou');
 
 const LISTS = {
-  and, number, day,
+  and, day,
   others: (rest) => count(rest, 'autre', 'autres'),
   unknownDay: 'date inconnue',
   space: 'espace',

@@ -167,8 +167,3 @@ export function nameFault(name) {
   const { length } = new TextEncoder().encode(name);
   return length > 255 ? texts.faults.longName : null;
 }
-
-// What new texts are made with until they stand in the tables of web/language.
-export const listed = (words) => texts.lists.and(words);
-export const counted = (count, word) =>
-  `${texts.lists.number(count)} ${word}${count === 1 ? '' : 's'}`;

@@ -30,8 +30,6 @@ export function shortened(names, most = 4) {
   return rest > 1 ? [...names.slice(0, most), texts.lists.others(rest)] : names;
 }
 
-export const some = (names, most = 4) => texts.lists.and(shortened(names, most));
-
 // 'bob', 'the 5 members of sales' for a sentence.
 export function inSentence(known, { who, isGroup }) {
   if (isSpecial(who)) return texts.names.inSentence[who];
