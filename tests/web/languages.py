@@ -89,7 +89,7 @@ class Languages:
         return [one for one in targets if one == '/' or one.startswith('/page-')]
 
     def files(self):
-        """Five at the first visit: the page, its script, a language, the style, the sign. One later."""
+        """Five at the first visit: page, script, a language, style and sign. One later."""
         user = self.begin('files', 'fr')
         first = self.asked(lambda: user.open('#/'))
         assert len(first) == len(set(first)) == 5, first

@@ -42,20 +42,20 @@ export const DE_EARLIER = {
   notThere: 'Es war in dieser Nacht nicht da.',
   notOpen: 'Sie konnten es in dieser Nacht nicht sehen.',
   why: {
-    now: 'Sie können dies nicht sehen: es steht Ihnen jetzt nicht offen; oder es ist weg, gehörte '
+    now: 'Sie können dies nicht sehen: Es steht Ihnen jetzt nicht offen; oder es ist weg, gehörte '
       + 'Ihnen nicht, und Sie verwalten den Ordner nicht, in dem es war.',
     'no-night': 'Diese Nacht wird nicht mehr aufbewahrt. Wählen Sie eine andere.',
-    'no-earlier': 'Dieser Raum zeigt keine früheren Nächte. Fragen Sie die Verwaltung nach dem, '
+    'no-earlier': 'Dieser Raum zeigt keine früheren Nächte. Fragen Sie den Administrator nach dem, '
       + 'was verloren ist.',
     busy: 'Auch andere sehen frühere Nächte an, und mehr können nicht offen sein. Versuchen Sie es '
-      + 'in einer Minute wieder.',
-    large: 'Dieser Raum ist zu groß, um seine Nächte zu zeigen. Fragen Sie die Verwaltung.',
-    damaged: 'Die Sicherung dieser Nacht ist nicht lesbar. Wählen Sie eine andere, und sagen Sie '
-      + 'es der Verwaltung.',
-    away: 'Frühere Nächte können gerade nicht gezeigt werden. Versuchen Sie es in einer Minute '
-      + 'wieder; hilft das nicht, sagen Sie es der Verwaltung.',
+      + 'in einer Minute erneut.',
+    large: 'Dieser Raum ist zu groß, um seine Nächte zu zeigen. Fragen Sie den Administrator.',
+    damaged: 'Die Sicherung dieser Nacht ist nicht lesbar. Wählen Sie eine andere, und '
+      + 'benachrichtigen Sie den Administrator.',
+    away: 'Frühere Nächte können im Moment nicht gezeigt werden. Versuchen Sie es in einer Minute '
+      + 'erneut; wenn das nicht hilft, benachrichtigen Sie den Administrator.',
     'too-many-requests': 'Sie haben zu viel auf einmal verlangt. Warten Sie einen Augenblick, und '
-      + 'versuchen Sie es wieder.',
+      + 'versuchen Sie es erneut.',
   },
   question: (name) => `${name} zurücklegen?`,
   asOf: (time) => `Stand ${moment(time)}:`,
@@ -64,24 +64,24 @@ export const DE_EARLIER = {
     : `${objects(many)}, die fehlen, kommen als Ihre zurück und folgen der Zugriffsliste ihres `
       + 'Ordners.'),
   there: (many) => (many === 1
-    ? '1 Dokument ist noch da: wird es ersetzt, ist sein jetziger Inhalt verloren, und sein '
+    ? '1 Dokument ist noch da: Wird es ersetzt, ist sein jetziger Inhalt verloren, und sein '
       + 'Zugriff bleibt.'
-    : `${count(many, 'Dokument', 'Dokumente')} sind noch da: werden sie ersetzt, ist ihr jetziger `
+    : `${count(many, 'Dokument', 'Dokumente')} sind noch da: Werden sie ersetzt, ist ihr jetziger `
       + 'Inhalt verloren, und ihr Zugriff bleibt.'),
   closed: (many) => (many === 1
-    ? '1 Objekt hatte eine eigene Zugriffsliste, die nicht zurückkommt: jeder, der den Ordner '
+    ? '1 Objekt hatte eine eigene Zugriffsliste, die nicht zurückkommt: Jeder, der den Ordner '
       + 'lesen darf, wird es lesen.'
-    : `${objects(many)} hatten eigene Zugriffslisten, die nicht zurückkommen: jeder, der den `
+    : `${objects(many)} hatten eigene Zugriffslisten, die nicht zurückkommen: Jeder, der den `
       + 'Ordner lesen darf, wird sie lesen.'),
   perhapsClosed: (many) => (many === 1
     ? '1 Objekt hatte vielleicht eine eigene Zugriffsliste, die Sie nicht sehen und die nicht '
-      + 'zurückkommt: jeder, der den Ordner lesen darf, wird es lesen.'
+      + 'zurückkommt: Jeder, der den Ordner lesen darf, wird es lesen.'
     : `${objects(many)} hatten vielleicht eigene Zugriffslisten, die Sie nicht sehen und die nicht `
-      + 'zurückkommen: jeder, der den Ordner lesen darf, wird sie lesen.'),
+      + 'zurückkommen: Jeder, der den Ordner lesen darf, wird sie lesen.'),
   onlyMissing: 'Nur was fehlt',
   allOfIt: 'Alles, und ersetzen, was da ist',
   replace: 'Ersetzen, was da ist',
-  nothingMissing: 'Es fehlt nichts: alles davon ist noch da.',
+  nothingMissing: 'Es fehlt nichts: Alles davon ist noch da.',
   putting: (name) => `${name} zurücklegen`,
   putSomeOf: (done, whole) => `${done} von ${objects(whole)} zurückgelegt`,
   isBack: (many, place) => `${objects(many)} zurückgelegt in ${place}.`,

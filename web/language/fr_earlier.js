@@ -42,7 +42,7 @@ export const FR_EARLIER = {
   notThere: 'Il n’était pas là cette nuit-là.',
   notOpen: 'Vous ne pouviez pas le voir cette nuit-là.',
   why: {
-    now: 'Vous ne pouvez pas le voir : il ne vous est pas ouvert maintenant ; ou il a disparu, '
+    now: 'Vous ne pouvez pas le voir : il ne vous est pas ouvert maintenant ; ou il a disparu, '
       + 'n’était pas à vous, et vous ne gérez pas le dossier où il était.',
     'no-night': 'Cette nuit n’est plus conservée. Choisissez-en une autre.',
     'no-earlier': 'Cette salle ne montre pas de nuits passées. Demandez à l’administrateur ce qui '
@@ -53,40 +53,40 @@ export const FR_EARLIER = {
       + 'l’administrateur.',
     damaged: 'La sauvegarde de cette nuit est illisible. Choisissez-en une autre, et dites-le à '
       + 'l’administrateur.',
-    away: 'Les nuits passées ne peuvent pas être montrées en ce moment. Réessayez dans une minute '
-      + '; si cela n’aide pas, dites-le à l’administrateur.',
+    away: 'Les nuits passées ne peuvent pas être montrées pour le moment. Réessayez dans une '
+      + 'minute ; si cela ne suffit pas, prévenez l’administrateur.',
     'too-many-requests': 'Vous avez trop demandé à la fois. Attendez un instant, et réessayez.',
   },
-  question: (name) => `Remettre ${name} ?`,
-  asOf: (time) => `État du ${moment(time)} :`,
+  question: (name) => `Remettre ${name} ?`,
+  asOf: (time) => `État du ${moment(time)} :`,
   missing: (many) => (many === 1
     ? '1 objet qui manque revient comme le vôtre, et suit la liste d’accès de son dossier.'
     : `${objects(many)} qui manquent reviennent comme les vôtres, et suivent la liste d’accès de `
       + 'leur dossier.'),
   there: (many) => (many === 1
-    ? '1 document est toujours là : s’il est remplacé, son contenu actuel est perdu, et son accès '
+    ? '1 document est toujours là : s’il est remplacé, son contenu actuel est perdu, et son accès '
       + 'reste.'
-    : `${count(many, 'document', 'documents')} sont toujours là : s’ils sont remplacés, leur `
+    : `${count(many, 'document', 'documents')} sont toujours là : s’ils sont remplacés, leur `
       + 'contenu actuel est perdu, et leur accès reste.'),
   closed: (many) => (many === 1
-    ? '1 objet avait sa propre liste d’accès, qui ne revient pas : tous ceux qui peuvent lire le '
+    ? '1 objet avait sa propre liste d’accès, qui ne revient pas : tous ceux qui peuvent lire le '
       + 'dossier le liront.'
-    : `${objects(many)} avaient leurs propres listes d’accès, qui ne reviennent pas : tous ceux `
+    : `${objects(many)} avaient leurs propres listes d’accès, qui ne reviennent pas : tous ceux `
       + 'qui peuvent lire le dossier les liront.'),
   perhapsClosed: (many) => (many === 1
     ? '1 objet avait peut-être sa propre liste d’accès, que vous ne voyez pas et qui ne revient '
-      + 'pas : tous ceux qui peuvent lire le dossier le liront.'
+      + 'pas : tous ceux qui peuvent lire le dossier le liront.'
     : `${objects(many)} avaient peut-être leurs propres listes d’accès, que vous ne voyez pas et `
-      + 'qui ne reviennent pas : tous ceux qui peuvent lire le dossier les liront.'),
+      + 'qui ne reviennent pas : tous ceux qui peuvent lire le dossier les liront.'),
   onlyMissing: 'Seulement ce qui manque',
   allOfIt: 'Tout, et remplacer ce qui est là',
   replace: 'Remplacer ce qui est là',
-  nothingMissing: 'Rien ne manque : tout est toujours là.',
+  nothingMissing: 'Rien ne manque : tout est toujours là.',
   putting: (name) => `Remettre ${name}`,
   putSomeOf: (done, whole) => `${done} sur ${objects(whole)} remis`,
   isBack: (many, place) => `${objects(many)} remis dans ${place}.`,
-  notBack: (many) => `Non remis : ${objects(many)}.`,
-  leftOut: (places) => `Omis, car vous ne pouvez pas tout y voir : ${and(places)}.`,
+  notBack: (many) => `Non remis : ${objects(many)}.`,
+  leftOut: (places) => `Omis, car vous ne pouvez pas tout y voir : ${and(places)}.`,
   goneOne: (name) => `${name} disparaîtra pour tout le monde.`,
   goneOneWith: (name, amount) =>
     `${name} et son contenu, ${amount}, disparaîtront pour tout le monde.`,
@@ -94,8 +94,8 @@ export const FR_EARLIER = {
   goneSeveralWith: (amount, inside) =>
     `${amount} et leur contenu, ${inside}, disparaîtront pour tout le monde.`,
   backByOwners: (time) => `Tel que c’était le ${moment(time)}, le propriétaire et les `
-    + 'gestionnaires du dossier peuvent le récupérer par « Avant » ; ce qui est venu plus tard est '
+    + 'gestionnaires du dossier peuvent le récupérer par « Avant » ; ce qui est venu plus tard est '
     + 'perdu.',
   backByMembers: (time) => `Tel que c’était le ${moment(time)}, ceux qui peuvent ajouter au `
-    + 'dossier peuvent le récupérer par « Avant » ; ce qui est venu plus tard est perdu.',
+    + 'dossier peuvent le récupérer par « Avant » ; ce qui est venu plus tard est perdu.',
 };
