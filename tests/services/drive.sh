@@ -2,6 +2,7 @@
 # to the door behind nginx: lists and owners that stay, locks, another room's place, large bodies.
 
 . "$here/lib/front.sh"
+. "$here/lib/door.sh"
 if ! has python3 || [ -z "$nginx" ] || ! has curl || [ "$loopback" = no ]; then
   skip 'documents edited in place' 'no loopback, or python3, nginx or curl is missing'
   return
@@ -27,17 +28,6 @@ admin add invoices
 holds 'another room' [ "$status" = 0 ]
 sets office DRIVE yes
 start_front 'documents edited in place' || return
-doors=()
-start_door() { # ROOM ARGUMENT ..
-  local began=$SECONDS
-  mkdir -p "run/door/$1"
-  : >"$1.err"
-  python3 -IB "$repo/services/rooms_services/door/__main__.py" \
-    --room "$PWD/run/rooms/$1/socket" --listen "$PWD/run/door/$1/socket" "${@:2}" 2>"$1.err" &
-  others+=($!)
-  doors+=($!)
-  until [ -s "$1.err" ] || [ $((SECONDS - began)) -ge "$patience" ]; do sleep 0.02; done
-}
 start_door office --drive=yes
 start_door invoices --drive=yes
 
