@@ -28,6 +28,9 @@ MAY_GO = float(os.environ.get("ROOMS_NIGHTS_MAY_GO", "60"))
 IDLE = float(os.environ.get("ROOMS_NIGHTS_IDLE", "300"))
 # What the program may take of addresses beside what it needs, and how long it may take to begin.
 BESIDE, PATIENCE = 256, 60.0
+# Whoever removes a backup by hand does so file by file: what changed just now is copied so many
+# seconds after that.
+SETTLES = 1.0
 # Bytes of the disk that stay free.
 SPARE = 256 << 20
 Key = tuple[str, str]
@@ -81,6 +84,9 @@ def _before(megabytes: int) -> Callable[[], None]:
 def _copied(room: Nights, backup: str, into: str) -> str:
     """What is removed meanwhile, such as the log alone, leaves no copy that looks whole."""
     with safe.opened(safe.own_folder(backup)) as source, safe.opened(safe.folder(into)) as target:
+        wait = os.fstat(source).st_mtime + SETTLES - time.time()
+        if 0 < wait <= SETTLES:
+            time.sleep(wait)
         names = sorted(os.listdir(source))
         private_server.copy_files(room.base, source, target, "room")
         if sorted(os.listdir(source)) != names:
