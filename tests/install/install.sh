@@ -477,13 +477,13 @@ fi
 # The units, as systemd reads them; with the programs that they name in their places.
 if has systemd-analyze; then
   mkdir units
-  for unit in "$repo"/deploy/systemd/rooms*.service "$repo"/deploy/systemd/rooms*.timer; do
+  for unit in "$repo"/deploy/systemd/rooms*.{service,timer,socket}; do
     sed -e "s#=\(+\?\)/usr/local/#=\1$PWD/machine/usr/local/#" \
       -e "s#=/usr/sbin/\(apache2\|nft\)#=/bin/true#" "$unit" >"units/${unit##*/}"
   done
   # It reports what it doesn't know of all units that it meets. Only these are of this project.
-  systemd-analyze verify units/*.service units/*.timer >"$work/out" 2>&1
-  grep -E '^(/.*/)?rooms[a-z-]*(@[a-z_-]*)?\.(service|timer)' "$work/out" >said
+  systemd-analyze verify units/*.{service,timer,socket} >"$work/out" 2>&1
+  grep -E '^(/.*/)?rooms[a-z-]*(@[a-z_-]*)?\.(service|timer|socket)' "$work/out" >said
   : >nothing
   same 'the units are understood' said nothing
   # How much a unit could do, by systemd's own count from 0 to 10.
