@@ -21,7 +21,7 @@ fi
 # A package that pages get from Debian, with one program, which prints nothing.
 stand_in_package() { # NAME PROGRAM
   mkdir -p "stand-ins/$1/DEBIAN" "stand-ins/$1/usr/bin" "$machine/root/packages"
-  printf '%s\n' "Package: $1" 'Version: 99' 'Architecture: all' \
+  printf '%s\n' "Package: $1" 'Version: 1:99' 'Architecture: all' \
     'Maintainer: nobody <nobody@localhost>' 'Description: stand-in' >"stand-ins/$1/DEBIAN/control"
   { printf '#!/bin/sh\n' && cat; } >"stand-ins/$1/usr/bin/$1"
   chmod 755 "stand-ins/$1/usr/bin/$1"
@@ -71,7 +71,7 @@ cp /etc/ssl/rooms.pem /etc/letsencrypt/live/rooms.example/fullchain.pem
 cp /etc/ssl/private/rooms.key /etc/letsencrypt/live/rooms.example/privkey.pem
 END
 for name in apache2-bin ldap-utils python3-ldap libapache2-mod-auth-gssapi \
-  libapache2-mod-auth-openidc rsync openssh-client; do
+  libapache2-mod-auth-openidc rsync openssh-client bsd-mailx; do
   stand_in_package "$name" </dev/null || fail 'what is typed' "no stand-in: $(cat said)"
 done
 # Of Apache and of a directory there is just enough that they are asked: install/directory,
@@ -81,8 +81,10 @@ echo >"$machine/usr/lib/apache2/modules/mod_authnz_ldap.so"
 printf '#!/bin/sh\n[ "$1" = -t ] || exec sleep 3600\n' >"$machine/usr/sbin/apache2"
 chmod 755 "$machine/usr/sbin/apache2"
 # What Python asks a directory with, by the program below.
-mkdir -p "$machine/usr/local/lib/python3.11/dist-packages/ldap"
-cat >"$machine/usr/local/lib/python3.11/dist-packages/ldap/__init__.py" <<'END'
+version_of_python=$(basename "$(readlink "$machine/usr/bin/python3")")
+modules=$machine/usr/local/lib/$version_of_python/dist-packages
+mkdir -p "$modules/ldap"
+cat >"$modules/ldap/__init__.py" <<'END'
 import subprocess
 OPT_REFERRALS = OPT_NETWORK_TIMEOUT = OPT_TIMEOUT = OPT_X_TLS_REQUIRE_CERT = OPT_X_TLS_DEMAND = 0
 OPT_X_TLS_NEWCTX = OPT_X_TLS_CACERTFILE = SCOPE_SUBTREE = SCOPE_BASE = 0
@@ -109,11 +111,11 @@ class Link:
 def initialize(_uri): return Link()
 END
 printf 'class SimplePagedResultsControl:\n    controlType = "x"\n    def __init__(self, *a, **b): pass\n' \
-  >"$machine/usr/local/lib/python3.11/dist-packages/ldap/controls.py"
+  >"$modules/ldap/controls.py"
 printf 'def str2dn(text): return text\ndef dn2str(text): return text\n' \
-  >"$machine/usr/local/lib/python3.11/dist-packages/ldap/dn.py"
+  >"$modules/ldap/dn.py"
 echo 'def escape_filter_chars(text): return text' \
-  >"$machine/usr/local/lib/python3.11/dist-packages/ldap/filter.py"
+  >"$modules/ldap/filter.py"
 stand_in ldapsearch <<'END'
 groups=ou=groups,dc=example,dc=net
 case "$*" in
@@ -245,7 +247,6 @@ types 'groups and lists' docs/operating 'runuser -u rooms bash' docs/operating '
 shows 'are taken' 'groups 2, members 3' 'done'
 does 'the server starts' 'systemctl start rooms@office'
 # The mail program is one of these tests; install/package has the warning where there is none.
-stand_in_package bsd-mailx </dev/null || fail 'what is typed' "no stand-in: $(cat said)"
 printf '#!/bin/sh\ncat >>/srv/mails\n' >"$machine/usr/local/bin/mail"
 chmod 755 "$machine/usr/local/bin/mail"
 statuses='[12]'
