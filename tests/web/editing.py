@@ -24,20 +24,20 @@ class Editing:
         self.alice = None
 
     def menu(self, name):
-        """What a document's menu has before 'Rename or move', with where each entry leads."""
+        """What a document's menu has before 'Download', with where each entry leads."""
         alice = self.alice
         alice.one(f'tr[data-path="/{name}"] [data-act=menu]').click()
         entries = alice.script("return [...document.querySelectorAll('.menu > *')]"
                                ".map((one) => [one.textContent, one.getAttribute('href')])")
         alice.one('h1').click()
         assert not alice.all('.menu')
-        return entries[:entries.index(['Rename or move', None])]
+        return entries[:entries.index(['Download', None])]
 
     def with_programs(self, address, *programs):
         """What the menu should have, if the site has such addresses."""
         links = [[f'Open in {name}', f'{scheme}:ofe|u|{self.base}/drive/{address}']
                  for name, scheme in programs]
-        return [['Preview', None], *(links if self.has else []), ['Download', None]]
+        return [['Preview', None], *(links if self.has else [])]
 
     def of_the_suite(self):
         self.alice.open('')
