@@ -43,7 +43,7 @@ named='--resolve rooms.example:443:127.0.0.1'
 furnish
 does 'the package' "$(installs)"
 does 'a room' "$(block README.md 'runuser')"
-does 'another one' "$(block docs/machines.md 'invoices carol accounting')"
+does 'another one' "$(block docs/machines.md "year' invoices carol accounting")"
 does 'a certificate' 'openssl req -x509 -newkey ec -pkeyopt ec_paramgen_curve:P-256 -noenc \
   -days 9 -subj /CN=rooms.example -keyout /etc/ssl/private/rooms.key -out /etc/ssl/rooms.pem \
   2>/dev/null
