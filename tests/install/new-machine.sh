@@ -53,7 +53,7 @@ does 'settings' 'sed -i "s/^KEEP=.*/KEEP=7/" /etc/rooms/office.conf
   echo "# mine" >/etc/rooms/nginx/server.d/mine.conf; rooms-admin setup
   mkdir /etc/systemd/system/rooms@office.service.d
   printf "[Service]\nMemoryMax=4G\n" >/etc/systemd/system/rooms@office.service.d/override.conf
-  echo "5 4 * * * root rooms-export" >/etc/cron.d/rooms-export
+  mkdir -p /etc/cron.d && echo "5 4 * * * root rooms-export" >/etc/cron.d/rooms-export
   nginx -t -q && systemctl reload nginx'
 does 'a document' "$(got $named -u alice:typed -X PUT -d hello $site/doc/letter)"
 prints 'is made' 201
