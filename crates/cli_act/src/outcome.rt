@@ -3,9 +3,8 @@ ghost use Rattle.std.specs.Prelude.{◌≡◌};
 ghost use Rattle.cli_act.specs.Outcome.{answer_status, not_opened, status_of};
 
 use cli_outcome::{Fault, NoRoom, Status};
-use room_inherit::Unsound;
 use room_machine::Reason;
-use room_rows::{Bytes, Path, Text};
+use room_rows::{Bytes, Path, Text, Unsound};
 use store_schema::OpenFault;
 
 /// What is answered in one line.

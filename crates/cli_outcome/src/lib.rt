@@ -2,16 +2,16 @@
 #![tactic(auto)]
 
 mod fault;
+mod listen;
 mod no_room;
-mod place;
 mod reading;
 mod status;
 mod texts;
 mod write;
 
 pub use fault::Fault;
+pub use listen::ListenAddress;
 pub use no_room::NoRoom;
-pub use place::Place;
 pub use reading::read_front;
 pub use status::Status;
 pub use texts::{tell_fault, tell_if_possible, tell_text};

@@ -24,11 +24,11 @@ fn read_some<R: Read>(
     ensures end { result ≡ Ok false
         → (bytes.new.items ≡ bytes.old.items) × IsAtEnd (R.remaining reader.new) }
 {
-    let place = &mut chunk[..room];
-    match reader.read(place) {
+    let part = &mut chunk[..room];
+    match reader.read(part) {
         Ok(0) => Ok(false),
         Ok(count) => {
-            bytes.extend_from_slice(&place[..count])?;
+            bytes.extend_from_slice(&part[..count])?;
             Ok(true)
         }
         Err(error) => {

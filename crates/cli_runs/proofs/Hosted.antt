@@ -4,23 +4,24 @@ use Rattle.std.proofs.Common.{◌≡◌, ◌≤◌, ◌⊎◌, ◌++◌, ℕ, �
 use Rattle.std.proofs.Common.{None, Ok, Err, IsTrue, inl, inr, refl, ap, subst, ◌∙◌, codes, decimal}
 use Rattle.std.specs.Io.KnownBytes.{Appends}
 use Rattle.sqlite.specs.{Held.Held, State.{State, HasCleanDisk}, Tree.Trees}
-use Rattle.cli_outcome.specs.declared.{no_room.NoRoom.NoRoom, place.Place.Place}
+use Rattle.cli_outcome.specs.declared.{no_room.NoRoom.NoRoom, listen.ListenAddress.ListenAddress}
 use Rattle.room_http.specs.declared.ended.Cause.{Cause}
 use Rattle.store_tables.specs.{Shown.{HasTables, IsRoom, Retains}, Within.TreesOf}
 use Rattle.store_schema.specs.declared.fault.OpenFault.{OpenFault}
 use Rattle.room_store.specs.Kept.{IsOfThisVersion, IsShut}
-use Rattle.cli_serve.specs.{Places.{CannotListen, ListensAt, Site, site_of, Deed}, Visits.acts_of}
+use Rattle.cli_serve.specs.Listening.{CannotListen, ListensAt, Site, site_of, Deed}
+use Rattle.cli_serve.specs.Visits.{acts_of}
 use Rattle.cli_serve.specs.{Visits.{end_acts, Visit, moment_of}, Hosts.{IsHosted, IsTurnedDown}}
 use Rattle.cli_serve.specs.Hosts.{PrintsRefusal, ServesRoom, TellsAll, LeavesShut, TurnsDown}
-use Rattle.cli_serve.specs.{Hosts.{end_status, why_not_opened}, Lines.{TellsOf, TellsPlace}}
+use Rattle.cli_serve.specs.{Hosts.{end_status, why_not_opened}, Lines.{TellsOf, TellsAddress}}
 use Rattle.cli_serve.specs.{Lines.connection_line, declared.fault.ServingFault.ServingFault}
-use Rattle.cli_outcome.specs.declared.place.Place.TheVariants as place
+use Rattle.cli_outcome.specs.declared.listen.ListenAddress.TheVariants as address
 
 -- ---- a room was served
 
-module _ (place : Place) (told told' : List ℤ → Type 0) (did did' : List Deed → Type 0)
+module _ (address : ListenAddress) (told told' : List ℤ → Type 0) (did did' : List Deed → Type 0)
     (old new : State) (out out' err err' : Option (List ℕ)) (status : ℕ)
-    (serves : ServesRoom place 1 told told' did did' old new out out' err err' status) where
+    (serves : ServesRoom address 1 told told' did did' old new out out' err err' status) where
   one_at_most : length serves.visits ≤ 1
   one_at_most = serves.few
 
@@ -37,29 +38,31 @@ module _ (place : Place) (told told' : List ℤ → Type 0) (did did' : List Dee
   a_good_end_does_too : serves.end ≡ Ok tt → status ≡ 0
   a_good_end_does_too is = serves.end_is ∙ ap end_status is
 
-  with_status_0_the_place_is_told : (status ≡ 3 → ⊥) → TellsPlace place out out'
-  with_status_0_the_place_is_told isnt = on serves.ends
+  with_status_0_the_address_is_told : (status ≡ 3 → ⊥) → TellsAddress address out out'
+  with_status_0_the_address_is_told isnt = on serves.ends
     where
-      on : ((status ≡ 0) × TellsPlace place out out') ⊎ (status ≡ 3) → TellsPlace place out out'
+      on : ((status ≡ 0) × TellsAddress address out out') ⊎ (status ≡ 3)
+          → TellsAddress address out out'
       on (inl good) = good.1
       on (inr three) = absurd (isnt three)
 
   a_desk_that_fails_is_shut : serves.end ≡ Err ServingFault.Desk → IsShut new
   a_desk_that_fails_is_shut is = subst (λ end. LeavesShut end new) is serves.shut
 
-  -- nobody was met where the place couldn't be had, and nothing was said of it
-  without_the_place_nobody_is_met : CannotListen did did' place serves.visits serves.end out out'
+  -- nobody was met where the address couldn't be had, and nothing was said of it
+  without_the_address_nobody_is_met :
+      CannotListen did did' address serves.visits serves.end out out'
       → (serves.visits ≡ []) × (out' ≡ out)
-  without_the_place_nobody_is_met none = (none.nobody, none.untold)
+  without_the_address_nobody_is_met none = (none.nobody, none.untold)
 
   -- the one site that was asked for, and what its listener did
-  the_place_alone_is_asked_for : did []
-      → did' (Deed.Refused (site_of place) ∷ []) ⊎ did' (Deed.Bound (site_of place)
+  the_address_alone_is_asked_for : did []
+      → did' (Deed.Refused (site_of address) ∷ []) ⊎ did' (Deed.Bound (site_of address)
       ∷ Deed.Closed (acts_of serves.visits ++ end_acts serves.end) ∷ [])
-  the_place_alone_is_asked_for none = on serves.listens
+  the_address_alone_is_asked_for none = on serves.listens
     where
-      on : ListensAt did did' place 1 serves.visits serves.end out out'
-          → did' (Deed.Refused (site_of place) ∷ []) ⊎ did' (Deed.Bound (site_of place)
+      on : ListensAt did did' address 1 serves.visits serves.end out out'
+          → did' (Deed.Refused (site_of address) ∷ []) ⊎ did' (Deed.Bound (site_of address)
           ∷ Deed.Closed (acts_of serves.visits ++ end_acts serves.end) ∷ [])
       on (inl refused) = inl (refused.asked [] none)
       on (inr bound) = inr (bound.acts [] none)
@@ -69,7 +72,7 @@ module _ (place : Place) (told told' : List ℤ → Type 0) (did did' : List Dee
 
 -- the line of a connection, with its number from 1 on
 the_port_is_of_this_machine : (port : ℕ)
-    → site_of (place.Port port) ≡ Site.Port (127 ∷ 0 ∷ 0 ∷ 1 ∷ []) port
+    → site_of (address.Port port) ≡ Site.Port (127 ∷ 0 ∷ 0 ∷ 1 ∷ []) port
 the_port_is_of_this_machine port = refl
 
 a_line : (number : ℕ) → connection_line number Cause.Write
@@ -95,8 +98,8 @@ one_fault_is_told visit err' is all =
 
 module _ (did did' : List Deed → Type 0) (old new : State) (out out' err err' : Option (List ℕ))
     (status : ℕ) (down : IsTurnedDown did did' old new out out' err err' status) where
-  no_place_was_asked_for : did [] → did' []
-  no_place_was_asked_for none = down.asked_none [] none
+  no_address_was_asked_for : did [] → did' []
+  no_address_was_asked_for none = down.asked_none [] none
 
   it_is_told_why : down.why ≡ OpenFault.NotRooms
       → PrintsRefusal NoRoom.NotRooms out out' err err' status
@@ -106,10 +109,10 @@ module _ (did did' : List Deed → Type 0) (old new : State) (out out' err err' 
 
 -- ---- a damaged room
 
-module _ {S : Type 0} (shown : Held S → State) (place : Place) (count : ℕ)
+module _ {S : Type 0} (shown : Held S → State) (address : ListenAddress) (count : ℕ)
     (told told' : List ℤ → Type 0) (did did' : List Deed → Type 0) (old new : Held S)
     (out out' err err' : Option (List ℕ)) (status : ℕ)
-    (hosted : IsHosted shown place count told told' did did' old new out out' err err' status)
+    (hosted : IsHosted shown address count told told' did did' old new out out' err err' status)
     (clean : HasCleanDisk (shown new)) (is_open : IsTrue (shown old).is_open)
     (tables : HasTables (shown old).now) where
   it_can_be_opened_again : (db : Trees) → (shown new).may_leave db

@@ -1,7 +1,7 @@
 //! Laws of a room that is served.
 ghost use Rattle.std.specs.Prelude.{List, ℕ};
 ghost use Rattle.sqlite.specs.Held.{Held, state};
-ghost use Rattle.cli_outcome.specs.declared.place.Place.{Place};
+ghost use Rattle.cli_outcome.specs.declared.listen.ListenAddress.{ListenAddress};
 ghost use Rattle.cli_serve.specs.Hosts.{IsHosted};
 ghost use Rattle.cli_runs.specs.Alike.{ServersAnswerAlike};
 ghost use Rattle.cli_runs.specs.Gains.{ServingChangesRights, ServingGainsNothing};
@@ -19,9 +19,10 @@ use store_runs::laws::{nothing_gained_by_a_crash, nothing_gained_in_a_store};
 /// owner or the place of anything at a path or above it, nobody's rights at that path change: not
 /// in the room that is seen then, and not in what a power cut leaves.
 pub fn nothing_gained_by_serving<S: Alter, P: Ports, M: Moments, O: Write, E: Write>()
-    ensures { (path : List (List ℕ)) (place : Place) (count : ℕ) (clock after : M) (ports closed : P)
+    ensures { (path : List (List ℕ)) (address : ListenAddress) (count : ℕ)
+        (clock after : M) (ports closed : P)
         (old new : Held S) (out printed : O) (err told : E) (status : ℕ)
-        (hosted : IsHosted (state S.Store) place count (M.told clock) (M.told after) (P.did ports)
+        (hosted : IsHosted (state S.Store) address count (M.told clock) (M.told after) (P.did ports)
         (P.did closed) old new (O.contents out) (O.contents printed) (E.contents err)
         (E.contents told) status)
         → ServingGainsNothing path (state S.Store old) hosted.served.visits (state S.Store new) }
@@ -34,9 +35,10 @@ pub fn nothing_gained_by_serving<S: Alter, P: Ports, M: Moments, O: Write, E: Wr
 /// in the room that is seen then and in what a power cut leaves, or one message was the first that
 /// altered them, and its caller had the right for it when it came.
 pub fn rights_changed_by_serving<S: Alter, P: Ports, M: Moments, O: Write, E: Write>()
-    ensures { (path : List (List ℕ)) (place : Place) (count : ℕ) (clock after : M) (ports closed : P)
+    ensures { (path : List (List ℕ)) (address : ListenAddress) (count : ℕ)
+        (clock after : M) (ports closed : P)
         (old new : Held S) (out printed : O) (err told : E) (status : ℕ)
-        (hosted : IsHosted (state S.Store) place count (M.told clock) (M.told after) (P.did ports)
+        (hosted : IsHosted (state S.Store) address count (M.told clock) (M.told after) (P.did ports)
         (P.did closed) old new (O.contents out) (O.contents printed) (E.contents err)
         (E.contents told) status)
         → ServingChangesRights path (state S.Store old) hosted.served.visits (state S.Store new) }
@@ -52,14 +54,16 @@ pub fn rights_changed_by_serving<S: Alter, P: Ports, M: Moments, O: Write, E: Wr
 /// to one of them alone that is behind the folder, or changes nothing, and however connections bring
 /// it.
 pub fn unseen_by_serving<S: Alter, T: Alter, P: Ports, M: Moments, O: Write, E: Write>()
-    ensures { (front : List (List ℕ)) (place : Place) (count : ℕ) (clock after : M) (ports closed : P)
+    ensures { (front : List (List ℕ)) (address : ListenAddress) (count : ℕ)
+        (clock after : M) (ports closed : P)
         (old new : Held S) (out printed : O) (err told : E) (status : ℕ)
-        (hosted : IsHosted (state S.Store) place count (M.told clock) (M.told after) (P.did ports)
+        (hosted : IsHosted (state S.Store) address count (M.told clock) (M.told after) (P.did ports)
         (P.did closed) old new (O.contents out) (O.contents printed) (E.contents err)
         (E.contents told) status)
-        (place' : Place) (count' : ℕ) (clock' after' : M) (ports' closed' : P) (other later : Held T)
+        (address' : ListenAddress) (count' : ℕ) (clock' after' : M) (ports' closed' : P)
+        (other later : Held T)
         (out' printed' : O) (err' told' : E) (status' : ℕ)
-        (beside : IsHosted (state T.Store) place' count' (M.told clock') (M.told after')
+        (beside : IsHosted (state T.Store) address' count' (M.told clock') (M.told after')
         (P.did ports') (P.did closed') other later (O.contents out') (O.contents printed')
         (E.contents err') (E.contents told') status')
         → ServersAnswerAlike front (state S.Store old) hosted.served.visits (state S.Store new)

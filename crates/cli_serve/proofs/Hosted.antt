@@ -2,7 +2,7 @@
 use Rattle.std.proofs.Common.{arith, rules, ◌≡◌, ◌≤◌, ◌⊎◌, ℕ, ℤ, All, List, [], length, map, Option}
 use Rattle.std.proofs.Common.{Result, Ok, Err, OnOk, IsTrue, inl, inr, subst, sym}
 use Rattle.sqlite.specs.{Effect.Database, State.{State, HasCleanDisk}}
-use Rattle.cli_outcome.specs.declared.place.Place.{Place}
+use Rattle.cli_outcome.specs.declared.listen.ListenAddress.{ListenAddress}
 use Rattle.room_rows.specs.Rows.{Rows}
 use Rattle.store_tables.{specs.{Meaning.rows_of, Shown.HasTables}, proofs.Calls.retains_same}
 use Rattle.room_machine.specs.{Desk.RunsClosed, declared.desk.Desk.Ghosts, Run.{Asking, Event}}
@@ -13,18 +13,18 @@ use Rattle.room_store.specs.{Retained.StillHolds, Kept.{IsOfThisVersion, IsShut,
 use Rattle.room_store.{specs.Kept.Stores, proofs.Outlasting.{idle, leaves_whole}}
 use Rattle.room_store.proofs.Versions.{same_version}
 use Rattle.store_schema.specs.declared.fault.OpenFault.{OpenFault}
-use Rattle.cli_serve.specs.{Lines.{TellsFaults, TellsPlace}, Staying.PassesUntil, Peers.Adds}
+use Rattle.cli_serve.specs.{Lines.{TellsFaults, TellsAddress}, Staying.PassesUntil, Peers.Adds}
 use Rattle.cli_serve.specs.Visits.{IsServedVisit, Visit, moment_of, requests_of, unanswered_of}
 use Rattle.cli_serve.specs.{declared.fault.ServingFault.ServingFault, Hosts.ServesRoom}
 use Rattle.cli_serve.specs.Hosts.{LeavesRequests, LeavesShut, StaysRoom, TellsEnd, end_status}
-use Rattle.cli_serve.specs.Places.{Deed, ListensAt}
+use Rattle.cli_serve.specs.Listening.{Deed, ListensAt}
 
-pub ends : (end : Result (Unit {0}) ServingFault) (place : Place) (status : ℕ)
+pub ends : (end : Result (Unit {0}) ServingFault) (address : ListenAddress) (status : ℕ)
     (out out' : Option (List ℕ))
-    → status ≡ end_status end → OnOk end (TellsPlace place out out')
-    → ((status ≡ 0) × TellsPlace place out out') ⊎ (status ≡ 3)
-ends (Ok done) place status out out' is told = inl (is, told)
-ends (Err fault) place status out out' is told = inr is
+    → status ≡ end_status end → OnOk end (TellsAddress address out out')
+    → ((status ≡ 0) × TellsAddress address out out') ⊎ (status ≡ 3)
+ends (Ok done) address status out out' is told = inl (is, told)
+ends (Err fault) address status out out' is told = inr is
 
 -- what a power cut leaves, where it left what was seen before
 pub leaves_requests : (old new : State) (visits : List Visit)
@@ -34,7 +34,7 @@ leaves_requests old new visits outlasts lasts now sound is_open room keeps =
     search (rules, leaves_whole, old, outlasts, now, sound, is_open, lasts, room, keeps)
 
 -- what a store served, in terms of its content
-unfoldable pub served : (place : Place) (count : ℕ) (told told' : List ℤ → Type 0)
+unfoldable pub served : (address : ListenAddress) (count : ℕ) (told told' : List ℤ → Type 0)
     (did did' : List Deed → Type 0) (old new : State)
     (out out' err mid err' : Option (List ℕ)) (status : ℕ)
     (visits : List Visit) (end : Result (Unit {0}) ServingFault)
@@ -43,12 +43,12 @@ unfoldable pub served : (place : Place) (count : ℕ) (told told' : List ℤ →
     → (HasCleanDisk new → HasCleanDisk old)
     → (HasCleanDisk new → IsSound old → IsSound new)
     → (HasCleanDisk new → IsSound old → Runs (Keeps old) (requests_of visits) (Keeps new))
-    → LeavesShut end new → status ≡ end_status end → OnOk end (TellsPlace place out out')
-    → ListensAt did did' place count visits end out out' → TellsFaults visits err mid end
+    → LeavesShut end new → status ≡ end_status end → OnOk end (TellsAddress address out out')
+    → ListensAt did did' address count visits end out out' → TellsFaults visits err mid end
     → TellsEnd end mid err' → Lasts old → Lasts new
     → Outlasts old (unanswered_of visits) (requests_of visits) new
-    → ServesRoom place count told told' did did' old new out out' err err' status
-served place count told told' did did' old new out out' err mid err' status visits end few each
+    → ServesRoom address count told told' did did' old new out out' err err' status
+served address count told told' did did' old new out out' err mid err' status visits end few each
     moments trusted sound run shut is tells listens connections last lasted lasts outlasts =
     record {
       visits = visits;
@@ -59,7 +59,7 @@ served place count told told' did did' old new out out' err mid err' status visi
       lasts = lasts;
       outlasts = outlasts;
       leaves = leaves_requests old new visits outlasts lasted;
-      ends = ends end place status out out' is tells;
+      ends = ends end address status out out' is tells;
       end = end;
       end_is = is;
       listens = listens;

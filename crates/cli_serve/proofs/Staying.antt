@@ -3,13 +3,14 @@ use Rattle.std.proofs.Common.{◌≡◌, ℕ, ℤ, ◌+◌, ◌<◌, Bool, true,
 use Rattle.std.proofs.Common.{Ok, Err, IfErr, IsTrue, Option, Result, subst, sym, refl, inl, inr, ◌∙◌}
 use Rattle.std.proofs.{Common.{add-one, arith}, lemmas.List.{length-append, Elements.All-nil}}
 use Rattle.std.specs.{Io.KnownBytes.Appends, List.list_any}
-use Rattle.cli_outcome.specs.{Written.WritesSome, declared.place.Place.Place}
+use Rattle.cli_outcome.specs.{Written.WritesSome, declared.listen.ListenAddress.ListenAddress}
 use Rattle.room_machine.specs.{declared.desk.Desk.Ghosts, Desk.{Agrees, DeskLaws}}
 use Rattle.room_machine.proofs.Meeting.{closed_still}
 use Rattle.room_rows.specs.{Content.Content, Rows.Rows}
 use Rattle.room_http.{specs.{Stream.DeskRuns, declared.ended.Cause.Cause}, proofs.Runs.nothing-done}
-use Rattle.cli_serve.specs.{Lines.{TellsEach, TellsFaults, TellsFirst, TellsOf, TellsPlace, Writing}}
-use Rattle.cli_serve.specs.{Lines.had_fault, Peers.{Act, Adds}, Places.{Deed, site_of}, Staying.{Passes, PassesEach}}
+use Rattle.cli_serve.specs.Lines.{TellsAddress, TellsEach, TellsFaults, TellsFirst, TellsOf}
+use Rattle.cli_serve.specs.{Lines.{Writing, had_fault}, Peers.{Act, Adds}, Listening.{Deed, site_of}}
+use Rattle.cli_serve.specs.Staying.{Passes, PassesEach}
 use Rattle.cli_serve.specs.Staying.{PassesUntil, Served, ServedAt, ServedHere, TellsShut}
 use Rattle.cli_serve.specs.Visits.{IsEnd, IsServedVisit, Receives, ReceivesAll, ReceivesOne}
 use Rattle.cli_serve.specs.Visits.{Sources, acts_of, end_acts, sources, until}
@@ -52,14 +53,15 @@ module _ {D : Type 0} (d : Ghosts D) (laws : DeskLaws d.Outlasts) where
       grind (arith, mid, new, is, leaves, old, add-one, before)
 
   -- no connection came, nothing was printed of one, and this was the end
-  pub unserved : (place : Place) (count : ℕ) (from to : Sources) (desk : D) (fault : ServingFault)
+  pub unserved : (address : ListenAddress) (count : ℕ) (from to : Sources) (desk : D)
+      (fault : ServingFault)
       (out out' err : Option (List ℕ))
       → ((before : List ℤ) → from.told before → to.told (before ++ [])) → Adds from.did to.did []
-      → end_acts (Err fault) ≡ [] → TellsFirst place 0 (Err fault) out out'
+      → end_acts (Err fault) ≡ [] → TellsFirst address 0 (Err fault) out out'
       → IsEnd count (Err fault) 0 → PassesUntil d 0 desk desk (Err fault)
-      → ServedAt d place count from to desk desk out out' err err (Err fault)
+      → ServedAt d address count from to desk desk out out' err err (Err fault)
   unfolding at_end nobody
-  unserved place count from to desk fault out out' err moments acts none wrote says stays =
+  unserved address count from to desk fault out out' err moments acts none wrote says stays =
       record {
         served = record {
           receives =
@@ -72,13 +74,13 @@ module _ {D : Type 0} (d : Ghosts D) (laws : DeskLaws d.Outlasts) where
         first = wrote;
       }
 
-  -- the place couldn't be had
-  pub refused_at : (place : Place) (count : ℕ) (told : List ℤ → Type 0)
+  -- the address couldn't be had
+  pub refused_at : (address : ListenAddress) (count : ℕ) (told : List ℤ → Type 0)
       (did did' : List Deed → Type 0) (desk : D) (out err : Option (List ℕ))
-      → Adds did did' (Deed.Refused (site_of place) ∷ [])
-      → ServedHere d place count told told did did' desk desk out out err err
+      → Adds did did' (Deed.Refused (site_of address) ∷ [])
+      → ServedHere d address count told told did did' desk desk out out err err
       (Err ServingFault.Net)
-  refused_at place count told did did' desk out err asked = record {
+  refused_at address count told did did' desk out err asked = record {
     visits = [];
     few = omega arith;
     each = All-nil IsServedVisit;
@@ -178,27 +180,27 @@ module _ {D : Type 0} (d : Ghosts D) (laws : DeskLaws d.Outlasts) where
           faults = lines_then WritesSome to new fault err'' next before now;
         }
 
--- the whole line of the place is enough, unless memory ran out before it
-pub first_told : (place : Place) (visits : ℕ) (end : Result (Unit {0}) ServingFault)
+-- the whole line of the address is enough, unless memory ran out before it
+pub first_told : (address : ListenAddress) (visits : ℕ) (end : Result (Unit {0}) ServingFault)
     (old new : Option (List ℕ)) → IfErr end (λ fault. fault ≡ ServingFault.Memory → ⊥)
-    → TellsPlace place old new → TellsFirst place visits end old new
-first_told place visits (Ok done) old new begun whole = whole
-first_told place visits (Err ServingFault.Memory) old new begun whole = absurd (begun refl)
-first_told place visits (Err ServingFault.File) old new begun whole = inr whole
-first_told place visits (Err ServingFault.Net) old new begun whole = whole
-first_told place visits (Err ServingFault.Desk) old new begun whole = whole
+    → TellsAddress address old new → TellsFirst address visits end old new
+first_told address visits (Ok done) old new begun whole = whole
+first_told address visits (Err ServingFault.Memory) old new begun whole = absurd (begun refl)
+first_told address visits (Err ServingFault.File) old new begun whole = inr whole
+first_told address visits (Err ServingFault.Net) old new begun whole = whole
+first_told address visits (Err ServingFault.Desk) old new begun whole = whole
 
 -- A listener that has done nothing yet served, and was given back: all that it did came of that.
-pub by_listener : {D L : Type 0} (d : Ghosts D) (place : Place) (count : ℕ)
+pub by_listener : {D L : Type 0} (d : Ghosts D) (address : ListenAddress) (count : ℕ)
     (told told' : List ℤ → Type 0) (did : L → List Act → Type 0) (first last : L)
     (deeds bound closed : List Deed → Type 0) (old new : D)
     (out out' err err' : Option (List ℕ)) (end : Result (Unit {0}) ServingFault)
-    → Adds deeds bound (Deed.Bound (site_of place) ∷ []) → did first []
+    → Adds deeds bound (Deed.Bound (site_of address) ∷ []) → did first []
     → ((acts : List Act) → did last acts → Adds bound closed (Deed.Closed acts ∷ []))
-    → ServedAt d place count (sources told (did first)) (sources told' (did last)) old new out out'
-    err err' end
-    → ServedHere d place count told told' deeds closed old new out out' err err' end
-by_listener d place count told told' did first last deeds bound closed old new out out' err err'
+    → ServedAt d address count (sources told (did first)) (sources told' (did last)) old new
+    out out' err err' end
+    → ServedHere d address count told told' deeds closed old new out out' err err' end
+by_listener d address count told told' did first last deeds bound closed old new out out' err err'
     end binds begins closes at =
     let r = at.served.receives in
     let acts = acts_of r.visits ++ end_acts end in
@@ -212,7 +214,7 @@ by_listener d place count told told' did first last deeds bound closed old new o
       faults = at.served.faults;
       listens = inr (record {
         acts =
-            told_on deeds bound closed (Deed.Bound (site_of place) ∷ []) (Deed.Closed acts ∷ []) _
+            told_on deeds bound closed (Deed.Bound (site_of address) ∷ []) (Deed.Closed acts ∷ []) _
             refl binds (closes acts (r.acts [] begins));
         end_says = at.served.end_says;
         first = at.first;

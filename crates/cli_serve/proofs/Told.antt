@@ -58,9 +58,9 @@ fault_among visits next visit fault only ended some =
 -- What holds once some connections came: what the desk did, that none left it shut, and what was
 -- written of them, in whole where that is known. Where it isn't, one of them had a fault.
 pub record IsServing {D : Type 0} (d : Ghosts D) (number : ℕ) (from to : Sources)
-    (desk desk' : D) (told : Bool) (err err' : Option (List ℕ)) : Type 0 where
+    (desk desk' : D) (all_printed : Bool) (err err' : Option (List ℕ)) : Type 0 where
   pub received : ReceivesAll d number from to desk desk'
   pub stays : PassesEach d number desk desk'
-  pub whole : IsTrue told → TellsEach Appends 0 received.0.visits err err'
+  pub whole : IsTrue all_printed → TellsEach Appends 0 received.0.visits err err'
   pub some : TellsEach WritesSome 0 received.0.visits err err'
-  pub due : told ≡ false → IsTrue (list_any had_fault received.0.visits)
+  pub due : all_printed ≡ false → IsTrue (list_any had_fault received.0.visits)

@@ -9,7 +9,7 @@ use Rattle.cli_outcome.specs.Ending.{fault_line, no_room_text}
 use Rattle.cli_outcome.specs.Written.{PrintsFault, PrintsText, WritesSome}
 use Rattle.cli_outcome.specs.declared.fault.Fault.{Fault}
 use Rattle.cli_outcome.specs.declared.no_room.NoRoom.{NoRoom}
-use Rattle.cli_outcome.specs.declared.place.Place.{Place}
+use Rattle.cli_outcome.specs.declared.listen.ListenAddress.{ListenAddress}
 use Rattle.cli_outcome.specs.declared.status.Status.{Status}
 use Rattle.store_schema.specs.declared.fault.OpenFault.{OpenFault}
 use Rattle.store_tables.specs.Shown.{HasTables, IsRoom, Retains}
@@ -21,11 +21,11 @@ use Rattle.room_store.specs.Crash.{Lasts, Leaves, Outlasts}
 use Rattle.room_store.specs.Kept.{IsOfThisVersion, IsShut, IsSound, Keeps, Stores}
 use Rattle.room_store.specs.Leads.{Leads}
 use Rattle.room_store.specs.Opens.{Opens}
-use Rattle.cli_serve.specs.Lines.{TellsFaults, TellsPlace}
+use Rattle.cli_serve.specs.Lines.{TellsFaults, TellsAddress}
 use Rattle.cli_serve.specs.Peers.{Adds}
 use Rattle.cli_serve.specs.Visits.{IsServedVisit, Visit, moment_of, requests_of, unanswered_of}
 use Rattle.cli_serve.specs.declared.fault.ServingFault.{ServingFault}
-use Rattle.cli_serve.specs.Places.{Deed, ListensAt}
+use Rattle.cli_serve.specs.Listening.{Deed, ListensAt}
 
 -- the line that is printed where the database holds no room of this version
 abbrev pub refusal_line : NoRoom → List ℕ
@@ -105,7 +105,7 @@ pub record StaysRoom (old new : State) : Type 0 where
       × Retains old.now.trees new.now.trees
   pub left : (db : Trees) → new.may_leave db → TreesOf (IsStillRoom old.now) db
 
--- The database was not opened as a room: no place was asked for, and nothing was served.
+-- The database was not opened as a room: no address was asked for, and nothing was served.
 pub record IsTurnedDown (did did' : List Deed → Type 0) (old new : State)
     (out out' err err' : Option (List ℕ)) (status : ℕ) : Type 0 where
   pub why : OpenFault
@@ -116,13 +116,13 @@ pub record IsTurnedDown (did did' : List Deed → Type 0) (old new : State)
   pub asked_none : Adds did did' []
 
 -- The requests of at most `count` connections were served, each at the moment that the clock read
--- for it. This place of this machine alone was asked for, and these are all connections that came
+-- for it. This address of this machine alone was asked for, and these are all connections that came
 -- there: no other peer was met, and nothing else was told to these. All is done, or there was a
--- fault, and what the fault says of the place and of the connections holds. The place was printed
--- before the first of them, and faults of these connections as they came. As long as the connection
--- to the database is open, a power cut leaves what is seen. Whether it is open or not, a power cut
--- leaves all requests that were answered, and at most one that wasn't, as a whole.
-pub record ServesRoom (place : Place) (count : ℕ) (told told' : List ℤ → Type 0)
+-- fault, and what the fault says of the address and of the connections holds. The address was
+-- printed before the first of them, and faults of these connections as they came. As long as the
+-- connection to the database is open, a power cut leaves what is seen. Whether it is open or not, a
+-- power cut leaves all requests that were answered, and at most one that wasn't, as a whole.
+pub record ServesRoom (address : ListenAddress) (count : ℕ) (told told' : List ℤ → Type 0)
     (did did' : List Deed → Type 0) (old new : State) (out out' err err' : Option (List ℕ))
     (status : ℕ) : Type 0 where
   pub visits : List Visit
@@ -133,10 +133,10 @@ pub record ServesRoom (place : Place) (count : ℕ) (told told' : List ℤ → T
   pub lasts : Lasts new
   pub outlasts : Outlasts old (unanswered_of visits) (requests_of visits) new
   pub leaves : LeavesRequests old visits new
-  pub ends : ((status ≡ 0) × TellsPlace place out out') ⊎ (status ≡ 3)
+  pub ends : ((status ≡ 0) × TellsAddress address out out') ⊎ (status ≡ 3)
   pub end : Result (Unit {0}) ServingFault
   pub end_is : status ≡ end_status end
-  pub listens : ListensAt did did' place count visits end out out'
+  pub listens : ListensAt did did' address count visits end out out'
   pub shut : LeavesShut end new
   pub faults : TellsAll visits end err err'
 
@@ -144,12 +144,12 @@ module _ {S : Type 0} (shown : Held S → State) where
   -- The room was opened, and it served. From before it was opened on, and however damaged it was,
   -- each request was judged by the lists that the rows stored then, and nothing else changed these
   -- rows. A power cut leaves what was answered.
-  pub record IsHosted (place : Place) (count : ℕ) (told told' : List ℤ → Type 0)
+  pub record IsHosted (address : ListenAddress) (count : ℕ) (told told' : List ℤ → Type 0)
       (did did' : List Deed → Type 0) (old new : Held S) (out out' err err' : Option (List ℕ))
       (status : ℕ) : Type 0 where
     pub mid : Held S
     pub opens : Opens (shown old) (shown mid) (Ok tt)
-    pub served : ServesRoom place count told told' did did' (shown mid) (shown new) out out' err
+    pub served : ServesRoom address count told told' did did' (shown mid) (shown new) out out' err
         err' status
     pub closed : HasCleanDisk (shown new)
         → RunsClosed (Stores (shown old)) (requests_of served.visits) (Stores (shown new))
@@ -159,9 +159,9 @@ module _ {S : Type 0} (shown : Held S → State) where
     pub stays : HasCleanDisk (shown new) → IsTrue (shown old).is_open → HasTables (shown old).now
         → StaysRoom (shown old) (shown new)
 
-  abbrev pub Hosts : Place → ℕ → (List ℤ → Type 0) → (List ℤ → Type 0) → (List Deed → Type 0)
-      → (List Deed → Type 0) → Held S → Held S → Option (List ℕ)
+  abbrev pub Hosts : ListenAddress → ℕ → (List ℤ → Type 0) → (List ℤ → Type 0)
+      → (List Deed → Type 0) → (List Deed → Type 0) → Held S → Held S → Option (List ℕ)
       → Option (List ℕ) → Option (List ℕ) → Option (List ℕ) → ℕ → Type 0
-  Hosts place count told told' did did' old new out out' err err' status =
+  Hosts address count told told' did did' old new out out' err err' status =
       IsTurnedDown did did' (shown old) (shown new) out out' err err' status
-      ⊎ IsHosted place count told told' did did' old new out out' err err' status
+      ⊎ IsHosted address count told told' did did' old new out out' err err' status

@@ -4,4 +4,4 @@ pub mod Peers
 pub mod Staying
 pub mod Visits
 pub mod Hosts
-pub mod Places
+pub mod Listening

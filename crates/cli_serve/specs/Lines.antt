@@ -4,30 +4,30 @@ use Rattle.std.specs.Prelude.{Bool, IsTrue, Option, Some, None, Result, Ok, Err}
 use Rattle.std.specs.{List.list_any, Option.is_some}
 use Rattle.std.specs.Io.KnownBytes.{Appends}
 use Rattle.cli_outcome.specs.Written.{WritesSome}
-use Rattle.cli_outcome.specs.declared.place.Place.{Place}
-use Rattle.cli_outcome.specs.declared.place.Place.TheVariants as place
+use Rattle.cli_outcome.specs.declared.listen.ListenAddress.{ListenAddress}
+use Rattle.cli_outcome.specs.declared.listen.ListenAddress.TheVariants as address
 use Rattle.room_http.specs.declared.ended.Cause.{Cause}
 use Rattle.cli_serve.specs.Visits.{Visit}
 use Rattle.cli_serve.specs.declared.fault.ServingFault.{ServingFault}
 
--- the place at which connections are accepted
-abbrev pub listening_line : Place → List ℕ
-listening_line (place.Port port) = codes "listening 127.0.0.1:" ++ (decimal port ++ codes "\n")
-listening_line (place.Socket path) = codes "listening " ++ (path.now ++ codes "\n")
+-- the address at which connections are accepted
+abbrev pub listening_line : ListenAddress → List ℕ
+listening_line (address.Port port) = codes "listening 127.0.0.1:" ++ (decimal port ++ codes "\n")
+listening_line (address.Socket path) = codes "listening " ++ (path.now ++ codes "\n")
 
 -- it was printed that connections are accepted there
-abbrev pub TellsPlace : Place → Option (List ℕ) → Option (List ℕ) → Type 0
-TellsPlace place old new = Appends old new (listening_line place)
+abbrev pub TellsAddress : ListenAddress → Option (List ℕ) → Option (List ℕ) → Type 0
+TellsAddress address old new = Appends old new (listening_line address)
 
--- The place was printed before the first of that many connections. Where there was none and a line
--- couldn't be printed, a front of its line may have been. Out of memory for the table of routes,
--- nothing was.
-abbrev pub TellsFirst : Place → ℕ → Result (Unit {0}) ServingFault → Option (List ℕ)
+-- The address was printed before the first of that many connections. Where there was none and a
+-- line couldn't be printed, a front of its line may have been. Out of memory for the table of
+-- routes, nothing was.
+abbrev pub TellsFirst : ListenAddress → ℕ → Result (Unit {0}) ServingFault → Option (List ℕ)
     → Option (List ℕ) → Type 0
-TellsFirst place visits (Err ServingFault.Memory) old new = new ≡ old
-TellsFirst place visits (Err ServingFault.File) old new =
-    ((visits ≡ 0) × WritesSome old new (listening_line place)) ⊎ TellsPlace place old new
-TellsFirst place visits end old new = TellsPlace place old new
+TellsFirst address visits (Err ServingFault.Memory) old new = new ≡ old
+TellsFirst address visits (Err ServingFault.File) old new =
+    ((visits ≡ 0) × WritesSome old new (listening_line address)) ⊎ TellsAddress address old new
+TellsFirst address visits end old new = TellsAddress address old new
 
 -- what ended the connection of this number
 abbrev pub connection_line : ℕ → Cause → List ℕ
@@ -59,8 +59,8 @@ abbrev pub had_fault : Visit → Bool
 had_fault visit = is_some visit.fault
 
 -- What is written about the faults of these connections: whole lines if all is done. Otherwise lines
--- may be cut off. Where a line couldn't be printed, it was that of the place, before any connection
--- came, or one about these connections: then one of them had a fault.
+-- may be cut off. Where a line couldn't be printed, it was that of the address, before any
+-- connection came, or one about these connections: then one of them had a fault.
 abbrev pub TellsFaults : List Visit → Option (List ℕ) → Option (List ℕ)
     → Result (Unit {0}) ServingFault → Type 0
 TellsFaults visits old new (Ok done) = TellsEach Appends 0 visits old new

@@ -2,13 +2,13 @@
 use Rattle.std.specs.Prelude.{◌≡◌, ◌⊎◌, ◌≤◌, ℕ, ℤ, ◌+◌, Bool, true, false, zero, suc, All, List, []}
 use Rattle.std.specs.Prelude.{length, map, Option, Result, Err}
 use Rattle.room_machine.specs.declared.desk.Desk.{Ghosts}
-use Rattle.cli_outcome.specs.declared.place.Place.{Place}
+use Rattle.cli_outcome.specs.declared.listen.ListenAddress.{ListenAddress}
 use Rattle.room_rows.specs.Keep.{one_more}
 use Rattle.room_http.specs.Stream.{DeskRuns}
 use Rattle.cli_serve.specs.Lines.{TellsFaults, TellsFirst}
 use Rattle.room_http.specs.declared.ended.Cause.{Cause}
 use Rattle.cli_serve.specs.Peers.{Adds}
-use Rattle.cli_serve.specs.Places.{Deed, ListensAt}
+use Rattle.cli_serve.specs.Listening.{Deed, ListensAt}
 use Rattle.cli_serve.specs.Visits.{Attends, IsEnd, IsServedVisit, Meeting, Receives, Sources, Visit}
 use Rattle.cli_serve.specs.Visits.{moment_of, requests_of, unanswered_of, until}
 use Rattle.cli_serve.specs.declared.fault.ServingFault.{ServingFault}
@@ -55,16 +55,15 @@ pub record Served {D : Type 0} (d : Ghosts D) (count : ℕ) (from to : Sources) 
   pub stays : PassesUntil d (length receives.visits) old new end
   pub faults : TellsFaults receives.visits err err' end
 
--- The same with what was printed of the place before the first of them.
-pub record ServedAt {D : Type 0} (d : Ghosts D) (place : Place) (count : ℕ) (from to : Sources)
-    (old new : D)
-    (out out' err err' : Option (List ℕ)) (end : Result (Unit {0}) ServingFault)
-    : Type 0 where
+-- The same with what was printed of the address before the first of them.
+pub record ServedAt {D : Type 0} (d : Ghosts D) (address : ListenAddress) (count : ℕ)
+    (from to : Sources) (old new : D) (out out' err err' : Option (List ℕ))
+    (end : Result (Unit {0}) ServingFault) : Type 0 where
   pub served : Served d count from to old new err err' end
-  pub first : TellsFirst place (length served.receives.visits) end out out'
+  pub first : TellsFirst address (length served.receives.visits) end out out'
 
--- The same from before a place was asked for to after its listener was given back.
-pub record ServedHere {D : Type 0} (d : Ghosts D) (place : Place) (count : ℕ)
+-- The same from before an address was asked for to after its listener was given back.
+pub record ServedHere {D : Type 0} (d : Ghosts D) (address : ListenAddress) (count : ℕ)
     (told told' : List ℤ → Type 0) (did did' : List Deed → Type 0) (old new : D)
     (out out' err err' : Option (List ℕ)) (end : Result (Unit {0}) ServingFault)
     : Type 0 where
@@ -75,4 +74,4 @@ pub record ServedHere {D : Type 0} (d : Ghosts D) (place : Place) (count : ℕ)
   pub runs : DeskRuns d old (unanswered_of visits) (requests_of visits) new
   pub stays : PassesUntil d (length visits) old new end
   pub faults : TellsFaults visits err err' end
-  pub listens : ListensAt did did' place count visits end out out'
+  pub listens : ListensAt did did' address count visits end out out'

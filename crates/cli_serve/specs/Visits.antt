@@ -164,7 +164,7 @@ pub record ReceivesOne {D : Type 0} (d : Ghosts D) (fault : Option Cause) (from 
 
 -- What an end says of the number of visits. Where all is done, there were as many as connections
 -- were to be served. Out of memory there was none, and where the listener failed at least one is
--- missing. Where a line couldn't be printed, it was that of the place, or all were served. Where
+-- missing. Where a line couldn't be printed, it was that of the address, or all were served. Where
 -- the desk is shut, a connection left it so.
 abbrev pub IsEnd : ℕ → Result (Unit {0}) ServingFault → ℕ → Type 0
 IsEnd count (Ok done) visits = visits ≡ count

@@ -8,7 +8,7 @@ pub enum ServingFault {
     /// A line could not be printed. Where it was that of a connection's fault, all connections were
     /// served all the same.
     File,
-    /// The place can't be had, or its listener can't accept any more connections.
+    /// The address can't be had, or its listener can't accept any more connections.
     Net,
     /// The connection that was served last left the desk shut: it answers no request any more.
     Desk,

@@ -2,31 +2,31 @@
 ghost use Rattle.std.specs.Prelude.{◌≡◌, ◌++◌, IfSome, IsTrue, OnOk};
 ghost use Rattle.std.specs.Io.KnownBytes.{Appends};
 ghost use Rattle.cli_outcome.specs.Written.{WritesSome};
-ghost use Rattle.cli_serve.specs.Lines.{TellsPlace, connection_line, listening_line};
+ghost use Rattle.cli_serve.specs.Lines.{TellsAddress, connection_line, listening_line};
 
 use arrayvec::ArrayString;
-use cli_outcome::{Place, send_text};
+use cli_outcome::{ListenAddress, send_text};
 use room_http::Cause;
 use std::fmt;
 use std::fmt::Write as _;
 use std::io::Write;
 
-// Adds the line of the place to a text, if it fits.
-fn add_place(text: &mut ArrayString<128>, place: &Place<'_>) -> fmt::Result
-    ensures { OnOk result (text.new.bytes ≡ text.old.bytes ++ listening_line place.now) }
+// Adds the line of the address to a text, if it fits.
+fn add_address(text: &mut ArrayString<128>, address: &ListenAddress<'_>) -> fmt::Result
+    ensures { OnOk result (text.new.bytes ≡ text.old.bytes ++ listening_line address.now) }
 {
-    match place {
-        Place::Port(port) => write!(text, "listening 127.0.0.1:{port}\n"),
-        Place::Socket(path) => write!(text, "listening {path}\n"),
+    match address {
+        ListenAddress::Port(port) => write!(text, "listening 127.0.0.1:{port}\n"),
+        ListenAddress::Socket(path) => write!(text, "listening {path}\n"),
     }
 }
 
 // It takes no memory, as that of a connection doesn't. The path of a socket has 107 bytes at most.
-fn line_of_place(place: &Place<'_>) -> Option<ArrayString<128>>
-    ensures { IfSome result (λ line. line.bytes ≡ listening_line place.now) }
+fn line_of_address(address: &ListenAddress<'_>) -> Option<ArrayString<128>>
+    ensures { IfSome result (λ line. line.bytes ≡ listening_line address.now) }
 {
     let mut line = ArrayString::new();
-    match add_place(&mut line, place) {
+    match add_address(&mut line, address) {
         Ok(()) => Some(line),
         Err(_) => None,
     }
@@ -34,13 +34,13 @@ fn line_of_place(place: &Place<'_>) -> Option<ArrayString<128>>
 
 /// Prints where connections are accepted, before the first is, and answers whether all of the line
 /// was printed.
-pub(crate) fn tell_place<O: Write>(out: &mut O, place: &Place<'_>) -> bool
+pub(crate) fn tell_address<O: Write>(out: &mut O, address: &ListenAddress<'_>) -> bool
     ensures whole { IsTrue result
-        → TellsPlace place.now (O.contents out.old) (O.contents out.new) }
+        → TellsAddress address.now (O.contents out.old) (O.contents out.new) }
     ensures some { WritesSome (O.contents out.old) (O.contents out.new)
-        (listening_line place.now) }
+        (listening_line address.now) }
 {
-    match line_of_place(place) {
+    match line_of_address(address) {
         Some(line) => send_text(out, line.as_str().as_bytes()).is_ok(),
         None => false,
     }

@@ -2,7 +2,7 @@
 ghost use Rattle.std.specs.Prelude.{IfOk, List, [], ◌∷◌, ⊤};
 ghost use Rattle.std.specs.Net.Addr.{ipv4_octets};
 ghost use Rattle.cli_serve.specs.Peers.{Act, Adds};
-ghost use Rattle.cli_serve.specs.Places.{Deed, Site, asked_by};
+ghost use Rattle.cli_serve.specs.Listening.{Deed, Site, asked_by};
 
 use crate::accepting::Listens;
 use crate::sockets::{NetListener, file_at, give_up};
@@ -21,10 +21,11 @@ pub trait Ports {
     // listeners did that were given back.
     ghost did: { Self → List Deed → Type 0 };
 
-    /// A listener at a port of an address, which has done nothing yet, or the error of the network.
-    fn bind(&mut self, address: Ipv4Addr, port: u16) -> io::Result<Self::Listener>
+    /// A listener at a port of an IP address, which has done nothing yet, or the error of the
+    /// network.
+    fn bind(&mut self, ip: Ipv4Addr, port: u16) -> io::Result<Self::Listener>
         ensures did { Adds (did self.old) (did self.new)
-            (asked_by result (Site.Port (ipv4_octets address) port) ∷ []) }
+            (asked_by result (Site.Port (ipv4_octets ip) port) ∷ []) }
         ensures begins { IfOk result (λ listener. Self.Listener.did listener []) };
 
     /// A listener at a socket whose file is made at this path, which has done nothing yet, or the
@@ -65,8 +66,8 @@ where
     // The contract of a system says nothing of what it is asked for.
     ghost did = { λ _ _. ⊤ };
 
-    fn bind(&mut self, address: Ipv4Addr, port: u16) -> io::Result<NetListener> {
-        let listener = TcpListener::bind(self.system, (address, port))?;
+    fn bind(&mut self, ip: Ipv4Addr, port: u16) -> io::Result<NetListener> {
+        let listener = TcpListener::bind(self.system, (ip, port))?;
         Ok(NetListener::Tcp(listener))
     }
 

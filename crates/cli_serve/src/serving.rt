@@ -4,16 +4,16 @@ ghost use Rattle.std.specs.Option.{is_some};
 ghost use Rattle.std.specs.Io.KnownBytes.{Appends};
 ghost use Rattle.cli_outcome.specs.Written.{WritesSome};
 ghost use Rattle.room_http.specs.Stream.{DeskRuns};
-ghost use Rattle.cli_serve.specs.Lines.{TellsOf, TellsPlace};
+ghost use Rattle.cli_serve.specs.Lines.{TellsOf, TellsAddress};
 ghost use Rattle.cli_serve.specs.Peers.{Act, Adds, Wire, wire};
 ghost use Rattle.cli_serve.specs.Staying.{AttendsOne, Passes, Served, ServedAt, TellsShut};
 ghost use Rattle.cli_serve.specs.Visits.{Attends, Meeting, Receives, ReceivesOne, sources, until};
 
 use crate::accepting::{Listens, Peer};
 use crate::fault::ServingFault;
-use crate::lines::{tell_fault, tell_place};
+use crate::lines::{tell_address, tell_fault};
 use crate::moment::Moments;
-use cli_outcome::Place;
+use cli_outcome::ListenAddress;
 use http_message::Routes;
 use room_http::{Cause, serve};
 use room_machine::Desk;
@@ -24,15 +24,15 @@ use std::io::{Read, Write};
 #[derive(Drop)]
 pub struct Listening<'a, L> {
     pub listener: L,
-    /// The place of the listener.
-    pub place: Place<'a>,
+    /// The address of the listener.
+    pub address: ListenAddress<'a>,
     pub count: u32,
 }
 
 /// Serves `count` connections of the listener, one after another. First it prints on `out` that it
-/// listens at `place`. The clock is read once for each connection, when it is accepted: this is the
-/// moment of its requests. A fault of a connection is printed on `err`, and the next one is served.
-/// A connection that is lost before it is accepted counts as one whose reading failed.
+/// listens at `address`. The clock is read once for each connection, when it is accepted: this is
+/// the moment of its requests. A fault of a connection is printed on `err`, and the next one is
+/// served. A connection that is lost before it is accepted counts as one whose reading failed.
 ///
 /// After each connection the desk is asked whether it is shut. While it isn't, or couldn't find
 /// out, the next connection is accepted, whatever fault it had.
@@ -48,19 +48,19 @@ pub fn serve_on<D: Desk, L: Listens, M: Moments, O: Write, E: Write>(
     out: &mut O,
     err: &mut E,
 ) -> Result<(), ServingFault>
-    ensures served { ServedAt D.Desk listening.old.place listening.old.count
+    ensures served { ServedAt D.Desk listening.old.address listening.old.count
         (sources (M.told clock.old) (L.did listening.old.listener))
         (sources (M.told clock.new) (L.did listening.new.listener))
         desk.old desk.new (O.contents out.old) (O.contents out.new)
         (E.contents err.old) (E.contents err.new) result }
     ensures told { OnOk result
-        (TellsPlace listening.old.place (O.contents out.old) (O.contents out.new)) }
+        (TellsAddress listening.old.address (O.contents out.old) (O.contents out.new)) }
 {
     let Ok(routes) = Routes::new(alloc) else {
         return Err(ServingFault::Memory);
     };
     let count = listening.count;
-    if tell_place(out, &listening.place) {
+    if tell_address(out, &listening.address) {
         serve_each(&routes, desk, clock, &mut listening.listener, count, err)
     } else {
         Err(ServingFault::File)
@@ -82,19 +82,19 @@ fn serve_each<D: Desk, L: Listens, M: Moments, E: Write>(
         (E.contents err.old) (E.contents err.new) result }
     ensures fault { IfErr result (λ fault. fault ≡ ServingFault.Memory → ⊥) }
 {
-    let mut told = true;
+    let mut all_printed = true;
     'connections: for number in 0..count {
         let left = match pass(routes, desk, clock, listener) {
             Ok(left) => left,
             Err(fault) => return Err(fault),
         };
-        let whole = is_told(err, number, left.lost);
+        let printed = is_printed(err, number, left.lost);
         if left.shut {
             return Err(ServingFault::Desk);
         }
-        told = told && whole;
+        all_printed = all_printed && printed;
     }
-    if told {
+    if all_printed {
         Ok(())
     } else {
         Err(ServingFault::File)
@@ -102,7 +102,7 @@ fn serve_each<D: Desk, L: Listens, M: Moments, E: Write>(
 }
 
 // Whether the fault of the connection after `before` others was printed in whole, if it had one.
-fn is_told<E: Write>(err: &mut E, before: u32, lost: Option<Cause>) -> bool
+fn is_printed<E: Write>(err: &mut E, before: u32, lost: Option<Cause>) -> bool
     ensures whole { IsTrue result
         → TellsOf Appends (before + 1) lost (E.contents err.old) (E.contents err.new) }
     ensures some { TellsOf WritesSome (before + 1) lost (E.contents err.old) (E.contents err.new) }

@@ -11,8 +11,8 @@ use Rattle.clap.specs.declared.error.kind.ErrorKind.{ErrorKind}
 use Rattle.clap.specs.declared.error.kind.ErrorKind.TheVariants as kinds
 use Rattle.clap.specs.declared.parser.matches.ValueSource.{ValueSource}
 use Rattle.clap.specs.declared.parser.matches.ValueSource.TheVariants.{DefaultValue, CommandLine}
-use Rattle.cli_outcome.specs.declared.place.Place.{Place}
-use Rattle.cli_outcome.specs.declared.place.Place.TheVariants as place
+use Rattle.cli_outcome.specs.declared.listen.ListenAddress.{ListenAddress}
+use Rattle.cli_outcome.specs.declared.listen.ListenAddress.TheVariants as address
 use Rattle.room_entry.specs.declared.failure.Failure.{Failure}
 use Rattle.room_entry.specs.declared.failure.Failure.TheVariants.{OutOfMemory, Fault}
 use Rattle.cli_words.specs.declared.command.CliFault.{CliFault}
@@ -101,11 +101,11 @@ names_two None = false
 names_two (Some found) =
     was_given (codes "port") found.1 && is_some (first_of (codes "socket") found.1)
 
--- The place is the socket that was given. Where none was, it is the port that was given or is the
+-- The address is the socket that was given. Where none was, it is the port that was given or is the
 -- default.
-abbrev pub IsPlace : List Row → Place → Type 0
-IsPlace rows (place.Socket path) = first_of (codes "socket") rows ≡ Some path.now
-IsPlace rows (place.Port port) = (first_of (codes "socket") rows ≡ None)
+abbrev pub IsAddress : List Row → ListenAddress → Type 0
+IsAddress rows (address.Socket path) = first_of (codes "socket") rows ≡ Some path.now
+IsAddress rows (address.Port port) = (first_of (codes "socket") rows ≡ None)
     × IsNumber 16 8780 (one_of (codes "port") rows) port
 
 -- A job of this name, with its words.
@@ -131,8 +131,8 @@ IsJob name rows job.Migrate = name ≡ codes "migrate"
 -- A subcommand of this name, with its words.
 abbrev pub IsMet : Text → List Row → Command → Type 0
 IsMet name rows command.Check = name ≡ codes "check"
-IsMet name rows (command.Serve file place count) = (name ≡ codes "serve")
-    × (file.now ≡ word (codes "FILE") rows) × IsPlace rows place
+IsMet name rows (command.Serve file address count) = (name ≡ codes "serve")
+    × (file.now ≡ word (codes "FILE") rows) × IsAddress rows address
     × IsNumber 32 1 (one_of (codes "count") rows) count
 IsMet name rows (command.On file job) =
     (file.now ≡ word (codes "FILE") rows) × IsJob name rows job
@@ -155,7 +155,7 @@ IsCommand None command = ⊥
 IsCommand (Some found) command = IsMet found.0 found.1 command
 
 -- The words are without fault, this is the command that `clap` finds in them, and it names one
--- place at most.
+-- address at most.
 abbrev pub IsRead : List Text → Command → Type 0
 IsRead words command = (names : Bor (List (Bor Text))) × AreAttributes names
     × (fault_of (command_line names) words ≡ [])
@@ -163,7 +163,7 @@ IsRead words command = (names : Bor (List (Bor Text))) × AreAttributes names
     × IsCommand (subcommand_of (command_line names) words) command
 
 -- `clap` doesn't take the words, for a reason of this kind. Or it takes them, and they name two
--- places, which is a conflict.
+-- addresses, which is a conflict.
 abbrev pub IsReason : App → List Text → ErrorKind → Type 0
 IsReason app words kind =
     ((takes app words ≡ false) × IsAmong kind (fault_of app words))

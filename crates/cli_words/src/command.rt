@@ -3,7 +3,7 @@ ghost use Rattle.std.specs.Prelude.{◌≡◌};
 ghost use Rattle.cli_words.specs.Asked.{input_of};
 
 use clap::error::ErrorKind;
-use cli_outcome::Place;
+use cli_outcome::ListenAddress;
 use room_entry::Which;
 
 /// A subcommand and its words. Files, names and paths stay texts, which are judged afterwards.
@@ -11,10 +11,10 @@ use room_entry::Which;
 pub enum Command<'a> {
     /// Judges the list that the standard input holds.
     Check,
-    /// Serves this number of connections at this place, one after the other.
+    /// Serves this number of connections at this address, one after the other.
     Serve {
         file: &'a str,
-        place: Place<'a>,
+        address: ListenAddress<'a>,
         count: u32,
     },
     /// Does this job on the file of this name.

@@ -6,7 +6,7 @@ ghost use Rattle.clap.specs.Words.{subcommand_rows_of};
 ghost use Rattle.clap.specs.declared.error.kind.ErrorKind.TheVariants.{ArgumentConflict};
 ghost use Rattle.cli_words.specs.Command.{HasNumber, HasWord, HasWords, IsCommand, IsFlag, IsJob};
 ghost use Rattle.cli_words.specs.Command.{IsList, IsMet, IsName, IsNumber, IsRead, IsRefused};
-ghost use Rattle.cli_words.specs.Command.{IsPlace, IsTold, IsWhole, is_of_words, names_two};
+ghost use Rattle.cli_words.specs.Command.{IsAddress, IsTold, IsWhole, is_of_words, names_two};
 ghost use Rattle.cli_words.specs.Command.{was_given, which_in, word};
 
 use crate::command::{CliFault, Command, Job};
@@ -15,7 +15,7 @@ use crate::line::command_line;
 use clap::ArgMatches;
 use clap::error::{Error, ErrorKind};
 use clap::parser::ValueSource;
-use cli_outcome::Place;
+use cli_outcome::ListenAddress;
 use room_entry::{Failure, Which};
 use std::alloc::Global;
 use std::convert::AsStr;
@@ -70,13 +70,13 @@ fn socket<'a>(words: &ArgMatches<'a>) -> Option<&'a str>
     words.get_str(SOCKET)
 }
 
-fn place<'a>(words: &ArgMatches<'a>) -> Place<'a>
+fn address<'a>(words: &ArgMatches<'a>) -> ListenAddress<'a>
     requires { HasNumber (codes "port") 65535 (rows_of (found_of words.now)) }
-    ensures { IsPlace (rows_of (found_of words.now)) result }
+    ensures { IsAddress (rows_of (found_of words.now)) result }
 {
     match socket(words) {
-        Some(path) => Place::Socket(path),
-        None => Place::Port(port(words)),
+        Some(path) => ListenAddress::Socket(path),
+        None => ListenAddress::Port(port(words)),
     }
 }
 
@@ -106,7 +106,7 @@ fn serve<'a>(words: &ArgMatches<'a>) -> Command<'a>
 {
     Command::Serve {
         file: word(words, FILE),
-        place: place(words),
+        address: address(words),
         count: count(words),
     }
 }
@@ -229,7 +229,7 @@ fn command_met<'a>(matches: &ArgMatches<'a>) -> Command<'a>
     }
 }
 
-// The command that the matches name, if it has one place at most.
+// The command that the matches name, if it has one address at most.
 fn command_of<'a>(alloc: Global, matches: &ArgMatches<'a>) -> Result<Command<'a>, Failure<CliFault>>
     requires { IsWhole (subcommand_rows_of matches.now) }
     ensures ok { IfOk result (λ command. (names_two (subcommand_rows_of matches.now) ≡ false)
@@ -238,13 +238,13 @@ fn command_of<'a>(alloc: Global, matches: &ArgMatches<'a>) -> Result<Command<'a>
         × IsTold ArgumentConflict failure) }
 {
     if names_two(matches) {
-        return Err(two_places(alloc));
+        return Err(two_addresses(alloc));
     }
     Ok(command_met(matches))
 }
 
-// What is said of words that name two places.
-fn two_places(alloc: Global) -> Failure<CliFault>
+// What is said of words that name two addresses.
+fn two_addresses(alloc: Global) -> Failure<CliFault>
     ensures { IsTold ArgumentConflict result }
 {
     match String::from_str(alloc, TWO_PLACES) {

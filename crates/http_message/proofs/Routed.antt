@@ -1,26 +1,26 @@
--- Worked examples: the words of paths, and the paths after them.
+-- Worked examples: the routes of paths, and the paths after them.
 use Rattle.std.proofs.Common.{◌≡◌, Some, None, refl, codes}
 use Rattle.matchit.proofs.OnLiterals.{matchit_on_literals}
 use Rattle.percent_encoding.proofs.OnLiterals.{percent_encoding_on_literals}
-use Rattle.http_message.specs.{declared.word.Word.Word, Routes.{word_of, routes, with_route}}
+use Rattle.http_message.specs.{declared.route.Route.Route, Router.{route_of, routes, with_pattern}}
 use Rattle.http_message.specs.Target.{named_path}
 
-document : word_of (codes "/doc/a%2Ff") ≡ Some Word.Doc
-unfolding routes with_route matchit_on_literals
+document : route_of (codes "/doc/a%2Ff") ≡ Some Route.Doc
+unfolding routes with_pattern matchit_on_literals
 document = refl
 
-root : word_of (codes "/can/") ≡ Some Word.Can
-unfolding routes with_route matchit_on_literals
+root : route_of (codes "/can/") ≡ Some Route.Can
+unfolding routes with_pattern matchit_on_literals
 root = refl
 
-no_word : word_of (codes "/nope") ≡ None
-unfolding routes with_route matchit_on_literals
-no_word = refl
+no_route : route_of (codes "/nope") ≡ None
+unfolding routes with_pattern matchit_on_literals
+no_route = refl
 
-no_slash : word_of (codes "/doc") ≡ None
-unfolding routes with_route matchit_on_literals
+no_slash : route_of (codes "/doc") ≡ None
+unfolding routes with_pattern matchit_on_literals
 no_slash = refl
 
-escaped_slash : named_path Word.Doc (codes "/doc/a%2Ff") ≡ codes "/a/f"
+escaped_slash : named_path Route.Doc (codes "/doc/a%2Ff") ≡ codes "/a/f"
 unfolding percent_encoding_on_literals
 escaped_slash = refl

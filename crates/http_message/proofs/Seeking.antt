@@ -1,4 +1,4 @@
--- The word of a path, by a walk over the table of routes.
+-- The route of a path, by a walk over the table of patterns.
 use Rattle.std.proofs.Common.{rules, ◌≡◌, ◌⊎◌, ℕ, zero, suc, ◌-◌, Bool, true, false, not, cond}
 use Rattle.std.proofs.Common.{◌==◌, ◌&&◌, List, [], ◌∷◌, ◌++◌, length, Option, Some, None}
 use Rattle.std.proofs.Common.{option_map, nat_eq, refl, ap, ◌∙◌, inl, inr, true≢false, arith}
@@ -7,8 +7,8 @@ use Rattle.std.specs.{Prelude.⊤, List.starts_with}
 use Rattle.matchit.specs.{Rows.{RowsOf, param_token, catch_all_token}, Router.RouteOf, Seek.own}
 use Rattle.matchit.specs.Seek.{step, or_else, seek, param_step, has_slash}
 use Rattle.matchit.proofs.OnLiterals.{matchit_on_literals}
-use Rattle.http_message.specs.{declared.word.Word.Word, Laws.{WordsBeginPaths, word_start}}
-use Rattle.http_message.specs.Routes.{routes, with_route, word_of}
+use Rattle.http_message.specs.{declared.route.Route.Route, Laws.{RoutesBeginPaths, route_start}}
+use Rattle.http_message.specs.Router.{routes, with_pattern, route_of}
 
 -- ---- rows without a parameter
 
@@ -43,7 +43,7 @@ at_byte {K} b rs p none =
     (or_else x (own (step catch_all_token rs))))
     (after_none (step param_token rs) (b ∷ p) p none)
 
--- ---- a path with a word
+-- ---- a path with a route
 
 abbrev steps : {K : Type 0} → List ℕ → RowsOf K → RowsOf K
 steps [] rs = rs
@@ -92,26 +92,26 @@ at_two {K} below here (b ∷ p) =
     ∙ or_below (seek 0 (step b (two_rows below here)) p) below
     (past_row (catch_all_token == b) below p))
 
-word_at : (w rest : List ℕ) (word : Word) (below here : RouteOf Word)
+route_at : (w rest : List ℕ) (route : Route) (below here : RouteOf Route)
     → steps w routes ≡ two_rows below here
-    → below.value ≡ word → here.value ≡ word → word_of (w ++ rest) ≡ Some word
-word_at w rest word below here rows b h = elim (at_two below here rest) [
+    → below.value ≡ route → here.value ≡ route → route_of (w ++ rest) ≡ Some route
+route_at w rest route below here rows b h = elim (at_two below here rest) [
   | inl is ↦ search (rules, option_map, reaches, below, rows, is, b)
   | inr is ↦ search (rules, option_map, reaches, here, rows, is, h)
 ]
 
-begins : (word : Word) (rest : List ℕ) → word_of (word_start word ++ rest) ≡ Some word
-unfolding routes with_route matchit_on_literals
-begins Word.Doc rest = word_at (word_start Word.Doc) rest Word.Doc _ _ refl refl refl
-begins Word.Folder rest = word_at (word_start Word.Folder) rest Word.Folder _ _ refl refl refl
-begins Word.Object rest = word_at (word_start Word.Object) rest Word.Object _ _ refl refl refl
-begins Word.Move rest = word_at (word_start Word.Move) rest Word.Move _ _ refl refl refl
-begins Word.Dacl rest = word_at (word_start Word.Dacl) rest Word.Dacl _ _ refl refl refl
-begins Word.Sacl rest = word_at (word_start Word.Sacl) rest Word.Sacl _ _ refl refl refl
-begins Word.Attr rest = word_at (word_start Word.Attr) rest Word.Attr _ _ refl refl refl
-begins Word.Can rest = word_at (word_start Word.Can) rest Word.Can _ _ refl refl refl
+begins : (route : Route) (rest : List ℕ) → route_of (route_start route ++ rest) ≡ Some route
+unfolding routes with_pattern matchit_on_literals
+begins Route.Doc rest = route_at (route_start Route.Doc) rest Route.Doc _ _ refl refl refl
+begins Route.Folder rest = route_at (route_start Route.Folder) rest Route.Folder _ _ refl refl refl
+begins Route.Object rest = route_at (route_start Route.Object) rest Route.Object _ _ refl refl refl
+begins Route.Move rest = route_at (route_start Route.Move) rest Route.Move _ _ refl refl refl
+begins Route.Dacl rest = route_at (route_start Route.Dacl) rest Route.Dacl _ _ refl refl refl
+begins Route.Sacl rest = route_at (route_start Route.Sacl) rest Route.Sacl _ _ refl refl refl
+begins Route.Attr rest = route_at (route_start Route.Attr) rest Route.Attr _ _ refl refl refl
+begins Route.Can rest = route_at (route_start Route.Can) rest Route.Can _ _ refl refl refl
 
--- ---- a path without a word
+-- ---- a path without a route
 
 -- the bytes of a pattern, up to a catch-all
 abbrev front : List ℕ → List ℕ
@@ -177,7 +177,7 @@ blocked {K} (b ∷ p) rs plain h =
     ∙ catch_none rs (b ∷ p) h
 
 plain_routes : ArePlain routes
-unfolding routes with_route matchit_on_literals
+unfolding routes with_pattern matchit_on_literals
 plain_routes = (
   refl,
   (
@@ -199,17 +199,17 @@ plain_routes = (
 )
 
 blocked_routes : (path : List ℕ)
-    → ((word : Word) → starts_with nat_eq path (word_start word) ≡ false) → Blocked routes path
-unfolding routes with_route matchit_on_literals
+    → ((route : Route) → starts_with nat_eq path (route_start route) ≡ false) → Blocked routes path
+unfolding routes with_pattern matchit_on_literals
 blocked_routes path none =
-    let attr = none Word.Attr in
-    let can = none Word.Can in
-    let dacl = none Word.Dacl in
-    let doc = none Word.Doc in
-    let folder = none Word.Folder in
-    let move = none Word.Move in
-    let object = none Word.Object in
-    let sacl = none Word.Sacl in (
+    let attr = none Route.Attr in
+    let can = none Route.Can in
+    let dacl = none Route.Dacl in
+    let doc = none Route.Doc in
+    let folder = none Route.Folder in
+    let move = none Route.Move in
+    let object = none Route.Object in
+    let sacl = none Route.Sacl in (
       attr,
       (
         attr,
@@ -232,9 +232,9 @@ blocked_routes path none =
       ),
     )
 
-no_word : (path : List ℕ) → ((word : Word) → starts_with nat_eq path (word_start word) ≡ false)
-    → word_of path ≡ None
-no_word path none = search (rules, option_map, blocked, plain_routes, blocked_routes, none)
+no_route : (path : List ℕ) → ((route : Route) → starts_with nat_eq path (route_start route) ≡ false)
+    → route_of path ≡ None
+no_route path none = search (rules, option_map, blocked, plain_routes, blocked_routes, none)
 
-pub words_begin : WordsBeginPaths
-words_begin = (begins, no_word)
+pub routes_begin : RoutesBeginPaths
+routes_begin = (begins, no_route)

@@ -1,17 +1,17 @@
--- The tables of routes, word by word.
+-- The tables of methods, route by route.
 use Rattle.std.proofs.Common.{◌≡◌, Some, refl}
-use Rattle.http_message.specs.{declared.word.{Word.Word, Verb.Verb}, Laws.AllowsWhatIsAsked}
-use Rattle.http_message.specs.{Laws.{EveryMethodIsListed, verb_text}, Words.verb_of}
+use Rattle.http_message.specs.{declared.route.{Route.Route, Verb.Verb}, Laws.AllowsWhatIsAsked}
+use Rattle.http_message.specs.{Laws.{EveryMethodIsListed, verb_text}, Route.verb_of}
 
 pub allows : AllowsWhatIsAsked
-allows Word.Doc = refl
-allows Word.Folder = refl
-allows Word.Object = refl
-allows Word.Move = refl
-allows Word.Dacl = refl
-allows Word.Sacl = refl
-allows Word.Attr = refl
-allows Word.Can = refl
+allows Route.Doc = refl
+allows Route.Folder = refl
+allows Route.Object = refl
+allows Route.Move = refl
+allows Route.Dacl = refl
+allows Route.Sacl = refl
+allows Route.Attr = refl
+allows Route.Can = refl
 
 known : (verb : Verb) → verb_of (verb_text verb) ≡ Some verb
 known Verb.Get = refl

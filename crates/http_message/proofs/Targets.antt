@@ -22,10 +22,10 @@ use Rattle.percent_encoding.proofs.PercentLemmas.{percent_decode_not_percent}
 use Rattle.room_entry.{specs.Utf8.is_utf8, proofs.Texts.passes_as_utf8}
 use Rattle.room_rows.specs.{Laws.PathReadsBack, Paths.{is_object_name, is_path, path_text}}
 use Rattle.room_rows.proofs.Utf8.{text_from}
-use Rattle.http_message.specs.{declared.word.Word.Word, Laws.{EveryPathHasATarget, IsReadAs}}
-use Rattle.http_message.specs.{Laws.target_to, Routes.word_of, Target.{is_mark, named_path}}
-use Rattle.http_message.specs.{Target.{path_part, query_part}, Words.word_text}
-use Rattle.http_message.proofs.Seeking.{words_begin}
+use Rattle.http_message.specs.{declared.route.Route.Route, Laws.{EveryPathHasATarget, IsReadAs}}
+use Rattle.http_message.specs.{Laws.target_to, Router.route_of, Target.{is_mark, named_path}}
+use Rattle.http_message.specs.{Target.{path_part, query_part}, Route.route_text}
+use Rattle.http_message.proofs.Seeking.{routes_begin}
 use lib.Utf8.{encode, encodes, scalar, scalars, scalar_cases}
 
 -- ---- text is bytes
@@ -103,29 +103,29 @@ slash_begins : (names : List (List ℕ)) → path_text names ≡ 47 ∷ drop 1 (
 slash_begins [] = refl
 slash_begins (name ∷ names) = refl
 
-behind_word : (word : Word) (rest : List ℕ)
-    → named_path word (47 ∷ word_text word ++ 47 ∷ rest) ≡ 47 ∷ percent_decode rest
-behind_word Word.Doc rest = refl
-behind_word Word.Folder rest = refl
-behind_word Word.Object rest = refl
-behind_word Word.Move rest = refl
-behind_word Word.Dacl rest = refl
-behind_word Word.Sacl rest = refl
-behind_word Word.Attr rest = refl
-behind_word Word.Can rest = refl
+behind_route : (route : Route) (rest : List ℕ)
+    → named_path route (47 ∷ route_text route ++ 47 ∷ rest) ≡ 47 ∷ percent_decode rest
+behind_route Route.Doc rest = refl
+behind_route Route.Folder rest = refl
+behind_route Route.Object rest = refl
+behind_route Route.Move rest = refl
+behind_route Route.Dacl rest = refl
+behind_route Route.Sacl rest = refl
+behind_route Route.Attr rest = refl
+behind_route Route.Can rest = refl
 
-named : (word : Word) (text : List ℕ) → text ≡ 47 ∷ drop 1 text
-    → named_path word (47 ∷ word_text word ++ text) ≡ percent_decode text
-named word text first =
-    grind (arith, nat_tests, behind_word, no_percent, percent_decode_not_percent)
+named : (route : Route) (text : List ℕ) → text ≡ 47 ∷ drop 1 text
+    → named_path route (47 ∷ route_text route ++ text) ≡ percent_decode text
+named route text first =
+    grind (arith, nat_tests, behind_route, no_percent, percent_decode_not_percent)
 
-worded : (word : Word) (text : List ℕ) → text ≡ 47 ∷ drop 1 text
-    → word_of (47 ∷ word_text word ++ text) ≡ Some word
-worded word text first =
-    ap (λ (l : List ℕ). word_of (47 ∷ word_text word ++ l)) first
-    ∙ ap (λ (l : List ℕ). word_of (47 ∷ l))
-    (sym (append_assoc (word_text word) (codes "/") (drop 1 text)))
-    ∙ words_begin.0 word (drop 1 text)
+routed : (route : Route) (text : List ℕ) → text ≡ 47 ∷ drop 1 text
+    → route_of (47 ∷ route_text route ++ text) ≡ Some route
+routed route text first =
+    ap (λ (l : List ℕ). route_of (47 ∷ route_text route ++ l)) first
+    ∙ ap (λ (l : List ℕ). route_of (47 ∷ l))
+    (sym (append_assoc (route_text route) (codes "/") (drop 1 text)))
+    ∙ routes_begin.0 route (drop 1 text)
 
 -- ---- its bytes: ASCII, and no question mark
 
@@ -171,19 +171,19 @@ path_plain : (set : AsciiSet) (names : List (List ℕ)) → contains set 63 ≡ 
 path_plain set [] has = refl
 path_plain set (name ∷ names) has = joined_plain set (name ∷ names) has
 
-word_plain : (word : Word) → list_all is_plain (word_text word) ≡ true
-word_plain Word.Doc = refl
-word_plain Word.Folder = refl
-word_plain Word.Object = refl
-word_plain Word.Move = refl
-word_plain Word.Dacl = refl
-word_plain Word.Sacl = refl
-word_plain Word.Attr = refl
-word_plain Word.Can = refl
+route_plain : (route : Route) → list_all is_plain (route_text route) ≡ true
+route_plain Route.Doc = refl
+route_plain Route.Folder = refl
+route_plain Route.Object = refl
+route_plain Route.Move = refl
+route_plain Route.Dacl = refl
+route_plain Route.Sacl = refl
+route_plain Route.Attr = refl
+route_plain Route.Can = refl
 
-target_plain : (set : AsciiSet) (word : Word) (names : List (List ℕ)) → contains set 63 ≡ true
-    → list_all is_plain (target_to set word names) ≡ true
-target_plain set word names has = grind (arith, nat_tests, both_plain, path_plain, word_plain)
+target_plain : (set : AsciiSet) (route : Route) (names : List (List ℕ)) → contains set 63 ≡ true
+    → list_all is_plain (target_to set route names) ≡ true
+target_plain set route names has = grind (arith, nat_tests, both_plain, path_plain, route_plain)
 
 plain_ascii : (bytes : List ℕ) → list_all is_plain bytes ≡ true
     → AllByRecursion (λ b. b < 128) bytes
@@ -217,14 +217,14 @@ cut_past (b ∷ bs) rest all =
 -- ---- the whole
 
 -- what follows the path: nothing, or a question mark and a query
-read_with : PathReadsBack → (set : AsciiSet) (word : Word) (names : List (List ℕ)) (rest : List ℕ)
+read_with : PathReadsBack → (set : AsciiSet) (route : Route) (names : List (List ℕ)) (rest : List ℕ)
     → contains set 37 ≡ true → contains set 63 ≡ true → is_path names ≡ true → IsUtf8 rest
     → path_part rest ≡ []
-    → IsReadAs (target_to set word names ++ rest) word names (query_part rest)
-read_with reads set word names rest percent mark is utf8 last =
-    let target = target_to set word names in
+    → IsReadAs (target_to set route names ++ rest) route names (query_part rest)
+read_with reads set route names rest percent mark is utf8 last =
+    let target = target_to set route names in
     let text = path_text (map (percent_encode set) names) in
-    let plain = target_plain set word names mark in
+    let plain = target_plain set route names mark in
     let cut = cut_past target rest plain in
     let path : path_part (target ++ rest) ≡ target = cut.0 ∙ ap (λ (l : List ℕ). target ++ l) last
     ∙ append-nil target in
@@ -234,9 +234,9 @@ read_with reads set word names rest percent mark is utf8 last =
     (IsUtf8-append target rest (plain_text target plain) utf8) in
     record {
       passes = cond-true _ _ _ is_text;
-      has_word = ap word_of path ∙ worded word text first;
+      has_route = ap route_of path ∙ routed route text first;
       has_path =
-          search (rules, word, path, named, text, path_decoded, set, percent, good, reads, is);
+          search (rules, route, path, named, text, path_decoded, set, percent, good, reads, is);
       has_query = cut.1;
     }
 
@@ -244,10 +244,10 @@ one_mark : IsUtf8 (63 ∷ [])
 one_mark = search rules
 
 pub has_target : PathReadsBack → EveryPathHasATarget
-has_target reads set word names percent mark is =
-    let target = target_to set word names in (
-      subst (λ (l : List ℕ). IsReadAs l word names []) (append-nil target)
-          (read_with reads set word names [] percent mark is (plain_text [] refl) refl),
-      λ query utf8. read_with reads set word names (63 ∷ query) percent mark is
+has_target reads set route names percent mark is =
+    let target = target_to set route names in (
+      subst (λ (l : List ℕ). IsReadAs l route names []) (append-nil target)
+          (read_with reads set route names [] percent mark is (plain_text [] refl) refl),
+      λ query utf8. read_with reads set route names (63 ∷ query) percent mark is
           (IsUtf8-append (63 ∷ []) query one_mark (text_from query utf8)) refl,
     )

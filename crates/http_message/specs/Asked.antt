@@ -13,12 +13,12 @@ use Rattle.room_machine.specs.declared.request.Request.{Request}
 use Rattle.http_message.specs.declared.head.Head.{Head}
 use Rattle.http_message.specs.declared.head.Field.{Field}
 use Rattle.http_message.specs.declared.fault.HttpFault.{HttpFault}
-use Rattle.http_message.specs.declared.word.Verb.{Verb}
-use Rattle.http_message.specs.declared.word.Word.{Word}
-use Rattle.http_message.specs.declared.word.Action.{Action}
-use Rattle.http_message.specs.Words.{verb_of, action_of}
+use Rattle.http_message.specs.declared.route.Verb.{Verb}
+use Rattle.http_message.specs.declared.route.Route.{Route}
+use Rattle.http_message.specs.declared.route.Action.{Action}
+use Rattle.http_message.specs.Route.{verb_of, action_of}
 use Rattle.http_message.specs.Target.{is_target, path_part, query_part, named_path}
-use Rattle.http_message.specs.Routes.{word_of}
+use Rattle.http_message.specs.Router.{route_of}
 use Rattle.http_message.specs.Fields.{field_values, trimmed}
 use Rattle.http_message.specs.Json.{json_of, text_under}
 
@@ -32,16 +32,16 @@ abbrev pub or_fault : {A F : Type 0} → Option A → F → Result A F
 or_fault (Some value) fault = Ok value
 or_fault None fault = Err fault
 
--- 7 and 8: the route, and the methods of its word
-abbrev pub asked_action : Verb → List ℕ → Result (Word × Action) HttpFault
+-- 7 and 8: the route, and the methods that it has
+abbrev pub asked_action : Verb → List ℕ → Result (Route × Action) HttpFault
 asked_action verb path =
-    and_then (or_fault (word_of path) HttpFault.NoRoute) (λ word.
-    and_then (or_fault (action_of word verb) (HttpFault.OtherMethod word)) (λ action.
-    Ok (word, action)))
+    and_then (or_fault (route_of path) HttpFault.NoRoute) (λ route.
+    and_then (or_fault (action_of route verb) (HttpFault.OtherMethod route)) (λ action.
+    Ok (route, action)))
 
 -- 9: the path that the target names
-abbrev pub target_path : Word → List ℕ → Result (List (List ℕ)) HttpFault
-target_path word path = told HttpFault.BadPath (path_of (named_path word path))
+abbrev pub target_path : Route → List ℕ → Result (List (List ℕ)) HttpFault
+target_path route path = told HttpFault.BadPath (path_of (named_path route path))
 
 -- 10: the mask, which /can/ alone has
 abbrev pub asked_bits : List ℕ → Result (List ℕ) HttpFault
@@ -88,7 +88,7 @@ list_in body = told HttpFault.BadList (sent_of body)
 abbrev pub request_in : Action → List (List ℕ) → List ℕ → List ℕ → Result Request HttpFault
 request_in Action.Read path mask body = Ok (Request.Read path)
 request_in Action.List path mask body = Ok (Request.List path)
-request_in Action.Write path mask body = Ok (Request.Put path body)
+request_in Action.Put path mask body = Ok (Request.Put path body)
 request_in Action.Append path mask body = Ok (Request.Append path body)
 request_in Action.MakeFolder path mask body = Ok (Request.MakeFolder path)
 request_in Action.Remove path mask body = Ok (Request.Remove path)
@@ -114,9 +114,9 @@ asked_on action path mask fields body =
 
 -- 9 to 12
 abbrev pub asked_at :
-    Word → Action → List ℕ → List ℕ → List Field → List ℕ → Result UserRequest HttpFault
-asked_at word action path query fields body =
-    and_then (target_path word path) (λ names.
+    Route → Action → List ℕ → List ℕ → List Field → List ℕ → Result UserRequest HttpFault
+asked_at route action path query fields body =
+    and_then (target_path route path) (λ names.
     and_then (asked_mask action query) (λ mask. asked_on action names mask fields body))
 
 -- 7 to 12
@@ -124,7 +124,7 @@ abbrev pub asked_by : Verb → List ℕ → List ℕ → List Field → List ℕ
 asked_by verb path query fields body =
     and_then (asked_action verb path) (λ asked. asked_at asked.0 asked.1 path query fields body)
 
--- 5: a method that some word has. 6: a target that begins with a slash and is text
+-- 5: a method that some route has. 6: a target that begins with a slash and is text
 abbrev pub method_of : List ℕ → Result Verb HttpFault
 method_of method = or_fault (verb_of method) HttpFault.UnknownMethod
 

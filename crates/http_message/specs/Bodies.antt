@@ -44,16 +44,16 @@ bad_path PathFault.BadName = codes "bad-target P1"
 bad_path PathFault.TooLong = codes "bad-target P2"
 bad_path PathFault.NotUtf8 = codes "bad-target P3"
 
-abbrev pub reason_word : Reason → List ℕ
-reason_word Reason.NoSuch = codes "no-such"
-reason_word Reason.NotFolder = codes "not-folder"
-reason_word Reason.WrongKind = codes "wrong-kind"
-reason_word Reason.Exists = codes "exists"
-reason_word Reason.NotEmpty = codes "not-empty"
-reason_word Reason.Root = codes "root"
-reason_word Reason.Loop = codes "loop"
-reason_word (Reason.BadList place fault) = bad_list_text fault
-reason_word Reason.TooLarge = codes "too-large"
+abbrev pub reason_text : Reason → List ℕ
+reason_text Reason.NoSuch = codes "no-such"
+reason_text Reason.NotFolder = codes "not-folder"
+reason_text Reason.WrongKind = codes "wrong-kind"
+reason_text Reason.Exists = codes "exists"
+reason_text Reason.NotEmpty = codes "not-empty"
+reason_text Reason.Root = codes "root"
+reason_text Reason.Loop = codes "loop"
+reason_text (Reason.BadList place fault) = bad_list_text fault
+reason_text Reason.TooLarge = codes "too-large"
 
 -- ---- objects
 
@@ -78,7 +78,7 @@ at_data path why =
 abbrev pub refused_data : List (List ℕ) → Reason → Data
 refused_data path (Reason.BadList place fault) =
     place_data (path_text path) place (bad_list_text fault)
-refused_data path why = at_data (path_text path) (reason_word why)
+refused_data path why = at_data (path_text path) (reason_text why)
 
 -- null, where there is none
 abbrev pub number_or_null : Option ℕ → Data
@@ -106,9 +106,9 @@ abbrev pub denied_data : List (List ℕ) → List ℕ → Option ℕ → Option 
 denied_data path bits place entry =
     denied_texts (path_text path) (mask_text bits) place (printed entry)
 
-abbrev pub kind_word : ObjKind → List ℕ
-kind_word ObjKind.Document = codes "document"
-kind_word ObjKind.Folder = codes "folder"
+abbrev pub kind_text : ObjKind → List ℕ
+kind_text ObjKind.Document = codes "document"
+kind_text ObjKind.Folder = codes "folder"
 
 abbrev pub attr_texts : List ℕ → List ℕ → List ℕ → Data
 attr_texts group kind owner =
@@ -116,7 +116,7 @@ attr_texts group kind owner =
     (member (codes "kind") (string kind) (member (codes "owner") (string owner) no_members)))
 
 abbrev pub attr_data : ObjKind → Owners → Data
-attr_data kind owners = attr_texts owners.group (kind_word kind) owners.owner
+attr_data kind owners = attr_texts owners.group (kind_text kind) owners.owner
 
 -- ---- children, in order of name
 
@@ -125,7 +125,7 @@ child_texts name kind =
     object (member (codes "kind") (string kind) (member (codes "name") (string name) no_members))
 
 abbrev pub child_data : List ℕ × ObjKind → Data
-child_data child = child_texts child.0 (kind_word child.1)
+child_data child = child_texts child.0 (kind_text child.1)
 
 abbrev pub names_data : List (List ℕ × ObjKind) → Data
 names_data children = array (items_of (map child_data children))

@@ -15,11 +15,11 @@ use Rattle.room_entry.specs.Utf8.{is_utf8}
 use Rattle.room_entry.specs.Letters.{mask_text}
 use Rattle.room_eval.specs.declared.outcome.Ruling.{Ruling}
 use Rattle.room_rows.specs.Paths.{is_path, path_text}
-use Rattle.http_message.specs.declared.word.Verb.{Verb}
-use Rattle.http_message.specs.declared.word.Word.{Word}
+use Rattle.http_message.specs.declared.route.Verb.{Verb}
+use Rattle.http_message.specs.declared.route.Route.{Route}
 use Rattle.http_message.specs.Asked.{target_of, target_path}
-use Rattle.http_message.specs.Words.{allow_text, action_of, every_method, verb_of, word_text}
-use Rattle.http_message.specs.Routes.{word_of}
+use Rattle.http_message.specs.Route.{allow_text, action_of, every_method, verb_of, route_text}
+use Rattle.http_message.specs.Router.{route_of}
 use Rattle.http_message.specs.Target.{path_part, query_part}
 use Rattle.http_message.specs.Bodies.{ruling_text, with_rulings}
 
@@ -41,12 +41,12 @@ comma_list [] = []
 comma_list (text ∷ []) = text
 comma_list (text ∷ next ∷ texts) = text ++ codes ", " ++ comma_list (next ∷ texts)
 
--- The field Allow of a word lists the methods that ask something of it, in order.
+-- The field Allow of a route lists the methods that ask something of it, in order.
 abbrev pub AllowsWhatIsAsked : Type 0
 AllowsWhatIsAsked =
-    (word : Word)
-    → allow_text word
-    ≡ comma_list (map verb_text (filter (λ verb. is_some (action_of word verb)) every_verb))
+    (route : Route)
+    → allow_text route
+    ≡ comma_list (map verb_text (filter (λ verb. is_some (action_of route verb)) every_verb))
 
 -- The field Allow of an unknown method lists all methods, and each of them is known by its text.
 abbrev pub EveryMethodIsListed : Type 0
@@ -56,41 +56,42 @@ EveryMethodIsListed =
 
 -- ---- routes
 
--- what a path begins with that has this word
-abbrev pub word_start : Word → List ℕ
-word_start word = slash ∷ word_text word ++ codes "/"
+-- what a path begins with that has this route
+abbrev pub route_start : Route → List ℕ
+route_start route = slash ∷ route_text route ++ codes "/"
 
--- A path has a word exactly where it begins with a slash, the word and a slash.
-abbrev pub WordsBeginPaths : Type 0
-WordsBeginPaths =
-    ((word : Word) (rest : List ℕ) → word_of (word_start word ++ rest) ≡ Some word)
+-- A path has a route exactly where it begins with a slash, the route and a slash.
+abbrev pub RoutesBeginPaths : Type 0
+RoutesBeginPaths =
+    ((route : Route) (rest : List ℕ) → route_of (route_start route ++ rest) ≡ Some route)
     × ((path : List ℕ)
-    → ((word : Word) → starts_with nat_eq path (word_start word) ≡ false) → word_of path ≡ None)
+    → ((route : Route) → starts_with nat_eq path (route_start route) ≡ false)
+    → route_of path ≡ None)
 
 -- ---- targets
 
--- The target of a path: a slash, the word, and the text of the path. In its names a byte stands as
+-- The target of a path: a slash, the route, and the text of the path. In its names a byte stands as
 -- `%` and two hexadecimal digits where it is outside ASCII or in the set, and else as itself.
-abbrev pub target_to : AsciiSet → Word → List (List ℕ) → List ℕ
-target_to set word names = slash ∷ word_text word ++ path_text (map (percent_encode set) names)
+abbrev pub target_to : AsciiSet → Route → List (List ℕ) → List ℕ
+target_to set route names = slash ∷ route_text route ++ path_text (map (percent_encode set) names)
 
--- A target passes its test, and is read as this word, path and query.
-pub record IsReadAs (target : List ℕ) (word : Word) (names : List (List ℕ)) (query : List ℕ)
+-- A target passes its test, and is read as this route, path and query.
+pub record IsReadAs (target : List ℕ) (route : Route) (names : List (List ℕ)) (query : List ℕ)
     : Type 0 where
   pub passes : target_of target ≡ Ok target
-  pub has_word : word_of (path_part target) ≡ Some word
-  pub has_path : target_path word (path_part target) ≡ Ok names
+  pub has_route : route_of (path_part target) ≡ Some route
+  pub has_path : target_path route (path_part target) ≡ Ok names
   pub has_query : query_part target ≡ query
 
--- Every path has a target under every word, with and without a query, whichever bytes of its names
+-- Every path has a target under every route, with and without a query, whichever bytes of its names
 -- are escaped, as long as `%` and `?` are.
 abbrev pub EveryPathHasATarget : Type 0
 EveryPathHasATarget =
-    (set : AsciiSet) (word : Word) (names : List (List ℕ))
+    (set : AsciiSet) (route : Route) (names : List (List ℕ))
     → IsTrue (contains set 37) → IsTrue (contains set 63) → IsTrue (is_path names)
-    → IsReadAs (target_to set word names) word names []
+    → IsReadAs (target_to set route names) route names []
     × ((query : List ℕ) → IsTrue (is_utf8 query)
-    → IsReadAs (target_to set word names ++ 63 ∷ query) word names query)
+    → IsReadAs (target_to set route names ++ 63 ∷ query) route names query)
 
 -- ---- rulings
 

@@ -1,5 +1,5 @@
-pub mod Words
-pub mod Routes
+pub mod Route
+pub mod Router
 pub mod Target
 pub mod Fields
 pub mod Values

@@ -4,7 +4,7 @@ use Rattle.room_ace.specs.Lists.{list_text}
 use Rattle.room_machine.specs.declared.reply.Reply.{Reply}
 use Rattle.room_machine.specs.declared.reply.Reason.{Reason}
 use Rattle.http_message.specs.declared.fault.HttpFault.{HttpFault}
-use Rattle.http_message.specs.Words.{allow_text, every_method}
+use Rattle.http_message.specs.Route.{allow_text, every_method}
 use Rattle.http_message.specs.Form.{reply_form, json_form}
 use Rattle.http_message.specs.Bodies.{names_data, attr_data, rulings_data, denied_data}
 use Rattle.http_message.specs.Bodies.{refused_data, why_data, line_data, bad_path, bad_text}
@@ -48,7 +48,7 @@ abbrev pub fault_text : HttpFault → Bool → List ℕ
 fault_text HttpFault.UnknownMethod close = allow_form every_method close
 fault_text HttpFault.BadTarget close = json_form 400 (why_data (codes "bad-target")) close
 fault_text HttpFault.NoRoute close = json_form 404 (why_data (codes "no-route")) close
-fault_text (HttpFault.OtherMethod word) close = allow_form (allow_text word) close
+fault_text (HttpFault.OtherMethod route) close = allow_form (allow_text route) close
 fault_text (HttpFault.BadPath fault) close = json_form 400 (why_data (bad_path fault)) close
 fault_text HttpFault.BadMask close = json_form 400 (why_data (codes "bad-target A4")) close
 fault_text HttpFault.BadUser close = json_form 400 (why_data (codes "bad-user")) close

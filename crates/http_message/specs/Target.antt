@@ -4,8 +4,8 @@ use Rattle.std.specs.List.{starts_with, before_first, after_first}
 use Rattle.percent_encoding.specs.Percent.{percent_decode}
 use Rattle.room_entry.specs.Bytes.{question_mark, slash}
 use Rattle.room_entry.specs.Utf8.{is_utf8}
-use Rattle.http_message.specs.declared.word.Word.{Word}
-use Rattle.http_message.specs.Words.{word_text}
+use Rattle.http_message.specs.declared.route.Route.{Route}
+use Rattle.http_message.specs.Route.{route_text}
 
 -- it begins with a slash and is text
 abbrev pub is_target : List ℕ → Bool
@@ -23,5 +23,5 @@ abbrev pub query_part : List ℕ → List ℕ
 query_part target = after_first is_mark target
 
 -- the bytes of the path that a target names: a slash, and what stands after /W/, decoded
-abbrev pub named_path : Word → List ℕ → List ℕ
-named_path word path = slash ∷ percent_decode (drop (length (word_text word) + 2) path)
+abbrev pub named_path : Route → List ℕ → List ℕ
+named_path route path = slash ∷ percent_decode (drop (length (route_text route) + 2) path)

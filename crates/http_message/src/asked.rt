@@ -4,15 +4,15 @@ ghost use Rattle.room_entry.specs.Gives.{Gives};
 ghost use Rattle.http_message.specs.Asked.{asked_by, asked_mask, asked_action, asked_on, list_in};
 ghost use Rattle.http_message.specs.Asked.{asked_bits, method_of, request_in, request_of};
 ghost use Rattle.http_message.specs.Asked.{target_path};
-ghost use Rattle.http_message.specs.declared.word.Action.{Action};
+ghost use Rattle.http_message.specs.declared.route.Action.{Action};
 
 use crate::body::{asked_owners, path_under};
 use crate::fault::HttpFault;
 use crate::fields::caller_of;
 use crate::head::{Field, Head};
-use crate::routes::Routes;
+use crate::route::{Action, Route, Verb, verb_of};
+use crate::router::Routes;
 use crate::target::{named_path, parts_of};
-use crate::word::{Action, Verb, Word, verb_of};
 use room_ace::{Failure, Mask, Name, SentList, Which, map_fault, read_list, read_mask};
 use room_machine::Request;
 use room_rows::{Bytes, Path, read_path};
@@ -35,7 +35,7 @@ pub fn request_of(
     }
 }
 
-// The method, if some word has it.
+// The method, if some route has it.
 fn method_of(method: &[u8]) -> Result<Verb, Failure<HttpFault>>
     ensures { Gives result (method_of method.now) }
 {
@@ -57,34 +57,34 @@ fn asked_by(
         (asked_by verb parts.entry.0.now parts.entry.1.now fields.now body.now) }
 {
     let alloc = routes.alloc();
-    let (word, action) = asked_action(routes, verb, parts.0)?;
-    let names = target_path(alloc, word, parts.0)?;
+    let (route, action) = asked_action(routes, verb, parts.0)?;
+    let names = target_path(alloc, route, parts.0)?;
     let mask = asked_mask(action, parts.1)?;
     asked_on(alloc, action, names, mask, fields, body)
 }
 
-// The word of the route, and what it asks by the method.
+// The route, and what it asks by the method.
 fn asked_action(
     routes: &Routes,
     verb: Verb,
     path: &str,
-) -> Result<(Word, Action), Failure<HttpFault>>
+) -> Result<(Route, Action), Failure<HttpFault>>
     ensures { Gives result (asked_action verb path.now) }
 {
-    match routes.word_of(path) {
+    match routes.route_of(path) {
         None => Err(Failure::Fault(HttpFault::NoRoute)),
-        Some(word) => match word.action(verb) {
-            None => Err(Failure::Fault(HttpFault::OtherMethod(word))),
-            Some(action) => Ok((word, action)),
+        Some(route) => match route.action(verb) {
+            None => Err(Failure::Fault(HttpFault::OtherMethod(route))),
+            Some(action) => Ok((route, action)),
         },
     }
 }
 
 // The path that the target names.
-fn target_path(alloc: Global, word: Word, path: &str) -> Result<Path, Failure<HttpFault>>
-    ensures { Gives result (target_path word path.now) }
+fn target_path(alloc: Global, route: Route, path: &str) -> Result<Path, Failure<HttpFault>>
+    ensures { Gives result (target_path route path.now) }
 {
-    let bytes = named_path(alloc, word, path)?;
+    let bytes = named_path(alloc, route, path)?;
     map_fault(read_path(alloc, bytes.as_slice()), HttpFault::BadPath)
 }
 
@@ -134,7 +134,7 @@ fn request_in(
     match action {
         Action::Read => Ok(Request::Read(path)),
         Action::List => Ok(Request::List(path)),
-        Action::Write => put_in(alloc, path, body),
+        Action::Put => put_in(alloc, path, body),
         Action::Append => append_in(alloc, path, body),
         Action::MakeFolder => Ok(Request::MakeFolder(path)),
         Action::Remove => Ok(Request::Remove(path)),
@@ -148,7 +148,7 @@ fn request_in(
 }
 
 fn put_in(alloc: Global, path: Path, body: &[u8]) -> Result<Request, Failure<HttpFault>>
-    ensures { Gives result (request_in Action.Write path [] body.now) }
+    ensures { Gives result (request_in Action.Put path [] body.now) }
 {
     let bytes = Bytes::from_slice(alloc, body)?;
     Ok(Request::Put(path, bytes))

@@ -10,7 +10,7 @@ ghost use Rattle.http_message.specs.Bodies.{number_or_null, place_data, refused_
 ghost use Rattle.http_message.specs.Bodies.{rulings_data, text_or_null, why_data};
 ghost use Rattle.http_message.specs.Form.{data_tokens};
 
-use crate::words::{bad_list_text, kind_word};
+use crate::reply_texts::{bad_list_text, kind_text};
 use json::Writer;
 use room_ace::{Entry, Mask, ObjKind, Owners, print_entry};
 use room_eval::Ruling;
@@ -209,7 +209,7 @@ pub(crate) fn push_attr(out: &mut Writer, kind: ObjKind, owners: &Owners) -> Res
     push_attr_texts(
         out,
         owners.group.as_str(),
-        kind_word(kind),
+        kind_text(kind),
         owners.owner.as_str(),
     )
 }
@@ -234,7 +234,7 @@ pub(crate) fn push_names(out: &mut Writer, children: &[(Text, ObjKind)]) -> Resu
 {
     out.begin_array()?;
     for child in children {
-        push_child(out, child.0.as_str(), kind_word(child.1))?;
+        push_child(out, child.0.as_str(), kind_text(child.1))?;
     }
     out.end_array()
 }

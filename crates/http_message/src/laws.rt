@@ -1,10 +1,10 @@
 //! Laws of methods, routes, targets and rulings.
 ghost use Rattle.http_message.specs.Laws.{AllowsWhatIsAsked, EveryMethodIsListed};
-ghost use Rattle.http_message.specs.Laws.{EveryPathHasATarget, RulingsAreKeys, WordsBeginPaths};
+ghost use Rattle.http_message.specs.Laws.{EveryPathHasATarget, RulingsAreKeys, RoutesBeginPaths};
 
 use room_rows::laws::path_reads_back;
 
-/// The field Allow of a word lists the methods that ask something of it, in order.
+/// The field Allow of a route lists the methods that ask something of it, in order.
 pub fn allows_what_is_asked()
     ensures { AllowsWhatIsAsked }
 {}
@@ -14,12 +14,12 @@ pub fn every_method_is_listed()
     ensures { EveryMethodIsListed }
 {}
 
-/// A path has a word exactly where it begins with a slash, the word and a slash.
-pub fn words_begin_paths()
-    ensures { WordsBeginPaths }
+/// A path has a route exactly where it begins with a slash, the route and a slash.
+pub fn routes_begin_paths()
+    ensures { RoutesBeginPaths }
 {}
 
-/// Every path has a target under every word, which is read as that word and that path.
+/// Every path has a target under every route, which is read as that route and that path.
 pub fn every_path_has_a_target()
     ensures { EveryPathHasATarget }
 {

@@ -12,7 +12,7 @@ use crate::data::{
 };
 use crate::fault::HttpFault;
 use crate::form::{Parts, print_json, print_reply};
-use crate::words::{bad_path, bad_text};
+use crate::reply_texts::{bad_path, bad_text};
 use http::StatusCode;
 use room_ace::{Entry, LineFault, ListFlags, Mask, ObjKind, Owners, print_list};
 use room_eval::Ruling;
@@ -195,7 +195,7 @@ pub fn fault_bytes(alloc: Global, fault: HttpFault, close: bool) -> Result<Vec<u
 {
     match fault {
         HttpFault::UnknownMethod => print_allow(alloc, b"DELETE, GET, POST, PUT", close),
-        HttpFault::OtherMethod(word) => print_allow(alloc, word.allow().as_bytes(), close),
+        HttpFault::OtherMethod(route) => print_allow(alloc, route.allow().as_bytes(), close),
         HttpFault::BadTarget => print_why(alloc, StatusCode::BAD_REQUEST, "bad-target", close),
         HttpFault::NoRoute => print_why(alloc, StatusCode::NOT_FOUND, "no-route", close),
         HttpFault::BadPath(fault) => {

@@ -1,9 +1,9 @@
 //! The target of a message.
 ghost use Rattle.std.specs.Prelude.{◌≡◌, ◌+◌, false, true, ◌∷◌, drop, length, IfOk, MatchOption};
 ghost use Rattle.http_message.specs.Target.{is_target, named_path, path_part, query_part};
-ghost use Rattle.http_message.specs.Words.{word_text};
+ghost use Rattle.http_message.specs.Route.{route_text};
 
-use crate::word::Word;
+use crate::route::Route;
 use percent_encoding::percent_decode;
 use room_ace::text_of;
 use std::alloc::{AllocError, Global};
@@ -35,21 +35,21 @@ fn cut_at_mark(text: &str) -> (&str, &str)
 }
 
 // The bytes of the path that the target names.
-pub(crate) fn named_path(alloc: Global, word: Word, path: &str) -> Result<Vec<u8>, AllocError>
-    ensures { IfOk result (λ bytes. bytes.items ≡ named_path word path.now) }
+pub(crate) fn named_path(alloc: Global, route: Route, path: &str) -> Result<Vec<u8>, AllocError>
+    ensures { IfOk result (λ bytes. bytes.items ≡ named_path route path.now) }
 {
-    // The word and its slashes are longer than what is added.
+    // The route and its slashes are longer than what is added.
     let mut bytes = Vec::with_capacity(alloc, path.len())?;
     bytes.push(b'/')?;
-    percent_decode(behind_word(word, path.as_bytes())).append_to(&mut bytes)?;
+    percent_decode(behind_route(route, path.as_bytes())).append_to(&mut bytes)?;
     Ok(bytes)
 }
 
-// What stands after the word's slash.
-fn behind_word(word: Word, path: &[u8]) -> &[u8]
-    ensures { result.now ≡ drop (length (word_text word) + 2) path.now }
+// What stands after the route's slash.
+fn behind_route(route: Route, path: &[u8]) -> &[u8]
+    ensures { result.now ≡ drop (length (route_text route) + 2) path.now }
 {
-    let start = word.as_str().len() + 2;
+    let start = route.as_str().len() + 2;
     if start > path.len() {
         return &[];
     }

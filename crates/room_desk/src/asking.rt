@@ -10,42 +10,37 @@ ghost use Rattle.room_machine.specs.declared.request.Request.TheVariants.{Can};
 
 use room_ace::Mask;
 use room_eval::{Ruling, ruling};
-use room_judge::{Asker, Halt, walk_to};
+use room_judge::{Ask, Asker, Halt, walk_to};
 use room_machine::{Reply, Rulings};
-use room_rows::{Keep, Node, Path};
-use std::alloc::{AllocError, Global};
+use room_rows::{Keep, Node};
+use std::alloc::AllocError;
 
 /// The ruling on each asked bit for the caller.
-pub(crate) fn can<K: Keep>(
-    alloc: Global,
-    keep: &mut K,
-    asker: &Asker,
-    path: &Path,
-    mask: Mask,
-) -> Result<Reply, Halt>
+pub(crate) fn can<K: Keep>(keep: &mut K, ask: &Ask<'_>, mask: Mask) -> Result<Reply, Halt>
     ensures done { Tries K.Keep keep.old keep.new result IsDamaged
-        (Serves asker.now (Can path.now mask)) }
-    ensures counted { K.reads keep.new ≤ K.reads keep.old + (length path.now + 1) }
+        (Serves ask.now.asker.now (Can ask.now.path.now mask)) }
+    ensures counted { K.reads keep.new ≤ K.reads keep.old + (length ask.now.path.now + 1) }
 {
-    let node = walk_to(alloc, keep, asker, path)?;
-    Ok(rulings_reply(alloc, asker, &node, mask)?)
+    let node = walk_to(keep, ask)?;
+    Ok(rulings_reply(ask, &node, mask)?)
 }
 
 // The ruling of the object's dacl on each of these bits.
-fn rulings_reply(alloc: Global, asker: &Asker, node: &Node, mask: Mask) -> Result<Reply, AllocError>
-    ensures { IfOk result (λ reply. reply ≡ RulingsReply (rulings_at asker.now node.now mask)) }
+fn rulings_reply(ask: &Ask<'_>, node: &Node, mask: Mask) -> Result<Reply, AllocError>
+    ensures { IfOk result
+        (λ reply. reply ≡ RulingsReply (rulings_at ask.now.asker.now node.now mask)) }
 {
-    Ok(Reply::Rulings(rulings_of(alloc, asker, node, mask)?))
+    Ok(Reply::Rulings(rulings_of(ask, node, mask)?))
 }
 
 // Each of these bits with its ruling.
-fn rulings_of(alloc: Global, asker: &Asker, node: &Node, mask: Mask) -> Result<Rulings, AllocError>
-    ensures { IfOk result (λ rulings. rulings ≡ rulings_at asker.now node.now mask) }
+fn rulings_of(ask: &Ask<'_>, node: &Node, mask: Mask) -> Result<Rulings, AllocError>
+    ensures { IfOk result (λ rulings. rulings ≡ rulings_at ask.now.asker.now node.now mask) }
 {
-    let bits = mask.singles(alloc)?;
-    let mut items = Vec::new(alloc);
+    let bits = mask.singles(ask.alloc)?;
+    let mut items = Vec::new(ask.alloc);
     'bits: for bit in bits.as_slice() {
-        items.push((*bit, ruling_on(asker, node, *bit)))?;
+        items.push((*bit, ruling_on(ask.asker, node, *bit)))?;
     }
     Ok(Rulings::from_vec(items))
 }

@@ -17,9 +17,9 @@ ghost use Rattle.room_inherit.specs.Spread.{Holds};
 use crate::writing::put_bytes;
 use room_ace::{ListFlags, MOST_BYTES, Mask, Name, ObjKind, Owners};
 use room_inherit::pass;
-use room_judge::{Asker, Found, Halt, Under, check, check_kind, refusal, to_spot, walk_to};
+use room_judge::{Ask, Found, Halt, Under, check, check_kind, to_spot, walk_to};
 use room_machine::{Reason, Reply};
-use room_rows::{Bytes, Held, Keep, NewNode, Node, Path, Text};
+use room_rows::{Bytes, Held, Keep, NewNode, Node, Text};
 use std::alloc::{AllocError, Global};
 
 // What a new object is to be.
@@ -31,216 +31,182 @@ struct NewChild<'a> {
 }
 
 /// Gives a document these bytes, or makes a new one.
-pub(crate) fn put<K: Keep>(
-    alloc: Global,
-    keep: &mut K,
-    asker: &Asker,
-    path: &Path,
-    bytes: &Bytes,
-) -> Result<Reply, Halt>
+pub(crate) fn put<K: Keep>(keep: &mut K, ask: &Ask<'_>, bytes: &Bytes) -> Result<Reply, Halt>
     ensures done { TriesUpTo K.Keep keep.old keep.new result OneAndBoth IsDamaged
-        (Serves asker.now (Put path.now bytes.now)) }
-    ensures counted { K.reads keep.new ≤ K.reads keep.old + (length path.now + 1) }
+        (Serves ask.now.asker.now (Put ask.now.path.now bytes.now)) }
+    ensures counted { K.reads keep.new ≤ K.reads keep.old + (length ask.now.path.now + 1) }
 {
-    match path.split_last() {
-        None => put_root(alloc, keep, asker, path, bytes),
-        Some((name, _)) => put_below(alloc, keep, asker, path, name, bytes),
+    match ask.path.split_last() {
+        None => put_root(keep, ask, bytes),
+        Some((name, _)) => put_below(keep, ask, name, bytes),
     }
 }
 
 // Puts the root. A folder is refused, as anywhere.
-fn put_root<K: Keep>(
-    alloc: Global,
-    keep: &mut K,
-    asker: &Asker,
-    path: &Path,
-    bytes: &Bytes,
-) -> Result<Reply, Halt>
-    requires { path.now ≡ [] }
+fn put_root<K: Keep>(keep: &mut K, ask: &Ask<'_>, bytes: &Bytes) -> Result<Reply, Halt>
+    requires { ask.now.path.now ≡ [] }
     ensures done { TriesUpTo K.Keep keep.old keep.new result OneAndBoth IsDamaged
-        (Serves asker.now (Put path.now bytes.now)) }
-    ensures counted { K.reads keep.new ≤ K.reads keep.old + (length path.now + 1) }
+        (Serves ask.now.asker.now (Put ask.now.path.now bytes.now)) }
+    ensures counted { K.reads keep.new ≤ K.reads keep.old + (length ask.now.path.now + 1) }
 {
-    let node = walk_to(alloc, keep, asker, path)?;
-    put_there(alloc, keep, asker, path, &Found { node, depth: 0 }, bytes)
+    let node = walk_to(keep, ask)?;
+    put_there(keep, ask, &Found { node, depth: 0 }, bytes)
 }
 
 // Puts the document at a path with a last name.
 fn put_below<K: Keep>(
-    alloc: Global,
     keep: &mut K,
-    asker: &Asker,
-    path: &Path,
+    ask: &Ask<'_>,
     name: &Text,
     bytes: &Bytes,
 ) -> Result<Reply, Halt>
-    requires { IsNameOf path.now name.now }
+    requires { IsNameOf ask.now.path.now name.now }
     ensures done { TriesUpTo K.Keep keep.old keep.new result OneAndBoth IsDamaged
-        (Serves asker.now (Put path.now bytes.now)) }
-    ensures counted { K.reads keep.new ≤ K.reads keep.old + (length path.now + 1) }
+        (Serves ask.now.asker.now (Put ask.now.path.now bytes.now)) }
+    ensures counted { K.reads keep.new ≤ K.reads keep.old + (length ask.now.path.now + 1) }
 {
-    let spot = to_spot(alloc, keep, asker, path)?;
+    let spot = to_spot(keep, ask)?;
     let Under { folder, child } = spot;
-    let depth = path.names().len();
+    let depth = ask.path.names().len();
     match child {
-        Some(node) => put_there(alloc, keep, asker, path, &Found { node, depth }, bytes),
+        Some(node) => put_there(keep, ask, &Found { node, depth }, bytes),
         None => {
             let kind = ObjKind::Document;
             let document = NewChild { name, kind, bytes };
-            put_new(alloc, keep, asker, path, &folder, &document)
+            put_new(keep, ask, &folder, &document)
         }
     }
 }
 
 // Replaces the bytes of what is there, if it is a document and there aren't too many.
 fn put_there<K: Keep>(
-    alloc: Global,
     keep: &mut K,
-    asker: &Asker,
-    path: &Path,
+    ask: &Ask<'_>,
     target: &Found,
     bytes: &Bytes,
 ) -> Result<Reply, Halt>
     ensures done { TriesUpTo K.Keep keep.old keep.new result
         (Provided (Holds target.now.node) OneWrite) IsUnreadable
-        (λ old outcome new. IsJudgedAndDone asker.now (no_folder (found_site path.now target.now)
-        ∷ Check (found_site path.now target.now) (write_data ∷ []) ∷ not_over path.now
+        (λ old outcome new. IsJudgedAndDone ask.now.asker.now
+        (no_folder (found_site ask.now.path.now target.now) ∷ Check
+        (found_site ask.now.path.now target.now) (write_data ∷ []) ∷ not_over ask.now.path.now
         (length bytes.now) ∷ []) Done (SetsBody target.now.node.id bytes.now) old (replied outcome)
         new) }
     ensures counted { K.reads keep.new ≤ K.reads keep.old }
 {
     let mask = Mask::write_data();
-    check_kind(alloc, keep, asker, path, target, ObjKind::Document, mask)?;
-    put_bytes(alloc, keep, path, target.node.id, bytes.as_slice())
+    check_kind(keep, ask, target, ObjKind::Document, mask)?;
+    put_bytes(keep, ask, target.node.id, bytes.as_slice())
 }
 
 // Makes a document in the folder, if it hasn't too many bytes.
 fn put_new<K: Keep>(
-    alloc: Global,
     keep: &mut K,
-    asker: &Asker,
-    path: &Path,
+    ask: &Ask<'_>,
     folder: &Found,
     child: &NewChild<'_>,
 ) -> Result<Reply, Halt>
     ensures done { TriesUpTo K.Keep keep.old keep.new result
-        (Provided (CanAdd (new_child asker.now.caller child.now.kind folder.now.node
+        (Provided (CanAdd (new_child ask.now.asker.now.caller child.now.kind folder.now.node
         child.now.name.now child.now.bytes.now)) OneWrite) IsUnreadable
-        (λ old outcome new. IsJudgedAndDone asker.now (Check (found_site path.now folder.now)
-        (write_data ∷ []) ∷ not_over path.now (length child.now.bytes.now) ∷ []) Made (IsMade
-        (new_child asker.now.caller child.now.kind folder.now.node child.now.name.now
+        (λ old outcome new. IsJudgedAndDone ask.now.asker.now
+        (Check (found_site ask.now.path.now folder.now) (write_data ∷ []) ∷ not_over
+        ask.now.path.now (length child.now.bytes.now) ∷ []) Made (IsMade (new_child
+        ask.now.asker.now.caller child.now.kind folder.now.node child.now.name.now
         child.now.bytes.now)) old (replied outcome) new) }
     ensures counted { K.reads keep.new ≤ K.reads keep.old }
 {
-    check(alloc, keep, asker, path, folder, Mask::write_data())?;
+    check(keep, ask, folder, Mask::write_data())?;
     let too_many = child.bytes.len() > MOST_BYTES;
     if too_many {
-        return Err(refusal(alloc, path, path.names().len(), Reason::TooLarge));
+        return Err(ask.refusal(ask.path.names().len(), Reason::TooLarge));
     }
-    add_child(alloc, keep, asker, &folder.node, child)
+    add_child(keep, ask, &folder.node, child)
 }
 
 /// Makes a folder.
-pub(crate) fn make_folder<K: Keep>(
-    alloc: Global,
-    keep: &mut K,
-    asker: &Asker,
-    path: &Path,
-) -> Result<Reply, Halt>
+pub(crate) fn make_folder<K: Keep>(keep: &mut K, ask: &Ask<'_>) -> Result<Reply, Halt>
     ensures done { TriesUpTo K.Keep keep.old keep.new result OneAndBoth IsDamaged
-        (Serves asker.now (MakeFolder path.now)) }
-    ensures counted { K.reads keep.new ≤ K.reads keep.old + (length path.now + 1) }
+        (Serves ask.now.asker.now (MakeFolder ask.now.path.now)) }
+    ensures counted { K.reads keep.new ≤ K.reads keep.old + (length ask.now.path.now + 1) }
 {
-    match path.split_last() {
-        None => Err(refusal(alloc, path, 0, Reason::Exists)),
-        Some((name, _)) => make_below(alloc, keep, asker, path, name),
+    match ask.path.split_last() {
+        None => Err(ask.refusal(0, Reason::Exists)),
+        Some((name, _)) => make_below(keep, ask, name),
     }
 }
 
 // Makes the folder at a path with a last name.
-fn make_below<K: Keep>(
-    alloc: Global,
-    keep: &mut K,
-    asker: &Asker,
-    path: &Path,
-    name: &Text,
-) -> Result<Reply, Halt>
-    requires { IsNameOf path.now name.now }
+fn make_below<K: Keep>(keep: &mut K, ask: &Ask<'_>, name: &Text) -> Result<Reply, Halt>
+    requires { IsNameOf ask.now.path.now name.now }
     ensures done { TriesUpTo K.Keep keep.old keep.new result OneAndBoth IsDamaged
-        (Serves asker.now (MakeFolder path.now)) }
-    ensures counted { K.reads keep.new ≤ K.reads keep.old + (length path.now + 1) }
+        (Serves ask.now.asker.now (MakeFolder ask.now.path.now)) }
+    ensures counted { K.reads keep.new ≤ K.reads keep.old + (length ask.now.path.now + 1) }
 {
-    let spot = to_spot(alloc, keep, asker, path)?;
-    let bytes = Bytes::new(alloc);
+    let spot = to_spot(keep, ask)?;
+    let bytes = Bytes::new(ask.alloc);
     let kind = ObjKind::Folder;
     let child = NewChild {
         name,
         kind,
         bytes: &bytes,
     };
-    make_new(alloc, keep, asker, path, &spot, &child)
+    make_new(keep, ask, &spot, &child)
 }
 
 // Makes a folder in this one, if nothing is there.
 fn make_new<K: Keep>(
-    alloc: Global,
     keep: &mut K,
-    asker: &Asker,
-    path: &Path,
+    ask: &Ask<'_>,
     spot: &Under,
     child: &NewChild<'_>,
 ) -> Result<Reply, Halt>
     ensures done { TriesUpTo K.Keep keep.old keep.new result
-        (Provided (λ rows. is_some spot.now.child ≡ false → CanAdd (new_child asker.now.caller
-        child.now.kind spot.now.folder.node child.now.name.now child.now.bytes.now) rows) OneWrite)
-        IsUnreadable
-        (λ old outcome new. IsJudgedAndDone asker.now (Check (found_site path.now spot.now.folder)
-        (append_data ∷ []) ∷ Refusal path.now Exists (is_some spot.now.child) ∷ []) Made (IsMade
-        (new_child asker.now.caller child.now.kind spot.now.folder.node child.now.name.now
+        (Provided (λ rows. is_some spot.now.child ≡ false → CanAdd (new_child
+        ask.now.asker.now.caller child.now.kind spot.now.folder.node child.now.name.now
+        child.now.bytes.now) rows) OneWrite) IsUnreadable
+        (λ old outcome new. IsJudgedAndDone ask.now.asker.now
+        (Check (found_site ask.now.path.now spot.now.folder) (append_data ∷ []) ∷ Refusal
+        ask.now.path.now Exists (is_some spot.now.child) ∷ []) Made (IsMade (new_child
+        ask.now.asker.now.caller child.now.kind spot.now.folder.node child.now.name.now
         child.now.bytes.now)) old (replied outcome) new) }
     ensures counted { K.reads keep.new ≤ K.reads keep.old }
 {
-    check(alloc, keep, asker, path, &spot.folder, Mask::append_data())?;
+    check(keep, ask, &spot.folder, Mask::append_data())?;
     let is_there = spot.child.is_some();
     if is_there {
-        return Err(refusal(alloc, path, path.names().len(), Reason::Exists));
+        return Err(ask.refusal(ask.path.names().len(), Reason::Exists));
     }
-    add_child(alloc, keep, asker, &spot.folder.node, child)
+    add_child(keep, ask, &spot.folder.node, child)
 }
 
 // Adds the object under the parent.
 fn add_child<K: Keep>(
-    alloc: Global,
     keep: &mut K,
-    asker: &Asker,
+    ask: &Ask<'_>,
     parent: &Node,
     child: &NewChild<'_>,
 ) -> Result<Reply, Halt>
     ensures done { TriesUpTo K.Keep keep.old keep.new result
-        (Provided (CanAdd (new_child asker.now.caller child.now.kind parent.now child.now.name.now
-        child.now.bytes.now)) OneWrite) IsUnreadable
-        (λ old outcome new. MakesChild asker.now.caller child.now.kind parent.now child.now.name.now
-        child.now.bytes.now old (replied outcome) new) }
+        (Provided (CanAdd (new_child ask.now.asker.now.caller child.now.kind parent.now
+        child.now.name.now child.now.bytes.now)) OneWrite) IsUnreadable
+        (λ old outcome new. MakesChild ask.now.asker.now.caller child.now.kind parent.now
+        child.now.name.now child.now.bytes.now old (replied outcome) new) }
     ensures counted { K.reads keep.new ≤ K.reads keep.old }
 {
-    let node = child_at(alloc, asker, parent, child)?;
+    let node = child_at(ask, parent, child)?;
     keep.add(node, child.bytes.as_slice())?;
     Ok(Reply::Made)
 }
 
 // The object under the parent, with what it is passed. Its bytes may be many, and aren't copied.
-fn child_at(
-    alloc: Global,
-    asker: &Asker,
-    parent: &Node,
-    child: &NewChild<'_>,
-) -> Result<NewNode, AllocError>
-    ensures { IfOk result (λ node. node ≡ child_node asker.now.caller child.now.kind parent.now
-        child.now.name.now) }
+fn child_at(ask: &Ask<'_>, parent: &Node, child: &NewChild<'_>) -> Result<NewNode, AllocError>
+    ensures { IfOk result (λ node. node ≡ child_node ask.now.asker.now.caller child.now.kind
+        parent.now child.now.name.now) }
 {
-    let dacl = passed_list(alloc, child.kind, &parent.dacl)?;
-    let sacl = passed_list(alloc, child.kind, &parent.sacl)?;
-    let owners = owners_of(&asker.caller.user, &parent.owners)?;
+    let dacl = passed_list(ask.alloc, child.kind, &parent.dacl)?;
+    let sacl = passed_list(ask.alloc, child.kind, &parent.sacl)?;
+    let owners = owners_of(&ask.asker.caller.user, &parent.owners)?;
     let name = child.name.copy()?;
     Ok(NewNode {
         parent: Some(parent.id),

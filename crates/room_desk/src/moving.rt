@@ -15,142 +15,132 @@ ghost use Rattle.room_desk.specs.Counted.{OneAndBoth, Provided};
 
 use crate::placing::{check_free, place_at};
 use room_ace::Mask;
-use room_judge::{
-    Asker, Found, Halt, check, check_deletion, pass_through, refusal, to_pair_from, walk_from,
-};
+use room_judge::{Ask, Found, Halt, check, check_deletion, pass_through, to_pair_from, walk_from};
 use room_machine::{Reason, Reply};
 use room_rows::{Keep, Node, Path};
-use std::alloc::Global;
 
-// An object that is to be moved, at its path, and the folder that it leaves.
+// An object that is to be moved, and the folder that it leaves.
 #[derive(Drop)]
 struct Moving<'a> {
-    path: &'a Path,
+    ask: &'a Ask<'a>,
     target: &'a Found,
     from: &'a Found,
 }
 
 /// Moves an object, with all below it, to another folder or name.
-pub(crate) fn move_object<K: Keep>(
-    alloc: Global,
-    keep: &mut K,
-    asker: &Asker,
-    path: &Path,
-    to: &Path,
-) -> Result<Reply, Halt>
+pub(crate) fn move_object<K: Keep>(keep: &mut K, ask: &Ask<'_>, to: &Path) -> Result<Reply, Halt>
     ensures done { TriesUpTo K.Keep keep.old keep.new result OneAndBoth IsDamaged
-        (Serves asker.now (Move path.now to.now)) }
+        (Serves ask.now.asker.now (Move ask.now.path.now to.now)) }
     ensures counted { IfOk (settled result)
-        (λ _. ReadsBeside K.Keep (length path.now + length to.now + 7) keep.old keep.new) }
+        (λ _. ReadsBeside K.Keep (length ask.now.path.now + length to.now + 7) keep.old keep.new) }
 {
     let root = keep.root()?;
-    if path.is_root() {
-        return Err(refusal(alloc, path, 0, Reason::Root));
+    if ask.path.is_root() {
+        return Err(ask.refusal(0, Reason::Root));
     }
-    let pair = to_pair_from(alloc, keep, asker, path, &root)?;
+    let pair = to_pair_from(keep, ask, &root)?;
     let moving = Moving {
-        path,
+        ask,
         target: &pair.target,
         from: &pair.folder,
     };
-    move_found(alloc, keep, asker, &moving, to, &root)
+    move_found(keep, &moving, to, &root)
 }
 
 // Moves the object that was found in its folder. Both walks begin at the root that was read once.
 fn move_found<K: Keep>(
-    alloc: Global,
     keep: &mut K,
-    asker: &Asker,
     moving: &Moving<'_>,
     to: &Path,
     root: &Node,
 ) -> Result<Reply, Halt>
     ensures done { TriesUpTo K.Keep keep.old keep.new result
-        (Provided (StandsAlong moving.now.path.now root.now moving.now.target.now.node) OneAndBoth)
-        (FailsToMove asker.now moving.now.path.now root.now moving.now.from.now
-        moving.now.target.now)
-        (λ old outcome new. MovesOn asker.now moving.now.path.now to.now root.now
-        moving.now.from.now moving.now.target.now old (replied outcome) new) }
+        (Provided (StandsAlong moving.now.ask.now.path.now root.now moving.now.target.now.node)
+        OneAndBoth)
+        (FailsToMove moving.now.ask.now.asker.now moving.now.ask.now.path.now root.now
+        moving.now.from.now moving.now.target.now)
+        (λ old outcome new. MovesOn moving.now.ask.now.asker.now moving.now.ask.now.path.now to.now
+        root.now moving.now.from.now moving.now.target.now old (replied outcome) new) }
     ensures counted { IfOk (settled result)
         (λ _. ReadsBeside K.Keep (length to.now + 6) keep.old keep.new) }
 {
     match to.split_last() {
-        None => refuse_root(alloc, keep, asker, moving, to),
+        None => refuse_root(keep, moving),
         Some((name, _)) => {
-            let folder = reach_place(alloc, keep, asker, moving, to, root)?;
+            let folder = reach_place(keep, moving, to, root)?;
+            let alloc = moving.ask.alloc;
             Ok(place_at(alloc, keep, &moving.target.node, &folder, name.as_str())?)
         }
     }
 }
 
 // Refuses a move to the root's place, which is never free.
-fn refuse_root<K: Keep>(
-    alloc: Global,
-    keep: &mut K,
-    asker: &Asker,
-    moving: &Moving<'_>,
-    to: &Path,
-) -> Result<Reply, Halt>
-    requires { to.now ≡ [] }
+fn refuse_root<K: Keep>(keep: &mut K, moving: &Moving<'_>) -> Result<Reply, Halt>
     ensures done { Tries K.Keep keep.old keep.new result IsNever
-        (λ old outcome new. IsJudged asker.now (Deletion
-        (found_site moving.now.path.now moving.now.target.now)
-        (found_site moving.now.path.now moving.now.from.now) ∷ Refusal [] Exists true ∷ []) old
-        (Some (replied outcome)) new) }
+        (λ old outcome new. IsJudged moving.now.ask.now.asker.now (Deletion
+        (found_site moving.now.ask.now.path.now moving.now.target.now)
+        (found_site moving.now.ask.now.path.now moving.now.from.now)
+        ∷ Refusal [] Exists true ∷ []) old (Some (replied outcome)) new) }
     ensures counted { K.reads keep.new ≤ K.reads keep.old }
 {
-    check_deletion(alloc, keep, asker, moving.path, moving.target, moving.from)?;
-    Err(refusal(alloc, to, 0, Reason::Exists))
+    check_deletion(keep, moving.ask, moving.target, moving.from)?;
+    Err(moving.ask.refusal(0, Reason::Exists))
 }
 
 // The walk to the new folder, and what is judged there.
 fn reach_place<K: Keep>(
-    alloc: Global,
     keep: &mut K,
-    asker: &Asker,
     moving: &Moving<'_>,
     to: &Path,
     root: &Node,
 ) -> Result<Node, Halt>
     requires { 0 < length to.now }
     ensures done { Tries K.Keep keep.old keep.new result (IsUnreadableFrom root.now)
-        (FromRoot root.now (λ old outcome new. IsReached asker.now (front to.now)
-        (at_place old.read to.now (begins moving.now.path.now (front to.now))
-        (found_site moving.now.path.now moving.now.target.now)
-        (found_site moving.now.path.now moving.now.from.now)) old outcome new)) }
+        (FromRoot root.now (λ old outcome new. IsReached moving.now.ask.now.asker.now (front to.now)
+        (at_place old.read to.now (begins moving.now.ask.now.path.now (front to.now))
+        (found_site moving.now.ask.now.path.now moving.now.target.now)
+        (found_site moving.now.ask.now.path.now moving.now.from.now)) old outcome new)) }
     ensures counted { K.reads keep.new ≤ K.reads keep.old + length to.now }
 {
     let depth = to.names().len() - 1;
-    let node = walk_from(alloc, keep, asker, to, depth, root)?;
+    let there = Ask {
+        alloc: moving.ask.alloc,
+        asker: moving.ask.asker,
+        path: to,
+    };
+    let node = walk_from(keep, &there, depth, root)?;
     let folder = Found { node, depth };
-    check_place(alloc, keep, asker, moving, to, &folder)?;
+    check_place(keep, moving, to, &folder)?;
     Ok(folder.node)
 }
 
 // The new folder grants EXECUTE, the object may leave its own and come into the new one, and its
 // place there is free.
 fn check_place<K: Keep>(
-    alloc: Global,
     keep: &mut K,
-    asker: &Asker,
     moving: &Moving<'_>,
     to: &Path,
     folder: &Found,
 ) -> Result<(), Halt>
     requires { length to.now ≡ folder.now.depth + 1 }
     ensures done { Tries K.Keep keep.old keep.new result IsUnreadable
-        (λ old outcome new. IsJudged asker.now (at_place old.read to.now
-        (begins moving.now.path.now (front to.now))
-        (found_site moving.now.path.now moving.now.target.now)
-        (found_site moving.now.path.now moving.now.from.now) (found_site to.now folder.now)) old
-        (refusal_of outcome) new) }
+        (λ old outcome new. IsJudged moving.now.ask.now.asker.now (at_place old.read to.now
+        (begins moving.now.ask.now.path.now (front to.now))
+        (found_site moving.now.ask.now.path.now moving.now.target.now)
+        (found_site moving.now.ask.now.path.now moving.now.from.now)
+        (found_site to.now folder.now)) old (refusal_of outcome) new) }
     ensures counted { K.reads keep.new ≤ K.reads keep.old + 1 }
 {
-    pass_through(alloc, keep, asker, to, folder)?;
-    check_deletion(alloc, keep, asker, moving.path, moving.target, moving.from)?;
+    let there = Ask {
+        alloc: moving.ask.alloc,
+        asker: moving.ask.asker,
+        path: to,
+    };
+    pass_through(keep, &there, folder)?;
+    check_deletion(keep, moving.ask, moving.target, moving.from)?;
     let right = right_to_add(&moving.target.node);
-    check(alloc, keep, asker, to, folder, right)?;
-    check_free(alloc, keep, moving.path, to, folder)
+    check(keep, &there, folder, right)?;
+    check_free(keep, &there, moving.ask.path, folder)
 }
 
 // What a folder has to grant for the object to come into it.

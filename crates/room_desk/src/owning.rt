@@ -9,24 +9,21 @@ ghost use Rattle.room_desk.specs.Counted.{OneAndBoth, OneWrite, Provided};
 ghost use Rattle.room_inherit.specs.Spread.{Holds};
 
 use room_ace::{Mask, Owners};
-use room_judge::{Asker, Halt, reach};
+use room_judge::{Ask, Halt, reach};
 use room_machine::Reply;
-use room_rows::{Keep, KeepFault, Node, Path};
-use std::alloc::Global;
+use room_rows::{Keep, KeepFault, Node};
 
 /// Gives an object another owner and group.
 pub(crate) fn set_owners<K: Keep>(
-    alloc: Global,
     keep: &mut K,
-    asker: &Asker,
-    path: &Path,
+    ask: &Ask<'_>,
     owners: &Owners,
 ) -> Result<Reply, Halt>
     ensures done { TriesUpTo K.Keep keep.old keep.new result OneAndBoth IsDamaged
-        (Serves asker.now (SetOwners path.now owners.now)) }
-    ensures counted { K.reads keep.new ≤ K.reads keep.old + (length path.now + 1) }
+        (Serves ask.now.asker.now (SetOwners ask.now.path.now owners.now)) }
+    ensures counted { K.reads keep.new ≤ K.reads keep.old + (length ask.now.path.now + 1) }
 {
-    let node = reach(alloc, keep, asker, path, Mask::write_owner())?;
+    let node = reach(keep, ask, Mask::write_owner())?;
     Ok(set_at(keep, &node, owners)?)
 }
 

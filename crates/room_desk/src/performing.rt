@@ -17,7 +17,7 @@ use crate::removing::remove;
 use crate::setting::set_list;
 use crate::writing::append;
 use room_ace::Name;
-use room_judge::{Asker, Halt, caller_of};
+use room_judge::{Ask, Asker, Halt, caller_of};
 use room_machine::{Reply, Request};
 use room_rows::{Keep, KeepFault};
 use std::alloc::Global;
@@ -93,17 +93,22 @@ fn serve<K: Keep>(
         keep.new (settled result) }
 {
     match request {
-        Request::Read(path) => read(alloc, keep, asker, path),
-        Request::List(path) => list(alloc, keep, asker, path),
-        Request::Put(path, bytes) => put(alloc, keep, asker, path, bytes),
-        Request::Append(path, bytes) => append(alloc, keep, asker, path, bytes),
-        Request::MakeFolder(path) => make_folder(alloc, keep, asker, path),
-        Request::Remove(path) => remove(alloc, keep, asker, path),
-        Request::Move(path, to) => move_object(alloc, keep, asker, path, to),
-        Request::ReadList(path, which) => read_full_list(alloc, keep, asker, path, *which),
-        Request::SetList(path, which, sent) => set_list(alloc, keep, asker, path, *which, sent),
-        Request::ReadAttr(path) => read_attr(alloc, keep, asker, path),
-        Request::SetOwners(path, owners) => set_owners(alloc, keep, asker, path, owners),
-        Request::Can(path, mask) => can(alloc, keep, asker, path, *mask),
+        Request::Read(path) => read(keep, &Ask { alloc, asker, path }),
+        Request::List(path) => list(keep, &Ask { alloc, asker, path }),
+        Request::Put(path, bytes) => put(keep, &Ask { alloc, asker, path }, bytes),
+        Request::Append(path, bytes) => append(keep, &Ask { alloc, asker, path }, bytes),
+        Request::MakeFolder(path) => make_folder(keep, &Ask { alloc, asker, path }),
+        Request::Remove(path) => remove(keep, &Ask { alloc, asker, path }),
+        Request::Move(path, to) => move_object(keep, &Ask { alloc, asker, path }, to),
+        Request::ReadList(path, which) => read_full_list(keep, &Ask { alloc, asker, path }, *which),
+        Request::SetList(path, which, sent) => set_list(
+            keep,
+            &Ask { alloc, asker, path },
+            *which,
+            sent,
+        ),
+        Request::ReadAttr(path) => read_attr(keep, &Ask { alloc, asker, path }),
+        Request::SetOwners(path, owners) => set_owners(keep, &Ask { alloc, asker, path }, owners),
+        Request::Can(path, mask) => can(keep, &Ask { alloc, asker, path }, *mask),
     }
 }

@@ -25,34 +25,35 @@ ghost use Rattle.room_desk.specs.Counted.{EachList, OneAndBoth, Provided};
 use crate::carrying::carry_below;
 use room_ace::{Entries, Which};
 use room_inherit::{pass, takes_from};
-use room_judge::{Found, Halt, refusal};
+use room_judge::{Ask, Found, Halt};
 use room_machine::{Reason, Reply};
 use room_rows::{Keep, KeepFault, Node, Path, Text};
 use std::alloc::Global;
 
 /// Nothing has the new name, and the object's path doesn't begin that of the folder.
 pub(crate) fn check_free<K: Keep>(
-    alloc: Global,
     keep: &mut K,
+    there: &Ask<'_>,
     path: &Path,
-    to: &Path,
     folder: &Found,
 ) -> Result<(), Halt>
-    requires { length to.now ≡ folder.now.depth + 1 }
+    requires { length there.now.path.now ≡ folder.now.depth + 1 }
     ensures done { Tries K.Keep keep.old keep.new result IsUnreadable
         (λ old outcome new. JudgesAll
-        (λ rows. free_place rows.read to.now (begins path.now (front to.now)) folder.now.node) old
+        (λ rows. free_place rows.read there.now.path.now
+        (begins path.now (front there.now.path.now)) folder.now.node) old
         (refusal_of outcome) new) }
     ensures counted { K.reads keep.new ≤ K.reads keep.old + 1 }
 {
+    let to = there.path;
     let name = &to.names()[folder.depth];
     let is_taken = is_taken(keep, folder.node.id, name.as_str())?;
     if is_taken {
-        return Err(refusal(alloc, to, to.names().len(), Reason::Exists));
+        return Err(there.refusal(to.names().len(), Reason::Exists));
     }
     let is_below = begins(path.names(), &to.names()[..folder.depth]);
     if is_below {
-        return Err(refusal(alloc, to, to.names().len(), Reason::Loop));
+        return Err(there.refusal(to.names().len(), Reason::Loop));
     }
     Ok(())
 }

@@ -15,24 +15,19 @@ ghost use Rattle.room_machine.specs.declared.request.Request.TheVariants.{
 };
 
 use room_ace::{Entries, Mask, ObjKind, Which};
-use room_judge::{Asker, Halt, reach, reach_kind};
+use room_judge::{Ask, Halt, reach, reach_kind};
 use room_machine::Reply;
-use room_rows::{Held, Keep, KeepFault, Node, Path};
+use room_rows::{Held, Keep, KeepFault, Node};
 use std::alloc::{AllocError, Global};
 
 /// The bytes of a document.
-pub(crate) fn read<K: Keep>(
-    alloc: Global,
-    keep: &mut K,
-    asker: &Asker,
-    path: &Path,
-) -> Result<Reply, Halt>
+pub(crate) fn read<K: Keep>(keep: &mut K, ask: &Ask<'_>) -> Result<Reply, Halt>
     ensures done { Tries K.Keep keep.old keep.new result IsDamaged
-        (Serves asker.now (Read path.now)) }
-    ensures counted { K.reads keep.new ≤ K.reads keep.old + (length path.now + 2) }
+        (Serves ask.now.asker.now (Read ask.now.path.now)) }
+    ensures counted { K.reads keep.new ≤ K.reads keep.old + (length ask.now.path.now + 2) }
 {
     let mask = Mask::read_data();
-    let node = reach_kind(alloc, keep, asker, path, ObjKind::Document, mask)?;
+    let node = reach_kind(keep, ask, ObjKind::Document, mask)?;
     let id = node.id;
     drop(node);
     Ok(read_at(keep, id)?)
@@ -52,18 +47,16 @@ fn read_at<K: Keep>(keep: &mut K, id: u64) -> Result<Reply, KeepFault>
 
 /// The flags and the full list of an object.
 pub(crate) fn read_full_list<K: Keep>(
-    alloc: Global,
     keep: &mut K,
-    asker: &Asker,
-    path: &Path,
+    ask: &Ask<'_>,
     which: Which,
 ) -> Result<Reply, Halt>
     ensures done { Tries K.Keep keep.old keep.new result IsDamaged
-        (Serves asker.now (ReadList path.now which)) }
-    ensures counted { K.reads keep.new ≤ K.reads keep.old + (length path.now + 1) }
+        (Serves ask.now.asker.now (ReadList ask.now.path.now which)) }
+    ensures counted { K.reads keep.new ≤ K.reads keep.old + (length ask.now.path.now + 1) }
 {
-    let node = reach(alloc, keep, asker, path, Mask::read_acl())?;
-    Ok(list_reply(alloc, node.held(which))?)
+    let node = reach(keep, ask, Mask::read_acl())?;
+    Ok(list_reply(ask.alloc, node.held(which))?)
 }
 
 // The flags and a copy of the full list.
@@ -76,17 +69,12 @@ fn list_reply(alloc: Global, held: &Held) -> Result<Reply, AllocError>
 }
 
 /// The kind and the owners of an object.
-pub(crate) fn read_attr<K: Keep>(
-    alloc: Global,
-    keep: &mut K,
-    asker: &Asker,
-    path: &Path,
-) -> Result<Reply, Halt>
+pub(crate) fn read_attr<K: Keep>(keep: &mut K, ask: &Ask<'_>) -> Result<Reply, Halt>
     ensures done { Tries K.Keep keep.old keep.new result IsDamaged
-        (Serves asker.now (ReadAttr path.now)) }
-    ensures counted { K.reads keep.new ≤ K.reads keep.old + (length path.now + 1) }
+        (Serves ask.now.asker.now (ReadAttr ask.now.path.now)) }
+    ensures counted { K.reads keep.new ≤ K.reads keep.old + (length ask.now.path.now + 1) }
 {
-    let node = reach(alloc, keep, asker, path, Mask::read_attributes())?;
+    let node = reach(keep, ask, Mask::read_attributes())?;
     Ok(attr_reply(node))
 }
 
@@ -98,17 +86,12 @@ fn attr_reply(node: Node) -> Reply
 }
 
 /// The names and kinds of the children of a folder, in order of name.
-pub(crate) fn list<K: Keep>(
-    alloc: Global,
-    keep: &mut K,
-    asker: &Asker,
-    path: &Path,
-) -> Result<Reply, Halt>
+pub(crate) fn list<K: Keep>(keep: &mut K, ask: &Ask<'_>) -> Result<Reply, Halt>
     ensures done { Tries K.Keep keep.old keep.new result IsDamaged
-        (Serves asker.now (List path.now)) }
-    ensures counted { K.reads keep.new ≤ K.reads keep.old + (length path.now + 2) }
+        (Serves ask.now.asker.now (List ask.now.path.now)) }
+    ensures counted { K.reads keep.new ≤ K.reads keep.old + (length ask.now.path.now + 2) }
 {
-    let node = reach_kind(alloc, keep, asker, path, ObjKind::Folder, Mask::read_data())?;
+    let node = reach_kind(keep, ask, ObjKind::Folder, Mask::read_data())?;
     let id = node.id;
     drop(node);
     Ok(list_at(keep, id)?)

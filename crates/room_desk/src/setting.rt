@@ -29,7 +29,7 @@ ghost use Rattle.room_inherit.specs.Spread.{Holds};
 use crate::carrying::carry_from;
 use room_ace::{Entries, Entry, ListFlags, Mask, ObjKind, SentList, Which, first_bad_entry};
 use room_inherit::pass;
-use room_judge::{Asker, Found, Halt, check, refused, to_pair};
+use room_judge::{Ask, Asker, Found, Halt, check, refused, to_pair};
 use room_machine::{Reason, Reply};
 use room_rows::{Held, Keep, KeepFault, Node, Path};
 use std::alloc::{AllocError, Global};
@@ -47,57 +47,53 @@ pub(crate) struct Setting<'p, 't, 'a, 's> {
 
 /// Sets one of an object's lists, and carries it down.
 pub(crate) fn set_list<K: Keep>(
-    alloc: Global,
     keep: &mut K,
-    asker: &Asker,
-    path: &Path,
+    ask: &Ask<'_>,
     which: Which,
     sent: &SentList,
 ) -> Result<Reply, Halt>
     ensures done { TriesUpTo K.Keep keep.old keep.new result OneAndBoth IsDamaged
-        (Serves asker.now (SetList path.now which sent.now)) }
+        (Serves ask.now.asker.now (SetList ask.now.path.now which sent.now)) }
     ensures counted { IfOk (settled result)
-        (λ _. ReadsBeside K.Keep (length path.now + 3) keep.old keep.new) }
+        (λ _. ReadsBeside K.Keep (length ask.now.path.now + 3) keep.old keep.new) }
 {
-    if path.is_root() {
-        return set_root(alloc, keep, asker, path, which, sent);
+    if ask.path.is_root() {
+        return set_root(keep, ask, which, sent);
     }
-    let pair = to_pair(alloc, keep, asker, path)?;
+    let pair = to_pair(keep, ask)?;
     let above = Some(&pair.folder.node);
     let setting = Setting {
-        path,
+        path: ask.path,
         target: &pair.target,
         above,
         which,
         sent,
     };
-    set_allowed(alloc, keep, asker, &setting)
+    set_allowed(ask.alloc, keep, ask.asker, &setting)
 }
 
 // Sets the list of the root, which has nothing above it.
 fn set_root<K: Keep>(
-    alloc: Global,
     keep: &mut K,
-    asker: &Asker,
-    path: &Path,
+    ask: &Ask<'_>,
     which: Which,
     sent: &SentList,
 ) -> Result<Reply, Halt>
-    requires { path.now ≡ [] }
+    requires { ask.now.path.now ≡ [] }
     ensures done { TriesUpTo K.Keep keep.old keep.new result OneAndBoth IsDamaged
-        (Serves asker.now (SetList path.now which sent.now)) }
+        (Serves ask.now.asker.now (SetList ask.now.path.now which sent.now)) }
     ensures counted { IfOk (settled result) (λ _. ReadsBeside K.Keep 3 keep.old keep.new) }
 {
     let node = keep.root()?;
     let root = Found { node, depth: 0 };
     let setting = Setting {
-        path,
+        path: ask.path,
         target: &root,
         above: None,
         which,
         sent,
     };
-    set_allowed(alloc, keep, asker, &setting)
+    set_allowed(ask.alloc, keep, ask.asker, &setting)
 }
 
 // Sets the list of the object that the walk came to, where the caller may write it.
@@ -117,7 +113,12 @@ fn set_allowed<K: Keep>(
     ensures counted { IfOk (settled result) (λ _. ReadsBeside K.Keep 2 keep.old keep.new) }
 {
     let mask = Mask::write_acl();
-    check(alloc, keep, asker, setting.path, setting.target, mask)?;
+    let ask = Ask {
+        alloc,
+        asker,
+        path: setting.path,
+    };
+    check(keep, &ask, setting.target, mask)?;
     Ok(set_found(alloc, keep, setting)?)
 }
 

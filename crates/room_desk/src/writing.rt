@@ -15,52 +15,40 @@ ghost use Rattle.room_machine.specs.declared.request.Request.TheVariants.{Append
 ghost use Rattle.room_desk.specs.Counted.{OneAndBoth, OneWrite, Provided};
 
 use room_ace::{MOST_BYTES, Mask, ObjKind};
-use room_judge::{Asker, Halt, reach_kind, refusal};
+use room_judge::{Ask, Halt, reach_kind};
 use room_machine::{Reason, Reply};
-use room_rows::{Bytes, Keep, KeepFault, Path};
-use std::alloc::{AllocError, Global};
+use room_rows::{Bytes, Keep, KeepFault};
+use std::alloc::AllocError;
 
 /// Adds bytes at the end of a document.
-pub(crate) fn append<K: Keep>(
-    alloc: Global,
-    keep: &mut K,
-    asker: &Asker,
-    path: &Path,
-    bytes: &Bytes,
-) -> Result<Reply, Halt>
+pub(crate) fn append<K: Keep>(keep: &mut K, ask: &Ask<'_>, bytes: &Bytes) -> Result<Reply, Halt>
     ensures done { TriesUpTo K.Keep keep.old keep.new result OneAndBoth IsDamaged
-        (Serves asker.now (Append path.now bytes.now)) }
-    ensures counted { K.reads keep.new ≤ K.reads keep.old + (length path.now + 2) }
+        (Serves ask.now.asker.now (Append ask.now.path.now bytes.now)) }
+    ensures counted { K.reads keep.new ≤ K.reads keep.old + (length ask.now.path.now + 2) }
 {
     let mask = Mask::append_data();
-    let node = reach_kind(alloc, keep, asker, path, ObjKind::Document, mask)?;
+    let node = reach_kind(keep, ask, ObjKind::Document, mask)?;
     let id = node.id;
     drop(node);
-    append_at(alloc, keep, path, id, bytes)
+    append_at(keep, ask, id, bytes)
 }
 
 // Adds the bytes to those of the document of this number. Where there are none to add, nothing is
 // written.
-fn append_at<K: Keep>(
-    alloc: Global,
-    keep: &mut K,
-    path: &Path,
-    id: u64,
-    bytes: &Bytes,
-) -> Result<Reply, Halt>
+fn append_at<K: Keep>(keep: &mut K, ask: &Ask<'_>, id: u64, bytes: &Bytes) -> Result<Reply, Halt>
     ensures done { TriesUpTo K.Keep keep.old keep.new result
         (Provided (λ rows. IsDocumentAt rows id) OneWrite) (HasNoBytes id)
-        (λ old outcome new. IsAppended path.now id bytes.now old (replied outcome) new) }
+        (λ old outcome new. IsAppended ask.now.path.now id bytes.now old (replied outcome) new) }
     ensures quiet { bytes.now ≡ [] → IfOk result (λ _. K.writes keep.new ≡ K.writes keep.old) }
     ensures counted { K.reads keep.new ≤ K.reads keep.old + 1 }
 {
     let before = body_of(keep, id)?;
     let are_none = bytes.as_slice().is_empty();
     if are_none {
-        return sized_reply(alloc, path, before.len());
+        return sized_reply(ask, before.len());
     }
     let joined = join(before, bytes)?;
-    put_bytes(alloc, keep, path, id, joined.as_slice())
+    put_bytes(keep, ask, id, joined.as_slice())
 }
 
 // The bytes of the document of this number.
@@ -75,11 +63,11 @@ fn body_of<K: Keep>(keep: &mut K, id: u64) -> Result<Bytes, KeepFault>
 }
 
 // The reply for a document that is to have this many bytes.
-fn sized_reply(alloc: Global, path: &Path, size: usize) -> Result<Reply, Halt>
-    ensures { Answers result (sized_reply path.now size) }
+fn sized_reply(ask: &Ask<'_>, size: usize) -> Result<Reply, Halt>
+    ensures { Answers result (sized_reply ask.now.path.now size) }
 {
     if size > MOST_BYTES {
-        return Err(refusal(alloc, path, path.names().len(), Reason::TooLarge));
+        return Err(ask.refusal(ask.path.names().len(), Reason::TooLarge));
     }
     Ok(Reply::Done)
 }
@@ -95,20 +83,19 @@ fn join(before: Bytes, bytes: &Bytes) -> Result<Vec<u8>, AllocError>
 
 /// Gives the document of this number these bytes, if there aren't too many.
 pub(crate) fn put_bytes<K: Keep>(
-    alloc: Global,
     keep: &mut K,
-    path: &Path,
+    ask: &Ask<'_>,
     id: u64,
     bytes: &[u8],
 ) -> Result<Reply, Halt>
     ensures done { TriesUpTo K.Keep keep.old keep.new result
         (Provided (λ rows. IsDocumentAt rows id) OneWrite) IsUnreadable
-        (λ old outcome new. IsPut path.now id bytes.now old (replied outcome) new) }
+        (λ old outcome new. IsPut ask.now.path.now id bytes.now old (replied outcome) new) }
     ensures counted { K.reads keep.new ≤ K.reads keep.old }
 {
     let too_many = bytes.len() > MOST_BYTES;
     if too_many {
-        return Err(refusal(alloc, path, path.names().len(), Reason::TooLarge));
+        return Err(ask.refusal(ask.path.names().len(), Reason::TooLarge));
     }
     keep.set_body(id, bytes)?;
     Ok(Reply::Done)

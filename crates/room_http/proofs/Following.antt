@@ -9,7 +9,7 @@ use Rattle.httparse.specs.Grammar.{RequestHead, print_request}
 use Rattle.http_message.specs.declared.head.Head.{Head}
 use Rattle.room_http.specs.Message.{print_message, BeginsWith, IsPart, head_of, body_size}
 use Rattle.room_http.specs.{declared.ended.Cause.Cause, Limits.max_body, Spans.AreSpansOf}
-use Rattle.room_http.specs.{Spans.{head_at, StopsBody, StopsReading}, Turn.WholeNext}
+use Rattle.room_http.specs.{Spans.{head_at, StopsBody, StopsReading}, Exchange.WholeNext}
 
 parts-of-spans : (spans : List HeaderSpan) (r : RequestSpans) (h : RequestHead)
     → AreSpansOf spans r h

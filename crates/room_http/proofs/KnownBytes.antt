@@ -4,7 +4,8 @@ use Rattle.std.proofs.Common.{◌-◌, ◌<◌, arith, List, [], ◌++◌, lengt
 use Rattle.std.proofs.Common.{Some, None, sym, ap, refl, ◌∙◌, append_assoc}
 use Rattle.std.proofs.lemmas.List.{take-append-drop, length-append, length-drop}
 use Rattle.std.specs.Io.KnownBytes.{Appends, Consumes, Keeps}
-use Rattle.room_http.specs.{declared.ended.Cause.Cause, Spans.{Came, StopsReading}, Turn.WritesPart}
+use Rattle.room_http.specs.{declared.ended.Cause.Cause, Spans.{Came, StopsReading}}
+use Rattle.room_http.specs.Exchange.{WritesPart}
 use Rattle.room_entry.proofs.Facts.KnownBytes.{Appends-then, Appends-kept}
 
 pub Consumes-then : (u v w : Option (List ℕ)) (a b : List ℕ) → Consumes u v a → Consumes v w b

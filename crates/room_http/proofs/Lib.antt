@@ -1,4 +1,5 @@
 pub mod Digits
+pub mod Exchanging
 pub mod FieldLines
 pub mod FixedTexts
 pub mod Following
@@ -8,5 +9,4 @@ pub mod Near
 pub mod Runs
 pub mod Serving
 pub mod Telling
-pub mod Turning
 pub mod Unique

@@ -9,7 +9,7 @@ use Rattle.httparse.specs.declared.spans.{RequestSpans.RequestSpans, HeaderSpan.
 use Rattle.room_http.specs.declared.{ended.Cause.Cause, next.NextMessage.NextMessage}
 use Rattle.room_http.specs.{Limits.{max_head, max_unanswered, read_size}, Message.BeginsWith}
 use Rattle.room_http.specs.{Message.IsPart, Serve.IsNear, Spans.{Came, Loses, MayGoOn, SpansHead}}
-use Rattle.room_http.specs.{Spans.{StopsBody, StopsReading}, Turn.WholeNext}
+use Rattle.room_http.specs.{Spans.{StopsBody, StopsReading}, Exchange.WholeNext}
 use Rattle.room_http.proofs.KnownBytes.{Came-then}
 
 -- while a head is read: nothing came yet, or there was no head before the last read

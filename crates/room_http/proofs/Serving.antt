@@ -1,4 +1,4 @@
--- A connection turn by turn.
+-- A connection, exchange by exchange.
 use Rattle.std.proofs.Common.{rules, ◌≡◌, ℕ, ℤ, ◌+◌, ◌<◌, true, false, length, List, [], ◌∷◌, ◌++◌}
 use Rattle.std.proofs.Common.{refl, sym, ap, subst, ◌∙◌, append_assoc, arith}
 use Rattle.std.proofs.lemmas.List.{append-nil, length-append, Elements.{All-append, All-nil}}
@@ -8,13 +8,13 @@ use Rattle.room_machine.specs.{declared.desk.Desk.Ghosts, Desk.DeskLaws, Run.Ask
 use Rattle.room_http.proofs.{Runs.{exchanged-then, nothing-done}, KnownBytes.Consumes-then}
 use Rattle.room_http.proofs.KnownBytes.{Consumes-none}
 use Rattle.room_http.specs.declared.ended.{Ended.Ended, ServeFault.ServeFault}
-use Rattle.room_http.specs.declared.server.{Connection.Connection, TurnFault.TurnFault}
+use Rattle.room_http.specs.declared.connection.{Connection.Connection, ExchangeFault.ExchangeFault}
 use Rattle.room_http.specs.{Limits.max_messages, Message.print_message, Stream.{Exchange, IsOpen}}
 use Rattle.room_http.specs.Stream.{exchange_text, bytes_of, texts_of, last_text, DeskRuns, Last}
 use Rattle.room_http.specs.Stream.{events_by, last_asking, last_exchange, EndsStream}
 use Rattle.room_http.specs.Serve.{Snapshot, FaultsRose, Serves, Stops, Connects, Next, next_asking}
 use Rattle.room_http.specs.Serve.{next_exchange, next_text, IsNext, NextRose, NearLast, NearNext}
-use Rattle.room_http.specs.Turn.{Along, TurnsOpen, TurnsLast, TurnsStop}
+use Rattle.room_http.specs.Exchange.{Along, ExchangesOpen, ExchangesLast, ExchangesStop}
 use Rattle.room_entry.proofs.Facts.KnownBytes.{Appends-then, Appends-none}
 
 pub Along-begin : {D : Type 0} (d : Ghosts D) → DeskLaws d.Outlasts → (moment : ℤ)
@@ -53,7 +53,7 @@ module _ {D : Type 0} (d : Ghosts D) (laws : DeskLaws d.Outlasts) (moment : ℤ)
   did-then ys asked then =
       exchanged-then d laws old.desk mid.desk new.desk moment a.exchanges ys asked a.did then
 
-  pub Along-then : (connection : Connection) → TurnsOpen d moment n mid new buf connection
+  pub Along-then : (connection : Connection) → ExchangesOpen d moment n mid new buf connection
       → Along d moment connection.answered old new connection.inbox.buf.items
   Along-then connection t =
       let after = connection.inbox.buf.items in
@@ -84,7 +84,7 @@ module _ {D : Type 0} (d : Ghosts D) (laws : DeskLaws d.Outlasts) (moment : ℤ)
       } in
       subst (λ k. Along d moment k old new after) (sym t.counts) along
 
-  pub Serves-from : (ended : Ended) → TurnsLast d moment n mid new buf ended
+  pub Serves-from : (ended : Ended) → ExchangesLast d moment n mid new buf ended
       → Serves d moment old new ended
   Serves-from ended t =
       let F : ℕ → Type 0 = λ f. FaultsRose t.last f (d.faults new.desk) in
@@ -107,8 +107,9 @@ module _ {D : Type 0} (d : Ghosts D) (laws : DeskLaws d.Outlasts) (moment : ℤ)
         faults = subst F a.faults t.faults;
       }
 
-  pub Stops-from : (stop : TurnFault) (fault : ServeFault) → fault.answered ≡ n
-      → fault.acted ≡ stop.acted → fault.cause ≡ stop.cause → TurnsStop d moment n mid new buf stop
+  pub Stops-from : (stop : ExchangeFault) (fault : ServeFault) → fault.answered ≡ n
+      → fault.acted ≡ stop.acted → fault.cause ≡ stop.cause
+      → ExchangesStop d moment n mid new buf stop
       → Stops d moment old new fault
   Stops-from stop fault answered acted cause t =
       let N : ℕ → Type 0 = λ k. IsNext t.rest k t.next in

@@ -7,10 +7,11 @@ use Rattle.room_machine.specs.{declared.{desk.Desk.Ghosts, reply.Reply.Reply}, D
 use Rattle.http_message.specs.declared.fault.HttpFault.{HttpFault}
 use Rattle.room_http.specs.{Message.Parsed, Answer.{Stepped, ActedIf, AnswersMessage, Delivers}}
 use Rattle.room_http.specs.Answer.{JoinsText, Failed, Responds, SendsRefusal, TellsReply, Rose}
-use Rattle.room_http.specs.declared.told.{Answer.Answer, Response.Response, Lost.Lost}
-use Rattle.room_http.specs.declared.{server.{TurnFault.TurnFault, Wrote.Wrote}, ended.Cause.Cause}
+use Rattle.room_http.specs.declared.response.{Answer.Answer, Response.Response, Lost.Lost}
+use Rattle.room_http.specs.declared.connection.{ExchangeFault.ExchangeFault, Wrote.Wrote}
+use Rattle.room_http.specs.declared.ended.Cause.{Cause}
 use Rattle.room_http.specs.{Stream.{HasReply, DeskRuns, answer_text, events_at}, Text.store_text}
-use Rattle.room_http.specs.{Serve.BlamesWriter, Turn.{WritesPart, WritesSome}, Tell.StopsWithin}
+use Rattle.room_http.specs.{Serve.BlamesWriter, Exchange.{WritesPart, WritesSome}, Tell.StopsWithin}
 use Rattle.room_http.{specs.Tell.{Tells, TellsText}, proofs.Runs.nothing-done}
 use Rattle.room_entry.proofs.Facts.KnownBytes.{Appends-none}
 
@@ -41,7 +42,7 @@ from-value P result found value e f h =
 
 -- a text that is due, and what came of writing it
 pub told-text : (text due : List ℕ) (told : Wrote) (acted : Bool) (u v : Option (List ℕ))
-    (wrote : Result (Unit {0}) Cause) (result : Result Wrote TurnFault) → text ≡ due
+    (wrote : Result (Unit {0}) Cause) (result : Result Wrote ExchangeFault) → text ≡ due
     → OnOk wrote (Appends u v text) → OnErr wrote (WritesPart u v text)
     → IfErr wrote (λ why. why ≡ Cause.Write) → OnOk wrote (result ≡ Ok told)
     → IfErr wrote (λ why. result ≡ Err (record { acted = acted; cause = why }))

@@ -7,9 +7,9 @@ use Rattle.room_machine.specs.Run.{Event}
 use Rattle.http_message.specs.Asked as message
 use Rattle.http_message.specs.Reply.{reply_text, fault_text}
 use Rattle.http_message.specs.declared.fault.HttpFault.{HttpFault}
-use Rattle.room_http.specs.declared.told.Answer.{Answer}
-use Rattle.room_http.specs.declared.told.Response.{Response}
-use Rattle.room_http.specs.declared.told.Lost.{Lost}
+use Rattle.room_http.specs.declared.response.Answer.{Answer}
+use Rattle.room_http.specs.declared.response.Response.{Response}
+use Rattle.room_http.specs.declared.response.Lost.{Lost}
 use Rattle.room_http.specs.Message.{Parsed}
 use Rattle.room_http.specs.Stream.{DeskRuns, IsRequest, asking_at}
 

@@ -6,5 +6,5 @@ pub mod Answer
 pub mod Serve
 pub mod Laws
 pub mod Spans
-pub mod Turn
+pub mod Exchange
 pub mod Tell

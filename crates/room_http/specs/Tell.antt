@@ -2,24 +2,24 @@
 use Rattle.std.specs.Prelude.{◌≡◌, Bool, false, true, List, ℕ, Option, Result, Ok, Err}
 use Rattle.std.specs.Io.KnownBytes.{Appends}
 use Rattle.room_http.specs.declared.ended.Cause.{Cause}
-use Rattle.room_http.specs.declared.server.TurnFault.{TurnFault}
-use Rattle.room_http.specs.declared.server.Wrote.{Wrote}
-use Rattle.room_http.specs.declared.told.Lost.{Lost}
-use Rattle.room_http.specs.declared.told.Response.{Response}
+use Rattle.room_http.specs.declared.connection.ExchangeFault.{ExchangeFault}
+use Rattle.room_http.specs.declared.connection.Wrote.{Wrote}
+use Rattle.room_http.specs.declared.response.Lost.{Lost}
+use Rattle.room_http.specs.declared.response.Response.{Response}
 use Rattle.room_http.specs.Text.{store_text}
 use Rattle.room_http.specs.Serve.{BlamesText}
-use Rattle.room_http.specs.Turn.{WritesPart, WritesSome}
+use Rattle.room_http.specs.Exchange.{WritesPart, WritesSome}
 
 -- the text was written, which tells this; or the writer failed within it
 abbrev pub TellsText : List ℕ → Wrote → Bool → Option (List ℕ) → Option (List ℕ)
-    → Result Wrote TurnFault → Type 0
+    → Result Wrote ExchangeFault → Type 0
 TellsText text told acted old new (Ok found) = (found ≡ told) × Appends old new text
 TellsText text told acted old new (Err halt) =
     WritesPart old new text × (halt.cause ≡ Cause.Write) × (halt.acted ≡ acted)
 
 -- what was written of a response
-abbrev pub Tells : Result Response Lost → Option (List ℕ) → Option (List ℕ) → Result Wrote TurnFault
-    → Type 0
+abbrev pub Tells : Result Response Lost → Option (List ℕ) → Option (List ℕ)
+    → Result Wrote ExchangeFault → Type 0
 Tells (Ok (Response.Refused text)) old new result =
     TellsText text.items Wrote.Answered false old new result
 Tells (Ok (Response.Replied text)) old new result =

@@ -57,10 +57,10 @@ fn read_into<R: Read>(
     ensures lost { IfErr result (Loses room (R.remaining r.old) (R.remaining r.new)) }
     ensures err { OnErr result (buf.new.items ≡ buf.old.items) }
 {
-    let place = &mut chunk[..room];
-    match r.read(place) {
+    let part = &mut chunk[..room];
+    match r.read(part) {
         Ok(count) => {
-            let piece = &place[..count];
+            let piece = &part[..count];
             if piece.is_empty() {
                 return Ok(false);
             }
@@ -85,7 +85,7 @@ impl Inbox {
         }
     }
 
-    // The same, of this inbox.
+    // Reads at most `room` bytes into this inbox, as `read_into` does.
     fn fill<R: Read>(&mut self, r: &mut R, room: usize) -> Result<bool, Cause>
         requires some { 0 < room }
         requires within { room ≤ chunk_size }

@@ -1,6 +1,7 @@
 //! The bytes of a connection: cut into messages, answered by a desk one after another.
 #![tactic(auto)]
 
+mod connection;
 mod cut;
 mod ended;
 mod fields;
@@ -8,12 +9,11 @@ pub mod laws;
 mod next;
 mod refusal;
 mod respond;
-mod server;
-mod told;
+mod response;
 mod write;
 
+pub use connection::serve;
 pub use ended::{Cause, Ended, ServeFault};
 pub use refusal::Refusal;
 pub use respond::answer;
-pub use server::serve;
-pub use told::{Answer, Lost};
+pub use response::{Answer, Lost};

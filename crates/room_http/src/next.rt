@@ -2,7 +2,7 @@
 ghost use Rattle.std.specs.Prelude.{◌≡◌, ◌+◌, ◌<◌, length, OnOk, IfErr, IfOk};
 ghost use Rattle.room_http.specs.Limits.{read_size};
 ghost use Rattle.room_http.specs.Spans.{Came, SpansHead, StopsReading};
-ghost use Rattle.room_http.specs.Turn.{ComesNear, Coming};
+ghost use Rattle.room_http.specs.Exchange.{ComesNear, Coming};
 
 use crate::cut::{HeadRead, Inbox, MAX_FIELDS};
 use crate::ended::Cause;

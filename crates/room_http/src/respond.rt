@@ -5,7 +5,7 @@ ghost use Rattle.http_message.specs.Asked.{request_of};
 ghost use Rattle.room_http.specs.Answer.{AnswersMessage, Delivers, JoinsText, RefusesMessage};
 ghost use Rattle.room_http.specs.Answer.{Responds};
 
-use crate::told::{Answer, Lost, Response};
+use crate::response::{Answer, Lost, Response};
 use http_message::{Head, HttpFault, ReplyText, Routes, fault_bytes, reply_text, request_of};
 use room_ace::{Failure, Name};
 use room_machine::{Desk, Reply, Request};

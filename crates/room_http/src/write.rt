@@ -1,7 +1,7 @@
 //! Writing a text.
 ghost use Rattle.std.specs.Prelude.{◌≡◌, IfErr, OnOk, OnErr};
 ghost use Rattle.std.specs.Io.KnownBytes.{Appends};
-ghost use Rattle.room_http.specs.Turn.{WritesPart};
+ghost use Rattle.room_http.specs.Exchange.{WritesPart};
 
 use crate::ended::Cause;
 use http_message::ReplyText;

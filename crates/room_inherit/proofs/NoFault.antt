@@ -11,7 +11,7 @@ use Rattle.room_rows.specs.{Content.{has_folder_above, is_root}, Rows.{Rows, num
 use Rattle.room_rows.specs.Sound.{AreSound, bad_root, fault_of, first_bad_list, first_failing}
 use Rattle.room_rows.specs.Sound.{first_fault, has_bad_list, has_sound_body, has_sound_name}
 use Rattle.room_rows.specs.Sound.{keeps_law, or_else, or_sound, path_by_number, reaches, true_path}
-use Rattle.room_inherit.specs.Laws.{CheckedIsTree, HasNoFault, KeptIsNoFault, SoundIsNoFault}
+use Rattle.room_inherit.specs.Laws.{CheckedIsTree, HasNoFault, SoundIsNoFault}
 
 -- ---- a test that finds nothing, passed by all
 
@@ -65,7 +65,7 @@ pub record IsChecked (rows : Rows) : Type 0 where
   pub bodies : list_all (has_sound_body rows.read) rows.read.nodes ≡ true
 
 -- nor does a last one
-nothing_found : (rows : Rows) (law : Option Node)
+pub nothing_found : (rows : Rows) (law : Option Node)
     → or_sound (or_else (first_fault rows) (fault_of (true_path rows.read) BrokenLaw law)) ≡ Sound
     → IsChecked rows × (law ≡ None)
 nothing_found rows law sound = grind (arith, nat_tests, all_pass, each_none, unbad)
@@ -79,7 +79,7 @@ pub list_checked : (rows : Rows) → IsChecked rows → first_bad_list rows ≡ 
 list_checked rows none =
     sym (unbad rows) ∙ none_fails (λ id. not (has_bad_list rows id)) (numbers_of rows) none.lists
 
-unfaulted : (rows : Rows) → IsChecked rows → first_fault rows ≡ None
+pub unfaulted : (rows : Rows) → IsChecked rows → first_fault rows ≡ None
 unfaulted rows none = grind (arith, nat_tests, list_checked, none_fails)
 
 -- sound rows pass the six
@@ -123,10 +123,3 @@ pub checked_is_tree : CheckedIsTree
 checked_is_tree rows unfaulted =
     let none = checked rows unfaulted in
     search (root_alone)
-
--- ---- rows that hold the kept entries alone
-
--- of rows with the kept entries alone, the report is `Sound` exactly if no test finds a fault
-pub kept_is_no_fault : KeptIsNoFault
-kept_is_no_fault rows =
-    grind (arith, nat_tests, all_pass, last_passes, nothing_found, sound, unfaulted)

@@ -6,7 +6,7 @@ ghost use Rattle.room_rows.specs.Keep.{IsNever};
 ghost use Rattle.room_machine.specs.Step.{caller_in};
 
 use room_ace::{Caller, Name, Names};
-use room_rows::{Keep, KeepFault};
+use room_rows::{Keep, KeepFault, Path};
 use std::alloc::{AllocError, Global};
 
 /// Who asks, and when.
@@ -16,6 +16,17 @@ pub struct Asker {
     pub caller: Caller,
     /// The moment of the request, in seconds from 1970-01-01 00:00 UTC. It is written into records.
     pub moment: i64,
+}
+
+/// A request on its way: who asks, and the path that is walked.
+#[derive(Drop)]
+pub struct Ask<'a> {
+    /// Where memory is taken.
+    pub alloc: Global,
+    /// Who asks.
+    pub asker: &'a Asker,
+    /// The path.
+    pub path: &'a Path,
 }
 
 /// The caller of this name with the groups that are paired with it, or a caller without a name, who

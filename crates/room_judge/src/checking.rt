@@ -8,38 +8,33 @@ ghost use Rattle.room_judge.specs.Judged.{Does, is_grant, with_notes};
 ghost use Rattle.room_judge.specs.Stored.{found_site};
 
 use crate::arrival::Found;
-use crate::asker::{Asker, copy_user};
+use crate::asker::{Ask, copy_user};
 use crate::halt::Halt;
 use room_ace::{Entry, EntryKind, Mask};
 use room_eval::{Verdict, decide, events};
 use room_machine::Reply;
-use room_rows::{AuditRow, Keep, KeepFault, Path, RecordKind, Text};
-use std::alloc::{AllocError, Global};
+use room_rows::{AuditRow, Keep, KeepFault, RecordKind, Text};
+use std::alloc::AllocError;
 
 // One check on the object at the end of a walk, with its outcome.
 #[derive(Drop)]
 pub(crate) struct Checked<'a> {
-    pub path: &'a Path,
+    pub ask: &'a Ask<'a>,
     pub found: &'a Found,
     pub bits: Mask,
     pub granted: bool,
 }
 
 // Nothing where the verdict on the object's dacl grants, and else the denial.
-pub(crate) fn granted(
-    alloc: Global,
-    path: &Path,
-    found: &Found,
-    verdict: &Verdict,
-) -> Result<(), Halt>
-    ensures { Grants result (of_verdict (found_site path.now found.now) verdict.now) }
+pub(crate) fn granted(ask: &Ask<'_>, found: &Found, verdict: &Verdict) -> Result<(), Halt>
+    ensures { Grants result (of_verdict (found_site ask.now.path.now found.now) verdict.now) }
 {
     match verdict {
         Verdict::Granted => Ok(()),
         Verdict::Denied { bits, place } => {
             let entry = entry_copy(found.node.dacl.full(), *place)?;
             Err(Halt::Refused(Reply::Denied {
-                at: path.front(alloc, found.depth)?,
+                at: ask.path.front(ask.alloc, found.depth)?,
                 bits: *bits,
                 place: *place,
                 entry,
@@ -86,21 +81,18 @@ fn record_kind(entries: &[Entry], place: usize) -> RecordKind
 }
 
 // The record of a check that the entry at this place of the object's sacl calls for.
-fn row_of(
-    alloc: Global,
-    asker: &Asker,
-    checked: &Checked<'_>,
-    place: usize,
-) -> Result<AuditRow, AllocError>
+fn row_of(checked: &Checked<'_>, place: usize) -> Result<AuditRow, AllocError>
     ensures { IfOk result
-        (λ row. row ≡ record_at asker.now.caller asker.now.moment checked.now.granted
-        (found_site checked.now.path.now checked.now.found.now, checked.now.bits) place) }
+        (λ row. row ≡ record_at checked.now.ask.now.asker.now.caller
+        checked.now.ask.now.asker.now.moment checked.now.granted
+        (found_site checked.now.ask.now.path.now checked.now.found.now, checked.now.bits) place) }
 {
-    let user = copy_user(&asker.caller.user)?;
+    let ask = checked.ask;
+    let user = copy_user(&ask.asker.caller.user)?;
     Ok(AuditRow {
-        at: asker.moment,
+        at: ask.asker.moment,
         user,
-        path: Text::from_string(checked.path.front_text(alloc, checked.found.depth)?),
+        path: Text::from_string(ask.path.front_text(ask.alloc, checked.found.depth)?),
         bits: checked.bits,
         granted: checked.granted,
         place,
@@ -109,58 +101,47 @@ fn row_of(
 }
 
 // Notes the records of one check.
-pub(crate) fn note_check<K: Keep>(
-    alloc: Global,
-    keep: &mut K,
-    asker: &Asker,
-    checked: &Checked<'_>,
-) -> Result<(), KeepFault>
+pub(crate) fn note_check<K: Keep>(keep: &mut K, checked: &Checked<'_>) -> Result<(), KeepFault>
     ensures done { Does K.Keep keep.old keep.new result IsNever
         (λ old _ new. new ≡ with_notes old
-        (records_of asker.now.caller asker.now.moment checked.now.granted
-        (found_site checked.now.path.now checked.now.found.now, checked.now.bits))) }
+        (records_of checked.now.ask.now.asker.now.caller checked.now.ask.now.asker.now.moment
+        checked.now.granted
+        (found_site checked.now.ask.now.path.now checked.now.found.now, checked.now.bits))) }
     ensures counted { K.reads keep.new ≤ K.reads keep.old }
 {
     let places = events(
-        alloc,
+        checked.ask.alloc,
         checked.found.node.sacl.full(),
-        &asker.caller,
+        &checked.ask.asker.caller,
         &checked.found.node.owners,
         checked.bits,
         checked.granted,
     )?;
     'places: for place in places.as_slice() {
-        let row = row_of(alloc, asker, checked, *place)?;
+        let row = row_of(checked, *place)?;
         keep.note(row)?;
     }
     Ok(())
 }
 
 /// One check of these bits on the object.
-pub fn check<K: Keep>(
-    alloc: Global,
-    keep: &mut K,
-    asker: &Asker,
-    path: &Path,
-    found: &Found,
-    mask: Mask,
-) -> Result<(), Halt>
+pub fn check<K: Keep>(keep: &mut K, ask: &Ask<'_>, found: &Found, mask: Mask) -> Result<(), Halt>
     ensures done { Tries K.Keep keep.old keep.new result IsNever
-        (Judges asker.now (Check (found_site path.now found.now) mask ∷ [])) }
+        (Judges ask.now.asker.now (Check (found_site ask.now.path.now found.now) mask ∷ [])) }
     ensures counted { K.reads keep.new ≤ K.reads keep.old }
 {
     let verdict = decide(
         found.node.dacl.full(),
-        &asker.caller,
+        &ask.asker.caller,
         &found.node.owners,
         mask,
     );
     let checked = Checked {
-        path,
+        ask,
         found,
         bits: mask,
         granted: is_grant(verdict),
     };
-    note_check(alloc, keep, asker, &checked)?;
-    granted(alloc, path, found, &verdict)
+    note_check(keep, &checked)?;
+    granted(ask, found, &verdict)
 }

@@ -9,13 +9,12 @@ ghost use Rattle.room_judge.specs.Judged.{Does, is_deletable, second_right, with
 ghost use Rattle.room_judge.specs.Stored.{found_site};
 
 use crate::arrival::Found;
-use crate::asker::Asker;
+use crate::asker::Ask;
 use crate::checking::{Checked, granted, note_check};
 use crate::halt::Halt;
 use room_ace::Mask;
 use room_eval::{DeleteVerdict, Verdict, may_delete};
-use room_rows::{Keep, KeepFault, Path};
-use std::alloc::Global;
+use room_rows::{Keep, KeepFault};
 
 // Whether the object may be deleted.
 fn is_deletable(verdict: &DeleteVerdict) -> bool
@@ -40,20 +39,20 @@ fn second_right(verdict: &DeleteVerdict) -> Mask
     }
 }
 
-// An object that is to leave its folder, at its path, and what the deletion rule says of it.
+// An object that is to leave its folder, and what the deletion rule says of it.
 #[derive(Drop)]
 struct Leaving<'a> {
-    path: &'a Path,
+    ask: &'a Ask<'a>,
     target: &'a Found,
     folder: &'a Found,
     verdict: &'a DeleteVerdict,
 }
 
 // Nothing where the rule grants, and else the denial.
-fn deletable(alloc: Global, leaving: &Leaving<'_>) -> Result<(), Halt>
+fn deletable(leaving: &Leaving<'_>) -> Result<(), Halt>
     ensures { Grants result (of_deletion
-        (found_site leaving.now.path.now leaving.now.target.now)
-        (found_site leaving.now.path.now leaving.now.folder.now) leaving.now.verdict.now) }
+        (found_site leaving.now.ask.now.path.now leaving.now.target.now)
+        (found_site leaving.now.ask.now.path.now leaving.now.folder.now) leaving.now.verdict.now) }
 {
     match leaving.verdict {
         DeleteVerdict::Granted { by_add: _ } => Ok(()),
@@ -61,62 +60,56 @@ fn deletable(alloc: Global, leaving: &Leaving<'_>) -> Result<(), Halt>
             let bits = Mask::delete();
             let place = Some(*place);
             let denied = Verdict::Denied { bits, place };
-            granted(alloc, leaving.path, leaving.target, &denied)
+            granted(leaving.ask, leaving.target, &denied)
         }
         DeleteVerdict::AtParent { bits, place } => {
             let bits = *bits;
             let place = *place;
             let denied = Verdict::Denied { bits, place };
-            granted(alloc, leaving.path, leaving.folder, &denied)
+            granted(leaving.ask, leaving.folder, &denied)
         }
     }
 }
 
 // Notes the records of the two checks of a deletion with this verdict.
-fn note_deletion<K: Keep>(
-    alloc: Global,
-    keep: &mut K,
-    asker: &Asker,
-    leaving: &Leaving<'_>,
-) -> Result<(), KeepFault>
+fn note_deletion<K: Keep>(keep: &mut K, leaving: &Leaving<'_>) -> Result<(), KeepFault>
     ensures done { Does K.Keep keep.old keep.new result IsNever (λ old _ new. new ≡ with_notes old
-        (records_of_checks asker.now.caller asker.now.moment (is_deletable leaving.now.verdict.now)
-        ((found_site leaving.now.path.now leaving.now.target.now, delete ∷ []) ∷ (
-          found_site leaving.now.path.now leaving.now.folder.now,
+        (records_of_checks leaving.now.ask.now.asker.now.caller
+        leaving.now.ask.now.asker.now.moment (is_deletable leaving.now.verdict.now)
+        ((found_site leaving.now.ask.now.path.now leaving.now.target.now, delete ∷ []) ∷ (
+          found_site leaving.now.ask.now.path.now leaving.now.folder.now,
           second_right leaving.now.verdict.now,
         ) ∷ []))) }
     ensures counted { K.reads keep.new ≤ K.reads keep.old }
 {
     let granted = is_deletable(leaving.verdict);
     let first = Checked {
-        path: leaving.path,
+        ask: leaving.ask,
         found: leaving.target,
         bits: Mask::delete(),
         granted,
     };
-    note_check(alloc, keep, asker, &first)?;
+    note_check(keep, &first)?;
     let second = Checked {
-        path: leaving.path,
+        ask: leaving.ask,
         found: leaving.folder,
         bits: second_right(leaving.verdict),
         granted,
     };
-    note_check(alloc, keep, asker, &second)
+    note_check(keep, &second)
 }
 
 /// The deletion rule on an object and its folder. The records of its two checks, of DELETE on the
 /// object and of the right that decides on the folder, are noted.
 pub fn check_deletion<K: Keep>(
-    alloc: Global,
     keep: &mut K,
-    asker: &Asker,
-    path: &Path,
+    ask: &Ask<'_>,
     target: &Found,
     folder: &Found,
 ) -> Result<(), Halt>
     ensures done { Tries K.Keep keep.old keep.new result IsNever
-        (Judges asker.now
-        (Deletion (found_site path.now target.now) (found_site path.now folder.now) ∷ [])) }
+        (Judges ask.now.asker.now (Deletion (found_site ask.now.path.now target.now)
+        (found_site ask.now.path.now folder.now) ∷ [])) }
     ensures counted { K.reads keep.new ≤ K.reads keep.old }
 {
     let verdict = may_delete(
@@ -124,14 +117,14 @@ pub fn check_deletion<K: Keep>(
         &target.node.owners,
         folder.node.dacl.full(),
         &folder.node.owners,
-        &asker.caller,
+        &ask.asker.caller,
     );
     let leaving = Leaving {
-        path,
+        ask,
         target,
         folder,
         verdict: &verdict,
     };
-    note_deletion(alloc, keep, asker, &leaving)?;
-    deletable(alloc, &leaving)
+    note_deletion(keep, &leaving)?;
+    deletable(&leaving)
 }

@@ -5,6 +5,7 @@ ghost use Rattle.room_machine.specs.declared.reply.Reply.TheVariants.{Refused as
 ghost use Rattle.room_judge.specs.declared.halt.Halt.TheVariants.{Fault};
 ghost use Rattle.room_judge.specs.Halted.{Refuses};
 
+use crate::asker::Ask;
 use room_machine::{Reason, Reply};
 use room_rows::{KeepFault, Path};
 use std::alloc::{AllocError, Global};
@@ -45,12 +46,14 @@ pub fn refused(alloc: Global, path: &Path, depth: usize, why: Reason) -> Result<
     })
 }
 
-/// The refusal at the object after this many names of the path, or that memory ran out.
-pub fn refusal(alloc: Global, path: &Path, depth: usize, why: Reason) -> Halt
-    ensures { Refuses result (Some (RefusedWith (take depth path.now) why)) }
-{
-    match path.front(alloc, depth) {
-        Ok(front) => Halt::Refused(Reply::Refused { at: front, why }),
-        Err(_) => Halt::Fault(KeepFault::Memory),
+impl Ask<'_> {
+    /// The refusal at the object after this many names of the path, or that memory ran out.
+    pub fn refusal(&self, depth: usize, why: Reason) -> Halt
+        ensures { Refuses result (Some (RefusedWith (take depth self.now.path.now) why)) }
+    {
+        match self.path.front(self.alloc, depth) {
+            Ok(front) => Halt::Refused(Reply::Refused { at: front, why }),
+            Err(_) => Halt::Fault(KeepFault::Memory),
+        }
     }
 }

@@ -12,9 +12,9 @@ mod spotting;
 mod walking;
 
 pub use arrival::{Both, Found, Under};
-pub use asker::{Asker, caller_of};
+pub use asker::{Ask, Asker, caller_of};
 pub use checking::check;
 pub use deleting::check_deletion;
-pub use halt::{Halt, refusal, refused};
+pub use halt::{Halt, refused};
 pub use spotting::{to_pair, to_pair_from, to_spot};
 pub use walking::{check_kind, pass_through, reach, reach_kind, walk_along, walk_from, walk_to};

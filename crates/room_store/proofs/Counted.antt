@@ -1,7 +1,7 @@
 -- The test of the rows, after that of the counter of records.
 use Rattle.std.proofs.Common.{◌≡◌, Bool, IsTrue, Result, Ok, Err, subst}
 use Rattle.sqlite.specs.{Effect.Database, State.State}
-use Rattle.room_inherit.specs.Reading.{IsReport}
+use Rattle.room_verify.specs.Reading.{IsReport}
 use Rattle.room_rows.specs.declared.{keep.KeepFault.KeepFault, report.Report.Report}
 use Rattle.store_admin.specs.{Carries.{CallsInside, NoTables, Reading}, Numbers.HasNumbers}
 use Rattle.store_tables.specs.{Meaning.rows_of, Shown.Stays}

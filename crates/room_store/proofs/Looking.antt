@@ -6,7 +6,7 @@ use Rattle.room_rows.specs.declared.keep.KeepFault.{KeepFault}
 use Rattle.store_tables.specs.{Shown.Stays, Within.LeavesAsBefore}
 use Rattle.store_admin.specs.Carries.{AnswersOpen, CallsInside, Reading}
 use Rattle.room_store.specs.{declared.fault.StoreFault.StoreFault, Crash.Outlasts, Leads.Leads}
-use Rattle.room_store.specs.{Ran.Looked, Turn.{Begins, GivesUp, StandsIfOpen}}
+use Rattle.room_store.specs.{Ran.Looked, Transaction.{Begins, GivesUp, StandsIfOpen}}
 use Rattle.room_store.proofs.{Leading.nothing, Outlasting.idle, Transact.looked, Turning.stands}
 
 -- what it promises

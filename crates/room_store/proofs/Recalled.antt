@@ -9,8 +9,8 @@ use Rattle.store_tables.specs.{Meaning.rows_of, Shown.{HasTables, Stays}, Trust.
 use Rattle.store_tables.{specs.Within.{IsSettled, LeavesAsBefore}, proofs.Calls.retains_same}
 use Rattle.store_admin.specs.Carries.{ByRows, CallsInside, OnRows}
 use Rattle.room_store.specs.{declared.fault.StoreFault.StoreFault, Ran.{LeavesOpen, Ran}}
-use Rattle.room_store.specs.{Remembers.{EndsLook, IsKept, Remembers, Settled}, Turn.Begins}
-use Rattle.room_store.{specs.Turn.GivesUp, proofs.Transact.{before, made, never_damage, old_clean}}
+use Rattle.room_store.specs.{Remembers.{EndsLook, IsKept, Remembers, Settled}, Transaction.Begins}
+use Rattle.room_store.{specs.Transaction.GivesUp, proofs.Transact.{before, made, never_damage, old_clean}}
 use Rattle.room_store.proofs.Transact.{old_open, same_fault, undone_at}
 
 -- a call that leaves the database leaves what is remembered of it

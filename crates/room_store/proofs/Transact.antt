@@ -12,8 +12,8 @@ use Rattle.store_tables.specs.{Within.{LeavesOnly, LeavesOrCommits}, Seeing.want
 use Rattle.store_tables.proofs.Calls.{retains_same}
 use Rattle.room_store.specs.declared.fault.StoreFault.{StoreFault, TheVariants.{Memory, Db}}
 use Rattle.room_store.specs.{declared.fault.StoreFault.TheVariants.Damaged, Premise.StorePremise}
-use Rattle.room_store.specs.{Ran.{CommitsAnswer, IsAnswered, LeavesOpen, Looked, Ran}, Turn.Begins}
-use Rattle.room_store.specs.Turn.{CommitsSeen, Finishes, GivesUp, commit_fault, fault_as}
+use Rattle.room_store.specs.{Ran.{CommitsAnswer, IsAnswered, LeavesOpen, Looked, Ran}, Transaction.Begins}
+use Rattle.room_store.specs.Transaction.{CommitsSeen, Finishes, GivesUp, commit_fault, fault_as}
 use Rattle.store_admin.specs.Carries.{AnswersOpen, ByRows, CallsInside, OnRows, Reading}
 use Rattle.room_rows.specs.declared.keep.KeepFault.TheVariants as keep
 

@@ -7,7 +7,7 @@ use Rattle.room_machine.specs.{declared.reply.Reply.Reply, Run.{Asking, event_of
 use Rattle.store_tables.specs.Within.{IsSettled, LeavesOrCommits}
 use Rattle.store_admin.specs.Carries.{ByRows, CallsInside, OnRows}
 use Rattle.room_store.specs.{declared.fault.StoreFault.StoreFault, Crash.Outlasts, Leads.Leads}
-use Rattle.room_store.specs.{Ran.Ran, Turn.{Begins, CommitsSeen, Finishes}}
+use Rattle.room_store.specs.{Ran.Ran, Transaction.{Begins, CommitsSeen, Finishes}}
 use Rattle.room_store.proofs.{Leading.{IsEvent, leading}, Outlasting.outlasting, Transact.ran}
 
 module _ {X : Type 0} (Blames : Rows → Type 0) (Becomes : Rows → X → Rows → Type 0)

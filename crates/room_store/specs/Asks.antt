@@ -9,7 +9,7 @@ use Rattle.store_tables.specs.Within.{LeavesAsBefore}
 use Rattle.room_store.specs.declared.fault.StoreFault.{StoreFault}
 use Rattle.room_store.specs.Kept.{IsShut}
 use Rattle.room_store.specs.Ran.{LeavesOpen}
-use Rattle.room_store.specs.Turn.{commit_fault}
+use Rattle.room_store.specs.Transaction.{commit_fault}
 
 -- the error that a shut connection answers, and no other
 abbrev pub says_shut : Error → Bool

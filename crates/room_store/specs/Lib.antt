@@ -1,7 +1,7 @@
 pub mod Premise
 pub mod Kept
 pub mod Ran
-pub mod Turn
+pub mod Transaction
 pub mod Leads
 pub mod Crash
 pub mod Retained

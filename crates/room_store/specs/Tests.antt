@@ -1,7 +1,7 @@
 -- What the test of a whole room tells, by its tables.
 use Rattle.std.specs.Prelude.{IsTrue}
 use Rattle.sqlite.specs.Effect.{Database}
-use Rattle.room_inherit.specs.Reading.{IsReport}
+use Rattle.room_verify.specs.Reading.{IsReport}
 use Rattle.store_admin.specs.Numbers.{HasNumbers}
 use Rattle.store_tables.specs.Meaning.{rows_of}
 use Rattle.room_store.specs.declared.verifying.Tested.{Tested}

@@ -15,8 +15,8 @@ ghost use Rattle.store_tables.specs.Shown.{Stays};
 ghost use Rattle.store_tables.specs.Within.{LeavesAsBefore};
 ghost use Rattle.store_tables.specs.Trust.{IsTrusted};
 
+use crate::ending::still_open;
 use crate::fault::StoreFault;
-use crate::look::still_open;
 use room_ace::Name;
 use room_desk::perform;
 use room_machine::{Reply, Request};

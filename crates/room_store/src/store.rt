@@ -28,14 +28,14 @@ ghost use Rattle.store_admin.specs.Operating.{
   ReplacesMembers,
 };
 
+use crate::ending::{give_up, if_open, test_shut};
 use crate::fault::StoreFault;
 use crate::fetching::fetch_inside;
 use crate::laws::what_is_committed_lasts;
-use crate::look::{give_up, if_open, test_shut};
 use crate::resetting::reset_inside;
 use crate::reviewing::review_inside;
 use crate::running::{RequestBy, end_look, known_of, perform_inside};
-use crate::turn::{begin, finish};
+use crate::transaction::{begin, finish};
 use crate::verifying::{Tested, verify_inside};
 use room_ace::{Name, SentList, Which};
 use room_dump::Fetched;

@@ -82,7 +82,11 @@ fn run<S: Start>(rt: &HostRuntime, start: S) -> Result<u8, Stop> {
             &mut rt.stdout(),
             &mut rt.stderr(),
         )),
-        Command::Serve { file, place, count } => work::serve(rt, start, file, place, count),
+        Command::Serve {
+            file,
+            address,
+            count,
+        } => work::serve(rt, start, file, address, count),
         Command::On(file, job) => work::carry_out(rt, start, file, &job),
     }
 }

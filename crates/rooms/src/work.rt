@@ -3,7 +3,7 @@ ghost use Rattle.std.specs.Prelude.{◌≡◌, false};
 
 use crate::files::{close, connect, make_file, take_away, test_room};
 use cli_act::act;
-use cli_outcome::Place;
+use cli_outcome::ListenAddress;
 use cli_serve::{NetPorts, Seconds, Service, host};
 use cli_words::{Input, Job, Stop, Task, read_task};
 use sqlite::{Alter, Connection};
@@ -69,18 +69,18 @@ fn act_on<D: Alter + Drop>(
     act(rt.alloc(), conn, task, &mut out, &mut err)
 }
 
-/// Serves this number of connections at the place, and answers the exit status. The error is why
+/// Serves this number of connections at the address, and answers the exit status. The error is why
 /// the file wasn't opened.
 pub fn serve<S: Start>(
     rt: &HostRuntime,
     start: S,
     file: &str,
-    place: Place<'_>,
+    address: ListenAddress<'_>,
     count: u32,
 ) -> Result<u8, Stop> {
     test_room(rt, file)?;
     let conn = connect(rt, file, start)?;
-    let (conn, status) = host_on(rt, conn, place, count);
+    let (conn, status) = host_on(rt, conn, address, count);
     close(conn);
     Ok(status)
 }
@@ -89,7 +89,7 @@ pub fn serve<S: Start>(
 fn host_on<D: Alter>(
     rt: &HostRuntime,
     conn: Connection<D>,
-    place: Place<'_>,
+    address: ListenAddress<'_>,
     count: u32,
 ) -> (Connection<D>, u8)
     requires { conn.in_transaction ≡ false }
@@ -99,7 +99,7 @@ fn host_on<D: Alter>(
     let mut service = Service {
         ports: NetPorts::of(rt),
         clock: Seconds::of(rt),
-        place,
+        address,
         count,
     };
     host(rt.alloc(), conn, &mut service, &mut out, &mut err)

@@ -27,7 +27,7 @@ use Rattle.room_rows.specs.declared.keep.KeepFault.{KeepFault}
 use Rattle.room_rows.specs.declared.keep.KeepFault.TheVariants.{NoRoot}
 use Rattle.room_inherit.specs.declared.outcome.SpreadFault.{SpreadFault}
 use Rattle.room_inherit.specs.declared.outcome.SpreadFault.TheVariants as spread
-use Rattle.room_inherit.specs.Kept.{kept_report_of}
+use Rattle.room_verify.specs.Kept.{kept_report_of}
 use Rattle.room_rows.specs.Sound.{AreSound, AreSoundKept}
 use Rattle.room_inherit.specs.SpreadAll.{IsSpreadAll}
 use Rattle.room_rows.specs.declared.report.Report.{Report}

@@ -4,8 +4,7 @@ ghost use Rattle.store_schema.specs.Making.{create_fault_of};
 ghost use Rattle.store_schema.specs.Opening.{IsCalled, IsFailure, failure_as, keeper_failure_as};
 ghost use Rattle.store_schema.specs.Opening.{open_fault_of};
 
-use room_inherit::Unsound;
-use room_rows::{KeepFault, Text};
+use room_rows::{KeepFault, Text, Unsound};
 use sqlite::{Error, ErrorCode};
 
 /// Why no room was made. The tables are then as they were.

@@ -6,7 +6,8 @@ ghost use Rattle.std.specs.Prelude.{List};
 ghost use Rattle.sqlite.specs.Order.{Row};
 ghost use Rattle.store_tables.specs.Printed.{ArePrinted, KeepsPrinted};
 
-use room_inherit::laws::{kept_is_no_fault, migrated_is_sound, migrated_means_the_same};
+use room_inherit::laws::{migrated_is_sound, migrated_means_the_same};
+use room_verify::laws::kept_is_no_fault;
 
 /// The rows of a new room are sound.
 pub fn new_room_is_sound()

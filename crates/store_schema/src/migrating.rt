@@ -10,7 +10,7 @@ use crate::laws::spread_is_migrated;
 use crate::migrating_rows::migrate_rows_inside;
 use crate::recognizing::is_room;
 use crate::version::{expect_version, update_version};
-use room_inherit::Report;
+use room_rows::Report;
 use sqlite::{Alter, Connection, Transaction};
 use std::alloc::Global;
 

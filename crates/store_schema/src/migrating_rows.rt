@@ -7,8 +7,9 @@ ghost use Rattle.store_tables.specs.Trust.{IsTrusted};
 ghost use Rattle.store_schema.specs.Migrating.{CarriesAll, IsMigrated, MigratesRows};
 ghost use Rattle.store_schema.specs.Migrating.{spread_fault_as};
 
-use room_inherit::{Report, SpreadFault, spread_all, verify_kept};
-use room_rows::{Keep, KeepFault};
+use room_inherit::{SpreadFault, spread_all};
+use room_rows::{Keep, KeepFault, Report};
+use room_verify::verify_kept;
 use sqlite::{Alter, Transaction};
 use std::alloc::Global;
 use store_tables::{Keeper, RecentLists};

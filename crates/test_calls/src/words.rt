@@ -1,6 +1,6 @@
 //! Faults as words, and texts of several lines as one.
 
-use room_inherit::{Report, Unsound};
+use room_rows::{Report, Unsound};
 use room_store::StoreFault;
 use std::alloc::AllocError;
 use std::fmt::Write;

@@ -1,10 +1,10 @@
 //! Requests at a desk, and requests carried out in turn.
 use room_desk::{Asked, Desk, DeskFault, Reply, perform_all};
-use room_tree::{Keep, KeepFault};
 use std::alloc::Global;
 use std::test::Fail;
 use test_memory::MemDesk;
 use test_player::{Plan, agree, failing, open_keep, play, push_reply, spoken_in};
+use test_tree::{Keep, KeepFault};
 
 const SCRIPT: &str = "\
 root MakeFolder /a => made

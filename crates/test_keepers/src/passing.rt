@@ -1,7 +1,8 @@
 //! What a list passes to a child, and the full lists along a chain.
 use room_ace::{Entries, Entry, ObjKind, Which};
-use room_inherit::{lists_from_root, pass};
+use room_inherit::pass;
 use room_rows::{Node, Nodes, Text};
+use room_verify::lists_from_root;
 use std::alloc::{AllocError, Global};
 use std::test::Fail;
 use test_player::{agree, held_of, owners_of, push, push_entries, sent_of};

@@ -1,7 +1,7 @@
 //! Which words the program takes.
 
 use clap::error::ErrorKind;
-use cli_outcome::Place;
+use cli_outcome::ListenAddress;
 use cli_words::{Command, Job, read_command};
 use room_ace::{Failure, Which};
 use std::process::Abort;
@@ -120,7 +120,7 @@ fn words_of_a_file_are_read(rt: HostRuntime) -> Result<(), Fail> {
 fn serve(port: u16, count: u32) -> Command<'static> {
     Command::Serve {
         file: "a.db",
-        place: Place::Port(port),
+        address: ListenAddress::Port(port),
         count,
     }
 }
@@ -129,7 +129,7 @@ fn serve(port: u16, count: u32) -> Command<'static> {
 fn serve_at(path: &str, count: u32) -> Command<'_> {
     Command::Serve {
         file: "a.db",
-        place: Place::Socket(path),
+        address: ListenAddress::Socket(path),
         count,
     }
 }
@@ -148,7 +148,7 @@ fn port_and_count_have_defaults_and_ranges(rt: HostRuntime) -> Result<(), Fail> 
 }
 
 #[test]
-fn a_socket_has_the_place_of_a_port(rt: HostRuntime) -> Result<(), Fail> {
+fn a_socket_stands_for_a_port(rt: HostRuntime) -> Result<(), Fail> {
     let words = ["rooms", "serve", "a.db", "--socket", "/run/a b"];
     expect_read(&rt, &words, serve_at("/run/a b", 1))?;
     let joined = ["rooms", "serve", "--socket=s", "--count", "7", "a.db"];

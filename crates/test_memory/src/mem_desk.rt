@@ -2,7 +2,7 @@
 ghost use Rattle.std.specs.Prelude.{◌≡◌, IfOk, ⊤, refl};
 ghost use Rattle.std.specs.Option.{option_copied};
 ghost use Rattle.room_rows.specs.Keep.{one_more};
-ghost use Rattle.room_tree.specs.Memory.{rows_in};
+ghost use Rattle.test_tree.specs.Memory.{rows_in};
 ghost use Rattle.test_memory.specs.Memory.{
   content_in,
   HasRows,
@@ -16,8 +16,8 @@ use room_ace::Name;
 use room_desk::perform;
 use room_machine::{Desk, DeskFault, Reply, Request};
 use room_rows::KeepFault;
-use room_tree::MemKeep;
 use std::alloc::Global;
+use test_tree::MemKeep;
 
 /// A desk over a keeper in memory. It carries out each request on a copy, and the copy replaces the
 /// keeper where there was no fault.

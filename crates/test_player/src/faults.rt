@@ -3,9 +3,9 @@
 use crate::playing::{answer_to, play, play_all};
 use crate::room::{Room, keep_after};
 use crate::tally::{Calls, Tally, expect_calls};
-use room_tree::{FailKeep, MemKeep};
 use std::alloc::Global;
 use std::test::Fail;
+use test_tree::{FailKeep, MemKeep};
 
 // The moment of what is asked.
 const AT: i64 = 1000;

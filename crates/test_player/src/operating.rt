@@ -9,9 +9,9 @@ use crate::words::{cut, push, push_all};
 use crate::writing::{set_held, set_inh};
 use room_ace::{SentList, Which};
 use room_desk::reset;
-use room_inherit::{Report, verify};
 use room_machine::Reply;
-use room_rows::{Keep, KeepFault, Node, Path, Walk};
+use room_rows::{Keep, KeepFault, Node, Path, Report, Walk};
+use room_verify::verify;
 use std::alloc::Global;
 use std::test::Fail;
 

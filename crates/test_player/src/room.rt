@@ -6,9 +6,9 @@ use crate::records::push_records;
 use crate::sending::owners_of;
 use crate::words::{agree, cut, push};
 use room_ace::{Name, read_name};
-use room_tree::MemKeep;
 use std::alloc::{AllocError, Global};
 use std::test::Fail;
+use test_tree::MemKeep;
 
 /// A keeper whose root has these lists, and is root's and of the group staff.
 pub fn room_of(alloc: Global, dacl: &str, sacl: &str) -> Result<MemKeep, Fail> {

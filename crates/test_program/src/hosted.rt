@@ -2,7 +2,7 @@
 ghost use Rattle.std.specs.Prelude.{⊤};
 
 use crate::meeting::{DONE, Full, MADE, PUT, gets, listens, same_bytes, sends};
-use cli_outcome::Place;
+use cli_outcome::ListenAddress;
 use cli_serve::{NetListener, Ports, Seconds, Service, host};
 use room_ace::{Owners, read_name};
 use room_store::Store;
@@ -15,17 +15,17 @@ use std::rt::Clock;
 use std::test::Fail;
 use std::time::Duration;
 
-// The place of most tests.
-const PORT: Place<'static> = Place::Port(8780);
+// The address of most tests.
+const PORT: ListenAddress<'static> = ListenAddress::Port(8780);
 
-// Where one place can be bound, at which clients wait already.
+// Where one address can be bound, at which clients wait already.
 #[derive(Clone, Copy, Drop)]
-struct OnePlace<'a> {
+struct OneAddress<'a> {
     listener: &'a TcpListener,
-    place: Place<'a>,
+    address: ListenAddress<'a>,
 }
 
-impl OnePlace<'_> {
+impl OneAddress<'_> {
     fn ask(&self, is_there: bool) -> io::Result<NetListener> {
         if is_there {
             Ok(NetListener::Tcp(self.listener.try_clone()?))
@@ -35,17 +35,17 @@ impl OnePlace<'_> {
     }
 }
 
-impl Ports for OnePlace<'_> {
+impl Ports for OneAddress<'_> {
     type Listener = NetListener;
 
     ghost did = { λ _ _. ⊤ };
 
-    fn bind(&mut self, address: Ipv4Addr, port: u16) -> io::Result<NetListener> {
-        self.ask(address == Ipv4Addr::LOCALHOST && self.place == Place::Port(port))
+    fn bind(&mut self, ip: Ipv4Addr, port: u16) -> io::Result<NetListener> {
+        self.ask(ip == Ipv4Addr::LOCALHOST && self.address == ListenAddress::Port(port))
     }
 
     fn bind_path(&mut self, path: &str) -> io::Result<NetListener> {
-        self.ask(self.place == Place::Socket(path))
+        self.ask(self.address == ListenAddress::Socket(path))
     }
 
     fn close(&mut self, listener: NetListener) {
@@ -98,12 +98,12 @@ fn after(mut conn: Connection<MemStore>, text: &str) -> Result<Connection<MemSto
     Ok(conn)
 }
 
-// Hosts two connections at this place, and compares what is printed.
+// Hosts two connections at this address, and compares what is printed.
 fn hosts(
     alloc: Global,
     conn: Connection<MemStore>,
-    ports: &OnePlace<'_>,
-    place: Place<'_>,
+    ports: &OneAddress<'_>,
+    address: ListenAddress<'_>,
     wanted: &Wanted<'_>,
 ) -> Result<Connection<MemStore>, Fail> {
     if !conn.is_autocommit() {
@@ -115,7 +115,7 @@ fn hosts(
     let mut service = Service {
         ports: *ports,
         clock: Seconds::of(&still),
-        place,
+        address,
         count: 2,
     };
     let (conn, status) = host(alloc, conn, &mut service, &mut out, &mut err);
@@ -131,7 +131,7 @@ fn hosts(
 fn hosts_untold(
     alloc: Global,
     conn: Connection<MemStore>,
-    ports: &OnePlace<'_>,
+    ports: &OneAddress<'_>,
 ) -> Result<(), Fail> {
     if !conn.is_autocommit() {
         return Err(Fail::from("in a transaction"));
@@ -141,7 +141,7 @@ fn hosts_untold(
     let mut service = Service {
         ports: *ports,
         clock: Seconds::of(&still),
-        place: PORT,
+        address: PORT,
         count: 2,
     };
     let (_, status) = host(alloc, conn, &mut service, &mut Full, &mut err);
@@ -165,9 +165,9 @@ fn a_room_is_served_and_kept(rt: HostRuntime) -> Result<(), Fail> {
         err: "",
         status: 0,
     };
-    let ports = OnePlace {
+    let ports = OneAddress {
         listener: &listener,
-        place: PORT,
+        address: PORT,
     };
     let conn = hosts(alloc, new_room(alloc)?, &ports, PORT, &wanted)?;
     let _conn = hosts(alloc, conn, &ports, PORT, &wanted)?;
@@ -188,22 +188,22 @@ fn a_room_is_served_at_a_socket(rt: HostRuntime) -> Result<(), Fail> {
         err: "",
         status: 0,
     };
-    let place = Place::Socket("/run/a room/socket");
-    let ports = OnePlace {
+    let address = ListenAddress::Socket("/run/a room/socket");
+    let ports = OneAddress {
         listener: &listener,
-        place,
+        address,
     };
-    let _conn = hosts(alloc, new_room(alloc)?, &ports, place, &wanted)?;
+    let _conn = hosts(alloc, new_room(alloc)?, &ports, address, &wanted)?;
     gets(alloc, first, MADE)?;
     gets(alloc, second, DONE)
 }
 
 #[test]
-fn a_place_that_is_taken(rt: HostRuntime) -> Result<(), Fail> {
+fn an_address_that_is_taken(rt: HostRuntime) -> Result<(), Fail> {
     let listener = listens(&rt)?;
-    let ports = OnePlace {
+    let ports = OneAddress {
         listener: &listener,
-        place: Place::Port(8781),
+        address: ListenAddress::Port(8781),
     };
     let wanted = Wanted {
         out: "",
@@ -211,13 +211,13 @@ fn a_place_that_is_taken(rt: HostRuntime) -> Result<(), Fail> {
         status: 3,
     };
     let _conn = hosts(rt.alloc(), new_room(rt.alloc())?, &ports, PORT, &wanted)?;
-    let socket = Place::Socket("room.socket");
+    let socket = ListenAddress::Socket("room.socket");
     let _conn = hosts(rt.alloc(), new_room(rt.alloc())?, &ports, socket, &wanted)?;
     Ok(())
 }
 
 // Tests that the database is refused, as this says.
-fn refuses(alloc: Global, ports: &OnePlace<'_>, text: &str, out: &str) -> Result<(), Fail> {
+fn refuses(alloc: Global, ports: &OneAddress<'_>, text: &str, out: &str) -> Result<(), Fail> {
     let conn = after(new_room(alloc)?, text)?;
     let wanted = Wanted {
         out,
@@ -231,9 +231,9 @@ fn refuses(alloc: Global, ports: &OnePlace<'_>, text: &str, out: &str) -> Result
 #[test]
 fn no_room_of_this_version(rt: HostRuntime) -> Result<(), Fail> {
     let listener = listens(&rt)?;
-    let ports = OnePlace {
+    let ports = OneAddress {
         listener: &listener,
-        place: PORT,
+        address: PORT,
     };
     let cases = [
         ("DROP TABLE meta", "refused: not a rooms file\n"),
@@ -251,9 +251,9 @@ fn no_room_of_this_version(rt: HostRuntime) -> Result<(), Fail> {
 fn lines_that_cannot_be_told(rt: HostRuntime) -> Result<(), Fail> {
     let alloc = rt.alloc();
     let listener = listens(&rt)?;
-    let ports = OnePlace {
+    let ports = OneAddress {
         listener: &listener,
-        place: PORT,
+        address: PORT,
     };
     hosts_untold(alloc, new_room(alloc)?, &ports)?;
     hosts_untold(alloc, after(new_room(alloc)?, "DROP TABLE meta")?, &ports)

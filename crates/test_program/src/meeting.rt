@@ -1,5 +1,5 @@
 //! Clients that have sent everything before a connection is accepted, and writers that fail.
-use cli_outcome::Place;
+use cli_outcome::ListenAddress;
 use cli_serve::{Listening, Moments, NetListener, ServingFault, serve_on};
 use room_machine::Desk;
 use std::alloc::Global;
@@ -85,7 +85,7 @@ pub fn listening(
 ) -> Result<Listening<'static, NetListener>, Fail> {
     Ok(Listening {
         listener: NetListener::Tcp(listener.try_clone()?),
-        place: Place::Port(8780),
+        address: ListenAddress::Port(8780),
         count,
     })
 }

@@ -2,12 +2,12 @@
 
 use crate::grounds::Ground;
 use crate::lines::{Place, play_lines};
-use room_tree::MemKeep;
 use std::alloc::Global;
 use std::test::Fail;
 use test_memory::MemDesk;
 use test_player::{Room, Tally, count_line, open_keep, play, stop_at_faults};
 use test_talk::play_at;
+use test_tree::MemKeep;
 
 /// Plays lines in a room over this keeper.
 pub fn play_in_room(

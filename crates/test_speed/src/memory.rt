@@ -6,13 +6,14 @@ use crate::script::room_script;
 use crate::timing::Times;
 use room_ace::Which;
 use room_desk::perform;
-use room_inherit::{Report, spread, verify};
-use room_rows::{KeepFault, Path, walk};
-use room_tree::MemKeep;
+use room_inherit::spread;
+use room_rows::{KeepFault, Path, Report, walk};
+use room_verify::verify;
 use std::alloc::Global;
 use std::test::Fail;
 use std::time::Instant;
 use test_player::{Spoken, keep_after, path_of, play};
+use test_tree::MemKeep;
 
 impl Answers for MemKeep {
     fn answer(&mut self, alloc: Global, spoken: &Spoken) -> Result<&'static str, Fail> {

@@ -9,12 +9,12 @@ use crate::workloads::{Message, messages};
 use http_message::Routes;
 use room_http::{Ended, serve};
 use room_machine::{Desk, DeskFault};
-use room_tree::MemKeep;
 use std::alloc::Global;
 use std::test::Fail;
 use std::time::Instant;
 use test_memory::MemDesk;
 use test_player::{Spoken, keep_after, spoken_in};
+use test_tree::MemKeep;
 
 // One connection is soon over, and other work may disturb it.
 const CONNECTIONS: u32 = 10;

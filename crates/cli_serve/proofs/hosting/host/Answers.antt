@@ -16,7 +16,7 @@ returns-clause-hosts g c =
     let at = c.serve_at-end.ensures.served in
     let all = after old mid _ (unanswered_of at.visits) (requests_of at.visits)
     (opened old mid _ c.in-Ok.ensures.opened) at.runs.outlasts.0 in
-    subst (λ (conn : Held g.row.S.Denot). Hosts shown service.place service.count
+    subst (λ (conn : Held g.row.S.Denot). Hosts shown service.address service.count
     (g.M.Moments.told service.clock) (g.M.Moments.told c.serve_at-end.new.service.clock)
     (g.P.Ports.did service.ports) (g.P.Ports.did c.serve_at-end.new.service.ports)
     c.args.conn conn (g.O.Write.contents c.args.out.now)
@@ -27,7 +27,7 @@ returns-clause-hosts g c =
       mid = c.in-Ok.store.conn;
       opens = c.in-Ok.ensures.opened;
       served =
-          served service.place service.count _ _ _ _ mid _ _ _ _ _ _ c.tell_end-status.result
+          served service.address service.count _ _ _ _ mid _ _ _ _ _ _ c.tell_end-status.result
           at.visits c.serve_at-end.result at.few at.each at.moments at.runs.trusted at.runs.sound
           at.runs.run
           (left_shut _ _ c.in-Ok.store c.serve_at-end.new.desk _ (λ is. is)

@@ -10,7 +10,7 @@ pub returns-clause-served : goal.returns-clause-served
 returns-clause-served g c =
     let did = g.P.Ports.did in
     let service = c.args.service.now in
-    by_listener g.D.Desk service.place service.count (g.M.Moments.told service.clock)
+    by_listener g.D.Desk service.address service.count (g.M.Moments.told service.clock)
     (g.M.Moments.told c.serve_on-end.new.clock) g.P.Listener.Listens.did c.in-Ok.listener
     c.serve_on-end.new.listening.listener (did service.ports) (did c.bind_at.new.ports)
     (did c.close.new.self) c.args.desk.now c.serve_on-end.new.desk _ _ _ _

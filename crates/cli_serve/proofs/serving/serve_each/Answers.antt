@@ -3,7 +3,7 @@ use Rattle.cli_outcome.specs.Written.{WritesSome}
 use Rattle.cli_serve.proofs.Told.{fault_among}
 use Rattle.cli_serve.proofs.{Receiving.{nobody, none, one_more, others}, Staying.{all_served, left_shut}}
 use Rattle.cli_serve.proofs.Staying.{lines_then, missing, stays_on, untold}
-use Rattle.cli_serve.proofs.serving.serve_each.Goals.{then-told, else-told}
+use Rattle.cli_serve.proofs.serving.serve_each.Goals.{then-all_printed, else-all_printed}
 use Rattle.cli_serve.proofs.serving.serve_each.Goals as goal
 
 pub returns-in-Err-clause-served : goal.returns-in-Err-clause-served
@@ -18,14 +18,14 @@ returns-then-left-clause-served g c =
     let one = c.connections.invariant in
     left_shut g.D.Desk g.met.D.Desk.laws c.connections.number c.args.count _ _ c.args.desk.now
     c.connections.desk one.received one.stays _ _ _ c.pass.new.desk c.in-Ok.left.lost
-    c.in-Ok.left.shut _ c.connections-test.true one.some c.is_told-whole.ensures.some
+    c.in-Ok.left.shut _ c.connections-test.true one.some c.is_printed-printed.ensures.some
     c.in-Ok.ensures.received c.in-Ok.ensures.leaves c.if-left.true
 
 pub connections-preserved : goal.connections-preserved
 unfolding one_more others
 connections-preserved g c =
     let one = c.connections.invariant in
-    let told = c.is_told-whole.ensures in
+    let printed = c.is_printed-printed.ensures in
     let n = c.connections.number in
     let next = c.in-Ok.ensures.received in
     let received =
@@ -33,29 +33,29 @@ connections-preserved g c =
     c.pass.new.desk _ one.received next in
     let some =
     lines_then g.D.Desk g.met.D.Desk.laws n c.args.count _ _ c.args.desk.now c.connections.desk
-    one.received one.stays _ _ WritesSome _ c.pass.new.desk _ _ next one.some told.some in
+    one.received one.stays _ _ WritesSome _ c.pass.new.desk _ _ next one.some printed.some in
     let stays =
     stays_on g.D.Desk g.met.D.Desk.laws n c.args.desk.now c.connections.desk c.pass.new.desk
     c.in-Ok.left.shut one.stays c.in-Ok.ensures.leaves c.if-left.false in
-    elim c.if-told.branch [
-      | then-told w ↦ record {
+    elim c.if-all_printed.branch [
+      | then-all_printed w ↦ record {
         received = received;
         stays = stays;
         whole =
             λ is. lines_then g.D.Desk g.met.D.Desk.laws n c.args.count _ _ c.args.desk.now
             c.connections.desk one.received one.stays _ _ Appends _ c.pass.new.desk _ _ next
-            (one.whole w.if-told.true) (told.whole (sym w.told-is ∙ is));
+            (one.whole w.if-all_printed.true) (printed.whole (sym w.all_printed-is ∙ is));
         some = some;
         due = λ no. fault_among one.received.0.visits next.receives.visits next.visit _ next.only
-            next.ended (inr (told.due (sym w.told-is ∙ no)));
+            next.ended (inr (printed.due (sym w.all_printed-is ∙ no)));
       }
-      | else-told w ↦ record {
+      | else-all_printed w ↦ record {
         received = received;
         stays = stays;
-        whole = λ is. absurd (let e = sym w.told-is ∙ is in cc);
+        whole = λ is. absurd (let e = sym w.all_printed-is ∙ is in cc);
         some = some;
         due = λ _. fault_among one.received.0.visits next.receives.visits next.visit _ next.only
-            next.ended (inl (one.due w.if-told.false));
+            next.ended (inl (one.due w.if-all_printed.false));
       }
     ]
 
@@ -69,18 +69,18 @@ connections-init g c = record {
   due = λ no. absurd (let e = no in cc);
 }
 
-pub returns-then-told-2-clause-served : goal.returns-then-told-2-clause-served
-returns-then-told-2-clause-served g c =
+pub returns-then-all_printed-2-clause-served : goal.returns-then-all_printed-2-clause-served
+returns-then-all_printed-2-clause-served g c =
     let one = c.connections.invariant in
     all_served g.D.Desk g.met.D.Desk.laws c.connections.number c.args.count _ _ c.args.desk.now
     c.connections.desk one.received one.stays _ _
     (omega (arith, c.connections.auto.number-end, c.connections-test.false))
-    (one.whole c.if-told-2.true)
+    (one.whole c.if-all_printed-2.true)
 
-pub returns-else-told-2-clause-served : goal.returns-else-told-2-clause-served
-returns-else-told-2-clause-served g c =
+pub returns-else-all_printed-2-clause-served : goal.returns-else-all_printed-2-clause-served
+returns-else-all_printed-2-clause-served g c =
     let one = c.connections.invariant in
     untold g.D.Desk g.met.D.Desk.laws c.connections.number c.args.count _ _ c.args.desk.now
     c.connections.desk one.received one.stays _ _
     (omega (arith, c.connections.auto.number-end, c.connections-test.false)) one.some
-    (one.due c.if-told-2.false)
+    (one.due c.if-all_printed-2.false)

@@ -6,7 +6,7 @@ use Rattle.room_desk.proofs.asking.can.Goals as goal
 
 pub returns-in_err-node-clause-done : goal.returns-in_err-node-clause-done
 returns-in_err-node-clause-done g c =
-    let path = c.args.path.now in
+    let path = c.args.ask.now.path.now in
     halts_first g.met.K.Keep.laws _ c.in_err-node.ensures.done
     (λ old at h. rootless_damaged old old at refl h) (search (rules, not_served, path))
     c.from_residual.result c.from_residual.ensures.1

@@ -21,7 +21,7 @@ bits-preserved c =
     in
     let ruled : ℕ → List ℕ × Ruling = λ bit. (
       bit ∷ [],
-      ruling_of (full_of c.args.node.now.dacl) c.args.asker.now.caller
+      ruling_of (full_of c.args.node.now.dacl) c.args.ask.now.asker.now.caller
           c.args.node.now.owners bit,
     ) in
     let pair : (c.bit-item.result, c.ruling_on.result) ≡ ruled (get_or mask i 0) = ap

@@ -7,7 +7,7 @@ use Rattle.room_desk.proofs.asking.rulings_of.Given as goal
 abbrev pub invariant-bits : goal.invariant-bits
 invariant-bits l =
     let ruled : ℕ → List ℕ × Ruling = λ bit.
-    (bit ∷ [], ruling_of (full_of l.node.dacl) l.asker.caller l.node.owners bit) in
+    (bit ∷ [], ruling_of (full_of l.node.dacl) l.ask.asker.now.caller l.node.owners bit) in
     l.items.items ++ map ruled
     (drop l.bit-index l.fn.mask)
     ≡ map ruled l.fn.mask

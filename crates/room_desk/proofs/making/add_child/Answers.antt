@@ -7,7 +7,7 @@ use Rattle.room_desk.proofs.making.add_child.Goals as goal
 
 pub returns-clause-done : goal.returns-clause-done
 returns-clause-done g c =
-    let caller = c.args.asker.now.caller in
+    let caller = c.args.ask.now.asker.now.caller in
     let parent = c.args.parent.now in
     let child = c.args.child.now in
     let bytes = c.as_slice.result.now in

@@ -11,13 +11,13 @@ pub returns-in_err-spot-clause-done : goal.returns-in_err-spot-clause-done
 returns-in_err-spot-clause-done g c =
     halts_first g.met.K.Keep.laws _ c.in_err-spot.ensures.done
     (λ old at h. rootless_damaged old old at refl h)
-    (folder_barred c.args.asker.now c.args.path.now c.requires.some)
+    (folder_barred c.args.ask.now.asker.now c.args.ask.now.path.now c.requires.some)
     c.from_residual.result c.from_residual.ensures.1
 
 pub returns-clause-done : goal.returns-clause-done
 returns-clause-done g c =
-    let asker = c.args.asker.now in
-    let path = c.args.path.now in
+    let asker = c.args.ask.now.asker.now in
+    let path = c.args.ask.now.path.now in
     let name = c.args.name.now in
     let folder = c.in_ok-spot.spot.folder in
     let child = c.in_ok-spot.spot.child in

@@ -11,7 +11,7 @@ make_below-requires g c =
 pub returns-in-None-clause-done : goal.returns-in-None-clause-done
 returns-in-None-clause-done g c =
     let m = g.met.K.Keep in
-    let path = c.args.path.now in
+    let path = c.args.ask.now.path.now in
     refused_as m.laws (none_done m.laws c.args.keep.now) c.refusal.result
     (Refused (take 0 path) Exists) c.refusal.ensures
     (search (rules, folder_root, c.in-None.ensures.parts))

@@ -8,8 +8,8 @@ use Rattle.room_desk.proofs.making.make_new.Goals as goal
 
 pub returns-clause-done : goal.returns-clause-done
 returns-clause-done g c =
-    let asker = c.args.asker.now in
-    let path = c.args.path.now in
+    let asker = c.args.ask.now.asker.now in
+    let path = c.args.ask.now.path.now in
     let folder = c.args.spot.now.folder in
     let child = c.args.child.now in
     tail_provided g.met.K.Keep.laws (done c.in_ok-check.ensures.done) c.add_child.ensures.done

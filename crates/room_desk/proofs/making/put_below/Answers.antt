@@ -13,13 +13,13 @@ pub returns-in_err-spot-clause-done : goal.returns-in_err-spot-clause-done
 returns-in_err-spot-clause-done g c =
     halts_first g.met.K.Keep.laws _ c.in_err-spot.ensures.done
     (λ old at h. rootless_damaged old old at refl h)
-    (put_barred c.args.asker.now c.args.path.now c.args.bytes.now)
+    (put_barred c.args.ask.now.asker.now c.args.ask.now.path.now c.args.bytes.now)
     c.from_residual.result c.from_residual.ensures.1
 
 pub returns-in-Some-clause-done : goal.returns-in-Some-clause-done
 returns-in-Some-clause-done g c =
-    let asker = c.args.asker.now in
-    let path = c.args.path.now in
+    let asker = c.args.ask.now.asker.now in
+    let path = c.args.ask.now.path.now in
     let node = c.in-Some.node in
     let spot = λ (old mid : Rows).
     spotted_child asker path c.in_ok-spot.spot.folder c.in_ok-spot.spot.child _ old mid c.in-Some.is in
@@ -35,8 +35,8 @@ returns-in-Some-clause-done g c =
 
 pub returns-clause-done : goal.returns-clause-done
 returns-clause-done g c =
-    let asker = c.args.asker.now in
-    let path = c.args.path.now in
+    let asker = c.args.ask.now.asker.now in
+    let path = c.args.ask.now.path.now in
     let folder = c.in_ok-spot.spot.folder in
     let spot = λ (old mid : Rows).
     spotted_child asker path folder c.in_ok-spot.spot.child _ old mid c.in-None.is in

@@ -6,7 +6,7 @@ use Rattle.room_desk.proofs.making.put_new.Goals as goal
 
 pub returns-clause-done : goal.returns-clause-done
 returns-clause-done g c =
-    let asker = c.args.asker.now in
+    let asker = c.args.ask.now.asker.now in
     let child = c.args.child.now in
     let few : nat_lt 1048576 (length child.bytes.now) ≡ false = le-ltb 1048576
     (length child.bytes.now)

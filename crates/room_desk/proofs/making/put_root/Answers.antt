@@ -14,8 +14,8 @@ returns-in_err-node-clause-done g c =
 
 pub returns-clause-done : goal.returns-clause-done
 returns-clause-done g c =
-    let asker = c.args.asker.now in
-    let path = c.args.path.now in
+    let asker = c.args.ask.now.asker.now in
+    let path = c.args.ask.now.path.now in
     let node = c.in_ok-node.node in
     tail_provided g.met.K.Keep.laws (done c.in_ok-node.ensures.done) c.put_there.ensures.done
     (λ old mid at are reached h. noted_unread old mid _ at reached.judged.notes h)

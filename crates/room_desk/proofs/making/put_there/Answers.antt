@@ -5,7 +5,7 @@ use Rattle.room_desk.proofs.making.put_there.Goals as goal
 
 pub returns-clause-done : goal.returns-clause-done
 returns-clause-done g c =
-    let asker = c.args.asker.now in
+    let asker = c.args.ask.now.asker.now in
     let target = c.args.target.now in
     tail_provided g.met.K.Keep.laws (done c.in_ok-check_kind.ensures.done) c.put_bytes.ensures.done
     (λ old mid at are judged h. blames_first asker _ _ old mid at judged h)

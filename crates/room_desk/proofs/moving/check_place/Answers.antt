@@ -15,8 +15,8 @@ returns-in_err-pass_through-clause-done g c =
 
 pub returns-in_err-check_deletion-clause-done : goal.returns-in_err-check_deletion-clause-done
 returns-in_err-check_deletion-clause-done g c =
-    let asker = c.args.asker.now in
-    let path = c.args.moving.now.path.now in
+    let asker = c.args.moving.now.ask.now.asker.now in
+    let path = c.args.moving.now.ask.now.path.now in
     let to = c.args.to.now in
     let folder = c.args.folder.now in
     let target = c.args.moving.now.target.now in
@@ -37,8 +37,8 @@ returns-in_err-check_deletion-clause-done g c =
 pub returns-in_err-check-clause-done : goal.returns-in_err-check-clause-done
 returns-in_err-check-clause-done g c =
     let m = g.met.K.Keep in
-    let asker = c.args.asker.now in
-    let path = c.args.moving.now.path.now in
+    let asker = c.args.moving.now.ask.now.asker.now in
+    let path = c.args.moving.now.ask.now.path.now in
     let to = c.args.to.now in
     let folder = c.args.folder.now in
     let target = c.args.moving.now.target.now in
@@ -60,8 +60,8 @@ returns-in_err-check-clause-done g c =
 pub returns-clause-done : goal.returns-clause-done
 returns-clause-done g c =
     let m = g.met.K.Keep in
-    let asker = c.args.asker.now in
-    let path = c.args.moving.now.path.now in
+    let asker = c.args.moving.now.ask.now.asker.now in
+    let path = c.args.moving.now.ask.now.path.now in
     let to = c.args.to.now in
     let folder = c.args.folder.now in
     let target = c.args.moving.now.target.now in

@@ -10,8 +10,8 @@ use Rattle.room_desk.proofs.moving.move_found.Goals as goal
 pub returns-in-None-clause-done : goal.returns-in-None-clause-done
 returns-in-None-clause-done g c =
     let m = g.met.K.Keep in
-    let asker = c.args.asker.now in
-    let path = c.args.moving.now.path.now in
+    let asker = c.args.moving.now.ask.now.asker.now in
+    let path = c.args.moving.now.ask.now.path.now in
     let from = c.args.moving.now.from.now in
     let target = c.args.moving.now.target.now in
     tail m.laws (none_done m.laws c.args.keep.now) (widened m.laws c.refuse_root.ensures.done)
@@ -23,8 +23,8 @@ returns-in-None-clause-done g c =
 
 pub returns-in_err-folder-in-Some-clause-done : goal.returns-in_err-folder-in-Some-clause-done
 returns-in_err-folder-in-Some-clause-done g c =
-    let asker = c.args.asker.now in
-    let path = c.args.moving.now.path.now in
+    let asker = c.args.moving.now.ask.now.asker.now in
+    let path = c.args.moving.now.ask.now.path.now in
     let to = c.args.to.now in
     let from = c.args.moving.now.from.now in
     let target = c.args.moving.now.target.now in
@@ -39,8 +39,8 @@ returns-in_err-folder-in-Some-clause-done g c =
 
 pub returns-in_err-place_at-in-Some-clause-done : goal.returns-in_err-place_at-in-Some-clause-done
 returns-in_err-place_at-in-Some-clause-done g c =
-    let asker = c.args.asker.now in
-    let path = c.args.moving.now.path.now in
+    let asker = c.args.moving.now.ask.now.asker.now in
+    let path = c.args.moving.now.ask.now.path.now in
     let to = c.args.to.now in
     let from = c.args.moving.now.from.now in
     let target = c.args.moving.now.target.now in
@@ -62,8 +62,8 @@ returns-in_err-place_at-in-Some-clause-done g c =
 pub returns-in_ok-place_at-in-Some-clause-done : goal.returns-in_ok-place_at-in-Some-clause-done
 returns-in_ok-place_at-in-Some-clause-done g c =
     let m = g.met.K.Keep in
-    let asker = c.args.asker.now in
-    let path = c.args.moving.now.path.now in
+    let asker = c.args.moving.now.ask.now.asker.now in
+    let path = c.args.moving.now.ask.now.path.now in
     let to = c.args.to.now in
     let from = c.args.moving.now.from.now in
     let target = c.args.moving.now.target.now in

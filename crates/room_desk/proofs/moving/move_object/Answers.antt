@@ -15,11 +15,11 @@ use Rattle.room_desk.proofs.moving.move_object.Goals as goal
 pub returns-then-is_root-clause-done : goal.returns-then-is_root-clause-done
 returns-then-is_root-clause-done g c =
     let m = g.met.K.Keep in
-    let path = c.args.path.now in
+    let path = c.args.ask.now.path.now in
     refused_as m.laws (done (of_read c.in_ok-root.ensures.read)) c.refusal.result
     (Refused (take 0 path) Root) c.refusal.ensures
     (λ old new are both.
-    root_stays c.args.asker.now path c.args.to.now c.in_ok-root.root old new
+    root_stays c.args.ask.now.asker.now path c.args.to.now c.in_ok-root.root old new
     (Refused (take 0 path) Root) are
     (empty_path path c.is_root.result c.is_root.ensures c.if-is_root.true) both.0 refl both.1)
 
@@ -32,8 +32,8 @@ returns-in_err-root-clause-done g c =
 
 pub returns-in_err-pair-clause-done : goal.returns-in_err-pair-clause-done
 returns-in_err-pair-clause-done g c =
-    let asker = c.args.asker.now in
-    let path = c.args.path.now in
+    let asker = c.args.ask.now.asker.now in
+    let path = c.args.ask.now.path.now in
     halts g.met.K.Keep.laws _ (done (of_read c.in_ok-root.ensures.read)) c.in_err-pair.ensures.done
     (λ old mid at are both h.
     unread_damaged old mid at both.1 (h (ap (λ (r : Rows). root_of r.read) both.1 ∙ both.0)))
@@ -45,8 +45,8 @@ returns-in_err-pair-clause-done g c =
 pub returns-clause-done : goal.returns-clause-done
 returns-clause-done g c =
     let m = g.met.K.Keep in
-    let asker = c.args.asker.now in
-    let path = c.args.path.now in
+    let asker = c.args.ask.now.asker.now in
+    let path = c.args.ask.now.path.now in
     let root = c.in_ok-root.root in
     let folder = c.in_ok-pair.pair.folder in
     let target = c.in_ok-pair.pair.target in
@@ -66,7 +66,7 @@ returns-clause-done g c =
 pub returns-clause-counted : goal.returns-clause-counted
 returns-clause-counted g c =
     let laws = g.met.K.Keep.laws in
-    let path = c.args.path.now in
+    let path = c.args.ask.now.path.now in
     let to = c.args.to.now in
     let grows = laws.grow _ _ c.in_ok-root.ensures.read.follows in
     reads_on g.K.Keep (settled c.move_found.result) c.args.keep.now

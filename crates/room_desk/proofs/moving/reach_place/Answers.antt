@@ -9,8 +9,8 @@ use Rattle.room_desk.proofs.moving.reach_place.Goals as goal
 
 pub returns-in_err-node-clause-done : goal.returns-in_err-node-clause-done
 returns-in_err-node-clause-done g c =
-    let asker = c.args.asker.now in
-    let path = c.args.moving.now.path.now in
+    let asker = c.args.moving.now.ask.now.asker.now in
+    let path = c.args.moving.now.ask.now.path.now in
     let to = c.args.to.now in
     let depth : ℕ = length c.names.result.now - 1 in
     let size : length c.names.result.now ≡ length to = grind (arith, c.names.ensures) in
@@ -26,8 +26,8 @@ returns-in_err-node-clause-done g c =
 
 pub returns-in_err-check_place-clause-done : goal.returns-in_err-check_place-clause-done
 returns-in_err-check_place-clause-done g c =
-    let asker = c.args.asker.now in
-    let path = c.args.moving.now.path.now in
+    let asker = c.args.moving.now.ask.now.asker.now in
+    let path = c.args.moving.now.ask.now.path.now in
     let to = c.args.to.now in
     let below : Bool = begins path (front to) in
     let target : Site = found_site path c.args.moving.now.target.now in
@@ -46,8 +46,8 @@ returns-in_err-check_place-clause-done g c =
 pub returns-clause-done : goal.returns-clause-done
 returns-clause-done g c =
     let m = g.met.K.Keep in
-    let asker = c.args.asker.now in
-    let path = c.args.moving.now.path.now in
+    let asker = c.args.moving.now.ask.now.asker.now in
+    let path = c.args.moving.now.ask.now.path.now in
     let to = c.args.to.now in
     let below : Bool = begins path (front to) in
     let target : Site = found_site path c.args.moving.now.target.now in

@@ -8,8 +8,8 @@ use Rattle.room_desk.proofs.reading.read.Goals as goal
 
 pub returns-in_err-node-clause-done : goal.returns-in_err-node-clause-done
 returns-in_err-node-clause-done g c =
-    let asker = c.args.asker.now in
-    let path = c.args.path.now in
+    let asker = c.args.ask.now.asker.now in
+    let path = c.args.ask.now.path.now in
     halts_first g.met.K.Keep.laws _ c.in_err-node.ensures.done
     (λ old at h. rootless_damaged old old at refl h)
     (λ old new reply are reached.
@@ -19,7 +19,7 @@ returns-in_err-node-clause-done g c =
 
 pub returns-in_err-read_at-clause-done : goal.returns-in_err-read_at-clause-done
 returns-in_err-read_at-clause-done g c =
-    let asker = c.args.asker.now in
+    let asker = c.args.ask.now.asker.now in
     faults g.met.K.Keep.laws (done c.in_ok-node.ensures.done)
     (of_read c.in_err-read_at.ensures.read)
     (search (rules, no_bytes, asker, c.in_ok-node.node, c.read_data-mask.ensures))
@@ -28,8 +28,8 @@ returns-in_err-read_at-clause-done g c =
 pub returns-clause-done : goal.returns-clause-done
 returns-clause-done g c =
     let m = g.met.K.Keep in
-    let asker = c.args.asker.now in
-    let path = c.args.path.now in
+    let asker = c.args.ask.now.asker.now in
+    let path = c.args.ask.now.path.now in
     finish m.laws _ (then_known m.laws (done c.in_ok-node.ensures.done)
     (done (of_read c.in_ok-read_at.ensures.read))
     (λ old mid new are reached told.

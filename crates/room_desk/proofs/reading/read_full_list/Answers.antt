@@ -10,8 +10,8 @@ use Rattle.room_desk.proofs.reading.read_full_list.Goals as goal
 
 pub returns-in_err-node-clause-done : goal.returns-in_err-node-clause-done
 returns-in_err-node-clause-done g c =
-    let asker = c.args.asker.now in
-    let path = c.args.path.now in
+    let asker = c.args.ask.now.asker.now in
+    let path = c.args.ask.now.path.now in
     halts_first g.met.K.Keep.laws _ c.in_err-node.ensures.done
     (λ old at h. rootless_damaged old old at refl h)
     (λ old new reply are reached.
@@ -26,8 +26,8 @@ returns-in_err-list_reply-clause-done g c =
 
 pub returns-clause-done : goal.returns-clause-done
 returns-clause-done g c =
-    let asker = c.args.asker.now in
-    let path = c.args.path.now in
+    let asker = c.args.ask.now.asker.now in
+    let path = c.args.ask.now.path.now in
     finish g.met.K.Keep.laws _ (done c.in_ok-node.ensures.done)
     (λ old new are reached.
     served_list asker path c.args.which old new c.in_ok-node.node _ are

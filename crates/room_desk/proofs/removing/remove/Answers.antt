@@ -25,8 +25,8 @@ returns-in_err-root-clause-done g c =
 
 pub returns-then-is_root-clause-done : goal.returns-then-is_root-clause-done
 returns-then-is_root-clause-done g c =
-    let asker = c.args.asker.now in
-    let path = c.args.path.now in
+    let asker = c.args.ask.now.asker.now in
+    let path = c.args.ask.now.path.now in
     let root = empty_path path c.is_root.result c.is_root.ensures c.if-is_root.true in
     refused_as g.met.K.Keep.laws (done (of_read c.in_ok-root.ensures.read)) c.refusal.result
     (Refused (take 0 path) Root) c.refusal.ensures (λ old new are both.
@@ -38,18 +38,18 @@ pub returns-in_err-pair-clause-done : goal.returns-in_err-pair-clause-done
 returns-in_err-pair-clause-done g c =
     halts_first g.met.K.Keep.laws _ c.in_err-pair.ensures.done
     (λ old at h. rootless_damaged old old at refl h)
-    (remove_halted c.args.asker.now c.args.path.now)
+    (remove_halted c.args.ask.now.asker.now c.args.ask.now.path.now)
     c.from_residual-in_err-pair.result c.from_residual-in_err-pair.ensures.1
 
 pub returns-clause-done : goal.returns-clause-done
 returns-clause-done g c =
     let m = g.met.K.Keep in
-    let path = c.args.path.now in
+    let path = c.args.ask.now.path.now in
     let target = c.in_ok-pair.pair.target in
     let folder = c.in_ok-pair.pair.folder in
     tail_provided m.laws (done c.in_ok-pair.ensures.done) c.remove_from.ensures.done
     (λ old mid at are paired h. noted_unread old mid _ at paired.judged.notes h)
     (λ old mid outcome new are paired removes.
-    remove_done c.args.asker.now path old mid folder target are
+    remove_done c.args.ask.now.asker.now path old mid folder target are
     (some_names path c.is_root.result c.is_root.ensures c.if-is_root.false) paired new
     (replied outcome) removes) (search (rules, removable, folder, target, one_of_both))

@@ -14,8 +14,8 @@ returns-in_err-pair-clause-done g c =
 
 pub returns-clause-done : goal.returns-clause-done
 returns-clause-done g c =
-    let asker = c.args.asker.now in
-    let path = c.args.path.now in
+    let asker = c.args.ask.now.asker.now in
+    let path = c.args.ask.now.path.now in
     let folder = c.in_ok-pair.pair.folder in
     let target = c.in_ok-pair.pair.target in
     tail_provided g.met.K.Keep.laws (done c.in_ok-pair.ensures.done) c.set_allowed.ensures.done
@@ -29,7 +29,7 @@ returns-clause-done g c =
 pub returns-clause-counted : goal.returns-clause-counted
 returns-clause-counted g c =
     reads_on g.K.Keep (settled c.set_allowed.result) c.args.keep.now
-    c.to_pair.new.keep c.set_allowed.new.keep (length c.args.path.now + 1) 2
-    (length c.args.path.now + 3) c.in_ok-pair.ensures.counted
+    c.to_pair.new.keep c.set_allowed.new.keep (length c.args.ask.now.path.now + 1) 2
+    (length c.args.ask.now.path.now + 3) c.in_ok-pair.ensures.counted
     (g.met.K.Keep.laws.grow _ _ c.in_ok-pair.ensures.done.follows) (omega arith)
     c.set_allowed.ensures.counted

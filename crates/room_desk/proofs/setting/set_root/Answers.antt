@@ -13,8 +13,8 @@ returns-in_err-node-clause-done g c =
 
 pub returns-clause-done : goal.returns-clause-done
 returns-clause-done g c =
-    let asker = c.args.asker.now in
-    let path = c.args.path.now in
+    let asker = c.args.ask.now.asker.now in
+    let path = c.args.ask.now.path.now in
     tail_provided g.met.K.Keep.laws (done (of_read c.in_ok-node.ensures.read))
     c.set_allowed.ensures.done
     (λ old mid at are both fails.

@@ -15,7 +15,7 @@ returns-in_err-before-clause-done g c =
 
 pub returns-then-are_none-clause-done : goal.returns-then-are_none-clause-done
 returns-then-are_none-clause-done g c =
-    let path = c.args.path.now in
+    let path = c.args.ask.now.path.now in
     let bytes = c.args.bytes.now in
     let before : List ℕ = c.in_ok-before.before in
     let none =
@@ -44,7 +44,7 @@ returns-in_err-joined-clause-done g c =
 
 pub returns-clause-done : goal.returns-clause-done
 returns-clause-done g c =
-    let path = c.args.path.now in
+    let path = c.args.ask.now.path.now in
     let bytes = c.args.bytes.now in
     let before : List ℕ = c.in_ok-before.before in
     tail g.met.K.Keep.laws (done (of_read c.in_ok-before.ensures.read)) c.put_bytes.ensures.done

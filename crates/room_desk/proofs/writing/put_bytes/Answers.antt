@@ -11,7 +11,7 @@ use Rattle.room_desk.proofs.writing.put_bytes.Goals as goal
 pub returns-then-too_many-clause-done : goal.returns-then-too_many-clause-done
 returns-then-too_many-clause-done g c =
     let m = g.met.K.Keep in
-    let path = c.args.path.now in
+    let path = c.args.ask.now.path.now in
     refused_as m.laws (none_done m.laws c.args.keep.now) c.refusal.result
     (Refused (take (length c.names.result.now) path) TooLarge) c.refusal.ensures
     (grind (arith, put_refused, path, lt-ltb, c.if-too_many.true, c.names.ensures, take-length))

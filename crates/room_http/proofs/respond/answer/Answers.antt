@@ -1,6 +1,6 @@
 use Rattle.std.proofs.{Common.{subst, w64, ℤ, Ok}, lemmas.Int.to_z-of_z}
 use Rattle.http_message.specs.Asked.{request_of}
-use Rattle.room_http.specs.{Answer.Responds, declared.told.Response.Response}
+use Rattle.room_http.specs.{Answer.Responds, declared.response.Response.Response}
 use Rattle.room_http.proofs.Telling.{joined-answers}
 use Rattle.room_http.proofs.respond.answer.Goals as goal
 

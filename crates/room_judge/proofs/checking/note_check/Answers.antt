@@ -32,13 +32,13 @@ returns-in_err-note g c =
 pub places-preserved : goal.places-preserved
 places-preserved g c =
     let m = g.met.K.Keep in
-    let asker = c.args.asker.now in
     let checked = c.args.checked.now in
+    let asker = checked.ask.now.asker.now in
     let are = c.as_slice-place-items.ensures.value ∙ c.in_ok-places.ensures
     ∙ ap
     (λ (es : List Ace). events_of es asker.caller checked.found.now.node.owners checked.bits
     checked.granted) c.full.ensures in
-    let site = found_site checked.path.now checked.found.now in
+    let site = found_site checked.ask.now.path.now checked.found.now in
     let places = c.as_slice-place-items.result.now in
     record {
       few = omega (arith, c.places.invariant.few, c.in_ok-note.ensures.unread);
@@ -55,8 +55,8 @@ places-preserved g c =
 pub returns : goal.returns
 returns g c =
     let m = g.met.K.Keep in
-    let asker = c.args.asker.now in
     let checked = c.args.checked.now in
+    let asker = checked.ask.now.asker.now in
     let full : c.places.place-index ≡ length c.as_slice-place-items.result.now = omega
     (arith, c.places-test.false, c.places.auto.place-index-end) in
     let are = c.as_slice-place-items.ensures.value ∙ c.in_ok-places.ensures

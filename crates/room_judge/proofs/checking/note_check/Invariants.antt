@@ -10,6 +10,7 @@ invariant-places g l =
     record {
       few : k.reads l.keep ≤ k.reads l.fn.keep;
       done : HasDone k.rows k.writes k.Follows k.IsTrusted OnlyRecords l.fn.keep l.keep
-          (Notes l.asker l.checked.granted (found_site l.checked.path.now l.checked.found.now)
+          (Notes l.checked.ask.now.asker.now l.checked.granted
+          (found_site l.checked.ask.now.path.now l.checked.found.now)
           l.checked.bits (take l.place-index l.place-items));
     }

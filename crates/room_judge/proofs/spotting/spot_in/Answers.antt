@@ -7,13 +7,13 @@ pub returns-in_err-child-clause-done : goal.returns-in_err-child-clause-done
 returns-in_err-child-clause-done g c =
     faults g.met.K.Keep.laws (done c.in_ok-pass_through.ensures.done)
     (of_read c.in_err-child.ensures.read)
-    (λ old mid at are judged h. blames_first c.args.asker.now _ _ old mid at judged h)
+    (λ old mid at are judged h. blames_first c.args.ask.now.asker.now _ _ old mid at judged h)
     c.from_residual-in_err-child.result c.from_residual-in_err-child.ensures.1
 
 pub returns-clause-done : goal.returns-clause-done
 returns-clause-done g c =
     let m = g.met.K.Keep in
-    let path = c.args.path.now in
+    let path = c.args.ask.now.path.now in
     let folder = c.args.folder in
     let below : folder.depth < length path = omega arith in
     let named =

@@ -11,9 +11,9 @@ returns-in_err-spot-clause-done g c =
 
 pub returns-clause-done : goal.returns-clause-done
 returns-clause-done g c =
-    let path = c.args.path.now in
+    let path = c.args.ask.now.path.now in
     let spot = c.in_ok-spot.spot in
     comes_to g.met.K.Keep.laws (done c.in_ok-spot.ensures.done) c.both_at.result
     (both_with path spot.folder spot.child) c.both_at.ensures
     (λ old new are spotted is.
-    both_found c.args.asker.now path c.requires old new spot.folder spot.child (spotted is))
+    both_found c.args.ask.now.asker.now path c.requires old new spot.folder spot.child (spotted is))

@@ -5,7 +5,7 @@ use Rattle.room_judge.proofs.spotting.to_spot.Goals as goal
 
 pub returns-in_err-node-clause-done : goal.returns-in_err-node-clause-done
 returns-in_err-node-clause-done g c =
-    let path = c.args.path.now in
+    let path = c.args.ask.now.path.now in
     let depth : ℕ = length c.names.result.now - 1 in
     let size : length c.names.result.now ≡ length path = grind (arith, c.names.ensures) in
     let deep : length path ≡ depth + 1 = omega arith in
@@ -15,8 +15,8 @@ returns-in_err-node-clause-done g c =
 
 pub returns-clause-done : goal.returns-clause-done
 returns-clause-done g c =
-    let asker = c.args.asker.now in
-    let path = c.args.path.now in
+    let asker = c.args.ask.now.asker.now in
+    let path = c.args.ask.now.path.now in
     let node = c.in_ok-node.node in
     let depth : ℕ = length c.names.result.now - 1 in
     let size : length c.names.result.now ≡ length path = grind (arith, c.names.ensures) in

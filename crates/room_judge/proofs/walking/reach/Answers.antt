@@ -14,23 +14,23 @@ returns-in_err-node-clause-done g c =
 
 pub returns-in_err-check-clause-done : goal.returns-in_err-check-clause-done
 returns-in_err-check-clause-done g c =
-    let path = c.args.path.now in
+    let path = c.args.ask.now.path.now in
     let items : Site → List Item = λ target. Check target c.args.mask ∷ [] in
     let found : Found = record { node = c.in_ok-node.node; depth = length c.names.result.now } in
     halts g.met.K.Keep.laws _ (done c.in_ok-node.ensures.done) c.in_err-check.ensures.done
     (λ old mid at are reached never. absurd never)
     (λ old mid new reply are reached judged.
-    target_refused c.args.asker.now path items old mid new found reply
+    target_refused c.args.ask.now.asker.now path items old mid new found reply
     (ap (λ (l : List (List ℕ)). length l) c.names.ensures) reached judged)
     c.from_residual-in_err-check.result c.from_residual-in_err-check.ensures.1
 
 pub returns-clause-done : goal.returns-clause-done
 returns-clause-done g c =
     let m = g.met.K.Keep in
-    let path = c.args.path.now in
+    let path = c.args.ask.now.path.now in
     let items : Site → List Item = λ target. Check target c.args.mask ∷ [] in
     let found : Found = record { node = c.in_ok-node.node; depth = length c.names.result.now } in
     finish m.laws _ (then m.laws (done c.in_ok-node.ensures.done) (done c.in_ok-check.ensures.done)
     (λ old mid new reached judged.
-    target_passed c.args.asker.now path items old mid new found
+    target_passed c.args.ask.now.asker.now path items old mid new found
     (ap (λ (l : List (List ℕ)). length l) c.names.ensures) reached judged)) (λ old new are h. h)

@@ -9,8 +9,8 @@ names-init g c = grind (arith, g.met.K.Keep, done, way_begins, g.K.Keep.rows, no
 
 pub returns-in_err-node : goal.returns-in_err-node
 returns-in_err-node g c =
-    let asker = c.args.asker.now in
-    let path = c.args.path.now in
+    let asker = c.args.ask.now.asker.now in
+    let path = c.args.ask.now.path.now in
     let from : Found = record { node = c.names.node; depth = c.names.index } in
     record {
       counted = omega
@@ -25,7 +25,7 @@ returns-in_err-node g c =
 
 pub names-preserved : goal.names-preserved
 names-preserved g c =
-    let asker = c.args.asker.now in
+    let asker = c.args.ask.now.asker.now in
     let next = c.in_ok-node.node in
     record {
       counted = omega (arith, c.names.invariant.counted, c.in_ok-node.ensures.counted);

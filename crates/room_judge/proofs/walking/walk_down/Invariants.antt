@@ -11,6 +11,6 @@ invariant-names g l =
       counted : k.reads l.keep ≤ k.reads l.fn.keep + l.index;
       done : HasDone k.rows k.writes k.Follows k.IsTrusted OnlyRecords l.fn.keep l.keep
           (λ old now. root_of old.read ≡ Some l.fn.root
-          → IsOnWay l.asker (take l.depth l.path) (record { node = l.node; depth = l.index }) old
-          now);
+          → IsOnWay l.ask.asker.now (take l.depth l.ask.path.now)
+          (record { node = l.node; depth = l.index }) old now);
     }

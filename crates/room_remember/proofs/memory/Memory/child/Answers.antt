@@ -5,4 +5,5 @@ use Rattle.room_remember.proofs.memory.Memory.child.Goals as goal
 pub returns-in-Some : goal.returns-in-Some
 returns-in-Some c =
     recalled c.child.result c.in-Some.known.now (Child c.args.parent c.args.name.now)
-    (AgreesWithRows c.args.self.now) (λ rows agreed. c.in-Some.ensures rows agreed.places) c.child.ensures
+    (AgreesWithRows c.args.self.now) (λ rows agreed. c.in-Some.ensures rows agreed.slots)
+    c.child.ensures
