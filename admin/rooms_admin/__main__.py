@@ -43,6 +43,21 @@ def _asked(words: list[str], verb: str) -> int:
     return _run(verb, words)
 
 
+def _flush() -> None:
+    """There is no output where whoever calls has closed it."""
+    if sys.stdout is not None:
+        sys.stdout.flush()
+
+
+def _let_go_of_output() -> None:
+    """What can't be written isn't tried once more at the very end, where Python would tell of it
+    with a status of its own."""
+    try:
+        _flush()
+    except OSError:
+        os.dup2(os.open(os.devnull, os.O_WRONLY | os.O_CLOEXEC), sys.stdout.fileno())
+
+
 def main(words: list[str] | None = None, name: str = "") -> int:
     for stream in (sys.stdout, sys.stderr):
         if isinstance(stream, io.TextIOWrapper):
@@ -57,7 +72,9 @@ def main(words: list[str] | None = None, name: str = "") -> int:
             verb = "remove"
         if verb:
             print(f"{name}: its name is now rooms-admin {verb}", file=sys.stderr)
-        return _asked(words, verb)
+        status = _asked(words, verb)
+        _flush()
+        return status
     except report.Stop as stop:
         # What failed first, where bringing things back has failed too.
         if isinstance(stop.__context__, report.Stop) and not stop.__suppress_context__:
@@ -65,6 +82,7 @@ def main(words: list[str] | None = None, name: str = "") -> int:
         report.say(str(stop))
         return stop.status
     except OSError as fault:
+        _let_go_of_output()
         if isinstance(fault, BrokenPipeError):
             return 1
         report.say(f"failed: {fault}")

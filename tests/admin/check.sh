@@ -1,95 +1,15 @@
 # rooms-admin check: one line and a status for monitoring, for a room that is well and for each
 # thing that isn't; and the nightly run, which fails where the site's certificate has expired.
 
-if [ "$loopback" = no ] || [ ! -x /usr/bin/python3 ] || ! has openssl; then
+if [ -x /usr/bin/python3 ]; then
+  /usr/bin/python3 "$here/admin/test_watched.py" >said 2>&1
+  status=$?
+  holds "its parts: $(tail -n 20 said)" [ "$status" = 0 ]
+fi
+if ! . "$here/lib/check.sh"; then
   skip 'what a check finds' 'no loopback, or python3 or openssl is missing'
   return
 fi
-/usr/bin/python3 "$here/admin/test_watched.py" >said 2>&1
-status=$?
-holds "its parts: $(tail -n 20 said)" [ "$status" = 0 ]
-make_stand
-open_room office/F
-[ "$STAND_USER" = "$(id -u)" ] || chown -R 65534:65534 office
-unit start
-
-# nginx is played: it answers as a file says.
-cat >front.py <<'END'
-import http.server
-import sys
-class Front(http.server.BaseHTTPRequestHandler):
-    def do_GET(self):
-        with open('front.status') as source:
-            status = int(source.read())
-        with open('front.asked', 'a') as asked:
-            asked.write(f'{self.headers["Host"]} {self.path}\n')
-        self.send_response(status)
-        with open('front.fields') as source:
-            for line in source:
-                name, _, value = line.rstrip().partition(': ')
-                self.send_header(name, value)
-        self.send_header('Content-Length', '0')
-        self.end_headers()
-    def log_message(self, *words):
-        pass
-server = http.server.HTTPServer(('127.0.0.1', 0), Front)
-with open('front.port', 'w') as port:
-    port.write(f'{server.server_port}\n')
-server.serve_forever()
-END
-echo 401 >front.status
-policy=$(grep -om 1 "default-src 'none'; [^\"]*" "$repo/deploy/nginx/site.conf.in")
-ours() { printf '%s\n' "Content-Security-Policy: $policy" >front.fields; }
-ours
-/usr/bin/python3 front.py &
-others+=($!)
-until [ -s front.port ]; do sleep 0.02; done
-ROOMS_FRONT=127.0.0.1:$(<front.port)
-export ROOMS_FRONT
-
-# What systemd says beside the server, and a mail program or none.
-mkdir -p root/etc/nginx/{sites-enabled,sites-available} \
-  root/etc/systemd/system/timers.target.wants root/var/lib/systemd/timers
-: >failed
-echo active >timer
-mv stand/bin/systemctl stand/bin/own
-cat >stand/bin/systemctl <<END
-#!/usr/bin/env bash
-case "\$*" in
-  'list-units '*) cat "$PWD/failed" ;;
-  'is-active rooms-nightly@office.timer') cat "$PWD/timer" ;;
-  'show -p MemoryMax'*) echo 1073741824 ;;
-  'start --no-block '*) echo "\$*" >>"$PWD/told" ;;
-  *) exec "$PWD/stand/bin/own" "\$@" ;;
-esac
-END
-chmod 755 stand/bin/systemctl
-settings() { # LINE ..: those of office, and more
-  printf '%s\n' "FILE=$PWD/office/F" "PORT=$(<"$stand/port")" "BACKUPS=$PWD/backups" \
-    UNIT=rooms@office "PROGRAM=$rooms" "$@" >root/etc/rooms/office.conf
-  echo "upstream room_office { server 127.0.0.1:$(<"$stand/port"); }" \
-    >root/etc/nginx/sites-available/rooms
-}
-settings
-ln -s ../sites-available/rooms root/etc/nginx/sites-enabled/rooms
-backup() { # DATE: a good one of that time
-  local name
-  name=$(date -d "$1" +%F.%H%M%S)
-  mkdir -p "backups/$name"
-  cp office/F "backups/$name/F"
-  touch -d "$1" "backups/$name/F"
-  echo "$name"
-}
-backup '1 hour ago' >/dev/null
-checks() { # NAME STATUS TEXT ..
-  ROOMS_SETTINGS=$PWD/root/etc/rooms PATH=$stand/bin:$PATH timeout "$patience" \
-    "$repo/admin/rooms-admin" check ${words[@]+"${words[@]}"} >"$work/out" 2>"$work/err" </dev/null
-  status=$?
-  told "$@"
-  holds "$1: one line" [ "$(wc -l <"$work/out")" = 1 ]
-  holds "$1: and no other: $(head -c 300 "$work/err")" [ ! -s "$work/err" ]
-}
-words=()
 checks 'a room that is well' 0 'rooms OK - office: answers, nginx answers, ' \
   ' of 384 MB in use, last good backup 1 h ago'
 holds 'nginx was asked for the room' grep -qx "127.0.0.1:$(<front.port) /can/?" front.asked
@@ -205,28 +125,6 @@ settings
 checks 'one that nobody needs' 0 'rooms OK'
 rm root/etc/rooms/{passwords.key,directory.apache}
 
-# Backups.
-rm -r backups/*
-future=$(backup '3 hours')
-checks 'a clock that was set back' 1 \
-  "the backup $future is dated in the future: was the clock set back?"
-backup '2 hours ago' >/dev/null
-checks 'a later one beside it' 1 'rooms WARNING - ' "the backup $future is dated in the future"
-rm -r backups/*
-backup '27 hours ago' >/dev/null
-checks 'a night without a backup' 1 'last good backup 27 h ago'
-mkdir "backups/$(date +%F.%H%M%S).unsound" "backups/$(date +%F.%H%M%S).part"
-checks 'one that is unsound, and one that was cut off' 1 'last good backup 27 h ago'
-rm -r backups/*
-backup '51 hours ago' >/dev/null
-checks 'two nights without' 2 'last good backup 51 h ago'
-rm -r backups/*
-checks 'none of a new room' 1 'no backup yet: systemctl start rooms-nightly@office'
-mv backups away
-checks 'no folder of backups' 2 'no folder of backups: '
-mv away backups
-backup '1 hour ago' >/dev/null
-
 # What is in use, of LIMIT.
 settings LIMIT=none
 checks 'no limit' 0 ' MB in use'
@@ -242,6 +140,21 @@ checks 'one that is nearly so' 0 ' of 3 MB in use'
 settings LIMIT=2
 checks 'one that is at its limit' 2 ' of 2 MB in use'
 settings
+
+# A kernel that allows no namespaces of users, which units want.
+mkdir -p root/proc/sys/user
+echo 0 >root/proc/sys/user/max_user_namespaces
+none='rooms CRITICAL - office: this machine allows no namespaces of users, so these can'\''t start:'
+checks 'no namespaces of users' 2 "$none rooms@office rooms-full@office: sysctl"
+settings SOCKET=yes DOOR=yes
+checks 'for a door and earlier nights either' 2 'rooms-door@office rooms-earlier: sysctl user.'
+settings
+echo no >private
+checks 'units that want none' 0 'rooms OK'
+echo 9 >root/proc/sys/user/max_user_namespaces
+echo yes >private
+checks 'some of them' 0 'rooms OK'
+rm -r root/proc
 
 # Units, timers, mail, groups.
 echo 'rooms-standby@office.service loaded failed failed Standby copy' >failed
@@ -298,7 +211,15 @@ echo 'events { }' >"$conf"
 checks 'no number of connections' 1 'nginx holds 512 connections for each of its processes'
 printf '%s\n' 'events {' '    worker_connections 100;' '    # worker_connections 800;' '}' >"$conf"
 checks 'too few connections' 1 'rooms WARNING - nginx holds 100 connections for each of its'
-rm "$conf"
+# What bounds one address is there where the settings don't say 'none'.
+echo 'worker_connections 768;' >"$conf"
+mkdir -p root/var/lib/rooms-front
+: >root/var/lib/rooms-front/connections.nft
+echo active >bounded
+checks 'a bound for one address' 0 'rooms OK - office'
+echo failed >bounded
+checks 'none' 1 "one address can take all connections of nginx's, and keep others out: systemctl"
+rm "$conf" root/var/lib/rooms-front/connections.nft
 
 # Settings that are refused are said of their room, and the other one is looked at.
 sed 's/^UNIT=.*/UNIT=rooms@other/; s/^PORT=.*/PORT=much/' root/etc/rooms/office.conf \

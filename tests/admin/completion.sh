@@ -72,3 +72,8 @@ offers 'what is done with a user' remove rooms-admin user re
 offers 'a name of a user is not known' '' rooms-admin user add con
 offers 'a room of a user' conf rooms-admin user add eve --room con
 offers 'a backup that goes out' 'latest latest.tar' rooms-admin export --backup lat
+offers 'a backup that is asked' 'latest latest.tar' rooms-admin who --backup lat
+offers 'a room that is asked' conf rooms-admin lists --room con
+offers 'a place of a room is not known' '' rooms-admin lists con
+offers 'nor is it behind an option' '' rooms-admin who --change con
+offers 'nor that of a backup' '' rooms-admin backups --with con

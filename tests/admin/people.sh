@@ -284,7 +284,7 @@ ended_well 'once more, by hand'
 holds 'says the same' diff -r first "$web/mine"
 mv "$night/review.csv" kept
 room_verb mine
-says 'without a review' 0 "review.csv isn't there, so the review is made now"
+says 'without a review' 0 "review.csv isn't there, so it is made now"
 for file in first/*; do
   without_date "$file" >wanted
   without_date "$web/mine/${file##*/}" >got

@@ -110,6 +110,7 @@ holds 'nothing is owed' [ -z "$(ls run)" ]
 hours() { (cd backups/conf/hours && ls); }
 hour() { hours | sed -n "$1p"; }
 earlier() { # FOLDER SECONDS: as if it had been made so long before
+  touch -d "$2 seconds ago" "backups/conf/hours/$1/run"
   mv "backups/conf/hours/$1" "backups/conf/hours/$(date -d "$2 seconds ago" +%F.%H%M%S)"
 }
 set_value HOURS 2

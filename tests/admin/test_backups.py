@@ -16,7 +16,7 @@ from rooms_admin.host import locks, safe, tempdirs, waiting  # noqa: E402
 from rooms_admin.room import (backups, dump, program, published, server,  # noqa: E402
                               settings, tidying)
 from rooms_admin.room.backups import Backup  # noqa: E402
-from rooms_admin.verbs import latest, listed, people  # noqa: E402
+from rooms_admin.verbs import hours, latest, listed, people  # noqa: E402
 
 
 class Folder(unittest.TestCase):
@@ -48,6 +48,42 @@ class Folder(unittest.TestCase):
                 with open(f"{place}/{file}", "w", encoding="ascii") as made:
                     made.write(text)
         return place
+
+
+class Hours(Folder):
+    """Hourly copies, by when they were made."""
+
+    def made(self, name: str, at: float, number: int) -> Backup:
+        place = self.backup(f"hours/{name}", number)
+        os.utime(f"{place}/run", (at, at))
+        return hours.found(self.room).backups[-1]
+
+    def test_one_is_due_after_an_hour(self) -> None:
+        self.assertTrue(hours.is_due([], 0))
+        made = self.made("2026-11-02.100000", 1_000_000, 1)
+        for after, is_due in ((0, False), (3599, False), (3600, True), (-59, False), (-61, True)):
+            self.assertEqual(hours.is_due([made], 1_000_000 + after), is_due, after)
+
+    def test_an_hour_that_a_night_has_twice(self) -> None:
+        """Its name is the same in both; none is due in the next minutes of either."""
+        for number, at in ((1, 1_792_888_200), (2, 1_792_891_800)):
+            made = self.made("2026-10-25.023000", at, number)
+            self.assertFalse(hours.is_due([made], at + 300))
+            self.assertTrue(hours.is_due([made], at + 3600))
+
+    def test_one_without_a_number(self) -> None:
+        place = self.backup("hours/2026-11-02.100000")
+        os.utime(place, (1_000_000, 1_000_000))
+        self.assertTrue(hours.is_due(hours.found(self.room).backups, 1_003_600))
+
+    def test_what_they_want(self) -> None:
+        """A further one is made before the oldest goes, and only beside as much again."""
+        with open(self.room.file, "w", encoding="ascii") as file:
+            file.truncate(1000)
+        for kept, wanted in ((0, 4000), (1, 3000), (2, 2000), (3, 2000), (9, 2000)):
+            self.room.hours = 3
+            copies = [Backup(number, "x", "/") for number in range(kept)]
+            self.assertEqual(hours.wants(self.room, copies), wanted + hours.SPARE, kept)
 
 
 class Found(Folder):
@@ -121,7 +157,7 @@ class Found(Folder):
                           "5.040000/office.rooms is not root's alone"])
         said = io.StringIO()
         with contextlib.redirect_stdout(said), contextlib.redirect_stderr(io.StringIO()):
-            given = argparse.Namespace(room=self.room.conf, json=False)
+            given = argparse.Namespace(room=self.room.conf, json=False, wanted="")
             self.assertEqual(listed.run(given), 1)
         self.assertEqual(said.getvalue(), f"     5      1 MB  {good}  without records.csv, "
                          "lists.txt, review.csv\n")

@@ -219,7 +219,7 @@ class Places(unittest.TestCase):
     def test_what_is_no_review(self) -> None:
         for bad in ("", "at,user\n", "path,kind,user,rights,remove\n/,folder,bob\n",
                     'path,kind,user,rights,remove\n"/,folder,bob,r,no\n'):
-            with self.assertRaises((ValueError, places.csv.Error)):
+            with self.assertRaisesRegex(report.Stop, "the review can't be read"):
                 places.places(io.StringIO(bad, newline=""))
 
 

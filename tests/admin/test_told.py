@@ -210,6 +210,8 @@ class Words(unittest.TestCase):
         self.assertEqual(self.typed("add x --groups a,b").groups, ["a", "b"])
         self.assertEqual(self.typed("remove -x --to alice hr"),
                          user.Words("remove", "-x", "hr", [], "", "alice"))
+        self.assertEqual(self.typed("add x --random --first --groups a"), user.Words(
+            "add", "x", "office", ["a"], "", "", is_first=True, is_random=True))
         self.assertEqual(self.typed("add --file f -r hr"),
                          user.Words("add", "", "hr", [], "f", ""))
 
@@ -217,7 +219,7 @@ class Words(unittest.TestCase):
         for bad in ("", "add", "remove", "add a b c", "add --groups", "add a --groups", "list a",
                     "add a --to b", "remove a --groups b", "add a --groups b --file f",
                     "remove --file f", "add a --groups x,", "add jürgen", "add a -x",
-                    "add --file f a b"):
+                    "add --file f a b", "add --file f --random", "remove a --random"):
             with self.assertRaises(Refused, msg=bad):
                 self.typed(bad)
 

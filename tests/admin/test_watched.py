@@ -1,4 +1,4 @@
-"""Parts of check, tell and user that need no room."""
+"""Parts of check and tell that need no room."""
 import os
 import socketserver
 import sys
@@ -11,25 +11,8 @@ import unittest.mock
 sys.path.insert(0, os.path.join(os.path.dirname(__file__), "..", "..", "admin"))
 
 from rooms_admin.host import locks, mail  # noqa: E402
-from rooms_admin.room import health, members, server, settings  # noqa: E402
+from rooms_admin.room import health, server, settings  # noqa: E402
 from rooms_admin.verbs import mail_failure, watched  # noqa: E402
-
-LISTS = b"""folder bob staff /
-dacl
-list:a
-A:fd:bob:r
-A:g:bob:r
-A::OWNER@:rw
-sacl
-list:a
-U::bob:r
-document alice bob 7 /bob
-dacl
-list:a
-A:fdI:a.bob:r
-member staff bob
-member bob alice
-"""
 
 
 class Answers(socketserver.StreamRequestHandler):
@@ -122,6 +105,20 @@ class Watched(unittest.TestCase):
             there.server_close()
             self.assertEqual(told("SOCKET="), "")
 
+    def test_why_there_are_no_earlier_nights(self) -> None:
+        room = settings.Room(conf="/etc/rooms/office.conf", file="/f/F", port="8780", owner=0,
+                             group=0, backups="/b", unit="rooms@office", program="/bin/true")
+        self.assertEqual(watched.see_nights(room), [(0, "no earlier nights, since it has a port")])
+        room.socket = True
+        for place, told in (("/var/backups/rooms", ""), ("/", ""), ("/homes", ""), ("/b", ""),
+                            ("/home", "/home"), ("/var/lib/x", "/var/lib"),
+                            ("/var/backups/../../root", "/root"), ("/var/tmp", "/var/tmp")):
+            room.backups = place
+            self.assertEqual(watched.see_nights(room), [
+                (0, f"no earlier nights, since BACKUPS is below {told}")] if told else [])
+        room.earlier = "no"
+        self.assertEqual(watched.see_nights(room), [])
+
     def test_a_server_that_groups_have_left(self) -> None:
         """Its check says what starts it."""
         room = settings.Room(conf="/etc/rooms/office.conf", file="/f/F", port="8780", owner=0,
@@ -135,12 +132,6 @@ class Watched(unittest.TestCase):
             self.assertEqual(watched.see_answer(room), [
                 (2, "rooms@office was stopped while groups were changed, and that was cut off: "
                  "rooms-admin groups --after --room office")])
-
-    def test_lines_that_name_a_user(self) -> None:
-        self.assertEqual(list(members.of_user(LISTS, "bob")),
-                         ["folder bob staff /", "A:fd:bob:r", "U::bob:r", "member staff bob"])
-        self.assertEqual(list(members.of_user(LISTS, "a.bob")),
-                         ["document alice bob 7 /bob", "A:fdI:a.bob:r"])
 
     def test_who_is_mailed(self) -> None:
         with tempfile.TemporaryDirectory() as home:

@@ -338,12 +338,14 @@ asks_as 204 alice PUT /dacl/letters list:ap
 asks_as 403 alice GET /folder/letters
 types 'somebody is locked out' docs/people 'office.rooms /letters dacl'
 asks_as 200 alice GET /folder/letters
-types 'the list of the night' docs/people 'here && dacl'
+types 'the list of the night' docs/people '=rooms-admin lists /letters'
 shows 'is printed' A:fdg:staff:rwaxtc A:fi:OWNER@:d
-types 'who can read this folder' docs/people 'rooms review'
-shows 'alice, and staff' '/letters,folder,alice,rwanNxDtThHdcCoy,yes'
-types 'who could change it' docs/people "at='/projects'"
-types 'a new password' docs/people '=rooms-admin user add bob' docs/people 'tr -dc' \
+types 'who can read this folder' docs/people '=rooms-admin who /letters'
+shows 'alice alone' 'alice  rwanNxDtThHdcCoy  remove  by A:fd:alice:rwanNxDtThHdcCoy' \
+  'every other name  nothing'
+types 'who could change it' docs/people '=rooms-admin who --change /projects'
+shows 'alice' '/projects  alice  Co  remove  by '
+types 'a new password' docs/people '=rooms-admin user add bob' docs/people 'add bob --random' \
   docs/people 'user add bob --first'
 
 # In and out.
@@ -358,7 +360,7 @@ does 'as it was' 'cmp "share/ a /b " "out/ a /b "'
 # Several rooms.
 types 'a second room' docs/machines 'rooms-admin add --title'
 does 'a password counts' 'curl -sf -u carol:typed http://127.0.0.1/invoices/me >/dev/null'
-types 'a program' docs/people 'openssl rand'
+types 'a program' docs/people 'user add archive'
 
 # A directory, tickets, sessions.
 # What alice gets with the password of nginx's own file, once nobody remembers anything.
@@ -420,7 +422,7 @@ types 'how much memory it has' docs/capacity MemoryCurrent
 statuses=1
 types 'how full it is' docs/capacity 'restart rooms-full@office'
 shows 'is said' '0 MB of 384 are in use'
-types 'who was here' docs/personal records.csv
+types 'who was here' docs/personal 'rooms-admin records'
 statuses=1
 types 'by the log too' docs/personal 'zgrep'
 types 'old records' docs/capacity 'DELETE FROM audits'
@@ -443,8 +445,8 @@ shows 'is put back' 204
 edit=s/2026-11-20.040000/$backup/
 types 'a folder of it' docs/backup 'rooms-admin export --backup'
 shows 'is written' 'left out 0'
-where=/var/backups/rooms/office/$backup
-types 'the longest list' docs/operating 'where = at'
+types 'the longest list' docs/operating 'lists --longest'
+shows 'has an object' ' entries in the dacl of '
 
 # Upgrades, and the way back.
 statuses='[12]'

@@ -76,11 +76,23 @@ for words in 'backup office' 'standby office' 'user add dana --groups staff'; do
   gets_in "after $words" bob 200
 done
 
-# In the place of a disk that hangs, the run itself does.
+# In the place of a disk that hangs, the run itself does, once it has a copy to verify: it waits
+# there until it is held.
 does 'a backup, which tells of the one that was cut off' 'rooms-admin backup || :'
-does 'a run that hangs' "rooms-admin backup >/dev/null 2>&1 & run=\$!
-  for turn in \$(seq 2000); do pgrep -f 'rooms veri[f]y' >/dev/null && break; done
-  kill -STOP \$run; timeout 50 rooms-admin user remove eve &&
+cat >"$machine/usr/local/bin/slow-rooms" <<'END2'
+#!/bin/sh
+if [ "$1" = verify ]; then
+  : >/srv/held/waits
+  until [ -e /run/goes-on ]; do sleep 0.1; done
+fi
+exec /usr/bin/rooms "$@"
+END2
+chmod 755 "$machine/usr/local/bin/slow-rooms"
+does 'a run that hangs' "echo PROGRAM=/usr/local/bin/slow-rooms >>/etc/rooms/office.conf
+  mkdir -m 1777 /srv/held; rooms-admin backup >/dev/null 2>&1 & run=\$!
+  until [ -e /srv/held/waits ]; do sleep 0.1; done
+  kill -STOP \$run; sed -i '\$d' /etc/rooms/office.conf; touch /run/goes-on
+  timeout 50 rooms-admin user remove eve &&
     timeout 50 rooms-admin restore --start latest; echo \$?
   kill -CONT \$run; wait \$run; :"
 holds 'keeps nobody from being shut out' grep -q '^no password for eve any more' "$work/out"

@@ -1,7 +1,8 @@
 # Passwords that a directory checks: rooms-admin setup --directory, and a room behind nginx, Apache
-# and slapd.
+# and slapd; its earlier nights, with groups of the directory.
 
-. "$here/lib/front.sh"
+room_file=F
+. "$here/lib/earlier.sh"
 . "$here/lib/directory.sh"
 . "$here/lib/machine.sh"
 top=$here/..
@@ -92,6 +93,7 @@ if ! {
   for name in alice bob carol reader Zoe jürgen 'anna maria'; do person "$name" "$name-word"; done
   person dana dana-word 'employeeType: gone'
   group accounting bob
+  group sales bob
 } | load_directory || ! start_directory; then
   skip 'passwords of a directory' "$why"
   return
@@ -198,6 +200,54 @@ holds 'its own passwords count no more, once they are forgotten' \
   awaits 60 answers 401 Carol:c /invoices/me
 ask 'the room office lets carol in' 200 - carol:carol-word /me
 
+# Earlier nights, in the names of the directory, with its groups of then and of now.
+takes_groups() { # of the directory, by a server that rests
+  PATH=$PWD/bin:$PATH ROOMS_RUN=$PWD/run ROOMS_ROOT=$PWD/root \
+    "$repo/admin/rooms-admin" groups -r "$PWD/machine/etc/rooms/office.conf" \
+    >"$work/out" 2>"$work/err"
+  status=$?
+  holds "groups: $(head -c 300 "$work/err")" [ "$status" = 0 ]
+}
+if lacks_earlier || ! /usr/bin/python3 -c 'import ldap' 2>/dev/null; then
+  skip 'earlier nights with a directory' 'no root, or setpriv, python3, python3-ldap is missing'
+else
+  mkdir bin
+  printf '%s\n' '#!/bin/sh' 'echo inactive; exit 3' >bin/systemctl
+  chmod 755 bin/systemctl
+  echo 'group sales = sales' >machine/etc/rooms/office.groups
+  { good | sed s/^BASE=ou=people,/BASE=/; echo MEMBERS=member; } >machine/etc/rooms/directory
+  show_nights
+  at_rest takes_groups
+  room_does root /folder/sales -X POST
+  list_of /sales list:a A:fdg:sales:rxt A:fd:Zoe:rxwadDt
+  room_does root /doc/sales/offer -X PUT --data-binary 'offer one'
+  room_does Zoe /doc/sales/hers -X PUT --data-binary 'of Zoe'
+  at_rest keep_night 2026-11-01.030000 1
+  night=/earlier/2026-11-01.030000
+  room_does root /doc/sales/offer -X PUT --data-binary 'offer two'
+  room_does Zoe /object/sales/hers -X DELETE
+  ask 'the nights' 200 - bob:bob-word /earlier/nights
+  for name in bob BOB; do
+    ask "a document for $name, of a group" 200 'offer one' $name:bob-word $night/doc/sales/offer
+  done
+  ask 'what is gone, for who is in no group' 200 'of Zoe' zoe:Zoe-word $night/doc/sales/hers
+  ask 'and for nobody else' 403 '{"why":"now"}' bob:bob-word $night/doc/sales/hers
+  ask 'a wrong password' 401 - bob:x $night/doc/sales/offer
+  for name in jürgen 'anna maria'; do
+    ask "no name of a room, $name" 400 '{"why":"bad-user"}' "$name:$name-word" /earlier/nights
+  done
+  # Bob leaves the group, and Carol comes to it.
+  {
+    printf '%s\n' "dn: $(group_dn sales)" 'changetype: modify' 'replace: member' \
+      'member: uid=carol,ou=people,dc=example,dc=net'
+  } >change.ldif
+  as_root_of_directory ldapmodify -f change.ldif || fail 'a group changes' "$(cat said)"
+  at_rest takes_groups
+  ask 'who left' 403 '{"why":"now"}' bob:bob-word $night/doc/sales/offer
+  ask 'who came reads it now' 200 'offer two' carol:carol-word /doc/sales/offer
+  ask 'and sees no night from before' 403 '{"why":"now"}' carol:carol-word $night/doc/sales/offer
+fi
+
 # A password that is changed: the old one counts for as long as two memories of ten seconds.
 as_root_of_directory ldappasswd -s new-word uid=bob,ou=people,dc=example,dc=net
 began=$SECONDS
@@ -236,6 +286,7 @@ holds 'a directory that hangs' awaits "$patience" answers 503 nobody:x /doc/f
 stop_directory
 holds 'a directory that is down' awaits "$patience" answers 503 nobody:y /doc/f
 holds 'also for whom it knew' awaits 60 answers 503 alice:alice-word /doc/f
+ask 'no night is shown meanwhile' 503 - alice:alice-word /earlier/nights
 ask 'no password is still asked for' 401 - '' /doc/f
 start_directory || fail 'the directory again' "$why"
 holds 'a directory that is back' awaits "$patience" answers 200 alice:alice-word /doc/f

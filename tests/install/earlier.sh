@@ -1,5 +1,6 @@
-# Earlier nights on an installed machine, under systemd: a document that was removed comes back, and
-# what a program in the place of each service can do.
+# Earlier nights on an installed machine, under systemd: a document that was removed comes back;
+# what is shown after another machine has taken over; and what a program in the place of each
+# service can do.
 
 top=$here/..
 version=none
@@ -75,6 +76,44 @@ does 'units with faults' 'systemctl reset-failed "rooms-tell*"
 holds "there are none: $(cat "$work/out")" [ ! -s "$work/out" ]
 does 'what the logs have' 'journalctl -t rooms-nights -t rooms-earlier --no-pager -o cat'
 holds "no line: $(head -n 3 "$work/out")" eval '! grep -q -e failed -e Traceback "$work/out"'
+
+# Another machine takes over, as docs/machines.md says. It is played by this one, without its rooms
+# and backups; the settings were copied beforehand.
+does 'hourly copies' 'sed -i s/^HOURS=.*/HOURS=2/ /etc/rooms/office.conf && rooms-admin standby &&
+  ls /var/backups/rooms/office/hours'
+hour=$(tail -n 1 "$work/out")
+is 'one is a night too' yesterday "curl -s $bob $at/earlier/$hour/doc/letter"
+is 'what came after the last copy' 201 "$web $bob $at/doc/late -X PUT --data-binary x"
+does 'the old machine ends' '
+  systemctl disable --now rooms@office rooms-{nightly,standby,directory}@office.timer
+  mkdir /srv/old && mv /var/lib/rooms/* /srv/old && mv /var/backups/rooms /srv/backups &&
+  mkdir -p -m 700 /var/backups/rooms /var/backups/rooms/standby &&
+  cp -p /srv/backups/office/standby/office.rooms /var/backups/rooms/standby'
+block docs/machines.md 'rooms-admin restore /var/backups/rooms/standby' >"$machine/root/pasted"
+does 'the other one takes over' 'bash -eu pasted'
+until_inside 'and serves the room' "[ \"\$($web $bob $at/doc/letter)\" = 200 ]"
+is 'as it was copied last' 404 "$web $bob $at/doc/late"
+is 'without a night of before' '{"gone":"owners","nights":[]}' "curl -s $bob $at/earlier/nights"
+is 'and none is shown' 404 "$web $bob $at/earlier/$night/doc/letter"
+inside 'rooms-admin check'
+told 'nor an hourly copy: it is told' 1 \
+  'no hourly copy: systemctl enable --now rooms-standby@office.timer' 'no backup yet: '
+does 'backups of the old one are brought' 'mkdir -m 700 /var/backups/rooms/office &&
+  cp -a /srv/backups/office/{20*,hours} /var/backups/rooms/office'
+for one in "$night" "$hour"; do
+  is 'it is shown' yesterday "curl -s $bob $at/earlier/$one/doc/letter"
+done
+does 'a night and an hourly copy of its own' 'systemctl start rooms-nightly@office &&
+  touch -d "2 hours ago" /var/backups/rooms/office/hours/*/run && rooms-admin standby'
+is 'are shown beside them' 4 "curl -s $bob $at/earlier/nights | grep -o '\"night\"' | wc -l"
+does 'nothing of it is as no run leaves it' 'rooms-admin backups'
+holds 'which would be told' [ ! -s "$work/err" ]
+does 'EARLIER_FROM' "sed -i s/^EARLIER_FROM=.*/EARLIER_FROM=\$(date -d '1 day' +%F)/ \
+  /etc/rooms/office.conf"
+is 'hides nights here too' '{"gone":"owners","nights":[]}' "curl -s $bob $at/earlier/nights"
+is 'all of them' 404 "$web $bob $at/earlier/$night/doc/letter"
+does 'without it' 'sed -i s/^EARLIER_FROM=.*/EARLIER_FROM=/ /etc/rooms/office.conf'
+is 'they are shown again' yesterday "curl -s $bob $at/earlier/$night/doc/letter"
 
 # A program of somebody else's in the place of each service.
 cp "$here/install/probe.py" "$machine/usr/local/lib/probe.py"

@@ -419,6 +419,16 @@ curl -s -o "$work/body" -w '%{http_code}\n' -u alice:a "$base/style.css?[1-500]"
 holds 'a page that asks for much meets no limit' [ "$(awk '{ print $1, $2 }' asked)" = '500 200' ]
 curl -s -o "$work/body" -w '%{http_code}\n' "$base/doc/f?[1-100]" | sort | uniq -c >asked
 holds 'what has no password is asked for one' [ "$(awk '{ print $1, $2 }' asked)" = '100 401' ]
+# Nor do these wait for one another. (The machine may be busy itself, so one of three is enough.)
+waited=20
+for turn in 1 2 3; do
+  curl -s -Z --parallel-max 20 -o "$work/body" -w '%{time_total}\n' "$base/doc/f?[1-20]" \
+    >times 2>said
+  less=$(awk '$1 > 0.4' times | wc -l)
+  [ "$less" -ge "$waited" ] || waited=$less
+done
+holds "many at once who have none: $waited of $(wc -l <times) waited" \
+  [ "$waited" -le 2 -a "$(wc -l <times)" = 20 ]
 says_all bob:b /doc/f '; sandbox'
 # A room is taken away: nobody gets to it, and its file stays.
 holds 'it is taken away' adds remove invoices

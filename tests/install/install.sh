@@ -33,7 +33,8 @@ for file in /usr/local/bin/rooms \
   /usr/local/sbin/rooms-directory /usr/local/share/rooms/directory.apache \
   /usr/local/share/rooms/signed-in /etc/systemd/system/rooms-passwords.service \
   /etc/systemd/system/rooms-directory@.timer /etc/systemd/system/nginx.service.d/rooms.conf \
-  /etc/systemd/system/nftables.service.d/rooms.conf \
+  /etc/systemd/system/rooms-connections.service /usr/local/share/rooms/connections.nft.in \
+  /var/lib/rooms-front/connections.nft /usr/local/lib/rooms/rooms-table \
   /etc/tmpfiles.d/rooms.conf /usr/local/sbin/rooms-admin \
   /usr/local/sbin/rooms-setup /usr/local/share/rooms/rooms_admin/site/template.py \
   /usr/local/share/rooms/site.conf.in /usr/local/share/rooms/room.conf.in \
@@ -379,7 +380,7 @@ loads() { # NAME WANTED, for what is in ./etc/rooms, which goes
   holds "the ports of $1" [ "$?$(cat asked/words)" = "0$2" ]
   rm -f etc/rooms/*
 }
-table='systemctl reload-or-restart rooms-firewall.service'
+table='systemctl start rooms-firewall.service'
 loads 'no room' ''
 printf '%s\n' FILE=F SOCKET=yes PORT=8780 | tee etc/rooms/office.conf >etc/rooms/hr.conf
 loads 'rooms with sockets' ''

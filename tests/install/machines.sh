@@ -7,7 +7,7 @@ if [ "$loopback" = no ] || ! has curl || ! has openssl ||
   skip 'a room on another machine' 'no loopback, or no curl, openssl, nginx'
   return
 fi
-. "$here/lib/front.sh"
+. "$here/lib/earlier.sh"
 top=$here/..
 if [ "$(id -u)" != 0 ] || ! has unshare || ! unshare --mount true 2>/dev/null; then
   skip 'a room on another machine' 'no root, or no unshare'
@@ -140,6 +140,8 @@ write_nginx() { # MACHINE ADDRESS
       -e "s#/run/rooms-front#$PWD/$1/t#; s#/var/lib/rooms-\(front\|passwords\)#$PWD/$1&#" \
       -e "s#b.example:8443#b.example:$secure#" -e "s#unix:/run/rooms/#unix:$PWD/$1/run/rooms/#" \
       -e "s#unix:/run/rooms-door/#unix:$PWD/$1/run/door/#" \
+      -e "s#unix:/run/rooms-earlier/#unix:$PWD/$1/run/rooms-earlier/#" \
+      -e "s/_read_timeout 60s;/_read_timeout 8s;/" \
       -e "s#/run/rooms-full#$PWD/$1/full#" "$file"
   done
   {
@@ -177,6 +179,7 @@ set_list F / dacl list:a "A:fd:carol:$ALL" A:fd:bob:rx
 : >listens
 mkdir -p "$room"
 starts at_b sh -c "exec '$rooms' serve F --socket '$room/socket' --count 100000 >listens"
+server_b=${started[-1]}
 within 'a server at B' [ -s listens ]
 printf 'carol:{PLAIN}c\nbob:{PLAIN}b\n' >A/var/lib/rooms-passwords/rooms-invoices.htpasswd
 chmod 644 A/var/lib/rooms-passwords/rooms-invoices.htpasswd
@@ -249,6 +252,50 @@ gets 'a full room there' 507 - carol:c /doc/a/x -X PUT --data-binary x
 gets 'is read' 200 x carol:c '/doc/a/%C3%B6%20%C3%9F'
 rm -r B/full
 
+# Its earlier nights are there too: backups of B, which its judge shows to whom A names.
+gets 'without who judges' 502 - bob:b /earlier/nights
+gets 'it is known that there are some' 204 '' bob:b /earlier/
+if lacks_earlier; then
+  skip 'earlier nights of a room on another machine' 'setpriv or python3 is missing'
+else
+  sed -i -e "s#^FILE=.*#FILE=$PWD/F#; s#^PROGRAM=.*#PROGRAM=$rooms#" \
+    -e "s#^BACKUPS=.*#BACKUPS=$PWD/kept#" B/etc/rooms/invoices.conf
+  gets 'a document' 201 '' carol:c /doc/a/plan -X PUT --data-binary 'the first plan'
+  gets 'one that goes' 201 '' carol:c /doc/a/gone -X PUT --data-binary 'removed later'
+  night=2026-11-01.030000
+  mkdir -m 700 -p kept kept/invoices "kept/invoices/$night"
+  kill -STOP "$server_b"
+  cp F F-wal "kept/invoices/$night"
+  kill -CONT "$server_b"
+  echo 'number 1' >"kept/invoices/$night/run"
+  chmod 600 "kept/invoices/$night"/*
+  gets 'it is changed' 204 '' carol:c /doc/a/plan -X PUT --data-binary 'the second'
+  gets 'it is removed' 204 '' carol:c /object/a/gone -X DELETE
+  chgrp www-data "$room" "$room/socket"
+  chmod 711 B B/run B/run/rooms
+  chmod 770 "$room" "$room/socket"
+  start_earlier B
+  gets 'a night of it' 200 - bob:b /earlier/nights
+  holds 'is that one' grep -qF "\"night\":\"$night\"" "$work/body"
+  gets 'a document as it was' 200 'the first plan' carol:c "/earlier/$night/doc/a/plan"
+  gets 'what is gone, for whom A names' 200 'removed later' carol:c "/earlier/$night/doc/a/gone"
+  gets 'and not for bob' 403 '{"why":"now"}' bob:b "/earlier/$night/doc/a/gone"
+  gets 'who says carol' 403 '{"why":"now"}' bob:b "/earlier/$night/doc/a/gone" -H 'Room-User: carol'
+  gets 'nobody without a password' 401 - '' "/earlier/$night/doc/a/plan"
+  gets 'another method' 405 - carol:c "/earlier/$night/doc/a/plan" -X PUT --data-binary x
+  gets 'no such night' 404 '{"why":"no-night"}' bob:b /earlier/2026-11-02.030000/doc/a/plan
+  ${at_a[@]+"${at_a[@]}"} curl -s -D head -o "$work/body" -u bob:b "$base/earlier/$night/doc/a/plan"
+  holds 'it is a file' [ "$(grep -cx $'Content-Disposition: attachment\r' head)" = 1 ]
+  holds 'and no page of the site' grep -q '^Content-Security-Policy: .*; sandbox' head
+  # To open a night may take longer than any request to a room.
+  kill -STOP "$(supervisor)"
+  (sleep 10; kill -CONT "$(supervisor)") &
+  gets 'a night that takes long' 200 'the first plan' carol:c "/earlier/$night/doc/a/plan"
+  wait $!
+  sed -i 's/^EARLIER=.*/EARLIER=no/' B/etc/rooms/invoices.conf
+  gets 'B shows none any more' 404 '{"why":"no-earlier"}' bob:b /earlier/nights
+fi
+
 # Who else reaches B's port: what they get, and never a document.
 machines=$PWD/A/etc/rooms/machines
 signed() { # NAME AUTHORITY: a certificate for that name, by an authority
@@ -313,6 +360,7 @@ gets 'gets no request' 502 - carol:c /folder/
 holds 'since its name is another' \
   grep -q 'upstream SSL certificate does not match "b.example"' A.log
 stop_machines
+stop_others
 drop_spaces
 
 # A machine whose room another one has taken over, and what is enabled there.

@@ -41,6 +41,9 @@ same 'they stay' "$work/out" wanted
 does 'what the log has' 'journalctl -t rooms-own-password --no-pager -o cat'
 holds 'a line for each change' [ "$(grep -c 'alice of office has a new password' "$work/out")" = 2 ]
 holds 'and no password' eval '! grep -q -e gravel -e chosen -e given "$work/out"'
+does 'what is counted of tries' 'cd /run/rooms-own-password/tries && touch -d "2 hours ago" older &&
+  systemd-tmpfiles --clean rooms.conf && ls'
+holds 'goes once it counts no more' eval 'grep -q . "$work/out" && ! grep -q older "$work/out"'
 does 'a verb of root' 'rooms-admin user remove alice --password'
 sleep 11
 is 'ends it' 401 "$web -u 'alice:gravel under bridges' http://127.0.0.1/"

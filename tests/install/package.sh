@@ -58,6 +58,7 @@ for file in usr/bin/rooms usr/bin/rooms-import usr/bin/rooms-export usr/sbin/roo
   usr/share/bash-completion/completions/rooms-nightly $docs/docs/operating.md $docs/CHANGELOG.md \
   $docs/copyright $units/rooms-door@.service usr/share/rooms/rooms_services/door/__main__.py \
   usr/share/rooms/door.conf.in usr/share/rooms/proxy.conf.in usr/share/rooms/earlier.conf.in \
+  usr/share/rooms/proxied.conf.in usr/share/rooms/scgi.conf.in \
   $units/rooms-earlier.service $units/rooms-earlier.socket $units/rooms-nights.service \
   $units/rooms-nights.socket usr/share/rooms/rooms_services/earlier/judge.py; do
   holds "$file is in it" [ -s "files/$file" ]
@@ -509,6 +510,6 @@ same 'Apache is told where the file is now' found wanted
 holds 'the file is there' [ -s "$machine/usr/share/rooms/signed-in" ]
 does 'what was enabled' "[ ! -e rooms.units ] &&
   readlink -e /etc/systemd/system/*.wants/rooms* | sed 's#.*/systemd/system/##'"
-prints 'is so again, by the units of the package' rooms-passwords.service rooms@.service \
-  rooms-earlier.socket rooms-nights.socket rooms-own-password.socket rooms-directory@.timer \
-  rooms-nightly@.timer rooms-standby@.timer
+prints 'is so again, by the units of the package' rooms-connections.service \
+  rooms-passwords.service rooms@.service rooms-earlier.socket rooms-nights.socket \
+  rooms-own-password.socket rooms-directory@.timer rooms-nightly@.timer rooms-standby@.timer

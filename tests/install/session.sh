@@ -1,9 +1,11 @@
 # Sessions by OpenID Connect, by the blocks of directory.md: a small provider, Apache, nginx and a
-# room.
+# room, with its earlier nights.
 
-. "$here/lib/front.sh"
+room_file=F
+. "$here/lib/earlier.sh"
 . "$here/lib/directory.sh"
 . "$here/lib/machine.sh"
+. "$here/lib/session.sh"
 top=$here/..
 missing=()
 for tool in python3 openssl curl nginx; do
@@ -15,50 +17,22 @@ if [ "${#missing[@]}" != 0 ] || [ "$loopback" = no ]; then
   skip 'sessions by OpenID Connect' "no loopback, or missing: ${missing[*]}"
   return
 fi
-pasted() { # TEXT-IN-THE-BLOCK: a block of the page, in this folder
-  block docs/directory.md "$1" |
-    sed -e "s#/etc/rooms/\(office.conf\|passwords.key\)#$PWD/machine&#g" \
-      -e "s# /etc/\(nginx\|rooms\|systemd/system\)/# $PWD/#g" \
-      -e "s#>/etc/\(rooms\|systemd/system\)/#>$PWD/#g; s#127.0.0.1:8777#127.0.0.1:$apache#" \
-      -e "s#rooms-admin setup#$installed/sbin/& --destdir $PWD/machine#" \
-      -e '/^apt-get /d; /^systemctl /d; /^nginx -t/d' >block
-  [ -s block ] || echo "echo no block with: $1 >&2; exit 1" >block
-  bash -eu block >"$work/out" 2>"$work/err" </dev/null ||
-    fail "the block with $1" "$(head -c 400 "$work/out" "$work/err")"
-}
-
 open_room F
-set_list F / dacl list:a "A:fd:root:$ALL" A:fd:alice:rwxa D:fd:carol:r A:fd:AUTHENTICATED@:rx
+set_list F / dacl list:a "A:fd:root:$ALL" A:fd:alice:rwxat D:fd:carol:r A:fd:AUTHENTICATED@:rx
 start_room F 100000 || return
 printf 'alice:{PLAIN}file\n' >rooms.htpasswd
-if ! openssl req -x509 -newkey ec -pkeyopt ec_paramgen_curve:P-256 -noenc \
-  -days 9 -subj /CN=rooms.example -addext subjectAltName=DNS:rooms.example -keyout rooms.key \
-  -out rooms.pem 2>/dev/null; then
+if ! certify_front; then
   skip 'sessions by OpenID Connect' 'no certificate'
   return
 fi
 start_front 'sessions by OpenID Connect' tls || return
-provider=$((port + 6))
 base=https://rooms.example:$secure
 # (HTTP/2 has its fields in small letters)
 reach=(--http1.1 --resolve "rooms.example:$secure:127.0.0.1" --cacert rooms.pem)
 
-# The provider, and Apache as the page has it, but for ports, folders and TLS.
-openssl genrsa -out provider.key 2048 2>/dev/null
+make_provider
 openssl genrsa -out other.key 2048 2>/dev/null
-says_claims() { printf '{"sub": "1", %s}\n' "$1" >claims; } # LINE
 says_claims '"preferred_username": "alice"'
-start_provider() { # [KEY-THAT-SIGNS]
-  local began=$SECONDS
-  python3 "$here/lib/provider.py" "$provider" provider.key claims "$@" >provider.out 2>&1 &
-  idp=$!
-  others+=("$idp")
-  until curl -s -o "$work/body" "http://127.0.0.1:$provider/keys" || ! kill -0 "$idp" 2>/dev/null ||
-    [ $((SECONDS - began)) -ge "$patience" ]; do
-    sleep 0.1
-  done
-  kill -0 "$idp" 2>/dev/null
-}
 stop_provider() {
   kill "$idp"
   wait "$idp" 2>/dev/null
@@ -67,29 +41,12 @@ start_provider || {
   skip 'sessions by OpenID Connect' "no provider: $(tail -n 1 provider.out)"
   return
 }
-pasted OIDCProviderMetadataURL
+write_sessions
 holds 'nobody else reads the secret' [ "$(stat -c %a session.apache)" = 600 ]
 holds 'the passphrase is random' grep -qE '^OIDCCryptoPassphrase [0-9a-f]{48}$' session.apache
 pasted '[Service]'
 holds 'the unit starts that' \
   grep -qx "ExecStart=/usr/sbin/apache2 -f $PWD/session.apache -DFOREGROUND" rooms-session.service
-sed -i -e "s#/run/rooms-session#$PWD/run#; s#^ErrorLog .*#ErrorLog $PWD/apache.log#" \
-  -e "s#https://id.example.net#http://127.0.0.1:$provider#" \
-  -e "s#https://rooms.example#$base#; s#/usr/share/rooms/signed-in#$repo/deploy/signed-in#" \
-  session.apache
-by_checker -i session.apache
-mkdir -p run
-start_sessions() {
-  local began=$SECONDS
-  rm -f run/pid
-  "$apache2" -f "$PWD/session.apache" -DFOREGROUND >apache.out 2>&1 &
-  httpd=$!
-  others+=("$httpd")
-  until [ "$(curl -s -o "$work/body" -w '%{http_code}' \
-    -H "$(key_of_nginx)" "http://127.0.0.1:$apache/rooms/session/rooms")" = 401 ] ||
-    ! kill -0 "$httpd" 2>/dev/null || [ $((SECONDS - began)) -ge "$patience" ]; do sleep 0.1; done
-  kill -0 "$httpd" 2>/dev/null
-}
 start_sessions || {
   skip 'sessions by OpenID Connect' "Apache doesn't start: $(head -c 300 apache.out apache.log)"
   return
@@ -104,12 +61,6 @@ reaches() { # STATUS ARGUMENT .. TARGET
 reloaded eval 'reaches 401 /doc/f && ! grep -q ^WWW "$work/head"'
 
 # A browser that has no session is led to the provider, and comes back to where it was.
-browser=(-H 'Accept: text/html,application/xhtml+xml')
-signs_in() { # JAR [TARGET]: the last answer is in $work/body, and where it ended in $ended
-  rm -f "$1"
-  ended=$(curl -s -m 60 -L -o "$work/body" -D "$work/head" -w '%{http_code} %{url_effective}' \
-    "${reach[@]}" "${browser[@]}" -b "$1" -c "$1" "$base${2-/folder/}")
-}
 holds 'who has no session is led away' reaches 302 "${browser[@]}" /doc/f
 holds 'to the provider' grep -q "^Location: http://127.0.0.1:$provider/in?" "$work/head"
 signs_in alice '/can/?r'
@@ -128,6 +79,24 @@ ask 'a program too' 401 - alice:file /doc/f
 ask 'the start page asks for none' 200 - '' /rooms/
 ask 'nobody asks for a check from outside' 404 - '' /rooms/session/rooms -b alice
 ask 'nor with another end' 404 - '' /rooms/session/ -b alice
+
+# Earlier nights are those of whoever has the session.
+night=/earlier/2026-11-01.030000
+if lacks_earlier; then
+  skip 'earlier nights with sessions' 'no root, or setpriv is missing'
+else
+  show_nights
+  at_rest keep_night 2026-11-01.030000 1
+  with alice 'it is changed' 204 '' /doc/f -X PUT --data-binary changed
+  with alice 'a document as it was' 200 hello $night/doc/f
+  with alice 'for nobody else' 200 hello $night/doc/f -H 'Room-User: root'
+  for who in '' alice:file; do ask "none without a session, $who" 401 - "$who" $night/doc/f; done
+  holds 'a browser is led away' reaches 302 "${browser[@]}" $night/doc/f
+  signs_in two $night/doc/f
+  holds 'and comes back to it' [ "$ended" = "200 $base$night/doc/f" ]
+  with alice 'it is as before' 204 '' /doc/f -X PUT --data-binary hello
+  sets office BACKUPS /var/backups/rooms
+fi
 
 # Apache answers nginx alone.
 for target in /rooms/session/rooms /rooms/signed-in /; do
@@ -224,6 +193,7 @@ cp two kept
 address=$(sed 's#:#%3A#g; s#/#%2F#g' <<<"$base/rooms/")
 holds 'signing out' reaches 302 -b two -c two "/rooms/signed-in?logout=$address"
 with two 'the session is over' 401 - /doc/f
+with two 'for earlier nights too' 401 - $night/doc/f
 with kept 'for a kept cookie too' 401 - /doc/f
 holds 'no other site is where one is sent' \
   eval '! reaches 302 -b alice "/rooms/signed-in?logout=http%3A%2F%2Felsewhere.example%2F"'

@@ -1,5 +1,6 @@
-# What a program can do in the place of a room's server, of the watch over its size, of its door and
-# of what sends mail, each under its own unit on a machine with the package.
+# What a program can do in the place of a room's server, of the watch over its size, of its door, of
+# what sends mail and of the Apaches that check passwords and sessions, each under its own unit on a
+# machine with the package.
 
 top=$repo
 version=none
@@ -15,31 +16,43 @@ cp "$here/install/probe.py" "$machine/usr/local/lib/probe.py"
 does 'what there is to find' 'echo key >/etc/ssl/private/probe.key
   chmod 600 /etc/ssl/private/probe.key; echo key >/etc/rooms/passwords.key
   chmod 600 /etc/rooms/passwords.key; chmod 1777 /var/tmp'
-probed() { # NAME UNIT-WITHOUT-INSTANCE INSTANCE WHAT-IT-CAN-DO ..
-  mkdir -p "$machine/etc/systemd/system/$2@.service.d"
-  printf '%s\n' '[Unit]' OnFailure= '[Service]' ExecCondition= ExecStart= ExecStartPost= \
-    Restart=no 'ExecStart=/usr/bin/python3 -I /usr/local/lib/probe.py' \
-    "SyslogIdentifier=probe-$2" >"$machine/etc/systemd/system/$2@.service.d/probe.conf"
-  does "$1" "systemctl stop $2@$3; systemctl daemon-reload; systemctl start $2@$3"
-  until_inside 'has ended' "[ \"\$(systemctl show $2@$3 -p ActiveState --value)\" = inactive ]"
-  inside "journalctl --sync; journalctl -t probe-$2 --no-pager -o cat"
-  printf '%s\n' "${@:4}" >wanted
+probed() { # NAME UNIT WHAT-IT-CAN-DO ..: who starts as root goes on as the user `becomes`
+  local folder=$machine/etc/systemd/system/${2%@*} word=
+  [[ $2 != *@* ]] || folder+=@
+  [ -z "${becomes-}" ] ||
+    word="/usr/bin/setpriv --reuid=$becomes --regid=$becomes --clear-groups "
+  mkdir -p "$folder.service.d"
+  printf '%s\n' '[Unit]' OnFailure= ConditionPathExists= '[Service]' ExecCondition= ExecStart= \
+    ExecStartPost= Restart=no "ExecStart=$word/usr/bin/python3 -I /usr/local/lib/probe.py" \
+    "SyslogIdentifier=probe-${2%@*}" >"$folder.service.d/probe.conf"
+  does "$1" "systemctl stop $2; systemctl daemon-reload; systemctl start $2"
+  until_inside 'has ended' "[ \"\$(systemctl show $2 -p ActiveState --value)\" = inactive ]"
+  inside "journalctl --sync; journalctl -t probe-${2%@*} --no-pager -o cat"
+  printf '%s\n' "${@:3}" >wanted
   same "$1: what it can do" "$work/out" wanted
-  does 'as it was' "rm /etc/systemd/system/$2@.service.d/probe.conf; systemctl daemon-reload"
+  rm "$folder.service.d/probe.conf"
+  does 'as it was' 'systemctl daemon-reload'
 }
-probed 'in the place of a door' rooms-door office \
+probed 'in the place of a door' rooms-door@office \
   'write /var/tmp' 'ask /run/rooms/office/socket' 'ask /run/rooms/invoices/socket'
-probed 'in the place of a watch' rooms-full office \
+probed 'in the place of a watch' rooms-full@office \
   'read /etc/rooms/office.conf' 'read /etc/nginx/nginx.conf' 'list /var/lib/rooms' \
   'list /var/log/nginx' 'write /run/rooms-full' 'write /var/tmp' \
   'ask /run/dbus/system_bus_socket'
 # It is the server itself: nobody listens in its place.
-probed 'in the place of a server' rooms office \
+probed 'in the place of a server' rooms@office \
   'read /etc/rooms/office.conf' 'read /etc/nginx/nginx.conf' 'list /var/lib/rooms' \
   'list /var/log/nginx' 'write /var/lib/rooms' 'write /var/tmp' \
   'ask /run/dbus/system_bus_socket' 'ask 127.0.0.1:80'
-probed 'in the place of what sends mail' rooms-tell probe \
+probed 'in the place of what sends mail' rooms-tell@probe \
   'read /etc/rooms/office.conf' 'read /etc/nginx/nginx.conf' 'list /var/log/nginx' \
   'write /var/tmp' 'write /dev/shm' 'ask /run/dbus/system_bus_socket' 'ask 127.0.0.1:80' \
   'make a file that runs as its owner' 'a namespace' 'see processes of others'
+# Apache's processes that answer: nginx believes what they say of a password or a session.
+becomes=rooms-passwords
+by_apache=('read /etc/rooms/office.conf' 'read /etc/nginx/nginx.conf' 'list /var/log/nginx'
+  'write /var/tmp' 'ask 127.0.0.1:80')
+probed 'in the place of what asks a directory' rooms-passwords "${by_apache[@]}"
+does 'the unit of the page' "$(block docs/directory.md '[Service]' | sed '/^systemctl /d')"
+probed 'in the place of what has sessions' rooms-session "${by_apache[@]}"
 stop_machine

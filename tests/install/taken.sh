@@ -1,5 +1,6 @@
-# A room's server that somebody has taken over, behind nginx: what it says is no page of the site,
-# and neither nginx nor a browser does for it what no room has them do.
+# A room's server that somebody has taken over, who judges earlier nights, or who changes passwords,
+# behind nginx: what they say is no page of the site, and neither nginx nor a browser does for them
+# what no room has them do.
 
 . "$here/lib/front.sh"
 if [ -z "$nginx" ] || ! has curl || ! has python3; then
@@ -8,6 +9,7 @@ if [ -z "$nginx" ] || ! has curl || ! has python3; then
 fi
 cat >liar.py <<'END'
 import http.server
+import re
 import socketserver
 import sys
 
@@ -38,26 +40,53 @@ class Liar(http.server.BaseHTTPRequestHandler):
         pass
 
 
+class Service(socketserver.StreamRequestHandler):
+    """By SCGI."""
+
+    def handle(self):
+        length = b""
+        while not length.endswith(b":"):
+            length += self.rfile.read(1)
+        fields = self.rfile.read(int(length[:-1]) + 1)
+        size = re.search(rb"CONTENT_LENGTH\0(\d+)", fields)
+        self.rfile.read(int(size[1]))
+        status = re.search(rb"/(\d{3})\0", fields)
+        said = {"Status": status[1].decode() if status else "200", "Content-Type": "text/html",
+                **FIELDS}
+        self.wfile.write("".join(f"{name}: {text}\r\n" for name, text in said.items()).encode()
+                         + b"\r\n" + PAGE)
+
+
 class Server(socketserver.ThreadingMixIn, socketserver.UnixStreamServer):
     pass
 
 
-Server(sys.argv[1], Liar).serve_forever()
+Server(sys.argv[1], Service if len(sys.argv) > 2 else Liar).serve_forever()
 END
-mkdir -p run/rooms/office
+mkdir -p run/rooms/office run/rooms-earlier
+lies_at() { # SOCKET [scgi]
+  python3 liar.py "$@" &
+  others+=("$!")
+  until [ -S "$1" ]; do sleep 0.05; done
+  chmod 777 "$1"
+}
 place=$PWD/run/rooms/office/socket
-python3 liar.py "$place" &
-others+=("$!")
-until [ -S "$place" ]; do sleep 0.05; done
-chmod 777 "$place"
+lies_at "$place"
+lies_at "$PWD/run/rooms-earlier/socket" scgi
+lies_at "$PWD/socket" scgi
 printf 'alice:{PLAIN}a\n' >rooms.htpasswd
 start_front 'a room that was taken over' || return
 page='<script src=/invoices/doc/evil.js></script>'
-for target in /folder/200 /doc/200 /can/403 /attr/302 /dacl/401; do
-  ask "$target comes as it is" "${target##*/}" "$page" alice:a "$target"
-  answer alice:a "$target"
-  holds "$target is no page of the site" grep -qxF "$policy; sandbox"$'\r' "$work/head"
+lies() { # STATUS TARGET ARGUMENT ..
+  ask "$2 comes as it is" "$1" "$page" alice:a "${@:2}"
+  answer alice:a "${@:2}"
+  holds "$2 is no page of the site" grep -qxF "$policy; sandbox"$'\r' "$work/head"
   grep -iE -e '^(X-Accel|Set-Cookie|Refresh|Location|WWW-Authenticate|Clear-Site-Data)' \
     -e '^(Alt-Svc|Service-Worker|Access-Control)' "$work/head" >found
-  same "$target has a browser do nothing" found /dev/null
+  same "$2 has a browser do nothing" found /dev/null
+}
+for target in /folder/200 /doc/200 /can/403 /attr/302 /dacl/401; do
+  lies "${target##*/}" "$target"
 done
+for status in 200 302 403; do lies "$status" "/earlier/2026-11-01.030000/doc/$status"; done
+lies 200 /password -X POST -H 'Content-Type: application/json' --data-binary '{}'

@@ -24,11 +24,27 @@ boot_machine() { # NAME OF WHAT IS SKIPPED
   return 1
 }
 
+# More words for systemd-nspawn, such as for users of its own. Its first process then can't write to
+# this machine's groups of processes, and has some of its own.
+boot_words=()
+own_groups() { echo /sys/fs/cgroup/{,systemd/,unified/}rooms-$$; }
+enter_groups() {
+  local one
+  for one in $(own_groups); do
+    [ ! -e "${one%/*}/cgroup.procs" ] ||
+      { mkdir -p "$one" && echo "$BASHPID" >"$one/cgroup.procs"; } 2>/dev/null
+  done
+}
+leave_groups() { find $(own_groups) -depth -type d -exec rmdir {} + 2>/dev/null; }
+
 # Boots it, and waits until its systemd says that all is started.
 boot() {
   local began=$SECONDS
-  systemd-nspawn --quiet --register=no --keep-unit --private-network --directory="$machine" --boot \
-    >booted 2>&1 </dev/null &
+  (
+    [ "${#boot_words[@]}" = 0 ] || enter_groups
+    exec systemd-nspawn --quiet --register=no --keep-unit --private-network --directory="$machine" \
+      ${boot_words[@]+"${boot_words[@]}"} --boot
+  ) >booted 2>&1 </dev/null &
   proxy=$!
   first=
   while kill -0 "$proxy" 2>/dev/null && [ $((SECONDS - began)) -lt "$patience" ]; do

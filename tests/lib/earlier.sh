@@ -3,6 +3,8 @@
 
 . "$here/lib/front.sh"
 night_user=64124 judge_user=64125
+# Today's room, in the folder of the case.
+room_file=${room_file-office.rooms}
 lacks_earlier() {
   [ -z "$nginx" ] || ! has curl || ! has setpriv || ! has python3 || [ "$(id -u)" != 0 ] ||
     [ "$loopback" = no ]
@@ -19,13 +21,13 @@ lets_nginx() {
 at_rest() { # COMMAND ..
   stop_server
   "$@"
-  start_room office.rooms 1000000 && lets_nginx
+  start_room "$room_file" 1000000 && lets_nginx
 }
 # A backup as a run leaves it; the room is stopped.
 keep_night() { # NAME NUMBER
   local folder=backups/office/$1
   mkdir -m 700 -p backups backups/office "$folder"
-  cp office.rooms office.rooms-wal "$folder/" 2>/dev/null
+  cp "$room_file" "$room_file-wal" "$folder/" 2>/dev/null
   echo "number $2" >"$folder/run"
   chmod 600 "$folder"/*
 }
@@ -36,7 +38,7 @@ copy_night() { # FROM TO NUMBER
 members() { # GROUP,USER ..
   printf '%s\n' group,user "$@" >groups.csv
   input=groups.csv
-  gives 'groups' 0 'groups 1, members 1\n' '' groups office.rooms groups.csv
+  gives 'groups' 0 'groups 1, members 1\n' '' groups "$room_file" groups.csv
   input=/dev/null
 }
 # What the room itself is asked, without nginx.
@@ -53,23 +55,24 @@ list_of() { # PATH LINE ..
 
 # A service at its socket, as its unit has it: $pids has the number of each process of it.
 service_at() { # NAME SOCKET-USER SOCKET-GROUP COMMAND ..
-  mkdir -p "run/rooms-$1"
-  chmod 711 "run/rooms-$1"
-  rm -f "run/rooms-$1/socket"
+  local at=$ROOMS_RUN/rooms-$1
+  mkdir -p "$at"
+  chmod 711 "$at"
+  rm -f "$at/socket"
   : >"$1.pids"
-  python3 "$here/lib/activated.py" "$PWD/run/rooms-$1/socket" 660 "${@:4}" \
+  python3 "$here/lib/activated.py" "$at/socket" 660 "${@:4}" \
     "$installed/lib/rooms/rooms-service" "$1" >>"$1.pids" 2>>"$1.err" &
   others+=("$!")
-  until [ -S "run/rooms-$1/socket" ]; do sleep 0.02; done
-  chown "$2:$3" "run/rooms-$1/socket"
+  until [ -S "$at/socket" ]; do sleep 0.02; done
+  chown "$2:$3" "$at/socket"
 }
-start_earlier() {
-  export ROOMS_RUN=$PWD/run ROOMS_NIGHTS=$PWD/copies ROOMS_NIGHTS_ASKS=$judge_user
-  export ROOMS_SETTINGS=$PWD/machine/etc/rooms ROOMS_NIGHTS_MAY_GO=${may_go:-1}
-  export ROOMS_NIGHTS_IDLE=${idle:-300} ROOMS_NIGHTS_PATIENCE=${copy_patience:-5}
+start_earlier() { # [FOLDER-OF-A-MACHINE]: its settings are below that, and its /run too
+  local -x ROOMS_RUN=$PWD${1:+/$1}/run ROOMS_SETTINGS=$PWD/${1:-machine}/etc/rooms
+  local -x ROOMS_NIGHTS=$PWD/copies ROOMS_NIGHTS_ASKS=$judge_user ROOMS_NIGHTS_MAY_GO=${may_go:-1}
+  local -x ROOMS_NIGHTS_IDLE=${idle:-300} ROOMS_NIGHTS_PATIENCE=${copy_patience:-5}
   install -d -m 700 -o "$night_user" -g "$judge_user" copies
-  mkdir -p run/rooms-nights
-  install -d -m 711 -o "$night_user" -g "$judge_user" run/rooms-nights/open
+  mkdir -p "$ROOMS_RUN/rooms-nights"
+  install -d -m 711 -o "$night_user" -g "$judge_user" "$ROOMS_RUN/rooms-nights/open"
   service_at nights root "$judge_user" setpriv --reuid "$night_user" --regid "$judge_user" \
     --clear-groups --inh-caps=+dac_read_search --ambient-caps=+dac_read_search \
     --bounding-set=-all,+dac_read_search
@@ -78,10 +81,13 @@ start_earlier() {
 }
 supervisor() { tail -n 1 nights.pids; }
 
-# nginx, today's room office.rooms, which runs, and its backups.
+# nginx, today's room, which runs, and its backups.
 start_nights() { # NAME
-  start_front "$1" || return
-  sets office FILE "$PWD/office.rooms"
+  start_front "$1" && show_nights
+}
+# The same, where nginx runs.
+show_nights() {
+  sets office FILE "$PWD/$room_file"
   sets office BACKUPS "$PWD/backups"
   sets office PROGRAM "$rooms"
   lets_nginx

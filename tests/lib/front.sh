@@ -77,6 +77,13 @@ start_room() { # FILE COUNT
   start_at_socket "$1" "$PWD/run/rooms/office/socket" "$2"
 }
 
+# A certificate for the front end with TLS.
+certify_front() {
+  openssl req -x509 -newkey ec -pkeyopt ec_paramgen_curve:P-256 -noenc -days 9 \
+    -subj /CN=rooms.example -addext subjectAltName=DNS:rooms.example -keyout rooms.key \
+    -out rooms.pem 2>/dev/null
+}
+
 # Starts nginx with the site of the room office, whose server is at $place, a socket or a port; with
 # TLS for 'tls', whose certificate and key are ./rooms.pem and ./rooms.key. The ports $front and
 # $secure are free if $port is. It asks for the passwords of ./rooms.htpasswd, serves the page, and

@@ -189,7 +189,6 @@ case $verb in
     ;;
   show) printf '%s\n' MemoryCurrent=0 MemoryMax=0; exit ;;
   reload | reload-or-restart | try-reload-or-restart)
-    [ "${units[*]}" != rooms-firewall ] || exit 0
     [ "${units[*]}" = nginx ] || { echo "no such unit: ${units[*]}" >&2; exit 1; }
     [ -s /run/nginx.pid ] || exec nginx
     before=$(cat "/proc/$(cat /run/nginx.pid)"/task/*/children)
@@ -212,9 +211,10 @@ for name in "${units[@]}"; do
       [ -e "/etc/systemd/system/timers.target.wants/$name" ] || { echo failed; exit 3; }
       echo active
       ;;
+    is-active:rooms-connections) echo active ;;
     is-active:*) if alive "$name"; then echo active; else echo inactive; exit 3; fi ;;
     *:*.timer | *:*.socket) ;;
-    *:rooms-full@* | *:rooms-firewall) ;;
+    *:rooms-full@* | *:rooms-firewall | *:rooms-connections) ;;
     start:rooms-nightly* | start:rooms-directory*) $(command_of "$name") || exit ;;
     stop:rooms-nightly* | stop:rooms-directory*) ;;
     stop:rooms-passwords | stop:rooms-session) ! alive "$name" || kill "$(cat "/run/$name.pid")" ;;

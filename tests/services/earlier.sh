@@ -78,7 +78,7 @@ same 'the greatest' got big
 answer bob:b "/earlier/$one/doc/letters/reply"
 holds 'as a file' grep -qi '^Content-Disposition: attachment' "$work/head"
 holds 'one disposition' [ "$(grep -ci '^Content-Disposition' "$work/head")" = 1 ]
-says_all bob:b "/earlier/$one/doc/letters/reply"
+says_all bob:b "/earlier/$one/doc/letters/reply" '; sandbox'
 ask 'a list that may be read' 200 - bob:b "/earlier/$one/dacl/letters/reply"
 
 # Both lists decide: that night's and today's.

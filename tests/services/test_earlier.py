@@ -4,6 +4,7 @@ import os
 import socket
 import tempfile
 import threading
+import time
 import unittest
 from unittest import mock
 
@@ -11,7 +12,7 @@ from fake_room import FakeRoom, Served
 from rooms_admin.host import locks
 from rooms_services import scgi
 from rooms_services.door.ask.answers import Answer, Stop
-from rooms_services.earlier import gate, judge, nights
+from rooms_services.earlier import gate, judge, judging, nights
 from rooms_services.earlier.gate import Opened
 
 NIGHT = "2026-11-01.030000"
@@ -52,10 +53,12 @@ class Over(unittest.TestCase):
     def deny(self, room: FakeRoom, user: str, path: str, bits: str) -> None:
         room.denied |= {(user, path, bit) for bit in bits}
 
+    def fields(self, user: str, rest: str) -> dict[str, str]:
+        return {"ROOM": "office", "ROOM_USER": user, "TARGET": f"/earlier/{NIGHT}/{rest}"}
+
     def told(self, user: str, rest: str) -> tuple[int, object]:
         try:
-            given: Answer = self.judge.answer(
-                {"ROOM": "office", "ROOM_USER": user, "TARGET": f"/earlier/{NIGHT}/{rest}"})
+            given: Answer = self.judge.answer(self.fields(user, rest))
         except Stop as stop:
             given = stop.answer(False)
         body = given.body
@@ -107,6 +110,54 @@ class There(Over):
         self.now.owners[()] = "dave"
         self.assertEqual(self.names("bob", "folder/"), ["letters"])
         self.assertEqual(self.told("bob", "doc/")[0], 409)
+
+
+class Large(Over):
+    """This process serves all rooms, so none of them takes its time or its memory."""
+
+    def test_a_folder_with_many_names(self) -> None:
+        for room in (self.now, self.then):
+            room.objects |= {("letters", f"{number:05}"): b"" for number in range(8000)}
+        began = time.process_time()
+        self.assertEqual(len(self.names("bob", "folder/letters")), 8001)
+        self.assertLess(time.process_time() - began, 3)
+
+    def test_an_answer_that_is_too_large(self) -> None:
+        for room in (self.now, self.then):
+            room.make(letters__reply=b"x" * 1000)
+        with mock.patch.object(judging, "LISTED", 900), mock.patch.object(judge, "LISTED", 1100):
+            self.assertEqual(judge.Judge().answer(self.fields("bob", "folder/letters")).status, 200)
+            with self.assertRaises(Stop) as stopped:
+                judge.Judge().answer(self.fields("bob", "doc/letters/reply"))
+            self.assertEqual(stopped.exception.why, "too-many")
+
+    def test_a_room_that_hangs(self) -> None:
+        """Whoever else asks it is told at once, and threads are left for other rooms."""
+        place = os.path.join(locks.RUN, "rooms/hangs")
+        os.makedirs(place)
+        deaf = socket.socket(socket.AF_UNIX)
+        deaf.bind(f"{place}/socket")
+        deaf.listen(8)
+        said: list[str] = []
+
+        def asks(user: str) -> None:
+            try:
+                asked.answer({**self.fields(user, "doc/letters/reply"), "ROOM": "hangs"})
+            except Stop as stop:
+                said.append(stop.why)
+        with mock.patch.object(judge, "OF_ONE", 3):
+            asked = judge.Judge()
+            threads = [threading.Thread(target=asks, args=(f"user{n}",)) for n in range(5)]
+            for one in threads:
+                one.start()
+            ends = time.monotonic() + 20
+            while said != ["busy"] * 2 and time.monotonic() < ends:
+                time.sleep(0.01)
+            self.assertEqual(said, ["busy"] * 2)
+            self.assertEqual(self.told("bob", "doc/letters/reply"), (200, b"then"))
+        deaf.close()
+        for one in threads:
+            one.join(30)
 
 
 class Another(Over):

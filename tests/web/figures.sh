@@ -10,8 +10,7 @@ if [ -n "$lacking" ]; then
   return
 fi
 printf 'alice:{PLAIN}a\n' >rooms.htpasswd
-openssl req -x509 -newkey ec -pkeyopt ec_paramgen_curve:P-256 -nodes -days 2 -keyout rooms.key \
-  -out rooms.pem -subj /CN=rooms.example -addext subjectAltName=DNS:rooms.example 2>/dev/null
+certify_front
 openssl x509 -in rooms.pem -noout -pubkey | openssl pkey -pubin -outform der |
   openssl dgst -sha256 -binary | openssl base64 >spki
 open_room F

@@ -82,7 +82,7 @@ def _verb_roff(verb: str) -> list[str]:
     for usage in parser.usages():
         out += [".br", _usage_roff(usage)]
     for part in _paragraphs(module):
-        out += [".PP", *_roff(part).replace(". ", ".\n").split("\n")]
+        out += [".PP", *_roff(part.replace(". ", ".\n")).split("\n")]
     for one in parser.shown():
         name, value = _roff(reading.name_of(one)), reading.value_of(one)
         shown = (f"\\fB{name}\\fR " if name else "") + (f"\\fI{value}\\fR" if value else "")

@@ -26,6 +26,8 @@ class Interrupted(Stop):
 
 def plain(text: str) -> str:
     """What others wrote, as a terminal shows it and doesn't obey it. Ends of lines stay."""
+    if text.isprintable():
+        return text
     return "".join(one if one.isprintable() or one in "\n\t" else ascii(one)[1:-1]
                    for one in text)
 

@@ -132,12 +132,12 @@ class Changes:
             self.remember(to)
             os.rename(self.root + path, self.root + to)
 
-    def systemctl(self, *words: str) -> None:
-        """Of a machine that systemd runs."""
+    def systemctl(self, *words: str, check: bool = True) -> bool:
+        """Of a machine that systemd runs. Without `check` it returns whether that went well."""
         if self.root or not os.path.isdir("/run/systemd/system"):
-            return
-        if self.does("systemctl " + " ".join(words)):
-            run("systemctl", *words)
+            return True
+        return not (self.does("systemctl " + " ".join(words))
+                    and run("systemctl", *words, check=check)[0])
 
 
 def run(*words: str, check: bool = True) -> tuple[int, str]:

@@ -4,28 +4,84 @@ from collections.abc import Iterable, Iterator
 from dataclasses import dataclass, field
 
 from ..host import safe
+from ..cli.report import Stop, line as as_line
 
 Pair = tuple[str, str]
+LISTS = ("dacl", "sacl")
 
 
 @dataclass
 class Object:
+    """Its line, and its lists with the line of flags before their entries."""
     kind: str
+    owner: str
+    group: str
     path: bytes
-    # The lines of its dacl: the first one, which has the flags, and the others.
-    flags: bytes = b""
-    entries: list[bytes] = field(default_factory=list)
+    size: str = ""
+    dacl: list[bytes] = field(default_factory=list)
+    sacl: list[bytes] = field(default_factory=list)
+
+    def list_of(self, which: str) -> list[bytes]:
+        return self.dacl if which == "dacl" else self.sacl
+
+    def line(self) -> str:
+        words = [self.kind, self.owner, self.group, self.size, as_text(self.path)]
+        return " ".join(word for word in words if word)
 
 
-def members(path: str) -> set[Pair]:
-    found = set()
-    with safe.own_file(path) as source:
-        for line in source:
-            words = line.split()
-            if words[:1] == [b"member"] and len(words) == 3:
-                found.add((words[1].decode("ascii", "replace"),
-                           words[2].decode("ascii", "replace")))
-    return found
+def as_text(said: bytes) -> str:
+    """A part of a line, as a terminal shows it and doesn't obey it."""
+    return as_line(said.decode("utf-8", "surrogateescape"))
+
+
+def is_inherited(entry: bytes) -> bool:
+    """By its flags: it came from the folder above."""
+    return b"I" in b"".join(entry.split(b":", 2)[1:2])
+
+
+def _word(said: bytes) -> str:
+    return said.decode("ascii", "backslashreplace")
+
+
+def _object(line: bytes) -> Object:
+    """folder OWNER GROUP PATH, document OWNER GROUP SIZE PATH."""
+    is_folder = line.startswith(b"folder ")
+    words = line.split(b" ", 3 if is_folder else 4)
+    if len(words) != (4 if is_folder else 5):
+        raise Stop(f"no lists: '{as_text(line)}' is no line of what rooms dump prints")
+    return Object(_word(words[0]), _word(words[1]), _word(words[2]), words[-1],
+                  "" if is_folder else _word(words[3]))
+
+
+def rows(lines: Iterable[bytes]) -> Iterator[Object | Pair]:
+    """Objects, each after its folder, and then members, a group and a user."""
+    at: Object | None = None
+    into: list[bytes] = []
+    for line in lines:
+        line = line.rstrip(b"\n")
+        # Most lines are entries.
+        if line[1:2] == b":":
+            into.append(line)
+        elif line in (b"dacl", b"sacl"):
+            into = [] if at is None else at.list_of(line.decode())
+        elif line.startswith((b"folder ", b"document ", b"member ")):
+            if at:
+                yield at
+            at, into = None, []
+            if line.startswith(b"member "):
+                words = line.split(b" ")
+                if len(words) == 3:
+                    yield _word(words[1]), _word(words[2])
+            else:
+                at = _object(line)
+        elif line:
+            into.append(line)
+    if at:
+        yield at
+
+
+def parsed(lines: Iterable[bytes]) -> Iterator[Object]:
+    return (one for one in rows(lines) if isinstance(one, Object))
 
 
 def objects(path: str) -> Iterator[Object]:
@@ -33,25 +89,36 @@ def objects(path: str) -> Iterator[Object]:
         yield from parsed(source)
 
 
-def parsed(lines: Iterable[bytes]) -> Iterator[Object]:
-    at: Object | None = None
-    in_dacl = False
-    for line in lines:
-        line = line.rstrip(b"\n")
-        kind = line.partition(b" ")[0].decode("ascii", "replace")
-        if kind in ("folder", "document", "member"):
-            if at:
-                yield at
-            at = None
-            if kind != "member":
-                # folder OWNER GROUP PATH, document OWNER GROUP SIZE PATH
-                at = Object(kind, line.split(b" ", 3 if kind == "folder" else 4)[-1])
-            in_dacl = False
-        elif line in (b"dacl", b"sacl"):
-            in_dacl = line == b"dacl"
-        elif at and in_dacl and line.startswith(b"list:"):
-            at.flags = line
-        elif at and in_dacl:
-            at.entries.append(line)
-    if at:
-        yield at
+def members(path: str) -> set[Pair]:
+    with safe.own_file(path) as source:
+        return {one for one in rows(line for line in source if line.startswith(b"member "))
+                if isinstance(one, tuple)}
+
+
+def has(path: str, wanted: bytes) -> bool:
+    """Whether an object was there. Most lines are of others, and aren't read for it."""
+    end = b" " + wanted + b"\n"
+    with safe.own_file(path) as source:
+        return any(line.endswith(end) and line.startswith((b"folder ", b"document "))
+                   and _object(line.rstrip(b"\n")).path == wanted for line in source)
+
+
+def whole(lines: Iterable[bytes], what: str) -> Iterator[Object | Pair]:
+    """The rows of a text that may have been damaged: it begins with the root, it has both lists of
+    each object, and its last line has an end."""
+    def ended() -> Iterator[bytes]:
+        for line in lines:
+            if not line.endswith(b"\n"):
+                raise Stop(f"no lists: {what} was cut off")
+            yield line
+    before: Object | Pair | None = None
+    for one in rows(ended()):
+        if before is None and not (isinstance(one, Object) and one.path == b"/"):
+            break
+        if isinstance(one, Object) and not all(
+                b"".join(one.list_of(which)[:1]).startswith(b"list:") for which in LISTS):
+            raise Stop(f"no lists: {what} hasn't both lists of '{as_text(one.path)}'")
+        before = one
+        yield one
+    if before is None:
+        raise Stop(f"no lists: {what} doesn't begin as what rooms dump prints")

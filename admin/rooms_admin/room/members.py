@@ -2,7 +2,6 @@
 while no server runs."""
 import os
 import re
-from collections.abc import Iterator
 
 from ..cli.report import Stop
 from . import program
@@ -54,28 +53,3 @@ def write(room: Room, members: set[Pair]) -> str:
 
 def listed(room: Room) -> bytes:
     return _done("dump", program.run(room, ["dump", room.file]))
-
-
-def of_user(lists: bytes, user: str) -> Iterator[str]:
-    """The lines of lists that name a user: what they own, and entries, each after its object."""
-    name = user.encode()
-    at, told = b"", False
-    for line in lists.split(b"\n"):
-        words = line.split(b" ")
-        if words[0] in (b"folder", b"document", b"member"):
-            at, told = line, False
-            if name in words[1 if words[0] != b"member" else 2:2 if words[0] != b"member" else 3]:
-                told = True
-                yield _plain(line)
-            continue
-        entry = line.split(b":")
-        if len(entry) == 4 and entry[2] == name and b"g" not in entry[1]:
-            if not told:
-                told = True
-                yield _plain(at)
-            yield _plain(line)
-
-
-def _plain(line: bytes) -> str:
-    text = line.decode("utf-8", "backslashreplace")
-    return "".join(one if one.isprintable() else "?" for one in text)

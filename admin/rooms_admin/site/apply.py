@@ -3,7 +3,7 @@ import os
 
 from ..host import changes
 from ..room import names, settings
-from . import legacy, password_files, template
+from . import connections, legacy, password_files, template
 from ..host.changes import Changes
 from ..cli.report import Refused, Stop
 
@@ -56,6 +56,7 @@ def show(made: Changes) -> bool:
         if template.read(root + template.FILE) != text and made.does(f"file {template.FILE}.new"):
             template.keep_edited(root, text)
         made.file(template.START, start)
+        connections.put(made, wanted)
         return template.read(root + template.FILE) == text
     made.forget()
     count = made.count
@@ -77,6 +78,7 @@ def show(made: Changes) -> bool:
     if changed:
         made.systemctl("reload", "nginx")
     password_files.finish(made, gone)
+    connections.put(made, wanted)
     serve(made, wanted)
     return True
 

@@ -182,6 +182,10 @@ HOSTS={hosts}
 # 'rooms-admin setup --tls CERTIFICATE KEY' looks at both, and writes them here.
 CERTIFICATE={certificate}
 KEY={key}
+
+# How many connections to nginx one address, or network of IPv6, may have at once. If this is empty,
+# it is half of what nginx holds; 'none' sets no limit, as behind a proxy through which all come.
+CONNECTIONS=
 """
     changes.file(template.SETTINGS, text.encode(errors="surrogateescape"))
 

@@ -22,7 +22,7 @@ from contextlib import ExitStack
 from ..cli import report, words
 from ..host import locks, mail, safe
 from ..room import (backups, copying, health, machine, names, private_server, program, server,
-                    settings, tidying)
+                    settings, texts, tidying)
 from . import expire, people, places
 from ..room.backups import Found
 from ..room.http_client import Caller, Client
@@ -105,9 +105,8 @@ class Night:
         before = backups.look(self.room)
         self.keep_copy(owned, 1 + max((one.number for one in before.backups), default=0))
         self.tell_before(before)
-        self.write_text("records.csv", "audit", [])
-        self.write_text("lists.txt", "dump", [])
-        self.write_text("review.csv", "review", ["/"])
+        for name, (word, *rest) in texts.PRINTED.items():
+            self.write_text(name, word, rest)
         self.write_machine()
         self.remove_old(before)
 
@@ -312,8 +311,8 @@ class Night:
 
     def for_users(self) -> None:
         """What the web interface shows beside the room, and accesses that have an end."""
-        for name, write in (("lists.txt", people.nightly), ("review.csv", places.nightly),
-                            ("lists.txt", expire.nightly)):
+        for name, write in ((texts.LISTS, people.nightly), (texts.REVIEW, places.nightly),
+                            (texts.LISTS, expire.nightly)):
             source = f"{self.kept}/{name}"
             if not self.kept or not os.path.exists(source):
                 continue

@@ -52,7 +52,7 @@ class Run:
     def find(self, objects: Iterable[dump.Object]) -> list[Due]:
         found = []
         for one in objects:
-            lines = [raw.decode("utf-8", "surrogateescape") for raw in [one.flags, *one.entries]]
+            lines = [raw.decode("utf-8", "surrogateescape") for raw in one.dacl]
             due = Due(one.path, lines, lines)
             for line in filter(is_meant, lines):
                 end = ending(line)

@@ -14,6 +14,7 @@ from ..host import safe
 from ..room import backups, names, private_server, program, settings
 from ..room.http_client import (Caller, Client, argument, caller_arguments, caller_of, client,
                                 raise_limits)
+from . import asked
 from ..cli.report import Refused, Stop
 
 NEXT = "remove what was written, and try again"
@@ -125,15 +126,12 @@ def run(given: argparse.Namespace) -> int:
     if not settings.matches(r"0?[0-7]{3}", given.umask):
         raise Refused(f"bad arguments: --umask is three digits such as 022, not '{given.umask}'")
     os.umask(int(given.umask, 8))
-    path, into = argument(given.path), argument(given.into).rstrip(b"/")
+    path, into = asked.path(given.path), argument(given.into).rstrip(b"/")
     caller = caller_of(given)
     if not into:
         raise Refused("bad arguments: DIR is the root of the file system")
     if os.path.lexists(into):
         raise Refused(f"there is something at {os.fsdecode(into)}: name a folder that isn't there")
-    if not names.is_path(path):
-        raise Refused("bad arguments: a path in the room begins with a slash and doesn't end with "
-                      f"one, unlike '{given.path}'")
     if not given.backup:
         return export(client(given.room, caller, NEXT, False), path, into, not given.no_lists, None)
     if caller.user or caller.as_user or caller.config or caller.without_tls:

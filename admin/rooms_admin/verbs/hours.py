@@ -23,23 +23,27 @@ def place(room: Room) -> str:
     return backups.hours_below(room.backups, backups.name_of(room.conf))
 
 
-def moment(name: str) -> float:
-    return time.mktime(time.strptime(name, "%Y-%m-%d.%H%M%S"))
+def moment(copy: backups.Backup) -> float:
+    """When it was made. Its name is local time, and an autumn night has one hour twice."""
+    try:
+        return os.stat(os.path.join(copy.place, backups.RUN)).st_mtime
+    except FileNotFoundError:  # Somebody else has put it there.
+        return os.stat(copy.place).st_mtime
 
 
 def is_due(kept: list[backups.Backup], now: float) -> bool:
     """An hour after the last one. One from a time to come was made before a clock was set back."""
     if not kept:
         return True
-    age = now - moment(kept[-1].name)
+    age = now - moment(kept[-1])
     return age >= HOUR or age < -60
 
 
 def wants(room: Room, kept: list[backups.Backup]) -> int:
-    """Bytes that the copies take once there are as many as there may be, beside those that they
-    take now."""
+    """Bytes that have to be free until there are as many as there may be: a further one is made
+    before the oldest goes, and only beside as much again."""
     size = server.size_of(room.file)
-    return max(0, room.hours - len(kept)) * size
+    return (max(1, room.hours - len(kept)) + 1) * size + SPARE
 
 
 def remove_left(room: Room) -> None:

@@ -14,14 +14,14 @@ from dataclasses import dataclass
 
 from ..cli import words
 from ..host import locks
-from ..room import members, names, passwords, published, server, settings
+from ..room import dump, members, names, naming, passwords, published, server, settings
 from . import handover, people
 from ..room.dump import Pair
 from ..room.http_client import Caller
 from ..cli.report import Interrupted, Refused, Stop, say
 from ..room.settings import Room
 
-_OPTIONS = {"add": ("--groups", "--file", "--first"), "remove": ("--to", "--password")}
+_OPTIONS = {"add": ("--groups", "--file", "--first", "--random"), "remove": ("--to", "--password")}
 
 
 @dataclass
@@ -34,10 +34,11 @@ class Words:
     heir: str
     is_first: bool = False
     is_password: bool = False
+    is_random: bool = False
 
 
 def arguments(parser: words.Parser) -> None:
-    parser.forms = ["add NAME [--groups GROUPS] [--first] [--room ROOM]",
+    parser.forms = ["add NAME [--groups GROUPS] [--first] [--random] [--room ROOM]",
                     "add --file FILE [--first] [--room ROOM]",
                     "remove NAME [--to HEIR | --password] [--room ROOM]"]
     parser.add_argument("verb", metavar="WHAT", choices=list(_OPTIONS), help="add or remove")
@@ -47,6 +48,7 @@ def arguments(parser: words.Parser) -> None:
                  "them")
     words.option(parser, "--file", "FILE", "add all users of this file, and stop the server once")
     words.flag(parser, "--first", "a password that opens nothing until the user has changed it")
+    words.flag(parser, "--random", "choose the password, and print it")
     words.option(parser, "--to", "HEIR", "give all that belongs to the user to HEIR, who asks for "
                  "it")
     words.flag(parser, "--password", "take the password away, and nothing else; the server isn't "
@@ -60,7 +62,7 @@ def _refuse_mixed(given: argparse.Namespace) -> None:
     for one in found:
         if one not in _OPTIONS[given.verb]:
             raise Refused(f"bad arguments: {one} isn't for {given.verb}")
-    if len(set(found) - {"--first"}) > 1:
+    if len(set(found) - {"--first", "--random"}) > 1 or {"--file", "--random"} <= set(found):
         raise Refused(f"bad arguments: {' and '.join(found)} don't go together")
 
 
@@ -81,7 +83,7 @@ def read_words(given: argparse.Namespace) -> Words:
         if not names.is_user(one):
             raise Refused(f"bad arguments: '{one}' can't be the name of a user or a group")
     return Words(given.verb, name, room or "office", groups, given.file, given.to, given.first,
-                 given.password)
+                 given.password, given.random)
 
 
 def rows(path: str) -> dict[str, set[str]]:
@@ -132,12 +134,14 @@ def _join(room: Room, pairs: set[Pair], done: str) -> None:
 
 
 def _add(place: str, room: Room | None, asked: Words) -> int:
-    line = passwords.hashed(passwords.ask(asked.name))
-    had = passwords.change(place, {asked.name: line}, is_first=asked.is_first)
+    text = passwords.chosen() if asked.is_random else passwords.ask(asked.name)
+    had = passwords.change(place, {asked.name: passwords.hashed(text)}, is_first=asked.is_first)
     what = f"a {'new ' if had else ''}{'first ' if asked.is_first else ''}password"
     file = passwords.password_files(place)[0]
     print(f"{what} for {asked.name}, in {passwords.first_of(file) if asked.is_first else file}",
           flush=True)
+    if asked.is_random:
+        print(f"{asked.name}: {text}", flush=True)
     if room and asked.groups:
         _join(room, {(group, asked.name) for group in asked.groups}, f"{asked.name} has a password")
     elif room and not had:
@@ -186,8 +190,8 @@ def _remove(place: str, room: Room | None, asked: Words) -> int:
                 print(members.write(room, rest), flush=True)
             lists = members.listed(room)
         _show(room, rest)
-    for line in members.of_user(lists, name):
-        print(line)
+    for one in naming.of_user(dump.rows(lists.split(b"\n")), name):
+        print("\n".join(one.lines()))
     return _hand_over(room, lists, name, heir) if heir else 0
 
 

@@ -15,7 +15,7 @@ from collections.abc import Callable
 from ..host import waiting
 from ..host.commands import printed
 from ..room import backups, health, machine, server, settings
-from ..site import apache, legacy, template
+from ..site import apache, connections, legacy, template
 from . import await_server, hours
 from ..cli.report import Refused, Stop
 from ..room.settings import Room
@@ -32,6 +32,9 @@ FULL = 16 << 20
 CONNECTIONS = 768
 # The clocks of a disk and of the machine may differ by so much.
 AHEAD = 120
+# Where rooms-nights.service may not look.
+UNSEEN = ("/dev", "/etc", "/home", "/proc", "/root", "/run", "/sys", "/tmp", "/var/lib", "/var/log",
+          "/var/mail", "/var/spool", "/var/tmp")
 # Only tests set another address of nginx.
 FRONT = os.environ.get("ROOMS_FRONT", "127.0.0.1")
 # What nginx says where it does its part: it asks for a password, or sends on to where it does.
@@ -217,20 +220,53 @@ def see_backups(room: Room) -> list[Finding]:
 
 def see_hours(room: Room) -> list[Finding]:
     """Hourly copies: whether they come, and whether the disk has space for all that may be."""
-    if not room.hours:
+    if not room.hours or not os.path.isdir(room.backups):
         return []
     seen = hours.found(room)
     said = [(CRITICAL, one) for one in seen.wrong]
     disk = os.statvfs(room.backups)
     free, wanted = disk.f_bavail * disk.f_frsize, hours.wants(room, seen.backups)
     if free < wanted:
-        said.append((WARNING, f"{room.hours} hourly copies want {wanted >> 20} MB more, and the "
-                     f"disk of backups has {free >> 20} MB free"))
+        said.append((WARNING, f"{room.hours} hourly copies want {wanted >> 20} MB, and the disk of "
+                     f"backups has {free >> 20} MB free"))
     timer = f"rooms-standby@{room.name}.timer"
     if not seen.backups:
         return [*said, (WARNING, f"no hourly copy: systemctl enable --now {timer}")]
-    age = int(time.time() - hours.moment(seen.backups[-1].name)) // HOUR
-    return [*said, (WARNING if age >= 3 else OK, f"last hourly copy {age} h ago")]
+    last = seen.backups[-1]
+    age = time.time() - hours.moment(last)
+    if age < -AHEAD:
+        return [*said, (WARNING, f"the backup {last.name} is dated in the future: was the clock "
+                        "set back?")]
+    level = WARNING if age >= 3 * HOUR else OK
+    return [*said, (level, f"last hourly copy {max(0, int(age)) // HOUR} h ago")]
+
+
+def see_nights(room: Room) -> list[Finding]:
+    """Why users see no earlier night, where the settings let them see some."""
+    if room.earlier == "no":
+        return []
+    if not room.socket:
+        return [(OK, "no earlier nights, since it has a port")]
+    there = os.path.realpath(room.backups)
+    hidden = [one for one in UNSEEN if os.path.commonpath((one, there)) == one]
+    return [(OK, f"no earlier nights, since BACKUPS is below {hidden[0]}")] if hidden else []
+
+
+def see_namespaces(room: Room) -> list[Finding]:
+    """A hardened kernel may allow none, and then systemd starts no unit that wants one."""
+    try:
+        with open(f"{machine.ROOT}/proc/sys/user/max_user_namespaces", encoding="ascii") as most:
+            if most.read().strip() != "0":
+                return []
+    except OSError:
+        return []
+    units = [room.unit, f"rooms-full@{room.name}",
+             *([f"rooms-door@{room.name}"] if room.door else []),
+             *(["rooms-earlier"] if room.shows_nights else [])]
+    want = [one for one in units if printed(
+        ["systemctl", "show", "-p", "PrivateUsers", "--value", one]) not in ("", "no")]
+    return [(CRITICAL, "this machine allows no namespaces of users, so these can't start: "
+             f"{' '.join(want)}: sysctl user.max_user_namespaces")] if want else []
 
 
 def _dated(name: str) -> float:
@@ -341,22 +377,23 @@ def see_units() -> list[Finding]:
 
 
 def see_connections() -> list[Finding]:
-    """How many connections nginx holds for each of its processes, where it shows rooms."""
-    if not os.path.lexists(f"{machine.ROOT}/etc/nginx/sites-enabled/rooms"):
+    """How many connections nginx holds for each of its processes, where it shows rooms; and whether
+    no address can take them all."""
+    nginx = f"{machine.ROOT}/etc/nginx"
+    if not (os.path.lexists(f"{nginx}/sites-enabled/rooms")
+            and os.path.exists(f"{nginx}/nginx.conf")):
         return []
-    try:
-        with open(f"{machine.ROOT}/etc/nginx/nginx.conf", encoding="utf-8",
-                  errors="replace") as source:
-            found = re.findall(r"^[^#\n]*\bworker_connections\s+(\d+)\s*;", source.read(),
-                               re.MULTILINE | re.ASCII)
-    except OSError:
-        return []
-    # Without a line it is this many.
-    most = int(found[-1]) if found else 512
-    if most >= CONNECTIONS:
-        return [(OK, "")]
-    return [(WARNING, f"nginx holds {most} connections for each of its processes, less than the "
-             f"{CONNECTIONS} of Debian: worker_connections in /etc/nginx/nginx.conf")]
+    found: list[Finding] = []
+    held = connections.of_process(machine.ROOT)
+    if held < CONNECTIONS:
+        found.append((WARNING, f"nginx holds {held} connections for each of its processes, less "
+                      f"than the {CONNECTIONS} of Debian: worker_connections in "
+                      "/etc/nginx/nginx.conf"))
+    if os.path.exists(machine.ROOT + connections.FILE) and printed(
+            ["systemctl", "is-active", connections.UNIT]) != "active":
+        found.append((WARNING, "one address can take all connections of nginx's, and keep others "
+                      f"out: systemctl restart {connections.UNIT.removesuffix('.service')}"))
+    return found or [(OK, "")]
 
 
 def see_certificates() -> list[Finding]:
@@ -379,8 +416,10 @@ def see_certificates() -> list[Finding]:
 
 def of_room(conf: str) -> list[Finding]:
     room = settings.room(conf)
-    looks = [see_owner, see_answer, see_port, see_front, see_groups, see_timer, see_mail]
+    looks = [see_owner, see_namespaces, see_answer, see_port, see_front, see_groups, see_timer,
+             see_mail]
     return [*(found for look in looks
               for found in within(PATIENCE, lambda: look(room), f"{room.unit} or nginx")),
             *within(20, lambda: see_disk(room), f"{room.folder}"),
-            *within(20, lambda: [*see_backups(room), *see_hours(room)], f"{room.backups}")]
+            *within(20, lambda: [*see_backups(room), *see_hours(room), *see_nights(room)],
+                    f"{room.backups}")]

@@ -7,6 +7,8 @@ import re
 import socket
 import threading
 import traceback
+from collections.abc import Iterator
+from contextlib import contextmanager
 
 from rooms_admin.cli.report import say
 from rooms_admin.host import locks
@@ -18,10 +20,11 @@ from ..door.ask.paths import Names, names_in
 from ..door.ask.room import Room
 from ..door.ask.turns import Users
 from . import gate
-from .judging import Look
+from .judging import LISTED, Look
 
-# Connections at once, and seconds until it ends if nobody asks.
-MOST, IDLE = 64, 600.0
+# Connections at once, and of them about one room: so a room that hangs keeps nobody waiting who
+# asks for another one. Seconds until it ends if nobody asks.
+MOST, OF_ONE, IDLE = 64, 24, 600.0
 # How long a copy may take for an answer. (A server reads nothing of the disk for one.)
 PATIENCE = float(os.environ.get("ROOMS_NIGHTS_PATIENCE", "20"))
 _TARGET = re.compile(r"/earlier/(?:(nights)|(\d{4}-\d\d-\d\d\.\d{6})/(doc|folder|dacl)/([^?]*))",
@@ -32,8 +35,19 @@ class Today:
     """A room of today, and who asks about its nights: so many at once, of one user and of all."""
 
     def __init__(self, name: str) -> None:
-        self.room = Room(os.path.join(locks.RUN, "rooms", name, "socket"))
+        self.room = Room(os.path.join(locks.RUN, "rooms", name, "socket"), most=LISTED)
         self.users = Users()
+        self.free = threading.BoundedSemaphore(OF_ONE)
+
+    @contextmanager
+    def turn(self, user: str, word: str) -> Iterator[None]:
+        if not self.free.acquire(blocking=False):
+            raise Stop(503, "busy", fields={"Retry-After": "10"})
+        try:
+            with self.users.turn(user, "folder" if word == "folder" else ""):
+                yield
+        finally:
+            self.free.release()
 
 
 class Judge:
@@ -57,7 +71,7 @@ class Judge:
             raise Stop(404, "no-route")
         listed, night, word, rest = found.groups()
         today = self._today(name)
-        with today.users.turn(user):
+        with today.turn(user, word):
             if listed:
                 return told(gate.nights(name))
             return self._looked(today, name, user, night, word, names_in(rest))

@@ -16,6 +16,8 @@ from ..door.ask.paths import Names, is_below
 from ..door.ask.room import Reply, Room, about
 from .gate import Opened
 
+# Bytes of a listing, which is of 100,000 names and more: this process serves all rooms.
+LISTED = 8 << 20
 KINDS = {"doc": "application/octet-stream", "folder": JSON, "dacl": TEXT}
 
 
@@ -42,7 +44,7 @@ class Look:
             return now.answer()
         # Nobody has a night opened who may not read what is there.
         night = opened()
-        self.then, self.shown_to = Room(night.place, patience), night.shown_to
+        self.then, self.shown_to = Room(night.place, patience, LISTED), night.shown_to
         is_here = now.status == 200 and (not self.names or self._is_same())
         left = self.names if is_here else self._left(now)
         if not is_here and not self._may_see_gone(left):
@@ -97,13 +99,16 @@ class Look:
         found = self._attributes(self.then)
         return found is not None and found[1] == self.user
 
-    def _listing(self, reply: Reply, here: list[object], left: Names, is_here: bool) -> Answer:
+    def _listing(self, reply: Reply, here: list[dict[str, str]], left: Names, is_here: bool
+                 ) -> Answer:
         """Names of what isn't there any more are shown to whoever sees that itself."""
         then: list[dict[str, str]] = json.loads(reply.body)
-        gone = [one["name"] for one in then if one not in here]
+        # There may be tens of thousands.
+        left_here = {(one["kind"], one["name"]) for one in here}
+        gone = [one["name"] for one in then if (one["kind"], one["name"]) not in left_here]
         if gone and not self._sees_all_gone(left, is_here):
             hidden = set(gone) - self._owned(gone)
-            then = [one for one in then if one["name"] not in hidden or one in here]
+            then = [one for one in then if one["name"] not in hidden]
         return Answer(200, written(then), JSON)
 
     def _sees_all_gone(self, left: Names, is_here: bool) -> bool:

@@ -21,7 +21,7 @@ LARGEST = 1_048_576
 # they have to fit into a socket's buffer: else the room could wait with an answer for a door that
 # waits with a question.
 ROW, ROW_BYTES = 64, 60_000
-# What the answers to a row may have, so that no folder fills the memory.
+# What the answers to a row, or one answer, may have, so that no folder fills the memory.
 MOST_ANSWERED = 67_108_864
 CONNECT_SECONDS = 10.0
 ANSWER_SECONDS = 60.0
@@ -112,9 +112,10 @@ def ended() -> Stop:
 class Talk:
     """One connection, in the name of one user: each answer is waited for before more is sent."""
 
-    def __init__(self, at: socket.socket, user: str) -> None:
+    def __init__(self, at: socket.socket, user: str, most: int) -> None:
         self._at = at
         self._user = user
+        self._most = most
         self._lines = at.makefile("rb")
 
     def ask(self, ask: Ask) -> Reply:
@@ -127,6 +128,9 @@ class Talk:
             name, _, value = field.partition(b":")
             if name.lower() == b"content-length":
                 length = int(value)
+        # A room that was taken over would fill the memory.
+        if length > self._most:
+            raise too_many()
         body = self._lines.read(length)
         if len(body) != length:
             raise ConnectionError
@@ -201,10 +205,12 @@ def at_fault() -> Iterator[None]:
 
 
 class Room:
-    def __init__(self, place: str, seconds: float = ANSWER_SECONDS) -> None:
-        """The path of a socket, and how long an answer may take."""
+    def __init__(self, place: str, seconds: float = ANSWER_SECONDS,
+                 most: int = MOST_ANSWERED) -> None:
+        """The path of a socket, how long an answer may take, and how many bytes it may have."""
         self.place = place
         self.seconds = seconds
+        self.most = most
         self._turn = InTurn()
 
     def take(self) -> None:
@@ -242,7 +248,7 @@ class Room:
                 at = self.connected()
                 with at:
                     at.settimeout(self.seconds)
-                    yield Talk(at, user)
+                    yield Talk(at, user, self.most)
         finally:
             self.give()
 

@@ -1,0 +1,58 @@
+"""How many connections to nginx one address may have at once, which a table of the firewall
+bounds."""
+import os
+import re
+
+from ..host.changes import Changes
+from ..room import settings
+from . import template
+
+FILE = "/var/lib/rooms-front/connections.nft"
+UNIT = "rooms-connections.service"
+
+
+def _of_nginx(root: str, name: str) -> str:
+    """The last value that nginx's own file has for a name."""
+    text = template.read(f"{root}/etc/nginx/nginx.conf")
+    found = re.findall(rf"^[^#\n]*\b{name}\s+(\w+)\s*;", text, re.MULTILINE | re.ASCII)
+    return str(found[-1]) if found else ""
+
+
+def of_process(root: str) -> int:
+    """How many each process of nginx's holds. Without a line it is this many."""
+    return int(_of_nginx(root, "worker_connections") or 512)
+
+
+def _processes(root: str) -> int:
+    """Of an image, whose machine isn't known, and without a line it is one."""
+    number = _of_nginx(root, "worker_processes")
+    if number == "auto" and not root:
+        return os.cpu_count() or 1
+    return int(number) if number.isdigit() else 1
+
+
+def most(root: str, front: settings.Front) -> int:
+    """Half of what nginx holds unless the settings say it; 0 is no limit."""
+    if front.connections == "none":
+        return 0
+    return int(front.connections or of_process(root) * _processes(root) // 2)
+
+
+def put(made: Changes, wanted: template.Site) -> None:
+    """Brings the table into line with the settings. Where the kernel doesn't take it, the rooms are
+    served all the same."""
+    number = most(made.root, wanted.front)
+    is_on = os.path.islink(f"{made.root}/etc/systemd/system/multi-user.target.wants/{UNIT}")
+    if not number:
+        if is_on:
+            made.systemctl("disable", "--now", UNIT)
+        made.remove(FILE)
+        return
+    text = template.template("connections.nft.in").replace("@MOST@", str(number)).replace(
+        "@PORTS@", "80, 443, 8443" if wanted.behind else "80, 443")
+    changed = made.file(FILE, text.encode())
+    if not is_on:
+        made.systemctl("enable", UNIT)
+    if (changed or not is_on) and not made.systemctl("restart", UNIT, check=False):
+        print(f"one address can take all connections of nginx's: systemctl status {UNIT}; a "
+              f"machine that can't have its table wants CONNECTIONS=none in {template.SETTINGS}")
