@@ -8,7 +8,7 @@ from kit import TOP
 BUILT = re.compile(r"^build: (?:\d+ of \d+, )?(\w+) (\d+) s")
 WHOLE = re.compile(r"^build: .*; (\d+) s in all$")
 STEP = re.compile(r"^gate: (.*) took (\d+) s$")
-PART = re.compile(r"^\d\d-[\w-]+: \d+ passed, (\d+) s$")
+PART = re.compile(r"^[\w-]+/[\w-]+: \d+ passed, (\d+) s$")
 ANEW = "every proof and must-fail edit was done in this run"
 
 
