@@ -1,4 +1,4 @@
-"""What the logs of tools/build and of .ci/run say of their times."""
+"""What the logs of tools/build, of tools/proof-times and of .ci/run say of their times."""
 import re
 import subprocess
 import textwrap
@@ -111,6 +111,14 @@ def first_build(file, when):
     else:
         told = f"the program and the libraries of its tests take {minutes(took)}"
     return filled(f"From nothing, {told}. {when}")
+
+
+def stages_table(file):
+    """Returns the rows of tools/proof-times stages, with their heading."""
+    rows = [it for it in lines_of(file) if it.startswith("|")]
+    if len(rows) < 3:
+        raise ValueError(f"{file} has no rows of stages")
+    return "".join(f"{it}\n" for it in rows)
 
 
 def steps_of(file):
