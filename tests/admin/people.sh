@@ -158,6 +158,30 @@ if has htpasswd; then
   rm root/etc/nginx/rooms-office.htpasswd
   cp kept "$passwords"
 
+  # Who has a password, a first one too, and who is in a group.
+  as_listed() { # NAME LINE ..
+    printf '%s\n' "${@:2}" >wanted
+    same "$1" "$work/out" wanted
+  }
+  echo 'zoe:{PLAIN}p' >>"${passwords%.htpasswd}.first"
+  room_verb user list
+  says 'who is there' 0 'groups as they were known at 20'
+  as_listed 'with passwords and groups' '..  password' 'OFFICE\dave  password  clerks' \
+    "$odd  password" 'alice  password  staff' 'bob  password' 'carol  password  staff' \
+    'eve  password' 'zoe  first password'
+  room_verb user list --json
+  holds 'the same for a program' /usr/bin/python3 - "$work/out" <<'END'
+import json, sys
+rows = {row["user"]: row for row in json.load(open(sys.argv[1], encoding="utf-8"))}
+wanted = {"user": "OFFICE\\dave", "password": "yes", "groups": ["clerks"]}
+sys.exit(rows["OFFICE\\dave"] != wanted or rows["zoe"]["password"] != "first")
+END
+  room_verb user list bob
+  says 'with a name' 2 "bad arguments: a word too many: 'bob'"
+  room_verb user add bob --json
+  says 'an option of list' 2 "bad arguments: --json isn't for add"
+  rm "${passwords%.htpasswd}.first"
+
   # While a password is asked for, nothing is locked.
   mkfifo asking
   exec 7<>asking

@@ -99,6 +99,10 @@ def named(user: str, text: str = DUMP) -> list[str]:
     return [line for found in naming.of_user(rows(text), user) for line in found.lines()]
 
 
+def named_as_group(group: str, text: str = DUMP) -> list[str]:
+    return [line for found in naming.of_group(rows(text), group) for line in found.lines()]
+
+
 def objects(text: str = DUMP) -> dict[bytes, dump.Object]:
     return {one.path: one for one in rows(text) if isinstance(one, dump.Object)}
 
@@ -163,6 +167,18 @@ class Naming(unittest.TestCase):
         # The name of a group, or a part of a name.
         for other in ("staff", "sales", "OFFICE", "nbob", "BOB", "zoe"):
             self.assertEqual(named(other), [], other)
+
+    def test_what_names_a_group(self) -> None:
+        self.assertEqual(named_as_group("staff"), [
+            "folder alice staff /", "A:fdg:staff:rwaxtc", 'folder alice staff /a "b"\\n, c ',
+            "document bob staff 7 /projects/of bob.txt", "member staff a.bob",
+            "member staff dan"])
+        # An end date of a group, and none by the name of who asked for it.
+        line = "A:g:until.2027-05-31.read.g.guests@alice:"
+        text = DUMP.replace("A:g:until.2027-05-31.read.u.eve@alice:", line)
+        self.assertEqual(named_as_group("guests", text), ["folder carol sales /projects", line])
+        for other in ("bob", "alice", "eve", "OFFICE", "SALES", "still", "zoe"):
+            self.assertEqual(named_as_group(other, text), [], other)
 
     def test_dates(self) -> None:
         self.assertEqual(named("eve"), ["folder carol sales /projects",
@@ -334,6 +350,8 @@ class Verbs(unittest.TestCase):
         self.prints(["lists", "--longest"],
                     "4 entries in the dacl of folder carol sales /projects")
         self.prints(["lists", "--user", "dan"], "member staff dan")
+        self.prints(["lists", "--group", "sales"], "folder carol sales /projects",
+                    "folder carol sales /projects/still", "member sales bob")
         got = json.loads(self.said("lists", "/projects/still", "--json")[1])
         self.assertEqual(got, [{"kind": "folder", "path": "/projects/still", "owner": "carol",
                                 "group": "sales", "dacl": ["list:p", "A:fdI:bob:r"]}])
@@ -375,6 +393,7 @@ class Verbs(unittest.TestCase):
         self.refuses(2, "no object: ", "who", "/projects/of bob.txt/x")
         of_lists: list[list[str]] = [
             [], ["/x", "--longest"], ["/x", "--user", "bob"], ["--longest", "--sacl"],
+            ["--user", "bob", "--group", "staff"], ["--group", "s ales"], ["--group", "sales", "/"],
             ["--user", "bob", "--below"], ["--user", "b ob"], ["--user", "*"], ["x"], ["/x/"],
             ["/x", "/y"], ["/x", "--change"]]
         of_who: list[list[str]] = [
@@ -386,7 +405,8 @@ class Verbs(unittest.TestCase):
         self.refuses(2, "no backup: ", "lists", "/", "--backup", "2026-12-02.040000")
 
     def test_nothing_is_an_answer(self) -> None:
-        for given in (["lists", "--user", "zoe"], ["records", "--user", "zoe"],
+        for given in (["lists", "--user", "zoe"], ["lists", "--group", "bob"],
+                      ["records", "--user", "zoe"],
                       ["records", "--path", "/a"]):
             status, out, err = self.said(*given)
             self.assertEqual((status, out), (0, ""))

@@ -235,7 +235,7 @@ if has flock; then
   backup=$(ls -d "$PWD"/backups/office/*)
   prints 'a backup before an upgrade' "$backup"
   holds 'has the room' [ -s "$backup/office.rooms" ]
-  paste_in "$(blocks people.md 'rooms-admin lists')"
+  paste_in "$(blocks people.md 'rooms-admin lists /letters')"
   prints 'the list of that night' list:a "A:fdI:alice:$ALL" A:fdgI:staff:rwaxtc
   paste_in "$(blocks people.md 'rooms-admin who /letters')"
   prints 'who can read a folder' \

@@ -84,32 +84,7 @@ chmod 755 "$machine/usr/sbin/apache2"
 version_of_python=$(basename "$(readlink "$machine/usr/bin/python3")")
 modules=$machine/usr/local/lib/$version_of_python/dist-packages
 mkdir -p "$modules/ldap"
-cat >"$modules/ldap/__init__.py" <<'END'
-import subprocess
-OPT_REFERRALS = OPT_NETWORK_TIMEOUT = OPT_TIMEOUT = OPT_X_TLS_REQUIRE_CERT = OPT_X_TLS_DEMAND = 0
-OPT_X_TLS_NEWCTX = OPT_X_TLS_CACERTFILE = SCOPE_SUBTREE = SCOPE_BASE = 0
-class LDAPError(Exception): pass
-class TIMEOUT(LDAPError): pass
-class TIMELIMIT_EXCEEDED(LDAPError): pass
-class NO_SUCH_OBJECT(LDAPError): pass
-class DECODING_ERROR(LDAPError): pass
-class Link:
-    def set_option(self, *_given): pass
-    start_tls_s = simple_bind_s = set_option
-    def search_ext(self, base, _scope, text, wanted, **_named):
-        words = ["ldapsearch", "-b", base, text, *wanted]
-        self.said = subprocess.run(words, capture_output=True, text=True).stdout
-    def result3(self, *_given, **_named):
-        rows = []
-        for entry in self.said.strip().split("\n\n"):
-            lines = [line.split(": ", 1) for line in entry.split("\n") if ": " in line]
-            found = {}
-            for name, value in lines[1:]:
-                found.setdefault(name, []).append(value.encode())
-            rows += [(lines[0][1], found)] if lines else []
-        return 0, rows, 0, []
-def initialize(_uri): return Link()
-END
+cp "$here/lib/stand_in_ldap.py" "$modules/ldap/__init__.py"
 printf 'class SimplePagedResultsControl:\n    controlType = "x"\n    def __init__(self, *a, **b): pass\n' \
   >"$modules/ldap/controls.py"
 printf 'def str2dn(text): return text\ndef dn2str(text): return text\n' \
@@ -239,6 +214,8 @@ inside \
   : >/var/lib/rooms-passwords/rooms.htpasswd'
 types 'the same on its page' docs/operating './rooms_' docs/operating 'rooms init'
 shows 'and there' ready 'New password of alice' 'a password for alice'
+# What isn't there comes from a folder here, so nothing is fetched.
+types 'without internet' docs/operating --download-only docs/operating './*.deb'
 types 'without a package' docs/operating 'nginx apache2-utils' docs/operating '=deploy/install'
 types 'a folder' docs/operating 'rooms.example:80'
 shows 'is made' 201
@@ -313,6 +290,8 @@ types 'somebody joins' docs/people '=rooms-admin user add dana --groups sales'
 file=$machine/var/lib/rooms-passwords/rooms.htpasswd
 holds 'she has a password' grep -q '^dana:$2y$10\$' "$file"
 shows 'she is in her group' 'groups 2, members 4'
+types 'who is there' docs/people '=rooms-admin user list'
+shows 'dana is' 'dana  password  sales'
 does 'bob has a password' 'rooms-admin user add bob'
 for path in reply ' odd '; do asks_as 201 bob PUT "/doc/letters/${path// /%20}" x; done
 types 'somebody leaves' docs/people '=rooms-admin user remove bob'
@@ -343,6 +322,8 @@ shows 'is printed' A:fdg:staff:rwaxtc A:fi:OWNER@:d
 types 'who can read this folder' docs/people '=rooms-admin who /letters'
 shows 'alice alone' 'alice  rwanNxDtThHdcCoy  remove  by A:fd:alice:rwanNxDtThHdcCoy' \
   'every other name  nothing'
+types 'a group' docs/people 'lists --group sales'
+shows 'has a user' 'member sales dana'
 types 'who could change it' docs/people '=rooms-admin who --change /projects'
 shows 'alice' '/projects  alice  Co  remove  by '
 types 'a new password' docs/people '=rooms-admin user add bob' docs/people 'add bob --random' \
@@ -445,6 +426,9 @@ shows 'is put back' 204
 edit=s/2026-11-20.040000/$backup/
 types 'a folder of it' docs/backup 'rooms-admin export --backup'
 shows 'is written' 'left out 0'
+types 'a copy to try things on' docs/backup '--title Trial trial'
+does 'it answers, and goes' 'curl -sf -u alice:typed http://127.0.0.1/trial/folder/letters &&
+  rooms-admin remove trial && rm -r /var/lib/rooms/trial.rooms*'
 types 'the longest list' docs/operating 'lists --longest'
 shows 'has an object' ' entries in the dacl of '
 
@@ -452,7 +436,8 @@ shows 'has an object' ' entries in the dacl of '
 statuses='[12]'
 types 'a newer version' docs/upgrading \
   '=apt-get install -y ./rooms_VERSION_amd64.deb -o Dpkg::Options::=--force-confold </dev/null' \
-  docs/upgrading 'rooms-admin check'
+  docs/upgrading 'rooms-admin check' docs/upgrading '=rooms-admin setup
+rooms-admin check'
 shows 'serves' 'rooms WARNING - '
 types 'an older one' docs/upgrading allow-downgrades docs/upgrading "=systemctl restart 'rooms@*'"
 edit=s/2026-11-20.040000/$backup/

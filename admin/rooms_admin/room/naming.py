@@ -1,6 +1,7 @@
 """What in a room names a user: the groups that they are in, what they own, what is called as they
-are, and entries of lists, dates too. What a list inherits goes with the list of the folder above,
-so it is left out; what it keeps, though it follows no folder any more, isn't."""
+are, and entries of lists, dates too; or a group: who is in it, what belongs to it, and entries.
+What a list inherits goes with the list of the folder above, so it is left out; what it keeps,
+though it follows no folder any more, isn't."""
 import re
 from collections.abc import Iterable, Iterator
 from dataclasses import dataclass, field
@@ -43,15 +44,23 @@ class Found:
 
 
 class _User:
+    is_group = False
+
     def __init__(self, name: str) -> None:
         self.name = name
         forms = {name, end_dates.in_name(name), end_dates.in_domain(name)}
         self.forms = re.compile("|".join(map(re.escape, sorted(forms))).encode())
         self.word = re.compile(rf"(?<!\w){re.escape(name)}(?!\w)")
 
+    def is_in(self, pair: Pair) -> bool:
+        return pair[1] == self.name
+
     def has(self, one: Object) -> bool:
         last = one.path.rpartition(b"/")[2].decode("utf-8", "replace")
         return one.owner == self.name or self.word.search(last) is not None
+
+    def asked_for(self, date: end_dates.Ending) -> bool:
+        return date.asker == self.name
 
     def entries(self, lines: list[bytes]) -> list[bytes]:
         """Most lists have none."""
@@ -63,22 +72,43 @@ class _User:
             return False
         text = line.decode("ascii", "replace")
         found = end_dates.entry(text)
-        if found is None or found.of(self.name, False):
+        if found is None or found.of(self.name, self.is_group):
             return found is not None
         date = end_dates.ending(text)
-        return date is not None and (
-            date.asker == self.name or (date.who == self.name and not date.group))
+        return date is not None and (self.asked_for(date) or (
+            date.who == self.name and date.group == self.is_group))
+
+
+class _Group(_User):
+    is_group = True
+
+    def is_in(self, pair: Pair) -> bool:
+        return pair[0] == self.name
+
+    def has(self, one: Object) -> bool:
+        return one.group == self.name
+
+    def asked_for(self, date: end_dates.Ending) -> bool:
+        return False
 
 
 def of_user(rows: Iterable[Object | Pair], name: str) -> Iterator[Found]:
-    user, links = _User(name), Links()
+    return _of(rows, _User(name))
+
+
+def of_group(rows: Iterable[Object | Pair], name: str) -> Iterator[Found]:
+    return _of(rows, _Group(name))
+
+
+def _of(rows: Iterable[Object | Pair], named: _User) -> Iterator[Found]:
+    links = Links()
     for one in rows:
         if not isinstance(one, Object):
-            if one[1] == name:
+            if named.is_in(one):
                 yield Found(one)
             continue
         linked = links.of(one)
-        entries = {which: [line for line in user.entries(one.list_of(which)[1:])
+        entries = {which: [line for line in named.entries(one.list_of(which)[1:])
                            if not (which in linked and is_inherited(line))] for which in LISTS}
-        if user.has(one) or any(entries.values()):
+        if named.has(one) or any(entries.values()):
             yield Found(one, **entries)

@@ -151,15 +151,20 @@ def read(file: str) -> bytes | None:
     return data
 
 
-def users(file: str) -> set[str]:
-    """Also those who have a first password."""
-    found = set()
-    for one in [file, *([first_of(file)] if is_kept(file) else [])]:
+def kinds(file: str) -> dict[str, bool]:
+    """Who has a password, and whether it is a first one."""
+    found: dict[str, bool] = {}
+    for one, is_first in ((file, False), (first_of(file), True))[:1 + is_kept(file)]:
         for row in (read(one) or b"").splitlines():
             name, colon, _ = row.partition(b":")
             if colon:
-                found.add(os.fsdecode(name))
+                found.setdefault(os.fsdecode(name), is_first)
     return found
+
+
+def users(file: str) -> set[str]:
+    """Also those who have a first password."""
+    return set(kinds(file))
 
 
 def line_of(file: str, user: str) -> Line | None:

@@ -31,9 +31,9 @@ def path(text: str) -> bytes:
     return found
 
 
-def user(text: str) -> str:
+def name(text: str, kind: str = "user") -> str:
     if not names.is_user(text):
-        raise Refused(f"bad arguments: '{text}' can't be the name of a user")
+        raise Refused(f"bad arguments: '{text}' can't be the name of a {kind}")
     return text
 
 

@@ -4,9 +4,9 @@ object at PATH and below, behind the object's line, if it isn't only what the fo
 down.
 
 With --user it prints what names a user: groups, what belongs to them, objects called as they are,
-and the entries of lists, each below its object. What a list inherits goes with the list of the
-folder above, and isn't printed. With --longest it prints how many entries the longest list has, and
-its object.
+and the entries of lists, each below its object. With --group it prints the same of a group: who is
+in it, what belongs to it, and entries. What a list inherits goes with the list of the folder above,
+and isn't printed. With --longest it prints how many entries the longest list has, and its object.
 
 With --json it is a list of objects with the names 'kind', 'path', 'owner', 'group', and 'dacl' or
 'sacl' with the lines of that list. A user in a group is one of the kind 'member', with 'group' and
@@ -72,10 +72,12 @@ def _of_path(given: argparse.Namespace, rows: Rows, folder: str) -> None:
             print("\n".join([one.line(), which, *map(as_text, one.list_of(which))]))
 
 
-def _of_user(given: argparse.Namespace, rows: Rows, folder: str) -> None:
-    found = list(naming.of_user(rows, given.user))
+def _of_name(given: argparse.Namespace, rows: Rows, folder: str) -> None:
+    found = list(naming.of_user(rows, given.user) if given.user
+                 else naming.of_group(rows, given.group))
     if not found:
-        say(f"nothing of {given.user} is in the backup {folder}")
+        whose = given.user or f"the group {given.group}"
+        say(f"nothing of {whose} is in the backup {folder}")
     if given.json:
         report.put_rows([_fields(one.what, dacl=one.dacl, sacl=one.sacl) for one in found])
         return
@@ -93,22 +95,27 @@ def _of_longest(given: argparse.Namespace, rows: Rows) -> None:
 
 def arguments(parser: words.Parser) -> None:
     parser.forms = [f"{form} [--backup BACKUP] [--room ROOM] [--json]"
-                    for form in ("PATH [--sacl] [--below]", "--user NAME", "--longest")]
+                    for form in ("PATH [--sacl] [--below]", "--user NAME", "--group NAME",
+                                 "--longest")]
     words.word(parser, "path", "[PATH]", asked.PATH)
     words.flag(parser, "--sacl", "the list that asks for records")
     words.flag(parser, "--below", "the lists of what is below too, where they are its own")
     words.option(parser, "--user", "NAME", "what names this user")
+    words.option(parser, "--group", "NAME", "what names this group")
     words.flag(parser, "--longest", "which list has the most entries")
     asked.arguments(parser)
 
 
 def _look_at(given: argparse.Namespace) -> None:
-    if [bool(given.path), bool(given.user), given.longest].count(True) != 1:
-        raise Refused("bad arguments: PATH, --user NAME or --longest, and one of them")
+    if list(map(bool, (given.path, given.user, given.group, given.longest))).count(True) != 1:
+        raise Refused("bad arguments: PATH, --user NAME, --group NAME or --longest, and one of "
+                      "them")
     if not given.path and (given.sacl or given.below):
         raise Refused("bad arguments: --sacl and --below are of PATH")
     if given.user:
-        asked.user(given.user)
+        asked.name(given.user)
+    elif given.group:
+        asked.name(given.group, "group")
     elif given.path:
         asked.path(given.path)
 
@@ -120,8 +127,8 @@ def run(given: argparse.Namespace) -> int:
         rows = dump.whole(source, texts.LISTS)
         if given.path:
             _of_path(given, rows, folder)
-        elif given.user:
-            _of_user(given, rows, folder)
-        else:
+        elif given.longest:
             _of_longest(given, rows)
+        else:
+            _of_name(given, rows, folder)
     return 0

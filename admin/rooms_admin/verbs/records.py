@@ -65,7 +65,7 @@ def arguments(parser: words.Parser) -> None:
 
 
 def run(given: argparse.Namespace) -> int:
-    user = asked.user(given.user) if given.user else ""
+    user = asked.name(given.user) if given.user else ""
     path = asked.path(given.path).decode("utf-8", "surrogateescape") if given.path else ""
     room, folder = asked.backup(given)
     with texts.beside(room, folder, texts.RECORDS) as source:

@@ -3,7 +3,12 @@ anything else is done, the rows of their groups, and what names them afterwards.
 only where groups change, and where somebody leaves, for what the room has of them.
 
 FILE has a line for each user, NAME,GROUP,GROUP .., and the server stops once for all of them.
-Whoever has no password gets one, which is printed."""
+Whoever has no password gets one, which is printed.
+
+list prints everybody who has a password or is in a group, as far as groups are known while the
+server runs: a line with the name, whether there is a password, and the groups. With --json it is a
+list of objects with the names 'user', 'password' ('yes', 'first', 'no', or 'elsewhere' where a
+directory or sessions have them) and 'groups'."""
 import argparse
 import csv
 import os
@@ -12,7 +17,7 @@ from collections.abc import Iterator
 from contextlib import ExitStack, contextmanager
 from dataclasses import dataclass
 
-from ..cli import words
+from ..cli import report, words
 from ..host import locks
 from ..room import dump, members, names, naming, passwords, published, server, settings
 from . import handover, people
@@ -21,7 +26,10 @@ from ..room.http_client import Caller
 from ..cli.report import Interrupted, Refused, Stop, say
 from ..room.settings import Room
 
-_OPTIONS = {"add": ("--groups", "--file", "--first", "--random"), "remove": ("--to", "--password")}
+_OPTIONS = {"add": ("--groups", "--file", "--first", "--random"), "remove": ("--to", "--password"),
+            "list": ("--json",)}
+_SHOWN = {"yes": "password", "first": "first password", "no": "no password",
+          "elsewhere": "password elsewhere"}
 
 
 @dataclass
@@ -35,13 +43,15 @@ class Words:
     is_first: bool = False
     is_password: bool = False
     is_random: bool = False
+    is_json: bool = False
 
 
 def arguments(parser: words.Parser) -> None:
     parser.forms = ["add NAME [--groups GROUPS] [--first] [--random] [--room ROOM]",
                     "add --file FILE [--first] [--room ROOM]",
-                    "remove NAME [--to HEIR | --password] [--room ROOM]"]
-    parser.add_argument("verb", metavar="WHAT", choices=list(_OPTIONS), help="add or remove")
+                    "remove NAME [--to HEIR | --password] [--room ROOM]",
+                    "list [--room ROOM] [--json]"]
+    parser.add_argument("verb", metavar="WHAT", choices=list(_OPTIONS), help="add, remove or list")
     words.word(parser, "name", "[NAME]", "the user")
     words.room(parser)
     words.option(parser, "--groups", "GROUPS", "add the user to these groups, with commas between "
@@ -53,6 +63,7 @@ def arguments(parser: words.Parser) -> None:
                  "it")
     words.flag(parser, "--password", "take the password away, and nothing else; the server isn't "
                "stopped")
+    words.rows(parser)
 
 
 def _refuse_mixed(given: argparse.Namespace) -> None:
@@ -75,7 +86,10 @@ def read_words(given: argparse.Namespace) -> Words:
             raise Refused(f"bad arguments: a word too many: '{name}'")
         name, room = "", name
         words.tell_former([f"--room {room}"])
-    if not name and not given.file:
+    if given.verb == "list":
+        if name:
+            raise Refused(f"bad arguments: a word too many: '{name}'")
+    elif not name and not given.file:
         raise Refused("bad arguments: NAME is missing" + (", or --file FILE" if given.verb == "add"
                                                           else ""))
     groups = given.groups.split(",") if given.groups else []
@@ -83,7 +97,7 @@ def read_words(given: argparse.Namespace) -> Words:
         if not names.is_user(one):
             raise Refused(f"bad arguments: '{one}' can't be the name of a user or a group")
     return Words(given.verb, name, room or "office", groups, given.file, given.to, given.first,
-                 given.password, given.random)
+                 given.password, given.random, given.json)
 
 
 def rows(path: str) -> dict[str, set[str]]:
@@ -195,6 +209,46 @@ def _remove(place: str, room: Room | None, asked: Words) -> int:
     return _hand_over(room, lists, name, heir) if heir else 0
 
 
+def _known(room: Room) -> tuple[set[Pair], float]:
+    """What a room that nobody serves has is read from it, which no other process may do then."""
+    if server.state(room) != "inactive":
+        return people.known(room)
+    with locks.lock(room.unit, 60):
+        return people.known(room)
+
+
+def _groups_known(room: Room | None) -> set[Pair]:
+    """A room on another machine has its groups there."""
+    if room is None:
+        return set()
+    try:
+        pairs, at = _known(room)
+    except Refused as refused:
+        say(str(refused))
+        return set()
+    say(f"groups as they were known at {published.moment(at)}")
+    return pairs
+
+
+def _list(place: str, room: Room | None, is_json: bool) -> int:
+    files = passwords.password_files(place)
+    has = set[str]().union(*map(people.with_password, files))
+    first = {user for file in files for user, is_first in passwords.kinds(file).items() if is_first}
+    groups_of: dict[str, list[str]] = {}
+    for group, user in sorted(_groups_known(room)):
+        groups_of.setdefault(user, []).append(group)
+    none = "no" if room is None or room.passwords == "file" else "elsewhere"
+    found = [(user, none if user not in has else "first" if user in first else "yes",
+              groups_of.get(user, [])) for user in sorted(has | set(groups_of))]
+    if is_json:
+        report.put_rows([{"user": user, "password": kind, "groups": groups}
+                         for user, kind, groups in found])
+        return 0
+    for user, kind, groups in found:
+        print("  ".join([user, _SHOWN[kind], ", ".join(groups)]).rstrip())
+    return 0
+
+
 def _show_known(room: Room) -> None:
     """A run that is at work writes them itself, or the next one does."""
     try:
@@ -254,6 +308,8 @@ def run(given: argparse.Namespace) -> int:
     os.umask(0o077)
     os.chdir("/")
     place, room = _room(asked)
+    if asked.verb == "list":
+        return _list(place, room, asked.is_json)
     if asked.verb == "remove":
         return _remove(place, room, asked)
     if asked.is_first and not passwords.is_kept(passwords.password_files(place)[0]):
