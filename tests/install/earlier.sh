@@ -60,6 +60,18 @@ for unit in earlier nights; do
   does "rooms-$unit is killed" "systemctl kill -s KILL rooms-$unit.service"
   until_inside 'and comes again' "[ \"\$($web $bob $at/earlier/$night/doc/letter)\" = 200 ]"
 done
+# One that can't start is tried again and again, and not as fast as it fails.
+broken=$machine/etc/systemd/system/rooms-earlier.service.d
+mkdir "$broken"
+printf '%s\n' '[Service]' ExecStart= ExecStart=/bin/false >"$broken/broken.conf"
+does 'a judge that fails' "systemctl daemon-reload; systemctl stop rooms-earlier.service
+  curl -s -m 9 $bob $at/earlier/nights; journalctl --sync; journalctl -u rooms-earlier.service \
+    --no-pager -o cat --since '9 seconds ago' | grep -c 'Main process exited'"
+tries=$(tail -n 1 "$work/out")
+holds "is tried every other second: $tries times in nine" [ "$tries" -ge 2 -a "$tries" -le 6 ]
+rm -r "$broken"
+does 'it is mended' 'systemctl daemon-reload'
+until_inside 'and judges again' "[ \"\$($web $bob $at/earlier/$night/doc/letter)\" = 200 ]"
 does 'the setting' 'sed -i s/^EARLIER=.*/EARLIER=no/ /etc/rooms/office.conf'
 is 'counts at once' 404 "$web $bob $at/earlier/$night/doc/letter"
 does 'and setup' 'rooms-admin setup'
