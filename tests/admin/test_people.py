@@ -17,8 +17,8 @@ from collections.abc import Iterator
 
 from rooms_admin.cli import report
 from rooms_admin.host import locks, safe
-from rooms_admin.room import end_dates, http_client, names, published
-from rooms_admin.verbs import expire, people, places
+from rooms_admin.room import end_dates, http_client, names, passwords, published, server
+from rooms_admin.verbs import expire, people, places, user
 from rooms_admin.room.settings import Room
 
 ROOM = Room(conf="/etc/rooms/office.conf", file="/f/F", port="8780", backups="/b", unit="rooms",
@@ -237,6 +237,18 @@ while not select.select([sys.stdin], [], [], 0)[0]:
         bad += 1
 print(bad, "bad")
 """
+
+
+class Listed(unittest.TestCase):
+    def test_nothing_that_a_terminal_obeys(self) -> None:
+        members = {("sta\x1b]0;ff\x07", "bob")}
+        out = io.StringIO()
+        with (unittest.mock.patch.object(people, "known", return_value=(members, 0.0)),
+              unittest.mock.patch.object(server, "state", return_value="active"),
+              unittest.mock.patch.object(passwords, "password_files", return_value=[]),
+              contextlib.redirect_stdout(out), contextlib.redirect_stderr(io.StringIO())):
+            self.assertEqual(user._list("office", ROOM, False), 0)
+        self.assertEqual(out.getvalue(), "bob  no password  sta\\x1b]0;ff\\x07\n")
 
 
 class Files(unittest.TestCase):

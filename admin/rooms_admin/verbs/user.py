@@ -245,7 +245,7 @@ def _list(place: str, room: Room | None, is_json: bool) -> int:
                          for user, kind, groups in found])
         return 0
     for user, kind, groups in found:
-        print("  ".join([user, _SHOWN[kind], ", ".join(groups)]).rstrip())
+        print(report.line("  ".join([user, _SHOWN[kind], ", ".join(groups)]).rstrip()))
     return 0
 
 
