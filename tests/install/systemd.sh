@@ -263,6 +263,8 @@ for turn in 1 2 3 4; do
   does "the copy, $turn" 'rooms verify /var/backups/rooms/office/standby/office.rooms'
   holds "is sound, $turn" grep -qx sound "$work/out"
 done
+# One that found no server has failed, which the check would tell.
+inside 'systemctl reset-failed rooms-standby@office'
 does 'its timer' 'systemctl enable --now rooms-standby@office.timer &&
   systemctl list-timers --no-legend rooms-standby@office.timer'
 holds 'is set' [ -s "$work/out" ]

@@ -44,7 +44,8 @@ def _private_folder(folder: str) -> None:
 def domain_of(hosts: list[str]) -> str:
     """What an authority that is made for these hosts may certify, with all below it: the domain of
     the first one, such as office.example for rooms.office.example. Where nothing is above it but
-    what belongs to everybody, as above acme.de or acme.co.uk, it is that host alone."""
+    what belongs to everybody, as above acme.de or acme.co.uk, it is that host alone. That is known
+    by its form: a list of all would have to be kept up to date."""
     first, _, above = hosts[0].partition(".")
     is_public = "." not in above or re.fullmatch(
         r"(ac|co|com|edu|gob|gov|go|ne|net|nom|or|org)\.[a-z]{2}", above) is not None
