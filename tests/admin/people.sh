@@ -176,6 +176,11 @@ rows = {row["user"]: row for row in json.load(open(sys.argv[1], encoding="utf-8"
 wanted = {"user": "OFFICE\\dave", "password": "yes", "groups": ["clerks"]}
 sys.exit(rows["OFFICE\\dave"] != wanted or rows["zoe"]["password"] != "first")
 END
+  setting PASSWORDS directory
+  room_verb user list
+  as_listed 'where a directory has them' 'OFFICE\dave  password elsewhere  clerks' \
+    'alice  password elsewhere  staff' 'carol  password elsewhere  staff'
+  setting PASSWORDS file
   room_verb user list bob
   says 'with a name' 2 "bad arguments: a word too many: 'bob'"
   room_verb user add bob --json

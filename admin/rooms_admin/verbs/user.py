@@ -231,13 +231,15 @@ def _groups_known(room: Room | None) -> set[Pair]:
 
 
 def _list(place: str, room: Room | None, is_json: bool) -> int:
-    files = passwords.password_files(place)
+    # What root's file has doesn't count where a directory or sessions are asked.
+    counts = room is None or room.passwords == "file"
+    files = passwords.password_files(place) if counts else []
     has = set[str]().union(*map(people.with_password, files))
     first = {user for file in files for user, is_first in passwords.kinds(file).items() if is_first}
     groups_of: dict[str, list[str]] = {}
     for group, user in sorted(_groups_known(room)):
         groups_of.setdefault(user, []).append(group)
-    none = "no" if room is None or room.passwords == "file" else "elsewhere"
+    none = "no" if counts else "elsewhere"
     found = [(user, none if user not in has else "first" if user in first else "yes",
               groups_of.get(user, [])) for user in sorted(has | set(groups_of))]
     if is_json:
