@@ -37,6 +37,9 @@ does 'by hand' "sed -i 's/^KEEP=.*/KEEP=7/' /etc/rooms/office.conf
   printf '[Service]\nMemoryMax=2G\n' >/etc/systemd/system/rooms@office.service.d/memory.conf
   sed -i '/server_name legal/a allow 127.0.0.1; deny all;' /etc/nginx/rooms.d/legal.host-tls
   nginx -t -q && systemctl daemon-reload && systemctl reload nginx"
+# Workers of before may answer for a moment.
+until_inside 'which counts' "[ \"\$($site --interface 127.0.0.9 -o said -w '%{http_code}' \
+  -u lena:l https://legal.example/can/?)\" = 403 ]"
 goes_on() { # NAME: each in their room, nobody from elsewhere in the one that is closed
   until_inside "$1: alice" "[ \"\$($site -u alice:a https://rooms.example/can/?)\" = {} ]"
   until_inside "$1: carol" "[ \"\$($site -u carol:c https://rooms.example/invoices/can/?)\" = {} ]"
