@@ -5,9 +5,13 @@ import os
 import re
 import shutil
 import sys
+import threading
+import time
 from concurrent.futures import FIRST_COMPLETED, ThreadPoolExecutor, wait
 
 TOP = os.path.dirname(os.path.dirname(os.path.realpath(__file__)))
+# A crate for which the end of a build can wait longer, in seconds, waits for a processor.
+SPARE = 60
 
 
 def load_rt(tool):
@@ -54,34 +58,52 @@ def seconds_above(crates):
 
 
 def side_by_side(crates, work):
-    """Calls work(crate, jobs) for each crate once it was true for those below it, as many at once
-    as there are processors and memory, longest chain first; returns what each call returned."""
+    """Calls work(crate, jobs) for each crate once it was true for those below it, and returns what
+    each call returned. As many run at once as there are processors and memory, longest chain first.
+    One that the end waits for begins at once, and gets more of the processors than others."""
     lanes, memory = len(os.sched_getaffinity(0)), free_memory()
     chain, given, running = seconds_above(crates), {}, {}
     left = sorted(crates, key=lambda it: -chain[it])
-    with ThreadPoolExecutor(lanes) as pool:
-        while left or running:
-            ready = [
-                it
-                for it in left
-                if all(given.get(low) is True for low in it.below() if low in chain)
-            ]
-            idle = lanes - sum(jobs for _, jobs in running.values())
-            for at, crate in enumerate(ready):
-                taken = sum(need(it) for it, _ in running.values())
-                if idle < 1 or running and taken + need(crate) > memory:
-                    break
-                # What no other crate waits to use goes to a crate that gains from it.
-                jobs = max(1, idle // (len(ready) - at)) if lines_of(crate) >= 300 else 1
-                left.remove(crate)
-                running[pool.submit(work, crate, jobs)] = crate, jobs
-                idle -= jobs
-            if not running:
-                # What is left depends on a crate that failed.
-                return given
-            for done in wait(running, return_when=FIRST_COMPLETED).done:
-                given[running.pop(done)[0]] = done.result()
+    while left or running:
+        ready = [
+            it for it in left if all(given.get(low) is True for low in it.below() if low in chain)
+        ]
+        now = time.monotonic()
+        longest = max(
+            [chain[it] for it in left]
+            + [chain[it] - (now - began) for it, _, began in running.values()]
+        )
+        for at, crate in enumerate(ready):
+            idle = lanes - sum(jobs for _, jobs, _ in running.values())
+            taken = sum(need(it) for it, _, _ in running.values())
+            spare = longest - chain[crate]
+            if running and (taken + need(crate) > memory or idle < 1 and spare > SPARE):
+                break
+            # What no other crate waits to use goes to a crate that gains from it.
+            jobs = max(1, idle // (len(ready) - at)) if lines_of(crate) >= 500 else 1
+            left.remove(crate)
+            running[submit(spare, work, crate, jobs)] = crate, jobs, now
+        if not running:
+            # What is left depends on a crate that failed.
+            return given
+        for done in wait(running, timeout=SPARE / 6, return_when=FIRST_COMPLETED).done:
+            given[running.pop(done)[0]] = done.result()
     return given
+
+
+def submit(spare, work, crate, jobs):
+    """Begins a call in a thread of its own, so nice that what can wait hardly hinders what can't: a
+    process can make itself nicer, and not less so."""
+
+    def call():
+        thread = os.PRIO_PROCESS, threading.get_native_id()
+        os.setpriority(*thread, min(19, os.getpriority(*thread) + int(spare // 6)))
+        return work(crate, jobs)
+
+    pool = ThreadPoolExecutor(1)
+    begun = pool.submit(call)
+    pool.shutdown(wait=False)
+    return begun
 
 
 def need(crate):
