@@ -1,7 +1,8 @@
 -- After a task no transaction is open.
 use Rattle.std.proofs.Common.{◌≡◌, inl, inr, false}
 use Rattle.sqlite.specs.{Held.Held, State.State}
-use Rattle.cli_act.specs.{Doing.{DoesTask, Works, WorksOnRoom}, declared.outcome.Outcome.Outcome}
+use Rattle.cli_answer.specs.declared.outcome.Outcome.{Outcome}
+use Rattle.cli_act.specs.Doing.{DoesTask, Works, WorksOnRoom}
 use Rattle.cli_words.specs.declared.judging.{RoomTask.RoomTask, Task.Task}
 use Rattle.cli_words.specs.declared.judging.RoomTask.TheVariants as room
 use Rattle.cli_words.specs.declared.judging.Task.TheVariants as task

@@ -1,7 +1,4 @@
 mod Ended
 mod Outlasting
-mod Groups
-mod Texts
 mod Unrun
-mod Distinct
 mod Worked

@@ -5,7 +5,7 @@ use Rattle.room_rows.specs.Rows.{Rows}
 use Rattle.store_tables.specs.{Shown.HasTables, Within.{LeavesOrCommits, TreesOf}}
 use Rattle.room_store.specs.Ran.{CommitsAnswer, IsAnswered}
 use Rattle.cli_act.specs.{Acting.{CommitsTask, CommitsWork}, Doing.{DoesTask, Works, WorksOnRoom}}
-use Rattle.cli_act.specs.declared.outcome.Outcome.{Outcome}
+use Rattle.cli_answer.specs.declared.outcome.Outcome.{Outcome}
 use Rattle.cli_words.specs.declared.judging.{RoomTask.RoomTask, Task.Task}
 use Rattle.cli_words.specs.declared.judging.RoomTask.TheVariants as room
 use Rattle.cli_words.specs.declared.judging.Task.TheVariants as task

@@ -2,7 +2,8 @@
 use Rattle.std.proofs.Common.{◌≡◌, Result, Err, arith, rules}
 use Rattle.sqlite.specs.{Effect.Database, State.State}
 use Rattle.room_rows.specs.Rows.{Rows}
-use Rattle.room_store.specs.declared.fault.StoreFault.{StoreFault, TheVariants.{Memory, Damaged}}
+use Rattle.store_transaction.specs.declared.fault.StoreFault.{StoreFault}
+use Rattle.store_transaction.specs.declared.fault.StoreFault.TheVariants.{Memory, Damaged}
 use Rattle.room_store.specs.Ran.{Looked, Ran}
 
 no_damage : {X : Type 0} → ◌≡◌ {A = Result X StoreFault} (Err Memory) (Err Damaged) → ⊥

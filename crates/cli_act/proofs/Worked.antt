@@ -5,9 +5,9 @@ use Rattle.sqlite.specs.State.{State}
 use Rattle.room_import.specs.Exports.{records_text}
 use Rattle.room_review.specs.declared.question.{Reviewed.Reviewed, Scope.Scope}
 use Rattle.room_rows.specs.declared.node.AuditRow.{AuditRow}
+use Rattle.cli_answer.specs.{After.after_review, declared.outcome.Outcome.{Outcome, TheVariants.Bytes}}
 use Rattle.cli_act.specs.Doing.{GivesDump, GivesRecords, GivesReview, IsText, IsTextOf, after_dump}
-use Rattle.cli_act.specs.Doing.{after_review, after_reviewing}
-use Rattle.cli_act.specs.declared.outcome.Outcome.{Outcome, TheVariants.Bytes}
+use Rattle.cli_act.specs.Doing.{after_reviewing}
 
 module _ (old new : State) (outcome : Outcome) where
   records_are_printed : (gives : GivesRecords old outcome new) (records : Vec AuditRow Global)

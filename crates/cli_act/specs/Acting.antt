@@ -9,8 +9,8 @@ use Rattle.store_schema.specs.Making.{CommitsRoom}
 use Rattle.store_schema.specs.Migrating.{CommitsMigration}
 use Rattle.room_store.specs.Ran.{CommitsAnswer}
 use Rattle.cli_act.specs.Doing.{DoesTask}
-use Rattle.cli_act.specs.Telling.{PrintsOutcome}
-use Rattle.cli_act.specs.declared.outcome.Outcome.{Outcome}
+use Rattle.cli_answer.specs.Telling.{PrintsOutcome}
+use Rattle.cli_answer.specs.declared.outcome.Outcome.{Outcome}
 use Rattle.cli_words.specs.declared.judging.Task.{Task}
 use Rattle.cli_words.specs.declared.judging.Task.TheVariants as task
 use Rattle.cli_words.specs.declared.judging.RoomTask.{RoomTask}

@@ -1,5 +1,5 @@
 -- What a task does to a database, and what comes of it.
-use Rattle.std.specs.Prelude.{◌≡◌, ◌⊎◌, ℕ, Bool, true, false, List, [], Option, String, length, string_bytes}
+use Rattle.std.specs.Prelude.{◌≡◌, ◌⊎◌, ℕ, Bool, List, [], Option, String, length, string_bytes}
 use Rattle.std.specs.Prelude.{Result, Ok, Err, OnOk}
 use Rattle.std.specs.Global.{Global}
 use Rattle.std.specs.Prelude.{Vec}
@@ -11,28 +11,19 @@ use Rattle.room_entry.specs.declared.parties.Owners.{Owners}
 use Rattle.room_import.specs.Exports.{groups_text, records_text}
 use Rattle.room_dump.specs.Fetching.{IsFetched}
 use Rattle.room_dump.specs.declared.fetching.Fetched.{Fetched}
-use Rattle.room_dump.specs.declared.fetching.Fetched.TheVariants as fetched
-use Rattle.room_rows.specs.declared.report.Report.{Report}
-use Rattle.room_rows.specs.declared.report.Report.TheVariants as report
 use Rattle.room_judge.specs.Judged.{Resets}
 use Rattle.room_machine.specs.Run.{Replaced, WasReset, event_of}
-use Rattle.room_machine.specs.declared.reply.Reason.{Reason}
-use Rattle.room_machine.specs.declared.reply.Reason.TheVariants as reason
 use Rattle.room_machine.specs.declared.reply.Reply.{Reply}
-use Rattle.room_machine.specs.declared.reply.Reply.TheVariants as reply
 use Rattle.room_review.specs.declared.question.Scope.{Scope}
 use Rattle.room_review.specs.declared.question.Reviewed.{Reviewed}
-use Rattle.room_review.specs.declared.question.Reviewed.TheVariants as reviewed
-use Rattle.store_admin.specs.Carries.{NoTables}
-use Rattle.store_admin.specs.Dump.{HasDamagedRow, IsDump}
+use Rattle.store_tables.specs.Carries.{HasDamagedRow, NoTables}
+use Rattle.store_admin.specs.Dump.{IsDump}
 use Rattle.store_admin.specs.Operating.{AreMembers, AreRecords, ChangesPairsAlone}
 use Rattle.store_admin.specs.Operating.{HasUnreadRecord, ReplacesMembers}
 use Rattle.room_rows.specs.declared.node.AuditRow.{AuditRow}
 use Rattle.store_schema.specs.Migrating.{Migrates}
 use Rattle.store_schema.specs.declared.fault.CreateFault.{CreateFault}
-use Rattle.store_schema.specs.declared.fault.CreateFault.TheVariants as creating
 use Rattle.store_schema.specs.declared.fault.MigrateFault.{MigrateFault}
-use Rattle.store_schema.specs.declared.fault.MigrateFault.TheVariants as migrating
 use Rattle.store_schema.specs.declared.fault.OpenFault.{OpenFault}
 use Rattle.room_store.specs.Failing.{FailsByDb}
 use Rattle.room_store.specs.Leads.{Leads}
@@ -42,20 +33,22 @@ use Rattle.room_store.specs.Ran.{HasDamage, Looked, Ran}
 use Rattle.room_store.specs.Reviews.{IsReviewOf}
 use Rattle.room_store.specs.Tests.{IsTested}
 use Rattle.room_store.specs.declared.verifying.Tested.{Tested}
-use Rattle.room_store.specs.declared.fault.StoreFault.{StoreFault}
-use Rattle.room_store.specs.declared.fault.StoreFault.TheVariants as store
+use Rattle.store_transaction.specs.declared.fault.StoreFault.{StoreFault}
+use Rattle.store_transaction.specs.declared.fault.StoreFault.TheVariants as store
 use Rattle.store_tables.specs.Meaning.{rows_of}
-use Rattle.cli_act.specs.Outcome.{not_opened}
+use Rattle.cli_answer.specs.Outcome.{not_opened}
+use Rattle.cli_answer.specs.After.{after_create, after_fetch, after_migrate, after_reply}
+use Rattle.cli_answer.specs.After.{after_report, after_review}
 use Rattle.cli_outcome.specs.declared.fault.Fault.{Fault}
 use Rattle.cli_outcome.specs.declared.fault.Fault.TheVariants.{Database, Memory}
-use Rattle.cli_act.specs.declared.outcome.TaskAnswer.TheVariants as answer
-use Rattle.cli_act.specs.declared.outcome.Outcome.{Outcome}
-use Rattle.cli_act.specs.declared.outcome.Outcome.TheVariants.{Answer, Bytes, Failed}
+use Rattle.cli_answer.specs.declared.outcome.TaskAnswer.TheVariants as answer
+use Rattle.cli_answer.specs.declared.outcome.Outcome.{Outcome}
+use Rattle.cli_answer.specs.declared.outcome.Outcome.TheVariants.{Answer, Bytes, Failed}
 use Rattle.cli_words.specs.declared.judging.Task.{Task}
 use Rattle.cli_words.specs.declared.judging.Task.TheVariants as task
 use Rattle.cli_words.specs.declared.judging.RoomTask.{RoomTask}
 use Rattle.cli_words.specs.declared.judging.RoomTask.TheVariants as room
-use Rattle.cli_act.specs.Counting.{distinct_groups}
+use Rattle.cli_answer.specs.Counting.{distinct_groups}
 
 -- ---- what comes of an answer
 
@@ -72,16 +65,6 @@ abbrev pub or_failed : Result Outcome Fault → Outcome
 or_failed (Ok outcome) = outcome
 or_failed (Err fault) = Failed fault
 
-abbrev pub after_create : Result (Unit {0}) CreateFault → Outcome
-after_create (Ok done) = Answer answer.Made
-after_create (Err creating.Memory) = Failed Memory
-after_create (Err creating.Db) = Failed Database
-
-abbrev pub after_migrate : Result (Unit {0}) MigrateFault → Outcome
-after_migrate (Ok done) = Answer answer.Migrated
-after_migrate (Err (migrating.Opening fault)) = not_opened fault
-after_migrate (Err (migrating.Unsound path why)) = Answer (answer.Unsound path why)
-
 abbrev pub after_replacing : List (List ℕ × List ℕ) → Result (Unit {0}) StoreFault → Outcome
 after_replacing pairs (Ok done) =
     Answer (answer.Replaced (length (distinct_groups pairs)) (length pairs))
@@ -91,43 +74,17 @@ abbrev pub after_dump : Result (String Global) StoreFault → Outcome
 after_dump (Ok text) = Bytes (string_bytes text)
 after_dump (Err fault) = after_fault fault
 
-abbrev pub refused : List (List ℕ) → Reason → Outcome
-refused path why = Answer (answer.Refused path why)
-
--- a document is printed, and anything else refused
-abbrev pub after_fetch : Fetched → Outcome
-after_fetch (fetched.Bytes bytes) = Bytes bytes
-after_fetch (fetched.NoSuch path) = refused path reason.NoSuch
-after_fetch (fetched.NotFolder path) = refused path reason.NotFolder
-after_fetch (fetched.WrongKind path) = refused path reason.WrongKind
-
 abbrev pub after_fetching : Result Fetched StoreFault → Outcome
 after_fetching (Ok fetched) = after_fetch fetched
 after_fetching (Err fault) = after_fault fault
-
-abbrev pub after_review : Reviewed → Outcome
-after_review (reviewed.Table text) = Bytes text
-after_review (reviewed.Refused path why) = Answer (answer.Refused path why)
 
 abbrev pub after_reviewing : Result Reviewed StoreFault → Outcome
 after_reviewing (Ok reviewed) = after_review reviewed
 after_reviewing (Err fault) = after_fault fault
 
--- A reset is done or refused. It has no other reply.
-abbrev pub after_reply : Reply → Outcome
-after_reply reply.Done = Answer answer.ListSet
-after_reply (reply.Refused path why) = Answer (answer.Refused path why)
-after_reply other = Failed Database
-
 abbrev pub after_reset : Result Reply StoreFault → Outcome
 after_reset (Ok reply) = after_reply reply
 after_reset (Err fault) = after_fault fault
-
--- The first fault of the rows is told; and where there is none, that no record can get a number.
-abbrev pub after_report : Report → Bool → Outcome
-after_report (report.Fault path why) has_numbers = Answer (answer.Unsound path why)
-after_report report.Sound true = Answer answer.Sound
-after_report report.Sound false = Answer answer.NoNumbers
 
 abbrev pub after_test : Tested → Outcome
 after_test tested = after_report tested.report tested.has_numbers

@@ -1,5 +1,2 @@
-pub mod Counting
-pub mod Outcome
-pub mod Telling
 pub mod Doing
 pub mod Acting

@@ -5,7 +5,7 @@ ghost use Rattle.cli_act.specs.Acting.{Acts, CommitsTask};
 ghost use Rattle.store_tables.specs.Within.{LeavesOrCommits};
 
 use crate::doing::do_task;
-use crate::telling::tell;
+use cli_answer::tell;
 use cli_words::Task;
 use sqlite::{Alter, Connection};
 use std::alloc::Global;
@@ -35,4 +35,19 @@ pub fn act<S: Alter + Drop, O: Write, E: Write>(
     let (conn, outcome) = do_task(alloc, conn, task);
     let status = tell(alloc, &outcome, out, err);
     (conn, status)
+}
+
+/// The same with the allocator and the two streams of the system. What `act` promises is proved for
+/// any database and any streams; nothing of it is asked for here, so that none of it is proved once
+/// more.
+pub fn act_on<S: Alter + Drop>(
+    rt: &HostRuntime,
+    conn: Connection<S>,
+    task: &Task,
+) -> (Connection<S>, u8)
+    requires { conn.in_transaction ≡ false }
+{
+    let mut out = rt.stdout();
+    let mut err = rt.stderr();
+    act(rt.alloc(), conn, task, &mut out, &mut err)
 }

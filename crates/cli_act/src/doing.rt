@@ -1,28 +1,15 @@
 //! A task done on a database.
-ghost use Rattle.std.specs.Prelude.{◌≡◌, Err, false};
+ghost use Rattle.std.specs.Prelude.{◌≡◌, false};
 ghost use Rattle.sqlite.specs.Held.{state};
-ghost use Rattle.cli_act.specs.Doing.{DoesTask, MakesRoom, MigratesRoom, WorksOnRoom, after_create};
-ghost use Rattle.cli_act.specs.Doing.{after_migrate};
+ghost use Rattle.cli_act.specs.Doing.{DoesTask, MakesRoom, MigratesRoom, WorksOnRoom};
 
 use crate::opened::work;
-use crate::outcome::{Outcome, TaskAnswer};
-use cli_outcome::Fault;
+use cli_answer::{Outcome, TaskAnswer, not_made, not_migrated};
 use cli_words::{RoomTask, Task};
 use room_ace::Owners;
 use room_store::Store;
 use sqlite::{Alter, Connection};
 use std::alloc::Global;
-use store_schema::{CreateFault, MigrateFault};
-
-// The outcome where a room isn't made.
-fn not_made(fault: CreateFault) -> Outcome
-    ensures { result ≡ after_create (Err fault) }
-{
-    match fault {
-        CreateFault::Memory => Outcome::Failed(Fault::Memory),
-        CreateFault::Db => Outcome::Failed(Fault::Database),
-    }
-}
 
 fn make_room<S: Alter>(conn: Connection<S>, owners: &Owners) -> (Connection<S>, Outcome)
     requires { conn.in_transaction ≡ false }
@@ -31,16 +18,6 @@ fn make_room<S: Alter>(conn: Connection<S>, owners: &Owners) -> (Connection<S>, 
     match Store::create(conn, owners) {
         Ok(store) => (store.into_conn(), Outcome::Answer(TaskAnswer::Made)),
         Err((conn, fault)) => (conn, not_made(fault)),
-    }
-}
-
-// The outcome where a room isn't upgraded.
-fn not_migrated(fault: MigrateFault) -> Outcome
-    ensures { result ≡ after_migrate (Err fault) }
-{
-    match fault {
-        MigrateFault::Opening(fault) => Outcome::not_opened(fault),
-        MigrateFault::Unsound { path, why } => Outcome::Answer(TaskAnswer::Unsound { path, why }),
     }
 }
 

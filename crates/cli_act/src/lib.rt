@@ -1,15 +1,8 @@
-//! The subcommands that do one task on a database and end, and what they print.
+//! The subcommands that do one task on a database and end.
 #![tactic(auto)]
 
 mod acting;
-mod counting;
 mod doing;
-pub mod laws;
-mod lines;
 mod opened;
-mod outcome;
-mod telling;
 
-pub use acting::act;
-pub use outcome::{Outcome, TaskAnswer};
-pub use telling::tell;
+pub use acting::{act, act_on};

@@ -11,25 +11,18 @@ ghost use Rattle.cli_act.specs.Doing.{
   SetsList,
   TestsRows,
   Works,
-  after_fetch,
-  after_reply,
-  after_review,
   after_test,
   fault_of,
   or_failed,
   question_of,
-  refused,
 };
 
-use crate::counting::count_groups;
-use crate::outcome::{Outcome, TaskAnswer};
+use cli_answer::{Outcome, TaskAnswer, after_fetch, after_reply, after_review, count_groups};
 use cli_outcome::Fault;
 use cli_words::RoomTask;
 use room_ace::{Name, SentList, Which};
-use room_dump::Fetched;
 use room_import::{write_audits, write_groups};
-use room_machine::{Reason, Reply};
-use room_review::{Reviewed, Scope};
+use room_review::Scope;
 use room_rows::{Bytes, Path, Report};
 use room_store::{Store, StoreFault, Tested};
 use sqlite::Alter;
@@ -109,25 +102,6 @@ fn tell_document<S: Alter>(
     Ok(after_fetch(fetched))
 }
 
-// The outcome where a document was asked for.
-fn after_fetch(fetched: Fetched) -> Outcome
-    ensures { result ≡ after_fetch fetched }
-{
-    match fetched {
-        Fetched::Bytes(bytes) => Outcome::Bytes(bytes),
-        Fetched::NoSuch(path) => refused(path, Reason::NoSuch),
-        Fetched::NotFolder(path) => refused(path, Reason::NotFolder),
-        Fetched::WrongKind(path) => refused(path, Reason::WrongKind),
-    }
-}
-
-// The outcome of what is refused at a path.
-fn refused(path: Path, why: Reason) -> Outcome
-    ensures { result ≡ refused path why }
-{
-    Outcome::Answer(TaskAnswer::Refused { path, why })
-}
-
 // What a store is asked for a review.
 fn question_of(path: &Path, user: &Option<Name>, all: bool) -> Result<Scope, AllocError>
     ensures { IfOk result (λ question. question ≡ question_of path.now user.now all) }
@@ -155,16 +129,6 @@ fn review<S: Alter>(
     Ok(after_review(reviewed))
 }
 
-// The outcome of a review.
-fn after_review(reviewed: Reviewed) -> Outcome
-    ensures { result ≡ after_review reviewed }
-{
-    match reviewed {
-        Reviewed::Table(text) => Outcome::Bytes(text),
-        Reviewed::Refused { path, why } => Outcome::Answer(TaskAnswer::Refused { path, why }),
-    }
-}
-
 fn set_list<S: Alter>(
     alloc: Global,
     store: &mut Store<S>,
@@ -177,23 +141,6 @@ fn set_list<S: Alter>(
 {
     let reply = store.reset(alloc, path, which, sent).map_err(fault_of)?;
     Ok(after_reply(reply))
-}
-
-// The outcome of a reset, whose reply is that it was done or refused.
-fn after_reply(reply: Reply) -> Outcome
-    ensures { result ≡ after_reply reply }
-{
-    match reply {
-        Reply::Done => Outcome::Answer(TaskAnswer::ListSet),
-        Reply::Refused { at: path, why } => Outcome::Answer(TaskAnswer::Refused { path, why }),
-        Reply::Bytes(_)
-        | Reply::Names(_)
-        | Reply::Lists(..)
-        | Reply::Attr(..)
-        | Reply::Rulings(_)
-        | Reply::Made
-        | Reply::Denied { .. } => Outcome::Failed(Fault::Database),
-    }
 }
 
 // The outcome of the test of a room: the first fault of its rows, or what is wrong with their

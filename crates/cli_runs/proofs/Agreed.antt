@@ -4,7 +4,7 @@ use Rattle.std.{proofs.lemmas.List.Elements.recursion_from_All, specs.List.AllBy
 use Rattle.room_http.specs.{declared.ended.Cause.Cause, Message.{Message, asked}, Serve.IsNext}
 use Rattle.room_http.specs.{Serve.{Next, next_exchange}, Stream.{EndsStream, Exchange, HasReply}}
 use Rattle.room_http.specs.Stream.{IsOpen, Last, last_exchange}
-use Rattle.cli_serve.specs.Visits.{IsServedVisit, Meeting, Talked, Visit}
+use Rattle.cli_listen.specs.Visits.{IsServedVisit, Meeting, Talked, Visit}
 use Rattle.cli_runs.proofs.Gains.{all_both}
 
 abbrev pub IsAgreed : Exchange → Type 0

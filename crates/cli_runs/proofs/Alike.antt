@@ -15,8 +15,8 @@ use Rattle.room_http.specs.{Message.{Parsed, asked}, Stream.{Exchange, HasReply,
 use Rattle.room_http.specs.Stream.{events_at, events_by}
 use Rattle.room_store.specs.{Crash.{HoldsRoom, Leaves}, Leads.Leads}
 use Rattle.store_runs.proofs.{Rights.of_all, Rooms.{keeps, numbered, sound, tidy}}
-use Rattle.cli_serve.specs.{Hosts.LeavesRequests, Visits.{IsServedVisit, Visit, requests_of}}
-use Rattle.cli_serve.specs.Visits.{unanswered_of, visit_events}
+use Rattle.cli_listen.specs.Visits.{IsServedVisit, Visit, requests_of, unanswered_of, visit_events}
+use Rattle.cli_serve.specs.Hosts.{LeavesRequests}
 use Rattle.cli_runs.specs.Alike.{Answered, AreUnseen, Arrival, AtBoth, AtFirst, AtSecond}
 use Rattle.cli_runs.specs.Alike.{IsSameReply, RepliesAlike, ServersAnswerAlike}
 use Rattle.cli_runs.specs.Alike.{answered_in, at_first, at_second, front_then, turn_of_both}

@@ -15,8 +15,9 @@ use Rattle.room_http.specs.{Message.{Message, Parsed, asked}, Stream.{Exchange, 
 use Rattle.room_http.specs.Stream.{event_at, events_at, events_by}
 use Rattle.room_store.specs.{Crash.{HoldsRoom, HoldsRoomAfter}, Leads.Leads}
 use Rattle.store_runs.proofs.Rooms.{keeps, numbered, sound, tidy}
-use Rattle.cli_serve.specs.{Hosts.LeavesRequests, Visits.{Visit, asking_by, requests_of}}
-use Rattle.cli_serve.specs.Visits.{unanswered_of, visit_events, visit_unanswered}
+use Rattle.cli_listen.specs.Visits.{Visit, asking_by, requests_of, unanswered_of, visit_events}
+use Rattle.cli_listen.specs.Visits.{visit_unanswered}
+use Rattle.cli_serve.specs.Hosts.{LeavesRequests}
 use Rattle.cli_runs.specs.Gains.{FailedMessage, FirstMessage, ServingChangesRights}
 
 -- ---- an element of two lists, one after the other

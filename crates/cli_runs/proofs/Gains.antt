@@ -8,7 +8,7 @@ use Rattle.room_laws.specs.WhoChanged.{IsHarmless}
 use Rattle.room_http.specs.{Message.{Message, Parsed, asked}, Stream.{Exchange, asking_at}}
 use Rattle.room_http.specs.Stream.{events_at, events_by}
 use Rattle.store_runs.specs.Rights.{CrashGainsNothing, GainsNothing, IsHarmlessAsking}
-use Rattle.cli_serve.specs.Visits.{Visit, asking_by, requests_of, unanswered_of}
+use Rattle.cli_listen.specs.Visits.{Visit, asking_by, requests_of, unanswered_of}
 use Rattle.cli_runs.specs.Gains.{IsHarmlessMessage, IsHarmlessVisit, ServingGainsNothing}
 
 -- what holds of each of some, and of each of others

@@ -9,12 +9,11 @@ use Rattle.room_http.specs.declared.ended.Cause.{Cause}
 use Rattle.store_tables.specs.{Shown.{HasTables, IsRoom, Retains}, Within.TreesOf}
 use Rattle.store_schema.specs.declared.fault.OpenFault.{OpenFault}
 use Rattle.room_store.specs.Kept.{IsOfThisVersion, IsShut}
-use Rattle.cli_serve.specs.Listening.{CannotListen, ListensAt, Site, site_of, Deed}
-use Rattle.cli_serve.specs.Visits.{acts_of}
-use Rattle.cli_serve.specs.{Visits.{end_acts, Visit, moment_of}, Hosts.{IsHosted, IsTurnedDown}}
-use Rattle.cli_serve.specs.Hosts.{PrintsRefusal, ServesRoom, TellsAll, LeavesShut, TurnsDown}
-use Rattle.cli_serve.specs.{Hosts.{end_status, why_not_opened}, Lines.{TellsOf, TellsAddress}}
-use Rattle.cli_serve.specs.{Lines.connection_line, declared.fault.ServingFault.ServingFault}
+use Rattle.cli_listen.specs.Listening.{CannotListen, ListensAt, Site, site_of, Deed}
+use Rattle.cli_listen.specs.{Visits.{Visit, acts_of, end_acts, moment_of}, Lines.{TellsOf, TellsAddress}}
+use Rattle.cli_listen.specs.Telling.{PrintsRefusal, TellsAll, TurnsDown, end_status, why_not_opened}
+use Rattle.cli_listen.specs.{Lines.connection_line, declared.fault.ServingFault.ServingFault}
+use Rattle.cli_serve.specs.Hosts.{IsHosted, IsTurnedDown, LeavesShut, ServesRoom}
 use Rattle.cli_outcome.specs.declared.listen.ListenAddress.TheVariants as address
 
 -- ---- a room was served

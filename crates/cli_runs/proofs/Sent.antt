@@ -7,7 +7,7 @@ use Rattle.std.specs.List.{AllByRecursion}
 use Rattle.room_http.specs.{Limits.max_messages, Message.closes, Stream.{EndsStream, Exchange}}
 use Rattle.room_http.specs.Stream.{IsOpen, Last, exchange_text, last_exchange, last_text}
 use Rattle.room_http.specs.Stream.{says_close, texts_of}
-use Rattle.cli_serve.specs.{Peers.Wire, Visits.{EndsTalk, failed_last}}
+use Rattle.cli_listen.specs.{Peers.Wire, Visits.{EndsTalk, failed_last}}
 use Rattle.cli_runs.specs.Sent.{ExchangesAreBytes, IsNoRefusal}
 
 -- the texts of the replies to messages that come after n others

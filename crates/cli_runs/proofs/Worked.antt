@@ -15,7 +15,7 @@ use Rattle.room_laws.proofs.Worked.{eve, eve_is_harmless, memo, offer, one, othe
 use Rattle.room_laws.proofs.Worked.{same_outside, turns, unless_listed, uploads_alter_nothing}
 use Rattle.room_http.specs.{Message.{Message, Parsed, asked}, Stream.Exchange}
 use Rattle.room_store.specs.{Crash.{HoldsRoom, IsRoomOf, Lasts}, Kept.Keeps}
-use Rattle.cli_serve.specs.{Peers.Wire, Visits.{EndsTalk, Meeting, Visit, unanswered_of}}
+use Rattle.cli_listen.specs.{Peers.Wire, Visits.{EndsTalk, Meeting, Visit, unanswered_of}}
 use Rattle.cli_runs.specs.Alike.{AreUnseen, Arrival, AskAlike, AtBoth, AtFirst, AtSecond, IsSameReply}
 use Rattle.cli_runs.specs.{Alike.{ServersAnswerAlike, turns_of}, Gains.FailedMessage}
 use Rattle.cli_runs.specs.Gains.{FirstMessage, ServingChangesRights, IsHarmlessMessage}

@@ -16,7 +16,7 @@ use Rattle.room_http.specs.Message.{Message, Parsed, asked}
 use Rattle.room_http.specs.Stream.{Exchange, event_at}
 use Rattle.room_store.specs.Crash.{HoldsRoom, IsRoomOf}
 use Rattle.room_store.specs.Kept.{Keeps}
-use Rattle.cli_serve.specs.Visits.{Visit, requests_of, unanswered_of}
+use Rattle.cli_listen.specs.Visits.{Visit, requests_of, unanswered_of}
 
 -- ---- the messages of both
 

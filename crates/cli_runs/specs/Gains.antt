@@ -14,7 +14,7 @@ use Rattle.room_http.specs.Message.{Message, Parsed, asked}
 use Rattle.room_http.specs.Stream.{Exchange, events_by}
 use Rattle.room_store.specs.Crash.{HoldsRoom, IsRoomOf, Lasts}
 use Rattle.room_store.specs.Kept.{Keeps}
-use Rattle.cli_serve.specs.Visits.{Visit, requests_of}
+use Rattle.cli_listen.specs.Visits.{Visit, requests_of}
 
 -- In this room the caller has neither WRITE_ACL nor WRITE_OWNER at the path or above it, and may
 -- remove nothing there.

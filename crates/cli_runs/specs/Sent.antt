@@ -1,8 +1,8 @@
 -- The bytes of replies (own).
 use Rattle.std.specs.Prelude.{◌≡◌, List, None, IsSome, ⊤}
 use Rattle.room_http.specs.Stream.{Exchange, Last}
-use Rattle.cli_serve.specs.Peers.{Wire}
-use Rattle.cli_serve.specs.Visits.{EndsTalk}
+use Rattle.cli_listen.specs.Peers.{Wire}
+use Rattle.cli_listen.specs.Visits.{EndsTalk}
 
 -- the end is no refusal of bytes that are no message
 abbrev pub IsNoRefusal : Last → Type 0

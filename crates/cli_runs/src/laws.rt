@@ -7,7 +7,7 @@ ghost use Rattle.cli_runs.specs.Alike.{ServersAnswerAlike};
 ghost use Rattle.cli_runs.specs.Gains.{ServingChangesRights, ServingGainsNothing};
 ghost use Rattle.cli_runs.specs.Sent.{ExchangesAreBytes};
 
-use cli_serve::{Moments, Ports};
+use cli_listen::{Moments, Ports};
 use room_inherit::laws::sound_is_content;
 use room_laws::laws::{content_is_tidy, rights_changed_in_run, stays_behind, stays_tidy, unseen};
 use room_machine::laws::two_runs_meet;

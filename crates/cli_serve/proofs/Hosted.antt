@@ -13,11 +13,11 @@ use Rattle.room_store.specs.{Retained.StillHolds, Kept.{IsOfThisVersion, IsShut,
 use Rattle.room_store.{specs.Kept.Stores, proofs.Outlasting.{idle, leaves_whole}}
 use Rattle.room_store.proofs.Versions.{same_version}
 use Rattle.store_schema.specs.declared.fault.OpenFault.{OpenFault}
-use Rattle.cli_serve.specs.{Lines.{TellsFaults, TellsAddress}, Staying.PassesUntil, Peers.Adds}
-use Rattle.cli_serve.specs.Visits.{IsServedVisit, Visit, moment_of, requests_of, unanswered_of}
-use Rattle.cli_serve.specs.{declared.fault.ServingFault.ServingFault, Hosts.ServesRoom}
-use Rattle.cli_serve.specs.Hosts.{LeavesRequests, LeavesShut, StaysRoom, TellsEnd, end_status}
-use Rattle.cli_serve.specs.Listening.{Deed, ListensAt}
+use Rattle.cli_listen.specs.{Lines.{TellsFaults, TellsAddress}, Staying.PassesUntil, Peers.Adds}
+use Rattle.cli_listen.specs.Visits.{IsServedVisit, Visit, moment_of, requests_of, unanswered_of}
+use Rattle.cli_listen.specs.{declared.fault.ServingFault.ServingFault, Listening.{Deed, ListensAt}}
+use Rattle.cli_listen.specs.Telling.{TellsEnd, end_status}
+use Rattle.cli_serve.specs.Hosts.{LeavesRequests, LeavesShut, ServesRoom, StaysRoom}
 
 pub ends : (end : Result (Unit {0}) ServingFault) (address : ListenAddress) (status : ℕ)
     (out out' : Option (List ℕ))

@@ -1,5 +1,1 @@
-pub mod Receiving
-pub mod Told
-mod Staying
 pub mod Hosted
-pub mod Texts

@@ -1,16 +1,11 @@
 -- What the subcommand `serve` does on an open database (own).
-use Rattle.std.specs.Prelude.{◌≡◌, ◌≤◌, ◌⊎◌, ℕ, ℤ, All, List, [], ◌++◌, codes, length, map}
+use Rattle.std.specs.Prelude.{◌≡◌, ◌≤◌, ◌⊎◌, ℕ, ℤ, All, List, [], length, map}
 use Rattle.std.specs.Prelude.{IsTrue, Option, Result, Ok, Err, ⊤}
 use Rattle.sqlite.specs.Effect.{Database}
 use Rattle.sqlite.specs.Held.{Held}
 use Rattle.sqlite.specs.State.{State, HasCleanDisk}
 use Rattle.sqlite.specs.Tree.{Trees}
-use Rattle.cli_outcome.specs.Ending.{fault_line, no_room_text}
-use Rattle.cli_outcome.specs.Written.{PrintsFault, PrintsText, WritesSome}
-use Rattle.cli_outcome.specs.declared.fault.Fault.{Fault}
-use Rattle.cli_outcome.specs.declared.no_room.NoRoom.{NoRoom}
 use Rattle.cli_outcome.specs.declared.listen.ListenAddress.{ListenAddress}
-use Rattle.cli_outcome.specs.declared.status.Status.{Status}
 use Rattle.store_schema.specs.declared.fault.OpenFault.{OpenFault}
 use Rattle.store_tables.specs.Shown.{HasTables, IsRoom, Retains}
 use Rattle.store_tables.specs.Within.{TreesOf}
@@ -21,64 +16,17 @@ use Rattle.room_store.specs.Crash.{Lasts, Leaves, Outlasts}
 use Rattle.room_store.specs.Kept.{IsOfThisVersion, IsShut, IsSound, Keeps, Stores}
 use Rattle.room_store.specs.Leads.{Leads}
 use Rattle.room_store.specs.Opens.{Opens}
-use Rattle.cli_serve.specs.Lines.{TellsFaults, TellsAddress}
-use Rattle.cli_serve.specs.Peers.{Adds}
-use Rattle.cli_serve.specs.Visits.{IsServedVisit, Visit, moment_of, requests_of, unanswered_of}
-use Rattle.cli_serve.specs.declared.fault.ServingFault.{ServingFault}
-use Rattle.cli_serve.specs.Listening.{Deed, ListensAt}
-
--- the line that is printed where the database holds no room of this version
-abbrev pub refusal_line : NoRoom → List ℕ
-refusal_line why = codes "refused: " ++ (no_room_text why ++ codes "\n")
-
--- why a database is not opened as a room: for what it holds, or by a fault
-abbrev pub why_not_opened : OpenFault → Result NoRoom Fault
-why_not_opened OpenFault.NotRooms = Ok NoRoom.NotRooms
-why_not_opened (OpenFault.OldVersion number) = Ok (NoRoom.Old number)
-why_not_opened (OpenFault.NewVersion number) = Ok (NoRoom.New number)
-why_not_opened OpenFault.OtherTables = Ok NoRoom.OtherTables
-why_not_opened OpenFault.Db = Err Fault.Database
-why_not_opened OpenFault.Memory = Err Fault.Memory
-
--- what is printed on the two writers, where their contents are known, and the status
-abbrev pub PrintsRefusal : NoRoom → Option (List ℕ) → Option (List ℕ) → Option (List ℕ)
-    → Option (List ℕ) → ℕ → Type 0
-PrintsRefusal why = PrintsText (refusal_line why) Status.Refused
-
-abbrev pub TurnsDown : Result NoRoom Fault → Option (List ℕ) → Option (List ℕ)
-    → Option (List ℕ) → Option (List ℕ) → ℕ → Type 0
-TurnsDown (Ok why) = PrintsRefusal why
-TurnsDown (Err why) = PrintsFault why
-
--- the fault that is printed where connections were served
-abbrev pub serving_fault : ServingFault → Fault
-serving_fault ServingFault.Memory = Fault.Memory
-serving_fault ServingFault.File = Fault.File
-serving_fault ServingFault.Net = Fault.Net
-serving_fault ServingFault.Desk = Fault.Database
+use Rattle.cli_listen.specs.Lines.{TellsAddress}
+use Rattle.cli_listen.specs.Peers.{Adds}
+use Rattle.cli_listen.specs.Telling.{TellsAll, TurnsDown, end_status, why_not_opened}
+use Rattle.cli_listen.specs.Visits.{IsServedVisit, Visit, moment_of, requests_of, unanswered_of}
+use Rattle.cli_listen.specs.declared.fault.ServingFault.{ServingFault}
+use Rattle.cli_listen.specs.Listening.{Deed, ListensAt}
 
 -- the connection to the database is shut where that ended the service
 abbrev pub LeavesShut : Result (Unit {0}) ServingFault → State → Type 0
 LeavesShut (Err ServingFault.Desk) new = IsShut new
 LeavesShut end new = ⊤
-
--- the status where connections were served
-abbrev pub end_status : Result (Unit {0}) ServingFault → ℕ
-end_status (Ok done) = 0
-end_status (Err fault) = 3
-
--- what is printed of the fault that ended the service: its line or a front of it, if there was one
-abbrev pub TellsEnd : Result (Unit {0}) ServingFault → Option (List ℕ) → Option (List ℕ) → Type 0
-TellsEnd (Ok done) old new = new ≡ old
-TellsEnd (Err fault) old new = WritesSome old new (fault_line (serving_fault fault))
-
--- What is printed of faults: those of these connections, one after another, and then the one that
--- ended the service.
-pub record TellsAll (visits : List Visit) (end : Result (Unit {0}) ServingFault)
-    (old new : Option (List ℕ)) : Type 0 where
-  pub mid : Option (List ℕ)
-  pub connections : TellsFaults visits old mid end
-  pub last : TellsEnd end mid new
 
 -- From a sound room over an open connection, where the disk has returned what was written: whatever
 -- a power cut leaves is a sound room, the one after all requests that were answered. Where a fault,

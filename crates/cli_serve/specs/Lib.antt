@@ -1,7 +1,1 @@
-pub mod Accepting
-pub mod Lines
-pub mod Peers
-pub mod Staying
-pub mod Visits
 pub mod Hosts
-pub mod Listening

@@ -3,8 +3,8 @@ use Rattle.std.proofs.Common.{arith, rules, ℕ, ℤ, List, Option, Result, Ok, 
 use Rattle.sqlite.specs.State.{State, HasCleanDisk}
 use Rattle.room_machine.specs.{declared.{reply.Reply.Reply, request.Request.Request}, Desk.Closes}
 use Rattle.room_judge.specs.Closed.{Performs}
-use Rattle.room_store.specs.{declared.fault.StoreFault.StoreFault, Kept.Stores, Ran.HasDamage}
-use Rattle.room_store.specs.Ran.{Ran}
+use Rattle.store_transaction.specs.declared.fault.StoreFault.{StoreFault}
+use Rattle.room_store.specs.{Kept.Stores, Ran.{HasDamage, Ran}}
 
 pub closes : (user : Option (List ℕ)) (moment : ℤ) (request : Request) (old new : State)
     (result : Result Reply StoreFault)

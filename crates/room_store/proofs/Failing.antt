@@ -4,9 +4,9 @@ use Rattle.sqlite_trees.specs.View.{doubt}
 use Rattle.sqlite.specs.State.{State, HasCleanDisk}
 use Rattle.room_rows.specs.declared.keep.KeepFault.{KeepFault}
 use Rattle.store_tables.{specs.{Shown.Stays, Failing.FailsInside}, proofs.Failing.{Counts, around}}
-use Rattle.room_store.specs.declared.fault.StoreFault.{StoreFault, TheVariants.Db}
-use Rattle.room_store.specs.{Failing.FailsByDb, Transaction.{Begins, GivesUp, fault_as}}
-use Rattle.room_store.proofs.Transact.{made, same_fault}
+use Rattle.store_transaction.specs.declared.fault.StoreFault.{StoreFault, TheVariants.Db}
+use Rattle.store_transaction.specs.Transaction.{Begins, GivesUp, fault_as}
+use Rattle.room_store.{specs.Failing.FailsByDb, proofs.Transact.{made, same_fault}}
 use Rattle.room_rows.specs.declared.keep.KeepFault.TheVariants as keep
 
 store_of : (why : KeepFault) → fault_as why ≡ Db → why ≡ keep.Store

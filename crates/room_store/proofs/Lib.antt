@@ -5,14 +5,12 @@ mod Turning
 pub mod Leading
 mod Exchanged
 mod Opened
-mod Testing
 mod Shutting
 mod Closing
 mod Recalled
 pub mod Outlasting
 mod Retaining
 mod Reviewed
-mod Fetched
 mod FromRoot
 mod Reopened
 mod Looking

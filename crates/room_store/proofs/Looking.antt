@@ -3,11 +3,12 @@ use Rattle.std.proofs.Common.{◌≡◌, ◌≤◌, [], Result, Ok, Err, OnOk, I
 use Rattle.sqlite_trees.specs.View.{doubt}
 use Rattle.sqlite.specs.{Effect.Database, State.{State, HasCleanDisk}}
 use Rattle.room_rows.specs.declared.keep.KeepFault.{KeepFault}
-use Rattle.store_tables.specs.{Shown.Stays, Within.LeavesAsBefore}
-use Rattle.store_admin.specs.Carries.{AnswersOpen, CallsInside, Reading}
-use Rattle.room_store.specs.{declared.fault.StoreFault.StoreFault, Crash.Outlasts, Leads.Leads}
-use Rattle.room_store.specs.{Ran.Looked, Transaction.{Begins, GivesUp, StandsIfOpen}}
-use Rattle.room_store.proofs.{Leading.nothing, Outlasting.idle, Transact.looked, Turning.stands}
+use Rattle.store_tables.specs.{Shown.Stays, Within.LeavesAsBefore, Carries.AnswersOpen}
+use Rattle.store_tables.specs.Carries.{CallsInside, Reading}
+use Rattle.store_transaction.specs.{declared.fault.StoreFault.StoreFault, Transaction.Begins}
+use Rattle.store_transaction.specs.Transaction.{GivesUp, StandsIfOpen}
+use Rattle.room_store.{specs.{Crash.Outlasts, Leads.Leads, Ran.Looked}, proofs.Leading.nothing}
+use Rattle.room_store.proofs.{Outlasting.idle, Transact.looked, Turning.stands}
 
 -- what it promises
 pub record Looks {X : Type 0} (old new : State) (result : Result X StoreFault)

@@ -12,9 +12,9 @@ use Rattle.room_store.specs.{Asks.Asks, Crash.{HoldsRoom, HoldsRoomAfter, IsOneM
 use Rattle.room_store.specs.Crash.{LeavesAtMost, LeavesWhole, LosesNothing, Outlasts, OutlastsOn}
 use Rattle.room_store.specs.{Crash.{Try, all_asked, all_happened, left_by}, Kept.{IsShut, IsSound}}
 use Rattle.room_store.specs.{Kept.Keeps, Leads.Leads, Ran.{CommitsAnswer, Ran}}
-use Rattle.room_store.specs.{declared.fault.StoreFault.StoreFault, Lasting.nothing_tried}
-use Rattle.room_store.{specs.Lasting.together, proofs.Leading.{IsEvent, leading}}
+use Rattle.room_store.{specs.Lasting.{nothing_tried, together}, proofs.Leading.{IsEvent, leading}}
 use Rattle.room_store.proofs.{Shutting.{asked_keeps, asked_sound, not_shut}, Versions.same_version}
+use Rattle.store_transaction.specs.declared.fault.StoreFault.{StoreFault}
 
 -- what is seen over an open connection, where a crash leaves that and nothing else
 pub seen_is_left : (s : State) → IsSound s → IsTrue s.is_open → Lasts s → (room : Content)

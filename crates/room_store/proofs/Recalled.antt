@@ -6,12 +6,13 @@ use Rattle.sqlite_trees.specs.View.{doubt}
 use Rattle.room_remember.specs.{declared.memory.Memory.Memory, Agrees.AgreesWithRows}
 use Rattle.room_rows.specs.{declared.keep.KeepFault.KeepFault, Rows.Rows}
 use Rattle.store_tables.specs.{Meaning.rows_of, Shown.{HasTables, Stays}, Trust.IsTrusted}
-use Rattle.store_tables.{specs.Within.{IsSettled, LeavesAsBefore}, proofs.Calls.retains_same}
-use Rattle.store_admin.specs.Carries.{ByRows, CallsInside, OnRows}
-use Rattle.room_store.specs.{declared.fault.StoreFault.StoreFault, Ran.{LeavesOpen, Ran}}
-use Rattle.room_store.specs.{Remembers.{EndsLook, IsKept, Remembers, Settled}, Transaction.Begins}
-use Rattle.room_store.{specs.Transaction.GivesUp, proofs.Transact.{before, made, never_damage, old_clean}}
-use Rattle.room_store.proofs.Transact.{old_open, same_fault, undone_at}
+use Rattle.store_tables.specs.{Within.{IsSettled, LeavesAsBefore}, Carries.{ByRows, CallsInside}}
+use Rattle.store_tables.{specs.Carries.OnRows, proofs.Calls.retains_same}
+use Rattle.store_transaction.specs.{declared.fault.StoreFault.StoreFault, Ending.EndsLook}
+use Rattle.store_transaction.specs.{Ending.Settled, Transaction.{Begins, GivesUp}}
+use Rattle.room_store.specs.{Ran.{LeavesOpen, Ran}, Remembers.{IsKept, Remembers}}
+use Rattle.room_store.proofs.Transact.{before, made, never_damage, old_clean, old_open, same_fault}
+use Rattle.room_store.proofs.Transact.{undone_at}
 
 -- a call that leaves the database leaves what is remembered of it
 pub still : (old new : State) (known : Option Memory) → LeavesOpen old new

@@ -4,7 +4,7 @@ use Rattle.sqlite.specs.State.{State}
 use Rattle.room_rows.specs.Rows.{Rows}
 use Rattle.store_tables.proofs.Calls.{retains_on}
 use Rattle.room_store.specs.{Asks.Asks, Ran.Ran, Retained.StillHolds}
-use Rattle.room_store.specs.declared.fault.StoreFault.{StoreFault}
+use Rattle.store_transaction.specs.declared.fault.StoreFault.{StoreFault}
 
 -- a call that writes
 pub ran_retains : {X : Type 0} (old new : State) (result : Result X StoreFault)

@@ -9,7 +9,9 @@ use Rattle.sqlite_trees.specs.declared.error.StoreError.TheVariants.{OutOfMemory
 use Rattle.sqlite_trees.specs.declared.error.StoreError.TheVariants.{Broken, Unstorable}
 use Rattle.room_machine.specs.Desk.{Agrees}
 use Rattle.room_store.specs.{Asks.{Asks, says_shut, told_by, told_if}, Kept.{IsShut, IsSound}}
-use Rattle.room_store.specs.{Kept.{Keeps, Stores}, Ran.Ran, declared.fault.StoreFault.StoreFault}
+use Rattle.room_store.specs.{Kept.{Keeps, Stores}, Ran.Ran}
+use Rattle.store_transaction.{specs.declared.fault.StoreFault.StoreFault, proofs.Testing.same_rows}
+use Rattle.store_transaction.proofs.Testing.{was}
 use Rattle.room_rows.specs.{Content.Content, Rows.Rows}
 use Rattle.store_tables.proofs.Within.{CommitsNothing, as_before}
 
@@ -83,16 +85,6 @@ module _ (old new : State) where
       → (HasCleanDisk new → IsTrue new.is_open → IsTrue old.is_open) → IsShut old → IsShut new
   stays dirty was_open is = grind (arith, clean_or_not, dirty, stays_shut, was_open, is)
 
-  pub was : IsUnchanged old new ⊎ IsRolledBack old new → IsTrue new.is_open → IsTrue old.is_open
-  was (inl same) is = same.0.was_open
-  was (inr undone) is = undone.was_open is
-
-  pub same_rows : (IsTrue old.is_open → old.now ≡ old.committed)
-      → IsUnchanged old new ⊎ IsRolledBack old new → IsTrue new.is_open → new.now ≡ old.now
-  same_rows settled (inl same) is = same.0.now_is
-  same_rows settled (inr undone) is =
-      (undone.undone is).0 ∙ sym (settled (undone.was_open is))
-
   -- what the test leaves, and what it tells
   pub asks : (result : Result Bool StoreFault)
       → (old.in_transaction ≡ false → new.in_transaction ≡ false)
@@ -101,8 +93,8 @@ module _ (old new : State) where
       → (HasCleanDisk new → IsUnchanged old new ⊎ IsRolledBack old new)
       → IfOk result (Agrees (HasCleanDisk new) (IsShut new)) → Asks old new result
   asks result ended quiet settled left told = record {
-    leaves = grind (arith, ended, quiet.clean, was, left);
-    same = λ now. same_rows settled (left now);
+    leaves = grind (arith, ended, quiet.clean, was, old, new, left);
+    same = λ now. same_rows old new settled (left now);
     told = told;
     crash = as_before old new quiet;
   }

@@ -9,12 +9,14 @@ use Rattle.room_rows.specs.{declared.keep.KeepFault.KeepFault, Keep.blamed_by, R
 use Rattle.store_tables.specs.{Meaning.rows_of, Shown.{HasTables, IsRoom, Retains, Stays, room_of}}
 use Rattle.store_tables.specs.{Shown.tables_of, Trust.IsTrusted, Within.{IsSettled, LeavesAsBefore}}
 use Rattle.store_tables.specs.{Within.{LeavesOnly, LeavesOrCommits}, Seeing.wants_memory}
+use Rattle.store_tables.specs.Carries.{AnswersOpen, ByRows, CallsInside, OnRows, Reading}
 use Rattle.store_tables.proofs.Calls.{retains_same}
-use Rattle.room_store.specs.declared.fault.StoreFault.{StoreFault, TheVariants.{Memory, Db}}
-use Rattle.room_store.specs.{declared.fault.StoreFault.TheVariants.Damaged, Premise.StorePremise}
-use Rattle.room_store.specs.{Ran.{CommitsAnswer, IsAnswered, LeavesOpen, Looked, Ran}, Transaction.Begins}
-use Rattle.room_store.specs.Transaction.{CommitsSeen, Finishes, GivesUp, commit_fault, fault_as}
-use Rattle.store_admin.specs.Carries.{AnswersOpen, ByRows, CallsInside, OnRows, Reading}
+use Rattle.store_transaction.specs.declared.fault.StoreFault.{StoreFault, TheVariants.{Memory, Db}}
+use Rattle.store_transaction.specs.declared.fault.StoreFault.TheVariants.{Damaged}
+use Rattle.store_transaction.specs.Transaction.{Begins, CommitsSeen, Finishes, GivesUp}
+use Rattle.store_transaction.specs.Transaction.{commit_fault, fault_as}
+use Rattle.room_store.specs.{Premise.StorePremise, Ran.{CommitsAnswer, IsAnswered, LeavesOpen}}
+use Rattle.room_store.specs.Ran.{Looked, Ran}
 use Rattle.room_rows.specs.declared.keep.KeepFault.TheVariants as keep
 
 -- a commit that fails is no damage

@@ -4,11 +4,12 @@ use Rattle.sqlite_trees.specs.View.{doubt}
 use Rattle.sqlite.specs.State.{State, HasCleanDisk}
 use Rattle.room_rows.specs.{declared.keep.KeepFault.KeepFault, Rows.Rows, Sound.AreSound}
 use Rattle.room_machine.specs.{declared.reply.Reply.Reply, Run.{Asking, event_of, unanswered}}
-use Rattle.store_tables.specs.Within.{IsSettled, LeavesOrCommits}
-use Rattle.store_admin.specs.Carries.{ByRows, CallsInside, OnRows}
-use Rattle.room_store.specs.{declared.fault.StoreFault.StoreFault, Crash.Outlasts, Leads.Leads}
-use Rattle.room_store.specs.{Ran.Ran, Transaction.{Begins, CommitsSeen, Finishes}}
-use Rattle.room_store.proofs.{Leading.{IsEvent, leading}, Outlasting.outlasting, Transact.ran}
+use Rattle.store_tables.specs.{Within.{IsSettled, LeavesOrCommits}, Carries.{ByRows, CallsInside}}
+use Rattle.store_tables.specs.Carries.{OnRows}
+use Rattle.store_transaction.specs.{declared.fault.StoreFault.StoreFault, Transaction.Begins}
+use Rattle.store_transaction.specs.Transaction.{CommitsSeen, Finishes}
+use Rattle.room_store.{specs.{Crash.Outlasts, Leads.Leads, Ran.Ran}, proofs.Leading.IsEvent}
+use Rattle.room_store.proofs.{Leading.leading, Outlasting.outlasting, Transact.ran}
 
 module _ {X : Type 0} (Blames : Rows → Type 0) (Becomes : Rows → X → Rows → Type 0)
     (asking : Asking) (reply : X → Reply) where

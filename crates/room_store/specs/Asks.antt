@@ -6,10 +6,10 @@ use Rattle.sqlite.specs.declared.error.Error.TheVariants.{SqliteFailure}
 use Rattle.sqlite.specs.declared.error.ErrorCode.TheVariants.{Closed}
 use Rattle.room_machine.specs.Desk.{Agrees}
 use Rattle.store_tables.specs.Within.{LeavesAsBefore}
-use Rattle.room_store.specs.declared.fault.StoreFault.{StoreFault}
+use Rattle.store_transaction.specs.declared.fault.StoreFault.{StoreFault}
 use Rattle.room_store.specs.Kept.{IsShut}
 use Rattle.room_store.specs.Ran.{LeavesOpen}
-use Rattle.room_store.specs.Transaction.{commit_fault}
+use Rattle.store_transaction.specs.Transaction.{commit_fault}
 
 -- the error that a shut connection answers, and no other
 abbrev pub says_shut : Error → Bool

@@ -2,8 +2,8 @@
 use Rattle.std.specs.Prelude.{◌≡◌, Result, Err, IsTrue}
 use Rattle.sqlite.specs.State.{State}
 use Rattle.store_tables.specs.Failing.{HasRisen}
-use Rattle.room_store.specs.declared.fault.StoreFault.{StoreFault}
-use Rattle.room_store.specs.declared.fault.StoreFault.TheVariants.{Db}
+use Rattle.store_transaction.specs.declared.fault.StoreFault.{StoreFault}
+use Rattle.store_transaction.specs.declared.fault.StoreFault.TheVariants.{Db}
 use Rattle.room_store.specs.Premise.{StorePremise}
 
 -- `Db` comes only where the disk failed or refused, which the connection counts. No limit of steps

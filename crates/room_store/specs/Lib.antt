@@ -1,7 +1,6 @@
 pub mod Premise
 pub mod Kept
 pub mod Ran
-pub mod Transaction
 pub mod Leads
 pub mod Crash
 pub mod Retained

@@ -1,36 +1,18 @@
-//! The review of a part of the room, inside a transaction.
+//! The review of a part of the room with its own pairs, inside a transaction.
 ghost use Rattle.std.specs.Prelude.{◌≡◌};
 ghost use Rattle.sqlite.specs.Held.{state};
-ghost use Rattle.room_store.specs.Reviews.{IsReviewBy, IsReviewOf};
-ghost use Rattle.store_admin.specs.Carries.{CallsInside, Reading};
-ghost use Rattle.store_admin.specs.Dump.{HasDamagedRow};
+ghost use Rattle.room_store.specs.Reviews.{IsReviewOf};
+ghost use Rattle.store_tables.specs.Carries.{CallsInside, HasDamagedRow, Reading};
 
-use room_ace::Name;
-use room_review::{Reviewed, Scope, review};
+use room_review::{Reviewed, Scope};
 use room_rows::KeepFault;
 use sqlite::{Alter, Transaction};
 use std::alloc::Global;
 use store_admin::all_members;
-use store_tables::{Keeper, RecentLists};
-
-// The review, by the keeper.
-fn review_by<S: Alter>(
-    alloc: Global,
-    keeper: &mut Keeper<'_, '_, S>,
-    pairs: &[(Name, Name)],
-    question: &Scope,
-) -> Result<Reviewed, KeepFault>
-    ensures same_reference { keeper.new.tx.ghost_name ≡ keeper.old.tx.ghost_name }
-    ensures same_lender { keeper.new.tx.now.conn.ghost_name ≡ keeper.old.tx.now.conn.ghost_name }
-    ensures carries { CallsInside (state S.Store keeper.old.tx.now.conn.now)
-        (state S.Store keeper.new.tx.now.conn.now) result HasDamagedRow
-        (Reading (IsReviewBy pairs.now question.now)) }
-{
-    review(alloc, keeper, pairs, question)
-}
+use store_transaction::review_inside;
 
 /// The review, inside the transaction, with the pairs that the tables hold.
-pub(crate) fn review_inside<S: Alter>(
+pub(crate) fn review_all<S: Alter>(
     alloc: Global,
     tx: &mut Transaction<'_, S>,
     question: &Scope,
@@ -40,13 +22,5 @@ pub(crate) fn review_inside<S: Alter>(
         result HasDamagedRow (Reading (IsReviewOf question.now)) }
 {
     let pairs = all_members(alloc, tx)?;
-    let mut lists = RecentLists::new();
-    let mut keeper = Keeper {
-        alloc,
-        tx,
-        lists: &mut lists,
-        failures: 0,
-        writes: 0,
-    };
-    review_by(alloc, &mut keeper, pairs.as_slice(), question)
+    review_inside(alloc, tx, pairs.as_slice(), question)
 }

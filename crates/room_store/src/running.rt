@@ -7,16 +7,14 @@ ghost use Rattle.sqlite_trees.specs.View.{doubt};
 ghost use Rattle.room_judge.specs.Closed.{Performs};
 ghost use Rattle.room_remember.specs.Agrees.{AgreesWithRows};
 ghost use Rattle.room_store.specs.Ran.{HasDamage};
-ghost use Rattle.room_store.specs.Remembers.{EndsLook, IsKept};
-ghost use Rattle.room_rows.specs.Rows.{Rows};
-ghost use Rattle.store_admin.specs.Carries.{ByRows, CallsInside, OnRows};
+ghost use Rattle.room_store.specs.Remembers.{IsKept};
+ghost use Rattle.store_tables.specs.Carries.{ByRows, CallsInside, OnRows};
 ghost use Rattle.store_tables.specs.Meaning.{rows_of};
 ghost use Rattle.store_tables.specs.Shown.{Stays};
 ghost use Rattle.store_tables.specs.Within.{LeavesAsBefore};
 ghost use Rattle.store_tables.specs.Trust.{IsTrusted};
+ghost use Rattle.store_transaction.specs.Ending.{EndsLook};
 
-use crate::ending::still_open;
-use crate::fault::StoreFault;
 use room_ace::Name;
 use room_desk::perform;
 use room_machine::{Reply, Request};
@@ -25,23 +23,13 @@ use room_rows::KeepFault;
 use sqlite::{Alter, Connection, Transaction};
 use std::alloc::Global;
 use store_tables::{Keeper, RecentLists};
+use store_transaction::{StoreFault, still_open};
 
 /// What is asked, and by whom. Without a name that is an anonymous caller.
 #[derive(Drop)]
 pub(crate) struct RequestBy<'a, 'b> {
     pub(crate) caller: Option<&'a Name>,
     pub(crate) request: &'b Request,
-}
-
-/// What is remembered, or nothing yet.
-pub(crate) fn known_of(alloc: Global, kept: Option<Memory>) -> Memory
-    ensures { (rows : Rows) → IfSome kept (λ known. AgreesWithRows known rows)
-        → AgreesWithRows result rows }
-{
-    match kept {
-        None => Memory::new(alloc),
-        Some(known) => known,
-    }
 }
 
 // The request, by a keeper that remembers.

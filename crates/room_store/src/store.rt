@@ -17,8 +17,8 @@ ghost use Rattle.room_store.specs.Premise.{StorePremise};
 ghost use Rattle.room_store.specs.Ran.{HasDamage, Looked, Ran};
 ghost use Rattle.room_store.specs.Reviews.{IsReviewOf};
 ghost use Rattle.room_store.specs.Tests.{IsTested};
-ghost use Rattle.store_admin.specs.Carries.{NoTables};
-ghost use Rattle.store_admin.specs.Dump.{HasDamagedRow, IsDump};
+ghost use Rattle.store_admin.specs.Dump.{IsDump};
+ghost use Rattle.store_tables.specs.Carries.{HasDamagedRow, NoTables};
 ghost use Rattle.store_tables.specs.Meaning.{rows_of};
 ghost use Rattle.store_admin.specs.Operating.{
   AreMembers,
@@ -28,20 +28,17 @@ ghost use Rattle.store_admin.specs.Operating.{
   ReplacesMembers,
 };
 
-use crate::ending::{give_up, if_open, test_shut};
-use crate::fault::StoreFault;
-use crate::fetching::fetch_inside;
+use crate::asking::test_shut;
 use crate::laws::what_is_committed_lasts;
 use crate::resetting::reset_inside;
-use crate::reviewing::review_inside;
-use crate::running::{RequestBy, end_look, known_of, perform_inside};
-use crate::transaction::{begin, finish};
+use crate::reviewing::review_all;
+use crate::running::{RequestBy, end_look, perform_inside};
 use crate::verifying::{Tested, verify_inside};
 use room_ace::{Name, SentList, Which};
 use room_dump::Fetched;
 use room_inherit::laws::sound_is_no_fault;
 use room_machine::{Reply, Request};
-use room_remember::Memory;
+use room_remember::{Memory, known_of};
 use room_review::{Reviewed, Scope};
 use room_rows::{AuditRow, Path};
 use sqlite::{Alter, Connection};
@@ -49,6 +46,7 @@ use std::alloc::Global;
 use std::marker::Model;
 use store_admin::{all_members, all_records, dump_all, put_members};
 use store_tables::RecentLists;
+use store_transaction::{StoreFault, begin, fetch_inside, finish, give_up, if_open};
 
 /// A room in the tables of a connection. Each call is one transaction. A contract sees the
 /// connection, and the count of faults.
@@ -316,7 +314,7 @@ impl<S: Alter> Store<S> {
     {
         self.memory = None;
         let mut tx = begin(&mut self.conn);
-        let done = review_inside(alloc, &mut tx, question);
+        let done = review_all(alloc, &mut tx, question);
         // a keeper doesn't tell whether the connection was open
         let done = if_open(&mut tx, done);
         give_up(tx, done)

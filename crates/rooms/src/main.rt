@@ -37,8 +37,8 @@
 //!    `cli_words` too.
 //! 3. Owner and group, the path and what was read are validated, by `cli_words`. Where something is
 //!    refused up to here, no file of a room is opened or made.
-//! 4. The file is opened, or made by `init`: `files`. One that cannot be opened is a fault, and an
-//!    empty one is no room.
+//! 4. The file is opened, or made by `init`, by `cli_system`, which takes the words and the input
+//!    of the system too. One that cannot be opened is a fault, and an empty one is no room.
 //! 5. The task is done in one transaction and its outcome printed, by `cli_act`; or connections are
 //!    served, by `cli_serve`.
 //! 6. The log beside the file is copied into it, so that the file alone has the whole room.
@@ -51,15 +51,11 @@
 //! it.
 #![tactic(auto)]
 
-mod files;
-mod unopened;
 mod work;
 
-use cli_check::tell_check;
+use cli_system::{check, words_of};
 use cli_words::{Command, Stop, read_command, tell_stop};
 use sqlite_std_file::{Start, Unknown};
-use std::env;
-use std::io::ErrorKind;
 use std::process::ExitCode;
 
 fn main(rt: HostRuntime) -> ExitCode {
@@ -76,27 +72,12 @@ fn run<S: Start>(rt: &HostRuntime, start: S) -> Result<u8, Stop> {
     let words = words_of(rt)?;
     let command = read_command(rt.alloc(), words.as_slice())?;
     match command {
-        Command::Check => Ok(tell_check(
-            rt.alloc(),
-            &mut rt.reader(),
-            &mut rt.stdout(),
-            &mut rt.stderr(),
-        )),
+        Command::Check => Ok(check(rt)),
         Command::Serve {
             file,
             address,
             count,
         } => work::serve(rt, start, file, address, count),
         Command::On(file, job) => work::carry_out(rt, start, file, &job),
-    }
-}
-
-fn words_of(rt: &HostRuntime) -> Result<Vec<String>, Stop> {
-    match env::args(rt) {
-        Ok(words) => Ok(words.collect(rt.alloc())?),
-        Err(error) => match error.kind() {
-            ErrorKind::OutOfMemory => Err(Stop::from(error)),
-            _ => Err(Stop::NotText),
-        },
     }
 }

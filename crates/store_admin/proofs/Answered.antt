@@ -5,7 +5,7 @@ use Rattle.sqlite.specs.{Order.Row, declared.error.Error.Error, State.{State, Ha
 use Rattle.sqlite.specs.State.{ShowsRows}
 use Rattle.sqlite_resolve.specs.declared.compiled.Compiled.{Compiled}
 use Rattle.sqlite_schema.specs.declared.command.Returning.{Returning}
-use Rattle.store_admin.specs.Carries.{AnswersOpen}
+use Rattle.store_tables.specs.Carries.{AnswersOpen}
 
 at_open : (sql : List ℕ) (c : Compiled) (full : Row) (old new : State) (rows : List Row)
     (r : Option Returning) → ShowsRows old new sql c full rows r → IsTrue old.is_open

@@ -6,7 +6,8 @@ use Rattle.room_rows.specs.{declared.keep.KeepFault.KeepFault, Keep.{HasCause, I
 use Rattle.room_rows.proofs.Steps.{blames_caused}
 use Rattle.room_dump.specs.Dump.{IsDumpText}
 use Rattle.store_tables.specs.{Meaning.rows_of, Shown.Stays, Trust.IsTrusted}
-use Rattle.store_admin.specs.{Carries.CallsInside, Dump.{HasDamagedRow, TellsObjects}}
+use Rattle.store_tables.specs.Carries.{CallsInside, HasDamagedRow}
+use Rattle.store_admin.specs.Dump.{TellsObjects}
 
 -- the text of all objects, by the keeper
 pub told_objects : (begun mid : State) (result : Result (String Global) KeepFault)

@@ -4,7 +4,8 @@ use Rattle.sqlite.specs.State.{State}
 use Rattle.room_rows.specs.declared.keep.KeepFault.{KeepFault}
 use Rattle.store_tables.specs.{Meaning.pairs_of, Paired.Pair, Statements.{OfAny, ExecutesSql}}
 use Rattle.store_tables.specs.Trust.{stays_on, trusted_first, trusted_last}
-use Rattle.store_admin.specs.{Carries.{CallsInside, NoTables}, Operating.Exchanges}
+use Rattle.store_tables.specs.Carries.{CallsInside, NoTables}
+use Rattle.store_admin.specs.Operating.{Exchanges}
 use Rattle.store_admin.{specs.Operating.{ExchangesMembers, Gathers}, proofs.Gathering.replaced}
 
 pub exchanged : (pairs order : List Pair) (a b c : State) (count : ℕ)

@@ -2,7 +2,6 @@
 use Rattle.std.specs.Prelude.{◌≡◌, ℕ, List, ◌++◌, String, string_bytes}
 use Rattle.std.specs.Global.{Global}
 use Rattle.sqlite.specs.Effect.{Database}
-use Rattle.room_rows.specs.Keep.{IsDamaged}
 use Rattle.room_rows.specs.Rooted.{HasRoot}
 use Rattle.room_dump.specs.Dump.{HasAllBytes, IsDumpText, room_text}
 use Rattle.room_dump.specs.Members.{members_text}
@@ -13,10 +12,6 @@ use Rattle.store_tables.specs.Meaning.{rows_of}
 abbrev pub IsDump : Database → String Global → Type 0
 IsDump db text = (string_bytes text ≡ room_text (rows_of db)) × HasAllBytes (rows_of db)
     × HasRoot (rows_of db)
-
--- some row is damaged
-abbrev pub HasDamagedRow : Database → Type 0
-HasDamagedRow db = (row : ℕ) × IsDamaged (rows_of db) row
 
 -- ---- the two parts of the text
 

@@ -1,4 +1,3 @@
-pub mod Carries
 pub mod Numbers
 pub mod Operating
 pub mod Dump

@@ -1,9 +1,9 @@
 //! Whether a number is left for the next record.
 ghost use Rattle.std.specs.Prelude.{◌≡◌, ◌↔◌, [], IsTrue, OnOk};
 ghost use Rattle.sqlite.specs.Held.{state};
+ghost use Rattle.store_tables.specs.Carries.{CallsInside, NoTables, Reading};
 ghost use Rattle.store_tables.specs.Statements.{QueriesSql};
 ghost use Rattle.store_tables.specs.Trust.{IsTrusted};
-ghost use Rattle.store_admin.specs.Carries.{CallsInside, NoTables, Reading};
 ghost use Rattle.store_admin.specs.Numbers.{HasNumbers, ShowsSpent};
 
 use room_rows::KeepFault;

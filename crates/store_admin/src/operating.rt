@@ -4,7 +4,7 @@ ghost use Rattle.sqlite.specs.Held.{state};
 ghost use Rattle.store_tables.specs.Paired.{pair_cmp};
 ghost use Rattle.store_tables.specs.Statements.{QueriesSql, OfAny, ExecutesSql};
 ghost use Rattle.store_tables.specs.Trust.{IsTrusted};
-ghost use Rattle.store_admin.specs.Carries.{AnswersOpen, CallsInside, NoTables, Reading};
+ghost use Rattle.store_tables.specs.Carries.{AnswersOpen, CallsInside, NoTables, Reading};
 ghost use Rattle.store_tables.specs.Failing.{FailsInside, FailsSql};
 ghost use Rattle.store_admin.specs.Operating.{
   AreMembers,

@@ -8,7 +8,7 @@ ghost use Rattle.sqlite.specs.declared.types.Value.TheVariants.{Text as SqlText}
 ghost use Rattle.store_tables.specs.Meaning.{name_in};
 ghost use Rattle.store_tables.specs.Paired.{pair_cmp};
 ghost use Rattle.store_tables.specs.Statements.{OfAny, ExecutesSql};
-ghost use Rattle.store_admin.specs.Carries.{CallsInside, NoTables};
+ghost use Rattle.store_tables.specs.Carries.{CallsInside, NoTables};
 ghost use Rattle.store_admin.specs.Operating.{ExchangesMembers, Gathers, IsAgain, Joins};
 
 use crate::operating::{compare, delete_members, insert_member};

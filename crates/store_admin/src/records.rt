@@ -7,7 +7,7 @@ ghost use Rattle.sqlite_value.specs.Value.{owned};
 ghost use Rattle.store_tables.specs.Meaning.{granted_in, mask_in, moment_in, path_in, place_in};
 ghost use Rattle.store_tables.specs.Meaning.{user_in};
 ghost use Rattle.store_tables.specs.Statements.{QueriesSql};
-ghost use Rattle.store_admin.specs.Carries.{AnswersOpen, CallsInside, Reading};
+ghost use Rattle.store_tables.specs.Carries.{AnswersOpen, CallsInside, Reading};
 ghost use Rattle.store_tables.specs.Failing.{FailsInside, FailsSql};
 ghost use Rattle.store_admin.specs.Operating.{
   AreRecords,

@@ -1,8 +1,9 @@
 //! The text of a room.
 ghost use Rattle.std.specs.Prelude.{◌≡◌, string_bytes};
 ghost use Rattle.sqlite.specs.Held.{state};
-ghost use Rattle.store_admin.specs.Carries.{AnswersOpen, CallsInside, NoTables, Reading};
-ghost use Rattle.store_admin.specs.Dump.{AddsMembers, HasDamagedRow, IsDump, TellsObjects};
+ghost use Rattle.store_admin.specs.Dump.{AddsMembers, IsDump, TellsObjects};
+ghost use Rattle.store_tables.specs.Carries.{AnswersOpen, CallsInside, HasDamagedRow, NoTables};
+ghost use Rattle.store_tables.specs.Carries.{Reading};
 
 use crate::operating::all_members;
 use room_dump::{dump, push_members};

@@ -14,7 +14,7 @@ use Rattle.room_dump.specs.declared.fetching.Fetched.TheVariants.{NotFolder, Wro
 use Rattle.room_store.specs.{Crash.{IsRoomOf, Lasts}, FromRoot.{RoomsAreFromRoot, computed_lists}}
 use Rattle.room_store.specs.{FromRoot.stored_lists, Kept.IsSound, Premise.StorePremise}
 use Rattle.room_store.specs.{Opens.{CrashLeavesARoom, Opens, RoomsCanBeOpened}, Ran.{Looked, Ran}}
-use Rattle.room_store.specs.declared.fault.StoreFault.TheVariants.{Damaged}
+use Rattle.store_transaction.specs.declared.fault.StoreFault.TheVariants.{Damaged}
 
 -- ---- a sound room
 

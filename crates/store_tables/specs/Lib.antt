@@ -17,6 +17,7 @@ pub mod Paired
 pub mod RoomRows
 pub mod Within
 pub mod Trust
+pub mod Carries
 pub mod Seeing
 pub mod Failing
 pub mod Columns

@@ -2,8 +2,9 @@
 ghost use Rattle.std.specs.Prelude.{⊤};
 
 use crate::meeting::{DONE, Full, MADE, PUT, gets, listens, same_bytes, sends};
+use cli_listen::{NetListener, Ports, Seconds, Service};
 use cli_outcome::ListenAddress;
-use cli_serve::{NetListener, Ports, Seconds, Service, host};
+use cli_serve::host;
 use room_ace::{Owners, read_name};
 use room_store::Store;
 use sqlite::{Connection, MemStore};

@@ -5,7 +5,7 @@ use crate::meeting::{
     DONE, Full, MADE, PUT, connects, gets, grows_impatient, listening, listens, sends, serves,
     serves_untold,
 };
-use cli_serve::{Moments, Seconds, ServingFault, serve_on};
+use cli_listen::{Moments, Seconds, ServingFault, serve_on};
 use std::io::Write;
 use std::test::Fail;
 use test_memory::MemDesk;

@@ -1,6 +1,6 @@
 //! Clients that have sent everything before a connection is accepted, and writers that fail.
+use cli_listen::{Listening, Moments, NetListener, ServingFault, serve_on};
 use cli_outcome::ListenAddress;
-use cli_serve::{Listening, Moments, NetListener, ServingFault, serve_on};
 use room_machine::Desk;
 use std::alloc::Global;
 use std::io;

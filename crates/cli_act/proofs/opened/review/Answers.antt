@@ -1,5 +1,6 @@
 use Rattle.std.proofs.Common.{Err, rules}
-use Rattle.room_store.specs.{declared.fault.StoreFault.TheVariants.Memory, Lasting.itself}
+use Rattle.store_transaction.specs.declared.fault.StoreFault.TheVariants.{Memory}
+use Rattle.room_store.specs.Lasting.{itself}
 use Rattle.cli_act.proofs.Unrun.{unlooked}
 use Rattle.cli_act.proofs.opened.review.Goals as goal
 

@@ -1,6 +1,6 @@
 use Rattle.std.proofs.Common.{[], ◌∷◌}
 use Rattle.sqlite.specs.Held.{state}
-use Rattle.cli_serve.specs.Visits.{requests_of, unanswered_of}
+use Rattle.cli_listen.specs.Visits.{requests_of, unanswered_of}
 use Rattle.cli_runs.proofs.Gains.{gains_nothing}
 use Rattle.cli_runs.proofs.laws.nothing_gained_by_serving.Goals as goal
 

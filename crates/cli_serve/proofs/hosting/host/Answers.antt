@@ -1,9 +1,10 @@
 use Rattle.std.proofs.Common.{[], inl, inr, subst, sym}
 use Rattle.sqlite.specs.Held.{Held, state}
 use Rattle.room_store.specs.Crash.{Lasts}
-use Rattle.cli_serve.specs.{Hosts.Hosts, Visits.{requests_of, unanswered_of}}
+use Rattle.cli_listen.{specs.Visits.{requests_of, unanswered_of}, proofs.Receiving.no_more}
+use Rattle.cli_serve.specs.Hosts.{Hosts}
 use Rattle.cli_serve.proofs.Hosted.{after, closed_from, leaves_requests, left_shut, opened, served}
-use Rattle.cli_serve.proofs.{Hosted.stays_room, Receiving.no_more}
+use Rattle.cli_serve.proofs.Hosted.{stays_room}
 use Rattle.cli_serve.proofs.hosting.host.Goals as goal
 
 pub returns-clause-hosts : goal.returns-clause-hosts

@@ -3,7 +3,7 @@ use Rattle.std.specs.Option.{option_copied}
 use Rattle.sqlite.specs.Held.{state}
 use Rattle.room_judge.specs.Closed.{Performs}
 use Rattle.room_store.{specs.Ran.HasDamage, proofs.Turning.carried_with}
-use Rattle.store_admin.specs.Carries.{ByRows, CallsInside, OnRows}
+use Rattle.store_tables.specs.Carries.{ByRows, CallsInside, OnRows}
 use Rattle.room_store.proofs.running.perform_by.Goals as goal
 
 pub returns : goal.returns

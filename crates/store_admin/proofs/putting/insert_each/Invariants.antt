@@ -1,6 +1,7 @@
 use Rattle.std.proofs.Common.{◌≡◌, [], Ok, map, take}
 use Rattle.sqlite.specs.Held.{state}
-use Rattle.store_admin.specs.{Carries.{CallsInside, NoTables}, Operating.Gathers}
+use Rattle.store_tables.specs.Carries.{CallsInside, NoTables}
+use Rattle.store_admin.specs.Operating.{Gathers}
 use Rattle.store_admin.proofs.putting.insert_each.Given as goal
 
 -- the pairs so far are put in

@@ -1,8 +1,7 @@
 use Rattle.std.proofs.Common.{refl}
 use Rattle.sqlite.specs.Held.{state}
 use Rattle.room_dump.specs.Fetching.{IsFetched}
-use Rattle.store_admin.specs.Dump.{HasDamagedRow}
-use Rattle.store_tables.specs.Meaning.{rows_of}
+use Rattle.store_tables.specs.{Carries.HasDamagedRow, Meaning.rows_of}
 use Rattle.room_store.proofs.Looking.{looks_if_open}
 use Rattle.room_store.proofs.store.Store.document.Goals as goal
 

@@ -1,12 +1,12 @@
 use Rattle.std.proofs.Common.{arith}
 use Rattle.sqlite.specs.Held.{state}
-use Rattle.store_admin.specs.Dump.{HasDamagedRow}
+use Rattle.store_tables.specs.Carries.{HasDamagedRow}
 use Rattle.room_store.{specs.Reviews.IsReviewOf, proofs.Looking.looks_if_open}
 use Rattle.room_store.proofs.store.Store.review.Goals as goal
 
 pub returns : goal.returns
 returns g c =
-    let done = c.review_inside-done in
+    let done = c.review_all-done in
     let tested = c.if_open-done in
     let left = c.give_up in
     let it = looks_if_open (state g.S.Store c.self.inside.conn)

@@ -1,5 +1,0 @@
-use Rattle.cli_act.proofs.Distinct.{groups_are}
-use Rattle.cli_act.proofs.laws.groups_of_pairs.Goals as goal
-
-pub returns : goal.returns
-returns c = groups_are

@@ -1,0 +1,3 @@
+mod Groups
+mod Texts
+mod Distinct

@@ -1,0 +1,4 @@
+pub mod Counting
+pub mod Outcome
+pub mod Telling
+pub mod After

@@ -1,0 +1,4 @@
+pub mod Receiving
+pub mod Told
+mod Staying
+pub mod Texts

@@ -1,9 +1,0 @@
-use Rattle.cli_serve.{specs.Visits.sources, proofs.Told.IsServing}
-use Rattle.cli_serve.proofs.serving.serve_each.Given as goal
-
-abbrev pub invariant-connections : goal.invariant-connections
-invariant-connections g l =
-    IsServing g.D.Desk l.number
-    (sources (g.M.Moments.told l.fn.clock) (g.L.Listens.did l.fn.listener))
-    (sources (g.M.Moments.told l.clock) (g.L.Listens.did l.listener)) l.fn.desk l.desk l.all_printed
-    (g.E.Write.contents l.fn.err) (g.E.Write.contents l.err)

@@ -1,4 +1,0 @@
-use Rattle.room_store.proofs.running.known_of.Goals as goal
-
-pub returns-in-None : goal.returns-in-None
-returns-in-None c = λ rows _. c.new.ensures rows

@@ -1,0 +1,4 @@
+pub mod Testing
+mod Fetched
+mod Reviewed
+mod Verified

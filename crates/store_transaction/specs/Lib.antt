@@ -1,0 +1,3 @@
+pub mod Transaction
+pub mod Ending
+pub mod Reviews
