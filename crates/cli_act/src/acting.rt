@@ -38,14 +38,15 @@ pub fn act<S: Alter + Drop, O: Write, E: Write>(
 }
 
 /// The same with the allocator and the two streams of the system. What `act` promises is proved for
-/// any database and any streams; nothing of it is asked for here, so that none of it is proved once
-/// more.
+/// any database and any streams; nothing of it but its end is asked for here, so that none of it is
+/// proved once more.
 pub fn act_on<S: Alter + Drop>(
     rt: &HostRuntime,
     conn: Connection<S>,
     task: &Task,
 ) -> (Connection<S>, u8)
     requires { conn.in_transaction ≡ false }
+    ensures { result.0.in_transaction ≡ false }
 {
     let mut out = rt.stdout();
     let mut err = rt.stderr();
