@@ -1,6 +1,6 @@
 -- What the query of the counter of records shows.
-use Rattle.std.proofs.Common.{◌≡◌, ◌&&◌, ℕ, List, [], ◌∷◌, map, filter, codes, pos, refl, ap, subst}
-use Rattle.std.proofs.Common.{IsTrue, true, false, Bool, sym, ◌∙◌, arith, length}
+use Rattle.std.proofs.Common.{◌≡◌, ℕ, List, [], ◌∷◌, map, filter, codes, refl, subst}
+use Rattle.std.proofs.Common.{false, arith}
 use Rattle.std.proofs.{Math.Bool.and-true, lemmas.List.Sorted.length_permutation}
 use Rattle.std.specs.{List.Sorted.IsPermutation}
 use Rattle.sqlite.specs.declared.types.Value.TheVariants.{Int, Text}
