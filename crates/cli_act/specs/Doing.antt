@@ -29,10 +29,11 @@ use Rattle.room_store.specs.Failing.{FailsByDb}
 use Rattle.room_store.specs.Leads.{Leads}
 use Rattle.room_store.specs.Opens.{Creates, Opens}
 use Rattle.room_store.specs.Premise.{StorePremise}
-use Rattle.room_store.specs.Ran.{HasDamage, Looked, Ran}
+use Rattle.room_store.specs.Ran.{Looked, Ran}
 use Rattle.room_store.specs.Reviews.{IsReviewOf}
 use Rattle.room_store.specs.Tests.{IsTested}
 use Rattle.room_store.specs.declared.verifying.Tested.{Tested}
+use Rattle.store_request.specs.Inside.{HasDamage}
 use Rattle.store_transaction.specs.declared.fault.StoreFault.{StoreFault}
 use Rattle.store_transaction.specs.declared.fault.StoreFault.TheVariants as store
 use Rattle.store_tables.specs.Meaning.{rows_of}

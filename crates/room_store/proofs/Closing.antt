@@ -4,7 +4,8 @@ use Rattle.sqlite.specs.State.{State, HasCleanDisk}
 use Rattle.room_machine.specs.{declared.{reply.Reply.Reply, request.Request.Request}, Desk.Closes}
 use Rattle.room_judge.specs.Closed.{Performs}
 use Rattle.store_transaction.specs.declared.fault.StoreFault.{StoreFault}
-use Rattle.room_store.specs.{Kept.Stores, Ran.{HasDamage, Ran}}
+use Rattle.room_store.specs.{Kept.Stores, Ran.Ran}
+use Rattle.store_request.specs.Inside.{HasDamage}
 
 pub closes : (user : Option (List ℕ)) (moment : ℤ) (request : Request) (old new : State)
     (result : Result Reply StoreFault)

@@ -1,13 +1,13 @@
 -- The test of the rows, after that of the counter of records.
-use Rattle.std.proofs.Common.{◌≡◌, Bool, IsTrue, Result, Ok, Err, subst}
+use Rattle.std.proofs.Common.{◌≡◌, Bool, IsTrue, Ok, Err, subst}
 use Rattle.sqlite.specs.{Effect.Database, State.State}
 use Rattle.room_verify.specs.Reading.{IsReport}
 use Rattle.room_rows.specs.declared.{keep.KeepFault.KeepFault, report.Report.Report}
 use Rattle.store_tables.specs.Carries.{CallsInside, NoTables, Reading}
 use Rattle.store_admin.specs.Numbers.{HasNumbers}
-use Rattle.store_tables.specs.{Meaning.rows_of, Shown.Stays}
+use Rattle.store_tables.specs.{Meaning.rows_of}
 use Rattle.store_tables.specs.Trust.{IsTrusted, stays_on, trusted_first, trusted_last}
-use Rattle.room_store.specs.{Tests.IsTested, declared.verifying.Tested.Tested}
+use Rattle.room_store.specs.{Tests.IsTested}
 
 module _ (a b c : State) (left : Bool)
     (counted : CallsInside a b (Ok left) NoTables

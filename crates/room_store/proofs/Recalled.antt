@@ -10,7 +10,8 @@ use Rattle.store_tables.specs.{Within.{IsSettled, LeavesAsBefore}, Carries.{ByRo
 use Rattle.store_tables.{specs.Carries.OnRows, proofs.Calls.retains_same}
 use Rattle.store_transaction.specs.{declared.fault.StoreFault.StoreFault, Ending.EndsLook}
 use Rattle.store_transaction.specs.{Ending.Settled, Transaction.{Begins, GivesUp}}
-use Rattle.room_store.specs.{Ran.{LeavesOpen, Ran}, Remembers.{IsKept, Remembers}}
+use Rattle.room_store.specs.{Ran.{LeavesOpen, Ran}, Remembers.Remembers}
+use Rattle.store_request.specs.Inside.{IsKept}
 use Rattle.room_store.proofs.Transact.{before, made, never_damage, old_clean, old_open, same_fault}
 use Rattle.room_store.proofs.Transact.{undone_at}
 

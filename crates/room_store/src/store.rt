@@ -14,10 +14,11 @@ ghost use Rattle.room_store.specs.Failing.{FailsByDb};
 ghost use Rattle.room_store.specs.Kept.{Stores};
 ghost use Rattle.room_store.specs.Leads.{Leads};
 ghost use Rattle.room_store.specs.Premise.{StorePremise};
-ghost use Rattle.room_store.specs.Ran.{HasDamage, Looked, Ran};
+ghost use Rattle.room_store.specs.Ran.{Looked, Ran};
 ghost use Rattle.room_store.specs.Reviews.{IsReviewOf};
 ghost use Rattle.room_store.specs.Tests.{IsTested};
 ghost use Rattle.store_admin.specs.Dump.{IsDump};
+ghost use Rattle.store_request.specs.Inside.{HasDamage};
 ghost use Rattle.store_tables.specs.Carries.{HasDamagedRow, NoTables};
 ghost use Rattle.store_tables.specs.Meaning.{rows_of};
 ghost use Rattle.store_admin.specs.Operating.{
@@ -30,9 +31,7 @@ ghost use Rattle.store_admin.specs.Operating.{
 
 use crate::asking::test_shut;
 use crate::laws::what_is_committed_lasts;
-use crate::resetting::reset_inside;
 use crate::reviewing::review_all;
-use crate::running::{RequestBy, end_look, perform_inside};
 use crate::verifying::{Tested, verify_inside};
 use room_ace::{Name, SentList, Which};
 use room_dump::Fetched;
@@ -45,6 +44,7 @@ use sqlite::{Alter, Connection};
 use std::alloc::Global;
 use std::marker::Model;
 use store_admin::{all_members, all_records, dump_all, put_members};
+use store_request::{RequestBy, end_look, perform_inside, reset_inside};
 use store_tables::RecentLists;
 use store_transaction::{StoreFault, begin, fetch_inside, finish, give_up, if_open};
 

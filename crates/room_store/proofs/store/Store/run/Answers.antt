@@ -4,7 +4,8 @@ use Rattle.sqlite.specs.Held.{Held, state}
 use Rattle.room_judge.specs.Closed.{Performs}
 use Rattle.room_machine.specs.Run.{Asked}
 use Rattle.store_tables.specs.Within.{IsSettled}
-use Rattle.room_store.specs.{Ran.{HasDamage, Ran}, Remembers.Remembers}
+use Rattle.room_store.specs.{Ran.Ran, Remembers.Remembers}
+use Rattle.store_request.specs.Inside.{HasDamage}
 use Rattle.room_store.proofs.{Closing.closes, Leading.performed, Recalled.{agrees_at, begun_with}}
 use Rattle.room_store.proofs.{Recalled.{look_ran, look_remembers}, Transact.ran, Turning.stands}
 use Rattle.room_store.proofs.Writing.{written}

@@ -6,8 +6,7 @@ ghost use Rattle.sqlite.specs.State.{HasCleanDisk};
 ghost use Rattle.sqlite_trees.specs.View.{doubt};
 ghost use Rattle.room_judge.specs.Closed.{Performs};
 ghost use Rattle.room_remember.specs.Agrees.{AgreesWithRows};
-ghost use Rattle.room_store.specs.Ran.{HasDamage};
-ghost use Rattle.room_store.specs.Remembers.{IsKept};
+ghost use Rattle.store_request.specs.Inside.{HasDamage, IsKept};
 ghost use Rattle.store_tables.specs.Carries.{ByRows, CallsInside, OnRows};
 ghost use Rattle.store_tables.specs.Meaning.{rows_of};
 ghost use Rattle.store_tables.specs.Shown.{Stays};
@@ -27,9 +26,11 @@ use store_transaction::{StoreFault, still_open};
 
 /// What is asked, and by whom. Without a name that is an anonymous caller.
 #[derive(Drop)]
-pub(crate) struct RequestBy<'a, 'b> {
-    pub(crate) caller: Option<&'a Name>,
-    pub(crate) request: &'b Request,
+pub struct RequestBy<'a, 'b> {
+    /// Who asks.
+    pub caller: Option<&'a Name>,
+    /// What is asked.
+    pub request: &'b Request,
 }
 
 // The request, by a keeper that remembers.
@@ -103,7 +104,7 @@ fn perform_with<S: Alter>(
 }
 
 /// The request, by a keeper inside the transaction, and whether it only read.
-pub(crate) fn perform_inside<S: Alter>(
+pub fn perform_inside<S: Alter>(
     alloc: Global,
     tx: &mut Transaction<'_, S>,
     lists: &mut RecentLists,
@@ -133,7 +134,7 @@ pub(crate) fn perform_inside<S: Alter>(
 }
 
 /// After calls that only read, and were rolled back: the answer, if the connection is open.
-pub(crate) fn end_look<S: Alter>(
+pub fn end_look<S: Alter>(
     conn: &mut Connection<S>,
     looked: Result<Reply, StoreFault>,
     kept: Memory,

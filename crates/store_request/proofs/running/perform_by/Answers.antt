@@ -2,9 +2,9 @@ use Rattle.std.proofs.{Common.{subst, w64, to_z, of_z}, lemmas.Int.to_z-of_z}
 use Rattle.std.specs.Option.{option_copied}
 use Rattle.sqlite.specs.Held.{state}
 use Rattle.room_judge.specs.Closed.{Performs}
-use Rattle.room_store.{specs.Ran.HasDamage, proofs.Turning.carried_with}
+use Rattle.store_request.{specs.Inside.HasDamage, proofs.Turning.carried_with}
 use Rattle.store_tables.specs.Carries.{ByRows, CallsInside, OnRows}
-use Rattle.room_store.proofs.running.perform_by.Goals as goal
+use Rattle.store_request.proofs.running.perform_by.Goals as goal
 
 pub returns : goal.returns
 returns g c =
