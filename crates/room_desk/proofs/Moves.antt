@@ -5,3 +5,4 @@ pub mod MovingPlan
 pub mod MovingWays
 pub mod MovingFacts
 pub mod MovingSteps
+pub mod Relocated

@@ -58,8 +58,8 @@ pub(crate) fn check_free<K: Keep>(
     Ok(())
 }
 
-// Whether the folder of this number has a child of this name.
-fn is_taken<K: Keep>(keep: &mut K, folder: u64, name: &str) -> Result<bool, KeepFault>
+/// Whether the folder of this number has a child of this name.
+pub(crate) fn is_taken<K: Keep>(keep: &mut K, folder: u64, name: &str) -> Result<bool, KeepFault>
     ensures read { Reads K.Keep keep.old keep.new result IsUnreadable (IsTaken folder name.now) }
     ensures counted { K.reads keep.new ≤ K.reads keep.old + 1 }
 {
@@ -67,8 +67,8 @@ fn is_taken<K: Keep>(keep: &mut K, folder: u64, name: &str) -> Result<bool, Keep
     Ok(child.is_some())
 }
 
-// Whether the names are a prefix of the others.
-fn begins(names: &[Text], others: &[Text]) -> bool
+/// Whether the names are a prefix of the others.
+pub(crate) fn begins(names: &[Text], others: &[Text]) -> bool
     ensures { result ≡ begins names.now others.now }
 {
     let are_more = names.len() > others.len();

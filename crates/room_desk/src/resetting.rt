@@ -1,9 +1,9 @@
 //! The operator's reset of a list.
-ghost use Rattle.std.specs.Prelude.{◌+◌, IfOk, length};
+ghost use Rattle.std.specs.Prelude.{◌≡◌, ◌+◌, ◌<◌, IfOk, length};
 ghost use Rattle.std.specs.Option.{option_copied};
 ghost use Rattle.room_rows.specs.Keep.{IsDamaged};
 ghost use Rattle.room_judge.specs.Halted.{RepliesUpTo};
-ghost use Rattle.room_judge.specs.Judged.{Resets};
+ghost use Rattle.room_judge.specs.Judged.{Resets, ended_at};
 ghost use Rattle.room_desk.specs.Carrying.{IsUnreadableIfHeld, StandsRooted};
 ghost use Rattle.room_desk.specs.Setting.{Beneath, IsResetAtEnd};
 ghost use Rattle.room_desk.specs.Called.{ReadsBeside};
@@ -13,8 +13,8 @@ use crate::setting::{Setting, set_found};
 use room_ace::{ObjKind, SentList, Which};
 use room_judge::{Found, refused};
 use room_machine::{Reason, Reply};
-use room_rows::{Keep, KeepFault, Path, walk};
-use std::alloc::Global;
+use room_rows::{Keep, KeepFault, Node, Path, walk};
+use std::alloc::{AllocError, Global};
 
 /// Sets one of an object's lists as the request does, but checks no rights and leaves no record.
 /// The reply is `Done`, or a refusal: no such object, a document on the way, or an entry that isn't
@@ -72,20 +72,22 @@ fn reset_at_end<K: Keep>(
     if rest == 0 {
         return set_found(alloc, keep, setting);
     }
-    let path = setting.path;
+    Ok(ended(alloc, setting.path, &setting.target.node, rest)?)
+}
+
+/// The refusal of a walk along the path that ended at this object, with names left over.
+pub(crate) fn ended(
+    alloc: Global,
+    path: &Path,
+    last: &Node,
+    rest: usize,
+) -> Result<Reply, AllocError>
+    requires { 0 < rest }
+    ensures { IfOk result (λ reply. reply ≡ ended_at path.now last.now.kind rest) }
+{
     let count = path.names().len();
-    match setting.target.node.kind {
-        ObjKind::Document => Ok(refused(
-            alloc,
-            path,
-            count.saturating_sub(rest),
-            Reason::NotFolder,
-        )?),
-        ObjKind::Folder => Ok(refused(
-            alloc,
-            path,
-            count.saturating_sub(rest - 1),
-            Reason::NoSuch,
-        )?),
+    match last.kind {
+        ObjKind::Document => refused(alloc, path, count.saturating_sub(rest), Reason::NotFolder),
+        ObjKind::Folder => refused(alloc, path, count.saturating_sub(rest - 1), Reason::NoSuch),
     }
 }

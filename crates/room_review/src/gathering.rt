@@ -22,7 +22,7 @@ pub(crate) fn gather_above(users: &mut Users, above: &[Node]) -> Result<(), Allo
 }
 
 /// Adds the users at an object and at all below it. There are at most `most` objects.
-pub(crate) fn gather_below<K: Keep>(
+pub fn gather_below<K: Keep>(
     alloc: Global,
     keep: &mut K,
     most: usize,

@@ -8,9 +8,12 @@ mod parties;
 mod question;
 mod reviewing;
 mod sheet;
-mod standing;
+pub mod standing;
 mod telling;
 mod users;
 
+pub use gathering::gather_below;
+pub use parties::{Party, everybody};
 pub use question::{Reviewed, Scope};
 pub use reviewing::review;
+pub use users::{Users, stranger_to};

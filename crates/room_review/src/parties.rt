@@ -13,13 +13,15 @@ use std::alloc::{AllocError, Global};
 
 /// A caller, and what its rows call it.
 #[derive(Drop)]
-pub(crate) struct Party {
-    pub(crate) label: Text,
-    pub(crate) caller: Caller,
+pub struct Party {
+    /// What its rows call it.
+    pub label: Text,
+    /// Its name, if it has one, and its groups.
+    pub caller: Caller,
 }
 
 /// Each of the users, then `*` for the name that is none of them, then a caller without a name.
-pub(crate) fn everybody<K: Keep>(
+pub fn everybody<K: Keep>(
     alloc: Global,
     keep: &mut K,
     users: &[Name],

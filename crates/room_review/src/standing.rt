@@ -19,17 +19,17 @@ use std::marker::Model;
 
 /// What one caller may do with an object, and what the object says for what stands below it.
 #[derive(Drop)]
-pub(crate) struct Standing {
+pub struct Standing {
     /// The rights: none where the caller doesn't come to the object.
-    pub(crate) rights: Mask,
+    pub rights: Mask,
     /// Whether the caller may remove it.
-    pub(crate) remove: bool,
+    pub remove: bool,
     /// Whether the caller comes to what stands below it.
-    pub(crate) opens: bool,
+    pub opens: bool,
     /// Whether the caller comes to it, and its list denies DELETE_CHILD.
-    pub(crate) keeps: bool,
+    pub keeps: bool,
     /// Whether rights and removal are those at the folder that it stands in.
-    pub(crate) repeats: bool,
+    pub repeats: bool,
 }
 
 /// All callers at one object, in their order. A contract sees the list of them.
@@ -133,8 +133,8 @@ fn standings_below(
     Ok(Standings { items })
 }
 
-// A caller at the root, to which each comes, and which none may remove.
-fn at_root(caller: &Caller, root: &Node) -> Standing
+/// A caller at the root, to which each comes, and which none may remove.
+pub fn at_root(caller: &Caller, root: &Node) -> Standing
     ensures { (path : List (List ℕ))
         → result ≡ standing caller.now [] (stored_site path root.now) }
 {
@@ -148,8 +148,8 @@ fn at_root(caller: &Caller, root: &Node) -> Standing
     }
 }
 
-// A caller at an object, by the same caller at the folder that it stands in.
-fn below(folder: &Standing, caller: &Caller, node: &Node) -> Standing
+/// A caller at an object, by the same caller at the folder that it stands in.
+pub fn below(folder: &Standing, caller: &Caller, node: &Node) -> Standing
     ensures { (above : List Site) (site : Site) (path : List (List ℕ))
         → last_of above ≡ Some site
         → folder.now ≡ standing caller.now (before_last above) site

@@ -13,7 +13,7 @@ use std::marker::Model;
 
 /// Names in order of their bytes, each once. A contract sees the list of them.
 #[derive(Drop)]
-pub(crate) struct Users {
+pub struct Users {
     items: Vec<Name>,
 }
 
@@ -33,7 +33,7 @@ impl Model for Users {
 
 impl Users {
     /// No names.
-    pub(crate) fn new(alloc: Global) -> Users
+    pub fn new(alloc: Global) -> Users
         ensures { result ≡ [] }
     {
         Users {
@@ -42,7 +42,7 @@ impl Users {
     }
 
     /// Tells a proof that the names rise, and that each is one.
-    pub(crate) fn is_known(&self)
+    pub fn is_known(&self)
         ensures apart { IsTrue (are_apart self.now) }
         ensures valid { IsTrue (list_all is_name self.now) }
     {
@@ -50,14 +50,14 @@ impl Users {
     }
 
     /// The names as a slice.
-    pub(crate) fn as_slice(&self) -> &[Name]
+    pub fn as_slice(&self) -> &[Name]
         ensures { result.now ≡ self.now }
     {
         self.items.as_slice()
     }
 
     /// Adds the users of pairs of group and user.
-    pub(crate) fn add_paired(&mut self, pairs: &[(Name, Name)]) -> Result<(), AllocError>
+    pub fn add_paired(&mut self, pairs: &[(Name, Name)]) -> Result<(), AllocError>
         ensures { OnOk result (Gathers self.old (map (λ pair. pair.1) pairs.now) self.new) }
     {
         for pair in pairs {
@@ -67,15 +67,15 @@ impl Users {
     }
 
     /// Adds the owner of an object, and the users whom its dacl names.
-    pub(crate) fn add_users_at(&mut self, node: &Node) -> Result<(), AllocError>
+    pub fn add_users_at(&mut self, node: &Node) -> Result<(), AllocError>
         ensures { OnOk result (Gathers self.old (users_at node.now) self.new) }
     {
         self.add(&node.owners.owner)?;
         self.add_listed(node.dacl.full())
     }
 
-    // Adds the users whom the entries name.
-    fn add_listed(&mut self, entries: &[Entry]) -> Result<(), AllocError>
+    /// Adds the users whom the entries name.
+    pub fn add_listed(&mut self, entries: &[Entry]) -> Result<(), AllocError>
         ensures { OnOk result (Gathers self.old
             (flat_map (λ entry. user_in entry.who) entries.now) self.new) }
     {
@@ -96,8 +96,8 @@ impl Users {
         }
     }
 
-    // Adds a name.
-    fn add(&mut self, name: &Name) -> Result<(), AllocError>
+    /// Adds a name.
+    pub fn add(&mut self, name: &Name) -> Result<(), AllocError>
         ensures { OnOk result (Gathers self.old (name.now ∷ []) self.new) }
     {
         match place_for(&self.items, name) {
@@ -130,7 +130,7 @@ fn place_for(names: &[Name], name: &Name) -> Option<usize>
 
 /// A name that isn't among the users: the first number that isn't. There are more numbers than
 /// users, so one is found.
-pub(crate) fn stranger_to(alloc: Global, users: &Users) -> Result<Name, AllocError>
+pub fn stranger_to(alloc: Global, users: &Users) -> Result<Name, AllocError>
     ensures { IfOk result (λ name. is_listed name users.now ≡ false) }
 {
     let names = users.as_slice();

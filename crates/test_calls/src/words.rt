@@ -43,7 +43,6 @@ pub(crate) fn push_open_fault(told: &mut String, fault: OpenFault) -> Result<(),
         OpenFault::NotRooms => push(told, "NotRooms"),
         OpenFault::OldVersion(number) => push_version(told, "OldVersion ", number),
         OpenFault::NewVersion(number) => push_version(told, "NewVersion ", number),
-        OpenFault::OtherTables => push(told, "OtherTables"),
         OpenFault::Db => push(told, "fault Db"),
         OpenFault::Memory => push(told, "fault Memory"),
     }

@@ -1,7 +1,7 @@
 //! Readers, writers and desks that fail.
 ghost use Rattle.std.specs.Prelude.{◌≡◌, ⊤, refl};
 ghost use Rattle.test_memory.specs.Memory.{content_in};
-ghost use Rattle.test_tree.specs.Memory.{rows_in};
+ghost use Rattle.room_memory.specs.Memory.{rows_in};
 
 use room_ace::Name;
 use room_http::Cause;

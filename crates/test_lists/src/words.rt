@@ -4,6 +4,7 @@ use clap::error::ErrorKind;
 use cli_outcome::ListenAddress;
 use cli_words::{Command, Job, read_command};
 use room_ace::{Failure, Which};
+use std::alloc::{AllocError, Global};
 use std::process::Abort;
 use std::test::Fail;
 
@@ -64,7 +65,7 @@ fn words_of_a_room_are_read(rt: HostRuntime) -> Result<(), Fail> {
         group: "staff",
     };
     expect_job(&rt, &["rooms", "init", "a.db", "alice", "staff"], init)?;
-    let groups = Job::Groups { csv: "g.csv" };
+    let groups = groups(rt.alloc(), Some("g.csv"), &[], &[])?;
     expect_job(&rt, &["rooms", "groups", "a.db", "g.csv"], groups)?;
     let reset = Job::Reset {
         path: "/a b",
@@ -76,6 +77,41 @@ fn words_of_a_room_are_read(rt: HostRuntime) -> Result<(), Fail> {
         which: Which::Dacl,
     };
     expect_job(&rt, &["rooms", "reset", "a.db", "/", "dacl"], dacl)
+}
+
+fn groups<'a>(
+    alloc: Global,
+    csv: Option<&'a str>,
+    joins: &[&'a str],
+    leaves: &[&'a str],
+) -> Result<Job<'a>, AllocError> {
+    let joins = Vec::from_slice(alloc, joins)?;
+    let leaves = Vec::from_slice(alloc, leaves)?;
+    Ok(Job::Groups { csv, joins, leaves })
+}
+
+#[test]
+fn words_of_a_change_are_read(rt: HostRuntime) -> Result<(), Fail> {
+    let one = groups(rt.alloc(), None, &["sales", "carol"], &[])?;
+    expect_job(
+        &rt,
+        &["rooms", "groups", "a.db", "--join", "sales", "carol"],
+        one,
+    )?;
+    let three = groups(
+        rt.alloc(),
+        None,
+        &["sales", "carol", "ops", ""],
+        &["sales", "bob"],
+    )?;
+    let words = [
+        "rooms", "groups", "--join", "sales", "carol", "a.db", "--leave", "sales", "bob", "--join",
+        "ops", "",
+    ];
+    expect_job(&rt, &words, three)?;
+    let half = ["rooms", "groups", "a.db", "--join", "sales"];
+    expect_refused(&rt, &half, ErrorKind::WrongNumberOfValues)?;
+    expect_help(&rt, "groups", "--join <GROUP> <USER>")
 }
 
 #[test]

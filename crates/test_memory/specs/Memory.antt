@@ -2,9 +2,9 @@
 use Rattle.std.specs.Prelude.{◌≡◌, ℤ, List, ℕ, Option}
 use Rattle.room_rows.specs.Content.{Content}
 use Rattle.room_rows.specs.Meaning.{meaning}
-use Rattle.test_tree.specs.Memory.{rows_in}
+use Rattle.room_memory.specs.Memory.{rows_in}
 use Rattle.room_rows.specs.Rows.{AreRows, Rows}
-use Rattle.test_tree.specs.declared.memory.MemKeep.{MemKeep}
+use Rattle.room_memory.specs.declared.memory.MemKeep.{MemKeep}
 use Rattle.room_rows.specs.Sound.{AreSound}
 use Rattle.room_machine.specs.declared.reply.Reply.{Reply}
 use Rattle.room_machine.specs.declared.request.Request.{Request}

@@ -2,7 +2,7 @@
 ghost use Rattle.std.specs.Prelude.{◌≡◌, IfOk, ⊤, refl};
 ghost use Rattle.std.specs.Option.{option_copied};
 ghost use Rattle.room_rows.specs.Keep.{one_more};
-ghost use Rattle.test_tree.specs.Memory.{rows_in};
+ghost use Rattle.room_memory.specs.Memory.{rows_in};
 ghost use Rattle.test_memory.specs.Memory.{
   content_in,
   HasRows,

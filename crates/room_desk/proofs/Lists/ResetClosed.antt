@@ -20,7 +20,7 @@ use Rattle.room_desk.proofs.{Lists.SetReset.reset_done, Sound.RootedWays.{above_
 -- ---- where a walk ends
 
 -- all names are used up at this object, or some are left over
-abbrev EndsAt : List (List ℕ) → List (List ℕ) → List Site → Node → ℕ → Type 0
+abbrev pub EndsAt : List (List ℕ) → List (List ℕ) → List Site → Node → ℕ → Type 0
 EndsAt path names sites last rest =
     ((rest ≡ zero) × (site_at sites names ≡ Some (stored_site (path ++ names) last)))
     ⊎ ((more : ℕ) × (rest ≡ suc more) × (site_at sites names ≡ None))
@@ -70,7 +70,7 @@ ends_from rows path (name ∷ names) node =
     }
 
 -- the last of the chain is where the walk by stored lists ends
-ends_along : (rows : Content) (path : List (List ℕ)) (walk : Walk) (front : List Node)
+pub ends_along : (rows : Content) (path : List (List ℕ)) (walk : Walk) (front : List Node)
     (last : Node) → walk ≡ walk_of rows path → walk.chain ≡ front ++ last ∷ []
     → EndsAt [] path (stored_along rows path) last walk.rest
 ends_along rows path walk front last is chain = grind (arith, nat_tests, on)

@@ -15,7 +15,7 @@ use Rattle.room_inherit.proofs.NoFault.{no_fault}
 use Rattle.room_machine.specs.declared.reply.Reply.{Reply, TheVariants.{Done, Refused}}
 use Rattle.room_machine.specs.{declared.request.Request.TheVariants.SetList, Effect.effect}
 use Rattle.room_machine.specs.{Judge.first_failure, Plan.{Item, Check, Deletion, Refusal, bad_list}}
-use Rattle.room_machine.specs.{Plan.{plan_of, way, where_found}, Site.{site_at, sites_along}}
+use Rattle.room_machine.specs.{Plan.{plan_of, way, where_found}, Site.{Site, site_at, sites_along}}
 use Rattle.room_machine.specs.{Step.{failure_or, is_refusal, reset}, Stored.stored_along}
 use Rattle.room_machine.specs.Stored.{stored_from, stored_site}
 use Rattle.room_judge.specs.Judged.{ResetsSound}
@@ -30,11 +30,11 @@ use Rattle.room_desk.proofs.Lists.{SetEffect.set_effect, SetRequest.{items, item
 use Rattle.room_desk.proofs.Lists.ValidDown.{all_found}
 
 -- who asks a reset
-abbrev operator : Caller
+abbrev pub operator : Caller
 operator = record { user = None; groups = [] }
 
 -- refusals don't depend on lists
-refusals_filled : (list : List Item)
+pub refusals_filled : (list : List Item)
     → first_failure operator (filter is_refusal (map fill_item list))
     ≡ first_failure operator (filter is_refusal list)
 refusals_filled [] = refl
@@ -42,30 +42,68 @@ refusals_filled (Check site bits ∷ list) = refusals_filled list
 refusals_filled (Deletion target parent ∷ list) = refusals_filled list
 refusals_filled (Refusal path why holds ∷ list) = cc (refusals_filled list)
 
+-- ---- where the way ends
+
+module _ (old : Rows) (are : AreRows old) (sound : AreSound old) (path : List (List ℕ))
+    (judged : Site → List Item) where
+  -- what is under an object makes it a folder
+  pub folders : (n child : Node) (name : List ℕ) → node_at old.read n.id ≡ Some n
+      → child_of old.read n.id name ≡ Some child → is_folder n ≡ true
+  folders n child name there found =
+      let parent = child_of-parent old.read n.id name child found in
+      let above : parent_of old.read child ≡ Some n = cc (parent, there) in
+      cc (
+        above,
+        parent,
+        all_found (has_folder_above old.read) old.read child.id child (no_fault old sound).parents
+            (child_of-is_there old.read are.numbers n.id name child found),
+      )
+
+  -- what is refused at the stored lists, of the way and of the items at its end
+  abbrev pub stored_refusal : Option Reply
+  stored_refusal =
+      first_failure operator
+      (refusals old.read are.numbers operator judged folders (stored_along old.read path) path)
+
+  -- the walk comes to this object, with n names left over
+  pub record CameTo (last : Node) (rest : ℕ) : Type 0 where
+    pub stands : node_at old.read last.id ≡ Some last
+    pub comes : Comes old.read are.numbers operator judged folders path
+        (stored_along old.read path) path stored_refusal last rest
+
+  pub came_to : (walk : Walk) (front : List Node) (last : Node) → walk ≡ walk_of old.read path
+      → walk.chain ≡ front ++ last ∷ [] → CameTo last walk.rest
+  came_to walk front last is chain =
+      let root = root_there old.read.nodes (no_fault old sound).root in
+      let there = root_of-is_there old.read are.numbers root.0 root.1 in
+      let end = walk_end old.read are.numbers operator judged folders path root.0 there in
+      let from : walk_of old.read path ≡ walk_from old.read root.0 path =
+      grind (arith, nat_tests) in
+      let along : stored_along old.read path ≡ stored_from old.read [] root.0 path = ap
+      (λ o. option_map_or (λ r. stored_from old.read [] r path) o []) root.1 in
+      let reached = end_from old.read are.numbers operator judged folders root.0 path in
+      let same : last ≡ reached.0 = same_last front end.front last reached.0
+      (sym chain ∙ ap (λ (w : Walk). w.chain) (is ∙ from) ∙ end.chain) in
+      let rest : walk.rest ≡ reached.1 = ap (λ (w : Walk). w.rest) (is ∙ from) ∙ end.rest in
+      let stands : node_at old.read last.id ≡ Some last = cc (same, end.stands, same) in
+      let here : Comes old.read are.numbers operator judged folders path
+      (stored_from old.read [] root.0 path) path
+      (first_failure operator
+      (refusals old.read are.numbers operator judged folders
+      (stored_from old.read [] root.0 path) path)) reached.0 reached.1 =
+      search (rules, comes, root.0, there) in
+      grind (arith, nat_tests, comes, folders, judged, refusals)
+
+-- ---- a list that is set
+
 module _ (old : Rows) (are : AreRows old) (sound : AreSound old) (path : List (List ℕ))
     (which : Which) (sent : Sent) where
   abbrev rows : Content
   rows = old.read
 
-  -- what is under an object makes it a folder
-  pub folders : (n child : Node) (name : List ℕ) → node_at rows n.id ≡ Some n
-      → child_of rows n.id name ≡ Some child → is_folder n ≡ true
-  folders n child name there found =
-      let parent = child_of-parent rows n.id name child found in
-      let above : parent_of rows child ≡ Some n = cc (parent, there) in
-      cc (
-        above,
-        parent,
-        all_found (has_folder_above rows) rows child.id child (no_fault old sound).parents
-            (child_of-is_there rows are.numbers n.id name child found),
-      )
-
   -- what the plan refuses is what is refused at the stored lists
   abbrev answer : Option Reply
-  answer =
-      first_failure operator
-      (refusals rows are.numbers operator (items path which sent) folders
-      (stored_along rows path) path)
+  answer = stored_refusal old are sound path (items path which sent)
 
   plan_refuses : first_failure operator
       (filter is_refusal (plan_of (meaning rows) (SetList path which sent))) ≡ answer
@@ -78,36 +116,6 @@ module _ (old : Rows) (are : AreRows old) (sound : AreSound old) (path : List (L
             (sites_along (meaning rows) path),
         sites_filled old are (sound_parts old sound) path,
       )
-
-  -- the walk comes to this object, with n names left over
-  pub record CameTo (last : Node) (rest : ℕ) : Type 0 where
-    pub stands : node_at rows last.id ≡ Some last
-    pub comes : Comes rows are.numbers operator (items path which sent) folders path
-        (stored_along rows path) path answer last rest
-
-  pub came_to : (walk : Walk) (front : List Node) (last : Node) → walk ≡ walk_of rows path
-      → walk.chain ≡ front ++ last ∷ [] → CameTo last walk.rest
-  came_to walk front last is chain =
-      let root = root_there rows.nodes (no_fault old sound).root in
-      let there = root_of-is_there rows are.numbers root.0 root.1 in
-      let end = walk_end rows are.numbers operator
-      (items path which sent) folders path root.0 there in
-      let from : walk_of rows path ≡ walk_from rows root.0 path = grind (arith, nat_tests) in
-      let along : stored_along rows path ≡ stored_from rows [] root.0 path = ap
-      (λ o. option_map_or (λ r. stored_from rows [] r path) o []) root.1 in
-      let reached = end_from rows are.numbers operator
-      (items path which sent) folders root.0 path in
-      let same : last ≡ reached.0 = same_last front end.front last reached.0
-      (sym chain ∙ ap (λ (w : Walk). w.chain) (is ∙ from) ∙ end.chain) in
-      let rest : walk.rest ≡ reached.1 = ap (λ (w : Walk). w.rest) (is ∙ from) ∙ end.rest in
-      let stands : node_at rows last.id ≡ Some last = cc (same, end.stands, same) in
-      let here : Comes rows are.numbers operator (items path which sent) folders path
-      (stored_from rows [] root.0 path) path
-      (first_failure operator
-      (refusals rows are.numbers operator (items path which sent) folders
-      (stored_from rows [] root.0 path) path)) reached.0 reached.1 =
-      search (rules, comes, root.0, there) in
-      grind (arith, nat_tests, comes, folders, items, refusals)
 
   -- the reply and the content after, by what is refused
   reset_is : (o : Option Reply) → answer ≡ o
@@ -143,7 +151,8 @@ module _ (old : Rows) (are : AreRows old) (sound : AreSound old) (path : List (L
         refused_so (is ∙ ap (λ r. Some r) (sym replies)) becomes known
 
     at_end : (rest : ℕ) → node_at rows last.id ≡ Some last
-        → Comes rows are.numbers operator (items path which sent) folders path
+        → Comes rows are.numbers operator (items path which sent)
+        (folders old are sound path (items path which sent)) path
         (stored_along rows path) path answer last rest
         → IsResetAtEnd path which sent last rest old reply new
         → ResetsSound path which sent old reply new
@@ -162,7 +171,7 @@ module _ (path : List (List ℕ)) (which : Which) (sent : Sent) (old mid : Rows)
   reset_done above read new reply are beneath sound =
       let said = beneath (
       cc (same, above_end old are.numbers path walk front last above is chain read)) in
-      let came = came_to old are sound path which sent walk front last is chain in
+      let came = came_to old are sound path (items path which sent) walk front last is chain in
       at_end old are sound path which sent last new reply walk.rest came.stands came.comes
       (subst (λ (r : Rows). IsResetAtEnd path which sent last walk.rest r reply new) same said)
       sound

@@ -165,12 +165,18 @@ module _ (old : Rows) (are : AreRows old) (parts : SoundParts old) where
             (met_kept path (front to) target found)),
       )
 
+  -- what a move judges at the stored lists is its plan
+  pub plan_filled : (path to : List (List ℕ))
+      → stored_move old.read path to ≡ map fill_item (plan_of means (Move path to))
+  plan_filled path to =
+      filled_with path (at_found old.read path to)
+      (λ target. Refusal path Root (is_empty path)
+      ∷ where_found (parent_at (sites_along means path) path) (move_items (sites_along means) means to target))
+      (found_here path to)
+
   pub move_judged : (asker : Asker) (path to : List (List ℕ)) (new : Rows) (answer : Option Reply)
       → IsJudged asker (stored_move old.read path to) old answer new
       → IsJudged asker (plan_of means (Move path to)) old answer new
   move_judged asker path to new answer judged =
       judged_filled asker (plan_of means (Move path to)) old new answer
-      (rw (filled_with path (at_found old.read path to)
-      (λ target. Refusal path Root (is_empty path)
-      ∷ where_found (parent_at (sites_along means path) path) (move_items (sites_along means) means to target))
-      (found_here path to)) at judged)
+      (rw (plan_filled path to) at judged)

@@ -71,7 +71,7 @@ pub some_name : (sites : List Site) (path : List (List ℕ)) (site : Site)
 some_name sites [] site is = absurd (let wrong : ⊥ = cc in wrong)
 some_name sites (name ∷ names) site is = omega arith
 
-items_there : (rows : Content) (to : List (List ℕ)) (is_below : Bool) (target from : Site)
+pub items_there : (rows : Content) (to : List (List ℕ)) (is_below : Bool) (target from : Site)
     → 0 < length to → stored_items rows to is_below target from
     ≡ to_stored rows (front to) (at_place rows to is_below target from)
 items_there rows [] is_below target from some = absurd (let wrong : ⊥ = omega arith in wrong)

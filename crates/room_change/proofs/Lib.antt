@@ -1,0 +1,4 @@
+pub mod Pieces
+pub mod Requested
+pub mod Rows
+mod Worked

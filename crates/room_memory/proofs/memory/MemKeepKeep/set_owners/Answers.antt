@@ -1,0 +1,32 @@
+use Rattle.std.proofs.Common.{◌≡◌, ◌∙◌, Some, sym, ap, refl, arith}
+use Rattle.room_rows.specs.{Finding.find_id, Keep.with_owners}
+use Rattle.room_memory.proofs.Changed.{stands_owned, keeps_rows, changes}
+use Rattle.room_memory.proofs.memory.MemKeepKeep.set_owners.Goals as goal
+
+pub replace-requires : goal.replace-requires
+replace-requires c =
+    stands_owned c.args.owners.now c.args.self.now.nodes c.args.id c.in-Some.node
+    c.in_ok-owners_changed.field-0
+    (sym c.in_ok-node.ensures ∙ c.in-Some.is) c.in_ok-owners_changed.ensures
+
+pub returns-clause-written : goal.returns-clause-written
+returns-clause-written c =
+    let k = c.args.self.now in
+    let found : find_id c.args.id k.nodes ≡ Some c.in-Some.node = sym c.in_ok-node.ensures
+    ∙ c.in-Some.is in
+    let is = c.in_ok-owners_changed.ensures in
+    record {
+      follows = (
+        omega arith,
+        c.count_one.ensures.no_less,
+        keeps_rows k.nodes c.replace.new.self k.bodies k.members k.notes c.args.id c.in-Some.node
+            c.in_ok-owners_changed.field-0 found (ap (λ n. n.id) is) c.replace.ensures,
+      );
+      written = c.count_one.ensures.capped;
+      becomes =
+          λ t. changes k.nodes c.replace.new.self k.bodies k.members k.notes c.args.id
+          (with_owners c.args.owners.now) c.in-Some.node c.in_ok-owners_changed.field-0 found is
+          c.replace.ensures;
+      unfailed = refl;
+      fault = tt;
+    }

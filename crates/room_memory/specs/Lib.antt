@@ -1,0 +1,4 @@
+pub mod Places
+pub mod Objects
+pub mod Pairs
+pub mod Memory

@@ -1,0 +1,11 @@
+pub mod Building
+pub mod Changing
+pub mod Coming
+pub mod Holding
+pub mod InTurn
+pub mod Laws
+pub mod Marking
+pub mod Owning
+pub mod Refusing
+pub mod Storing
+pub mod Walking

@@ -1,0 +1,6 @@
+pub mod Cutting
+pub mod Faulty
+pub mod SeenMore
+pub mod Spans
+pub mod Standing
+pub mod Worked

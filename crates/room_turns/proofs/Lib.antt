@@ -1,0 +1,12 @@
+pub mod Behind
+pub mod Found
+pub mod Spots
+pub mod Way
+pub mod Walked
+pub mod Rows
+pub mod Both
+pub mod Reviewed
+pub mod Owned
+pub mod Repeated
+pub mod Looked
+pub mod Worked

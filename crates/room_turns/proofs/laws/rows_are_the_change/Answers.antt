@@ -1,0 +1,5 @@
+use Rattle.room_turns.proofs.Reviewed as shown
+use Rattle.room_turns.proofs.laws.rows_are_the_change.Goals as goal
+
+pub returns : goal.returns
+returns c = shown.rows_are_the_change

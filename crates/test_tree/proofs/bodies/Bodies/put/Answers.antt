@@ -1,9 +1,0 @@
-use Rattle.std.proofs.Common.{◌∙◌, ap}
-use Rattle.room_rows.specs.Content.{put_body}
-use Rattle.test_tree.proofs.Kept.{body_put}
-use Rattle.test_tree.proofs.bodies.Bodies.put.Goals as goal
-
-pub returns-clause-ok : goal.returns-clause-ok
-returns-clause-ok c =
-    c.in_ok-insert.ensures.entries ∙ body_put c.args.id c.args.bytes c.self.inside.items.entries
-    ∙ ap (put_body c.args.id c.args.bytes) c.self.view_is

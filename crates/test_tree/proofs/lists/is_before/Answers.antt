@@ -1,6 +1,0 @@
-use Rattle.std.proofs.Common.{rules}
-use Rattle.test_tree.proofs.Paired.{before_is}
-use Rattle.test_tree.proofs.lists.is_before.Goals as goal
-
-pub returns : goal.returns
-returns c = search (rules, c.is_lt.ensures, c.compare.ensures, before_is)

@@ -1,8 +1,0 @@
-use Rattle.std.proofs.Common.{Ok, take, true}
-use Rattle.test_tree.specs.Memory.{Inherits}
-use Rattle.test_tree.proofs.memory.inherit_all.Given as goal
-
--- the objects so far are there, and have the entries
-abbrev pub invariant-ids : goal.invariant-ids
-invariant-ids l =
-    Inherits (take l.id-index l.ids) l.fn.which l.fn.entries l.fn.nodes l.nodes (Ok true)

@@ -1,7 +1,0 @@
-use Rattle.std.proofs.Common.{arith}
-use Rattle.test_tree.proofs.Tying.{settled, not_none}
-use Rattle.test_tree.proofs.objects.put_in.Goals as goal
-
-pub returns-clause-entries : goal.returns-clause-entries
-returns-clause-entries c =
-    grind (arith, settled, c.insert.ensures.entries, c.insert.ensures.absent, not_none, c.requires)

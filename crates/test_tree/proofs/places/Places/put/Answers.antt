@@ -1,6 +1,0 @@
-use Rattle.std.proofs.Common.{rules}
-use Rattle.test_tree.proofs.Placing.{puts}
-use Rattle.test_tree.proofs.places.Places.put.Goals as goal
-
-pub returns-clause-ok : goal.returns-clause-ok
-returns-clause-ok c = search (rules, puts, c.in_ok-insert.ensures.entries)
