@@ -139,6 +139,38 @@ if has curl; then
     holds "its socket is gone from $path" is_missing "$path"
   done
 
+  # Whoever may write to its file reaches the room: those whom the umask leaves.
+  mask_before=$(umask)
+  for mask in 022 077; do
+    umask "$mask"
+    start_at_socket F s 1
+    listens=$?
+    umask "$mask_before"
+    [ "$listens" = 0 ] || continue
+    mode=$(stat -c %a s)
+    holds "a socket under umask $mask has mode $mode" \
+      [ "$mode" = "$(printf '%o' $((0777 & ~0$mask)))" ]
+    at_socket "a socket under umask $mask" s 'socket 200' http://room/doc/f
+    server_ends "the server ends under umask $mask" 0 ''
+  done
+
+  # However much is written, the log stays short while the server runs: it is copied into the file.
+  head -c 1000000 /dev/zero >large
+  open_room L
+  if start_at_socket L s 2; then
+    addresses=()
+    for number in {1..40}; do addresses+=("http://room/doc/large-$number"); done
+    got=$(curl -s --max-time 300 --unix-socket s -H 'Room-User: root' -H Expect: -X PUT \
+      --data-binary @large -w '%{http_code}\n' "${addresses[@]}" 2>&1 | sort | uniq -c)
+    holds "40 MB are written: $got" [ "${got// /}" = 40201 ]
+    length=$(stat -c %s L-wal)
+    holds "the log has $length bytes" [ "$length" -lt 8000000 ]
+    holds "the log is in use, with $length bytes" [ "$length" -gt 100000 ]
+    at_socket 'a look after 40 MB' s '{} 200' 'http://room/can/?'
+    server_ends 'the server ends after 40 MB' 0 ''
+  fi
+  rm -f large L L-wal
+
   # What is there by the end isn't the server's.
   if start_at_socket F s 1; then
     mv s moved

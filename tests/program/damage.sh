@@ -14,9 +14,9 @@ python3 -B "$here/lib/damage.py" "$rooms" "$folder" "$((port + 1))" "$patience" 
 [ "$folder" = "$PWD" ] || rm -rf "$folder"
 port=$((port + 200))
 if [[ $(tail -n 1 said) =~ ^([0-9]+)\ held,\ ([0-9]+)\ broken$ ]]; then
-  passed=$((passed + BASH_REMATCH[1]))
-  failed=$((failed + BASH_REMATCH[2]))
-  grep '^FAILED' said
+  passes 'damaged rows' "${BASH_REMATCH[1]}"
+  sed -n 's/^FAILED //p' said >broken
+  while IFS= read -r line; do fail 'damaged rows' "$line"; done <broken
 else
   fail 'damaged rows' "they aren't played to the end: $(tail -n 3 said errors)"
 fi

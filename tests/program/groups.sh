@@ -65,6 +65,32 @@ csv 'group,user\nsales,alice\n'
 gives 'the CSV file as the room' 3 '' 'fault: database\n' groups in.csv in.csv
 gives 'which stays' 0 'groups 1, members 1\n' '' groups F in.csv
 
+# Some join and others leave, all at once.
+csv 'group,user\nsales,alice\nsales,bob\n'
+gives 'who is there' 0 'groups 1, members 2\n' '' groups F in.csv
+gives 'one joins and one leaves' 0 'joined 1, left 1, members 2\n' '' \
+  groups F --join ops carol --leave sales bob
+gives 'the others stay' 0 'group,user\nops,carol\nsales,alice\n' '' groups-out F
+gives 'the same again' 0 'joined 0, left 0, members 2\n' '' \
+  groups F --join ops carol --leave sales bob
+gives 'several join' 0 'joined 2, left 0, members 4\n' '' \
+  groups --join sales bob F --join ops alice --join ops alice
+gives 'who leaves and joins is there' 0 'joined 1, left 2, members 3\n' '' \
+  groups F --leave ops carol --join ops carol --leave sales bob
+gives 'all pairs' 0 'group,user\nops,alice\nops,carol\nsales,alice\n' '' groups-out F
+gives 'one of two groups' 0 'joined 0, left 1, members 2\n' '' groups F --leave ops alice
+gives 'the other group stays' 0 'group,user\nops,carol\nsales,alice\n' '' groups-out F
+gives 'a name that is none' 2 'refused: C3 bad name\n' '' \
+  groups F --join ops bob --leave sales 'bad name'
+gives 'a group that is none' 2 'refused: C3 bad name\n' '' groups F --join '' bob
+gives 'nothing of them counts either' 0 'group,user\nops,carol\nsales,alice\n' '' groups-out F
+gives 'neither' 2 'refused: either CSV, or --join and --leave\n' '' groups F
+gives 'both' 2 'refused: either CSV, or --join and --leave\n' '' groups F in.csv --join ops bob
+gives 'a room that is missing' 3 '' 'fault: file\n' groups missing --join ops bob
+gives 'no room' 3 '' 'fault: database\n' groups in.csv --join ops bob
+csv 'group,user\nsales,alice\n'
+gives 'the members of before' 0 'groups 1, members 1\n' '' groups F in.csv
+
 # A CSV file is read from a pipe as well as from a file.
 [ -e /dev/stdin ] && {
   input=in.csv

@@ -102,10 +102,10 @@ for number in -1 0 3 9000000000; do
   [ "$number" -gt 2 ] && age=new
   over_file "schema $number" 2 "refused: schema $number is $age\n" '' "numbered.$number.db"
 done
-# A database of the right number that lacks the tables of a room isn't one.
+# A database of the right number that lacks the tables of a room is damaged.
 take "lacking.db" lacking.db
 over_lacking() { # COMMAND ..
-  gives "lacking: $1" 2 'refused: not the tables of a room\n' '' "$@"
+  gives "lacking: $1" 3 '' 'fault: database\n' "$@"
 }
 over_lacking groups-out lacking.db
 over_lacking audit lacking.db

@@ -96,19 +96,19 @@ cp F U
 sqlite3 U "INSERT INTO members (grp, user) VALUES ('bad name', 'alice')"
 gives 'a pair that is none is left out' 0 'group,user\n' '' groups-out U
 
-# Other tables than those of a room, or one more, or an index, a view or a trigger: the file isn't
-# opened, and nothing in it changes. Once that is gone, it is the room again.
+# Other tables than those of a room, or one more, or an index, a view or a trigger: that is a fault
+# of the database, and nothing in it changes. Once that is gone, it is the room again.
 other_tables() { # NAME SQL [BACK]
   cp F U
   rm -f U-wal
   sqlite3 U "$2" 2>/dev/null || { skip "$1" 'this sqlite3 makes none'; return; }
   local before
   before=$(cksum <U)
-  gives "$1: verify" 2 'refused: not the tables of a room\n' '' verify U
-  gives "$1: dump" 2 'refused: not the tables of a room\n' '' dump U
-  gives "$1: serve" 2 'refused: not the tables of a room\n' '' serve U --port "$((port + 1))"
+  gives "$1: verify" 3 '' 'fault: database\n' verify U
+  gives "$1: dump" 3 '' 'fault: database\n' dump U
+  gives "$1: serve" 3 '' 'fault: database\n' serve U --port "$((port + 1))"
   from_lines list:a
-  gives "$1: reset" 2 'refused: not the tables of a room\n' '' reset U /a dacl
+  gives "$1: reset" 3 '' 'fault: database\n' reset U /a dacl
   input=/dev/null
   gives "$1: it is of this version" 2 'refused: schema 2 is new\n' '' migrate U
   holds "$1: nothing is changed" [ "$before" = "$(cksum <U)" ]
@@ -133,7 +133,7 @@ sqlite3 U 'DROP TRIGGER gone'
 gives 'and back without it' 0 'sound\n' '' verify U
 take "rejoined.1.db" H
 sqlite3 H 'CREATE TABLE notes (x)'
-gives 'an older room with a table more' 2 'refused: not the tables of a room\n' '' migrate H
+gives 'an older room with a table more' 3 '' 'fault: database\n' migrate H
 gives 'which is as it was' 2 'refused: schema 1 is old\n' '' verify H
 sqlite3 H 'DROP TABLE notes'
 gives 'and is upgraded without it' 0 'migrated\n' '' migrate H

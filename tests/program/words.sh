@@ -7,7 +7,8 @@ refuses_words 'check takes nothing' check more
 refuses_words 'init wants three' init F root
 refuses_words 'init takes three' init F root staff more
 refuses_words 'serve wants a file' serve
-refuses_words 'groups wants a CSV file' groups F
+refuses_words 'groups wants a file' groups
+refuses_words 'a pair has two names' groups F --join sales
 refuses_words 'reset wants a list' reset F /
 refuses_words 'dump wants a file' dump
 refuses_words 'get wants a path' get F

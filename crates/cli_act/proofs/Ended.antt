@@ -10,6 +10,7 @@ use Rattle.cli_words.specs.declared.judging.Task.TheVariants as task
 work_ended : (work : RoomTask) (old new : State) (outcome : Outcome) → Works work old outcome new
     → old.in_transaction ≡ false → new.in_transaction ≡ false
 work_ended (room.Groups pairs) old new outcome works ended = works.ran.leaves.ended ended
+work_ended (room.Change joins leaves) old new outcome works ended = works.ran.leaves.ended ended
 work_ended room.GroupsOut old new outcome works ended = works.looked.leaves.ended ended
 work_ended room.Audit old new outcome works ended = works.looked.leaves.ended ended
 work_ended room.Dump old new outcome works ended = works.looked.leaves.ended ended

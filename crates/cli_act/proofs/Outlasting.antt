@@ -13,6 +13,7 @@ use Rattle.cli_words.specs.declared.judging.Task.TheVariants as task
 work_outlasts : (work : RoomTask) (old new : State) (outcome : Outcome)
     → Works work old outcome new → LeavesOrCommits old new (CommitsWork work old)
 work_outlasts (room.Groups pairs) old new outcome works = works.ran.crash
+work_outlasts (room.Change joins leaves) old new outcome works = works.ran.crash
 work_outlasts room.GroupsOut old new outcome works =
     λ now db left. inl (works.looked.crash now db left)
 work_outlasts room.Audit old new outcome works =
@@ -30,6 +31,7 @@ work_outlasts room.Verify old new outcome works =
 work_clean : (work : RoomTask) (old new : State) (outcome : Outcome) → Works work old outcome new
     → HasCleanDisk new → HasCleanDisk old
 work_clean (room.Groups pairs) old new outcome works = works.ran.leaves.clean
+work_clean (room.Change joins leaves) old new outcome works = works.ran.leaves.clean
 work_clean room.GroupsOut old new outcome works = works.looked.leaves.clean
 work_clean room.Audit old new outcome works = works.looked.leaves.clean
 work_clean room.Dump old new outcome works = works.looked.leaves.clean
@@ -51,6 +53,7 @@ module _ (old mid : State) (was_open : IsTrue mid.is_open → IsTrue old.is_open
 
   committed : (work : RoomTask) → CommitsWork work mid db → CommitsWork work old db
   committed (room.Groups pairs) commits = answered _ commits
+  committed (room.Change joins leaves) commits = answered _ commits
   committed room.GroupsOut commits = commits
   committed room.Audit commits = commits
   committed room.Dump commits = commits

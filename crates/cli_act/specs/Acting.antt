@@ -4,6 +4,7 @@ use Rattle.sqlite.specs.Held.{Held}
 use Rattle.sqlite.specs.State.{State}
 use Rattle.sqlite.specs.Tree.{Trees}
 use Rattle.room_judge.specs.Judged.{Resets}
+use Rattle.store_admin.specs.Changing.{ChangesMembers}
 use Rattle.store_admin.specs.Operating.{ReplacesMembers}
 use Rattle.store_schema.specs.Making.{CommitsRoom}
 use Rattle.store_schema.specs.Migrating.{CommitsMigration}
@@ -27,6 +28,8 @@ pub record Acts {S : Type 0} (shown : Held S → State) (work : Task) (old new :
 -- asks commits nothing.
 abbrev pub CommitsWork : RoomTask → State → Trees → Type 0
 CommitsWork (room.Groups pairs) old db = CommitsAnswer (ReplacesMembers pairs) old db
+CommitsWork (room.Change joins leaves) old db =
+    CommitsAnswer (ChangesMembers joins leaves) old db
 CommitsWork room.GroupsOut old db = ⊥
 CommitsWork room.Audit old db = ⊥
 CommitsWork room.Dump old db = ⊥

@@ -17,6 +17,8 @@ use Rattle.room_machine.specs.declared.reply.Reply.{Reply}
 use Rattle.room_review.specs.declared.question.Scope.{Scope}
 use Rattle.room_review.specs.declared.question.Reviewed.{Reviewed}
 use Rattle.store_tables.specs.Carries.{HasDamagedRow, NoTables}
+use Rattle.store_admin.specs.Changing.{ChangesMembers, changed}
+use Rattle.store_admin.specs.declared.changing.Changed.{Changed}
 use Rattle.store_admin.specs.Dump.{IsDump}
 use Rattle.store_admin.specs.Operating.{AreMembers, AreRecords, ChangesPairsAlone}
 use Rattle.store_admin.specs.Operating.{HasUnreadRecord, ReplacesMembers}
@@ -71,6 +73,11 @@ after_replacing pairs (Ok done) =
     Answer (answer.Replaced (length (distinct_groups pairs)) (length pairs))
 after_replacing pairs (Err fault) = after_fault fault
 
+abbrev pub after_changing : Result Changed StoreFault → Outcome
+after_changing (Ok done) =
+    Answer (answer.Changed done.joined done.left (length done.pairs.items))
+after_changing (Err fault) = after_fault fault
+
 abbrev pub after_dump : Result (String Global) StoreFault → Outcome
 after_dump (Ok text) = Bytes (string_bytes text)
 after_dump (Err fault) = after_fault fault
@@ -122,6 +129,15 @@ pub record PutsMembers (pairs : List (List ℕ × List ℕ)) (old : State) (outc
   pub alone : StorePremise old new → OnOk result (ChangesPairsAlone old.now new.now)
   pub leads : Leads old (event_of result (λ _. Replaced pairs)) new
   pub told : outcome ≡ after_replacing pairs result
+
+pub record ChangesPairs (joins leaves : List (List ℕ × List ℕ)) (old : State) (outcome : Outcome)
+    (new : State) : Type 0 where
+  pub result : Result Changed StoreFault
+  pub ran : Ran old new result (λ _. ⊥) (ChangesMembers joins leaves)
+  pub alone : StorePremise old new → OnOk result (ChangesPairsAlone old.now new.now)
+  pub leads : Leads old
+      (event_of result (λ _. Replaced (changed joins leaves (rows_of old.now).read.members))) new
+  pub told : outcome ≡ after_changing result
 
 pub record GivesMembers (old : State) (outcome : Outcome) (new : State) : Type 0 where
   pub result : Result (Vec (List ℕ × List ℕ) Global) StoreFault
@@ -180,6 +196,7 @@ question_of path user all = record { path = path; user = user; all = all }
 -- What a task does to a room that is open.
 abbrev pub Works : RoomTask → State → Outcome → State → Type 0
 Works (room.Groups pairs) old outcome new = PutsMembers pairs old outcome new
+Works (room.Change joins leaves) old outcome new = ChangesPairs joins leaves old outcome new
 Works room.GroupsOut old outcome new = GivesMembers old outcome new
 Works room.Audit old outcome new = GivesRecords old outcome new
 Works room.Dump old outcome new = GivesDump old outcome new

@@ -2,6 +2,7 @@
 ghost use Rattle.std.specs.Prelude.{◌≡◌, IfOk};
 ghost use Rattle.sqlite.specs.Held.{state};
 ghost use Rattle.cli_act.specs.Doing.{
+  ChangesPairs,
   GivesDocument,
   GivesDump,
   GivesMembers,
@@ -61,6 +62,26 @@ fn replace<S: Alter>(
     Ok(Outcome::Answer(TaskAnswer::Replaced {
         groups,
         members: pairs.len(),
+    }))
+}
+
+// Some pairs leave, and others join.
+fn change<S: Alter>(
+    alloc: Global,
+    store: &mut Store<S>,
+    joins: &[(Name, Name)],
+    leaves: &[(Name, Name)],
+) -> Result<Outcome, Fault>
+    ensures { ChangesPairs joins.now leaves.now (state S.Store store.old.conn) (or_failed result)
+        (state S.Store store.new.conn) }
+{
+    let changed = store
+        .change_members(alloc, joins, leaves)
+        .map_err(fault_of)?;
+    Ok(Outcome::Answer(TaskAnswer::Changed {
+        joined: changed.joined,
+        left: changed.left,
+        members: changed.pairs.len(),
     }))
 }
 
@@ -170,6 +191,9 @@ fn attempt<S: Alter>(alloc: Global, store: &mut Store<S>, task: &RoomTask) -> Re
 {
     match task {
         RoomTask::Groups(pairs) => replace(alloc, store, pairs.as_slice()),
+        RoomTask::Change { joins, leaves } => {
+            change(alloc, store, joins.as_slice(), leaves.as_slice())
+        }
         RoomTask::GroupsOut => tell_members(alloc, store),
         RoomTask::Audit => tell_records(alloc, store),
         RoomTask::Dump => tell_all(alloc, store),

@@ -50,7 +50,8 @@ after_reply reply.Done = Answer answer.ListSet
 after_reply (reply.Refused path why) = Answer (answer.Refused path why)
 after_reply other = Failed Database
 
--- The first fault of the rows is told; and where there is none, that no record can get a number.
+-- The first fault of the rows is told; and where there is none, that no record or no object can get
+-- a number.
 abbrev pub after_report : Report → Bool → Outcome
 after_report (report.Fault path why) has_numbers = Answer (answer.Unsound path why)
 after_report report.Sound true = Answer answer.Sound

@@ -22,6 +22,7 @@ use Rattle.cli_outcome.specs.declared.status.Status.TheVariants as status
 abbrev pub answer_status : TaskAnswer → Status
 answer_status answer.Made = status.Done
 answer_status (answer.Replaced groups members) = status.Done
+answer_status (answer.Changed joined left members) = status.Done
 answer_status answer.ListSet = status.Done
 answer_status (answer.Refused path why) = status.Refused
 answer_status answer.Sound = status.Done
@@ -63,6 +64,9 @@ abbrev pub answer_line : TaskAnswer → List ℕ
 answer_line answer.Made = codes "ready\n"
 answer_line (answer.Replaced groups members) =
     codes "groups " ++ (decimal groups ++ (codes ", members " ++ (decimal members ++ codes "\n")))
+answer_line (answer.Changed joined left members) =
+    codes "joined " ++ (decimal joined ++ (codes ", left " ++ (decimal left
+    ++ (codes ", members " ++ (decimal members ++ codes "\n")))))
 answer_line answer.ListSet = codes "done\n"
 answer_line (answer.Refused path why) = reason_line path why
 answer_line answer.Sound = codes "sound\n"
@@ -78,6 +82,5 @@ abbrev pub not_opened : OpenFault → Outcome
 not_opened opening.NotRooms = outcome.Answer (answer.NoRoom no_room.NotRooms)
 not_opened (opening.OldVersion number) = outcome.Answer (answer.NoRoom (no_room.Old number))
 not_opened (opening.NewVersion number) = outcome.Answer (answer.NoRoom (no_room.New number))
-not_opened opening.OtherTables = outcome.Answer (answer.NoRoom no_room.OtherTables)
 not_opened opening.Db = outcome.Failed fault.Database
 not_opened opening.Memory = outcome.Failed fault.Memory

@@ -59,6 +59,16 @@ impl TaskAnswer {
                 let members = *members;
                 format!(in alloc; "groups {groups}, members {members}\n")
             }
+            TaskAnswer::Changed {
+                joined,
+                left,
+                members,
+            } => {
+                let joined = *joined;
+                let left = *left;
+                let members = *members;
+                format!(in alloc; "joined {joined}, left {left}, members {members}\n")
+            }
             TaskAnswer::ListSet => String::from_str(alloc, "done\n"),
             TaskAnswer::Refused { path, why } => refusal_line(alloc, path, why),
             TaskAnswer::Sound => String::from_str(alloc, "sound\n"),

@@ -13,16 +13,31 @@ pub enum TaskAnswer {
     /// A room was made.
     Made,
     /// The members were replaced by this many pairs of this many groups.
-    Replaced { groups: usize, members: usize },
+    Replaced {
+        groups: usize,
+        members: usize,
+    },
+    /// So many pairs joined and left, and so many members are there now.
+    Changed {
+        joined: usize,
+        left: usize,
+        members: usize,
+    },
     /// A list was set.
     ListSet,
     /// It was refused, for what was found at the path.
-    Refused { path: Path, why: Reason },
+    Refused {
+        path: Path,
+        why: Reason,
+    },
     /// No test finds a fault in the rows.
     Sound,
     /// The first fault of the rows, and where it is.
-    Unsound { path: Text, why: Unsound },
-    /// The rows are sound, and no record can get a number any more.
+    Unsound {
+        path: Text,
+        why: Unsound,
+    },
+    /// The rows are sound, and no record or no object can get a number any more.
     NoNumbers,
     /// The older schema was upgraded.
     Migrated,
@@ -49,6 +64,7 @@ impl TaskAnswer {
         match self {
             TaskAnswer::Made => Status::Done,
             TaskAnswer::Replaced { .. } => Status::Done,
+            TaskAnswer::Changed { .. } => Status::Done,
             TaskAnswer::ListSet => Status::Done,
             TaskAnswer::Refused { .. } => Status::Refused,
             TaskAnswer::Sound => Status::Done,
@@ -84,7 +100,6 @@ impl Outcome {
             OpenFault::NewVersion(number) => Outcome::Answer(TaskAnswer::NoRoom(NoRoom::New(
                 number,
             ))),
-            OpenFault::OtherTables => Outcome::Answer(TaskAnswer::NoRoom(NoRoom::OtherTables)),
             OpenFault::Db => Outcome::Failed(Fault::Database),
             OpenFault::Memory => Outcome::Failed(Fault::Memory),
         }

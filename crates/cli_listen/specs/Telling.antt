@@ -19,7 +19,6 @@ abbrev pub why_not_opened : OpenFault → Result NoRoom Fault
 why_not_opened OpenFault.NotRooms = Ok NoRoom.NotRooms
 why_not_opened (OpenFault.OldVersion number) = Ok (NoRoom.Old number)
 why_not_opened (OpenFault.NewVersion number) = Ok (NoRoom.New number)
-why_not_opened OpenFault.OtherTables = Ok NoRoom.OtherTables
 why_not_opened OpenFault.Db = Err Fault.Database
 why_not_opened OpenFault.Memory = Err Fault.Memory
 

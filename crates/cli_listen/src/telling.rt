@@ -33,7 +33,6 @@ fn reason_of(fault: OpenFault) -> Result<NoRoom, Fault>
         OpenFault::NotRooms => Ok(NoRoom::NotRooms),
         OpenFault::OldVersion(number) => Ok(NoRoom::Old(number)),
         OpenFault::NewVersion(number) => Ok(NoRoom::New(number)),
-        OpenFault::OtherTables => Ok(NoRoom::OtherTables),
         OpenFault::Db => Err(Fault::Database),
         OpenFault::Memory => Err(Fault::Memory),
     }

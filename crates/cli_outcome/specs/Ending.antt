@@ -34,4 +34,3 @@ abbrev pub no_room_text : NoRoom → List ℕ
 no_room_text no_room.NotRooms = codes "not a rooms file"
 no_room_text (no_room.Old number) = codes "schema " ++ (signed_decimal number ++ codes " is old")
 no_room_text (no_room.New number) = codes "schema " ++ (signed_decimal number ++ codes " is new")
-no_room_text no_room.OtherTables = codes "not the tables of a room"

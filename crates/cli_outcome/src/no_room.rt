@@ -13,8 +13,6 @@ pub enum NoRoom {
     Old(i64),
     /// Its schema has this number, which is too high.
     New(i64),
-    /// Its tables, indexes, views or triggers are other ones than a room is made with.
-    OtherTables,
 }
 
 impl fmt::Display for NoRoom {
@@ -27,7 +25,6 @@ impl fmt::Display for NoRoom {
             NoRoom::NotRooms => f.write_str("not a rooms file"),
             NoRoom::Old(number) => write!(f, "schema {number} is old"),
             NoRoom::New(number) => write!(f, "schema {number} is new"),
-            NoRoom::OtherTables => f.write_str("not the tables of a room"),
         }
     }
 }

@@ -7,3 +7,4 @@ pub mod Named
 pub mod Given
 mod Taking
 mod Worked
+mod Paired

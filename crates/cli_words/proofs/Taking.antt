@@ -1,5 +1,6 @@
 -- The first bytes of an input that show that it is too long have the task of all of it.
-use Rattle.std.proofs.Common.{ℕ, ◌≡◌, ◌+◌, List, [], length, Option, Some, None, Result, Ok, Err}
+use Rattle.std.proofs.Common.{ℕ, ◌≡◌, ◌+◌, List, [], ◌∷◌, length, Option, Some, None, Result, Ok}
+use Rattle.std.proofs.Common.{Err, true, false}
 use Rattle.std.proofs.{Common.{refl, ap, inl, arith}, lemmas.List.{length-take-le, take_all}}
 use Rattle.std.{proofs.lemmas.Bool.{cond-true, lt-ltb, ltb-true, ltb-false}, specs.Prelude.take}
 use Rattle.std.specs.Prelude.{nat_lt, IfSome, if◌then◌else◌}
@@ -8,7 +9,7 @@ use Rattle.room_entry.specs.declared.failure.Failure.TheVariants.{OutOfMemory, F
 use Rattle.room_ace.specs.{Lists.sent_of, Sent.Sent}
 use Rattle.room_import.specs.Groups.{groups_in}
 use Rattle.cli_outcome.specs.{Ending.IsOfStream, declared.fault.Fault.Fault as StreamFault}
-use Rattle.cli_words.specs.Tasks.{goes_on, pairs_in, task_path, sent_in, task_of}
+use Rattle.cli_words.specs.Tasks.{goes_on, groups_of, pairs_in, task_path, sent_in, task_of, texts}
 use Rattle.cli_words.specs.declared.{judging.Task.Task, refusal.TaskRefusal.TaskRefusal}
 use Rattle.cli_words.specs.{declared.{command.Job.Job, stop.Stop.Stop}, Asked.input_of}
 use Rattle.cli_words.specs.{Reads.{IsTask, ReadsTask, most_of}, Stops.stop_of_refusal}
@@ -33,11 +34,27 @@ sent-take : (input : List ℕ) → sent_in (take 1048577 input) ≡ sent_in inpu
 sent-take input =
     limited 1048576 (Err refusal.TooLong) (λ bytes. told refusal.Line (sent_of bytes)) input
 
+groups-take : (joins leaves : List (List ℕ)) (input : List ℕ)
+    → groups_of true joins leaves (take 8388609 input) ≡ groups_of true joins leaves input
+groups-take [] [] input =
+    ap (λ (read : Result (List (List ℕ × List ℕ)) TaskRefusal).
+    goes_on read (λ pairs. Ok (task.OnRoom (room.Groups pairs)))) (pairs-take input)
+groups-take [] (leave ∷ leaves) input = refl
+groups-take (join ∷ joins) leaves input = refl
+
+-- without a group file nothing is read
+groups-none : (joins leaves : List (List ℕ)) (input : List ℕ)
+    → groups_of false joins leaves (take 0 input) ≡ groups_of false joins leaves input
+groups-none [] [] input = refl
+groups-none [] (leave ∷ leaves) input = refl
+groups-none (join ∷ joins) leaves input = refl
+
 task-take : (asked : Job) (input : List ℕ)
     → task_of asked (take (most_of (input_of asked)) input) ≡ task_of asked input
 task-take (job.Init owner group) input = refl
-task-take (job.Groups csv) input =
-    grind (arith, pairs-take)
+task-take (job.Groups None joins leaves) input = groups-none (texts joins.items) (texts leaves.items) input
+task-take (job.Groups (Some csv) joins leaves) input =
+    groups-take (texts joins.items) (texts leaves.items) input
 task-take job.GroupsOut input = refl
 task-take job.Audit input = refl
 task-take job.Dump input = refl

@@ -1,11 +1,12 @@
 -- Which command the words are (own).
 use Rattle.std.specs.Prelude.{◌≡◌, ◌≢◌, ◌⊎◌, ◌<◌, false, ◌^◌, ℕ, List, [], Option, Some, None}
 use Rattle.std.specs.Prelude.{◌∷◌, ◌&&◌, Bool, IsSome, true, codes, find, is_some, option_and_then}
-use Rattle.std.specs.Prelude.{option_map, pos, unwrap_or, if◌then◌else◌}
+use Rattle.std.specs.Prelude.{map, option_map, pos, unwrap_or, if◌then◌else◌}
 use Rattle.std.specs.Str.{bytes_eq}
 use Rattle.std.specs.Str.Parse.{IsNumeral, digits_value, without_leading_plus}
 use Rattle.std.specs.Borrow.{Bor}
-use Rattle.clap.specs.Words.{App, IsAmong, IsSignedIn, Row, Text, fault_of, first_of, one_of}
+use Rattle.clap.specs.Words.{App, IsAmong, IsSignedIn, Row, Text, all_of, fault_of, first_of}
+use Rattle.clap.specs.Words.{one_of}
 use Rattle.clap.specs.Words.{subcommand_of, takes, without_minus}
 use Rattle.clap.specs.declared.error.kind.ErrorKind.{ErrorKind}
 use Rattle.clap.specs.declared.error.kind.ErrorKind.TheVariants as kinds
@@ -27,6 +28,10 @@ use Rattle.cli_words.specs.declared.command.Job.TheVariants as job
 -- the word that was given for an argument
 abbrev pub word : Text → List Row → Text
 word id rows = unwrap_or (first_of id rows) []
+
+-- all words that were given for an option, one after the other
+abbrev pub given : Text → List Row → List Text
+given id rows = unwrap_or (all_of id rows) []
 
 -- The number that was given for an option, if it fits this many bits, or the default where none was
 -- given.
@@ -54,7 +59,6 @@ HaveWords (id ∷ ids) rows = HasWord id rows × HaveWords ids rows
 abbrev pub wanted_with_file : Text → List Text
 wanted_with_file name =
     if bytes_eq name (codes "init") then codes "OWNER" ∷ codes "GROUP" ∷ []
-    else if bytes_eq name (codes "groups") then codes "CSV" ∷ []
     else if bytes_eq name (codes "review") then codes "PATH" ∷ []
     else if bytes_eq name (codes "get") then codes "PATH" ∷ []
     else if bytes_eq name (codes "reset") then codes "PATH" ∷ codes "LIST" ∷ []
@@ -112,8 +116,10 @@ IsAddress rows (address.Port port) = (first_of (codes "socket") rows ≡ None)
 abbrev pub IsJob : Text → List Row → Job → Type 0
 IsJob name rows (job.Init owner group) = (name ≡ codes "init")
     × (owner.now ≡ word (codes "OWNER") rows) × (group.now ≡ word (codes "GROUP") rows)
-IsJob name rows (job.Groups csv) =
-    (name ≡ codes "groups") × (csv.now ≡ word (codes "CSV") rows)
+IsJob name rows (job.Groups csv joins leaves) = (name ≡ codes "groups")
+    × (option_map (λ (text : Bor Text). text.now) csv ≡ first_of (codes "CSV") rows)
+    × (map (λ (text : Bor Text). text.now) joins.items ≡ given (codes "join") rows)
+    × (map (λ (text : Bor Text). text.now) leaves.items ≡ given (codes "leave") rows)
 IsJob name rows job.GroupsOut = name ≡ codes "groups-out"
 IsJob name rows job.Audit = name ≡ codes "audit"
 IsJob name rows job.Dump = name ≡ codes "dump"
@@ -180,3 +186,8 @@ IsRefused words (Fault fault) = (names : Bor (List (Bor Text))) × AreAttributes
 abbrev pub IsTold : ErrorKind → Failure CliFault → Type 0
 IsTold kind OutOfMemory = Unit {0}
 IsTold kind (Fault fault) = (fault.kind ≡ kind) × (kind ≢ kinds.OutOfMemory)
+
+-- Memory ran out, or two addresses are named, and that is answered.
+abbrev pub IsNotMet : Option (Text × List Row) → Failure CliFault → Type 0
+IsNotMet found OutOfMemory = Unit {0}
+IsNotMet found (Fault fault) = (names_two found ≡ true) × IsTold kinds.ArgumentConflict (Fault fault)

@@ -3,7 +3,7 @@ use Rattle.std.specs.Prelude.{◌≡◌, ◌∷◌, List, [], Some, true, false,
 use Rattle.std.specs.Borrow.{Bor}
 use Rattle.clap.specs.Words.{App, Rule, Text, app_of, new_app, new_rule, rule_of}
 use Rattle.clap.specs.Words.{with_subcommand}
-use Rattle.clap.specs.declared.builder.action.ArgAction.TheVariants.{SetTrue}
+use Rattle.clap.specs.declared.builder.action.ArgAction.TheVariants.{Append, SetTrue}
 use Rattle.clap.specs.declared.builder.arg.Arg.{Arg}
 use Rattle.clap.specs.declared.builder.command.Command.{Command}
 use Rattle.clap.specs.declared.builder.command.Command.TheViews.{out-Command}
@@ -83,8 +83,16 @@ abbrev pub with_all : List App → App → App
 with_all [] app = app
 with_all (one ∷ rest) app = with_all rest (with_subcommand app one.top)
 
+-- the group file
+abbrev pub csv : Rule
+csv = new_rule (codes "CSV")
+
+-- an option with a group and a user, which may be given again
+abbrev pub pair : Text → Rule
+pair id = record (new_rule id) { long = Some id; action = Some Append; value_names = 2 }
+
 abbrev pub groups : App
-groups = sub (codes "groups") (file ∷ wanted (codes "CSV") ∷ [])
+groups = sub (codes "groups") (file ∷ csv ∷ pair (codes "join") ∷ pair (codes "leave") ∷ [])
 
 abbrev pub making : List App
 making = sub (codes "check") [] ∷ init ∷ serve ∷ groups ∷ []

@@ -7,7 +7,7 @@ use cli_outcome::ListenAddress;
 use room_entry::Which;
 
 /// A subcommand and its words. Files, names and paths stay texts, which are judged afterwards.
-#[derive(Clone, Copy, Debug, PartialEq, Eq)]
+#[derive(Drop, Debug, PartialEq, Eq)]
 pub enum Command<'a> {
     /// Judges the list that the standard input holds.
     Check,
@@ -22,16 +22,19 @@ pub enum Command<'a> {
 }
 
 /// A subcommand that works on a database for a while, and its words but for the file.
-#[derive(Clone, Copy, Debug, PartialEq, Eq)]
+#[derive(Drop, Debug, PartialEq, Eq)]
 pub enum Job<'a> {
     /// Makes a new file with an empty room, whose root has this owner and owning group.
     Init {
         owner: &'a str,
         group: &'a str,
     },
-    /// Replaces the members by those of a CSV file.
+    /// Replaces the members by those of a CSV file. Or some join and others leave: each has two
+    /// words, a group and a user, one after the other.
     Groups {
-        csv: &'a str,
+        csv: Option<&'a str>,
+        joins: Vec<&'a str>,
+        leaves: Vec<&'a str>,
     },
     /// Writes the members as CSV.
     GroupsOut,
@@ -78,7 +81,7 @@ impl<'a> Job<'a> {
         ensures { result ≡ input_of self.now }
     {
         match self {
-            Job::Groups { csv } => Input::File(csv),
+            Job::Groups { csv: Some(csv), .. } => Input::File(csv),
             Job::Reset { .. } => Input::Standard,
             _ => Input::Nothing,
         }

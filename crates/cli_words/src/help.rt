@@ -58,11 +58,17 @@ pub(crate) const GROUPS: &str = "\
 The first row of the CSV file is group,user, and each further row a pair of two
 names. These members replace all others.
 
-  0  groups G, members M
+Without CSV, --join puts a user into a group, and --leave takes one out. Both may
+be given several times, and all is changed at once. Who leaves and joins the same
+group is in it afterwards. Nothing is changed for who is in a group and joins it,
+or isn't in it and leaves it.
+
+  0  groups G, members M; of changes: joined J, left L, members M
   2  refused: row N: why, or another refusal
   3  a fault, printed on standard error
 
-Example: rooms groups office.rooms members.csv";
+Examples: rooms groups office.rooms members.csv
+          rooms groups office.rooms --join sales carol --leave sales bob";
 
 pub(crate) const GROUPS_OUT: &str = "\
 A row group,user, and then a row for each pair, in order of group and user.

@@ -8,6 +8,10 @@ pub(crate) const GROUP: &str = "GROUP";
 
 pub(crate) const CSV: &str = "CSV";
 
+pub(crate) const JOIN: &str = "join";
+
+pub(crate) const LEAVE: &str = "leave";
+
 pub(crate) const PATH: &str = "PATH";
 
 pub(crate) const LIST: &str = "LIST";

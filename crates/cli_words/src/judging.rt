@@ -1,15 +1,16 @@
 //! Validates a subcommand's words and input.
 ghost use Rattle.std.specs.Prelude.{option_map};
 ghost use Rattle.room_entry.specs.Gives.{Gives};
-ghost use Rattle.cli_words.specs.Tasks.{get_of, init_task, pairs_in, reset_of, review_at};
-ghost use Rattle.cli_words.specs.Tasks.{review_of, sent_in, task_name, task_of, task_path};
+ghost use Rattle.cli_words.specs.Tasks.{change_of, get_of, groups_of, init_task, pair_name};
+ghost use Rattle.cli_words.specs.Tasks.{pair_named, pairs_in, pairs_named, reset_of, review_at};
+ghost use Rattle.cli_words.specs.Tasks.{review_of, sent_in, task_name, task_of, task_path, texts};
 
 use crate::command::Job;
 use crate::refusal::TaskRefusal;
 use room_ace::{
     Failure, MOST_BYTES, Name, Owners, SentList, Which, map_fault, read_list, read_name,
 };
-use room_import::{Pairs, read_groups};
+use room_import::{CsvWhy, Pairs, read_groups};
 use room_rows::{Path, read_path};
 use std::alloc::Global;
 
@@ -32,6 +33,11 @@ pub enum Task {
 pub enum RoomTask {
     /// Replace the members by these pairs of group and user.
     Groups(Pairs),
+    /// Take out the pairs that leave, and put in those that join.
+    Change {
+        joins: Pairs,
+        leaves: Pairs,
+    },
     /// Print the members.
     GroupsOut,
     /// Print the records.
@@ -62,7 +68,13 @@ pub fn judge(alloc: Global, job: &Job<'_>, input: &[u8]) -> Result<Task, Failure
     match job {
         Job::Init { owner, group } => init_task(alloc, owner, group),
         Job::Migrate => Ok(Task::Migrate),
-        Job::Groups { .. } => Ok(Task::OnRoom(RoomTask::Groups(pairs_in(alloc, input)?))),
+        Job::Groups { csv, joins, leaves } => groups_of(
+            alloc,
+            csv.is_some(),
+            joins.as_slice(),
+            leaves.as_slice(),
+            input,
+        ),
         Job::GroupsOut => Ok(Task::OnRoom(RoomTask::GroupsOut)),
         Job::Audit => Ok(Task::OnRoom(RoomTask::Audit)),
         Job::Dump => Ok(Task::OnRoom(RoomTask::Dump)),
@@ -94,6 +106,72 @@ fn pairs_in(alloc: Global, input: &[u8]) -> Result<Pairs, Failure<TaskRefusal>>
         return Err(Failure::Fault(TaskRefusal::TooLong));
     }
     map_fault(read_groups(alloc, input), TaskRefusal::Row)
+}
+
+// A name of a pair that joins or leaves.
+fn pair_name(alloc: Global, text: &str) -> Result<Name, Failure<TaskRefusal>>
+    ensures { Gives result (pair_name text.now) }
+{
+    match read_name(alloc, text) {
+        Ok(name) => Ok(name),
+        Err(Failure::OutOfMemory) => Err(Failure::OutOfMemory),
+        Err(Failure::Fault(_)) => Err(Failure::Fault(TaskRefusal::Pair(CsvWhy::BadName))),
+    }
+}
+
+fn pair_named(alloc: Global, group: &str, user: &str) -> Result<(Name, Name), Failure<TaskRefusal>>
+    ensures { Gives result (pair_named group.now user.now) }
+{
+    let group = pair_name(alloc, group)?;
+    let user = pair_name(alloc, user)?;
+    Ok((group, user))
+}
+
+// The pairs of words that stand for a group and a user in turn.
+fn pairs_named(alloc: Global, words: &[&str]) -> Result<Pairs, Failure<TaskRefusal>>
+    ensures { Gives result (pairs_named (texts words.now)) }
+{
+    let mut pairs = Pairs::new(alloc);
+    let mut rest = words;
+    'words: while let [group, user, more @ ..] = rest {
+        let pair = pair_named(alloc, group, user)?;
+        pairs.push(pair)?;
+        rest = more;
+    }
+    if rest.is_empty() {
+        Ok(pairs)
+    } else {
+        Err(Failure::Fault(TaskRefusal::Pair(CsvWhy::NotTwoFields)))
+    }
+}
+
+fn change_of(alloc: Global, joins: &[&str], leaves: &[&str]) -> Result<Task, Failure<TaskRefusal>>
+    ensures { Gives result (change_of (texts joins.now) (texts leaves.now)) }
+{
+    let joins = pairs_named(alloc, joins)?;
+    let leaves = pairs_named(alloc, leaves)?;
+    Ok(Task::OnRoom(RoomTask::Change { joins, leaves }))
+}
+
+// The pairs of a group file, or some that join and leave: one of the two.
+fn groups_of(
+    alloc: Global,
+    has_csv: bool,
+    joins: &[&str],
+    leaves: &[&str],
+    input: &[u8],
+) -> Result<Task, Failure<TaskRefusal>>
+    ensures { Gives result
+        (groups_of has_csv (texts joins.now) (texts leaves.now) input.now) }
+{
+    let changes_none = joins.is_empty() && leaves.is_empty();
+    if has_csv != changes_none {
+        return Err(Failure::Fault(TaskRefusal::Source));
+    }
+    if changes_none {
+        return Ok(Task::OnRoom(RoomTask::Groups(pairs_in(alloc, input)?)));
+    }
+    change_of(alloc, joins, leaves)
 }
 
 fn get_of(alloc: Global, path: &str) -> Result<Task, Failure<TaskRefusal>>

@@ -2,12 +2,14 @@
 ghost use Rattle.std.specs.Prelude.{IfOk, [], codes};
 ghost use Rattle.clap.specs.Words.{App, with_subcommand};
 ghost use Rattle.cli_words.specs.Line.{IsArg, IsCommandLine, IsLine, IsListArg, IsReset, all};
-ghost use Rattle.cli_words.specs.Line.{count, file, get};
+ghost use Rattle.cli_words.specs.Line.{count, csv, file, get, pair};
 ghost use Rattle.cli_words.specs.Line.{groups, init, making, over_file, port, program, review};
 ghost use Rattle.cli_words.specs.Line.{serve, socket, sub, telling, user, wanted, with_all};
 
 use crate::help;
-use crate::ids::{ALL, COUNT, CSV, DACL, FILE, GROUP, LIST, OWNER, PATH, PORT, SACL, SOCKET, USER};
+use crate::ids::{
+    ALL, COUNT, CSV, DACL, FILE, GROUP, JOIN, LEAVE, LIST, OWNER, PATH, PORT, SACL, SOCKET, USER,
+};
 use clap::{Arg, ArgAction, Command, value_parser};
 use std::alloc::{AllocError, Global};
 
@@ -16,6 +18,9 @@ const VERSION: &str = "1.1.0";
 
 // Which of an object's two lists.
 static ATTRIBUTES: [&str; 2] = [DACL, SACL];
+
+// What a pair of a group and a user is called.
+static PAIR: [&str; 2] = ["GROUP", "USER"];
 
 // An argument that has to be there.
 fn wanted<'a>(alloc: Global, id: &'a str, help: &'a str) -> Arg<'a>
@@ -109,15 +114,31 @@ fn reset<'a>(alloc: Global) -> Result<Command<'a>, AllocError>
         .arg(list(alloc))
 }
 
+fn csv<'a>(alloc: Global) -> Arg<'a>
+    ensures { IsArg csv result }
+{
+    Arg::new(alloc, CSV).help("A file with the header group,user")
+}
+
+// An option with a group and a user, which may be given again.
+fn pair<'a>(alloc: Global, id: &'a str, help: &'a str) -> Arg<'a>
+    ensures { IsArg (pair id.now) result }
+{
+    Arg::new(alloc, id)
+        .long(id)
+        .action(ArgAction::Append)
+        .value_names(PAIR.as_slice())
+        .help(help)
+}
+
 fn groups<'a>(alloc: Global) -> Result<Command<'a>, AllocError>
     ensures { IfOk result (IsLine groups) }
 {
-    let about = "Replaces the members by those of a CSV file";
-    over_file(alloc, "groups", about, help::GROUPS)?.arg(wanted(
-        alloc,
-        CSV,
-        "A file with the header group,user",
-    ))
+    let about = "Replaces the members by those of a CSV file, or changes some";
+    over_file(alloc, "groups", about, help::GROUPS)?
+        .arg(csv(alloc))?
+        .arg(pair(alloc, JOIN, "A user who joins a group"))?
+        .arg(pair(alloc, LEAVE, "A user who leaves a group"))
 }
 
 fn get<'a>(alloc: Global) -> Result<Command<'a>, AllocError>

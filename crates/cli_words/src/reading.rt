@@ -6,18 +6,21 @@ ghost use Rattle.clap.specs.Words.{subcommand_rows_of};
 ghost use Rattle.clap.specs.declared.error.kind.ErrorKind.TheVariants.{ArgumentConflict};
 ghost use Rattle.cli_words.specs.Command.{HasNumber, HasWord, HasWords, IsCommand, IsFlag, IsJob};
 ghost use Rattle.cli_words.specs.Command.{IsList, IsMet, IsName, IsNumber, IsRead, IsRefused};
-ghost use Rattle.cli_words.specs.Command.{IsAddress, IsTold, IsWhole, is_of_words, names_two};
+ghost use Rattle.cli_words.specs.Command.{IsAddress, IsNotMet, IsTold, IsWhole, given, is_of_words};
+ghost use Rattle.cli_words.specs.Command.{names_two};
 ghost use Rattle.cli_words.specs.Command.{was_given, which_in, word};
 
 use crate::command::{CliFault, Command, Job};
-use crate::ids::{ALL, COUNT, CSV, DACL, FILE, GROUP, LIST, OWNER, PATH, PORT, SACL, SOCKET, USER};
+use crate::ids::{
+    ALL, COUNT, CSV, DACL, FILE, GROUP, JOIN, LEAVE, LIST, OWNER, PATH, PORT, SACL, SOCKET, USER,
+};
 use crate::line::command_line;
 use clap::ArgMatches;
 use clap::error::{Error, ErrorKind};
 use clap::parser::ValueSource;
 use cli_outcome::ListenAddress;
 use room_entry::{Failure, Which};
-use std::alloc::Global;
+use std::alloc::{AllocError, Global};
 use std::convert::AsStr;
 
 // What is said of a port and a socket, in the words that `clap` has for such a conflict.
@@ -111,13 +114,35 @@ fn serve<'a>(words: &ArgMatches<'a>) -> Command<'a>
     }
 }
 
-fn groups<'a>(words: &ArgMatches<'a>) -> Job<'a>
-    requires { HasWords (codes "groups") (rows_of (found_of words.now)) }
-    ensures { IsJob (codes "groups") (rows_of (found_of words.now)) result }
+// The group file that was named, if one was.
+fn csv<'a>(words: &ArgMatches<'a>) -> Option<&'a str>
+    ensures { option_map (λ text. text.now) result
+        ≡ first_of (codes "CSV") (rows_of (found_of words.now)) }
 {
-    Job::Groups {
-        csv: word(words, CSV),
+    words.get_str(CSV)
+}
+
+// All words that were given for an option.
+fn given<'a>(alloc: Global, words: &ArgMatches<'a>, id: &str) -> Result<Vec<&'a str>, AllocError>
+    ensures { IfOk result (λ texts. map (λ text. text.now) texts.items
+        ≡ given id.now (rows_of (found_of words.now))) }
+{
+    match words.get_strs(id) {
+        Some(texts) => Vec::from_slice(alloc, texts),
+        None => Ok(Vec::new(alloc)),
     }
+}
+
+fn groups<'a>(alloc: Global, words: &ArgMatches<'a>) -> Result<Job<'a>, AllocError>
+    ensures { IfOk result (IsJob (codes "groups") (rows_of (found_of words.now))) }
+{
+    let joins = given(alloc, words, JOIN)?;
+    let leaves = given(alloc, words, LEAVE)?;
+    Ok(Job::Groups {
+        csv: csv(words),
+        joins,
+        leaves,
+    })
 }
 
 fn get<'a>(words: &ArgMatches<'a>) -> Job<'a>
@@ -165,16 +190,20 @@ fn reset<'a>(words: &ArgMatches<'a>) -> Job<'a>
 }
 
 // The subcommand of this name, with its words.
-fn met<'a>(name: &str, words: &ArgMatches<'a>) -> Option<Command<'a>>
+fn met<'a>(
+    alloc: Global,
+    name: &str,
+    words: &ArgMatches<'a>,
+) -> Result<Option<Command<'a>>, AllocError>
     requires { HasWords name.now (rows_of (found_of words.now)) }
-    ensures met { IfSome result (IsMet name.now (rows_of (found_of words.now))) }
-    ensures some { IsName name.now → IsSome result }
+    ensures met { IfOk result (λ found. IfSome found (IsMet name.now (rows_of (found_of words.now)))) }
+    ensures some { IsName name.now → IfOk result IsSome }
 {
-    match name {
+    Ok(match name {
         "check" => Some(Command::Check),
         "serve" => Some(serve(words)),
         "init" => Some(Command::On(word(words, FILE), init(words))),
-        "groups" => Some(Command::On(word(words, FILE), groups(words))),
+        "groups" => Some(Command::On(word(words, FILE), groups(alloc, words)?)),
         "get" => Some(Command::On(word(words, FILE), get(words))),
         "review" => Some(Command::On(word(words, FILE), review(words))),
         "reset" => Some(Command::On(word(words, FILE), reset(words))),
@@ -184,7 +213,7 @@ fn met<'a>(name: &str, words: &ArgMatches<'a>) -> Option<Command<'a>>
         "verify" => Some(Command::On(word(words, FILE), Job::Verify)),
         "migrate" => Some(Command::On(word(words, FILE), Job::Migrate)),
         _ => None,
-    }
+    })
 }
 
 // Whether a value came from the words, and isn't a default.
@@ -215,16 +244,16 @@ fn names_two(matches: &ArgMatches<'_>) -> bool
 }
 
 // The command that the matches name.
-fn command_met<'a>(matches: &ArgMatches<'a>) -> Command<'a>
+fn command_met<'a>(alloc: Global, matches: &ArgMatches<'a>) -> Result<Command<'a>, AllocError>
     requires { IsWhole (subcommand_rows_of matches.now) }
-    ensures { IsCommand (subcommand_rows_of matches.now) result }
+    ensures { IfOk result (IsCommand (subcommand_rows_of matches.now)) }
 {
     let found = match matches.subcommand() {
-        Some((name, words)) => met(name, words),
+        Some((name, words)) => met(alloc, name, words)?,
         None => None,
     };
     match found {
-        Some(command) => command,
+        Some(command) => Ok(command),
         None => unreachable!(),
     }
 }
@@ -234,13 +263,15 @@ fn command_of<'a>(alloc: Global, matches: &ArgMatches<'a>) -> Result<Command<'a>
     requires { IsWhole (subcommand_rows_of matches.now) }
     ensures ok { IfOk result (λ command. (names_two (subcommand_rows_of matches.now) ≡ false)
         × IsCommand (subcommand_rows_of matches.now) command) }
-    ensures err { IfErr result (λ failure. (names_two (subcommand_rows_of matches.now) ≡ true)
-        × IsTold ArgumentConflict failure) }
+    ensures err { IfErr result (IsNotMet (subcommand_rows_of matches.now)) }
 {
     if names_two(matches) {
         return Err(two_addresses(alloc));
     }
-    Ok(command_met(matches))
+    match command_met(alloc, matches) {
+        Ok(command) => Ok(command),
+        Err(_) => Err(Failure::OutOfMemory),
+    }
 }
 
 // What is said of words that name two addresses.

@@ -2,7 +2,7 @@
 ghost use Rattle.cli_words.specs.Tasks.{refusal_text};
 
 use room_ace::{LineFault, TextFault};
-use room_import::CsvFault;
+use room_import::{CsvFault, CsvWhy};
 use room_rows::PathFault;
 use std::error::Error;
 use std::fmt;
@@ -21,6 +21,10 @@ pub enum TaskRefusal {
     Line(LineFault),
     /// A row of the group file has a fault.
     Row(CsvFault),
+    /// A pair that joins or leaves has a fault.
+    Pair(CsvWhy),
+    /// There is no group file and no pair that joins or leaves, or there are both.
+    Source,
 }
 
 impl fmt::Display for TaskRefusal {
@@ -35,6 +39,8 @@ impl fmt::Display for TaskRefusal {
             TaskRefusal::TooLong => f.write_str("refused: input too long"),
             TaskRefusal::Line(fault) => write!(f, "refused: {fault}"),
             TaskRefusal::Row(fault) => write!(f, "refused: {fault}"),
+            TaskRefusal::Pair(why) => write!(f, "refused: {why}"),
+            TaskRefusal::Source => f.write_str("refused: either CSV, or --join and --leave"),
         }
     }
 }

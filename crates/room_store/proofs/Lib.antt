@@ -16,3 +16,4 @@ mod Reopened
 mod Looking
 mod Writing
 pub mod Counted
+mod Worked

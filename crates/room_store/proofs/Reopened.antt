@@ -7,7 +7,7 @@ use Rattle.room_machine.specs.Run.{Asking, Event}
 use Rattle.store_schema.specs.{NewRoom.meta_of, Opening.{IsFailure, Says}}
 use Rattle.store_schema.specs.declared.fault.OpenFault.{OpenFault, TheVariants.NotRooms}
 use Rattle.store_schema.specs.declared.fault.OpenFault.TheVariants.{OldVersion, NewVersion}
-use Rattle.store_schema.specs.declared.fault.OpenFault.TheVariants.{OtherTables, Db, Memory}
+use Rattle.store_schema.specs.declared.fault.OpenFault.TheVariants.{Db, Memory}
 use Rattle.store_tables.specs.{Meaning.rows_of, Within.TreesOf}
 use Rattle.room_store.specs.{Crash.{HoldsRoom, LeavesWhole}, Opens.{CanBeOpened, CrashLeavesARoom}}
 use Rattle.room_store.specs.Opens.{RoomsCanBeOpened}
@@ -26,7 +26,6 @@ says_failure wanted version (Err (OldVersion n)) is says =
     grind (arith, same_number, is, says.0, says.1)
 says_failure wanted version (Err (NewVersion n)) is says =
     grind (arith, same_number, is, says.0, says.1)
-says_failure wanted version (Err OtherTables) is says = absurd says
 says_failure wanted version (Err Db) is says = tt
 says_failure wanted version (Err Memory) is says = tt
 

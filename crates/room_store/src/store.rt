@@ -21,6 +21,7 @@ ghost use Rattle.store_admin.specs.Dump.{IsDump};
 ghost use Rattle.store_request.specs.Inside.{HasDamage};
 ghost use Rattle.store_tables.specs.Carries.{HasDamagedRow, NoTables};
 ghost use Rattle.store_tables.specs.Meaning.{rows_of};
+ghost use Rattle.store_admin.specs.Changing.{ChangesMembers, changed};
 ghost use Rattle.store_admin.specs.Operating.{
   AreMembers,
   AreRecords,
@@ -43,7 +44,7 @@ use room_rows::{AuditRow, Path};
 use sqlite::{Alter, Connection};
 use std::alloc::Global;
 use std::marker::Model;
-use store_admin::{all_members, all_records, dump_all, put_members};
+use store_admin::{Changed, all_members, all_records, change_members, dump_all, put_members};
 use store_request::{RequestBy, end_look, perform_inside, reset_inside};
 use store_tables::RecentLists;
 use store_transaction::{StoreFault, begin, fetch_inside, finish, give_up, if_open};
@@ -222,6 +223,41 @@ impl<S: Alter> Store<S> {
         self.memory = None;
         let mut tx = begin(&mut self.conn);
         let done = put_members(alloc, &mut tx, pairs);
+        let done = if_open(&mut tx, done);
+        finish(tx, done)
+    }
+
+    /// Takes out the pairs of group and user that leave, and puts in those that join: the
+    /// operator's step of the room machine, with the pairs that the same transaction has read. A
+    /// pair that does both is there afterwards. One that leaves and isn't there, or joins and is
+    /// there, changes nothing. Rows that were no pairs are removed, and no other table is changed.
+    /// The error is never `Damaged`.
+    pub fn change_members(
+        &mut self,
+        alloc: Global,
+        joins: &[(Name, Name)],
+        leaves: &[(Name, Name)],
+    ) -> Result<Changed, StoreFault>
+        ensures ran { Ran (state S.Store self.old.conn) (state S.Store self.new.conn) result
+            (λ _. ⊥) (ChangesMembers joins.now leaves.now) }
+        ensures alone { StorePremise (state S.Store self.old.conn) (state S.Store self.new.conn)
+            → OnOk result (ChangesPairsAlone (state S.Store self.old.conn).now
+            (state S.Store self.new.conn).now) }
+        ensures leads { Leads (state S.Store self.old.conn) (event_of result (λ _. Event.Replaced
+            (changed joins.now leaves.now (rows_of (state S.Store self.old.conn).now).read.members)))
+            (state S.Store self.new.conn) }
+        ensures outlasts { Outlasts (state S.Store self.old.conn)
+            (unanswered result (λ _. Event.Replaced (changed joins.now leaves.now
+            (rows_of (state S.Store self.old.conn).now).read.members)))
+            (event_of result (λ _. Event.Replaced (changed joins.now leaves.now
+            (rows_of (state S.Store self.old.conn).now).read.members)))
+            (state S.Store self.new.conn) }
+        ensures faults { self.new.faults ≡ self.old.faults }
+    {
+        sound_is_no_fault();
+        self.memory = None;
+        let mut tx = begin(&mut self.conn);
+        let done = change_members(alloc, &mut tx, joins, leaves);
         let done = if_open(&mut tx, done);
         finish(tx, done)
     }

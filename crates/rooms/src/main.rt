@@ -9,7 +9,8 @@
 //! - `serve FILE --port N --count N` listens on 127.0.0.1, prints `listening 127.0.0.1:N`, serves
 //!   this number of connections one after the other, and ends. With `--socket PATH` it listens on a
 //!   socket in the file system, and prints `listening PATH`.
-//! - `groups FILE CSV` replaces all members by those of the CSV file, and prints how many.
+//! - `groups FILE CSV` replaces all members by those of the CSV file, and prints how many. With
+//!   `--join GROUP USER` and `--leave GROUP USER` in the place of CSV it changes some.
 //! - `groups-out FILE` prints the members as CSV.
 //! - `audit FILE` prints the records as CSV.
 //! - `dump FILE` prints all objects and all members.

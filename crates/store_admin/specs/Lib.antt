@@ -1,3 +1,4 @@
 pub mod Numbers
 pub mod Operating
 pub mod Dump
+pub mod Changing

@@ -2,12 +2,14 @@
 //! transaction.
 #![tactic(auto)]
 
+mod changing;
 mod numbers;
 mod operating;
 mod putting;
 mod records;
 mod telling;
 
+pub use changing::{Changed, change_members};
 pub use numbers::has_numbers;
 pub use operating::all_members;
 pub use putting::put_members;

@@ -55,8 +55,8 @@ fn insert_pair<S: Alter>(tx: &mut Transaction<'_, S>, pair: &(Name, Name)) -> Re
     insert_member(tx, pair.0.as_str(), pair.1.as_str())
 }
 
-// Whether the pairs are the same.
-fn is_same(pair: &(Name, Name), other: &(Name, Name)) -> bool
+/// Whether the pairs are the same.
+pub(crate) fn is_same(pair: &(Name, Name), other: &(Name, Name)) -> bool
     ensures { result ≡ is_eq (pair_cmp pair.now other.now) }
 {
     compare(pair, other).is_eq()

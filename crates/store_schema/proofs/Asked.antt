@@ -23,7 +23,7 @@ use Rattle.store_tables.proofs.{Within.{undone_within, wrote_within}, Tests.equa
 use Rattle.store_schema.specs.{NewRoom.{is_version, meta_of, number_shown}, Opening.AsksVersion}
 use Rattle.store_schema.specs.Opening.{CantBeAsked, IsCalled, IsFailure, IsRefusal, IsUnread}
 use Rattle.store_schema.specs.Opening.{ReadsAs, ShowsVersion, number_text}
-use Rattle.store_schema.specs.declared.fault.OpenFault.{OpenFault, TheVariants.{NotRooms, OtherTables}}
+use Rattle.store_schema.specs.declared.fault.OpenFault.{OpenFault, TheVariants.NotRooms}
 use Rattle.store_schema.specs.declared.fault.OpenFault.TheVariants.{OldVersion, NewVersion, Db}
 use Rattle.store_schema.{specs.declared.fault.OpenFault.TheVariants.Memory, proofs.Answers.passes}
 use Rattle.store_schema.proofs.{Answers.selected, Texts.{asked_bare, asked_is, asked_nowhere}}
@@ -190,7 +190,6 @@ refusal_of : (e : Error) (fault : OpenFault) → IsCalled e fault → IsRefusal 
 refusal_of e NotRooms called = tt
 refusal_of e (OldVersion n) called = called
 refusal_of e (NewVersion n) called = called
-refusal_of e OtherTables called = called
 refusal_of e Db called = tt
 refusal_of e Memory called = tt
 
@@ -227,7 +226,6 @@ module _ (old new : State) (quiet : CommitsNothing old new) where
           refused_text old new it.0 (search rules)
       unread (OldVersion n) it h = it
       unread (NewVersion n) it h = it
-      unread OtherTables it h = it
       unread Db it h = tt
       unread Memory it h = tt
 
@@ -237,6 +235,5 @@ module _ (old new : State) (quiet : CommitsNothing old new) where
           understood_here old new it.0 has (search rules)
       by (OldVersion n) it has h = it
       by (NewVersion n) it has h = it
-      by OtherTables it has h = it
       by Db it has h = tt
       by Memory it has h = tt

@@ -10,7 +10,7 @@ use Rattle.store_schema.specs.{NewRoom.meta_of, Opening.{AnswersVersion, IsFailu
 use Rattle.store_schema.specs.{Opening.Says, Migrating.{AnswersMigration, CommitsMigration}}
 use Rattle.store_schema.specs.Migrating.{IsInside, IsMigratedRoom, IsNoRoom, Migrates}
 use Rattle.store_schema.specs.declared.fault.MigrateFault.{MigrateFault, TheVariants.Opening}
-use Rattle.store_schema.specs.declared.fault.OpenFault.{OpenFault, TheVariants.{NotRooms, OtherTables}}
+use Rattle.store_schema.specs.declared.fault.OpenFault.{OpenFault, TheVariants.NotRooms}
 use Rattle.store_schema.specs.declared.fault.OpenFault.TheVariants.{OldVersion, NewVersion, Db}
 use Rattle.store_schema.specs.declared.fault.OpenFault.TheVariants.{Memory}
 use Rattle.store_schema.proofs.Ended.{Begins, clean_mid, failed_back, left_first, open_first}
@@ -22,7 +22,6 @@ says : (db : Database) (fault : OpenFault) → IsFailure fault
 says db NotRooms fails = absurd fails
 says db (OldVersion n) fails = absurd fails
 says db (NewVersion n) fails = absurd fails
-says db OtherTables fails = absurd fails
 says db Db fails = tt
 says db Memory fails = tt
 
@@ -31,7 +30,6 @@ answers : (db : Database) (fault : OpenFault) → IsFailure fault
 answers db NotRooms fails = absurd fails
 answers db (OldVersion n) fails = absurd fails
 answers db (NewVersion n) fails = absurd fails
-answers db OtherTables fails = absurd fails
 answers db Db fails = tt
 answers db Memory fails = tt
 
@@ -39,7 +37,6 @@ refuses : (fault : OpenFault) → IsFailure fault → IsRefusal fault
 refuses NotRooms fails = tt
 refuses (OldVersion n) fails = fails
 refuses (NewVersion n) fails = fails
-refuses OtherTables fails = fails
 refuses Db fails = tt
 refuses Memory fails = tt
 

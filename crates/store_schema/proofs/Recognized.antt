@@ -9,13 +9,6 @@ use Rattle.store_schema.specs.{Opening.when_known, declared.fault.OpenFault.Open
 pub same_indexes : room_schema.indexes ≡ key_indexes
 same_indexes = rw (decimal_digit 1 (omega arith)) refl
 
-module _ (old new : State) where
-  pub fails_known : (known : Bool) (answer : Result (Unit {0}) OpenFault)
-      → FailsByDisk old new answer → FailsByDisk old new (when_known answer known)
-  fails_known known (Err fault) fails = fails
-  fails_known true (Ok done) fails = fails
-  fails_known false (Ok done) fails = λ now is_open has told. absurd (let e = told in cc)
-
 module _ (old : State) (known : Bool)
     (same : (IsTrue known → old.now.schema ≡ room_schema)
     × (old.now.schema ≡ room_schema → IsTrue known)) where
@@ -33,6 +26,15 @@ module _ (old : State) (known : Bool)
   others : known ≡ false → old.now.schema ≡ room_schema → ⊥
   others is has = absurd (let e = sym is ∙ same.1 has in cc)
 
+  pub fails_known : (new : State) (answer : Result (Unit {0}) OpenFault)
+      → FailsByDisk old new answer → FailsByDisk old new (when_known answer known)
+  fails_known new (Err fault) fails = fails
+  fails_known new (Ok done) fails = fails_by known refl
+    where
+      fails_by : (b : Bool) → known ≡ b → FailsByDisk old new (when_known (Ok done) b)
+      fails_by true is = fails
+      fails_by false is = λ now is_open has told. absurd (others is has)
+
   pub adopts_known : (new : State) (wanted : ℤ) (answer : Result (Unit {0}) OpenFault)
       → Recognizes wanted old new answer → Recognizes wanted old new (when_known answer known)
   adopts_known new wanted (Err fault) adopts = adopts
@@ -46,8 +48,8 @@ module _ (old : State) (known : Bool)
         was_open = adopts.was_open;
         kept = adopts.kept;
         answers = λ now. tt;
-        shown = λ now. (adopts.shown now, others is);
-        told = λ now has. absurd (others is has);
-        empty = adopts.empty;
+        shown = λ now. tt;
+        told = λ now has. tt;
+        empty = λ now has. tt;
         crash = adopts.crash;
       }

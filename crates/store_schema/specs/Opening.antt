@@ -1,5 +1,5 @@
 -- What opening a room is.
-use Rattle.std.specs.Prelude.{◌≡◌, ◌≢◌, ◌⊎◌, ◌≤◌, ◌<ℤ◌, ℕ, ℤ, pos, Bool, List}
+use Rattle.std.specs.Prelude.{◌≡◌, ◌⊎◌, ◌≤◌, ◌<ℤ◌, ℕ, ℤ, pos, Bool, List}
 use Rattle.std.specs.Prelude.{[], Option, Some, None, Result, Ok, Err}
 use Rattle.std.specs.Prelude.{MatchResult, IsErrAnd, OnOk, IsTrue, false, codes, if◌then◌else◌}
 use Rattle.sqlite_trees.specs.View.{doubt}
@@ -23,7 +23,7 @@ use Rattle.store_schema.specs.NewRoom.{meta_of, number_shown}
 use Rattle.store_schema.specs.declared.fault.OpenFault.{OpenFault}
 use Rattle.store_schema.specs.declared.fault.OpenFault.TheVariants.{NotRooms, OldVersion}
 use Rattle.store_schema.specs.declared.fault.OpenFault.TheVariants.{NewVersion}
-use Rattle.store_schema.specs.declared.fault.OpenFault.TheVariants.{OtherTables, Db, Memory}
+use Rattle.store_schema.specs.declared.fault.OpenFault.TheVariants.{Db, Memory}
 
 abbrev pub IsNotUnderstood : Error → Type 0
 IsNotUnderstood e = (fault : CompileError) × (e ≡ SqlInputError fault)
@@ -33,7 +33,6 @@ abbrev pub IsCalled : Error → OpenFault → Type 0
 IsCalled e NotRooms = IsNotUnderstood e
 IsCalled e (OldVersion n) = ⊥
 IsCalled e (NewVersion n) = ⊥
-IsCalled e OtherTables = ⊥
 IsCalled e Db = ¬ IsNotUnderstood e
 IsCalled e Memory = ¬ IsNotUnderstood e
 
@@ -42,7 +41,6 @@ abbrev pub IsFailure : OpenFault → Type 0
 IsFailure NotRooms = ⊥
 IsFailure (OldVersion n) = ⊥
 IsFailure (NewVersion n) = ⊥
-IsFailure OtherTables = ⊥
 IsFailure Db = Unit {0}
 IsFailure Memory = Unit {0}
 
@@ -67,7 +65,6 @@ abbrev pub IsRefusal : OpenFault → Type 0
 IsRefusal NotRooms = Unit {0}
 IsRefusal (OldVersion n) = ⊥
 IsRefusal (NewVersion n) = ⊥
-IsRefusal OtherTables = ⊥
 IsRefusal Db = Unit {0}
 IsRefusal Memory = Unit {0}
 
@@ -78,7 +75,6 @@ Says wanted version (Ok _) = version ≡ Some wanted
 Says wanted version (Err NotRooms) = version ≡ None
 Says wanted version (Err (OldVersion n)) = (version ≡ Some n) × (n <ℤ wanted)
 Says wanted version (Err (NewVersion n)) = (version ≡ Some n) × (wanted <ℤ n)
-Says wanted version (Err OtherTables) = ⊥
 Says wanted version (Err Db) = Unit {0}
 Says wanted version (Err Memory) = Unit {0}
 
@@ -113,19 +109,16 @@ abbrev pub IsUnread : Database → OpenFault → Type 0
 IsUnread db NotRooms = CantBeAsked db
 IsUnread db (OldVersion n) = ⊥
 IsUnread db (NewVersion n) = ⊥
-IsUnread db OtherTables = ⊥
 IsUnread db Db = Unit {0}
 IsUnread db Memory = Unit {0}
 
 -- A number is answered only where the database showed it, and that there is none only where it
--- showed none or can't be asked. Other tables are those of a database that showed the number.
+-- showed none or can't be asked.
 abbrev pub AnswersVersion : ℤ → Database → Result (Unit {0}) OpenFault → Type 0
 AnswersVersion wanted db (Ok _) = ShowsVersion (Some wanted) db
 AnswersVersion wanted db (Err NotRooms) = ShowsVersion None db ⊎ CantBeAsked db
 AnswersVersion wanted db (Err (OldVersion n)) = ShowsVersion (Some n) db × (n <ℤ wanted)
 AnswersVersion wanted db (Err (NewVersion n)) = ShowsVersion (Some n) db × (wanted <ℤ n)
-AnswersVersion wanted db (Err OtherTables) =
-    ShowsVersion (Some wanted) db × (db.schema ≢ room_schema)
 AnswersVersion wanted db (Err Db) = Unit {0}
 AnswersVersion wanted db (Err Memory) = Unit {0}
 
@@ -133,7 +126,7 @@ AnswersVersion wanted db (Err Memory) = Unit {0}
 
 -- a room is known by its tables too
 abbrev pub when_known : Result (Unit {0}) OpenFault → Bool → Result (Unit {0}) OpenFault
-when_known (Ok done) false = Err OtherTables
+when_known (Ok done) false = Err Db
 when_known answer known = answer
 
 -- The number of the schema is read, inside a transaction.

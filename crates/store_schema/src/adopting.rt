@@ -27,12 +27,12 @@ pub fn adopt<S: Alter>(conn: &mut Connection<S>) -> Result<(), OpenFault>
     if_known(answer, known)
 }
 
-// A database of this version whose tables aren't known is refused.
+// A database of this version whose tables aren't known is damaged.
 fn if_known(answer: Result<(), OpenFault>, known: bool) -> Result<(), OpenFault>
     ensures { result ≡ when_known answer known }
 {
     match answer {
-        Ok(()) if !known => Err(OpenFault::OtherTables),
+        Ok(()) if !known => Err(OpenFault::Db),
         other => other,
     }
 }

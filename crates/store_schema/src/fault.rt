@@ -34,10 +34,8 @@ pub enum OpenFault {
     OldVersion(i64),
     /// The schema's number is above that of this version.
     NewVersion(i64),
-    /// The schema has the number that is expected, and the tables, indexes, views or triggers are
-    /// other ones than a room is made with.
-    OtherTables,
-    /// The database failed.
+    /// The database failed; or the schema has the number that is expected, and the tables, indexes,
+    /// views or triggers are other ones than a room is made with.
     Db,
     /// Out of memory.
     Memory,

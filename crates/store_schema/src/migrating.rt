@@ -54,7 +54,7 @@ pub fn migrate<S: Alter>(alloc: Global, conn: &mut Connection<S>) -> Result<(), 
 {
     if !is_room(conn.schema()) {
         return match read_version(conn, OLD_SCHEMA) {
-            Ok(()) => Err(MigrateFault::Opening(OpenFault::OtherTables)),
+            Ok(()) => Err(MigrateFault::Opening(OpenFault::Db)),
             Err(fault) => Err(MigrateFault::Opening(fault)),
         };
     }

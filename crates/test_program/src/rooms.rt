@@ -41,6 +41,12 @@ const BAD_GROUPS: &[u8] = b"group,user\nsales,alice\nops,bad name\n";
 
 const TWO_GROUPS: &[u8] = b"group,user\nsales,bob\nops,bob\nsales,alice\n";
 
+const NO_CHANGE: &str = "refused: either CSV, or --join and --leave\n";
+
+// A folder `/f`, with what it inherits from the root, of the number before the last.
+const BELOW_THE_LAST: &str = "INSERT INTO nodes VALUES (9223372036854775806, 1, 'f', 1, 'root', \
+     'staff', 1, 1, '', 'A:fdI:OWNER@:rwanNxDtThHdcCoy\n', '', '')";
+
 #[test]
 fn dump_empty_room(rt: HostRuntime) -> Result<(), Fail> {
     plays(
@@ -70,6 +76,47 @@ fn import_groups(rt: HostRuntime) -> Result<(), Fail> {
             tells(Ask::Groups(BAD_GROUPS), "refused: row 3: C3 bad name\n", 2),
             tells(Ask::GroupsOut, members, 0),
             tells(Ask::Groups(TWO_GROUPS), "groups 2, members 3\n", 0),
+        ],
+    )
+}
+
+#[test]
+fn some_join_and_others_leave(rt: HostRuntime) -> Result<(), Fail> {
+    let change = Ask::Change(&["ops", "dan", "sales", "eve"], &["sales", "bob"]);
+    let members = "group,user\nops,bob\nops,dan\nsales,alice\nsales,eve\n";
+    plays(
+        rt.alloc(),
+        &[
+            tells(Ask::Init, "ready\n", 0),
+            tells(Ask::Groups(TWO_GROUPS), "groups 2, members 3\n", 0),
+            tells(change, "joined 2, left 1, members 4\n", 0),
+            tells(Ask::GroupsOut, members, 0),
+            tells(change, "joined 0, left 0, members 4\n", 0),
+            tells(
+                Ask::Change(&["ops"], &[]),
+                "refused: C2 not two fields\n",
+                2,
+            ),
+            tells(Ask::Change(&["ops", ""], &[]), "refused: C3 bad name\n", 2),
+            tells(Ask::Change(&[], &[]), NO_CHANGE, 2),
+            tells(Ask::GroupsOut, members, 0),
+        ],
+    )
+}
+
+#[test]
+fn a_room_without_numbers_is_named(rt: HostRuntime) -> Result<(), Fail> {
+    plays(
+        rt.alloc(),
+        &[
+            tells(Ask::Init, "ready\n", 0),
+            after(BELOW_THE_LAST, Ask::Verify, "sound\n", 0),
+            after(
+                "UPDATE nodes SET id = 9223372036854775807 WHERE name = 'f'",
+                Ask::Verify,
+                "fault ? V8 no-numbers\n",
+                1,
+            ),
         ],
     )
 }
@@ -176,19 +223,14 @@ fn verify_missing_body(rt: HostRuntime) -> Result<(), Fail> {
 }
 
 #[test]
-fn damaged_rows_are_faults_and_missing_tables_are_refused(rt: HostRuntime) -> Result<(), Fail> {
+fn damaged_rows_and_missing_tables_are_faults(rt: HostRuntime) -> Result<(), Fail> {
     let bad_record = "INSERT INTO audits VALUES (3, 9, 'bob', '/', 2048, 1, 1)";
     plays(
         rt.alloc(),
         &[
             tells(Ask::Init, "ready\n", 0),
             fails(bad_record, Ask::Audit, "fault: database\n"),
-            after(
-                "DROP TABLE members",
-                Ask::GroupsOut,
-                "refused: not the tables of a room\n",
-                2,
-            ),
+            fails("DROP TABLE members", Ask::GroupsOut, "fault: database\n"),
         ],
     )
 }

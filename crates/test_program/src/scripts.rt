@@ -3,7 +3,7 @@ use cli_act::act;
 use cli_words::{Job, Task, TaskRefusal, judge};
 use room_ace::{Failure, Which};
 use sqlite::{Connection, MemStore};
-use std::alloc::Global;
+use std::alloc::{AllocError, Global};
 use std::test::Fail;
 
 /// A subcommand and its input.
@@ -11,6 +11,7 @@ use std::test::Fail;
 pub enum Ask {
     Init,
     Groups(&'static [u8]),
+    Change(&'static [&'static str], &'static [&'static str]),
     GroupsOut,
     Audit,
     Dump,
@@ -59,6 +60,17 @@ pub fn fails(before: &'static str, ask: Ask, err: &'static str) -> Step {
     }
 }
 
+fn groups<'a>(
+    alloc: Global,
+    csv: Option<&'a str>,
+    joins: &[&'a str],
+    leaves: &[&'a str],
+) -> Result<Job<'a>, AllocError> {
+    let joins = Vec::from_slice(alloc, joins)?;
+    let leaves = Vec::from_slice(alloc, leaves)?;
+    Ok(Job::Groups { csv, joins, leaves })
+}
+
 pub fn task_of(alloc: Global, ask: Ask) -> Result<Task, Failure<TaskRefusal>> {
     match ask {
         Ask::Init => {
@@ -66,7 +78,8 @@ pub fn task_of(alloc: Global, ask: Ask) -> Result<Task, Failure<TaskRefusal>> {
             let group = "staff";
             judge(alloc, &Job::Init { owner, group }, &[])
         }
-        Ask::Groups(csv) => judge(alloc, &Job::Groups { csv: "" }, csv),
+        Ask::Groups(csv) => judge(alloc, &groups(alloc, Some(""), &[], &[])?, csv),
+        Ask::Change(joins, leaves) => judge(alloc, &groups(alloc, None, joins, leaves)?, &[]),
         Ask::GroupsOut => judge(alloc, &Job::GroupsOut, &[]),
         Ask::Audit => judge(alloc, &Job::Audit, &[]),
         Ask::Dump => judge(alloc, &Job::Dump, &[]),

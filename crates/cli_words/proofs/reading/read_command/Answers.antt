@@ -7,7 +7,8 @@ use Rattle.clap.specs.declared.{error.Error.Error, parser.matches.ArgMatches.Arg
 use Rattle.clap.proofs.OnLiterals.{clap_on_literals}
 use Rattle.room_entry.specs.declared.failure.Failure.{Failure, TheVariants.{OutOfMemory, Fault}}
 use Rattle.cli_words.{proofs.Named.is_whole, specs.Command.{IsWhole, IsCommand, IsRead, IsRefused}}
-use Rattle.cli_words.specs.{Command.{IsTold, names_two}, Line.{AreAttributes, command_line}}
+use Rattle.cli_words.specs.{Command.{IsNotMet, IsTold, names_two}}
+use Rattle.cli_words.specs.Line.{AreAttributes, command_line}
 use Rattle.cli_words.specs.declared.command.{CliFault.CliFault, Command.Command}
 use Rattle.clap.specs.declared.error.kind.ErrorKind.TheVariants as kinds
 use Rattle.cli_words.proofs.reading.read_command.Goals as goal
@@ -60,21 +61,20 @@ read_by names words found (Err failure) two none is read = tt
 refused_by : (names : Bor (List (Bor Text))) (words : List Text)
     (found : Option (Text × List Row)) (failure : Failure CliFault) → AreAttributes names
     → fault_of (command_line names) words ≡ []
-    → found ≡ subcommand_of (command_line names) words → names_two found ≡ true
-    → IsTold kinds.ArgumentConflict failure → IsRefused words failure
-refused_by names words found OutOfMemory two none is both told = tt
-refused_by names words found (Fault fault) two none is both told =
-    (names, two, inr (none, sym (ap names_two is) ∙ both, told.0))
+    → found ≡ subcommand_of (command_line names) words → IsNotMet found failure
+    → IsRefused words failure
+refused_by names words found OutOfMemory two none is unmet = tt
+refused_by names words found (Fault fault) two none is unmet =
+    (names, two, inr (none, sym (ap names_two is) ∙ unmet.0, unmet.1.0))
 
 named_two : (names : Bor (List (Bor Text))) (words : List Text) (found : Option (Text × List Row))
     (result : Result Command (Failure CliFault)) → AreAttributes names
     → fault_of (command_line names) words ≡ []
-    → found ≡ subcommand_of (command_line names) words
-    → IfErr result (λ failure. (names_two found ≡ true) × IsTold kinds.ArgumentConflict failure)
+    → found ≡ subcommand_of (command_line names) words → IfErr result (IsNotMet found)
     → IfErr result (IsRefused words)
-named_two names words found (Ok command) two none is named = tt
-named_two names words found (Err failure) two none is named =
-    refused_by names words found failure two none is named.0 named.1
+named_two names words found (Ok command) two none is unmet = tt
+named_two names words found (Err failure) two none is unmet =
+    refused_by names words found failure two none is unmet
 
 pub returns-in-Ok-clause-ok : goal.returns-in-Ok-clause-ok
 returns-in-Ok-clause-ok g c =

@@ -15,9 +15,12 @@ returns-clause-adopts g c =
 
 pub returns-clause-fails : goal.returns-clause-fails
 returns-clause-fails g c =
-    rw c.if_known.ensures (fails_known (state g.S.Store c.args.conn.now)
-    (state g.S.Store c.read_version-answer.new.conn) c.is_room-known.result
-    c.read_version-answer.result c.read_version-answer.ensures.fails)
+    let same = subst (λ (schema : Schema). (IsTrue c.is_room-known.result → schema ≡ room_schema)
+    × (schema ≡ room_schema → IsTrue c.is_room-known.result)) c.schema.ensures.value
+    c.is_room-known.ensures in
+    rw c.if_known.ensures (fails_known (state g.S.Store c.args.conn.now) c.is_room-known.result same
+    (state g.S.Store c.read_version-answer.new.conn) c.read_version-answer.result
+    c.read_version-answer.ensures.fails)
 
 pub returns-clause-tables : goal.returns-clause-tables
 returns-clause-tables g c =
