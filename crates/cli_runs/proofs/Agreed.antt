@@ -5,7 +5,7 @@ use Rattle.room_http.specs.{declared.ended.Cause.Cause, Message.{Message, asked}
 use Rattle.room_http.specs.{Serve.{Next, next_exchange}, Stream.{EndsStream, Exchange, HasReply}}
 use Rattle.room_http.specs.Stream.{IsOpen, Last, last_exchange}
 use Rattle.cli_listen.specs.Visits.{IsServedVisit, Meeting, Talked, Visit}
-use Rattle.cli_runs.proofs.Gains.{all_both}
+use Rattle.cli_runs.proofs.Runs.{all_both}
 
 abbrev pub IsAgreed : Exchange → Type 0
 IsAgreed x = HasReply (asked x.message) x.reply

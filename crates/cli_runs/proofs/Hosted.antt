@@ -1,18 +1,24 @@
 -- Worked examples of what `host` promises: of moments, of the number of connections, of statuses,
 -- of what is printed and asked for, and of a room that is damaged.
-use Rattle.std.proofs.Common.{◌≡◌, ◌≤◌, ◌⊎◌, ◌++◌, ℕ, ℤ, List, [], ◌∷◌, length, map, Option, Some}
-use Rattle.std.proofs.Common.{None, Ok, Err, IsTrue, inl, inr, refl, ap, subst, ◌∙◌, codes, decimal}
-use Rattle.std.specs.Io.KnownBytes.{Appends}
+use Rattle.std.proofs.Common.{◌≡◌, ◌≤◌, ◌<◌, ◌⊎◌, ◌++◌, ℕ, ℤ, List, [], ◌∷◌, length, map, Option}
+use Rattle.std.proofs.Common.{Some, None, IfSome, Ok, Err, IsTrue, inl, inr, refl, ap, subst, ◌∙◌}
+use Rattle.std.{proofs.Common.{codes, decimal}, specs.Io.KnownBytes.Appends}
+use Rattle.sqlite_rules.specs.Lists.{Has}
 use Rattle.sqlite.specs.{Held.Held, State.{State, HasCleanDisk}, Tree.Trees}
 use Rattle.cli_outcome.specs.declared.{no_room.NoRoom.NoRoom, listen.ListenAddress.ListenAddress}
+use Rattle.room_rows.specs.Content.{Content}
+use Rattle.room_machine.specs.Run.{Asking}
 use Rattle.room_http.specs.declared.ended.Cause.{Cause}
-use Rattle.store_tables.specs.{Shown.{HasTables, IsRoom, Retains}, Within.TreesOf}
+use Rattle.store_tables.specs.{Shown.{HasTables, IsRoom, Retains}, Tables.room_schema}
+use Rattle.store_tables.specs.Within.{LeavesOnly, TreesOf}
 use Rattle.store_schema.specs.declared.fault.OpenFault.{OpenFault}
-use Rattle.room_store.specs.Kept.{IsOfThisVersion, IsShut}
-use Rattle.cli_listen.specs.Listening.{CannotListen, ListensAt, Site, site_of, Deed}
-use Rattle.cli_listen.specs.{Visits.{Visit, acts_of, end_acts, moment_of}, Lines.{TellsOf, TellsAddress}}
+use Rattle.room_store.specs.{Crash.{HoldsRoom, HoldsRoomAfter, IsRoomOf}, Kept.IsOfThisVersion}
+use Rattle.room_store.specs.{Kept.{IsShut, IsSound, Keeps}, Opens.{Opens, RoomsCanBeOpened}}
+use Rattle.cli_listen.specs.Listening.{CannotListen, Deed, HasListened, ListensAt, Site, site_of}
+use Rattle.cli_listen.specs.Visits.{IsEnd, Visit, acts_of, end_acts, moment_of}
 use Rattle.cli_listen.specs.Telling.{PrintsRefusal, TellsAll, TurnsDown, end_status, why_not_opened}
-use Rattle.cli_listen.specs.{Lines.connection_line, declared.fault.ServingFault.ServingFault}
+use Rattle.cli_listen.specs.Lines.{TellsAddress, TellsFirst, TellsOf, connection_line}
+use Rattle.cli_listen.specs.declared.fault.ServingFault.{ServingFault}
 use Rattle.cli_serve.specs.Hosts.{IsHosted, IsTurnedDown, LeavesShut, ServesRoom}
 use Rattle.cli_outcome.specs.declared.listen.ListenAddress.TheVariants as address
 
@@ -69,6 +75,31 @@ module _ (address : ListenAddress) (told told' : List ℤ → Type 0) (did did' 
   faults_are_told : TellsAll serves.visits serves.end err err'
   faults_are_told = serves.faults
 
+  a_power_cut_leaves_what_is_seen : IsTrue new.is_open → LeavesOnly new new.now
+  a_power_cut_leaves_what_is_seen is_open = (serves.lasts is_open).1
+
+  -- what the end says of the number of connections, and of the line with the address
+  module _ (listened :
+      HasListened did did' address 1 serves.visits serves.end out out') where
+    a_good_end_means_all : serves.end ≡ Ok tt → length serves.visits ≡ 1
+    a_good_end_means_all is =
+        subst (λ end. IsEnd 1 end (length serves.visits)) is listened.end_says
+
+    out_of_memory_before_the_first : serves.end ≡ Err ServingFault.Memory
+        → length serves.visits ≡ 0
+    out_of_memory_before_the_first is =
+        subst (λ end. IsEnd 1 end (length serves.visits)) is listened.end_says
+
+    a_listener_that_failed_leaves_some_out : serves.end ≡ Err ServingFault.Net
+        → length serves.visits < 1
+    a_listener_that_failed_leaves_some_out is =
+        subst (λ end. IsEnd 1 end (length serves.visits)) is listened.end_says
+
+    the_address_is_told_before_a_desk_fails : serves.end ≡ Err ServingFault.Desk
+        → TellsAddress address out out'
+    the_address_is_told_before_a_desk_fails is =
+        subst (λ end. TellsFirst address (length serves.visits) end out out') is listened.first
+
 -- the line of a connection, with its number from 1 on
 the_port_is_of_this_machine : (port : ℕ)
     → site_of (address.Port port) ≡ Site.Port (127 ∷ 0 ∷ 0 ∷ 1 ∷ []) port
@@ -100,13 +131,41 @@ module _ (did did' : List Deed → Type 0) (old new : State) (out out' err err' 
   no_address_was_asked_for : did [] → did' []
   no_address_was_asked_for none = down.asked_none [] none
 
+  it_stays_sound : HasCleanDisk new → IsSound old → IsSound new
+  it_stays_sound = down.outlasts.leads.sound
+
+  it_is_left_as_it_was : HasCleanDisk new → IsSound old → IsTrue old.is_open → (room : Content)
+      → Keeps old room → (db : Trees) → new.may_leave db → HoldsRoom room db
+  it_is_left_as_it_was clean sound is_open room keeps db may =
+      let it = down.leaves clean sound is_open room keeps in
+      on it.0 it.1 it.2.0 it.2.1 (it.2.2 db may)
+    where
+      on : (next : Content) → next ≡ room → (more : Option Asking)
+          → IfSome more (λ (asking : Asking). Has [] asking)
+          → HoldsRoom next db ⊎ (IsShut new × (happens : Asking) × (more ≡ Some happens)
+          × HoldsRoomAfter next db happens) → HoldsRoom room db
+      on next is more has (inl holds) = subst (λ (c : Content). HoldsRoom c db) is holds
+      on next is more has (inr (shut, asking, some, after)) =
+          let none : ⊥ = subst (λ (m : Option Asking). IfSome m (λ (a : Asking). Has [] a)) some has
+          in absurd none
+
   it_is_told_why : down.why ≡ OpenFault.NotRooms
       → PrintsRefusal NoRoom.NotRooms out out' err err' status
   it_is_told_why is =
       subst (λ (why : OpenFault). TurnsDown (why_not_opened why) out out' err err' status) is
       down.told
 
--- ---- a damaged room
+-- nor is the file of a sound room turned down as one that holds none
+a_room_is_found : {S : Type 0} (shown : Held S → State) → RoomsCanBeOpened shown
+    → (did did' : List Deed → Type 0) (old new : Held S) (out out' err err' : Option (List ℕ))
+    (status : ℕ) (down : IsTurnedDown did did' (shown old) (shown new) out out' err err' status)
+    → (room : Content) → IsRoomOf room (shown old).now → HasCleanDisk (shown new)
+    → down.why ≡ OpenFault.NotRooms → ⊥
+a_room_is_found shown law did did' old new out out' err err' status down room is clean why =
+    law room (shown old).now is old new (Err OpenFault.NotRooms) refl
+    (subst (λ (fault : OpenFault). Opens (shown old) (shown new) (Err fault)) why down.opens) clean
+
+-- ---- a room that may be damaged
 
 module _ {S : Type 0} (shown : Held S → State) (address : ListenAddress) (count : ℕ)
     (told told' : List ℤ → Type 0) (did did' : List Deed → Type 0) (old new : Held S)
@@ -119,6 +178,9 @@ module _ {S : Type 0} (shown : Held S → State) (address : ListenAddress) (coun
   it_can_be_opened_again db left =
       let it = (hosted.stays clean is_open tables).left db left in
       (it.0, (it.1.room, it.1.version, it.1.retains), it.2)
+
+  what_is_served_was_opened : (shown old).now.schema ≡ room_schema
+  what_is_served_was_opened = hosted.opens.tables
 
   its_records_stay : IsTrue (shown new).is_open
       → HasTables (shown new).now × Retains (shown old).now.trees (shown new).now.trees

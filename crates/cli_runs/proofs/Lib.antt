@@ -1,7 +1,13 @@
-mod Gains
-mod First
+mod Runs
+mod Each
 mod Agreed
 mod Alike
+mod Same
 mod Sent
+mod Members
+mod Tasks
+mod Uses
+mod Histories
 mod Worked
+mod Restarted
 mod Hosted

@@ -6,10 +6,10 @@ use Rattle.std.specs.List.{AllByRecursion, flat_map}
 use Rattle.sqlite.specs.State.{State, HasCleanDisk}
 use Rattle.sqlite.specs.Tree.{Trees}
 use Rattle.room_rows.specs.Content.{Content}
-use Rattle.room_machine.specs.Run.{Asking, Run}
+use Rattle.room_machine.specs.Run.{Asking, Event, Run}
 use Rattle.room_machine.specs.declared.reply.Reply.{Reply}
 use Rattle.room_laws.specs.Laws.{HappensUnseen, TellsNames, front_after}
-use Rattle.room_laws.specs.Outside.{SameOutside}
+use Rattle.room_laws.specs.Outside.{SameOutside, listing, view}
 use Rattle.room_laws.specs.Twins.{AreAlike, InBoth, InFirst, InSecond, Turn, first_events}
 use Rattle.room_laws.specs.Twins.{front_at_end}
 use Rattle.room_http.specs.Message.{Message, Parsed, asked}
@@ -119,17 +119,62 @@ CrashesLeaveAlike front old visits new other others later =
     → (c d : Content) × HoldsRoom c db × HoldsRoom d beside × SameOutside front c d
 
 -- From each of two states to a later one these connections were served. If the tables were those of
--- two sound rooms that were the same outside, and what came to both or to one alone is as above,
--- then each message of both got the same reply in both, but for the names in the front. The rooms
--- that are kept then are the same outside too, and so are those that a power cut leaves.
+-- two sound rooms that were the same outside, and what came up to any message to both or to one
+-- alone is as above, then each message of both got the same reply in both up to there, but for the
+-- names in the front, whatever came later. If that was all, the rooms that are kept then are the
+-- same outside too, and so are those that a power cut leaves.
 abbrev pub ServersAnswerAlike : List (List ℕ) → State → List Visit → State → State → List Visit
     → State → Type 0
 ServersAnswerAlike front old visits new other others later =
     HasCleanDisk new → HasCleanDisk later
     → (a b : Content) → IsRoomOf a old.now → IsRoomOf b other.now → SameOutside front a b
-    → (arrivals : List Arrival) → Arrive visits others arrivals
+    → (arrivals rest : List Arrival) → Arrive visits others (arrivals ++ rest)
     → AskAlike front a (turns_of arrivals)
     → RepliesAlike front arrivals
-    × ((c d : Content) × Run a (requests_of visits) c × Run b (requests_of others) d
+    × (rest ≡ [] → ((c d : Content) × Run a (requests_of visits) c × Run b (requests_of others) d
     × Keeps new c × Keeps later d × SameOutside (front_at_end front (turns_of arrivals)) c d)
-    × CrashesLeaveAlike (front_at_end front (turns_of arrivals)) old visits new other others later
+    × CrashesLeaveAlike (front_at_end front (turns_of arrivals)) old visits new other others later)
+
+-- ---- the same messages to both
+
+-- a message that came to both servers, at a moment and with a reply in each
+pub record Both : Type 0 where
+  pub moment : ℤ
+  pub later : ℤ
+  pub message : Message
+  pub first : Option Reply
+  pub second : Option Reply
+
+abbrev pub in_first : Both → Answered
+in_first both = (both.moment, record { message = both.message; reply = both.first })
+
+abbrev pub in_second : Both → Answered
+in_second both = (both.later, record { message = both.message; reply = both.second })
+
+-- what was asked by these messages
+abbrev pub events_of : List Answered → List Event
+events_of answered = flat_map (λ x. event_at x.0 x.1) answered
+
+-- The same pairs, the same at each path, and the same names below it. Numbers of objects may differ,
+-- and so may records.
+pub record AreSame (a b : Content) : Type 0 where
+  pub members : a.members ≡ b.members
+  pub views : (path : List (List ℕ)) → view a path ≡ view b path
+  pub names : (path : List (List ℕ)) → listing a path ≡ listing b path
+
+-- From each of two states to a later one these connections were served. If the tables were those of
+-- the same sound room, and the same messages were answered first, then they got the same replies:
+-- whatever each answered later, at whatever moments and on whatever connections they came. Then the
+-- rooms were the same, and a server that answered no more keeps that one. So what a server has done
+-- up to a message is what another one does that ends there.
+abbrev pub ServersAnswerTheSame : State → List Visit → State → State → List Visit → State → Type 0
+ServersAnswerTheSame old visits new other others later =
+    HasCleanDisk new → HasCleanDisk later
+    → (room : Content) → IsRoomOf room old.now → IsRoomOf room other.now
+    → (same : List Both) (rest more : List Answered)
+    → map in_first same ++ rest ≡ answered_in visits
+    → map in_second same ++ more ≡ answered_in others
+    → AllByRecursion (λ x. x.first ≡ x.second) same
+    × ((mid end : Content) × Run room (events_of (map in_first same)) mid
+    × Run room (events_of (map in_second same)) end × AreSame mid end
+    × (rest ≡ [] → Keeps new mid) × (more ≡ [] → Keeps later end))

@@ -1,3 +1,4 @@
 pub mod Gains
 pub mod Alike
 pub mod Sent
+pub mod Uses

@@ -3,3 +3,4 @@ mod Alike
 pub mod Rights
 mod Worked
 mod Uses
+mod Rules

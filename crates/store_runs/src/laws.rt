@@ -16,6 +16,7 @@ ghost use Rattle.store_runs.specs.Alike.{
   second_at_end,
   turns_of,
 };
+ghost use Rattle.store_runs.specs.Rules.{TablesKeepRules};
 ghost use Rattle.store_runs.specs.Rights.{CrashGainsNothing, GainsNothing, GrantsChanges};
 
 use room_inherit::laws::sound_is_content;
@@ -86,4 +87,10 @@ pub fn rights_changed_in_a_store<S: Alter>()
 pub fn a_crash_leaves_something<S: Alter>()
     ensures { (held : Held S) → HasCleanDisk (state S.Store held)
         → ∥ ((db : Trees) × (state S.Store held).may_leave db) ∥₁ }
+{}
+
+/// What a database that obeys its schema is, for the tables of a room: cells of the kinds of their
+/// columns, references to what is there, and no key twice.
+pub fn tables_keep_rules()
+    ensures { TablesKeepRules }
 {}
