@@ -8,7 +8,6 @@ from kit import TOP
 BUILT = re.compile(r"^build: (?:\d+ of \d+, )?(\w+) (\d+) s")
 WHOLE = re.compile(r"^build: .*; (\d+) s in all$")
 STEP = re.compile(r"^gate: (.*) took (\d+) s$")
-PART = re.compile(r"^[\w-]+/[\w-]+: \d+ passed, (\d+) s$")
 ANEW = "every proof and must-fail edit was done in this run"
 
 
@@ -125,16 +124,14 @@ def steps_of(file):
     """Returns what each part of the gate took, in seconds."""
     lines = lines_of(file)
     steps = {at[1]: int(at[2]) for at in map(STEP.match, lines) if at}
-    parts = [int(at[1]) for at in map(PART.match, lines) if at]
-    if not steps or not parts:
+    if not steps:
         raise ValueError(f"{file} has no times of the gate")
-    return {**steps, "tests/run": sum(parts)}, any(ANEW in it for it in lines)
+    return steps, any(ANEW in it for it in lines)
 
 
 def gate_table(file):
     steps, anew = steps_of(file)
     rows = "".join(f"| `{name}` | {took / 60:.1f} |\n" for name, took in steps.items())
-    rows += f"| the gate | {sum(steps.values()) / 60:.1f} |\n"
     told = "Everything was proved and tried in that run."
     if not anew:
         told = "What an earlier run had proved was kept."

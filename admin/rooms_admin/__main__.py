@@ -9,9 +9,10 @@ from .cli.table import OLD, VERBS
 
 def _run(verb: str, words: list[str]) -> int:
     module = manual.module_of(verb)
-    given = reading.read(verb, module, words)
-    if given is None:
-        print(manual.explain(verb), end="")
+    try:
+        given = reading.read(verb, module, words)
+    except reading.Asked as asked:
+        print(manual.explain(verb, asked.parser), end="")
         return 0
     return int(module.run(given))
 

@@ -13,15 +13,17 @@ class Answer(Exception):
     """Ends the request: a status, and the word that the web interface puts into a sentence."""
 
     def __init__(self, status: str, why: str = "", body: bytes = b"", kind: str = "",
-                 fields: tuple[str, ...] = ()) -> None:
+                 fields: tuple[str, ...] = (), has_length: bool = True) -> None:
         super().__init__(status)
         self.status, self.why, self.body, self.kind, self.fields = status, why, body, kind, fields
+        self.has_length = has_length
 
     def text(self) -> bytes:
         body = json.dumps({"why": self.why}).encode() if self.why else self.body
         kind = "application/json" if self.why else self.kind
         lines = [f"Status: {self.status}", *([f"Content-Type: {kind}"] if kind else []),
-                 *self.fields, f"Content-Length: {len(body)}", "", ""]
+                 *self.fields, *([f"Content-Length: {len(body)}"] if self.has_length else []),
+                 "", ""]
         return "\r\n".join(lines).encode("ascii") + body
 
 

@@ -26,6 +26,42 @@ checks 'no folder of backups' 2 'no folder of backups: '
 mv away backups
 backup '1 hour ago' >/dev/null
 
+# When it is full, by what a month's backups have in use. The largest step may be an import.
+grown() { # DATE MEGABYTES: a backup of that time with so many in use
+  local file
+  file=backups/$(backup "$1")/F
+  python3 - "$file" "$2" <<'END'
+import struct, sys
+with open(sys.argv[1], "r+b") as file:
+    size, = struct.unpack(">16xH", file.read(18))
+    file.seek(28)
+    file.write(struct.pack(">I4xI", (int(sys.argv[2]) << 20) // size, 0))
+END
+  touch -d "$1" "$file"
+}
+rm -r backups/*
+for week in 4 3 2 1; do grown "$((7 * week)) days ago" $((5 - week)); done
+grown '1 hour ago' 5
+settings LIMIT=5
+checks 'a room that grows' 1 "rooms WARNING - office: at this month's pace it is full in 6 weeks"
+settings LIMIT=1
+checks 'and soon' 1 "at this month's pace it is full within two weeks"
+settings LIMIT=9
+checks 'or later' 0 'rooms OK'
+settings LIMIT=none
+checks 'or never' 0 'rooms OK'
+settings LIMIT=5
+rm -r backups/*
+grown '9 days ago' 0
+grown '8 days ago' 5
+grown '1 hour ago' 5
+checks 'an import' 0 'rooms OK'
+settings LIMIT=4000
+checks 'more than starts' 0 'rooms OK'
+settings
+rm -r backups/*
+backup '1 hour ago' >/dev/null
+
 # Hourly copies, where HOURS isn't 0: whether they come, and whether the disk has space for all.
 hour() { # DATE NUMBER: a copy of that time
   local at

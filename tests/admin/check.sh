@@ -1,5 +1,5 @@
 # rooms-admin check: one line and a status for monitoring, for a room that is well and for each
-# thing that isn't; and the nightly run, which fails where the site's certificate has expired.
+# thing that isn't.
 
 if [ -x /usr/bin/python3 ]; then
   /usr/bin/python3 "$here/admin/test_watched.py" >said 2>&1
@@ -11,7 +11,7 @@ if ! . "$here/lib/check.sh"; then
   return
 fi
 checks 'a room that is well' 0 'rooms OK - office: answers, nginx answers, ' \
-  ' of 384 MB in use, last good backup 1 h ago'
+  ' of 816 MB in use, last good backup 1 h ago'
 holds 'nginx was asked for the room' grep -qx "127.0.0.1:$(<front.port) /can/?" front.asked
 words=(-r office)
 checks 'by its name' 0 'rooms OK - office: '
@@ -54,26 +54,13 @@ ours
 rm root/etc/rooms/site
 echo 401 >front.status
 echo 'upstream room_office { server 127.0.0.1:1; }' >root/etc/nginx/sites-available/rooms
-checks 'nginx asks at another port' 2 "nginx passes nothing on to port $(<"$stand/port")"
+checks 'nginx asks elsewhere' 2 'nginx passes nothing on to its socket'
 settings
 ROOMS_FRONT=127.0.0.1:1 checks 'no nginx' 2 "nginx doesn't answer: "
 
-# A room with a socket is asked there, and not at the port at which another server listens.
-settings SOCKET=yes
-checks 'no socket' 2 "rooms@office doesn't answer (active)" 'nginx passes nothing on to its socket'
-mkdir -p run/rooms/office
-chown "$STAND_USER" run/rooms/office
-echo "$PWD/run/rooms/office/socket" >"$stand/socket"
-unit stop
-unit start
-settings SOCKET=yes
-echo 'upstream room_office { server unix:/run/rooms/office/socket; }' \
-  >root/etc/nginx/sites-available/rooms
-checks 'a socket' 0 'rooms OK - office: answers, nginx answers, '
-unit stop
-rm -r "$stand/socket" run/rooms
-unit start
-settings
+mv "$sock" "$sock.away"
+checks 'no socket' 2 "rooms@office doesn't answer (active)"
+mv "$sock.away" "$sock"
 
 # A file that was made as root, which its server can't open.
 if [ "$STAND_USER" != "$(id -u)" ]; then
@@ -132,22 +119,37 @@ settings LIMIT=1
 head -c 1048576 /dev/zero >big
 for name in one two; do
   curl -s -o said -X PUT -H 'Room-User: root' -H Expect: \
-    --data-binary @big "http://127.0.0.1:$(<"$stand/port")/doc/$name"
+    --data-binary @big --unix-socket "$sock" "http://localhost/doc/$name"
 done
 checks 'a room that is full' 2 ' of 1 MB in use'
 settings LIMIT=3
 checks 'one that is nearly so' 0 ' of 3 MB in use'
 settings LIMIT=2
 checks 'one that is at its limit' 2 ' of 2 MB in use'
+for name in 3 4 5 6 7 8 9 10; do
+  curl -s -o said -X PUT -H 'Room-User: root' -H Expect: \
+    --data-binary @big --unix-socket "$sock" "http://localhost/doc/$name"
+done
+settings LIMIT=11
+checks 'one of which nine tenths are in use' 1 '10 of 11 MB in use'
+settings LIMIT=12
+checks 'one of which less is' 0 '10 of 12 MB in use'
 settings
+
+# The web interface needs the room's door.
+echo inactive >door
+checks 'no door' 2 \
+  "rooms CRITICAL - office: its door doesn't run: systemctl restart rooms-door@office"
+echo active >door
 
 # A kernel that allows no namespaces of users, which units want.
 mkdir -p root/proc/sys/user
 echo 0 >root/proc/sys/user/max_user_namespaces
 none='rooms CRITICAL - office: this machine allows no namespaces of users, so these can'\''t start:'
-checks 'no namespaces of users' 2 "$none rooms@office rooms-full@office: sysctl"
-settings SOCKET=yes DOOR=yes
-checks 'for a door and earlier nights either' 2 'rooms-door@office rooms-earlier: sysctl user.'
+checks 'no namespaces of users' 2 \
+  "$none rooms@office rooms-full@office rooms-door@office rooms-earlier: sysctl user."
+settings EARLIER=no
+checks 'for earlier nights, where nobody sees any' 2 'rooms-full@office rooms-door@office: sysctl'
 settings
 echo no >private
 checks 'units that want none' 0 'rooms OK'
@@ -222,8 +224,8 @@ checks 'none' 1 "one address can take all connections of nginx's, and keep other
 rm "$conf" root/var/lib/rooms-front/connections.nft
 
 # Settings that are refused are said of their room, and the other one is looked at.
-sed 's/^UNIT=.*/UNIT=rooms@other/; s/^PORT=.*/PORT=much/' root/etc/rooms/office.conf \
-  >root/etc/rooms/other.conf
+sed '$ a PORT=much
+s/^UNIT=.*/UNIT=rooms@other/' root/etc/rooms/office.conf >root/etc/rooms/other.conf
 checks 'settings with a mistake' 2 "bad settings: PORT in $PWD/root/etc/rooms/other.conf"
 words=(-r office)
 checks 'the room beside it' 0 'rooms OK - office'
@@ -243,123 +245,4 @@ for seen in 'answers' 'nginx answers' 'last good backup 1 h ago'; do
 done
 words=()
 rm root/etc/rooms/other.conf
-
-# The certificate.
-mkdir -p root/etc/ssl/private
-certificate() { # DAYS
-  openssl req -x509 -newkey ec -pkeyopt ec_paramgen_curve:P-256 -noenc -subj /CN=rooms.example \
-    -keyout c.key -out c.csr 2>/dev/null
-  openssl x509 -in c.csr -signkey c.key -days "$1" -out root/etc/ssl/rooms.pem 2>/dev/null
-  cp c.key root/etc/ssl/private/rooms.key
-}
-printf '%s\n' CERTIFICATE=/etc/ssl/rooms.pem KEY=/etc/ssl/private/rooms.key >root/etc/rooms/site
-certificate 90
-checks 'a certificate' 0 'the certificate ends on '
-certificate 20
-checks 'one that ends soon' 1 'the certificate /etc/ssl/rooms.pem ends on ' \
-  'docs/operating.md, Renewal'
-certificate -1
-checks 'one that has expired' 2 'the certificate /etc/ssl/rooms.pem has expired, on '
-echo none >root/etc/ssl/rooms.pem
-checks 'one that is none' 2 "the certificate /etc/ssl/rooms.pem can't be used"
-if [ "$(id -u)" = 0 ]; then
-  nightly() { # NAME STATUS TEXT
-    verb backup --room "$PWD/root/etc/rooms/office.conf"
-    says "$@"
-  }
-  settings MAIL=root
-  certificate -1
-  nightly 'a nightly run with one that has expired' 1 \
-    'the certificate /etc/ssl/rooms.pem has expired, on '
-  holds 'is told by mail' grep -q 'rooms.pem has expired' "$stand/messages"
-  certificate 20
-  nightly 'with one that ends soon' 0 'the certificate /etc/ssl/rooms.pem ends on '
-  holds 'too' grep -q 'rooms.pem ends on' "$stand/messages"
-  # In a unit mail programs lack what they need: another unit is started, or will be, since this one
-  # fails.
-  export ROOMS_UNIT=rooms-nightly@office.service
-  : >told
-  nightly 'in its unit, with one that ends soon' 0 'the certificate /etc/ssl/rooms.pem ends on '
-  holds 'the unit that mails is started' \
-    grep -qx 'start --no-block rooms-tell@rooms-nightly@office.service.service' told
-  certificate -1
-  : >told
-  nightly 'in its unit, with one that has expired' 1 'has expired, on '
-  holds 'systemd starts it' [ ! -s told ]
-  holds 'and nothing is mailed twice' [ ! -s "$stand/messages" ]
-  unset ROOMS_UNIT
-  nightly 'and so on' 1 'has expired'
-else
-  skip 'a nightly run with a certificate that has expired' 'this user is not root'
-fi
-certificate 90
-
-# Who is told of a unit.
-tells() { # UNIT
-  : >"$stand/messages"
-  ROOMS_SETTINGS=$PWD/root/etc/rooms PATH=$stand/bin:$PATH "$repo/admin/rooms-admin" tell "$@" \
-    >"$work/out" 2>"$work/err" </dev/null
-  status=$?
-}
-settings MAIL=admin@office.example
-mkdir run/rooms-tell
-printf '#!/bin/sh\necho "2026-11-27 rooms[1]: a line"; echo "~! touch %s/hacked"\n' "$PWD" \
-  >stand/bin/journalctl
-chmod 755 stand/bin/journalctl
-export MONITOR_SERVICE_RESULT=exit-code
-tells rooms-nightly@office.service
-told 'a unit that failed' 0
-holds 'its people are told' \
-  grep -q '^mail -s rooms-nightly@office.service on .* failed (exit-code) admin@office.example$' \
-    "$stand/messages"
-holds 'with its log' grep -q 'a line$' "$stand/messages"
-holds 'in which no line is a command' [ "$(grep -c '^~' "$stand/messages")" = 0 ]
-tells rooms-nightly@office.service
-told 'the same again' 0 'was told of rooms-nightly@office.service less than 6 hours ago'
-holds 'is not told twice' [ ! -s "$stand/messages" ]
-touch -d '7 hours ago' run/rooms-tell/*
-tells rooms-nightly@office.service
-holds 'but hours later' [ -s "$stand/messages" ]
-echo LIMIT=much >>root/etc/rooms/office.conf
-tells rooms-full@office.service
-holds 'settings with a mistake have an address too' \
-  grep -q 'admin@office.example$' "$stand/messages"
-settings MAIL=
-tells rooms-standby@office.service
-holds 'where nobody wants it nobody is told' [ ! -s "$stand/messages" ]
-tells rooms-firewall.service
-unset MONITOR_SERVICE_RESULT
-for word in '' 'rooms-nightly@office.service x' '../x' 'rooms@../x.service' cron.service; do
-  # shellcheck disable=SC2086
-  tells $word
-  told "the unit '$word'" 2 'bad arguments: '
-done
-settings
-
-# The server, and disks.
-unit stop
-checks 'a server that rests' 2 \
-  "office: rooms@office doesn't answer (inactive): systemctl status rooms@office"
-unit start
-settings
-if [ "$(id -u)" = 0 ] && mkdir small &&
-  mount -t tmpfs -o size=40m,mode=755 rooms-small small 2>said; then
-  cp office/F small/F
-  settings "FILE=$PWD/small/F" LIMIT=none
-  checks 'a disk with space' 0 'rooms OK'
-  head -c 30000000 /dev/zero >small/ballast
-  checks 'a full disk' 2 "the room's disk is full: "
-  rm small/ballast
-  mount -o remount,ro small
-  checks 'a disk that is only read' 2 "the room's disk is read-only"
-  mount -o remount,rw small
-  settings "BACKUPS=$PWD/small/backups"
-  mkdir small/backups
-  cp -a backups/* small/backups/
-  head -c 30000000 /dev/zero >small/ballast
-  checks 'a full disk of backups' 2 'the disk of backups is full: '
-  umount small
-else
-  skip 'a full disk' 'no root, or no mount'
-fi
 unset ROOMS_FRONT

@@ -1,19 +1,14 @@
 # Copies of a room while rooms-admin works on them: who has the lock, on which disk they lie, and
-# whose they are afterwards, also where that fails or the run is killed.
+# that they go.
 
 . "$here/lib/people.sh"
 if ! plays_people || ! has setpriv || ! has flock; then
   skip 'copies that are worked on' 'no loopback, curl, setsid, setpriv, flock or /usr/bin/python3'
   return
 fi
-make_people
+room_of_alice
 ln -s office.conf kept.conf
 setting UNIT rooms@kept
-as_user "$rooms" init "$PWD/office/F" alice staff >"$work/out"
-printf '%s\n' list:a "A:fd:alice:$ALL" | as_user "$rooms" reset "$PWD/office/F" / dacl >"$work/out"
-starts
-night() { verb backup --room "$PWD/office.conf"; }
-asks 'a document' made PUT /doc/f alice hello
 
 # A program that says as whom and where it runs, and waits at a word until somebody has seen that.
 cat >prog <<END
@@ -126,47 +121,3 @@ holds 'a doctor that is killed leaves its copy' [ "$(ls tmp | wc -l)" = 1 ]
 TMPDIR=$PWD/tmp verb doctor --program "$PWD/prog" --user nobody "$PWD/office/F"
 told 'until the next one' 0 'nothing is wrong'
 holds 'which removes it' [ -z "$(ls tmp)" ]
-starts
-
-# Where there is no space for a private copy, that disk is named, and there is no backup.
-if mkdir small && mount -t tmpfs -o size=1m,mode=1777 none small 2>/dev/null; then
-  head -c 2000000 /dev/zero >small/filler 2>/dev/null
-  rm -rf backups/office/*
-  TMPDIR=$PWD/small night
-  told 'no space for a private copy' 1 \
-    "the backup can't be copied to $PWD/small: No space left on device"
-  holds 'is no backup' [ -z "$(ls backups/office)" ]
-  TMPDIR=$PWD/small verb standby --room "$PWD/office.conf"
-  told 'nor a standby copy' 1 "the disk of $PWD/small/"
-  holds 'and nothing is left there' [ "$(ls small)" = filler ]
-  unit_runs 'no space for a private copy: the server runs'
-  umount small
-else
-  skip 'no space for a private copy' 'no leave to mount'
-fi
-
-# A kill as a private copy gets to whom it is for, and after that: all in the folder of backups is
-# root's, and the copy goes with the next run.
-rm -rf tmp/*
-: >"$stand/chowns"
-for verb in backup standby; do
-  rm -rf backups/office/*
-  TMPDIR=$PWD/tmp verb "$verb" "$PWD/office.conf"
-  told "$verb, which nothing cuts off" 0
-  grep -A 3 '^[0-9]* fchown ' "$stand/steps" | sed -n 's/^\([0-9]*\) .*/\1/p' | sort -nu >calls
-  holds "$verb makes a private copy" [ "$(wc -l <calls)" -ge 5 ]
-  for number in $(cat calls); do
-    how=$([ $((number % 2)) = 0 ] && echo TERM || echo KILL)
-    rm -rf backups/office/* "$stand/hit"
-    TMPDIR=$PWD/tmp KILL_AT=$number KILL_HOW=$how verb "$verb" "$PWD/office.conf"
-    name="$verb, $how at $number, $(cat "$stand/hit")"
-    holds "$name: it doesn't end well" [ "$status" != 0 ]
-    holds "$name: all is root's" [ -z "$(find backups -not -user 0)" ]
-    [ "$how" = KILL ] || holds "$name: no private copy stays" [ -z "$(ls tmp)" ]
-    TMPDIR=$PWD/tmp verb "$verb" "$PWD/office.conf"
-    holds "$name: the next run has a copy" [ -n "$(find backups -name F)" ]
-    holds "$name: and no private copy stays" [ -z "$(ls tmp)" ]
-    unit_runs "$name: the server runs"
-  done
-done
-rm "$stand/chowns"

@@ -58,7 +58,7 @@ members() { as_user "$rooms" groups-out "$PWD/office/F" >got; }
 stopped() { unit stop; members; unit start; }
 new_office() {
   unit stop
-  rm -f office/* run/* backups/office/.directory.csv
+  rm -f office/* run/* root/var/lib/rooms-web/office/members.csv
   rm -rf backups/office/2*
   as_user "$rooms" init "$PWD/office/F" root staff >/dev/null
   printf '%s\n' group,user own,erin staff,frank >members.csv
@@ -86,6 +86,7 @@ prints() { # NAME LINE ..: on standard output
 
 # Groups come in, nested ones flattened, under the names that the room gives them; the room's own
 # stay.
+mkdir -p -m 700 backups/office
 new_office
 asked 'MOST=1' 'group staff = staff' "group sales = $(group_dn sales)" 'group bureau = büro' \
   'group hr = Human Resources'
@@ -109,7 +110,7 @@ holds 'says only who is left out' [ ! -s "$work/out" ]
 holds 'and does not stop the server' eval '! was_stopped'
 holds 'and sends no message' [ ! -s "$stand/messages" ]
 
-rm backups/office/.directory.csv
+rm root/var/lib/rooms-web/office/members.csv
 brings --dry-run
 says 'a look before there is a backup' 0 "what rooms has isn't known"
 printf '+ %s\n' "${all[@]}" | grep -v own, >wanted

@@ -173,12 +173,27 @@ if has_sqlite; then
   [ "$other" = no ] || chown 65534:65534 var/F
   finds 'another database' 'refused: not a rooms file' 'not a room' \
     "$file is a database of another program"
-  cat sound >var/F
-  rm -f var/F-wal
-  sqlite3 var/F 'CREATE TABLE notes (x);'
-  [ "$other" = no ] || chown 65534:65534 var/F
-  finds 'a table more' 'refused: not the tables of a room' 'not a room' \
-    "somebody added a table, an index, a view or a trigger to $file"
+  altered() { # NAME SQL TEXT
+    cat sound >var/F
+    rm -f var/F-wal
+    sqlite3 var/F "$2" 2>/dev/null || { skip "$1" 'this sqlite3 makes none'; return; }
+    [ "$other" = no ] || chown 65534:65534 var/F
+    finds "$1" 'fault: database' 'not a room' "another program changed the tables of $file: $3"
+  }
+  altered 'a table more' 'CREATE TABLE notes (x);' "table notes isn't a room's"
+  altered 'a table that is gone' 'DROP TABLE members;' \
+    'table members is missing, index sqlite_autoindex_members_1 is missing'
+  altered 'a column that is gone' 'ALTER TABLE nodes DROP COLUMN sacl_inh;' \
+    'table nodes lacks the column sacl_inh'
+  altered 'a column more' 'ALTER TABLE audits ADD COLUMN note TEXT;' \
+    'table audits has a column note'
+  altered 'an index' 'CREATE INDEX owners ON nodes (owner);' "index owners isn't a room's"
+  altered 'a trigger' \
+    'CREATE TRIGGER gone AFTER DELETE ON nodes BEGIN DELETE FROM audits; END;' \
+    "trigger gone isn't a room's"
+  altered 'a table without its rules' \
+    'DROP TABLE meta; CREATE TABLE meta (key TEXT PRIMARY KEY, value INTEGER);
+    INSERT INTO meta VALUES ('"'rooms'"', 2);' 'table meta has other rules'
   cat sound >var/F
   rm -f var/F-wal
   sqlite3 var/F "INSERT INTO sqlite_sequence VALUES ('audits', 9223372036854775807);"
@@ -186,6 +201,13 @@ if has_sqlite; then
   doctor "$file"
   told 'a counter at its end' 1 'no numbers: each request that a list wants a record of' \
     'docs/messages.md'
+  cat sound >var/F
+  rm -f var/F-wal
+  sqlite3 var/F "INSERT INTO nodes VALUES (9223372036854775807, 1, 'last', 1, 'root', 'staff',
+    1, 1, '', 'A:fdI:OWNER@:rwanNxDtThHdcCoy' || char(10), '', '');"
+  [ "$other" = no ] || chown 65534:65534 var/F
+  doctor "$file"
+  told 'an object of the largest number' 1 'or each that makes an object' 'docs/messages.md'
 fi
 
 # Damaged, with the file's beginning as it was.
@@ -239,11 +261,11 @@ if serve_one 100; then
   told 'one whose unit does not answer' 1 "busy: rooms@one has it open, and doesn't answer"
   kill -CONT "$served"
   stop_server
-  # At its socket, and never at the port that it doesn't have.
+  # At its socket, and not at its port, where somebody else might listen.
   mkdir -p run/rooms/one
   [ "$other" = no ] || chown 65534:65534 run/rooms/one
   if start_at_socket var/F "$PWD/run/rooms/one/socket" 100; then
-    printf 'FILE=%s\nPORT=%s\nSOCKET=yes\n' "$file" "$port" >settings/one.conf
+    printf 'FILE=%s\nPORT=%s\n' "$file" "$port" >settings/one.conf
     sed -i "s/echo $served/echo $server/" bin/systemctl
     doctor "$file"
     told 'a room that its unit serves at a socket' 0 \

@@ -1,5 +1,4 @@
-# rooms-admin backup: each thing that makes a night fail, what is refused before it begins, and an
-# interruption at each of its calls.
+# rooms-admin backup: each thing that makes a night fail, and what is refused before it begins.
 
 . "$here/lib/nights.sh"
 if [ "$loopback" = no ] || ! has flock || ! has setpriv || ! has setsid; then
@@ -55,8 +54,11 @@ kill -KILL "$(cat "$stand/pid")"
 night
 says 'a server that does not start' 1 "doesn't start"
 rm "$stand/no-start"
-verb backup --after --room "$PWD/conf"
-says 'is started after it' 1 'interrupted'
+holds 'is left to the next run' [ "$(ls run)" = "$(printf '%s\n' rooms rooms-directory.rooms)" ]
+sleep 1
+night
+holds 'which starts it' [ "$status" = 0 ]
+owes_nothing 'a second start'
 unit_runs 'a second start'
 rm -rf backups/conf/*
 if has_sqlite; then
@@ -117,7 +119,7 @@ refused 'a disk with a blank in its place' "not mounted: $PWD/a disk, which /etc
 if mount -t tmpfs none 'a disk' 2>/dev/null; then
   mkdir 'a disk/rooms'
   night
-  holds 'a disk that is mounted' [ "$status" = 0 ]
+  holds "a disk that is mounted: $(head -c 300 "$work/err")" [ "$status" = 0 ]
   umount 'a disk'
 else
   skip 'a disk that is mounted' 'no leave to mount'
@@ -127,7 +129,7 @@ printf '%s\n' "# /dev/none $PWD/backups ext4 noauto 0 0" 'proc /proc proc defaul
   '/dev/none / ext4 defaults 0 1' "/dev/none $PWD/backups-too ext4 noauto 0 0" \
   '/dev/none none swap sw 0 0' >root/etc/fstab
 night
-holds 'disks that have nothing to do with it' [ "$status" = 0 ]
+holds "disks that have nothing to do with it: $(head -c 300 "$work/err")" [ "$status" = 0 ]
 rm root/etc/fstab
 verb backup --room "$PWD/nothing"
 refused 'no settings' 'no settings'
@@ -158,27 +160,4 @@ holds 'while a copy is verified, others may work with the room' \
   flock -n run/.rooms-admin/rooms true
 wait "$!"
 setting PROGRAM "$stand/bin/rooms"
-
-# An interruption at each call, alone and followed by what the unit does after each run.
-for how in TERM KILL; do
-  for number in {1..150}; do
-    rm -rf backups/conf/*
-    cut_off "$how" "$number" night || break
-    unit_goes_on "$name"
-    verb backup --after --room "$PWD/conf"
-    unit_runs "$name, and after"
-    for copy in backups/conf/*; do
-      case $copy in
-        *'*' | *.part) ;;
-        *) [ "$("$rooms" verify "$copy/F" 2>&1)" = sound ] || fail "$name" "$copy is no backup" ;;
-      esac
-    done
-    holds "$name: nothing is owed" [ -z "$(ls run)" ]
-    holds "$name: no copy is half made" [ -z "$(find backups -name '*.part')" ]
-    holds "$name: no text is half written" [ -z "$(find backups -name unfinished)" ]
-  done
-  holds "$how: the calls came to an end" [ "$number" -gt 10 -a "$number" -lt 150 ]
-  night
-  holds "$how: a good night after all" [ "$status" = 0 ]
-done
 answers 'the room answers' '/can/?' "json '200 OK' '{}'"

@@ -7,15 +7,22 @@ if [ "$loopback" = no ] || ! has flock || ! has setpriv || ! has python3; then
   return
 fi
 mkdir bin room run backups
-printf '%s\n' '#!/bin/sh' "cat '$PWD/memory'" >bin/systemctl
+cat >bin/systemctl <<END
+#!/bin/sh
+case "\$*" in *rooms.slice) cat '$PWD/together' ;; *) cat '$PWD/memory' ;; esac
+END
 chmod 755 bin/systemctl
+echo infinity >together
+mkdir -p root/proc settings
+echo 'SwapTotal:             0 kB' >root/proc/meminfo
 write_conf() { # LIMIT
-  printf '%s\n' "FILE=$PWD/room/F" "PORT=$port" "SOCKET=${at_socket-}" "BACKUPS=$PWD/backups" \
-    "LIMIT=$1" UNIT=rooms "PROGRAM=$rooms" >conf
+  printf '%s\n' "FILE=$PWD/room/F" "PORT=$port" "BACKUPS=$PWD/backups" \
+    "LIMIT=$1" UNIT=rooms@office "PROGRAM=$rooms" >office.conf
 }
 fulls() { # WORD ..
-  PATH=$PWD/bin:$PATH ROOMS_RUN=$PWD/run timeout "$patience" "$repo/admin/rooms-admin" full "$@" \
-    --room "$PWD/conf" </dev/null >"$work/out" 2>"$work/err"
+  PATH=$PWD/bin:$PATH ROOMS_RUN=$PWD/run ROOMS_ROOT=$PWD/root ROOMS_SETTINGS=$PWD/settings \
+    timeout "$patience" "$repo/admin/rooms-admin" full "$@" \
+    --room "$PWD/office.conf" </dev/null >"$work/out" 2>"$work/err"
   status=$?
 }
 megabytes() { # USER PLACE COUNT: that many documents of 1 MiB, in one connection
@@ -39,10 +46,6 @@ for wrong in many 0 -1 1.5 010 12345678 None '1 none'; do
   told "LIMIT=$wrong" 2 'bad settings: LIMIT in'
 done
 write_conf 5
-sed -i 's/^PORT=.*/PORT=/' conf
-fulls --look
-told 'no port' 2 'bad settings: PORT in'
-write_conf 5
 fulls --other
 told 'an unknown word' 2 'bad arguments'
 means() { # MEMORYMAX LIMIT TEXT
@@ -51,22 +54,35 @@ means() { # MEMORYMAX LIMIT TEXT
   fulls --look
   told "MemoryMax $1, LIMIT '$2'" 0 "0 MB of $3 are in use"
 }
-means 1073741824 '' 384
-means 4294967296 '' 1920
+means 1073741824 '' 816
+means 4294967296 '' 3696
 means 104857600 '' 1
 means infinity '' 'any number'
 means 1073741824 none 'any number'
+# All servers together have less, which the rooms share.
+echo 3221225472 >together
+means 4294967296 '' 2736
+touch settings/office.conf settings/invoices.conf
+means 4294967296 '' 1296
+means infinity '' 'any number'
+echo infinity >together
+# Half of the swap is for the nightly runs, and rooms share the other half.
+echo 'SwapTotal:       8388608 kB' >root/proc/meminfo
+means 1073741824 '' 2736
+rm settings/*.conf
+means 1073741824 '' 4656
+echo 'SwapTotal:             0 kB' >root/proc/meminfo
 means 104857600 7 7
 fulls --json
 rows_are 'for a program' \
-  '{"room": "rooms", "used": '"$(stat -c %s room/F)"', "limit": 7340032, "full": false}'
+  '{"room": "office", "used": '"$(stat -c %s room/F)"', "limit": 7340032, "full": false}'
 holds 'a room that is not full' [ "$status" = 0 ]
 write_conf none
-fulls --json --room ./conf
+fulls --json --room ./office.conf
 rows_are 'two rooms' \
-  '{"room": "rooms", "used": '"$(stat -c %s room/F)"', "limit": null, "full": false}' \
-  '{"room": "rooms", "used": '"$(stat -c %s room/F)"', "limit": null, "full": false}'
-fulls --look --room ./conf
+  '{"room": "office", "used": '"$(stat -c %s room/F)"', "limit": null, "full": false}' \
+  '{"room": "office", "used": '"$(stat -c %s room/F)"', "limit": null, "full": false}'
+fulls --look --room ./office.conf
 told 'two rooms in one line' 2 'bad arguments: --look looks at one room, --json at several'
 printf '#!/bin/sh\nexit 1\n' >bin/systemctl
 write_conf ''
@@ -86,7 +102,7 @@ told 'a file that is not there' 2 "can't be read"
 # large.
 open_room room/F
 write_conf 5
-start_server room/F 1000 || return
+start_room room/F 1000 || return
 write_conf 5
 megabytes root /m 8
 fulls --look
@@ -109,17 +125,46 @@ if has_sqlite; then
 sys.path.insert(0, sys.argv[1])
 from rooms_admin.room.size import Used
 print(Used().look(sys.argv[2]))' "$repo/admin" room/F)" = "$wanted" ]
-  start_server room/F 100000 || return
+  start_room room/F 100000 || return
 else
   skip 'what sqlite3 counts' 'no sqlite3, or one that is too old'
 fi
 
+# An import in a user's name asks the server past nginx, so it looks itself how much is in use.
+write_conf 5
+mkdir -p tree/sub
+for n in 1 2 3 4; do head -c 1000000 /dev/zero >"tree/b$n"; done
+imports() {
+  PATH=$PWD/bin:$PATH ROOMS_RUN=$PWD/run "$repo/admin/rooms-admin" import --as root "$@" \
+    --room "$PWD/office.conf" tree /import </dev/null >"$work/out" 2>"$work/err"
+  status=$?
+}
+imports
+told 'an import into a room that gets full' 1 'the room is full: ' 'made '
+fulls --look
+told 'ends there' 0 ' MB of 5 are in use'
+imports
+told 'again' 1 'the room is full: ' 'made 0, replaced 0, there already '
+imports --force
+told 'or is told to go on' 0 'left out 0'
+fulls --look
+told 'and then fills it' 1 ' MB of 5 are in use'
+imports --replace
+told 'into a room that is full none begins' 2 'the room is full: '
+write_conf none
+imports
+told 'without a limit it does' 0 'made 0, replaced 0, there already 6, left out 0'
+write_conf 5
+for name in /b1 /b2 /b3 /b4 /sub ''; do
+  asks "import$name is removed" done_reply DELETE "/object/import$name" root
+done
+
 # The flag comes, goes, and stays as it should.
-flag=run/rooms-full/127.0.0.1:$port
+flag=run/rooms-full/office.full
 watcher=
 watch() {
   write_conf "$1"
-  PATH=$PWD/bin:$PATH ROOMS_RUN=$PWD/run "$repo/admin/rooms-admin" full --room "$PWD/conf" \
+  PATH=$PWD/bin:$PATH ROOMS_RUN=$PWD/run "$repo/admin/rooms-admin" full --room "$PWD/office.conf" \
     </dev/null 2>>watched &
   watcher=$!
 }
@@ -174,15 +219,6 @@ watch none
 within 'LIMIT=none takes a flag away that was left' is_missing "$flag"
 holds 'and says so' grep -qF 'the room has no limit' watched
 unwatch TERM
-# Of a room with a socket it has the room's name.
-at_socket=yes
-watch 2
-within 'the flag of a room with a socket' is_there run/rooms-full/rooms.full
-holds 'and no other' is_missing "$flag"
-unwatch TERM
-within 'goes too' is_missing run/rooms-full/rooms.full
-at_socket=
-
 # Behind nginx: what adds is refused, all else goes on, and removing makes room.
 if [ -z "$nginx" ] || ! has curl; then
   skip 'a full room behind nginx' 'nginx or curl is missing'
@@ -234,7 +270,7 @@ ask 'a move' 204 '' root:r /move/f/d -X POST --data-binary '{"to":"/doc/d"}'
 ask 'another site still is one' 403 - \
   root:r /doc/new -X PUT --data-binary x -H 'Origin: http://elsewhere.example'
 ask 'nobody without a password reads' 401 - '' /doc/doc/d
-# Another room of the same nginx isn't full, and the flag is that of a port.
+# Another room of the same nginx isn't full.
 admin add --port $((port + 5)) invoices
 take_front
 printf 'root:{PLAIN}r\n' >rooms-invoices.htpasswd
@@ -243,7 +279,7 @@ second() {
 }
 reloaded second
 ask 'it is not full' 502 - root:r /invoices/doc/new -X PUT --data-binary x
-: >"run/rooms-full/127.0.0.1:$((port + 5))"
+: >run/rooms-full/invoices.full
 ask 'until it is' 507 - root:r /invoices/doc/new -X PUT --data-binary x
 ask 'a folder in it' 507 - root:r /invoices/folder/new -X POST
 ask 'nobody without a password is told of it' 401 - '' /invoices/folder/new -X POST
@@ -257,7 +293,7 @@ for place in '' /invoices; do
   ask "who isn't, at '$place'" 401 - root:x "$place/folder/new" -X POST
   ask "nobody, at '$place'" 401 - '' "$place/folder/new" -X POST
 done
-rm "run/rooms-full/127.0.0.1:$((port + 5))"
+rm run/rooms-full/invoices.full
 # Removing helps.
 for ((one = 1; one < n; one++)); do
   curl -s -o "$work/body" -w '%{http_code}\n' -u root:r -X DELETE "$base/object/f/m$one"

@@ -132,7 +132,7 @@ if has localedef && mkdir loc &&
     localized handover --as root --room http://127.0.0.1:1 lists "$name" alice
     told "the user $name in another locale" 2 "'$name' isn't the name of a user"
   done
-  localized backup bü
+  localized backup --room bü
   told 'a room in another locale' 2 'no settings: '
 else
   skip 'names in another locale' 'no localedef, or no locale de_DE'

@@ -124,7 +124,7 @@ if has python3; then
   holds 'nothing was asked of it' [ ! -s asked ]
   asks_for 'this machine sends on too' 1 \
     "status 308: http://127.0.0.1:$site sends on to https://rooms.example" \
-    --as 'OFFICE\bob' "http://127.0.0.1:$site" tree /in
+    --as 'OFFICE\bob' --room "http://127.0.0.1:$site" tree /in
   echo 'POST /folder/in - OFFICE\bob' >wanted
   same 'a backslash of a name gets there' asked wanted
   stop_others
@@ -167,7 +167,7 @@ stop_server
 if start_at_socket F "$PWD/run/rooms/office/socket" 1000; then
   transfers import --as root --room office tree /in
   told 'by its name, at a socket that is there' 0 'there already 13, left out 0'
-  echo SOCKET=yes >>rooms.d/office.conf
+  echo PORT= >>rooms.d/office.conf
   transfers export --as root --no-lists --room office /in at-socket
   told 'at its socket' 0 'left out 0'
   holds 'the same comes out' diff -r tree at-socket
@@ -191,8 +191,8 @@ holds 'a document with the name of a list' [ "$(cat out/-x/x.acl)" = list ]
 printf 'folder root staff\ndacl\nlist:a\nA:fdI:OWNER@:%s\nsacl\nlist:a\n' "$ALL" >wanted
 same 'the lists beside it' out/empty.acl wanted
 
-# Nothing is replaced unasked.
-printf 'other' >tree/ümlaut
+# Nothing is replaced unasked, also where a document is as long as the one there.
+printf 'ö' >tree/ümlaut
 transfers import --as root --room "$room" tree /in
 told 'another document is there' 1 'not replaced: another document is there' 'left out 1'
 transfers export --as root --no-lists --room "$room" /in/ümlaut kept

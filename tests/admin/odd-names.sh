@@ -152,7 +152,7 @@ if [ "$(id -u)" = 0 ] && mount -t tmpfs -o size=1000k rooms-small small 2>/dev/n
   rm -rf small/*
   head -c 800000 /dev/zero >small/ballast
   TMPDIR=$PWD/small transfers export --as root \
-    --no-lists "http://127.0.0.1:$port" /filled filled.out
+    --no-lists --room "http://127.0.0.1:$port" /filled filled.out
   told 'no place for replies is needed' 0 'left out 0'
   rm -rf small/* filled.out
   head -c 1019904 /dev/zero >small/ballast

@@ -184,7 +184,7 @@ END
   room_verb user list bob
   says 'with a name' 2 "bad arguments: a word too many: 'bob'"
   room_verb user add bob --json
-  says 'an option of list' 2 "bad arguments: --json isn't for add"
+  says 'an option of list' 2 'bad arguments: no such option: --json; rooms-admin user add'
   rm "${passwords%.htpasswd}.first"
 
   # While a password is asked for, nothing is locked.
@@ -333,6 +333,24 @@ room_verb mine
 holds 'nothing else is left beside them' \
   [ "$(ls -A "$web" | tr '\n' ' ')" = 'members.csv mine people.json ' ]
 holds 'nor elsewhere' [ -z "$(ls run)" ]
+# The program on the copy is somebody else's, and its review names a file elsewhere.
+cat >taken <<END
+#!/bin/sh
+[ "\$1" != review ] || {
+  printf '%s\n' path,kind,user,rights,remove /,folder,../../../../by-root,rwaC,yes
+  exit 0
+}
+exec $rooms "\$@"
+END
+chmod 755 taken
+setting PROGRAM "$PWD/taken"
+find "$PWD" -type f -name 'by-root*' >before
+room_verb backup
+says 'a review with a path as a name' 1 "the review can't be read: '../../../../by-root' can't be"
+find "$PWD" -type f -name 'by-root*' >after
+same 'writes nothing elsewhere' after before
+holds 'and what users see stays' [ -s "$web/mine/bob.json" ]
+setting PROGRAM "$rooms"
 echo bob >office.names
 room_verb backup
 says 'a night with a bad line of full names' 1 "bad names: $PWD/office.names, line 1"

@@ -1,11 +1,13 @@
 # Copies of a room that is served: rooms-standby and rooms-nightly beside writers who don't pause,
-# a server that is restarted or stopped meanwhile, and an interruption at each call.
+# a server that is restarted or stopped meanwhile, and an interruption at each call. admin/held has
+# what holds a room, and for how long.
 
 if [ "$loopback" = no ] || ! has flock || ! has setpriv || ! has setsid || ! has curl; then
   skip 'copies of a room that is served' 'no loopback, or no flock, setpriv, setsid, curl'
   return
 fi
 make_stand
+listens_at_socket
 stands() { verb standby --room "$PWD/conf"; }
 set_value() { # NAME VALUE
   grep -v "^$1=" conf >conf.new
@@ -21,8 +23,7 @@ new_office() {
 }
 new_office
 answers() { # NAME
-  read -r port <"$stand/port"
-  asks "$1" "json '200 OK' '{}'" GET '/can/?' root
+  asks_there "$1" "json '200 OK' '{}'" GET '/can/?' root
 }
 has_document() { # FOLDER NAME
   rm -f look look-wal
@@ -30,30 +31,26 @@ has_document() { # FOLDER NAME
     "$rooms" dump look >dumped 2>&1 && grep -q "^document root staff [0-9]* /$2\$" dumped
 }
 put() { # NAME
-  read -r port <"$stand/port"
-  asks "a document $1" made PUT "/doc/$1" root hello
+  asks_there "a document $1" made PUT "/doc/$1" root hello
 }
 
 # Beside writers: each copy is sound, nobody goes without an answer, and what was answered before a
 # copy began is in it, unless somebody has asked to remove it before it ended.
 : >answered >going >other
 write() { # NUMBER: documents of up to 64 kB; every third one is removed again
-  local n name got url
-  read -r port <"$stand/port"
-  url=http://127.0.0.1:$port
+  local n name got url=http://localhost
   for ((n = 1; ; n++)); do
     [ ! -e enough ] || return 0
     name=w$1-$n
     head -c $((RANDOM * 2)) /dev/urandom >"body.$1"
     got=$(curl -q -s -m "$patience" -o "said.$1" -w '%{http_code}' -X PUT -H 'Room-User: root' \
-      -H Expect: \
-      --data-binary "@body.$1" "$url/doc/$name")
+      -H Expect: --unix-socket "$sock" --data-binary "@body.$1" "$url/doc/$name")
     if [ "$got" = 201 ]; then echo "$name" >>answered; else echo "$got" >>other; fi
     ((n % 3 == 0)) || continue
     name=w$1-$((n - 2))
     echo "$name" >>going
     got=$(curl -q -s -m "$patience" -o "said.$1" -w '%{http_code}' -X DELETE \
-      -H 'Room-User: root' "$url/object/$name")
+      -H 'Room-User: root' --unix-socket "$sock" "$url/object/$name")
     [ "$got" = 204 ] || echo "$got" >>other
   done
 }
@@ -92,7 +89,7 @@ holds 'has all that was answered before' [ "$lost" = 0 ]
 holds 'and everybody got an answer' [ ! -s other ]
 holds 'of many' [ "$(wc -l <answered)" -gt 40 ]
 unit_runs 'the same server runs after it'
-holds 'it was never stopped' [ "$(cat "$stand/out")" = "listening 127.0.0.1:$(<"$stand/port")" ]
+holds 'it was never stopped' [ "$(cat "$stand/out")" = "listening $sock" ]
 answers 'and answers'
 rm -rf backups/conf/*
 
@@ -104,7 +101,7 @@ holds 'a standby copy' [ "$status" = 0 ]
 holds 'is one file' [ "$(find backups -type f)" = backups/conf/standby/F ]
 holds 'which has the last document' has_document backups/conf/standby f
 holds 'nobody else may read it' [ -z "$(find backups/conf/* -perm /077)" ]
-holds 'nothing is owed' [ -z "$(ls run)" ]
+holds 'nothing is owed' [ "$(ls run)" = rooms ]
 
 # Hourly copies: HOURS=0 keeps none, and otherwise as many as it says, one an hour.
 hours() { (cd backups/conf/hours && ls); }
@@ -115,7 +112,7 @@ earlier() { # FOLDER SECONDS: as if it had been made so long before
 }
 set_value HOURS 2
 stands
-says 'the first hourly copy' 0 'hourly copies of rooms begin: 2 of them take'
+says 'the first hourly copy' 0 'hourly copies of conf begin: 2 of them take'
 holds 'is there' [ "$(hours | wc -l)" = 1 ]
 holds 'and is whole' has_document "backups/conf/hours/$(hour 1)" f
 holds 'for root alone' [ -z "$(find backups/conf/hours -perm /077)" ]
@@ -129,7 +126,7 @@ holds 'of now' has_document "backups/conf/hours/$(hour 2)" within-the-hour
 holds 'by their numbers' [ "$(cat backups/conf/hours/*/run | tr '\n' ' ')" = 'number 1 number 2 ' ]
 earlier "$(hour 2)" 4000
 stands
-holds 'the oldest goes' \
+holds "the oldest goes: $(head -c 300 "$work/err")" \
   [ "$(cat backups/conf/hours/*/run | tr '\n' ' ')" = 'number 2 number 3 ' ]
 # A clock that was set back: the last one is of a time to come.
 earlier "$(hour 2)" -8000
@@ -141,7 +138,7 @@ mkdir backups/conf/hours/2001-01-01.000000.part
 stands
 holds 'what was cut off goes' is_missing backups/conf/hours/2001-01-01.000000.part
 # Backups, and what tidies them, know nothing of them.
-verb backup "$PWD/conf"
+verb backup --room "$PWD/conf"
 verb latest --room "$PWD/conf"
 holds 'the newest backup is one of a night' grep -qx "$PWD/backups/conf/20[^/]*" "$work/out"
 verb backups --room "$PWD/conf"
@@ -150,7 +147,7 @@ holds 'all of them are listed' \
 before=$(hours)
 set_value KEEP 1
 for turn in 1 2; do
-  verb backup "$PWD/conf"
+  verb backup --room "$PWD/conf"
   sleep 1
 done
 holds 'one night is kept' [ "$(cd backups/conf && ls -d 20* | wc -l)" = 1 ]
@@ -243,7 +240,7 @@ unit start
 unit stop
 unit start
 stands
-says 'a server that has not opened the room' 1 "can't be held"
+says 'a server that has not opened the room' 1 "doesn't answer: [Errno 111]"
 holds 'the last copy stays' has_document backups/conf/standby before-the-stop
 verb backup --room "$PWD/conf"
 holds 'rooms-nightly stops such a server' grep -q ' systemctl stop' "$stand/steps"
@@ -251,11 +248,6 @@ holds 'and has a backup' has_document "backups/conf/$(cd backups/conf && echo 20
 rm -rf backups/conf/20* "$stand/no-answer"
 unit stop
 unit start
-
-# Somebody lets it go while it is copied.
-echo 'kill -CONT "$(cat "$STAND/pid")"' >"$stand/at-$reader"
-stands
-says 'a server that goes on meanwhile' 0 'so the room is copied again'
 
 # What is refused, and what fails.
 cp conf kept
@@ -345,8 +337,7 @@ if has rsync; then
   verb restore --room "$PWD/conf" "$PWD/there"
   says 'it is restored' 0 "restored $PWD/office/F"
   unit start
-  read -r port <"$stand/port"
-  asks 'with the last document' "reply '200 OK' application/octet-stream hello" \
+  asks_there 'with the last document' "reply '200 OK' application/octet-stream hello" \
     GET /doc/to-be-sent-too root
   cp kept conf
   . "$here/lib/elsewhere.sh"
@@ -354,17 +345,16 @@ else
   skip 'a standby copy elsewhere' 'no rsync'
 fi
 
-# An interruption at each call: after a kill too the server goes on.
+# An interruption at each call: after a kill too the next request is answered.
 for how in TERM KILL; do
   for number in {1..60}; do
     cut_off "$how" "$number" stands || break
-    unit_goes_on "$name"
     answers "$name"
-    if ((number % 2)); then verb standby --after --room "$PWD/conf"; else stands; fi
-    answers "$name, and after"
+    stands
+    holds "$name: the next run ends well" [ "$status" = 0 ]
     cp backups/conf/standby/F look
     holds "$name: there is a copy" [ "$("$rooms" verify look 2>&1)" = sound ]
-    holds "$name: nothing else is left" [ "$(ls -A backups/conf) $(ls run)" = 'standby ' ]
+    holds "$name: nothing else is left" [ "$(ls -A backups/conf) $(ls run)" = 'standby rooms' ]
   done
   holds "$how: the calls came to an end" [ "$number" -gt 10 -a "$number" -lt 60 ]
 done

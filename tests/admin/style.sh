@@ -10,7 +10,7 @@ printf '%s\n' '[mypy]' 'strict = True' "cache_dir = $PWD/mypy" '[mypy-ldap.*]' \
   'ignore_missing_imports = True' >mypy.ini
 if has mypy; then
   MYPYPATH=$repo/admin:$repo/services mypy --config-file mypy.ini "$repo/admin/rooms_admin" \
-    "$repo"/services/rooms_services/{scgi.py,own_password} \
+    "$repo"/services/rooms_services/{scgi.py,port.py,own_password} \
     "$here"/admin/test_{pure,backups,told,attacks,texts}.py >"$work/out" 2>&1
   status=$?
   holds "mypy --strict: $(tail -n 5 "$work/out")" [ "$status" = 0 ]
@@ -25,9 +25,9 @@ else
 fi
 if has flake8; then
   flake8 --isolated --max-line-length 100 "$repo/admin/rooms_admin" "$repo/deploy/install" \
-    "$repo"/services/rooms_services/{scgi.py,own_password} "$repo"/deploy/rooms-{service,table} \
-    "$repo/admin/rooms-admin" "$here"/admin/test_{pure,backups,told,attacks,texts}.py \
-    >"$work/out" 2>&1
+    "$repo"/services/rooms_services/{scgi.py,port.py,own_password} \
+    "$repo"/deploy/rooms-{service,table} "$repo/admin/rooms-admin" \
+    "$here"/admin/test_{pure,backups,told,attacks,texts}.py >"$work/out" 2>&1
   status=$?
   holds "flake8: $(head -n 5 "$work/out")" [ "$status" = 0 ]
   # (tools/kit.py may leave no byte code behind, so a line stands before the imports)
@@ -85,35 +85,49 @@ grep -v -e '^--' "$work/out" >verbs
 holds 'there are verbs' [ "$(wc -l <verbs)" -ge 9 ]
 while IFS= read -r verb; do
   holds "help names $verb" grep -q "^  $verb  *[a-z]" help
-  run_admin "$verb" --help
-  holds "$verb --help" [ "$status" = 0 -a ! -s "$work/err" ]
-  holds "$verb: usage" grep -q "^Usage: rooms-admin $verb" "$work/out"
-  holds "$verb: status" grep -q '^Status: 0 ' "$work/out"
+  run_admin --words "$verb"
+  if grep -v '^-' "$work/out" >parts; then
+    run_admin "$verb" --help
+    cp "$work/out" whole
+    while IFS= read -r one; do
+      holds "$verb --help has $one" grep -q "^$one: " whole
+      echo "$verb $one" >>forms
+    done <parts
+  else
+    echo "$verb" >>forms
+  fi
+done <verbs
+holds 'a verb has parts' grep -qx 'user remove' forms
+while read -r -a verb; do
+  run_admin "${verb[@]}" --help
+  holds "${verb[*]} --help" [ "$status" = 0 -a ! -s "$work/err" ]
+  holds "${verb[*]}: usage" grep -q "^Usage: rooms-admin ${verb[*]}" "$work/out"
+  holds "${verb[*]}: status" grep -q '^Status: 0 ' "$work/out"
   sed -n '/^Usage:/,/^$/p' "$work/out" | options >used
   sed -n 's/^  \(--[a-z-]*\).*/\1/p' "$work/out" | sort -u >described
-  run_admin --words "$verb"
+  run_admin --words "${verb[@]}"
   grep -vx -e --help "$work/out" | sort >taken
   comm -23 taken described >found
-  same "$verb: each option is described" found /dev/null
-  same "$verb: and is in its usage" used taken
+  same "${verb[*]}: each option is described" found /dev/null
+  same "${verb[*]}: and is in its usage" used taken
   sed 's,\\f[A-Z],,g' page | tr -d '\\' | options | comm -13 - taken >found
-  same "$verb: and on the page" found /dev/null
-  run_admin "$verb" --no-such-option
-  told "$verb: another option" 2 'bad arguments: no such option: --no-such-option'
-done <verbs
+  same "${verb[*]}: and on the page" found /dev/null
+  run_admin "${verb[@]}" --no-such-option
+  told "${verb[*]}: another option" 2 'bad arguments: no such option: --no-such-option'
+done <forms
 run_admin no-such-verb
 told 'no such verb' 2 "bad arguments: there is no verb 'no-such-verb'"
 
-# The version, and the rooms of a machine: one served at a socket, one at a port, one elsewhere.
+# The version, and the rooms of a machine: two served here, one elsewhere.
 mkdir -p rooms-of bin
 printf '%s\n' '#!/bin/sh' '[ "$*" = "is-active rooms@invoices" ] || { echo inactive; exit 3; }' \
   'echo active' >bin/systemctl
 chmod 755 bin/systemctl
-printf '%s\n' FILE=/var/lib/rooms/office.rooms SOCKET=yes PORT=8780 >rooms-of/office.conf
+echo FILE=/var/lib/rooms/office.rooms >rooms-of/office.conf
 printf '%s\n' FILE=/srv/invoices.rooms PORT=8790 'TITLE=All invoices' >rooms-of/invoices.conf
 echo ON=b.example >rooms-of/sales.on
 ROOMS_SETTINGS=$PWD/rooms-of PATH=$PWD/bin:$PATH run_admin rooms
-printf '%s\n' 'invoices  All invoices  active  127.0.0.1:8790  /srv/invoices.rooms' \
+printf '%s\n' 'invoices  All invoices  active  /run/rooms/invoices/socket  /srv/invoices.rooms' \
   'office  inactive  /run/rooms/office/socket  /var/lib/rooms/office.rooms' \
   'sales  elsewhere  on b.example' >wanted
 same 'the rooms of a machine' "$work/out" wanted
@@ -122,6 +136,25 @@ holds 'and for a program' [ "$(python3 -c 'import json, sys
 for one in json.load(sys.stdin): print((one["name"], one["state"], one["title"]), end=" ")
 ' <"$work/out")" = \
   "('invoices', 'active', 'All invoices') ('office', 'inactive', '') ('sales', 'elsewhere', '') " ]
+# Settings are named from where one stands, also where a verb goes elsewhere before it reads them.
+mkdir here
+top=$PWD
+printf '%s\n' "FILE=$PWD/here/F" SOCKET=yes "BACKUPS=$PWD/here" PROGRAM=/bin/true >here/hr.conf
+ran_in() { # FOLDER CONF WORD ..
+  (cd "$1" && PATH=$top/bin:$PATH ROOMS_RUN=$top/run timeout 20 "$admin" "${@:3}" --room "$2") \
+    </dev/null 2>&1 | sed 's/20[-.:0-9TZ]*/DATE/g'
+  echo "status ${PIPESTATUS[0]}"
+}
+for verb in people groups until mine 'user list' backup standby backups latest records doctor \
+  'get latest /f' 'restore latest' 'lists /'; do
+  read -r -a words <<<"$verb"
+  ran_in / "$PWD/here/hr.conf" "${words[@]}" >wanted
+  ran_in here ./hr.conf "${words[@]}" >got
+  same "$verb of a file here" got wanted
+  ran_in . here/hr.conf "${words[@]}" >got
+  same "$verb of a file below" got wanted
+  holds "$verb finds its settings: $(head -n 1 got)" test -z "$(grep 'hr.conf can.t be read' got)"
+done
 ROOMS_SETTINGS=$PWD/rooms-of run_admin rooms office
 told 'a word' 2 "bad arguments: a word too many: 'office'"
 
@@ -140,21 +173,12 @@ for pair in export:export import:import handover:handover get:get nightly:backup
   same "$old is $verb" got "$work/out"
 done
 
-# A room as it was named before, and as it is: the same, but for a word on standard error.
-printf 'FILE=%s/F\nBACKUPS=%s\nPROGRAM=/bin/true\n' "$PWD" "$PWD" >old.conf
-run_admin latest --room ./old.conf
-cp "$work/err" wanted
-run_admin latest --conf ./old.conf
-told 'a room as before' 2 'rooms-admin latest: type --room ./old.conf: this is the last version'
-sed 1d "$work/err" | cmp -s - wanted
-holds 'and all else as now' [ "$?" = 0 ]
-
 # Below a prefix the package is where the launcher looks, and the program is that prefix's.
 for prefix in usr usr/local; do
   mkdir -p "tree/$prefix/sbin" "tree/$prefix/share/rooms/rooms_admin" "tree/$prefix/bin"
   cp "$admin" "tree/$prefix/sbin/"
   ln -s ../sbin/rooms-admin "tree/$prefix/bin/rooms-export"
-  cp -r "$repo/admin/rooms_admin" "tree/$prefix/share/rooms/"
+  cp -r "$repo/admin/rooms_admin" "$repo/web/tables" "tree/$prefix/share/rooms/"
   find tree -name __pycache__ -prune -exec rm -r {} +
   "tree/$prefix/sbin/rooms-admin" --help >got 2>&1
   same "below /$prefix" got help
@@ -182,9 +206,9 @@ if [ "$(id -u)" = 0 ]; then
     >told/share/rooms/rooms_admin/__main__.py
   env -i PATH="$PWD/set" HOME="$PWD" TMPDIR="$PWD" OPENSSL_CONF="$PWD/x" ROOMS_ROOT="$PWD" \
     ROOMS_SETTINGS="$PWD" LD_LIBRARY_PATH="$PWD" LC_ALL=C TERM=dumb ROOMS_UNIT=u PORT=8780 \
-    MONITOR_UNIT=m told/sbin/rooms-admin >got 2>&1
-  printf '%s\n' HOME=/root LC_ALL=C MONITOR_UNIT=m \
-    PATH=/usr/local/sbin:/usr/local/bin:/usr/sbin:/usr/bin:/sbin:/bin PORT=8780 ROOMS_UNIT=u \
+    MONITOR_UNIT=m MAINPID=7 told/sbin/rooms-admin >got 2>&1
+  printf '%s\n' HOME=/root LC_ALL=C MAINPID=7 MONITOR_UNIT=m \
+    PATH=/usr/local/sbin:/usr/local/bin:/usr/sbin:/usr/bin:/sbin:/bin ROOMS_UNIT=u \
     TERM=dumb >wanted
   same 'root is handed on nothing but these' got wanted
 else

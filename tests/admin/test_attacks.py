@@ -1,6 +1,7 @@
 """What others than root can leave where rooms-admin looks as root, and how it can be kept waiting:
 python3 -m unittest test_attacks."""
 import argparse
+import dataclasses
 import os
 import signal
 import struct
@@ -19,10 +20,11 @@ sys.path.insert(0, os.path.join(os.path.dirname(__file__), "..", "..", "admin"))
 
 from rooms_admin.cli.report import Stop  # noqa: E402
 from rooms_admin.host import tempdirs, waiting  # noqa: E402
-from rooms_admin.room import health, machine, passwords, server, settings  # noqa: E402
+from rooms_admin.room import (dump, health, machine, members, passwords, program,  # noqa: E402
+                              server, settings)
 from rooms_admin.room.size import Used  # noqa: E402
 from rooms_admin.site.directory import Directory  # noqa: E402
-from rooms_admin.verbs import groups, watched  # noqa: E402
+from rooms_admin.verbs import groups, handover, records, watched  # noqa: E402
 
 # More than Python's functions go into one another.
 DEEP = 1500
@@ -201,6 +203,43 @@ def endless(wait: int) -> Directory:
     made.__dict__.update(_ldap=ldap, _link=_Endless(), _bound=False, where=types.SimpleNamespace(
         wait=wait, secret="", bind="", needs_starttls=False))
     return made
+
+
+class Says(unittest.TestCase):
+    """A copy of a room that has the program say what it wants."""
+
+    def test_names(self) -> None:
+        for bad in (b"member sta\x1b[2J bob\n", b"member staff ../bob\n", b"folder a/b c /x\n",
+                    b"folder a b x\n", b"document a b many /x\n"):
+            with self.subTest(bad), self.assertRaisesRegex(Stop, "^no lists: "):
+                list(dump.rows([bad]))
+        with tempfile.NamedTemporaryFile() as lists, self.assertRaisesRegex(Stop, "^no lists: "):
+            lists.write(b"folder bob staff /\nfolder bob staff ../x\n")
+            lists.flush()
+            list(handover.rows(lists.name))
+        with self.assertRaisesRegex(Stop, "^the groups can't be read: "):
+            members.of_text("group,user\nstaff,a b\n")
+        for one in ("../x,/,r,yes", "bob,x,r,yes", "bob,/,q,yes", "bob,/,r,maybe"):
+            user, path, bits, granted = one.split(",")
+            with self.subTest(one), self.assertRaisesRegex(Stop, "^the records can't be read: "):
+                list(records.records(["at,user,path,bits,granted,entry,kind\n",
+                                      f"1,{user},{path},{bits},{granted},1,audit\n"]))
+
+    def test_texts_end(self) -> None:
+        with tempfile.TemporaryDirectory() as folder:
+            room = room_of(folder)
+            for place, text in ((room.file, "x"), (f"{folder}/p", "#!/bin/sh\nexec yes\n")):
+                with open(place, "w", encoding="ascii") as made:
+                    made.write(text)
+            os.chmod(f"{folder}/p", 0o755)
+            endless = dataclasses.replace(room, program=f"{folder}/p")
+            with unittest.mock.patch.object(program, "MOST", 1 << 20), \
+                    tempfile.TemporaryFile() as into:
+                for number in (None, into.fileno()):
+                    status, out, said = program.on_copy(endless, room.file, ["dump"], into=number)
+                    self.assertNotEqual(status, 0)
+                    self.assertEqual((out, said), (b"", "it wrote more than 1 MB"))
+                self.assertLessEqual(os.fstat(into.fileno()).st_size, 1 << 20)
 
 
 class Lies(unittest.TestCase):

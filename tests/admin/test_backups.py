@@ -1,6 +1,7 @@
 """Which backups count, which of them go, and whose the program is that works on copies of them."""
 import argparse
 import contextlib
+import dataclasses
 import io
 import os
 import sys
@@ -8,15 +9,17 @@ import tempfile
 import time
 import unittest
 import unittest.mock
+from collections.abc import Iterator
+from typing import IO
 
 sys.path.insert(0, os.path.join(os.path.dirname(__file__), "..", "..", "admin"))
 
-from rooms_admin.cli.report import Refused  # noqa: E402
+from rooms_admin.cli.report import Refused, Stop  # noqa: E402
 from rooms_admin.host import locks, safe, tempdirs, waiting  # noqa: E402
-from rooms_admin.room import (backups, dump, program, published, server,  # noqa: E402
-                              settings, tidying)
+from rooms_admin.room import (backups, dump, known, members, passwords,  # noqa: E402
+                              program, published, server, settings, texts, tidying)
 from rooms_admin.room.backups import Backup  # noqa: E402
-from rooms_admin.verbs import hours, latest, listed, people  # noqa: E402
+from rooms_admin.verbs import backups as listing, groups, hours, latest, people  # noqa: E402
 
 
 class Folder(unittest.TestCase):
@@ -58,23 +61,48 @@ class Hours(Folder):
         os.utime(f"{place}/run", (at, at))
         return hours.found(self.room).backups[-1]
 
+    def in_berlin(self) -> None:
+        """Where clocks go back for an hour at the end of October."""
+        zone = unittest.mock.patch.dict(os.environ, {"TZ": "CET-1CEST,M3.5.0,M10.5.0/3"})
+        zone.start()
+        time.tzset()
+        self.addCleanup(time.tzset)
+        self.addCleanup(zone.stop)
+
     def test_one_is_due_after_an_hour(self) -> None:
         self.assertTrue(hours.is_due([], 0))
-        made = self.made("2026-11-02.100000", 1_000_000, 1)
+        at = 1_793_613_600
+        made = self.made(time.strftime("%F.%H%M%S", time.localtime(at)), at, 1)
         for after, is_due in ((0, False), (3599, False), (3600, True), (-59, False), (-61, True)):
-            self.assertEqual(hours.is_due([made], 1_000_000 + after), is_due, after)
+            self.assertEqual(hours.is_due([made], at + after), is_due, after)
 
     def test_an_hour_that_a_night_has_twice(self) -> None:
         """Its name is the same in both; none is due in the next minutes of either."""
+        self.in_berlin()
         for number, at in ((1, 1_792_888_200), (2, 1_792_891_800)):
             made = self.made("2026-10-25.023000", at, number)
+            self.assertEqual(backups.made(made), at)
             self.assertFalse(hours.is_due([made], at + 300))
             self.assertTrue(hours.is_due([made], at + 3600))
+
+    def test_when_a_name_says_that_it_was_made(self) -> None:
+        """One answer for all: the hours, the check, the nights that users see. A copy that was
+        brought here may have other times."""
+        self.in_berlin()
+        for name, wanted in (("2026-10-25.023000", [1_792_888_200, 1_792_891_800]),
+                             ("2026-10-25.033000", [1_792_895_400]), ("2026-03-29.023000", []),
+                             ("2026-02-30.000000", []), ("9999-99-99.999999", []), ("x", [])):
+            self.assertEqual(backups.moments(name), wanted, name)
+        brought = self.made("2026-10-25.033000", 1_800_000_000, 3)
+        self.assertEqual(backups.made(brought), 1_792_895_400)
+        os.unlink(f"{brought.place}/run")
+        twice = Backup(0, "2026-10-25.023000", brought.above)
+        self.assertEqual(backups.made(twice), 1_792_888_200)
 
     def test_one_without_a_number(self) -> None:
         place = self.backup("hours/2026-11-02.100000")
         os.utime(place, (1_000_000, 1_000_000))
-        self.assertTrue(hours.is_due(hours.found(self.room).backups, 1_003_600))
+        self.assertTrue(hours.is_due(hours.found(self.room).backups, time.time() + 1e8))
 
     def test_what_they_want(self) -> None:
         """A further one is made before the oldest goes, and only beside as much again."""
@@ -93,7 +121,7 @@ class Found(Folder):
         self.assertEqual(backups.below("/srv/rooms/invoices/", "invoices"), "/srv/rooms/invoices")
         self.assertEqual(backups.below("/", "invoices"), "/invoices")
         for odd in ("/etc/rooms/..conf", "/etc/rooms/...conf", "/etc/rooms/.conf"):
-            self.assertEqual(backups.name_of(odd), "room")
+            self.assertEqual(settings.name_of(odd), "room")
 
     def test_no_room_sees_those_of_another(self) -> None:
         """Two rooms with one BACKUPS, as docs/backup.md says: a later night of the other one is not
@@ -104,9 +132,86 @@ class Found(Folder):
             self.backup(f"2026-01-0{1 + own}.040001", 7 + own, "invoices", own=own,
                         lists="member c d\n")
             self.assertEqual(backups.newest(self.room, "lists.txt"), f"{mine}/lists.txt")
-            self.assertEqual(dump.members(backups.newest(self.room, "lists.txt")), {("a", "b")})
+            with texts.of_last(self.room, texts.LISTS) as lists:
+                self.assertEqual(dump.members(lists), {("a", "b")})
         self.assertEqual([one.number for one in backups.look(invoices).backups], [7, 8])
         self.assertEqual(backups.look(self.room).wrong, [])
+
+    def test_last_night_is_one_for_all(self) -> None:
+        """Where the newest backup has no lists they are made anew, whoever asks, and nobody goes by
+        those of a night before it."""
+        self.backup("2026-01-01.040000", 7, lists="member a b\n")
+        self.backup("2026-01-02.040000", 8)
+
+        @contextlib.contextmanager
+        def made(_room: object, folder: str, words: tuple[str, ...]) -> Iterator[IO[bytes]]:
+            self.assertEqual((os.path.basename(folder), words), ("2026-01-02.040000", ("dump",)))
+            yield io.BytesIO(b"member c d\n")
+        run = groups.Run(self.room, argparse.Namespace(dry_run=True, force=False),
+                         contextlib.ExitStack())
+        with (unittest.mock.patch.object(texts, "_made", made),
+              unittest.mock.patch.object(server, "state", return_value="active"),
+              unittest.mock.patch.object(published, "FOLDER", f"{self.home}/web"),
+              contextlib.redirect_stderr(io.StringIO())):
+            with texts.of_last(self.room, texts.LISTS) as lists:
+                self.assertEqual(dump.members(lists), {("c", "d")})
+            self.assertEqual(known.newest(self.room).members, {("c", "d")})
+            self.assertEqual(run.known(), {("c", "d")})
+
+    def test_who_is_in_which_group_is_known_once(self) -> None:
+        """What user changes groups sees at once, until there is another file, or a newer backup."""
+        self.backup("2026-01-01.040000", 7, lists="member staff alice\n")
+        run = groups.Run(self.room, argparse.Namespace(dry_run=False, force=False),
+                         contextlib.ExitStack())
+        both = {("staff", "alice"), ("staff", "bob")}
+        with open(self.room.file, "wb"), \
+                unittest.mock.patch.object(server, "state", return_value="active"), \
+                unittest.mock.patch.object(published, "FOLDER", f"{self.home}/web"):
+            self.assertEqual((run.known(), known.newest(self.room).members),
+                             (None, {("staff", "alice")}))
+            with unittest.mock.patch.object(members, "write", return_value="done"), \
+                    unittest.mock.patch.object(passwords, "password_files", return_value=[]):
+                known.replace(self.room, both)
+                self.assertIsNone(known.kept(self.room))
+                for shown in ("no", "names"):
+                    room = dataclasses.replace(self.room, people=shown)
+                    self.assertEqual(people.write(room, known.here(room, both)), [])
+                    self.assertEqual((run.known(), known.newest(room).members), (both, both))
+            # What isn't of this file is no news for groups.
+            known.keep(self.room, known.Known({("a", "b")}, 0))
+            self.assertIsNone(run.known())
+            with unittest.mock.patch.object(members, "write", side_effect=Stop("no")), \
+                    self.assertRaises(Stop):
+                known.replace(self.room, both)
+            self.assertIsNone(known.kept(self.room))
+            known.try_to_keep(self.room, known.here(self.room, both))
+            os.replace(self.room.file, f"{self.room.file}.before")
+            with open(self.room.file, "wb"):
+                self.assertEqual((run.known(), known.newest(self.room).members),
+                                 (None, {("staff", "alice")}))
+            os.replace(f"{self.room.file}.before", self.room.file)
+            self.assertEqual(run.known(), both)
+            self.backup("2026-01-02.040000", 8, lists="member a night\n")
+            self.assertEqual(run.known(), {("a", "night")})
+            # Of an earlier version, without numbers.
+            for name in ("2026-01-01.040000", "2026-01-02.040000"):
+                os.unlink(f"{self.backups}/office/{name}/run")
+            known.try_to_keep(self.room, known.here(self.room, both))
+            self.assertEqual(run.known(), both)
+            self.backup("2026-01-03.040000", 0, lists="member a later\n")
+            self.assertEqual(run.known(), {("a", "later")})
+
+    def test_an_earlier_version_kept_what_was_known(self) -> None:
+        self.backup("2026-01-01.040000", 7, lists="member staff alice\n")
+        with unittest.mock.patch.object(server, "state", return_value="active"), \
+                unittest.mock.patch.object(published, "FOLDER", f"{self.home}/web"):
+            known.keep(self.room, known.here(self.room, set()))
+            path = f"{self.home}/web/office/{known.FILE}"
+            for first, wanted in ((" after 7", {("a", "b")}), (" after 6", {("staff", "alice")}),
+                                  ("", {("a", "b")})):
+                with open(path, "w", encoding="ascii") as file:
+                    file.write(f"group,user{first}\na,b\n")
+                self.assertEqual(known.newest(self.room).members, wanted, first)
 
     def test_those_of_an_earlier_version_count(self) -> None:
         old = self.backup("2026-03-01.040000", 3, own=False)
@@ -125,12 +230,12 @@ class Found(Folder):
         self.assertEqual(backups.newest(self.room, "lists.txt"), f"{newest}/lists.txt")
         with unittest.mock.patch.object(server, "state", return_value="active"), \
                 unittest.mock.patch.object(published, "FOLDER", f"{self.home}/web"):
-            self.assertEqual(people.known(self.room)[0], {("a", "new")})
+            self.assertEqual(known.newest(self.room).members, {("a", "new")})
             # What is known since counts more, whatever the clock says.
-            people._keep(self.room, {("a", "newest")}, time.time())
-            self.assertEqual(people.known(self.room)[0], {("a", "newest")})
+            known.keep(self.room, known.here(self.room, {("a", "newest")}))
+            self.assertEqual(known.newest(self.room).members, {("a", "newest")})
             self.backup("2026-12-02.040000", 6, lists="member a night\n")
-            self.assertEqual(people.known(self.room)[0], {("a", "night")})
+            self.assertEqual(known.newest(self.room).members, {("a", "night")})
         said = io.StringIO()
         given = argparse.Namespace(room=self.room.conf, file="lists.txt")
         with contextlib.redirect_stdout(said):
@@ -158,7 +263,7 @@ class Found(Folder):
         said = io.StringIO()
         with contextlib.redirect_stdout(said), contextlib.redirect_stderr(io.StringIO()):
             given = argparse.Namespace(room=self.room.conf, json=False, wanted="")
-            self.assertEqual(listed.run(given), 1)
+            self.assertEqual(listing.run(given), 1)
         self.assertEqual(said.getvalue(), f"     5      1 MB  {good}  without records.csv, "
                          "lists.txt, review.csv\n")
 

@@ -1,11 +1,14 @@
 """People, places and end dates, without a room: python3 -m unittest test_people. Black boxes are
 tests/admin/people.sh."""
 import contextlib
+import csv
 import dataclasses
 import datetime
 import io
 import os
+import pathlib
 import random
+import re
 import socket
 import subprocess
 import sys
@@ -15,10 +18,10 @@ import unittest
 import unittest.mock
 from collections.abc import Iterator
 
-from rooms_admin.cli import report
+from rooms_admin.cli import report, shared
 from rooms_admin.host import locks, safe
-from rooms_admin.room import end_dates, http_client, names, passwords, published, server
-from rooms_admin.verbs import expire, people, places, user
+from rooms_admin.room import end_dates, http_client, known, names, passwords, published, server
+from rooms_admin.verbs import mine, people, until, user
 from rooms_admin.room.settings import Room
 
 ROOM = Room(conf="/etc/rooms/office.conf", file="/f/F", port="8780", backups="/b", unit="rooms",
@@ -73,6 +76,41 @@ class Endings(unittest.TestCase):
                       "list:a"):
             self.assertFalse(end_dates.is_meant(other), other)
         self.assertIsNone(end_dates.ending(marked(who="x" * 41)))
+
+    def test_days_at_the_end_of_time(self) -> None:
+        """Whoever manages a folder may write them, and the night goes on."""
+        for line in (marked(day="9999-12-31"), marked(day="9999-12-31").replace("until", "ended"),
+                     marked(day="0001-01-01").replace("until", "ended")):
+            self.assertEqual(back([line, READ]),
+                             [READ] if "0001" in line else [line, READ])
+
+    def test_the_page_says_what_levels_are(self) -> None:
+        page = pathlib.Path(__file__).parents[2].joinpath("docs/people.md").read_text("utf-8")
+        every = "rwanNxDtThHdcCoy"
+        said = {}
+        for level, *cells in re.findall(r"^\| `(\w+)` \| (`A:.*) \| (.*?) ?\|$", page, re.M):
+            for kind, cell in zip(("folder", "document"), cells):
+                ways = [re.findall(r"A:(\w*):eve:(\w*)", way) for way in cell.split(" or ")]
+                if cell:
+                    said[kind, level] = [[[flags, mask or every] for flags, mask in way]
+                                         for way in ways]
+        forms = shared.table("level_forms")
+        self.assertEqual(said, {(kind, level): ways for kind in ("folder", "document")
+                                for level, ways in forms[kind].items()})
+
+    def test_what_a_level_is(self) -> None:
+        """What was carried above the line that keeps things, and what is said twice, are a part of
+        it; another way to let somebody pass, or a denial, isn't."""
+        every = "A:fd:eve:rwanNxDtThHdcCoy"
+        self.assertEqual(back(["list:a", "A:fd:eve:Dd", marked("manage"), every]),
+                         ["list:a", marked("manage", day="2027-06-01").replace("until", "ended")])
+        self.assertEqual(back([READ, "A:fd:eve:rxtcy", marked()])[1:], [])
+        self.assertEqual(back([READ, "A::eve:x", marked()])[0], "A::eve:x")
+        for more in ("D::eve:x", "A:fd:eve:wa", "A:fd:eve:d"):
+            with self.assertRaises(end_dates.Changed):
+                back([READ, more, marked()])
+        with self.assertRaises(end_dates.Changed):
+            back(["A::eve:x", "A::eve:xt", marked("pass")])
 
     def test_the_day_itself_counts(self) -> None:
         lines = [READ, marked(day="2027-06-01")]
@@ -132,9 +170,9 @@ class Runs(unittest.TestCase):
         self.sent: list[tuple[object, ...]] = []
         self.state, self.status = "active", 0
         for module, name, value in (
-                (expire.server, "state", lambda room: self.state),
-                (expire.server, "at_rest", self.at_rest),
-                (expire.program, "run", self.program)):
+                (until.server, "state", lambda room: self.state),
+                (until.server, "at_rest", self.at_rest),
+                (until.program, "run", self.program)):
             patch = unittest.mock.patch.object(module, name, value)
             patch.start()
             self.addCleanup(patch.stop)
@@ -148,12 +186,14 @@ class Runs(unittest.TestCase):
         self.sent.append((words[2], text))
         return self.status, b"", "no" if self.status else ""
 
-    def told(self, night: bytes, now: bytes | None = None) -> list[str]:
+    def told(self, night: bytes, now: bytes | None = None,
+             last: datetime.date | None = None) -> list[str]:
         with tempfile.TemporaryDirectory() as place, unittest.mock.patch.object(
-                expire.members, "listed", return_value=night if now is None else now):
+                until.members, "listed", return_value=night if now is None else now):
             with open(f"{place}/lists.txt", "wb") as lists:
                 lists.write(night)
-            return expire.take_back(ROOM, f"{place}/lists.txt")
+            with open(f"{place}/lists.txt", "rb") as source:
+                return until.take_back(ROOM, source, last)
 
     def test_only_what_a_list_says_now_counts(self) -> None:
         night = dumped(x=["A:fd:bob:r", READ, OVER], y=[READ, OVER])
@@ -165,6 +205,41 @@ class Runs(unittest.TestCase):
         self.assertEqual(self.sent, [
             (b"/x", f"list:a\nA:fd:bob:r\n{ended}\nA:fdI:bob:r\n".encode())])
         self.assertEqual(self.stops, 1)
+
+    def test_a_clock_that_is_ahead_ends_nothing(self) -> None:
+        """What a night takes back is gone for good, whatever the clock says in the next one."""
+        today = datetime.date.today()
+        soon = marked(day=str(today + datetime.timedelta(3)))
+        night = dumped(x=[READ, OVER], y=[READ, soon], z=[READ, marked(day="2029-05-31")])
+
+        class Ahead(datetime.date):
+            @classmethod
+            def today(cls) -> datetime.date:
+                return datetime.date(2036, 1, 1)
+        with unittest.mock.patch.object(datetime, "date", Ahead):
+            told = self.told(night, last=today)
+        self.assertEqual([path for path, _ in self.sent], [b"/x"])
+        self.assertRegex("".join(told), "^not taken back: 2 accesses that are over if the clock is "
+                         f"right, which says 2036-01-01; the last backup before is of {today}, ")
+        # Where nights go on that day is the next one, and then it counts.
+        with unittest.mock.patch.object(datetime, "date", Ahead):
+            self.assertEqual(self.told(night, last=datetime.date(2035, 12, 31)), [])
+        self.assertEqual([path for path, _ in self.sent[1:]], [b"/x", b"/y", b"/z"])
+
+    def test_which_day_the_last_backup_is_of(self) -> None:
+        with tempfile.TemporaryDirectory() as place:
+            room = dataclasses.replace(ROOM, backups=place, file="/f/F")
+            self.assertIsNone(until.last_day(room))
+            # By the number that each run gave, whatever the clock said.
+            for number, name in ((1, "2036-01-01.040000"), (2, "2026-11-28.040000"),
+                                 (3, "2026-11-29.040000")):
+                os.makedirs(f"{place}/office/{name}")
+                pathlib.Path(f"{place}/office/{name}/F").touch()
+                pathlib.Path(f"{place}/office/{name}/run").write_text(f"number {number}\n",
+                                                                      encoding="ascii")
+            self.assertEqual(str(until.last_day(room)), "2026-11-29")
+            tonight = f"{place}/office/2026-11-29.040000"
+            self.assertEqual(str(until.last_day(room, tonight)), "2026-11-28")
 
     def test_nothing_stops_for_nothing(self) -> None:
         for night in (dumped(x=[READ]), dumped(x=[READ, marked(day="2999-01-01")]),
@@ -186,7 +261,7 @@ class Runs(unittest.TestCase):
                                 " no"])
 
     def test_many_dates_stop_it_for_a_while_only(self) -> None:
-        with unittest.mock.patch.object(expire, "REST", -1):
+        with unittest.mock.patch.object(until, "REST", -1):
             self.told(dumped(x=[READ, OVER], y=[READ, OVER]))
         self.assertEqual((self.stops, self.sent), (1, []))
 
@@ -208,7 +283,7 @@ REVIEW = '''path,kind,user,rights,remove
 
 class Places(unittest.TestCase):
     def test_what_is_not_seen_from_above(self) -> None:
-        found, managers = places.places(io.StringIO(REVIEW, newline=""))
+        found, managers = mine.places(io.StringIO(REVIEW, newline=""))
         self.assertEqual(managers, ["alice"])
         self.assertEqual(found["alice"].places, [])
         self.assertEqual([(one["path"], one["rights"]) for one in found["bob"].places],
@@ -216,11 +291,25 @@ class Places(unittest.TestCase):
         self.assertEqual([one["path"] for one in found["*"].places], ["/a/b/e"])
         self.assertNotIn("ANONYMOUS@", found)
 
+    def test_no_name_is_a_path(self) -> None:
+        """A copy of a room may have the program say anything: each name becomes one of a file."""
+        for name in ("../../run/by-root", "a/b", "", "\x1b]0;x", "*/..", "a" * 65, "bob\n"):
+            out = io.StringIO()
+            csv.writer(out).writerows([["path", "kind", "user", "rights", "remove"],
+                                       ["/", "folder", name, "rwaC", "yes"]])
+            with self.subTest(name), self.assertRaisesRegex(
+                    report.Stop, "^the review can't be read: .* can't be a user or a group"):
+                mine.places(io.StringIO(out.getvalue(), newline=""))
+        for bad in ("a,folder,bob,r,no", "/a/,folder,bob,r,no", "/a,link,bob,r,no",
+                    "/a,folder,bob,q,no", "/a,folder,bob,r,maybe"):
+            with self.subTest(bad), self.assertRaisesRegex(report.Stop, "can't be read: "):
+                mine.places([REVIEW.split("\n", maxsplit=1)[0] + "\n", bad + "\n"])
+
     def test_what_is_no_review(self) -> None:
         for bad in ("", "at,user\n", "path,kind,user,rights,remove\n/,folder,bob\n",
                     'path,kind,user,rights,remove\n"/,folder,bob,r,no\n'):
             with self.assertRaisesRegex(report.Stop, "the review can't be read"):
-                places.places(io.StringIO(bad, newline=""))
+                mine.places(io.StringIO(bad, newline=""))
 
 
 # Reads until its standard input ends, and says how often that failed.
@@ -243,7 +332,7 @@ class Listed(unittest.TestCase):
     def test_nothing_that_a_terminal_obeys(self) -> None:
         members = {("sta\x1b]0;ff\x07", "bob")}
         out = io.StringIO()
-        with (unittest.mock.patch.object(people, "known", return_value=(members, 0.0)),
+        with (unittest.mock.patch.object(known, "newest", return_value=known.Known(members, 0)),
               unittest.mock.patch.object(server, "state", return_value="active"),
               unittest.mock.patch.object(passwords, "password_files", return_value=[]),
               contextlib.redirect_stdout(out), contextlib.redirect_stderr(io.StringIO())):
@@ -274,6 +363,10 @@ class Files(unittest.TestCase):
         for one in readers:
             self.assertEqual(one.communicate()[0], b"0 bad\n")
         self.assertEqual(os.listdir(os.path.join(published.FOLDER, "office")), ["mine"])
+
+    def test_no_file_gets_elsewhere(self) -> None:
+        with self.assertRaises(ValueError):
+            published.put_folder(self.room, "mine", {"../x.json": b""})
 
     def test_links_are_replaced_and_not_followed(self) -> None:
         target = os.path.join(os.path.dirname(published.FOLDER), "other")
@@ -307,14 +400,14 @@ class Files(unittest.TestCase):
 
 
 class Sockets(unittest.TestCase):
-    """A room whose server listens at a socket is asked there, and its port isn't."""
+    """A room is asked at its socket, and at a port only where it has none."""
 
     def test_the_server_is_asked_at_its_socket(self) -> None:
         with tempfile.TemporaryDirectory() as root:
             run = unittest.mock.patch.object(locks, "RUN", f"{root}/run")
             run.start()
             self.addCleanup(run.stop)
-            room = dataclasses.replace(ROOM, unit="rooms@office", socket=True)
+            room = dataclasses.replace(ROOM, unit="rooms@office", port="")
             self.assertEqual(room.listens, f"{root}/run/rooms/office/socket")
             self.assertEqual(ROOM.listens, "")
             os.makedirs(os.path.dirname(room.listens))
@@ -337,7 +430,7 @@ class Sockets(unittest.TestCase):
                 asked.close()
                 conf = f"{root}/office.conf"
                 with open(conf, "w", encoding="utf-8") as out:
-                    out.write(f"FILE={root}/F\nBACKUPS=/b\nPROGRAM=/bin/sh\nSOCKET=yes\n")
+                    out.write(f"FILE={root}/F\nBACKUPS=/b\nPROGRAM=/bin/sh\n")
                 client = http_client.client(conf, http_client.Caller(as_user="alice"), "", True)
                 self.assertEqual(client.ask("GET", "attr", b"/a").status, 200)
                 with self.assertRaisesRegex(report.Refused, "nobody asks for a password"):

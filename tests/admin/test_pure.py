@@ -12,11 +12,11 @@ import unittest
 import unittest.mock
 
 from rooms_admin.host import safe
-from rooms_admin.room import names, settings
+from rooms_admin.room import backups, dump, names, published, settings, waits
 from rooms_admin.host.changes import Changes
-from rooms_admin.site import legacy, template
+from rooms_admin.site import template, values
 from rooms_admin.verbs import add
-from rooms_admin.cli import manual, words
+from rooms_admin.cli import manual, report, table, words
 from rooms_admin.cli.report import Refused
 from rooms_admin.room.size import Used
 
@@ -53,6 +53,18 @@ class Names(unittest.TestCase):
         for one in some:
             self.assertNotRegex(names.shown(one), r"[\x00-\x1f\x7f]")
 
+    def test_what_is_not_seen(self) -> None:
+        """Each verb writes it in another way: in a path as bash reads it, and elsewhere by its
+        number."""
+        for sign in "\u3164\u2800\u034f\u202e\u200b\u061c\u00a0\uffa0\x9b\x7f":
+            self.assertEqual(report.plain(f"a{sign}b"), f"a{ascii(sign)[1:-1]}b")
+            octal = "".join(f"\\{byte:03o}" for byte in sign.encode())
+            self.assertEqual(names.shown(f"/a{sign}b".encode()), f"$'/a{octal}b'")
+            one = dump.Object("folder", "alice", "staff", f"/a b{sign}".encode())
+            self.assertEqual(one.line(), f"folder alice staff $'/a b{octal}'")
+        self.assertEqual(dump.Object("folder", "alice", "staff", b"/a b").line(),
+                         "folder alice staff /a b")
+
     def test_encoded(self) -> None:
         self.assertEqual(names.encoded(b"/a b/%?#\xff~"), "/a%20b/%25%3F%23%FF~")
 
@@ -76,6 +88,49 @@ class Settings(unittest.TestCase):
             with open(place, "w", encoding="utf-8") as out:
                 out.write("# c\nFILE=a\n\nFILE=b=c")
             self.assertEqual(settings.values(place, {"FILE": ""}), {"FILE": "b=c"})
+
+    def test_a_units_reading_is_the_same(self) -> None:
+        """systemd reads the same file, by rules of its own for quotes, backslashes and blanks."""
+        with tempfile.TemporaryDirectory() as at:
+            place = os.path.join(at, "room.conf")
+
+            def read(*rows: str) -> settings.Room:
+                with open(place, "w", encoding="utf-8") as out:
+                    out.write("".join(row + "\n" for row in (f"FILE={at}/F", f"BACKUPS={at}",
+                                                             "PROGRAM=/bin/true", *rows)))
+                return settings.room(place)
+            for good in ('TITLE="All of them"', "TITLE=Bob's", "TITLE=a\\b", f"FILE={at}/a b",
+                         "PORT=65535"):
+                self.assertTrue(read(good), good)
+            for bad in ('TITLE="All of them', "TITLE='", "TITLE=x\\", "KEEP=9\\"):
+                with self.assertRaisesRegex(Refused, "line 4 goes on in the next one", msg=bad):
+                    read(bad)
+            for bad in (f"FILE={at}/F ", f"FILE={at}/F\t", f"FILE={at}/a\\b", f'FILE="{at}/F"',
+                        "PORT=65536", "PORT=70000"):
+                with self.assertRaisesRegex(Refused, "^bad settings: (FILE|PORT) in ", msg=bad):
+                    read(bad)
+
+    def test_a_rooms_name_is_that_of_its_settings(self) -> None:
+        """Whatever its unit is called: where its server listens goes by that alone."""
+        with tempfile.TemporaryDirectory() as at:
+            place = os.path.join(at, "law.conf")
+            for unit in ("", "documents", "rooms@law", "documents@x"):
+                with open(place, "w", encoding="utf-8") as out:
+                    out.write(f"FILE={at}/F\nBACKUPS={at}\nPROGRAM=/bin/true\nSOCKET=yes\n"
+                              f"UNIT={unit}\n")
+                room = settings.room(place)
+                with self.subTest(unit):
+                    self.assertEqual(
+                        (room.name, room.nightly, room.flag, settings.place(place).flag,
+                         backups.folder(room), published.name_of(room), room.beside(".names")),
+                        ("law", "rooms-nightly@law", "law.full", "law.full", f"{at}/law", "law",
+                         f"{at}/law.names"))
+                    self.assertEqual(os.path.basename(os.path.dirname(room.listens)),
+                                     {"": "law", "rooms@law": "law", "documents@x": "x"}.get(
+                                         unit, unit))
+            for path, name in (("/e/law.on", "law"), ("law", "law"), ("/e/...conf", "room"),
+                               ("./a.b.conf", "a.b")):
+                self.assertEqual(settings.name_of(path), name)
 
     def test_whose_they_are(self) -> None:
         """What settings name is run, as root too: so nobody else may have written them."""
@@ -142,7 +197,7 @@ class Lists(unittest.TestCase):
 
     def test_of_the_site(self) -> None:
         with tempfile.TemporaryDirectory() as root, contextlib.redirect_stdout(io.StringIO()):
-            legacy.put_site(Changes(root, False), "rooms.example", "", "")
+            values.put_site(Changes(root, False))
             with open(root + template.SETTINGS, encoding="utf-8") as source:
                 self.assertEqual(self.lines(source.read()), settings.known(settings.Front))
 
@@ -159,7 +214,7 @@ class Lists(unittest.TestCase):
         bad = {"FILE": "x", "PORT": "0", "BACKUPS": "x", "KEEP": "-1", "MEMORY": "99",
                "LIMIT": "0", "STANDBY": "x", "MAIL": "-x", "REVIEW": "/x/", "REVIEWER": "a b",
                "UNIT": "-x", "PROGRAM": "x", "PASSWORDS": "none", "HOST": "a b", "BEHIND": "no",
-               "SOCKET": "no", "DOOR": "no", "DRIVE": "no", "PEOPLE": "all", "OWN_PASSWORDS": "",
+               "DRIVE": "no", "PEOPLE": "all", "OWN_PASSWORDS": "",
                "EARLIER": "yes", "EARLIER_FROM": "2026-11", "HOURS": "1000"}
         self.assertEqual({*bad, "TITLE"}, set(settings.known(settings.Room)))
         with tempfile.TemporaryDirectory() as at:
@@ -169,6 +224,26 @@ class Lists(unittest.TestCase):
                     out.write(f"FILE={at}/F\nBACKUPS={at}\nPROGRAM=/bin/true\n{name}={value}\n")
                 with self.assertRaisesRegex(Refused, f"^bad settings: {name} in .* isn't .*: '"):
                     settings.room(place)
+
+    def test_lines_of_before_say_nothing(self) -> None:
+        """Whatever they said; a port beside SOCKET=yes was in reserve."""
+        with tempfile.TemporaryDirectory() as at:
+            place = os.path.join(at, "room.conf")
+            for door, socket, port in (("", "", "8780"), ("no", "yes", ""), ("yes", "1 2", "8780")):
+                text = (f"FILE={at}/F\nBACKUPS={at}\nPROGRAM=/bin/true\n"
+                        f"DOOR={door}\n# DOOR=\nSOCKET={socket}\nPORT=8780\n")
+                with open(place, "w", encoding="utf-8") as out:
+                    out.write(text)
+                self.assertEqual((settings.room(place).port, settings.place(place).port),
+                                 (port, port))
+                self.assertEqual(settings.gone(text), (text.replace(
+                    f"\nDOOR={door}", f"\n# DOOR={door} says nothing any more: each room has its "
+                    "door.").replace(f"\nSOCKET={socket}", f"\n# SOCKET={socket} says nothing any "
+                                     "more: each room has its socket."), ["DOOR", "SOCKET"]))
+            with open(place, "a", encoding="utf-8") as out:
+                out.write("DOOR\n")
+            with self.assertRaisesRegex(Refused, "^bad settings: .*, line 8 has none of"):
+                settings.room(place)
 
 
 class Safe(unittest.TestCase):
@@ -257,21 +332,24 @@ class UsedBytes(unittest.TestCase):
 
 class Sites(unittest.TestCase):
     def test_a_room_is_where_its_settings_say(self) -> None:
-        rooms = [settings.Place(name="office", port="8780", title="Office", socket=True, door=True),
-                 settings.Place(name="hr", port="8781"),
-                 settings.Place(name="ledger", behind=True, socket=True)]
+        rooms = [settings.Place(name="office", port="8780", title="Office"),
+                 settings.Place(name="hr"), settings.Place(name="ledger", behind=True)]
         text = template.render(template.template("site.conf.in"),
                                template.Site(settings.Front(hosts=["x"]), rooms, "/page"))
         for line in ("upstream room_office { server unix:/run/rooms/office/socket; }",
-                     "upstream room_hr { server 127.0.0.1:8781; }",
+                     "upstream room_hr { server unix:/run/rooms/hr/socket; }",
                      "upstream room_ledger { server unix:/run/rooms/ledger/socket; }",
                      "upstream door_office { server unix:/run/rooms-door/office/socket; }",
-                     "    office door_office;",
-                     "    office office.full;", "    hr 127.0.0.1:8781;",
+                     "upstream door_hr { server unix:/run/rooms-door/hr/socket; }",
+                     "upstream door_ledger { server unix:/run/rooms-door/ledger/socket; }",
+                     "    office office.full;", "    hr hr.full;",
                      "    ledger ledger.full;"):
             self.assertIn(line + "\n", text)
-        self.assertNotIn("door_hr", text)
-        self.assertNotIn("door_ledger", text)
+        # Whoever asks a room waits for its copy. (15: who checks passwords)
+        for name, others in (("read", {15.0}), ("send", set())):
+            waited = {float(one) for one in re.findall(rf" proxy_{name}_timeout (\d+)s;", text)}
+            self.assertEqual(waited - others, {waits.ANSWER})
+        self.assertGreater(waits.ANSWER, waits.LONGEST)
 
     def test_an_edited_file_stays(self) -> None:
         made_of = template.template("site.conf.in")
@@ -300,9 +378,7 @@ class Words(unittest.TestCase):
     """Options stand anywhere, and a room is named by one of them."""
 
     def read(self, verb: str, *typed: str) -> argparse.Namespace:
-        given = words.read(verb, manual.module_of(verb), typed)
-        assert given is not None
-        return given
+        return words.read(verb, manual.module_of(verb), typed)
 
     def told(self, verb: str, *typed: str) -> tuple[argparse.Namespace, str]:
         with contextlib.redirect_stderr(io.StringIO()) as said:
@@ -313,7 +389,7 @@ class Words(unittest.TestCase):
             given = self.read("restore", *typed)
             self.assertEqual((given.backup, given.start), ("latest", True))
         given = self.read("user", "add", "eve", "--groups", "sales,staff")
-        self.assertEqual((given.verb, given.name, given.groups), ("add", "eve", "sales,staff"))
+        self.assertEqual((given.what, given.name, given.groups), ("add", "eve", "sales,staff"))
         given = self.read("setup", "--dry-run", "--tls", "one.pem", "one.key", "--destdir", "/x")
         self.assertEqual((given.tls, given.destdir), (["one.pem", "one.key"], "/x"))
         given = self.read("export", "/letters", "--backup", "latest", "out", "-r", "hr")
@@ -332,32 +408,25 @@ class Words(unittest.TestCase):
         self.assertEqual(got.rooms, ["hr", "office"])
         self.assertEqual(self.read("check").rooms, [])
 
-    def test_as_before(self) -> None:
-        """For this version, with a word."""
-        for verb, *typed in (("backup", "hr"), ("backup", "--after", "hr"), ("groups", "hr"),
-                             ("get", "--conf", "hr", "latest", "/f"), ("latest", "--conf", "hr"),
-                             ("user", "remove", "eve", "hr"), ("await", "hr"), ("people", "hr"),
-                             ("import", "hr", "share", "/"), ("export", "hr", "/", "out"),
-                             ("handover", "hr", "lists.txt", "eve", "bob"), ("check", "hr"),
-                             ("full", "hr")):
-            got, said = self.told(verb, *typed)
-            self.assertEqual((got.room, said), ("hr", "type --room hr: this is the last version "
-                                                "that understands what you typed\n"),
-                             (verb, typed))
-        got, said = self.told("check", "hr", "office")
-        self.assertEqual(got.rooms, ["hr", "office"])
-        self.assertTrue(said.startswith("type --room hr --room office: "))
-        for typed, room in ((["--backup", "latest", "/", "out"], ""),
-                            (["--backup", "--conf", "hr", "latest", "/", "out"], "hr"),
-                            (["--conf", "hr", "latest", "/", "out", "--backup"], "hr")):
-            got, said = self.told("export", *typed)
-            self.assertEqual((got.backup, got.path, got.into, got.room),
-                             ("latest", "/", "out", room), typed)
-        self.assertTrue(said.startswith("type --backup latest --room hr: "))
+    def test_settings_are_named_from_here(self) -> None:
+        """By each verb that has a room, since many go elsewhere before they read them."""
+        here = os.getcwd()
+        takes = [one for verb in table.VERBS for parser in [words.of(verb, manual.module_of(verb))]
+                 for one in [parser, *parser.parts.values()]
+                 if "--room" in one._option_string_actions]
+        self.assertGreater(len(takes), 20)
+        for one in takes:
+            for word, path in (("hr", "hr"), ("./hr.conf", f"{here}/hr.conf"),
+                               ("in/hr.conf", f"{here}/in/hr.conf"), ("/x/hr.conf", "/x/hr.conf"),
+                               ("https://rooms.example/hr", "https://rooms.example/hr")):
+                read = one._option_string_actions["--room"].type
+                assert callable(read)
+                self.assertEqual(read(word), path, one.prog)
 
     def test_dashes(self) -> None:
         self.assertEqual(self.read("user", "add", "-odd").name, "-odd")
-        self.assertEqual(self.read("user", "--", "add", "--groups").name, "--groups")
+        self.assertEqual(self.read("user", "add", "--", "--groups").name, "--groups")
+        self.assertEqual(self.read("user", "add", "-odd", "--first", "--groups", "a").groups, "a")
         got = self.read("restore", "--", "--start")
         self.assertEqual((got.backup, got.start), ("--start", False))
 
@@ -367,17 +436,25 @@ class Words(unittest.TestCase):
                 (["get", "latest"], "the following arguments are required: PATH"),
                 (["get", "-x", "latest"], "no such option: -x"),
                 (["get", "latest", "/f", "g"], "a word too many: 'g'"),
-                (["get", "latest", "--conf"], "argument --conf: expected one argument"),
                 (["get", "latest", "/f", "--room"], "argument -r/--room: expected one argument"),
                 (["backup", "--room", "hr", "office"], "a word too many: 'office'"),
-                (["backup", "hr", "office"], "a word too many: 'hr'"),
-                (["export", "--backup", "--room", "hr", "/", "out"],
-                 "argument --backup: expected one argument"),
+                (["backup", "hr"], "a word too many: 'hr'"),
+                (["latest", "--conf", "hr"], "no such option: --conf"),
+                (["check", "hr"], "a word too many: 'hr'"),
+                (["export", "hr", "/", "out"], "a word too many: 'out'"),
+                (["export", "/", "out", "--backup"], "argument --backup: expected one argument"),
                 (["groups", "--names", "--after"],
                  "argument --after: not allowed with argument --names"),
                 (["setup", "--tls", "one.pem"], "argument --tls: expected 2 arguments"),
                 (["rooms", "office"], "a word too many: 'office'"),
                 (["user"], "the following arguments are required: WHAT"),
+                (["user", "remove"], "the following arguments are required: NAME"),
+                (["user", "--to", "add", "x"], "no such option: --to"),
+                (["user", "list", "bob"], "a word too many: 'bob'"),
+                (["user", "list", "--", "bob"], "a word too many: 'bob'"),
+                (["user", "add", "bob", "--json"], "no such option: --json"),
+                (["user", "remove", "a", "--to", "b", "--password"],
+                 "argument --password: not allowed with argument --to"),
                 (["tell", "--", "a", "--", "b"], "'--' stands twice"),
                 (["import", "--room", "", "share", "/"], "a word is empty"),
                 (["restore", ""], "a word is empty"),
@@ -388,6 +465,22 @@ class Words(unittest.TestCase):
                              f"bad arguments: {what}", typed)
         with self.assertRaisesRegex(Refused, r"; rooms-admin get \[--room ROOM\] BACKUP PATH$"):
             self.read("get")
+        with self.assertRaisesRegex(
+                Refused, r"; rooms-admin user remove \[--room ROOM\] \[--to HEIR \| --password\] "
+                "NAME$"):
+            self.read("user", "remove", "--password")
+        with self.assertRaisesRegex(Refused, "'?add'?, '?remove'?, '?list.*; rooms-admin user add"):
+            self.read("user", "rename", "bob")
+
+    def test_what_is_explained(self) -> None:
+        """All of a verb, or of a part of one, wherever that is asked."""
+        for typed, usages in ((["get", "--help"], 1), (["get", "latest", "-h"], 1),
+                              (["user", "-h"], 4), (["user", "add", "eve", "--help"], 2)):
+            with self.assertRaises(words.Asked) as asked:
+                self.read(*typed)
+            text = manual.explain(typed[0], asked.exception.parser)
+            self.assertEqual(text.count("Usage: rooms-admin "), usages, typed)
+            self.assertEqual("--json" in text, usages == 4, typed)
 
 
 if __name__ == "__main__":

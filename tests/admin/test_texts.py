@@ -206,7 +206,7 @@ class Naming(unittest.TestCase):
         text = text.replace("A:fdI:bob:r\nsacl", "A:fdI:bob:r\x1b[2J\nsacl")
         said = "\n".join(named("bob", text))
         self.assertTrue(all(one.isprintable() for one in said.split("\n")), said)
-        self.assertIn("\\x1b]0;bob\\x07\\x9b2K\\u202e\\r", said)
+        self.assertIn(r"$'/projects/\E]0;bob\a\302\2332K\342\200\256\r'", said)
 
 
 class Reasons(unittest.TestCase):

@@ -1,6 +1,7 @@
 """Parts that need no room: what is told and to whom, passwords, and what is left of a verb that is
 killed."""
 import contextlib
+import io
 import os
 import pathlib
 import shutil
@@ -13,10 +14,11 @@ import unittest.mock
 
 from rooms_admin.cli import report, words
 from rooms_admin.cli.report import Refused, Stop
-from rooms_admin.host import at_socket, locks, mail, waiting
-from rooms_admin.room import (http_client, names, passwords, published, server, settings,
-                              size)
-from rooms_admin.verbs import certificate, mail_failure, quota, user
+from rooms_admin.host import at_socket, changes, locks, mail, waiting
+from rooms_admin.room import (dump, http_client, names, password_rules, passwords, published,
+                              server, settings, size)
+from rooms_admin.site import password_files, template
+from rooms_admin.verbs import check, full, rooms, tell, user, watched
 
 
 class Killed(unittest.TestCase):
@@ -25,11 +27,11 @@ class Killed(unittest.TestCase):
         self.addCleanup(held.cleanup)
         self.begun, self.place = pathlib.Path(held.name, "begun"), pathlib.Path(held.name, "done")
 
-    def begin(self, seconds: float | None) -> int:
+    def begin(self) -> int:
         """A process that would be at work for long, and has to do something after it."""
         process = os.fork()
         if process == 0:
-            with server.guarded(self.place.touch, seconds):
+            with server.guarded(self.place.touch):
                 self.begun.touch()
                 time.sleep(60)
             os._exit(0)
@@ -47,22 +49,17 @@ class Killed(unittest.TestCase):
         return place.exists()
 
     def test_a_killed_run_does_what_it_owes(self) -> None:
-        process = self.begin(None)
+        process = self.begin()
         self.assertFalse(self.place.exists())
         os.kill(process, signal.SIGKILL)
         self.assertTrue(self.comes(self.place))
 
     def test_a_key_puts_none_aside(self) -> None:
-        process = self.begin(None)
+        process = self.begin()
         os.kill(process, signal.SIGTSTP)
         time.sleep(0.5)
         state = pathlib.Path(f"/proc/{process}/stat").read_text().rpartition(") ")[2][0]
         self.assertEqual(state, "S")
-
-    def test_one_that_is_stopped_too(self) -> None:
-        """As by a disk that hangs."""
-        os.kill(self.begin(0.5), signal.SIGSTOP)
-        self.assertTrue(self.comes(self.place))
 
     def test_the_end_does_it_once(self) -> None:
         done: list[int] = []
@@ -105,7 +102,7 @@ class Told(unittest.TestCase):
         given = unittest.mock.Mock(unit="rooms-standby@office.service")
         with tempfile.TemporaryDirectory() as run, \
                 unittest.mock.patch.object(locks, "RUN", run), \
-                unittest.mock.patch.object(mail_failure, "journal", return_value=[]), \
+                unittest.mock.patch.object(tell, "journal", return_value=[]), \
                 unittest.mock.patch.object(shutil, "which", return_value="mail"), \
                 unittest.mock.patch.dict(os.environ, MONITOR_SERVICE_RESULT="exit-code"), \
                 unittest.mock.patch.object(mail, "deliver") as deliver:
@@ -116,8 +113,8 @@ class Told(unittest.TestCase):
                 return len(sent) > 1
             deliver.side_effect = send
             with self.assertRaises(Stop):
-                mail_failure.run(given)
-            self.assertEqual([mail_failure.run(given) for _ in range(2)], [0, 0])
+                tell.run(given)
+            self.assertEqual([tell.run(given) for _ in range(2)], [0, 0])
             self.assertEqual(len(sent), 2)
 
     def test_addresses(self) -> None:
@@ -134,22 +131,47 @@ class Told(unittest.TestCase):
         self.assertEqual(names.why_not("ä b".encode()), "")
 
 
+class Printed(unittest.TestCase):
+    def test_one_way_for_what_a_terminal_obeys(self) -> None:
+        """In lists, in what is told, in the line for monitoring and the one that says which rooms
+        there are: never as it is, and never as a sign that says nothing."""
+        bad, wanted = "a\u202eb\x1b]0;c", "a\\u202eb\\x1b]0;c"
+        self.assertEqual(report.line(bad), wanted)
+        self.assertEqual(dump.as_text(bad.encode()), wanted)
+        self.assertEqual(check._line([(watched.OK, bad)]), f"rooms OK - {wanted}")
+        said = io.StringIO()
+        with contextlib.redirect_stderr(said):
+            report.say(bad)
+            with unittest.mock.patch.object(os, "isatty", return_value=True):
+                report.progress(bad)
+                report.end_progress()
+        self.assertEqual(said.getvalue().count(wanted), 2)
+        with (tempfile.TemporaryDirectory() as home,
+              unittest.mock.patch.object(settings, "HOME", home),
+              unittest.mock.patch.object(server, "systemctl", return_value=(0, "active")),
+              contextlib.redirect_stdout(io.StringIO()) as out):
+            pathlib.Path(home, "office.conf").write_text(f"FILE=/x\nTITLE={bad}\n",
+                                                         encoding="utf-8")
+            rooms.run(unittest.mock.Mock(json=False))
+        self.assertIn(f"office  {wanted}  active", out.getvalue())
+
+
 class Flags(unittest.TestCase):
     def test_no_link_is_followed(self) -> None:
         with tempfile.TemporaryDirectory() as at:
             flag, elsewhere = f"{at}/office.full", f"{at}/nologin"
             os.symlink(elsewhere, flag)
-            self.assertTrue(quota._put(flag))
+            self.assertTrue(full._put(flag))
             self.assertFalse(os.path.lexists(elsewhere))
             self.assertFalse(os.path.islink(flag))
-            self.assertFalse(quota._put(flag))
+            self.assertFalse(full._put(flag))
 
     def test_it_is_not_for_terminals(self) -> None:
         with unittest.mock.patch.object(settings, "room"), \
                 unittest.mock.patch.object(sys, "stdout") as shown:
             shown.isatty.return_value = True
             with self.assertRaisesRegex(Refused, "rooms-admin full --look"):
-                quota.run(unittest.mock.Mock(rooms=[], look=False, json=False))
+                full.run(unittest.mock.Mock(rooms=[], look=False, json=False))
 
 
 class Passwords(unittest.TestCase):
@@ -194,21 +216,82 @@ class Passwords(unittest.TestCase):
         self.assertNotEqual(passwords.chosen(), passwords.chosen())
 
 
+class Moved(Passwords):
+    """setup moves a room's file while another administrator changes it."""
+
+    def setUp(self) -> None:
+        super().setUp()
+        self.root = str(self.nginx.parent.parent)
+        self.kept = pathlib.Path(self.root + passwords.KEPT)
+        for folder in (self.kept, self.nginx / "sites-available"):
+            folder.mkdir(parents=True)
+        kept = unittest.mock.patch.object(passwords, "FOLDER", str(self.kept))
+        kept.start()
+        self.addCleanup(kept.stop)
+        self.made = changes.Changes(self.root, False)
+        self.serves("")
+
+    def serves(self, line: str) -> None:
+        (self.nginx / "sites-available/rooms").write_text(line)
+
+    def moves(self, to_keeper: bool) -> list[password_files.Moved]:
+        place = settings.Place(name="office", port="8780", own_passwords=to_keeper)
+        with contextlib.redirect_stdout(io.StringIO()):
+            return password_files.move(self.made, template.Site(settings.Front(), [place], ""))
+
+    def test_who_is_shut_out_stays_so(self) -> None:
+        """Whatever nginx says of its files, and however far the move is."""
+        for line in ("", '    "office /" own;\n'):
+            for is_refused in (False, True):
+                with self.subTest(line, is_refused=is_refused):
+                    old = self.put("rooms.htpasswd", "alice:a", "bob:b")
+                    gone = self.moves(True)
+                    self.serves(line)
+                    self.assertEqual(passwords.change("office", {"bob": None, "eve": b"e"}),
+                                     {"bob"})
+                    if is_refused:
+                        self.made.put_back()
+                        self.serves("")
+                    else:
+                        password_files.finish(self.made, gone)
+                    left = old if is_refused else self.kept / "rooms.htpasswd"
+                    self.assertEqual(left.read_text(), "alice:a\neve:e\n")
+                    self.assertEqual([one.exists() for one in (old, self.kept / old.name)],
+                                     [is_refused, not is_refused])
+                    (self.kept / old.name).unlink(missing_ok=True)
+                    (self.kept / "rooms.first").unlink(missing_ok=True)
+                    self.made.forget()
+                    self.serves("")
+
+    def test_a_users_own_change_counts(self) -> None:
+        kept = self.kept / "rooms.htpasswd"
+        kept.write_text("alice:a\nbob:b\n")
+        gone = self.moves(False)
+        passwords.put_lines(str(kept), {"alice": b"own"})
+        password_files.finish(self.made, gone)
+        self.assertEqual((self.nginx / "rooms.htpasswd").read_text(), "alice:own\nbob:b\n")
+        self.assertFalse(kept.exists())
+
+    def test_which_room_has_a_file(self) -> None:
+        for name in ("office", "invoices", "a-b"):
+            for file in (passwords.kept_of(name), passwords.old_of(name)):
+                self.assertEqual(passwords.room_of(file), name)
+
+
 class Words(unittest.TestCase):
     def typed(self, text: str) -> user.Words:
         """As they are typed."""
-        given = words.read("user", user, text.split())
-        assert given is not None
-        return user.read_words(given)
+        return user.read_words(words.read("user", user, text.split()))
 
     def test_options_stand_anywhere(self) -> None:
         for given in ("add newbie --groups sales", "add --groups sales newbie",
-                      "--groups sales add newbie", "add newbie --groups sales office",
-                      "add newbie office --groups sales"):
+                      "-r office add --groups sales newbie",
+                      "add newbie --groups sales --room office",
+                      "--room hr add newbie -r office --groups sales"):
             self.assertEqual(self.typed(given),
                              user.Words("add", "newbie", "office", ["sales"], "", ""), given)
         self.assertEqual(self.typed("add x --groups a,b").groups, ["a", "b"])
-        self.assertEqual(self.typed("remove -x --to alice hr"),
+        self.assertEqual(self.typed("remove -x --to alice --room hr"),
                          user.Words("remove", "-x", "hr", [], "", "alice"))
         self.assertEqual(self.typed("add x --random --first --groups a"), user.Words(
             "add", "x", "office", ["a"], "", "", is_first=True, is_random=True))
@@ -216,10 +299,10 @@ class Words(unittest.TestCase):
                          user.Words("add", "", "hr", [], "f", ""))
 
     def test_what_is_refused(self) -> None:
-        for bad in ("", "add", "remove", "add a b c", "add --groups", "add a --groups", "list a",
+        for bad in ("", "add", "remove", "add a b", "add --groups", "add a --groups", "list a",
                     "add a --to b", "remove a --groups b", "add a --groups b --file f",
                     "remove --file f", "add a --groups x,", "add jürgen", "add a -x",
-                    "add --file f a b", "add --file f --random", "remove a --random"):
+                    "add --file f a", "add --file f --random", "remove a --random"):
             with self.assertRaises(Refused, msg=bad):
                 self.typed(bad)
 
@@ -241,13 +324,24 @@ class Words(unittest.TestCase):
                 self.rows(bad)
 
 
-class Authorities(unittest.TestCase):
-    def test_nobody_certifies_a_whole_country(self) -> None:
-        for hosts, domain in ((["rooms.office.example"], "office.example"),
-                              (["acme.de"], "acme.de"), (["rooms"], "rooms"),
-                              (["acme.co.uk"], "acme.co.uk"), (["rooms.acme.co.uk"], "acme.co.uk"),
-                              (["a.b.c.example", "x.example"], "b.c.example")):
-            self.assertEqual(certificate.domain_of(hosts), domain)
+class GivenPasswords(unittest.TestCase):
+    def test_what_root_may_give(self) -> None:
+        """What a user may not choose, but nothing that can't be typed on another machine."""
+        def given(text: str) -> str:
+            with unittest.mock.patch("sys.stdin", io.StringIO(text)):
+                return passwords.ask("eve")
+        for good in ("a", "eve", "x" * 72, "Gr\u00f6\u00dfe 1", "12345"):
+            self.assertEqual(given(good + "\n"), good)
+            self.assertTrue(password_rules.can_be(good))
+        for bad in ("", "x" * 73, "\u00e4" * 37, "a\tb", "Gro\u0308\u00dfe", "\udc80"):
+            with self.assertRaisesRegex(Refused, "^bad password: ", msg=ascii(bad)):
+                given(bad)
+            self.assertEqual(password_rules.fault_of("bob", "old", bad), "form", ascii(bad))
+        # One that was given before can be typed as the present one.
+        self.assertTrue(password_rules.can_be("Gro\u0308\u00dfe"))
+        for why, own in (("short", "9 letters"), ("weak", "password2026"), ("weak", "a bob's own"),
+                         ("", "gravel under bridges")):
+            self.assertEqual(password_rules.fault_of("bob", "old", own), why, own)
 
 
 class Sockets(unittest.TestCase):

@@ -12,7 +12,7 @@ sys.path.insert(0, os.path.join(os.path.dirname(__file__), "..", "..", "admin"))
 
 from rooms_admin.host import locks, mail  # noqa: E402
 from rooms_admin.room import health, server, settings  # noqa: E402
-from rooms_admin.verbs import mail_failure, watched  # noqa: E402
+from rooms_admin.verbs import tell, watched  # noqa: E402
 
 
 class Answers(socketserver.StreamRequestHandler):
@@ -46,8 +46,8 @@ class Watched(unittest.TestCase):
         self.assertEqual(watched.within(60, fails, "/mnt"), [(2, "/mnt can't be looked at")])
 
     def test_a_room_is_asked_where_it_listens(self) -> None:
-        """At its socket, if it has one, whether SOCKET says so or its unit does; never
-        elsewhere."""
+        """At its socket. The server of a unit of somebody's own may have a port in its place; one
+        beside SOCKET=yes, of a version before, is only in reserve."""
         with tempfile.TemporaryDirectory() as home, \
                 unittest.mock.patch.object(server, "state", return_value="active"), \
                 unittest.mock.patch.object(locks, "RUN", home), \
@@ -70,7 +70,7 @@ class Watched(unittest.TestCase):
                 return f"{room.unit} doesn't answer (active): systemctl status {room.unit}"
 
             self.assertEqual(told("", port), "")
-            self.assertEqual(told("", ""), "")
+            self.assertIn(f"doesn't answer at {place} ", told("", ""))
             self.assertIn(f"doesn't answer at {place} ", told("yes", port))
             self.assertIn(f"doesn't answer at {place} ", told("yes", ""))
             with socketserver.ThreadingUnixStreamServer(place, Answers) as at_socket:
@@ -83,33 +83,9 @@ class Watched(unittest.TestCase):
             self.assertIn(f"doesn't answer at {place} ", told("", port))
             there.shutdown()
 
-    @unittest.skipUnless(os.geteuid() == 0, "only root can try it as somebody else")
-    def test_a_port_that_others_reach(self) -> None:
-        """Nothing closes this one, as after rules that somebody loaded by hand."""
-        with tempfile.TemporaryDirectory() as home, \
-                unittest.mock.patch.object(locks, "RUN", home), \
-                socketserver.ThreadingTCPServer(("127.0.0.1", 0), Answers) as there:
-            port = str(there.server_address[1])
-
-            def told(line: str) -> str:
-                with open(f"{home}/office.conf", "w", encoding="ascii") as file:
-                    file.write(f"FILE={home}/F\nBACKUPS={home}\nPROGRAM=/bin/true\n"
-                               f"PORT={port}\n{line}\n")
-                return health.port(settings.room(f"{home}/office.conf"))
-
-            text = told("SOCKET=")
-            self.assertTrue(text.startswith(f"every account of this machine reaches port {port}, "),
-                            text)
-            # A room with a socket has a port in reserve, and no server there.
-            self.assertEqual(told("SOCKET=yes"), "")
-            there.server_close()
-            self.assertEqual(told("SOCKET="), "")
-
     def test_why_there_are_no_earlier_nights(self) -> None:
         room = settings.Room(conf="/etc/rooms/office.conf", file="/f/F", port="8780", owner=0,
                              group=0, backups="/b", unit="rooms@office", program="/bin/true")
-        self.assertEqual(watched.see_nights(room), [(0, "no earlier nights, since it has a port")])
-        room.socket = True
         for place, told in (("/var/backups/rooms", ""), ("/", ""), ("/homes", ""), ("/b", ""),
                             ("/home", "/home"), ("/var/lib/x", "/var/lib"),
                             ("/var/backups/../../root", "/root"), ("/var/tmp", "/var/tmp")):
@@ -125,23 +101,23 @@ class Watched(unittest.TestCase):
                              group=0, backups="/b", unit="rooms@office", program="/bin/true")
         with tempfile.TemporaryDirectory() as run, \
                 unittest.mock.patch.object(locks, "RUN", run), \
-                unittest.mock.patch.object(watched.await_server, "is_well", return_value=False), \
+                unittest.mock.patch.object(watched.await_, "is_well", return_value=False), \
                 unittest.mock.patch.object(server, "state", return_value="inactive"):
             self.assertIn("systemctl status", watched.see_answer(room)[0][1])
             open(server.left_at_rest(room), "w").close()
             self.assertEqual(watched.see_answer(room), [
-                (2, "rooms@office was stopped while groups were changed, and that was cut off: "
-                 "rooms-admin groups --after --room office")])
+                (2, "rooms@office was stopped while groups were changed or it was copied, and that "
+                 "was cut off: rooms-admin groups --after --room office")])
 
     def test_who_is_mailed(self) -> None:
         with tempfile.TemporaryDirectory() as home:
             settings.HOME = home
-            self.assertEqual(mail_failure.mail_of("office"), "root")
+            self.assertEqual(tell.mail_of("office"), "root")
             for text, wanted in (("MAIL=root\nMAIL=alice\n", "alice"), ("MAIL=\n", ""),
                                  ("MAIL=-x\n", ""), ("LIMIT=much\n", "root")):
                 with open(f"{home}/office.conf", "w", encoding="ascii") as file:
                     file.write(text)
-                self.assertEqual(mail_failure.mail_of("other"), wanted)
+                self.assertEqual(tell.mail_of("other"), wanted)
 
     def test_a_name_stands_for_its_settings(self) -> None:
         settings.HOME = "/etc/rooms"

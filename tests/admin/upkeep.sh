@@ -17,6 +17,8 @@ answers 'a document before the night' /doc/f made PUT hello
 night
 cp "$stand/steps" steps
 holds 'a good night, without a message' [ "$status" = 0 -a ! -s "$stand/messages" ]
+says 'which says before how long others wait' 0 \
+  'requests wait while 0 MB are copied, for 30 s at most'
 unit_runs 'the server runs after it'
 answers 'and has the document' /doc/f "reply '200 OK' application/octet-stream hello"
 good=$(backups)
@@ -32,7 +34,7 @@ printf '%s\n' path,kind,user,rights,remove "/,folder,root,$ALL,no" '/,folder,*,,
 same 'the review is there' "backups/conf/$good/review.csv" wanted
 holds 'nobody else may read it' [ -z "$(find backups/conf/* -perm /077)" ]
 holds 'the room is still its users' [ -z "$(find office -not -user "$STAND_USER")" ]
-holds 'nothing is owed' [ -z "$(ls run)" ]
+owes_nothing 'a good night'
 holds 'nothing else is left' \
   [ "$(cd "backups/conf/$good" && echo *)" = "F F-wal lists.txt ${tar}records.csv review.csv run" ]
 if [ -n "$tar" ]; then
@@ -40,29 +42,23 @@ if [ -n "$tar" ]; then
   same 'what the machine has beside its rooms is there' got root/etc/rooms/office.conf
 fi
 
-# The server is held for the copy alone, and the program works on the copy, never on the room.
+# Requests wait for the copy alone, and the program works on the copy, never on the room.
 did() { sed -n 's/^[0-9]* \(systemctl\|rooms\) \([a-z-]*\).*/\2/p' steps | tr '\n' ' '; }
 same_words() { if [ "$2" = "$3" ]; then pass; else fail "$1" "'$2' instead of '$3'"; fi; }
 same_words 'the server goes on before the copy is read' "$(did)" \
-  "is-active is-active show verify audit dump review ${tar:+--version }show "
+  "is-active is-active verify audit dump review ${tar:+--version }is-active show "
 holds 'the room itself is not opened' [ "$(grep -c ' rooms .*office/F' steps)" = 0 ]
 
 # Where the settings say so, the review is put into the room once the server is back.
-at_port() { # where the server listens
-  read -r port <"$stand/port"
-  setting PORT "$port"
-}
 reviewing() { # FOLDER USER
-  at_port
   setting REVIEW "$1"
   setting REVIEWER "$2"
 }
 put_there() { # NAME
   local last
   last=$(backups | tail -n 1)
-  read -r port <"$stand/port"
-  curl -s -m "$patience" \
-    -H 'Room-User: root' "http://127.0.0.1:$port/doc/for%20auditors/${last%.*}-review.csv" >got
+  curl -s -m "$patience" --unix-socket "$sock" \
+    -H 'Room-User: root' "http://localhost/doc/for%20auditors/${last%.*}-review.csv" >got
   same "$1" got "backups/conf/$last/review.csv"
 }
 printf '%s\n' PORT= REVIEW= REVIEWER= MEMORY= >>conf
@@ -86,26 +82,24 @@ if has curl; then
   says 'who may not add there' 1 "-review.csv isn't put into the room: {\"at\":\"/for auditors\""
   unit_runs 'who may not add there: the server runs'
   holds 'the backup is there' [ -s "backups/conf/$(backups | tail -n 1)/review.csv" ]
-  # The same where the server has a socket and no port.
-  unit stop
-  sock=$PWD/run/rooms/rooms/socket
-  mkdir -p "${sock%/*}"
-  chown "$STAND_USER" "${sock%/*}"
-  echo "$sock" >"$stand/socket"
-  unit start
-  reviewing '/for auditors' carl
-  sed 's/^PORT=.*/SOCKET=yes/' conf >kept.conf
-  mv kept.conf conf
-  night
-  holds "a night with a socket: $(head -c 300 "$work/err")" \
-    [ "$status" = 0 -a ! -s "$stand/messages" ]
-  curl -s -m "$patience" --unix-socket "$sock" \
-    -H 'Room-User: root' "http://localhost/doc/for%20auditors/$(date +%F)-review.csv" >got
-  same 'its review is in the room' got "backups/conf/$(backups | tail -n 1)/review.csv"
+  # The same of a unit of somebody's own, whose server has a port and no socket.
   unit stop
   rm -r "$stand/socket" run/rooms
-  sed 's/^SOCKET=.*/PORT=/' conf >kept.conf
-  mv kept.conf conf
+  unit start
+  setting PORT "$(<"$stand/port")"
+  night
+  says 'a night with a port' 1 "isn't put into the room"
+  reviewing '/for auditors' carl
+  rm -rf backups/conf/*
+  night
+  holds "a night with a port: $(head -c 300 "$work/err")" \
+    [ "$status" = 0 -a ! -s "$stand/messages" ]
+  curl -s -m "$patience" -H 'Room-User: root' \
+    "http://127.0.0.1:$(<"$stand/port")/doc/for%20auditors/$(date +%F)-review.csv" >got
+  same 'its review is in the room' got "backups/conf/$(backups | tail -n 1)/review.csv"
+  unit stop
+  setting PORT ''
+  listens_at_socket
   unit start
   reviewing /nowhere root
   night
@@ -121,31 +115,25 @@ else
 fi
 
 # A server that runs and doesn't answer, as one that is killed before it has read its file, and
-# starts again: the copy is sound, and the run fails all the same. Where the settings have no port,
-# nobody can ask.
-if has curl; then
-  at_port
-  : >"$stand/no-answer"
-  unit stop
-  unit start
-  night
-  says 'a server that does not answer' 1 "doesn't answer at port $port within 30 s"
-  holds 'a server that does not answer: mail' grep -qF "doesn't answer at port" "$stand/messages"
-  gives 'a server that does not answer: the copy is sound' 0 'sound\n' '' verify \
-    "backups/conf/$(backups | tail -n 1)/F"
-  rm "$stand/no-answer"
-  unit stop
-  night
-  says 'a server that somebody stopped is not asked' 0 "isn't running, and is not started"
-  unit start
-  at_port
-  night
-  holds 'a server that answers' [ "$status" = 0 -a ! -s "$stand/messages" ]
-  setting PORT ''
-  rm -rf backups/conf/*
-else
-  skip 'a server that does not answer' 'no curl'
-fi
+# starts again: the copy is sound, and the run fails all the same.
+: >"$stand/no-answer"
+unit stop
+unit start
+night
+says 'a server that does not answer' 1 "doesn't answer at $sock within 30 s"
+holds 'a server that does not answer: mail' \
+  grep -qF "rooms doesn't answer: [Errno 111] Connection refused: rooms is stopped for the copy" \
+  "$stand/messages"
+gives 'a server that does not answer: the copy is sound' 0 'sound\n' '' verify \
+  "backups/conf/$(backups | tail -n 1)/F"
+rm "$stand/no-answer"
+unit stop
+night
+says 'a server that somebody stopped is not asked' 0 "isn't running, and is not started"
+unit start
+night
+holds 'a server that answers' [ "$status" = 0 -a ! -s "$stand/messages" ]
+rm -rf backups/conf/*
 
 # A room that is nearly full.
 if has perl; then
@@ -180,6 +168,7 @@ if [ -n "$tar" ] && has openssl; then
   untold() { holds "$1" [ "$status" = 0 -a ! -s "$stand/messages" ]; }
   certified 29 /etc/ssl/rooms.pem
   untold 'a certificate is told of by the run of office'
+  ln -s rooms run/rooms/office
   setting UNIT rooms@office
   certified 31 /etc/ssl/rooms.pem
   untold 'a certificate that ends in 31 days'
@@ -217,6 +206,7 @@ if [ -n "$tar" ] && has openssl; then
   says 'and tells it too' 1 "the certificate /etc/ssl/rooms.pem can't be used"
   setting PROGRAM "$stand/bin/rooms"
   setting UNIT rooms
+  rm run/rooms/office
   rm -rf backups/conf/* root/etc/{rooms/site,ssl,letsencrypt}
 else
   skip 'a certificate that ends' 'no root, or no openssl'
@@ -333,7 +323,7 @@ fi
 # what is there below 15 folders more: no path that is sent is longer than 4,096 bytes, and those
 # that the lists print get far longer.
 deepest() { # LEVELS
-  local url=http://127.0.0.1:$(<"$stand/port") name level=0 path turn
+  local url=http://localhost name level=0 path turn
   name=$(printf 'n%.0s' {1..255})
   echo "url = $url/folder/deep" >calls
   call() { printf 'next\nurl = "%s"\n' "$url$1"; }
@@ -349,6 +339,7 @@ deepest() { # LEVELS
     echo 'data = "{\"to\":\"/deep\"}"'
     level=$((level + 15))
   done >>calls
+  sed -i "/^url/a unix-socket = \"$sock\"" calls
   sed -i '/^url/a request = POST\nheader = "Room-User: root"\noutput = /dev/null\nwrite-out = "%{http_code}\\n"' calls
   curl -q -s -m "$patience" -K calls
 }

@@ -15,11 +15,11 @@ same 'web/acl asks nothing and draws nothing' found /dev/null
 same 'web/net and web/text draw nothing' found /dev/null
 
 # What only one module knows or does: no line of another one looks like it. Whoever needs it calls
-# that one. (legacy.py has the text of nginx's files of before.)
+# that one.
 only() { # WHAT PATTERN MODULE, of admin/rooms_admin
   (cd "$repo" && grep -nE "$2" admin/rooms_admin/{,*/}*.py deploy/install \
     services/rooms_services/{,*/,*/*/}*.py |
-    grep -vE "^admin/rooms_admin/($3|site/legacy)[.]py:") >found
+    grep -v "^admin/rooms_admin/$3[.]py:") >found
   same "$1 by $3 alone" found /dev/null
   (cd "$repo" && grep -qE "$2" "admin/rooms_admin/$3.py")
   status=$?
@@ -32,11 +32,40 @@ only 'a lock is taken' '\bflock\(' host/locks
 only 'HTTP goes to a socket in the file system' '\(http[.]client[.]HTTPConnection\):' host/at_socket
 only 'the number of a run is read' '"number \(|DATED = ' room/backups
 only 'a file of passwords is named' '[.]htpasswd' room/passwords
+only 'what can be a password is said' 'normalize\("NFC", password|LONGEST = 72' room/password_rules
 only "members' rows are written and read" 'group,user' room/members
+only 'the members of a room are replaced' '\bmembers[.]write\(' room/known
+only 'what was known of them is kept' 'members[.]csv' room/known
 only 'a server is stopped' 'systemctl\("stop"' room/server
 only 'a server is started' 'systemctl\("start", [a-z.]*unit' room/server
+only 'it is said how long a room may take' '\bANSWER(_SECONDS)? = |_timeout [0-9]+s' room/waits
 only 'a setting has its form' 'setting\("[A-Z_]+",|yes\("[A-Z_]+"\)' room/settings
+only 'what a terminal would obey is written in another way' \
+  'isprintable\(\) (else|or|and)|ascii\(one\)\[' cli/report
+only "a backup's name is read as a moment" '\bmktime\(|%Y-%m-%d[.]%H%M%S"' room/backups
+only "a room's name is that of its settings" 'removesuffix\("[.]conf"\)' room/settings
+only 'the unit of a nightly run is named' '"rooms-nightly(@\{|" *\+|"$)' room/settings
 only 'a line of settings is read' 'startswith\(f?"[A-Z_{}a-z]+=' room/settings
+# The same of folders of Python and of JavaScript: PLACE is the one file that may have it.
+alone() { # WHAT PATTERN PLACE FILE ..
+  (cd "$repo" && grep -nE "$2" "${@:4}" | grep -v "^$3:") >found
+  same "$1 in $3 alone" found /dev/null
+  (cd "$repo" && grep -qE "$2" "$3")
+  status=$?
+  holds "$1 in $3" [ "$status" = 0 ]
+}
+mapfile -t of_admin < <(cd "$repo" && printf '%s\n' admin/rooms_admin/{,*/}*.py)
+alone 'what a level is' '"rwaxDtc"' web/tables/level_forms.js "${of_admin[@]}" \
+  web/{acl,tables}/level*.js
+mapfile -t of_door < <(cd "$repo" && printf '%s\n' services/rooms_services/door/{,*/}*.py)
+alone 'a list is read at the door' '[.]split\(b?":"|removeprefix\(b?"list:' \
+  services/rooms_services/door/ask/lists.py "${of_door[@]}"
+alone 'which day it is' 'toISOString\(\)[.]slice\(0, 10\)|getDate\(\)|T23:59' web/net/clock.js \
+  web/{acl,net,share,ui}/*.js
+alone 'which signs are invisible' 'u3164|u2800' web/tables/invisible_signs.js web/{,*/}*.js \
+  "${of_admin[@]}"
+alone "an entry's text is read" '\[ADUL\]|[.]split\(b?":"' admin/rooms_admin/room/entries.py \
+  "${of_admin[@]}"
 echo 'import subprocess' >two.py
 grep -cE '\bsubprocess\b' two.py >found
 echo 1 >wanted
@@ -66,6 +95,7 @@ house/tools/modules --check >found
 holds 'other tables' grep -q 'docs/architecture.md has other tables' found
 
 # Each file has parts that try it, and each part is one that some file has.
+. "$here/lib/parts.sh"
 (cd "$repo" &&
   find web admin deploy services tools docs -type f ! -name '*.pyc' ! -name '*.png') | sort |
   while IFS= read -r file; do
@@ -73,8 +103,7 @@ holds 'other tables' grep -q 'docs/architecture.md has other tables' found
   done >found
 same 'each file has its parts' found /dev/null
 sed -n '/^[^#]/s/^[^:]*: //p' "$here/parts.txt" | tr ' ' '\n' | sort -u >named
-(cd "$here" && ls {docs,program,http,admin,install,services,web}/*.sh) |
-  sed 's/[.]sh$//' | sort >there
+all_parts | sort >there
 same 'each part is named, and is there' named there
 parts_for "$repo/web/acl/entries.js" >got
 echo ' web/levels web/style web/page web/sharing docs/modules docs/scripts' >wanted

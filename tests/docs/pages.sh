@@ -109,6 +109,18 @@ if has python3; then
   none 'the tables of crates' found
   "$top/tools/count-definitions" --check >found
   none 'the files of definitions that statement.md counts, and the contracts that it names' found
+  # With a list that names machinery, and another that leaves out what a contract names.
+  mkdir lists
+  cp -R "$top/tools" "$top/docs" lists
+  ln -s "$top/crates" lists/crates
+  sed -i 's|^- `room_rows/specs/Pass`|- `room_rows/specs/Laws`, `Pass`|' lists/docs/statement.md
+  lists/tools/count-definitions --check >found
+  holds 'machinery in a list of what is to be read' \
+    grep -q 'no contract that is named reaches room_rows/Laws' found
+  cp "$top/docs/statement.md" lists/docs
+  sed -i '/^- `room_rows\/specs\/Walk`/s|Walk|Content|' lists/docs/statement.md
+  lists/tools/count-definitions --check >found
+  holds 'a list without what is to be read' grep -q "a list isn't what contracts reach" found
   "$top/tools/count-definitions" --print >found
   holds 'the contracts that statement.md names are printed' grep -q '^pub fn host<' found
   "$top/tools/speed" check >found

@@ -199,10 +199,11 @@ chmod 666 "$machine/srv/typed"
 # The case itself finds what is lost: apt-get takes the lines behind it, unless it is kept from the
 # terminal.
 printf '%s\n' 'apt-get update' 'apt-get install -y lost' 'echo one' 'echo two' >blocks/docs/lost.1
-before=$failed
-types 'lost lines' docs/lost two >/dev/null
-if [ "$failed" = "$before" ]; then fail 'lost lines' 'are not noticed'; else pass; fi
-failed=$before
+if tried types 'lost lines' docs/lost two >/dev/null; then
+  fail 'lost lines' 'are not noticed'
+else
+  pass 'lost lines are noticed'
+fi
 rm blocks/docs/lost.1 typed
 
 # The first hour.
@@ -232,12 +233,12 @@ types 'somebody is told' docs/operating 'install -y bsd-mailx' \
 holds 'by a mail' grep -qx 'Can you read this?' "$machine/srv/mails"
 shows 'and all is looked at' 'office: '
 rm "$machine/usr/local/bin/mail" "$machine/etc/aliases" "$machine/srv/mails"
-types 'a port' docs/operating 'echo SOCKET= '
+types 'a port' docs/operating 'echo PORT=8780'
 does 'the room is there' \
   'curl -sf "http://127.0.0.1:8780/can/?" && curl -sf -u alice:typed http://127.0.0.1/me >/dev/null'
 does 'the rule is there' 'nft -f /usr/share/rooms/rooms.nft'
 types 'the ports' docs/operating 'nft list table'
-types 'a socket' docs/operating 'echo SOCKET=yes'
+types 'a socket' docs/operating 'echo PORT= '
 does 'it is there' 'curl -sf --unix-socket /run/rooms/office/socket "http://localhost/can/?" &&
   curl -sf -u alice:typed http://127.0.0.1/me >/dev/null'
 
@@ -279,6 +280,8 @@ does 'an input' "sed -n '/^caller: alice/,/^\`\`\`/p' /usr/share/doc/rooms/docs/
 types 'a list that is judged' docs/program input.txt
 shows 'is' granted
 does 'a room of its own' 'rooms init office.rooms alice staff'
+types 'some members come' docs/program '--join sales carol'
+shows 'who is there then' 'joined 2, left 0, members 2'
 types 'a server at a socket' docs/program 'rooms serve'
 shows 'lists what is there' '[]'
 
@@ -402,7 +405,7 @@ shows 'it says what there is' 'rooms WARNING - ' 'office: '
 types 'how much memory it has' docs/capacity MemoryCurrent
 statuses=1
 types 'how full it is' docs/capacity 'restart rooms-full@office'
-shows 'is said' '0 MB of 384 are in use'
+shows 'is said' '0 MB of ' ' are in use'
 types 'who was here' docs/personal 'rooms-admin records'
 statuses=1
 types 'by the log too' docs/personal 'zgrep'
@@ -467,8 +470,9 @@ block_of README tools/build >>typed
 block_of README .ci/run >>typed
 # Blocks of a new machine, and of what is copied for it: install/new-machine pastes them.
 for text in './rooms_' 'cp -a /mnt' 'do rooms-admin restore' reload-or-restart machine/about \
-  'rooms-offsite <<' 'openssl rand' \
-  'restore latest' 'mkdir -m 700 /mnt' 'head -n -90' ssh-keygen useradd; do
+  'rooms-offsite <<' '/mnt/offsite --password-file' '/mnt/offsite restore' 'mkdir -m 700 /mnt' \
+  '-ctime -90' ssh-keygen useradd rclone.program /srv/rooms-back -newermt '-mtime +400' \
+  'dpkg --compare' '--timeout 600'; do
   block_of docs/backup "$text"
 done >>typed
 # Blocks of several machines: install/machines, install/new-machine and admin/standby paste them.
@@ -476,6 +480,10 @@ for text in 'certificate --machine' 'add --behind' 'add --on' \
   -mmin 'start "rooms-nightly@' 'now "rooms@$room"'; do
   block_of docs/machines "$text"
 done >>typed
+# The way back to 1.1.0: install/upgrade pastes it. Swap would be that of the machine below, which
+# stays as it is: it is typed by hand.
+block_of docs/upgrading 'SOCKET=yes DOOR=yes' >>typed
+block_of docs/capacity fallocate >>typed
 find blocks -type f | sort >wanted
 while IFS= read -r block; do
   fail "block ${block##*.} of ${block%.*}" "no line here types it: $(head -n 1 "$block")"

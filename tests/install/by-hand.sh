@@ -45,12 +45,16 @@ def server():
 
 
 def is_away(number):
-    """Held, or stopped."""
+    return not os.path.exists(f"/proc/{number}")
+
+
+def holds(run):
+    """A copy: by the only connection that it has."""
     try:
-        with open(f"/proc/{number}/stat") as stat:
-            return stat.read().rpartition(") ")[2][0] == "T"
+        return any(os.readlink(f"/proc/{run}/fd/{one}").startswith("socket:")
+                   for one in os.listdir(f"/proc/{run}/fd"))
     except OSError:
-        return True
+        return False
 
 
 for turn in range(30):
@@ -58,7 +62,7 @@ for turn in range(30):
     with open("typed") as typed:
         run = subprocess.Popen(["rooms-admin", *sys.argv[1:]], stdin=typed,
                                stdout=subprocess.DEVNULL, stderr=subprocess.DEVNULL)
-    while run.poll() is None and not is_away(number):
+    while run.poll() is None and not is_away(number) and not holds(run.pid):
         pass
     run.kill()
     if run.wait() == -9:
@@ -70,7 +74,7 @@ while time.monotonic() < ends and (is_away(server()) or subprocess.run(
 print("killed" if run.returncode == -9 else f"status {run.returncode}",
       "away" if is_away(server()) else "goes on")
 END2
-for words in 'backup office' 'standby office' 'user add dana --groups staff'; do
+for words in backup standby 'user add dana --groups staff'; do
   does "$words, killed" "echo secret >typed; python3 kill-while.py $words"
   prints "$words: the server" 'killed goes on'
   gets_in "after $words" bob 200
@@ -150,6 +154,6 @@ holds 'moves no cursor' [ -z "$(tr -d '\n -~' <"$work/err")" ]
 does 'what is exported' "rooms-admin export --as alice / /srv/out; ls /srv/out/large1 &&
   ! setpriv --reuid=nobody --regid=nogroup --clear-groups cat /srv/out/large1 2>/dev/null"
 does 'nothing is left' 'rooms-admin standby
-  ls /run/rooms-nightly.* /run/rooms-standby.* /run/rooms-directory.* 2>/dev/null; :'
+  ls /run/rooms-directory.* 2>/dev/null; :'
 holds 'of any of these runs' [ ! -s "$work/out" ]
 stop_machine

@@ -11,7 +11,7 @@ fi
 # What is there before TLS: a room with documents, and one at a host.
 open_room F
 set_list F / dacl list:a "A:fd:root:$ALL" A:fd:alice:rwxa A:fd:bob:rx
-start_server F 1000 || return
+start_room F 1000 || return
 printf 'root:{PLAIN}r\nalice:{PLAIN}a\nbob:{PLAIN}b\n' >rooms.htpasswd
 printf 'dora:{PLAIN}d\n' >rooms-hr.htpasswd
 start_front 'behind nginx before TLS' || return
@@ -80,6 +80,74 @@ echo DNS:a.rooms.example >wanted
 same 'counts for nothing either' counts wanted
 holds 'it certifies no other authority' \
   eval 'openssl x509 -in "$authority.pem" -noout -text | grep -q "CA:TRUE, pathlen:0"'
+
+# Which names an authority that is made certifies: the hosts that were typed and those below them,
+# whatever belongs to everybody above them; or all of a domain, where that was typed.
+makes() { # NAME STATUS TEXT WORD ..
+  rm -rf of run.of
+  mkdir -p of run.of
+  ROOMS_ROOT=$PWD/of ROOMS_RUN=$PWD/run.of "$repo/admin/rooms-admin" certificate "${@:4}" \
+    >"$work/out" 2>"$work/err" </dev/null
+  status=$?
+  told "$1" "$2" "$3"
+}
+permitted() {
+  openssl x509 -in of/root/authority/authority.pem -noout -text |
+    sed -n '/Permitted:/,/Excluded:/s/^ *DNS:/DNS:/p' | tr '\n' ' '
+}
+below='for these names and those below them:'
+for host in acme.gv.at acme.ltd.uk acme.gouv.fr acme.github.io acme.sch.uk acme.co.uk \
+  rooms.office.example rooms; do
+  makes "an authority for $host" 0 "authority.pem, $below $host" "$host"
+  holds "can't certify what is above it" [ "$(permitted)" = "DNS:$host " ]
+done
+makes "one for two hosts" 0 "$below rooms.a.example, hr.b.example" rooms.a.example hr.b.example
+holds 'has both' [ "$(permitted)" = 'DNS:rooms.a.example DNS:hr.b.example ' ]
+makes 'one for a domain' 0 "$below a.example" --domain a.example rooms.a.example
+holds 'has all of it' [ "$(permitted)" = 'DNS:a.example ' ]
+makes 'a domain of another host' 2 "hr.b.example isn't in the domain a.example" \
+  --domain a.example rooms.a.example hr.b.example
+makes 'a part of a name' 2 "rooms.ba.example isn't in the domain a.example" --domain a.example \
+  rooms.ba.example
+makes 'a domain without a dot' 2 "'example' isn't the name of a domain" --domain example \
+  rooms.example
+makes 'a domain with a line end' 2 "isn't the name of a domain" --domain $'a.example\nx' \
+  rooms.a.example
+makes 'machines have none' 2 'bad arguments: --machine takes no --domain' --machine --domain \
+  a.example b.a.example
+makes 'the name of a file of theirs' 2 'bad arguments: --machine takes' --machine authority
+makes 'a machine' 0 'b.example.pem as machine.pem' --machine b.example
+for name in authority front b.example; do
+  openssl x509 -in "of/etc/rooms/machines/$name.pem" -noout -checkend 315000000 >"$work/out" 2>&1
+  holds "the certificate of $name ends after ten years" [ "$?" = 0 ]
+  openssl x509 -in "of/etc/rooms/machines/$name.pem" -noout -checkend 316000000 >"$work/out" 2>&1
+  holds "and not later" [ "$?" = 1 ]
+done
+on_own certificate --domain example.test rooms.example >"$work/out" 2>"$work/err" </dev/null
+status=$?
+told 'another domain' 2 "rooms.example isn't in the domain example.test"
+on_own certificate --domain a.rooms.example b.a.rooms.example >"$work/out" 2>"$work/err" </dev/null
+status=$?
+told 'of an authority that is there' 2 'not for a.rooms.example: /root/authority/authority.pem is'
+same 'nothing is changed' rooms.pem rooms.pem.before
+
+# One that was bought stays, as does what can't be read; a renewal of its own goes on.
+mkdir -p bought/etc/ssl/private run.bought
+openssl req -x509 -newkey ec -pkeyopt ec_paramgen_curve:P-256 -noenc -days 300 \
+  -subj '/CN=Authority of the office, bought' -addext subjectAltName=DNS:rooms.example \
+  -keyout bought/etc/ssl/private/rooms.key -out bought/etc/ssl/rooms.pem 2>/dev/null
+cp bought/etc/ssl/rooms.pem bought.pem
+buys() { # NAME TEXT
+  ROOMS_ROOT=$PWD/bought ROOMS_RUN=$PWD/run.bought "$repo/admin/rooms-admin" certificate \
+    rooms.example >"$work/out" 2>"$work/err" </dev/null
+  status=$?
+  told "$1" 2 "another certificate: /etc/ssl/rooms.pem $2"
+  holds "$1: no authority is made" is_missing bought/root
+}
+buys 'a certificate that was bought' 'is of another authority, and isn'"'"'t replaced (issuer='
+same 'stays' bought/etc/ssl/rooms.pem bought.pem
+echo mine >bought/etc/ssl/rooms.pem
+buys 'another file' "can't be read, and isn't replaced"
 
 start_room F 1000 || return
 start_front 'behind nginx with TLS' tls || return

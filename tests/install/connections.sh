@@ -63,6 +63,23 @@ flooded 'half requests from one address' 192.0.2.33 192.0.2.17 192.0.2.18
 flooded 'half requests from one network of IPv6' '[2001:db8:2::1]' 2001:db8:1::1 \
   2001:db8:1::{2,3,4,5}
 
+# Accounts of the machine itself, which have many addresses there: all together have as many as one.
+cp "$here/lib/flood.py" "$machine/usr/local/lib/flood.py"
+nsenter -t "$first" --all setpriv --reuid=nobody --regid=nogroup --clear-groups \
+  python3 /usr/local/lib/flood.py 3200 16 127.0.0.1 127.0.0.1 127.0.0.2 127.0.0.3 127.0.0.4 \
+  2>said &
+flood=$!
+sleep 3
+in=0
+for turn in {1..10}; do
+  ! gets_in 192.0.2.33 2 || in=$((in + 1))
+  sleep 1
+done
+holds "half requests from the machine itself: $in of 10 times a user gets in" [ "$in" = 10 ]
+holds "they last: $(head -c 200 said)" kill -0 "$flood"
+wait "$flood"
+does 'root gets in meanwhile' 'curl -s -o /dev/null -u alice:a http://127.0.0.1/can/?'
+
 # As many as the table says, of browsers that stay connected; the next one waits until one ends.
 does 'how many one address may have' \
   'sed -n "s/.* ip saddr ct count over \([0-9]*\) } drop/\1/p" /var/lib/rooms-front/connections.nft'

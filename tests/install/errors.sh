@@ -69,7 +69,7 @@ ask 'nor for those of a language' 404 - '' /rooms/errors/502.de.html
 ask 'nothing at that place' 404 '{"at":"/none","why":"no-such"}' alice:a /doc/none
 
 # A room that hangs, for longer than nginx waits.
-sed -i 's/proxy_read_timeout 60s;/proxy_read_timeout 1s;/' sites-enabled/rooms
+sed -i 's/proxy_read_timeout [0-9]*s;/proxy_read_timeout 1s;/' sites-enabled/rooms
 reload_front
 kill -STOP "$server"
 shows_each 'a room that hangs' 504 'The room took too long to answer' \

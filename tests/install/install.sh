@@ -38,7 +38,7 @@ for file in /usr/local/bin/rooms \
   /etc/tmpfiles.d/rooms.conf /usr/local/sbin/rooms-admin \
   /usr/local/sbin/rooms-setup /usr/local/share/rooms/rooms_admin/site/template.py \
   /usr/local/share/rooms/site.conf.in /usr/local/share/rooms/room.conf.in \
-  /usr/local/share/rooms/before.txt /usr/share/bash-completion/completions/rooms-add \
+  /usr/share/bash-completion/completions/rooms-add \
   /usr/share/bash-completion/completions/rooms-handover \
   /usr/local/share/rooms/rooms_admin/verbs/check.py /usr/local/share/rooms/rooms.nft \
   /etc/sysusers.d/rooms.conf /etc/systemd/system/rooms-firewall.service \
@@ -188,7 +188,10 @@ if has openssl; then
   openssl x509 -in one.pem -outform DER -out one.der
   openssl pkey -in one.key -aes256 -passout pass:secret -out locked.key
   new_key old -out old.csr
-  openssl x509 -req -in old.csr -signkey old.key -days -1 -out old.pem 2>/dev/null
+  # Newer ones take no days before today.
+  openssl x509 -req -in old.csr -signkey old.key -days -1 -out old.pem 2>/dev/null ||
+    openssl x509 -req -in old.csr -signkey old.key -not_before 20250101000000Z \
+      -not_after 20250102000000Z -out old.pem 2>/dev/null
   echo '# mine' >mine.pem
   cp one.pem 'one;.pem'
   tree >before
@@ -300,14 +303,16 @@ if [ -n "$nginx" ] && [ "$(id -u)" = 0 ] && has openssl; then
   for name in invoices:directory office:session; do
     sed -i "s/^PASSWORDS=.*/PASSWORDS=${name#*:}/" "machine/etc/rooms/${name%:*}.conf"
   done
-  sed -i 's/^SOCKET=.*/SOCKET=/' machine/etc/rooms/office.conf
+  sed -i 's/^PORT=.*/PORT=8780/' machine/etc/rooms/office.conf
   sets_up
   says 'rooms of each kind' 0 'new file /etc/nginx/sites-available/rooms'
-  holds 'a room with a socket' \
-    grep -qx 'upstream room_invoices { server unix:/run/rooms/invoices/socket; }' \
-      machine/etc/nginx/sites-available/rooms
-  holds 'and one with a port' grep -qx 'upstream room_office { server 127.0.0.1:8780; }' \
-    machine/etc/nginx/sites-available/rooms
+  # Whether they have a port or not.
+  for room in office invoices; do
+    for line in "upstream room_$room { server unix:/run/rooms/$room/socket; }" \
+      "upstream door_$room { server unix:/run/rooms-door/$room/socket; }"; do
+      holds "with $line" grep -qxF "$line" machine/etc/nginx/sites-available/rooms
+    done
+  done
   takes 'the site with all of them'
   sed -i 's/^\(CERTIFICATE\|KEY\)=.*/\1=/' machine/etc/rooms/site
   sets_up
@@ -338,8 +343,7 @@ if [ "$(id -u)" != 0 ] || has setpriv; then
   fi
 fi
 
-# The firewall's table is loaded before a server listens, unless that has a socket; and at an
-# upgrade, if a room has a port.
+# The firewall's table is loaded at an upgrade, if a room has a port.
 mkdir -p asked etc/rooms run/systemd/system
 for tool in systemctl nft; do
   printf '#!/bin/sh\necho "%s $*" >>"%s/asked/words"\nexit "$(cat "%s/asked/%s.status")"\n' \
@@ -347,31 +351,7 @@ for tool in systemctl nft; do
   echo 0 >"asked/$tool.status"
 done
 chmod 755 asked/systemctl asked/nft
-starts_table() { # NAME STATUS WORDS SETTING ..: what the unit of a room does before its server
-  local line
-  line=$(sed -n '/^ExecStartPre=/{:a; /\\$/{N; s/\\\n *//; ba}; s/^ExecStartPre=//p}' \
-    "$repo/deploy/systemd/rooms@.service")
-  # What fails there keeps the server from starting, and it is done as root.
-  holds "a room $1: no '-' stands before it" [ "${line:0:1}" = + ]
-  line=${line#+}
-  line=${line//\/usr\/sbin\/nft/nft}
-  : >asked/words
-  (eval "env PATH=$PWD/asked:$PATH ${*:4} ${line//\$\$/\$}") >"$work/out" 2>&1
-  holds "a room $1: status" [ "$?" = "$2" ]
-  holds "a room $1: '$(cat asked/words)'" [ "$(tr '\n' ' ' <asked/words)" = "$3" ]
-}
-both='systemctl start rooms-firewall.service nft -f /usr/local/share/rooms/rooms.nft '
-starts_table 'with a socket' 0 '' SOCKET=yes PORT=8780
-starts_table 'with a port' 0 "$both" SOCKET= PORT=8780
-starts_table 'of an earlier version' 0 "$both" PORT=8780
-starts_table 'with another word' 0 "$both" SOCKET=no PORT=8780
-echo 1 >asked/systemctl.status
-starts_table 'whose unit of the firewall is disabled' 0 "$both" SOCKET= PORT=8780
-echo 1 >asked/nft.status
-starts_table 'without its table' 1 "$both" SOCKET= PORT=8780
-starts_table 'with a socket, which needs none' 0 '' SOCKET=yes PORT=8780
-echo 0 | tee asked/systemctl.status >asked/nft.status
-sed -n '/^      for conf in/,/^      done/p' "$repo/deploy/debian/postinst" |
+sed -n '/^      last() /,/^      done/p' "$repo/deploy/debian/postinst" |
   sed "s#/etc/rooms#$PWD/etc/rooms#" >closes
 holds 'the package looks at settings' [ -s closes ]
 loads() { # NAME WANTED, for what is in ./etc/rooms, which goes
@@ -383,12 +363,14 @@ loads() { # NAME WANTED, for what is in ./etc/rooms, which goes
 table='systemctl start rooms-firewall.service'
 loads 'no room' ''
 printf '%s\n' FILE=F SOCKET=yes PORT=8780 | tee etc/rooms/office.conf >etc/rooms/hr.conf
-loads 'rooms with sockets' ''
+loads 'ports that are in reserve' ''
+printf '%s\n' FILE=F PORT=8780 PORT= | tee etc/rooms/office.conf >etc/rooms/hr.conf
+loads 'a room that has no port any more' ''
 printf '%s\n' FILE=F SOCKET= PORT=8780 SOCKET=yes >etc/rooms/office.conf
 loads 'a room that has changed to a socket' ''
 printf '%s\n' FILE=F SOCKET=yes PORT=8780 >etc/rooms/hr.conf
-echo FILE=F >etc/rooms/office.conf
-loads 'two rooms, one by settings of an earlier version' "$table"
+printf '%s\n' FILE=F PORT=8781 >etc/rooms/office.conf
+loads 'two rooms, one of them with a port' "$table"
 printf '%s\n' FILE=F SOCKET=yes PORT=8780 SOCKET= >etc/rooms/office.conf
 loads 'a room that has changed to a port' "$table"
 
@@ -419,12 +401,12 @@ leaves() { # NAME: what is stopped is in ./stopped
 mkdir -p left etc/systemd/system etc/nginx/sites-enabled
 leaves 'the package is removed'
 printf '%s\n' 'stop rooms-nightly@hr.timer' 'stop rooms-full@hr.service' 'stop rooms@hr.service' \
-  'stop rooms-firewall.service' 'delete table inet rooms' >wanted
+  'stop rooms.slice' 'stop rooms-firewall.service' 'delete table inet rooms' >wanted
 same 'all that is loaded stops, the firewall last' stopped wanted
 for port in 2249 2253 2326; do
   echo "  1: 0100007F:$port 00000000:0000 0A 00000000:00000000" >asked/tcp
   leaves "something listens at $port"
-  head -n 3 wanted >fewer
+  head -n 4 wanted >fewer
   same "the table stays, $port" stopped fewer
   holds "which is said, $port" grep -q "^rooms: the firewall's table stays: something" "$work/err"
 done
@@ -434,57 +416,19 @@ for line in '1: 0100007F:2248 0:0 0A' '1: 0100007F:2327 0:0 0A' '1: 0100007F:225
   same "the table goes, $line" stopped wanted
 done
 
-# No lock that any account may take keeps the package waiting: one counts only if the version before
-# knew such locks, and a process of root's has it.
-if [ "$(id -u)" = 0 ] && has dpkg && has flock && has setpriv; then
-  sed -e "s#/etc/rooms#$PWD/etc/rooms#; s#/usr/local/bin/rooms#$PWD/none#g" \
-    -e "s#/etc/systemd/system/#$PWD/none/#g; s#/run/systemd#$PWD/run/systemd#" \
-    "$repo/deploy/debian/preinst" >enters
-  printf '#!/bin/sh\ncat "%s/asked/units"\n' "$PWD" >asked/systemctl
-  printf '#!/bin/sh\necho >>"%s/asked/slept"\n' "$PWD" >asked/sleep
-  chmod 755 asked/sleep
-  echo FILE=F >etc/rooms/office.conf
-  enters() { # NAME STATUS SLEPT VERSION
-    : >asked/slept
-    PATH=$PWD/asked:$PATH timeout "$patience" sh -e enters upgrade "$4" >"$work/out" 2>"$work/err"
-    status=$?
-    holds "$1: $(cat "$work/err")" [ "$status $(wc -l <asked/slept)" = "$2 $3" ]
-  }
-  : >asked/units
-  enters 'nothing is at work' 0 0 1.0.0
-  echo 'rooms-nightly@hr.service loaded activating start A nightly run' >asked/units
-  enters 'a nightly run of 1.0.0' 1 900 1.0.0
-  told 'is named' "$status" 'refused: busy: rooms-nightly@hr.service is at work with a room'
-  enters 'one of this version' 0 0 1.0.1
-  : >asked/units
-  holding() { # COMMAND ..: it holds the settings
-    "$@" bash -c 'exec 9<etc/rooms/office.conf; flock 9; exec /bin/sleep 1000' >/dev/null 2>&1 &
-    others+=($!)
-    until ! flock -n etc/rooms/office.conf true; do /bin/sleep 0.05; done
-  }
-  chmod 755 "$work" . etc etc/rooms
-  holding setpriv --reuid=65534 --regid=65534 --clear-groups
-  enters 'somebody else holds the settings' 0 0 1.0.0
-  stop_others
-  holding env
-  enters "root's own process does" 0 60 1.0.0
-  told 'which is said' "$status" "a process of root's holds $PWD/etc/rooms/office.conf"
-  enters 'which counts for nothing then' 0 0 1.0.1
-  stop_others
-else
-  skip 'what keeps a package waiting' 'no root, or no dpkg, flock, setpriv'
-fi
-
 # The units, as systemd reads them; with the programs that they name in their places.
 if has systemd-analyze; then
   mkdir units
-  for unit in "$repo"/deploy/systemd/rooms*.{service,timer,socket}; do
+  for unit in "$repo"/deploy/systemd/rooms*.{service,timer,socket,slice}; do
     sed -e "s#=\(+\?\)/usr/local/#=\1$PWD/machine/usr/local/#" \
       -e "s#=/usr/sbin/\(apache2\|nft\)#=/bin/true#" "$unit" >"units/${unit##*/}"
   done
+  # What setup writes of each port.
+  mkdir units/rooms-port@.socket.d
+  printf '%s\n' '[Socket]' ListenStream=127.0.0.1:8780 >units/rooms-port@.socket.d/port.conf
   # It reports what it doesn't know of all units that it meets. Only these are of this project.
-  systemd-analyze verify units/*.{service,timer,socket} >"$work/out" 2>&1
-  grep -E '^(/.*/)?rooms[a-z-]*(@[a-z_-]*)?\.(service|timer|socket)' "$work/out" >said
+  systemd-analyze verify units/*.{service,timer,socket,slice} >"$work/out" 2>&1
+  grep -E '^(/.*/)?rooms[a-z-]*(@[a-z_-]*)?\.(service|timer|socket|slice)' "$work/out" >said
   : >nothing
   same 'the units are understood' said nothing
   # How much a unit could do, by systemd's own count from 0 to 10.

@@ -141,7 +141,8 @@ write_nginx() { # MACHINE ADDRESS
       -e "s#b.example:8443#b.example:$secure#" -e "s#unix:/run/rooms/#unix:$PWD/$1/run/rooms/#" \
       -e "s#unix:/run/rooms-door/#unix:$PWD/$1/run/door/#" \
       -e "s#unix:/run/rooms-earlier/#unix:$PWD/$1/run/rooms-earlier/#" \
-      -e "s/_read_timeout 60s;/_read_timeout 8s;/" \
+      -e "s/_read_timeout 120s;/_read_timeout 8s;/" \
+      -e "s#/var/log/nginx/error.log#$PWD/$1.log#; s#/var/log/nginx/#$PWD/$1.#" \
       -e "s#/run/rooms-full#$PWD/$1/full#" "$file"
   done
   {

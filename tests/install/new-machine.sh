@@ -72,7 +72,7 @@ tells() { # NAME TEXT: a day's copy fails, and the log and the mail of cron say 
 copies() { inside ': >logged; /etc/cron.daily/rooms-offsite; wc -c <logged'; }
 tells 'no way to copy' 'rooms-offsite: not found'
 if [ -n "$restic" ]; then
-  does 'a repository' "$(block docs/backup.md 'openssl rand -hex 24')"
+  does 'a repository' "$(block docs/backup.md '/mnt/offsite --password-file')"
   password=$(tail -n 1 "$work/out")
   tells 'no backup yet' 'no backup of last night: /etc/rooms/invoices.conf'
 fi
@@ -107,14 +107,24 @@ if [ -n "$rsync" ]; then
     'rmdir /var/backups/rooms && mv /root/kept /var/backups/rooms && mv /mnt/rooms /mnt/away'
   tells 'a disk that is not there' /mnt/rooms
   holds 'nothing is written below its place' is_missing "$machine/mnt/rooms"
-  does 'the newest are kept' "mv /mnt/away /mnt/rooms && $(block docs/backup.md 'head -n -90')
-    mkdir -p /mnt/rooms/{office,invoices}/2020-0{1,2,3,4}-{01..28}.030000 /mnt/rooms/standby &&
-    touch /mnt/rooms/standby/office.rooms
-    /etc/cron.daily/rooms-copies"
-  does 'ninety of each room' \
-    'cd /mnt/rooms; echo office/[0-9]* | wc -w; echo invoices/[0-9]* | wc -w
-    ls -d office/2020* | head -n 1; ls standby; ls -d office/202[1-9]* | wc -l'
-  prints 'and nothing else goes' 90 90 office/2020-01-24.030000 office.rooms 1
+  # What came long ago goes, whatever it is called: here 'long ago' is before the file `mark`.
+  # Folders with later names, which whoever sends may make, drive out no other; nor does a link lead
+  # away.
+  does 'what came before' "mv /mnt/away /mnt/rooms && $(block docs/backup.md '-ctime -90')
+    sed -i 's#-ctime -90#-cnewer /mnt/mark#; s#-ctime +89#! -cnewer /mnt/mark#' \
+      /etc/cron.daily/rooms-copies
+    mkdir -p /mnt/rooms/{office,invoices}/20{20,99}-01-{01..28}.030000 /mnt/rooms/standby \
+      /mnt/elsewhere/2020-01-01.030000
+    touch /mnt/rooms/standby/office.rooms; ln -s /mnt/elsewhere /mnt/rooms/link
+    sleep 0.1; touch /mnt/mark; sleep 0.1; mkdir -p /mnt/rooms/office/9999-01-{01..29}.030000
+    /etc/cron.daily/rooms-copies
+    cd /mnt/rooms; echo office/[0-9]* | wc -w; echo invoices/[0-9]* | wc -w"
+  prints 'stays while few came since' 86 57
+  does 'one more' 'mkdir /mnt/rooms/office/2020-01-01.000000 && /etc/cron.daily/rooms-copies
+    cd /mnt/rooms; echo office/[0-9]* | wc -w; echo invoices/[0-9]* | wc -w
+    ls -d office/2*; ls standby; ls /mnt/elsewhere'
+  prints 'and it goes, of that room alone' 30 57 office/2020-01-01.000000 office.rooms \
+    2020-01-01.030000
 else
   skip 'a copy by rsync' 'no rsync, or none that can be copied'
   cp -a "$machine/var/backups/rooms" rsynced
@@ -143,7 +153,7 @@ began=$SECONDS
 does 'the package on the new machine' "$(installs)"
 if [ -n "$restic" ]; then
   does 'what was out of the house comes back' \
-    "export RESTIC_PASSWORD=$password; $(block docs/backup.md 'restore latest --target /' |
+    "export RESTIC_PASSWORD=$password; $(block docs/backup.md '/mnt/offsite restore' |
     grep -v '^$')"
   (cd "$machine/var/backups/rooms" && find . -type f -exec cksum {} + | sort) >found
   (cd rsynced && find . -type f -exec cksum {} + | sort) >wanted
@@ -186,7 +196,7 @@ does 'who has what' 'stat -c "%U %G %a %n" /var/lib/rooms-passwords/rooms.htpass
   cat /etc/systemd/system/rooms@office.service.d/override.conf; grep ^KEEP /etc/rooms/office.conf
   systemctl is-active rooms@office rooms@invoices \
     rooms-nightly@office.timer rooms-nightly@invoices.timer'
-prints 'as on the old machine' 'rooms-keeper www-data 640 /var/lib/rooms-passwords/rooms.htpasswd' \
+prints 'as on the old machine' 'root www-data 640 /var/lib/rooms-passwords/rooms.htpasswd' \
   'root root 600 /etc/ssl/private/rooms.key' 'rooms rooms 600 /var/lib/rooms/office.rooms' \
   '[Service]' MemoryMax=4G KEEP=7 active active active active
 holds 'its names and its own lines' grep -q 'server_name rooms.example rooms.office.example;' \
@@ -245,7 +255,7 @@ prints 'that was answered' 200 farewell 200 200 active active active active
 stop_proxy
 machine=$PWD/both
 sshd=$(PATH=$PATH:/usr/sbin command -v sshd)
-if [ -z "$sshd" ] || ! has ssh-keygen || ! has rrsync || ! has python3 ||
+if [ -z "$sshd" ] || ! has ssh-keygen || ! has rrsync || ! has dpkg-query || ! has python3 ||
   [ ! -x /usr/sbin/useradd ]; then
   skip 'copies by ssh' 'no ssh, sshd, rrsync, python3 or useradd'
   return
@@ -268,10 +278,77 @@ does 'two machines' 'rm -rf /etc/rooms /srv/* /var/backups/rooms && mkdir -p /et
 does 'the key' "$(block docs/backup.md ssh-keygen)"
 key=$(tail -n 1 "$work/out")
 holds 'is shown' [ "${key#ssh-ed25519 }" != "$key" ]
+does 'how copies are sent' "$(block docs/backup.md rclone.program)"
+password=$(tail -n 1 "$work/out")
 sends() { inside "/usr/local/sbin/rooms-offsite ${1:-/var/backups/rooms}"; }
+export_path='export PATH=/usr/local/sbin:$PATH'
 sends
 holds 'nobody is let in before the other machine knows it' [ "$status" != 0 ]
 does 'the other machine' "$(block docs/backup.md useradd | sed "s|KEY|$key|")"
+may_not() { # NAME COMMAND
+  inside "$export_path RSYNC_RSH=rooms-ssh; $2"
+  holds "the key may not $1" [ "$status" != 0 ]
+  inside 'ls /root/got /tmp/seen 2>/dev/null'
+  holds "$1: nothing has happened" [ ! -s "$work/out" ]
+}
+
+# restic: whoever has the rooms' machine adds, and removes and replaces nothing.
+kept() { inside 'cd /srv/rooms-copies/restic && find . -type f ! -path "./locks/*" -exec cksum {} +
+  '; sort "$work/out" >"$1"; }
+to="$export_path; to() { timeout \${seconds-10} \
+  restic -o rclone.program='rooms-ssh rooms-copies@b.example' \
+  -r rclone:../../etc/rooms --password-file /etc/rooms/restic.password \"\$@\"; }"
+at="export RESTIC_PASSWORD=$password; at() { restic -r /srv/rooms-copies/restic \"\$@\"; }"
+is_back() { # NAME: what comes back is what was sent
+  does "$1" "$at; rm -rf /srv/rooms-back; { $(block docs/backup.md /srv/rooms-back)
+    } >/dev/null; cd /srv/rooms-back/var/backups/rooms && find . -type f && cat */office.rooms"
+  prints "$1: is what is finished" ./2026-11-20.030000/office.rooms one
+}
+if has restic && has rclone; then
+  sends
+  holds "copies by restic: $(head -c 300 "$work/err")" [ "$status" = 0 ]
+  is_back 'what comes back'
+  kept before
+  for words in 'forget --keep-last 1 --keep-daily 1 latest' 'forget latest --prune' \
+    'key remove 0' 'init'; do
+    may_not "do this by restic: $words" "$to; to $words </dev/null"
+  done
+  inside "$export_path; rooms-ssh rooms-copies@b.example touch /tmp/seen"
+  may_not 'read by another program' 'rsync -a rooms-copies@b.example:/ /root/got/ ||
+    { rmdir got 2>/dev/null; false; }'
+  kept after
+  holds "all is there as it was: $(comm -23 before after | head -n 3)" \
+    [ -z "$(comm -23 before after)" ]
+  does 'a lock that was left' "$at; at unlock --remove-all"
+  # What a break-in adds is taken out by the time at which it came.
+  inside 'sleep 1.1; date "+%F %T"; sleep 1.1'
+  moment=$(cat "$work/out")
+  does 'an intruder' "seconds=100; $to; to backup -q --time '2099-01-01 00:00:00' /etc/hostname &&
+    to snapshots --no-lock"
+  holds 'dates what is sent' grep -q ' 2099-01-01 ' "$work/out"
+  does 'which is taken out' "$(block docs/backup.md -newermt | sed "s/2026-11-20 12:00/$moment/")
+    $at; at check -q --read-data; find /srv/rooms-copies/restic/snapshots -type f | wc -l"
+  prints 'as it came' 1
+  is_back 'then what comes back'
+  does 'what came long ago' "$at; touch -d '500 days ago' /srv/rooms-copies/restic/snapshots/*
+    { $(block docs/backup.md '-mtime +400' | sed 's/xargs -r -o/xargs -r/')
+    } >/dev/null; find /srv/rooms-copies/restic/snapshots -type f
+    find /srv/rooms-copies/restic -type f ! -user rooms-copies"
+  holds 'goes, and the repository stays who keeps it' [ ! -s "$work/out" ]
+  sends
+  holds "a copy after that: $(head -c 300 "$work/err")" [ "$status" = 0 ]
+  is_back 'and what comes back'
+else
+  skip 'copies by restic' 'no restic or rclone'
+fi
+
+# rsync in its place.
+if ! dpkg --compare-versions "$(dpkg-query -W -f '${Version}' rsync)" ge 3.5; then
+  skip 'copies by rsync over ssh' 'rsync is older than 3.5'
+  return
+fi
+does 'rsync there' "$(block docs/backup.md 'dpkg --compare-versions')"
+does 'and here' "$(block docs/backup.md '--timeout 600')"
 sends
 holds "copies by ssh: $(head -c 300 "$work/err")" [ "$status" = 0 ]
 does 'what is there' 'cd /srv/rooms-copies/rooms && find . -type f && cat */office.rooms'
@@ -280,22 +357,28 @@ does 'a folder that is empty' \
   'mkdir empty && /usr/local/sbin/rooms-offsite /root/empty &&
   cat /srv/rooms-copies/rooms/*/office.rooms'
 prints 'removes nothing' one
-may_not() { # NAME COMMAND
-  inside "export RSYNC_RSH='ssh -i /etc/rooms/offsite.key -o BatchMode=yes -o UserKnownHostsFile=/etc/rooms/offsite.hosts'; $2"
-  holds "the key may not $1" [ "$status" != 0 ]
-  inside 'cat /srv/rooms-copies/rooms/*/office.rooms; ls /root/got /tmp/seen 2>/dev/null'
-  prints "$1: nothing has happened" one
-}
-may_not 'log in' '$RSYNC_RSH rooms-copies@b.example touch /tmp/seen'
+may_not 'log in' 'rooms-ssh rooms-copies@b.example touch /tmp/seen'
 may_not 'read' 'rsync -a rooms-copies@b.example:/ /root/got/ || { rmdir got 2>/dev/null; false; }'
 may_not 'remove' 'rsync -a --delete /root/empty/ rooms-copies@b.example:'
+may_not 'write elsewhere' 'rsync -a /etc/hostname rooms-copies@b.example:../.ssh/authorized_keys'
+# Each way by which rsync changes something that is there.
+does 'what an intruder would send' 'mkdir -p evil/2026-11-20.030000 folder/2026-11-20.030000
+  echo evil >evil/2026-11-20.030000/office.rooms; : >folder/other
+  touch -d "+1 day" evil/2026-11-20.030000/office.rooms
+  mkdir file && : >file/2026-11-20.030000'
+for words in 'evil/' '--inplace evil/' '--append evil/' '-b --suffix=.x evil/' \
+  '-b --backup-dir=2026-11-20.030000 evil/' '--partial-dir=2026-11-20.030000 evil/' \
+  '--delay-updates evil/' '-M--log-file=2026-11-20.030000/office.rooms evil/' '--force file/' \
+  '--delete --force folder/' '--remove-source-files folder/'; do
+  inside "$export_path; timeout 60 rsync -a -e rooms-ssh $words rooms-copies@b.example:"
+  inside 'cat /srv/rooms-copies/rooms/2026-11-20.030000/office.rooms'
+  prints "rsync $words: changes nothing" one
+done
 does 'a change' 'echo two >/var/backups/rooms/2026-11-20.030000/office.rooms
   rm -r /var/backups/rooms/2026-11-20.030001.part
   mkdir /var/backups/rooms/2026-11-21.030000; /usr/local/sbin/rooms-offsite /var/backups/rooms
-  ls /srv/rooms-copies/rooms'
-prints 'what is new comes' 2026-11-20.030000 2026-11-21.030000
-may_not 'change' false
-may_not 'write elsewhere' 'rsync -a /etc/hostname rooms-copies@b.example:../.ssh/authorized_keys'
+  cd /srv/rooms-copies/rooms; ls -d 2*; cat 2026-11-20.030000/office.rooms'
+prints 'what is new comes' 2026-11-20.030000 2026-11-21.030000 one
 does 'its key and the known one' \
   'ssh-keygen -lf /etc/rooms/offsite.hosts; ssh-keygen -lf /etc/ssh/ssh_host_ed25519_key.pub'
 holds 'are the same' [ "$(cut -d ' ' -f 2 "$work/out" | sort -u | wc -l)" = 1 ]

@@ -12,9 +12,9 @@ does 'a room' 'runuser -u rooms -- rooms init /var/lib/rooms/office.rooms alice 
   systemctl reload-or-restart nginx'
 shows 'the socket' rooms-own-password.socket ActiveState active
 does 'whose the files are' 'cd /var/lib/rooms-passwords && stat -c "%n %U %G %a" . *'
-printf '%s\n' '. rooms-keeper www-data 2710' 'rooms.first rooms-keeper www-data 640' \
-  'rooms.htpasswd rooms-keeper www-data 640' >wanted
-same 'are the service'\''s and nginx'\''s' "$work/out" wanted
+printf '%s\n' '. root www-data 710' 'rooms.first root www-data 640' \
+  'rooms.htpasswd root www-data 640' >wanted
+same 'are root'\''s, for nginx' "$work/out" wanted
 does 'nginx can not hold them' '! setpriv --reuid=www-data --regid=www-data --clear-groups \
   flock -n /var/lib/rooms-passwords true 2>/dev/null'
 web='curl -s -o /dev/null -w %{http_code}'
@@ -38,7 +38,11 @@ echo "  one change under systemd: $(sed -n 's/^real //p' "$work/err") s"
 is 'the new one counts' 200 "$web -u 'alice:gravel under bridges' http://127.0.0.1/folder/"
 does 'whose the files are then' 'cd /var/lib/rooms-passwords && stat -c "%n %U %G %a" . *'
 same 'they stay' "$work/out" wanted
-does 'what the log has' 'journalctl -t rooms-own-password --no-pager -o cat'
+does 'another account' 'setpriv --reuid=nobody --regid=nogroup --clear-groups \
+  logger -t rooms-own-password "rooms-own-password: bob of office has a new password"
+  journalctl --sync'
+does 'what the log has' "journalctl -u 'rooms-own-password@*' --no-pager -o cat"
+holds 'nothing of the other account' eval '! grep -q "bob of office" "$work/out"'
 holds 'a line for each change' [ "$(grep -c 'alice of office has a new password' "$work/out")" = 2 ]
 holds 'and no password' eval '! grep -q -e gravel -e chosen -e given "$work/out"'
 does 'what is counted of tries' 'cd /run/rooms-own-password/tries && touch -d "2 hours ago" older &&
@@ -67,7 +71,32 @@ asking = socket.socket(socket.AF_UNIX)
 asking.connect(\"/run/rooms-own-password/socket\")
 asking.shutdown(socket.SHUT_WR)
 print(asking.makefile().read(), end=\"\")'"
-printf '%s\n' 'read /var/lib/rooms-passwords/rooms.htpasswd' 'list /var/lib/rooms-passwords' \
-  'write /var/lib/rooms-passwords' 'write /var/tmp' >wanted
+echo 'write /var/tmp' >wanted
 same 'what it can do' "$work/out" wanted
+# It asks who writes, for whom nobody else does.
+cat >"$machine/usr/local/lib/asks.py" <<'END'
+import socket
+
+
+def said(line):
+    with socket.socket(socket.AF_UNIX) as asking:
+        asking.connect("/run/rooms-own-password/file")
+        asking.sendall(line.encode() + b"\n")
+        asking.shutdown(socket.SHUT_WR)
+        return asking.makefile().read().strip()
+
+
+kind, digest, hashed = said("line office alice").split(" ")
+print(said(f"put office alice {digest} $2y$31$" + 53 * "a"))
+print(said(f"put office alice {digest} {hashed}"))
+END
+does 'a hash whose check takes hours' 'setpriv --reuid=rooms-keeper --regid=rooms-keeper \
+  --clear-groups python3 -I /usr/local/lib/asks.py'
+prints 'is refused' refused done
+does 'who else asks' 'for user in nobody www-data rooms rooms-door; do
+  ! setpriv --reuid=$user --regid=$(id -g $user) --clear-groups python3 -c "
+import socket
+socket.socket(socket.AF_UNIX).connect(\"/run/rooms-own-password/file\")" 2>/dev/null || echo $user
+  done'
+holds 'is nobody' [ ! -s "$work/out" ]
 stop_machine

@@ -1,15 +1,11 @@
-# The package on a machine of its own, where it is installed over a version that had many files of
-# nginx, serves two rooms, and is removed and purged, while the rooms stay. The machine is a copy of
-# the folder ROOMS_DEBIAN, which debootstrap has made (lib/machine.sh); without that variable it
-# is made anew. It has a network of its own, without a way out.
+# The package on a machine of its own, where it is installed, serves two rooms, goes over an older
+# one, and is removed and purged, while the rooms stay. The machine is a copy of the folder
+# ROOMS_DEBIAN (lib/machine.sh). It has a network of its own, without a way out.
 
 top=$here/..
 . "$here/lib/machine.sh"
-. "$here/lib/single.sh"
 can_package 'the package' || return
 older=rooms_0.0.9_amd64.deb
-single=rooms_0.0.8_amd64.deb
-units=usr/lib/systemd/system
 for words in '' '--version 0.0.9'; do
   # shellcheck disable=SC2086
   if ! "$top/tools/package" --program "$rooms" $words </dev/null >said 2>&1; then
@@ -18,7 +14,7 @@ for words in '' '--version 0.0.9'; do
   fi
 done
 dpkg-deb -x "$package" files
-holds 'a package with many files of nginx' single_package
+: >nothing
 
 make_machine 'a machine with the package' || return
 if [ ! -x "$machine/usr/bin/python3" ]; then
@@ -26,22 +22,7 @@ if [ ! -x "$machine/usr/bin/python3" ]; then
   return
 fi
 furnish_machine
-cp "$single" "$machine/root/"
-
-# That version, with the README's commands, and a further room by its file of nginx.
-does 'a version with many files of nginx' "apt-get install -y ./$single"
-does 'its files are whole' 'dpkg -V rooms'
-holds 'nothing differs' [ ! -s "$work/out" ]
-does 'the three commands' "$(block README.md 'runuser' |
-  sed 's,^rooms-admin user.*,htpasswd -B /etc/nginx/rooms.htpasswd alice,') &&
-  systemctl reload nginx"
-holds 'the room is made' grep -q '^ready$' "$work/out"
-does 'a folder' \
-  "$(block docs/operating.md 'rooms.example:80' | sed 's/-u alice/-s -u alice:typed/')"
-prints 'is made through nginx' 201
 reply=http://127.0.0.1/doc/letters/reply
-does 'a document' "curl -s -u alice:typed -X PUT -d hello -w '%{http_code}\n' $reply"
-prints 'is made' 201
 room() { (cd "$machine/var/lib/rooms" && stat -c '%n %i %s %y %U' ./* && cksum ./*); }
 restarts() { # NAME: all that is amiss is that there is no mail program
   inside "$(block docs/upgrading.md 'rooms-admin check' | sed 's/admin check/& --room office/')"
@@ -54,108 +35,9 @@ replies() { # NAME
   printf hello >wanted
   same "$1: what it has" "$work/out" wanted
 }
-before=$machine/etc/nginx
-sed -e 's/@NAME@/hr/g; s/@PORT@/8781/g; s/@HOST@/hr.example/g' "$data/before/room/host" \
-  >"$before/rooms.d/hr.host"
-printf '%s\n' FILE=/var/lib/rooms/hr.rooms PORT=8781 TITLE=hr BACKUPS=/var/backups/rooms \
-  UNIT=rooms@hr PROGRAM=/usr/bin/rooms >"$machine/etc/rooms/hr.conf"
-# What somebody wrote into it: passwords that are remembered, by the block of then, a name, and a
-# line of their own.
-does 'what was set' "cd /etc/nginx &&
-  ln -s ../snippets/rooms-remember.conf conf.d/rooms-remember.conf
-  sed -i 's#^auth_basic \".*;#include snippets/rooms-remembered.conf;#
-    s#^auth_basic_user_file /etc/nginx/\\(.*\\).htpasswd;#auth_request /password/\\1;#' \
-    snippets/rooms-server.conf
-  sed -i 's/rooms.example/rooms.example files.example/' sites-available/rooms
-  sed -i '/^client_max_body_size/a access_log /var/log/nginx/rooms.log;' snippets/rooms-host.conf
-  sed -i '/server_name/a allow 127.0.0.1; deny all; # own' rooms.d/hr.host
-  systemctl reload nginx"
-kept_out() { # NAME: who comes from another address gets no further, whatever the upgrade
-  does "$1" "for from in 127.0.0.1 127.0.0.2; do curl -s -o /dev/null -w '%{http_code}\n' \
-    --interface \$from -H 'Host: hr.example' http://127.0.0.1/doc/x; done"
-  prints "$1: from its own address alone" 401 403
-}
-kept_out 'a line of their own says who gets in'
-replies 'it is so'
-
-# An upgrade from there, by the blocks of upgrading.md: nginx has one file then.
-cp "$package" "$machine/root/"
-does 'a backup' "$(block docs/upgrading.md 'start rooms-nightly')"
-backup=$(cat "$work/out")
-holds 'has the room' [ -s "$machine/$backup/office.rooms" ]
-replies 'the server runs after it'
-# Anybody may hold a file that they can read, which counts for nothing.
-inside ':
-  setpriv --reuid=65534 --regid=65534 --clear-groups bash -c \
-    "exec 9</etc/rooms/hr.conf; flock 9; exec sleep 600" >/dev/null 2>&1 &
-  echo $! >held; until ! flock -n /etc/rooms/hr.conf true; do sleep 0.05; done'
-does 'the newer package' "$(block docs/upgrading.md 'install -y ./rooms_VERSION' | head -n 1) 2>&1"
-cp "$work/out" upgraded
-does 'the other one goes on holding it' \
-  '! flock -n /etc/rooms/hr.conf true && kill "$(cat held)" && rm held'
-cp upgraded "$work/out"
-for line in "systemctl restart 'rooms@\*'" 'nginx goes on with its files of before' \
-  '/etc/nginx/rooms.d/hr.host says who gets in: allow 127.0.0.1; deny all; # own'; do
-  holds "it says: $line" grep -q "$line" "$work/out"
-done
-kept_out 'the site of before goes on'
-does 'nginx started again' 'nginx -s stop; while [ -e /run/nginx.pid ]; do sleep 0.05; done; nginx'
-kept_out 'so does it after a start'
-replies 'the room by the site of before'
-inside 'rooms-admin setup'
-told 'until somebody has decided' 1 '/etc/nginx/rooms.d/hr.host says who gets in: '
-does 'who has' "sed -i '/deny all/d' /etc/nginx/rooms.d/hr.host && rooms-admin setup"
-for line in '/etc/nginx/snippets/rooms-server.conf is removed' \
-  'new file /etc/rooms/hr.conf, with HOST=hr.example' \
-  '/etc/nginx/conf.d/rooms-remember.conf is removed' \
-  '/etc/nginx/snippets/rooms-host.conf is now /etc/nginx/snippets/rooms-host.conf.dpkg-bak' \
-  '/etc/nginx/rooms.htpasswd is now /var/lib/rooms-passwords/rooms.htpasswd' \
-  'no version had: access_log /var/log/nginx/rooms.log;'; do
-  holds "it says: $line" grep -q "$line" "$work/out"
-done
-replies 'the same room by one file'
-(cd "$machine/etc/nginx" && find . ! -type d | grep -E 'rooms|default' | sort) >found
-printf './%s\n' sites-available/default sites-available/rooms sites-enabled/rooms \
-  snippets/rooms-host.conf.dpkg-bak | sort >wanted
-same 'it is all that nginx has of rooms' found wanted
-does 'its names' "grep -E '^HOSTS=' /etc/rooms/site
-  curl -s -o /dev/null -w '%{http_code}\n' -H 'Host: hr.example' http://127.0.0.1/doc/x
-  curl -s -o /dev/null -w '%{http_code}\n' -u alice:no 'http://127.0.0.1/doc/x?[1-120]' | sort -u"
-prints 'with tries that are limited' 'HOSTS=rooms.example files.example' 401 401 429
-does 'a second run' 'rooms-admin setup'
-holds 'has nothing to change' grep -qx 'nothing to change' "$work/out"
-restarts 'the restart'
-sleep 10
-replies 'the room after an upgrade'
-# It has kept its port, until it is given a socket, and gets it back.
-listens() { # NAME LINE ..
-  does "$1" 'grep -o ":224C 00000000:0000 0A" /proc/net/tcp; ls /run/rooms/office'
-  prints "$@"
-}
-listens 'at its port' ':224C 00000000:0000 0A'
-does 'a socket for it' "$(block docs/operating.md 'echo SOCKET=yes')"
-listens 'at its socket' socket
-replies 'the room at a socket'
-does 'a port again' "$(block docs/operating.md 'echo SOCKET= ')"
-listens 'at its port again' ':224C 00000000:0000 0A'
-replies 'the room at its port'
-does 'its next backup' "$(block docs/upgrading.md 'start rooms-nightly')"
-holds 'is beside the others' [ "$(cat "$work/out")" != "$backup" ]
-does 'the start page' 'curl -s http://127.0.0.1/rooms/'
-same 'has the rooms' "$work/out" "$machine/var/lib/rooms-front/start.html"
-does 'all of it goes' 'systemctl stop rooms@office; apt-get purge -y rooms
-  rm -rf /var/lib/rooms /var/backups/rooms /var/lib/rooms-passwords /etc/systemd/system/rooms*'
-holds 'no settings are left' is_missing "$machine/etc/rooms"
-(cd "$machine/etc/nginx" && find . ! -type d | grep rooms | sort) >found
-echo ./snippets/rooms-host.conf.dpkg-bak >wanted
-same 'nor files of nginx, but what somebody edited' found wanted
-rm "$machine/etc/nginx/snippets/rooms-host.conf.dpkg-bak"
-ls "$machine"/etc/systemd/system/*.wants/*rooms* >found 2>/dev/null
-: >nothing
-same 'nor units' found nothing
 
 # The README's commands on a bare machine.
-cp "$older" "$machine/root/"
+cp "$older" "$package" "$machine/root/"
 does 'the package is installed' \
   "$(block README.md './rooms_' | sed "s/rooms_\*/${older%_amd64.deb}/")"
 holds 'it prints the address' grep -q '^Users then open http://' "$work/out"
@@ -178,6 +60,19 @@ does 'without a password' 'curl -s -o /dev/null -w "%{http_code}\n" http://127.0
 prints 'nobody gets in' 401
 does 'the page' 'curl -s -u alice:typed http://127.0.0.1/'
 same 'is served' "$work/out" files/usr/share/rooms/page/index.html
+listens() { # NAME LINE ..
+  does "$1" 'grep -o ":224C 00000000:0000 0A" /proc/net/tcp; ls /run/rooms/office'
+  prints "$@"
+}
+listens 'a room at its socket' socket
+does 'a port' "$(block docs/operating.md 'echo PORT=8780')"
+listens 'at its port, and a socket' ':224C 00000000:0000 0A' socket
+replies 'the room with its port'
+does 'no port' "$(block docs/operating.md 'echo PORT= ')"
+listens 'at its socket alone' socket
+replies 'the room without a port'
+does 'the start page' 'curl -s http://127.0.0.1/rooms/'
+same 'has the rooms' "$work/out" "$machine/var/lib/rooms-front/start.html"
 
 # A second room, by the blocks of machines.md.
 does 'a second room' "$(block docs/machines.md "year' invoices carol accounting")"
@@ -203,10 +98,10 @@ does 'its backup' 'systemctl start rooms-nightly@invoices && ls /var/backups/roo
 holds 'has the room' grep -qx invoices.rooms "$work/out"
 second 'it runs after its backup'
 does 'a tree comes in' 'mkdir -p share/2026 && echo ten >share/2026/bill && echo typed |
-  rooms-import --user carol http://127.0.0.1/invoices share /archive'
+  rooms-import --user carol --room http://127.0.0.1/invoices share /archive'
 holds 'all of it' grep -q 'left out 0$' "$work/out"
 does 'and goes out' 'echo typed |
-  rooms-export --user carol --no-lists http://127.0.0.1/invoices /archive out &&
+  rooms-export --user carol --no-lists --room http://127.0.0.1/invoices /archive out &&
   diff -r share out'
 refused() { # NAME TEXT ARGUMENT ..
   inside "rooms-admin add ${*:3}"
@@ -215,8 +110,10 @@ refused() { # NAME TEXT ARGUMENT ..
 }
 refused 'a room that is there' 'room exists' invoices
 refused 'a port of nginx' 'port in use: something listens' --port 80 other dora staff
+does 'a room with a port' 'sed -i "s/^PORT=.*/PORT=8780/" /etc/rooms/office.conf'
 refused 'a port of a room' 'port in use: /etc/rooms/office.conf has 8780' \
   --port 8780 other dora staff
+does 'no port any more' 'sed -i "s/^PORT=.*/PORT=/" /etc/rooms/office.conf'
 refused 'a room without an owner' 'OWNER and GROUP are needed' other
 inside 'rooms-admin add other "no name" staff'
 holds 'an owner that is none fails' [ "$status" = 1 ]
@@ -444,4 +341,5 @@ does 'what was enabled' "[ ! -e rooms.units ] &&
   readlink -e /etc/systemd/system/*.wants/rooms* | sed 's#.*/systemd/system/##'"
 prints 'is so again, by the units of the package' rooms-connections.service \
   rooms-passwords.service rooms@.service rooms-earlier.socket rooms-nights.socket \
-  rooms-own-password.socket rooms-directory@.timer rooms-nightly@.timer rooms-standby@.timer
+  rooms-own-password.socket rooms-password-file.socket rooms-directory@.timer \
+  rooms-nightly@.timer rooms-standby@.timer

@@ -41,7 +41,8 @@ for file in usr/bin/rooms usr/bin/rooms-import usr/bin/rooms-export usr/sbin/roo
   usr/bin/rooms-admin usr/share/rooms/rooms_admin/__main__.py usr/share/man/man8/rooms-admin.8.gz \
   $units/rooms-standby@.service $units/rooms-standby@.timer usr/share/man/man8/rooms-standby.8.gz \
   usr/share/rooms/rooms_admin/site/template.py usr/share/rooms/site.conf.in usr/sbin/rooms-full \
-  $units/rooms-full@.service usr/share/man/man8/rooms-full.8.gz usr/share/rooms/before.txt \
+  usr/share/rooms/tables/level_forms.js usr/share/rooms/tables/invisible_signs.js \
+  $units/rooms-full@.service usr/share/man/man8/rooms-full.8.gz \
   usr/sbin/rooms-directory usr/share/rooms/room.conf.in usr/share/rooms/directory.apache \
   usr/share/rooms/signed-in $units/rooms-passwords.service $units/rooms-directory@.service \
   $units/rooms-directory@.timer usr/share/man/man8/rooms-directory.8.gz $units/rooms@.service \

@@ -68,6 +68,11 @@ holds 'and comes back to the same address' \
   [ "$ended" = "404 $base/can/?r" -o "$ended" = "200 $base/can/?r" ]
 with() { ask "$2" "$3" "$4" '' "$5" -b "$1" "${@:6}"; } # JAR NAME STATUS BODY TARGET ARGUMENT ..
 with alice 'alice makes a document' 201 '' /doc/f -X PUT --data-binary hello
+# The log has who the session is of, and not what a field claims that nobody checks.
+with alice 'alice claims to be carol' 200 - /folder/ -u carol:anything
+holds 'the log says that it was alice' \
+  grep -q ' - alice \[.*\] "GET /folder/" 200 ' rooms.log
+holds 'and nothing of carol' eval '! grep -q carol rooms.log'
 with alice 'and reads it' 200 hello /doc/f
 with alice 'a change by another site' 403 - /doc/f -X PUT --data-binary x \
   -H 'Origin: http://elsewhere.example'

@@ -1,7 +1,6 @@
-# Several rooms, below a folder: what 'rooms-admin add' makes and refuses, what 'remove' takes away,
-# and how a machine of a version that had a file of nginx for each part of the site gets one.
+# Several rooms, below a folder: what 'rooms-admin add' makes and refuses, and what 'remove' takes
+# away.
 
-. "$here/lib/single.sh"
 verb() { # VERB ARGUMENT ..
   "$repo/admin/rooms-admin" "$1" --destdir "$PWD/machine" "${@:2}" \
     </dev/null >"$work/out" 2>"$work/err"
@@ -31,7 +30,7 @@ adds invoices
 says 'a room where nothing is installed' 2 'not installed'
 installs
 says 'an install' 0 'file /var/lib/rooms-front/start.html'
-holds 'office has settings' [ "$(value office UNIT) $(value office PORT)" = 'rooms@office 8780' ]
+holds 'office has settings' [ "$(value office UNIT) $(value office PORT)" = 'rooms@office ' ]
 refuses 'nothing' 'bad arguments'
 refuses 'an unknown option' 'bad arguments: no such option: --other' --other invoices
 refuses 'no value' 'bad arguments' --port
@@ -73,8 +72,6 @@ done
 for wrong in 0 08781 65536 99999 -1 port; do
   refuses "the port $wrong" 'bad port' --port "$wrong" invoices
 done
-refuses "office's port" "port in use: $PWD/machine/etc/rooms/office.conf has 8780" \
-  --port 8780 invoices
 for wrong in 'a"b' 'a\b' "a'b" 'a$b' ' a' 'a ' $'a\nb' "$(printf 'a%.0s' {1..101})"; do
   refuses "the title '$wrong'" 'bad title' --title "$wrong" invoices
 done
@@ -100,32 +97,33 @@ holds 'its backups' [ "$(value invoices BACKUPS)" = /var/backups/rooms/invoices 
 holds 'which have a folder' [ -n "$(find machine/var/backups/rooms/invoices -perm 700)" ]
 holds 'nobody else reads its passwords' \
   [ -n "$(find machine/var/lib/rooms-passwords/rooms-invoices.htpasswd -perm 600)" ]
-first=$(value invoices PORT)
-holds 'a port in reserve' [ "$first" -gt 8780 ]
+holds 'no port' [ -z "$(value invoices PORT)" ]
 site=machine/etc/nginx/sites-available/rooms
-holds 'which it does not have' [ "$(value invoices SOCKET)" = yes ]
 holds 'nginx goes to its socket' \
   grep -qx 'upstream room_invoices { server unix:/run/rooms/invoices/socket; }' "$site"
 holds 'and to that of office' \
   grep -qx 'upstream room_office { server unix:/run/rooms/office/socket; }' "$site"
 holds 'nothing is left to fill in' [ -z "$(grep -l '@[A-Z]*@' machine/etc/rooms/*.* "$site")" ]
 refuses 'the same room again' 'room exists: /etc/rooms/invoices.conf' invoices
-refuses "a port of another room" "port in use: $PWD/machine/etc/rooms/invoices.conf has $first" \
-  --port "$first" staff
 adds --host HR.example hr
 says 'a room with a host' 0 'new file /etc/nginx/sites-available/rooms'
-holds 'another port' [ "$(value hr PORT)" -gt "$first" ]
 holds 'the host' grep -qx ' *server_name rooms.example hr.example;' "$site"
 refuses 'the same host again' 'host in use' --host hr.example staff
 # Who asks for a port gets that.
 adds --port 8790 desk
 says 'a room with a port' 0 'file /etc/rooms/desk.conf'
-holds 'has no socket' [ "$(value desk PORT)$(value desk SOCKET)" = 8790 ]
-holds 'nginx goes to its port' grep -qx 'upstream room_desk { server 127.0.0.1:8790; }' "$site"
+holds 'has it' [ "$(value desk PORT)" = 8790 ]
+refuses "a port of another room" "port in use: $PWD/machine/etc/rooms/desk.conf has 8790" \
+  --port 8790 staff
+at_port=machine/etc/systemd/system/rooms-port@desk.socket.d/port.conf
+holds 'by a unit of its own' grep -qx 'ListenStream=127.0.0.1:8790' "$at_port"
+holds 'nginx goes to its socket' \
+  grep -qx 'upstream room_desk { server unix:/run/rooms/desk/socket; }' "$site"
 cp machine/etc/rooms/desk.conf desk.conf
 installs
 same 'settings stay as they are' machine/etc/rooms/desk.conf desk.conf
 removes desk
+holds 'nor its unit' [ ! -e "${at_port%/*}" ]
 rm machine/var/lib/rooms-passwords/rooms-desk.*
 start=machine/var/lib/rooms-front/start.html
 links() { sed -n 's/^ *<li>\(.*\)<\/li>$/\1/p' "$start"; }
@@ -161,7 +159,7 @@ sed -i 's#^BACKUPS=.*#BACKUPS=/var/backups/rooms#' machine/etc/rooms/office.conf
 # The settings are those of the scripts and of systemd: names, '=' and values alone.
 for room in office invoices hr; do
   grep -vE '^(#|$)' "machine/etc/rooms/$room.conf" | sed 's/=.*//' | tr '\n' ' ' >got
-  echo FILE SOCKET PORT DOOR DRIVE TITLE HOST BEHIND PASSWORDS OWN_PASSWORDS BACKUPS KEEP \
+  echo FILE PORT DRIVE TITLE HOST BEHIND PASSWORDS OWN_PASSWORDS BACKUPS KEEP \
     EARLIER EARLIER_FROM MEMORY LIMIT STANDBY HOURS MAIL REVIEW REVIEWER PEOPLE UNIT PROGRAM |
     tr '\n' ' ' >wanted
   same "the settings of $room" got wanted
@@ -234,15 +232,13 @@ echo '# mine' >>"$site"
 refuses 'an edited site' 'edited: /etc/nginx/sites-available/rooms' staff
 refuses 'an edited site, and a room that goes' 'edited: /etc/nginx/sites-available/rooms' \
   --remove hr
-sed -i 's/^TITLE=.*/TITLE=Staff/; s/^PORT=.*/PORT=8790/; s/^SOCKET=.*/SOCKET=/' \
-  machine/etc/rooms/hr.conf
+sed -i 's/^TITLE=.*/TITLE=Staff/; s/^EARLIER=.*/EARLIER=no/' machine/etc/rooms/hr.conf
 cp "$site" edited
 verb setup
 says 'an edited site stays' 1 'kept /etc/nginx/sites-available/rooms, which was edited'
 same 'as it was' "$site" edited
-holds 'what it should be is beside' \
-  grep -qx 'upstream room_hr { server 127.0.0.1:8790; }' "$site.new"
-says 'what differs is printed' 1 '+upstream room_hr { server 127.0.0.1:8790; }'
+holds 'what it should be is beside' [ "$(grep -c '^    hr yes;' "$site.new")" = 0 ]
+says 'what differs is printed' 1 '-    hr yes;'
 says 'and what somebody wrote' 1 '-# mine'
 cp "$site.new" "$site"
 verb setup
@@ -261,9 +257,9 @@ cat machine/etc/rooms/nginx/*/mine.conf >got
 printf '# mine\n# mine\n' >wanted
 same 'they stay' got wanted
 # Settings that can't be.
-for wrong in PASSWORDS=ldap HOST=a_b BEHIND=no SOCKET=1 PORT= PORT=0 OTHER=x HOST=rooms.example; do
+for wrong in PASSWORDS=ldap HOST=a_b BEHIND=no PORT=0 OTHER=x HOST=rooms.example; do
   cp machine/etc/rooms/hr.conf hr.conf
-  echo "$wrong" >>machine/etc/rooms/hr.conf
+  printf '%s\n' "$wrong" >>machine/etc/rooms/hr.conf
   tree >before
   verb setup
   says "the setting $wrong" 2 "$(
@@ -303,150 +299,3 @@ if has openssl; then
 else
   skip 'a host with TLS' 'openssl is missing'
 fi
-
-# A machine of a version that had a file of nginx for each part of the site, each room and TLS: what
-# they say goes to the settings. What nobody has edited goes, all else stays beside.
-
-# office, invoices at a path, hr at a host, ledger behind another front end, archive elsewhere.
-of_before() { # PREFIX
-  local part name
-  rm -rf machine
-  mkdir -p machine/etc/{rooms/machines,nginx/{sites-enabled,rooms.d,conf.d}}
-  nginx_of_before machine/etc/nginx "$1"
-  ln -s ../sites-available/rooms machine/etc/nginx/sites-enabled/rooms
-  of_room() {
-    sed -e "s/@NAME@/$2/g; s/@PORT@/$3/g; s/@HOST@/$2.example/g; s/@ON@/b.example/g" \
-      -e "s#/usr/local/#$prefix/#g" "$data/before/room/$1"
-  }
-  prefix=$1
-  of_room path invoices 8781 >machine/etc/nginx/rooms.d/invoices.path
-  for part in host host-tls; do of_room $part hr 8782 >machine/etc/nginx/rooms.d/hr.$part; done
-  of_room front ledger 8783 >machine/etc/nginx/rooms.d/ledger.front
-  of_room on archive 8443 >machine/etc/nginx/rooms.d/archive.path
-  echo '<!doctype html>' >machine/etc/nginx/rooms.d/start.html
-  for name in office:8780 invoices:8781 hr:8782 ledger:8783; do
-    printf '%s\n' "FILE=/var/lib/rooms/${name%:*}.rooms" "PORT=${name#*:}" "TITLE=${name%:*}" \
-      BACKUPS=/var/backups/rooms '# mine' \
-      "UNIT=rooms@${name%:*}" >"machine/etc/rooms/${name%:*}.conf"
-  done
-  printf '%s\n' TITLE=archive ON=b.example PORT=8443 >machine/etc/rooms/archive.on
-  : | tee machine/etc/rooms/machines/{front,machine}.{pem,key} \
-    >machine/etc/rooms/machines/authority.pem
-  echo 'alice:x' >machine/etc/nginx/rooms.htpasswd
-}
-came() { # NAME: one file is there, and no other; the rooms are where they were
-  find machine/etc/nginx ! -type d | sort >got
-  {
-    printf 'machine/etc/nginx/%s\n' sites-available/rooms sites-enabled/rooms
-    cat kept
-  } | sort >wanted
-  same "$1: nginx's files" got wanted
-  for line in 'upstream room_office { server 127.0.0.1:8780; }' \
-    '    "~^[^ ]+ /invoices(/|$)" invoices;' \
-    '    "~^hr\.example " hr;' '    "~^/ledger(/|$)" ledger;' \
-    'upstream room_archive { server b.example:8443 max_fails=0; }'; do
-    holds "$1: $line" grep -qxF "$line" "$site"
-  done
-  [ "$(value hr HOST) $(value ledger BEHIND)$(value invoices HOST)" = 'hr.example yes' ] ||
-    fail "$1" 'other settings'
-  holds "$1: what somebody wrote stays" grep -qx '# mine' machine/etc/rooms/hr.conf
-  verb setup
-  says "$1: once" 0 'nothing to change'
-}
-: >kept
-for prefix in /usr /usr/local; do
-  of_before "$prefix"
-  tree >before
-  verb setup --dry-run
-  says "below $prefix, as it would be" 0 'would: /etc/nginx/snippets/rooms-server.conf is removed'
-  tree >after
-  same 'is not so' after before
-  verb setup
-  says "below $prefix" 0 'new file /etc/rooms/hr.conf, with HOST=hr.example'
-  holds 'no line of it was edited' [ "$(grep -c 'no version had' "$work/out")" = 0 ]
-  came "below $prefix"
-done
-# By the blocks that pages had: TLS, another name, a directory for office and invoices, what is
-# remembered.
-of_before /usr
-sed -i 's/rooms.example/files.office.example/; s/8780/9123/' \
-  machine/etc/nginx/sites-available/rooms{,-tls}
-ln -sfn ../sites-available/rooms-tls machine/etc/nginx/sites-enabled/rooms
-printf '# Written by rooms-setup --tls.\nssl_certificate /etc/ssl/rooms.pem;\nssl_certificate_key /etc/ssl/private/rooms.key;\n' \
-  >machine/etc/nginx/snippets/rooms-tls.conf
-ln -s ../snippets/rooms-directory.conf machine/etc/nginx/conf.d/rooms-remember.conf
-ln -s ../snippets/rooms-front.conf machine/etc/nginx/conf.d/rooms-front.conf
-sed -i 's#^auth_basic ".*;#include snippets/rooms-remembered.conf;#
-  s#^auth_basic_user_file /etc/nginx/\(.*\).htpasswd;#auth_request /password/\1;#' \
-  machine/etc/nginx/snippets/rooms-server.conf
-sed -i '/auth_request off;/d; /auth_basic "/d
-  s#auth_basic_user_file /etc/nginx/\(.*\).htpasswd;#auth_request /password/\1;#' \
-  machine/etc/nginx/rooms.d/invoices.path
-sed -i '/^auth_request /a add_header WWW-Authenticate $room_challenge always;' \
-  machine/etc/nginx/snippets/rooms-server.conf
-echo '# mine' >machine/etc/nginx/conf.d/rooms-tickets.conf
-echo machine/etc/nginx/conf.d/rooms-tickets.conf >kept
-verb setup
-says 'by the blocks of pages' 0 'new file /etc/rooms/invoices.conf, with PASSWORDS=directory'
-holds 'no line of it was edited' [ "$(grep -c 'no version had' "$work/out")" = 0 ]
-came 'by the blocks of pages'
-holds 'the names and the certificate' \
-  [ "$(grep -E '^(HOSTS|CERTIFICATE|KEY)=' machine/etc/rooms/site | tr '\n' ' ')" = \
-  'HOSTS=files.office.example CERTIFICATE=/etc/ssl/rooms.pem KEY=/etc/ssl/private/rooms.key ' ]
-holds 'who checks passwords' \
-  [ "$(value office PASSWORDS) $(value invoices PASSWORDS) $(value hr PASSWORDS)." \
-    = 'directory directory .' ]
-holds 'which nginx asks' \
-  grep -qF 'location ~ ^/password/(?<room_file>rooms-invoices|rooms)$' "$site"
-holds 'what is offered beside a ticket' \
-  grep -qx 'add_header WWW-Authenticate $room_challenge always;' \
-    machine/etc/rooms/nginx/server.d/tickets.conf
-# Edited by hand: it stays beside, and its lines are printed.
-of_before /usr
-sed -i 's#^client_max_body_size 1m;#client_max_body_size 2m;#' \
-  machine/etc/nginx/snippets/rooms-host.conf
-echo 'expires 1h;' >>machine/etc/nginx/rooms.d/invoices.path
-sed -i 's/server_name rooms.example;/server_name rooms.example _ *.x.example;/
-  /server_name/a gzip on;' \
-  machine/etc/nginx/sites-available/rooms
-# A line that says who gets in: nothing changes until somebody has decided.
-printf '%s\n' 'allow 10.0.0.0/8; # the office' 'deny all;' >>machine/etc/nginx/rooms.d/invoices.path
-sed -i '/client_max_body_size/a ssl_verify_client on;' machine/etc/nginx/snippets/rooms-host.conf
-tree() { (cd machine/etc && find . -type f -exec cksum {} + -o -type l -printf '%p %l\n' | sort); }
-tree >before
-for turn in setup 'add hr2' 'remove hr'; do
-  # shellcheck disable=SC2086
-  verb $turn
-  for line in '/etc/nginx/rooms.d/invoices.path says who gets in: allow 10.0.0.0/8; # the office' \
-    '/etc/nginx/rooms.d/invoices.path says who gets in: deny all;' \
-    '/etc/nginx/snippets/rooms-host.conf says who gets in: ssl_verify_client on;' \
-    'nginx goes on with its files of before, until these lines are taken out'; do
-    says "lines that say who gets in, $turn" 1 "$line"
-  done
-  holds "and no other, $turn" [ "$(grep -c 'says who gets in' "$work/err")" = 3 ]
-  tree >after
-  same "all stays as it was, $turn" after before
-done
-sed -i -e '/^allow/d' -e '/^deny/d' machine/etc/nginx/rooms.d/invoices.path
-sed -i '/^ssl_verify_client/d' machine/etc/nginx/snippets/rooms-host.conf
-verb setup
-cp "$work/out" edited.out
-says 'edited files' 0 '/etc/nginx/snippets/rooms-host.conf is now /etc/nginx/snippets/rooms-host.conf.dpkg-bak, since it was edited'
-for line in 'client_max_body_size 2m;' 'expires 1h;' 'gzip on;'; do
-  says "what was edited: $line" 0 "no version had: $line"
-done
-holds 'and nothing else' [ "$(grep -c 'no version had' "$work/out")" = 3 ]
-printf 'machine/etc/nginx/%s.dpkg-bak\n' snippets/rooms-host.conf rooms.d/invoices.path \
-  sites-available/rooms >kept
-came 'edited files'
-holds 'names that are no hosts are left out' grep -qx HOSTS=rooms.example machine/etc/rooms/site
-holds 'which is said' [ "$(grep -c "^the site had the name '" edited.out)" = 2 ]
-holds 'what was edited is there' \
-  grep -qx 'client_max_body_size 2m;' machine/etc/nginx/snippets/rooms-host.conf.dpkg-bak
-# The new file is one's own from then on: what is edited in it stays too.
-echo '# mine' >>"$site"
-cp "$site" edited
-sed -i 's/^PORT=.*/PORT=8790/' machine/etc/rooms/hr.conf
-verb setup
-says 'an edited site stays then too' 1 'kept /etc/nginx/sites-available/rooms, which was edited'
-same 'as it was' "$site" edited

@@ -31,7 +31,8 @@ admin add --port $((port + 6)) --host hr.example hr
 holds 'a room at a host' [ "$status" = 0 ]
 mkdir run/rooms/invoices
 serves G --socket "$PWD/run/rooms/invoices/socket"
-serves H --port $((port + 6))
+mkdir run/rooms/hr
+serves H --socket "$PWD/run/rooms/hr/socket"
 start_front "nginx's site" || return
 
 # The page, and the start page.
@@ -73,7 +74,7 @@ ask 'nor without a password' 401 - '' /nothing.js
 ask 'a name of no room' 404 - alice:pw /nothing
 ask 'the start page' 200 - '' /rooms/
 ask 'its style' 200 - '' /rooms/style.css
-ask 'a room without its slash' 301 - '' /invoices
+ask 'a room without its slash' 301 - alice:pw-invoices /invoices
 ask 'the page of a room at a path' 200 - alice:pw-invoices /invoices/
 
 # Whose password counts where. Which passwords are asked for doesn't depend on what was asked
@@ -138,21 +139,21 @@ ask 'another room' 201 '' alice:pw-invoices /invoices/doc/letters/z -X PUT --dat
 ask 'what nginx has inside' 404 - alice:pw /rooms/full
 ask 'and for passwords' 404 - alice:pw /rooms/password
 rm run/rooms-full/*
-: >"run/rooms-full/127.0.0.1:$((port + 6))"
+: >run/rooms-full/hr.full
 ask 'a full room with a port' 507 - alice:pw-hr /doc/z -X PUT --data-binary x -H 'Host: hr.example'
 rm run/rooms-full/*
 
-# Whoever listens at a port in the place of its server learns what is asked, and by whom, but no
-# password.
+# Whoever is in the place of a server learns what is asked, and by whom, but no password.
 kill "${others[1]}"
 wait "${others[1]}" 2>/dev/null
+rm -f run/rooms/hr/socket
 python3 -c 'import socket, sys
-with socket.create_server(("127.0.0.1", int(sys.argv[1]))) as at:
+with socket.create_server(sys.argv[1], family=socket.AF_UNIX) as at:
     open("waits", "w").close()
     one, _ = at.accept()
     with open("got", "wb") as got, one:
         got.write(one.recv(65536))
-        one.sendall(b"HTTP/1.1 200 OK\r\nContent-Length: 2\r\n\r\n{}")' $((port + 6)) &
+        one.sendall(b"HTTP/1.1 200 OK\r\nContent-Length: 2\r\n\r\n{}")' "$PWD/run/rooms/hr/socket" &
 others+=($!)
 began=$SECONDS
 until [ -e waits ] || [ $((SECONDS - began)) -ge "$patience" ]; do sleep 0.05; done

@@ -43,7 +43,11 @@ probed 'in the place of a watch' rooms-full@office \
 probed 'in the place of a server' rooms@office \
   'read /etc/rooms/office.conf' 'read /etc/nginx/nginx.conf' 'list /var/lib/rooms' \
   'list /var/log/nginx' 'write /var/lib/rooms' 'write /var/tmp' \
-  'ask /run/dbus/system_bus_socket' 'ask 127.0.0.1:80'
+  'ask /run/dbus/system_bus_socket'
+does 'a port for the room' 'echo PORT=8780 >>/etc/rooms/office.conf && rooms-admin setup &&
+  systemctl restart rooms@office'
+probed 'in the place of what listens at a port' rooms-port@office \
+  'write /var/tmp' 'ask /run/rooms/office/socket' 'ask /run/rooms/invoices/socket'
 probed 'in the place of what sends mail' rooms-tell@probe \
   'read /etc/rooms/office.conf' 'read /etc/nginx/nginx.conf' 'list /var/log/nginx' \
   'write /var/tmp' 'write /dev/shm' 'ask /run/dbus/system_bus_socket' 'ask 127.0.0.1:80' \

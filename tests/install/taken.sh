@@ -20,6 +20,11 @@ FIELDS = {"X-Accel-Redirect": "/rooms/start.html",
           "Clear-Site-Data": '"*"', "Alt-Svc": 'h2="evil.example:443"',
           "Service-Worker-Allowed": "/", "Access-Control-Allow-Origin": "https://evil.example",
           "Access-Control-Allow-Credentials": "true"}
+# All others that nginx has to keep for itself, too.
+with open(sys.argv[2], encoding="ascii") as rows:
+    for row in rows:
+        if not row.startswith("#"):
+            FIELDS.setdefault(row.strip(), "theirs")
 PAGE = b"<script src=/invoices/doc/evil.js></script>"
 
 
@@ -61,11 +66,11 @@ class Server(socketserver.ThreadingMixIn, socketserver.UnixStreamServer):
     pass
 
 
-Server(sys.argv[1], Service if len(sys.argv) > 2 else Liar).serve_forever()
+Server(sys.argv[1], Service if len(sys.argv) > 3 else Liar).serve_forever()
 END
 mkdir -p run/rooms/office run/rooms-earlier
 lies_at() { # SOCKET [scgi]
-  python3 liar.py "$@" &
+  python3 liar.py "$1" "$repo/deploy/nginx/hidden-fields.txt" "${@:2}" &
   others+=("$!")
   until [ -S "$1" ]; do sleep 0.05; done
   chmod 777 "$1"
@@ -81,10 +86,20 @@ lies() { # STATUS TARGET ARGUMENT ..
   ask "$2 comes as it is" "$1" "$page" alice:a "${@:2}"
   answer alice:a "${@:2}"
   holds "$2 is no page of the site" grep -qxF "$policy; sandbox"$'\r' "$work/head"
-  grep -iE -e '^(X-Accel|Set-Cookie|Refresh|Location|WWW-Authenticate|Clear-Site-Data)' \
-    -e '^(Alt-Svc|Service-Worker|Access-Control)' "$work/head" >found
-  same "$2 has a browser do nothing" found /dev/null
+  # What a browser gets is nginx's own, each field once, and what an answer is.
+  sed -n 's/:.*//p' "$work/head" | tr 'A-Z' 'a-z' | sort >found
+  grep -vx -e 'content-\(disposition\|encoding\|length\|type\)' -e transfer-encoding -e date \
+    -e server -e connection -e content-security-policy -e x-content-type-options \
+    -e cross-origin-resource-policy -e referrer-policy found >more
+  uniq -d found >>more
+  same "$2 has a browser do nothing" more /dev/null
+  holds "$2 keeps what nginx says" grep -qx $'X-Content-Type-Options: nosniff\r' "$work/head"
 }
+# The fields that are known to be obeyed for more than the one answer.
+for field in NEL Report-To Reporting-Endpoints Strict-Transport-Security Set-Cookie \
+  Clear-Site-Data Alt-Svc Service-Worker-Allowed Link Refresh Location; do
+  holds "$field is among those" grep -qxF "$field" "$repo/deploy/nginx/hidden-fields.txt"
+done
 for target in /folder/200 /doc/200 /can/403 /attr/302 /dacl/401; do
   lies "${target##*/}" "$target"
 done

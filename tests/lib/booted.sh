@@ -27,7 +27,9 @@ boot_machine() { # NAME OF WHAT IS SKIPPED
 # More words for systemd-nspawn, such as for users of its own. Its first process then can't write to
 # this machine's groups of processes, and has some of its own.
 boot_words=()
-own_groups() { echo /sys/fs/cgroup/{,systemd/,unified/}rooms-$$; }
+own_groups() {
+  echo "/sys/fs/cgroup/"{,systemd/,unified/}"${ROOMS_TESTS##*/}-$ROOMS_NUMBER"
+}
 enter_groups() {
   local one
   for one in $(own_groups); do

@@ -20,7 +20,7 @@ play() { # NAME SCRIPT ARGUMENT ..
   shift
   while IFS=$'\t' read -r word check why; do
     case $word in
-      pass) pass ;;
+      pass) pass "$check" ;;
       fail) fail "$check" "$why" ;;
       skip) skip "$check" "$why" ;;
       end) ended=yes ;;

@@ -4,7 +4,10 @@
 [ "$loopback" = yes ] && [ -x /usr/bin/python3 ] && has openssl || return
 make_stand
 open_room office/F
-[ "$STAND_USER" = "$(id -u)" ] || chown -R 65534:65534 office
+mkdir -p run/rooms/office
+[ "$STAND_USER" = "$(id -u)" ] || chown -R 65534:65534 office run/rooms/office
+sock=$PWD/run/rooms/office/socket
+echo "$sock" >"$stand/socket"
 unit start
 
 # nginx is played: it answers as a file says.
@@ -46,6 +49,7 @@ mkdir -p root/etc/nginx/{sites-enabled,sites-available} \
   root/etc/systemd/system/timers.target.wants root/var/lib/systemd/timers
 : >failed
 echo active >timer
+echo active >door
 echo yes >private
 mv stand/bin/systemctl stand/bin/own
 cat >stand/bin/systemctl <<END
@@ -54,6 +58,8 @@ case "\$*" in
   'list-units '*) cat "$PWD/failed" ;;
   'is-active rooms-nightly@office.timer') cat "$PWD/timer" ;;
   'is-active rooms-connections.service') cat "$PWD/bounded" ;;
+  'is-active rooms-door@office') cat "$PWD/door" ;;
+  'show -p MemoryMax --value rooms.slice') echo infinity ;;
   'show -p MemoryMax'*) echo 1073741824 ;;
   'show -p PrivateUsers '*) cat "$PWD/private" ;;
   'start --no-block '*) echo "\$*" >>"$PWD/told" ;;
@@ -62,9 +68,9 @@ esac
 END
 chmod 755 stand/bin/systemctl
 settings() { # LINE ..: those of office, and more
-  printf '%s\n' "FILE=$PWD/office/F" "PORT=$(<"$stand/port")" "BACKUPS=$PWD/backups" \
+  printf '%s\n' "FILE=$PWD/office/F" "BACKUPS=$PWD/backups" \
     UNIT=rooms@office "PROGRAM=$rooms" "$@" >root/etc/rooms/office.conf
-  echo "upstream room_office { server 127.0.0.1:$(<"$stand/port"); }" \
+  echo 'upstream room_office { server unix:/run/rooms/office/socket; }' \
     >root/etc/nginx/sites-available/rooms
 }
 settings

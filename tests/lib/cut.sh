@@ -49,14 +49,13 @@ at_each_call() { # NAME LEAST
 lane() { # SIGNAL
   how=$1 above=$PWD
   cd "$how" || return
-  passed=0 failed=0
   work=$PWD/work stand=$PWD/stand
   mkdir "$work" "$stand" run
   mkdir -m 1777 tmp
   export STAND=$stand ROOMS_RUN=$PWD/run TMPDIR=$PWD/tmp
   echo 0 >"$stand/count"
   does_all
-  echo "$passed $failed" >counts
+  : >whole
 }
 both_signals() {
   local lanes=()
@@ -66,8 +65,6 @@ both_signals() {
   done
   wait "${lanes[@]}"
   for how in TERM KILL; do
-    holds "$how: each verb was cut off" [ -s "$how/counts" ]
-    read -r more less _ <<<"$(cat "$how/counts") 0 1"
-    passed=$((passed + more)) failed=$((failed + less))
+    holds "$how: each verb was cut off" [ -e "$how/whole" ]
   done
 }

@@ -1,8 +1,8 @@
 # A standby copy on another machine, as machines.md has it: by a stand-in of ssh, and by sshd where
 # there is one. admin/standby has the room and its stand-ins.
 
-place=$(sed -n 's/^.*`STANDBY=\(root@[^`]*\)`.*/\1/p' "$here/../docs/machines.md")
-holds 'the page names a place' [ "$place" = root@b.example:/ ]
+remote=$(sed -n 's/^.*`STANDBY=\(root@[^`]*\)`.*/\1/p' "$here/../docs/machines.md")
+holds 'the page names a place' [ "$remote" = root@b.example:/ ]
 # What stands before the key there, by which it can do nothing else.
 forced=$(tr '\n' ' ' <"$here/../docs/machines.md" | grep -o 'restrict,command="rrsync [^"]*"')
 holds 'and what its key may do' \
@@ -26,13 +26,12 @@ run() {
 if [ -e '$stand/cut' ]; then head -c 100000 | run "\$@"; else run "\$@"; fi
 END
 chmod 755 "$stand/bin/ssh"
-set_value STANDBY "$place"
+set_value STANDBY "$remote"
 there=elsewhere/var/backups/rooms/standby
 head -c 300000 /dev/urandom >large
 put_large() { # NAME: more than the connection lets through once it is cut
-  read -r port <"$stand/port"
-  curl -q -s -o "$work/body" -X PUT -H 'Room-User: root' -H Expect: \
-    --data-binary @large "http://127.0.0.1:$port/doc/$1"
+  curl -q -s -o "$work/body" -X PUT -H 'Room-User: root' -H Expect: --unix-socket "$sock" \
+    --data-binary @large "http://localhost/doc/$1"
 }
 put by-ssh
 stands
@@ -43,7 +42,7 @@ holds 'all of it' has_document "$there" by-ssh
 put_large after-a-cut
 : >"$stand/cut"
 stands
-says 'a connection that ends within it' 1 "$place doesn't get the copy"
+says 'a connection that ends within it' 1 "$remote doesn't get the copy"
 rm "$stand/cut"
 holds 'leaves the last one there whole' \
   eval 'has_document "$there" by-ssh && [ "$("$rooms" verify look 2>&1)" = sound ]'

@@ -30,7 +30,9 @@ for_here() { # FILE
     -e "s|/etc/nginx/|$PWD/|; s|/var/lib/rooms-passwords/|$PWD/|" \
     -e "s|/run/rooms-earlier/|$PWD/run/rooms-earlier/|" \
     -e "s|/run/rooms-own-password/|$PWD/|; s|/etc/rooms/|$PWD/machine/etc/rooms/|" \
-    -e "s|/var/lib/rooms-front|$PWD/machine/var/lib/rooms-front|" "$1"
+    -e "s|/var/lib/rooms-front|$PWD/machine/var/lib/rooms-front|" \
+    -e "s|access_log /var/log/nginx/access.log rooms .*|& access_log $PWD/access.log short;|" \
+    -e "s|/var/log/nginx/access.log|$PWD/rooms.log|; s|/var/log/nginx/|$PWD/|" "$1"
 }
 
 # nginx's file, which includes the site as Debian's does.
@@ -84,10 +86,10 @@ certify_front() {
     -out rooms.pem 2>/dev/null
 }
 
-# Starts nginx with the site of the room office, whose server is at $place, a socket or a port; with
-# TLS for 'tls', whose certificate and key are ./rooms.pem and ./rooms.key. The ports $front and
-# $secure are free if $port is. It asks for the passwords of ./rooms.htpasswd, serves the page, and
-# writes the status, method, target, user and origin of each request into ./access.log.
+# Starts nginx with the site of the room office, whose server start_room has started; with TLS for
+# 'tls', whose certificate and key are ./rooms.pem and ./rooms.key. The ports $front and $secure are
+# free if $port is. It asks for the passwords of ./rooms.htpasswd, serves the page, and writes the
+# status, method, target, user and origin of each request into ./access.log.
 start_front() { # NAME [tls]
   local began=$SECONDS
   front=$((port + 1))
@@ -101,8 +103,6 @@ start_front() { # NAME [tls]
   chmod 710 checks
   rm -f nginx.pid
   [ -e machine/etc/rooms/site ] || admin setup
-  sets office PORT "$port"
-  sets office SOCKET "$(case $place in /*) echo yes ;; esac)"
   if [ -n "${2-}" ]; then
     sets - CERTIFICATE "$PWD/rooms.pem"
     sets - KEY "$PWD/rooms.key"
@@ -149,7 +149,7 @@ ask() { # NAME STATUS BODY USER:PASSWORD TARGET ARGUMENT ..
     "$base$target")
   [ "$got" = "$wanted" ] ||
     { fail "$name" "status $got, wanted $wanted: $(head -c 200 "$work/body")"; return; }
-  [ "$body" = - ] && { pass; return; }
+  [ "$body" = - ] && { pass "$name"; return; }
   printf '%s' "$body" >"$work/want.body"
   same "$name" "$work/body" "$work/want.body"
 }

@@ -109,6 +109,17 @@ stop_proxy() {
 # The bytes of $work/sent go out on a connection of their own, and what comes back until the server
 # closes is in $work/reply.
 exchange() {
+  if [[ $place = /* ]]; then
+    timeout "$patience" python3 -IBc 'import shutil, socket, sys, threading
+with socket.socket(socket.AF_UNIX) as at:
+    at.connect(sys.argv[1])
+    back = threading.Thread(target=shutil.copyfileobj,
+                            args=(at.makefile("rb"), sys.stdout.buffer))
+    back.start()
+    at.sendall(sys.stdin.buffer.read())
+    back.join()' "$place" <"$work/sent" >"$work/reply"
+    return
+  fi
   exec 3<>"/dev/tcp/127.0.0.1/$port" || { : >"$work/reply"; return 1; }
   cat "$work/sent" >&3
   timeout "$patience" cat <&3 >"$work/reply"

@@ -3,30 +3,80 @@
 ALL=rwanNxDtThHdcCoy
 EMPTY_ROOM="folder root staff /\ndacl\nlist:a\nA:fd:OWNER@:$ALL\nsacl\nlist:a\n"
 
-pass() { passed=$((passed + 1)); }
+# Where a check stands, the innermost place first: 'lib/check.sh:20 admin/check.sh:30'.
+place_of_check() {
+  local n
+  place_of_check=
+  for ((n = 2; n < ${#BASH_SOURCE[@]} - 1; n++)); do
+    [[ ${BASH_SOURCE[n]} = */lib/lib.sh ]] ||
+      place_of_check+="${place_of_check:+ }${BASH_SOURCE[n]#"$here/"}:${BASH_LINENO[n - 1]}"
+  done
+}
+# A line of TAP, whose name may hold what would end it.
+tap() { # ok|'not ok' NAME [MORE]
+  local name=${2//$'\n'/ }
+  name=${name//$'\r'/ }
+  printf '%s - %s%s\n' "$1" "${name//#/ }" "${3-}" >>"${tap_file-$ROOMS_TAP}"
+}
+
+pass() { # [NAME]
+  [ $# != 0 ] || place_of_check
+  tap ok "${1-$place_of_check}"
+}
 
 fail() { # NAME WHY
-  failed=$((failed + 1))
-  echo "FAILED $1: $2"
+  local why=${2//$'\n'/ }
+  place_of_check
+  tap 'not ok' "$1" $'\n'"# $place_of_check: ${why//$'\r'/ }"
+  echo "FAILED $1 ($place_of_check): $2"
 }
 
 skip() { # NAME WHY
-  skipped=$((skipped + 1))
+  local why=${2//$'\n'/ }
+  tap ok "$1" " # SKIP ${why//$'\r'/ }"
   echo "skipped $1: $2"
+}
+
+# Checks that a program of the case has made.
+passes() { # NAME NUMBER
+  local n
+  for ((n = 0; n < $2; n++)); do tap ok "$1"; done
+}
+
+# Plays checks that aren't the part's; the status is 1 if one of them fails.
+tried() { # COMMAND ..
+  local tap_file=$work/tried
+  : >"$tap_file"
+  "$@"
+  ! grep -q '^not ok' "$tap_file"
 }
 
 # Bytes for a failure's message, so that none is lost.
 shown() { head -c 600 "$1" | od -An -c | sed 's/^ *//' | head -12; }
 
+# What differs: lines, or what stands round the first byte where these are too long to be read.
+difference() { # GOT WANTED
+  local at file
+  diff -a -u --label wanted --label got "$2" "$1" >"$work/diff" 2>&1
+  if [ "$(wc -c <"$work/diff")" -le 12000 ]; then
+    cat -v "$work/diff"
+    return
+  fi
+  at=$(LC_ALL=C cmp -- "$1" "$2" 2>&1 | sed -n 's/.* byte \([0-9]*\),.*/\1/p')
+  for file in "$2" "$1"; do
+    echo "$file, from byte $((${at:-1} > 200 ? ${at:-1} - 200 : 1)) on:"
+    tail -c +$((${at:-1} > 200 ? ${at:-1} - 200 : 1)) "$file" | head -c 600 | cat -v
+    echo
+  done
+}
+
 # The two files have the same bytes.
 same() { # NAME GOT WANTED
   if cmp -s "$2" "$3"; then
-    pass
+    pass "$1"
   else
-    fail "$1" "other bytes; got:"
-    shown "$2"
-    echo "  wanted:"
-    shown "$3"
+    fail "$1" 'other bytes'
+    difference "$2" "$3"
   fi
 }
 
@@ -34,7 +84,7 @@ same() { # NAME GOT WANTED
 holds() { # NAME COMMAND ..
   local name=$1
   shift
-  if "$@"; then pass; else fail "$name" "doesn't hold: $*"; fi
+  if "$@"; then pass "$name"; else fail "$name" "doesn't hold: $*"; fi
 }
 
 # The status of the last command, and texts that it wrote to either of its outputs.
@@ -93,7 +143,7 @@ wants_file() { # NAME STATUS FILE
 # The bytes of the last run are those of one of two files.
 one_of() { # NAME FILE FILE
   if [ "$status" = 0 ] && { cmp -s "$work/out" "$2" || cmp -s "$work/out" "$3"; }; then
-    pass
+    pass "$1"
   else
     fail "$1" "neither of both, status $status"
     shown "$work/out"
@@ -120,7 +170,7 @@ refuses_words() { # NAME ARGUMENT ..
   elif ! grep -q "^Usage: $(basename "$rooms")" "$work/err"; then
     fail "$name" "no usage on standard error"
   else
-    pass
+    pass "$name"
   fi
 }
 

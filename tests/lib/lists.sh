@@ -246,7 +246,7 @@ judge() { # NAME
       }
     }
     END { print agree + 0 }' - said >judged
-  passed=$((passed + $(tail -n 1 judged)))
+  passes "$1" "$(tail -n 1 judged)"
   sed '$d' judged >differences
   # What went with one mistake is missing in many a later answer.
   while IFS= read -r line; do fail "$1" "$line"; done < <(head -n 10 differences)

@@ -10,21 +10,11 @@ can_package() { # NAME OF WHAT IS SKIPPED
   version=$("$rooms" --version 2>&1 </dev/null | sed 's/^rooms //')
   package=rooms_${version}_amd64.deb
 }
-# Copies the folder ROOMS_DEBIAN, or one that debootstrap makes once for all cases, to $machine.
+# Copies the folder ROOMS_DEBIAN to $machine; tests/run makes it, if it isn't there.
 copy_machine() { # NAME OF WHAT IS SKIPPED
-  local folder=${ROOMS_DEBIAN:-$work/debian}
-  if [ ! -d "$folder" ]; then
-    has debootstrap || { skip "$1" 'no debootstrap, and ROOMS_DEBIAN names no folder'; return 1; }
-    timeout 600 debootstrap --variant=minbase \
-      --include=systemd,dbus,nftables,nginx,apache2-utils,openssl,curl,python3,python3-ldap \
-      bookworm "$folder.part" >"$work/debootstrap" 2>&1 </dev/null ||
-      {
-        skip "$1" "debootstrap fails: $(tail -n 1 "$work/debootstrap")"
-        rm -rf "$folder.part"
-        return 1
-      }
-    mv "$folder.part" "$folder"
-  fi
+  local folder=$ROOMS_DEBIAN
+  until [ -d "$folder" ] || [ -e "$ROOMS_TESTS/no-debian" ]; do sleep 1; done
+  [ -d "$folder" ] || { skip "$1" "debootstrap fails: $(<"$ROOMS_TESTS/no-debian")"; return 1; }
   cp -a "$folder" "$machine" || { skip "$1" "$folder can't be copied"; return 1; }
   # There is no network from which what is only recommended could be brought.
   mkdir -p "$machine/etc/apt/apt.conf.d"
@@ -73,7 +63,7 @@ inside() { # TEXT
 }
 does() { # NAME TEXT: with status 0
   inside "$2"
-  if [ "$status" = 0 ]; then pass; return; fi
+  if [ "$status" = 0 ]; then pass "$1"; return; fi
   fail "$1" "status $status: $(tail -c 600 "$work/out" "$work/err")"
 }
 prints() { # NAME LINE ..: the last command wrote just this
@@ -118,14 +108,9 @@ start() { # NAME
   : >"/run/$1.line"
   settings=$(sed -n 's/^EnvironmentFile=//p' "$(unit "$1")")
   settings=${settings//%i/${1#*@}}
-  mapfile -t settings < <(grep -E '^(FILE|PORT|SOCKET)=' "$settings")
+  mapfile -t settings < <(grep '^FILE=' "$settings")
+  for one in "${settings[@]}"; do export "$one"; done
   rm -rf "/run/rooms/${1#*@}"
-  # A port is closed before it is there.
-  if [ "$(printf '%s\n' "${settings[@]}" | sed -n 's/^SOCKET=//p' | tail -n 1)" != yes ]; then
-    for table in /usr/share/rooms/rooms.nft /usr/local/share/rooms/rooms.nft; do
-      [ ! -e "$table" ] || nft -f "$table" || return 1
-    done
-  fi
   install -d -o rooms -g rooms -m 710 "/run/rooms/${1#*@}"
   eval "set -- \"$1\" $(command_of "$1")"
   env "${settings[@]}" setpriv --reuid=rooms --regid=rooms --clear-groups "${@:2}" \
@@ -137,9 +122,32 @@ start() { # NAME
     sleep 0.02
   done
   line=$(sed -n 's/^ExecStartPost=+//p' "$(unit "$1")")
-  env "${settings[@]}" MAINPID="$(cat "/run/$1.pid")" ${line//%i/${1#*@}}
+  env "${settings[@]}" MAINPID="$(cat "/run/$1.pid")" ${line//%i/${1#*@}} || return
+  port start "${1#*@}"
+}
+port() { # start|stop ROOM: what listens at its port, if it has one
+  local line
+  [ ! -s "/run/port.$2" ] || kill "$(cat "/run/port.$2")" 2>/dev/null
+  while [ -s "/run/port.$2" ] && kill -0 "$(cat "/run/port.$2")" 2>/dev/null; do sleep 0.02; done
+  rm -f "/run/port.$2"
+  line=$(sed -n 's/^ListenStream=127.0.0.1://p' \
+    "/etc/systemd/system/rooms-port@$2.socket.d/port.conf" 2>/dev/null)
+  [ "$1" = start ] && [ -n "$line" ] || return 0
+  ROOM=$2 python3 -c 'import os, socket, sys
+at = socket.create_server(("127.0.0.1", int(sys.argv[1])))
+os.dup2(at.fileno(), 3)
+os.set_inheritable(3, True)
+os.environ["LISTEN_FDS"] = "1"
+os.execv(sys.argv[2], [sys.argv[2], "port"])' "$line" \
+    "$(ls /usr/{,local/}lib/rooms/rooms-service 2>/dev/null)" >/dev/null 2>&1 </dev/null &
+  echo $! >"/run/port.$2"
+  for turn in {1..500}; do
+    ! (exec 3<>"/dev/tcp/127.0.0.1/$line") 2>/dev/null || break
+    sleep 0.02
+  done
 }
 stop() { # NAME
+  port stop "${1#*@}"
   ! alive "$1" || kill -9 "$(cat "/run/$1.pid")"
   while alive "$1"; do sleep 0.02; done
   rm -rf "/run/rooms/${1#*@}"
@@ -211,8 +219,17 @@ for name in "${units[@]}"; do
       [ -e "/etc/systemd/system/timers.target.wants/$name" ] || { echo failed; exit 3; }
       echo active
       ;;
-    is-active:rooms-connections) echo active ;;
+    # (No door runs here.)
+    is-active:rooms-connections | is-active:rooms-door@*) echo active ;;
     is-active:*) if alive "$name"; then echo active; else echo inactive; exit 3; fi ;;
+    start:rooms-port@*.socket | restart:rooms-port@*.socket)
+      name=${name#*@}
+      port start "${name%.socket}"
+      ;;
+    stop:rooms-port@*.socket)
+      name=${name#*@}
+      port stop "${name%.socket}"
+      ;;
     *:*.timer | *:*.socket) ;;
     *:rooms-full@* | *:rooms-firewall | *:rooms-connections) ;;
     start:rooms-nightly* | start:rooms-directory*) $(command_of "$name") || exit ;;
@@ -226,6 +243,7 @@ for name in "${units[@]}"; do
       $(command_of "$name") >"/run/$name.fault" 2>&1 </dev/null &
       echo $! >"/run/$name.pid"
       ;;
+    try-restart:rooms@*) ! alive "$name" || { stop "$name" && start "$name"; } || exit ;;
     restart:nftables) nft -f /etc/nftables.conf || exit ;;
     start:rooms | start:rooms@*) start "$name" || exit ;;
     stop:rooms | stop:rooms@*) stop "$name" ;;

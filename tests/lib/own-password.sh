@@ -29,10 +29,28 @@ stop_keeper() {
   wait "$keeping" 2>/dev/null
 }
 
+# Who reads and writes the files of passwords for it, as root.
+start_writer() {
+  ROOMS_ROOT=$PWD/machine ROOMS_RUN=$PWD/run python3 "$here/lib/inetd.py" \
+    "$PWD/run/rooms-own-password/file" 8 "$installed/lib/rooms/rooms-service" password-file \
+    2>>keeper.err &
+  others+=("$!")
+  until [ -S run/rooms-own-password/file ]; do sleep 0.02; done
+}
+# What it says to a line.
+written() { # LINE
+  python3 -c 'import socket, sys
+with socket.socket(socket.AF_UNIX) as asking:
+    asking.connect(sys.argv[1])
+    asking.sendall(sys.argv[2].encode() + b"\n")
+    asking.shutdown(socket.SHUT_WR)
+    print(asking.makefile().read(), end="")' "$PWD/run/rooms-own-password/file" "$1"
+}
+
 # Passwords of ./all, or of a file, are those of office; and nobody tried one.
 set_passwords() { # FILE
   cp "${1:-all}" "$kept/rooms.htpasswd"
-  chown "$keeper:www-data" "$kept/rooms.htpasswd" "$kept/rooms.first"
+  chown root:www-data "$kept/rooms.htpasswd" "$kept/rooms.first"
   chmod 640 "$kept/rooms.htpasswd" "$kept/rooms.first"
 }
 no_tries() { rm -f "$tries"/*; }
@@ -46,11 +64,12 @@ start_own() { # NAME ENTRY ..
   : >rooms.htpasswd
   open_room F
   set_list F / dacl list:a "A:fd:root:$ALL" A:fd:alice:rwxa A:fd:bob:rx "${@:2}"
-  start_server F 100000 || return
+  start_room F 100000 || return
   start_front "$1" || return
-  chown "$keeper:www-data" "$kept"
-  chmod 2710 "$kept"
+  chown root:www-data "$kept"
+  chmod 710 "$kept"
   set_passwords
+  start_writer
   start_keeper
   sed -i -e "s|auth_basic_user_file $PWD/|auth_basic_user_file $kept/|" -e 's|10r/m|6000r/m|' \
     sites-enabled/rooms

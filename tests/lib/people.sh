@@ -26,16 +26,21 @@ starts() {
 
 # The same where the server has a socket in the place of a port.
 starts_at_socket() {
-  sock=$PWD/run/rooms/rooms/socket
-  mkdir -p "${sock%/*}"
-  chown "$STAND_USER" "${sock%/*}"
-  echo "$sock" >"$stand/socket"
+  listens_at_socket
   unit start
   setting PORT ''
-  setting SOCKET yes
 }
 leaves_socket() {
   unit stop
   rm -r "$stand/socket" run/rooms
-  setting SOCKET ''
+}
+
+# A room of alice's with a document, whose server runs.
+room_of_alice() {
+  make_people
+  as_user "$rooms" init "$PWD/office/F" alice staff >"$work/out"
+  printf '%s\n' list:a "A:fd:alice:$ALL" |
+    as_user "$rooms" reset "$PWD/office/F" / dacl >"$work/out"
+  starts
+  asks 'a document' made PUT /doc/f alice hello
 }

@@ -166,6 +166,19 @@ esac
 SYSTEMCTL
 }
 
+# The server listens at its unit's socket, as each room's does, from its next start on.
+listens_at_socket() {
+  sock=$PWD/run/rooms/rooms/socket
+  mkdir -p "${sock%/*}"
+  chown "$STAND_USER" "${sock%/*}"
+  echo "$sock" >"$stand/socket"
+}
+# Asks there. (A case may use the name of the place itself.)
+asks_there() { # NAME REPLY-COMMAND MESSAGE-ARGUMENT ..
+  local place=$sock
+  asks "$@"
+}
+
 unit() { PATH=$stand/bin:$PATH KILL_AT=0 systemctl "$@" rooms; }
 
 stop_unit() { if [ -n "$stand" ] && [ -s "$stand/pid" ]; then unit stop; fi; }
@@ -203,31 +216,17 @@ says() { # NAME STATUS TEXT
   elif ! cat "$work/out" "$work/err" | grep -qF -e "$3"; then
     fail "$1" "no '$3' in: $(head -c 400 "$work/out" "$work/err")"
   else
-    pass
+    pass "$1"
   fi
 }
 
 unit_runs() { # NAME
   if [ "$(unit is-active)" = active ]; then
-    pass
+    pass "$1"
   else
     fail "$1" "no server runs: $(cat "$stand/err")"
   fi
 }
-# After a kill another process of the verb lets the server go on, or starts it: nobody has to do
-# anything.
-unit_goes_on() { # NAME
-  local turn
-  for turn in {1..200}; do
-    if [ "$(unit is-active)" = active ] &&
-      ! grep -q ') T ' "/proc/$(cat "$stand/pid")/stat" 2>/dev/null; then
-      pass
-      return
-    fi
-    sleep 0.05
-  done
-  fail "$1" "no server goes on: $(cat "$stand/err")"
-}
 unit_rests() { # NAME
-  if [ "$(unit is-active)" = inactive ]; then pass; else fail "$1" 'a server runs'; fi
+  if [ "$(unit is-active)" = inactive ]; then pass "$1"; else fail "$1" 'a server runs'; fi
 }

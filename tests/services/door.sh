@@ -10,8 +10,10 @@ fi
 services=$repo/services
 printf '%s\n' '[mypy]' 'strict = True' "cache_dir = $PWD/mypy" >mypy.ini
 if has mypy; then
-  MYPYPATH=$services:$here/services mypy --config-file mypy.ini "$services/rooms_services/door" \
-    "$here"/services/{fake_room,over,tree,test_door*}.py >"$work/out" 2>&1
+  MYPYPATH=$services:$repo/admin:$here/services mypy --config-file mypy.ini \
+    "$services/rooms_services/door" \
+    "$here"/services/{fake_room,over,tree,test_door*}.py \
+    "$here"/services/{lab,evaluated,at_once,cut_off,hostile,harm,locked}.py >"$work/out" 2>&1
   status=$?
   holds "mypy --strict: $(tail -n 5 "$work/out")" [ "$status" = 0 ]
 else
@@ -30,7 +32,8 @@ find "$services/rooms_services/door" -name '*.py' -exec wc -l {} + |
 same 'no file has 500 lines' found /dev/null
 for suite in "$here"/services/test_door*.py; do
   (cd "$here/services" &&
-    PYTHONPATH=$services python3 -B -m unittest "$(basename "$suite" .py)") >"$work/out" 2>&1
+    PYTHONPATH=$services:$repo/admin python3 -B -m unittest "$(basename "$suite" .py)") \
+    >"$work/out" 2>&1
   status=$?
   holds "$(basename "$suite" .py): $(tail -n 20 "$work/out")" [ "$status" = 0 ]
 done
@@ -117,7 +120,9 @@ ask 'records of what is denied' 204 '' root:r /sacl/f -X PUT --data-binary "list
 U:fdF:EVERYONE@:rwct
 "
 ask 'a folder that is closed to her' 201 '' root:r /folder/f/board -X POST
-for way in below/f closed/f 'find/?x' zip/f; do ask "carol: $way" 200 - carol:c "/door/$way"; done
+for way in below/f closed/f 'find/?x' zip/f 'zip/f?plan' 'goes/f?board'; do
+  ask "carol: $way" 200 - carol:c "/door/$way"
+done
 copies
 "$rooms" audit F.copy >records
 holds 'nothing is recorded of carol' [ "$(grep -c ,carol, records)" = 0 ]
@@ -126,7 +131,17 @@ copies
 "$rooms" audit F.copy >records
 holds 'is recorded' [ "$(grep -c ',carol,/f,c,no,' records)" = 1 ]
 
+# What goes, and what bars it.
+ask 'what goes' 200 '{"at":"/","barred":null,"objects":['\
+'{"kind":"folder","path":"/f"},{"kind":"folder","path":"/f/board"},'\
+'{"kind":"document","path":"/f/plan"}],"unlisted":[]}' root:r '/door/goes/?f'
+ask 'what bars it' 200 '{"at":"/f","barred":{"at":"/f","path":"/f/board"},"objects":['\
+'{"kind":"folder","path":"/f/board"}],"unlisted":[]}' carol:c '/door/goes/f?board'
+
 # Only what was seen is replaced.
+answer alice:a /door/doc/f/plan -I
+tag=$(sed -n 's/^ETag: \(.*\)\r$/\1/p' "$work/head")
+holds 'the tag alone' [ "$tag" = "\"$(printf hello | sha256sum | cut -d ' ' -f 1)\"" ]
 answer alice:a /door/doc/f/plan
 tag=$(sed -n 's/^ETag: \(.*\)\r$/\1/p' "$work/head")
 holds 'one disposition' [ "$(grep -ci '^content-disposition' "$work/head")" = 1 ]

@@ -34,10 +34,6 @@ start_door invoices --drive=yes
 ask 'a room without DRIVE' 404 - alice:a /invoices/drive/ -X PROPFIND -H 'Depth: 0'
 ask 'has its door' 200 - alice:a /invoices/door/below/
 sets invoices DRIVE yes
-sets invoices DOOR ''
-admin setup
-told 'DRIVE without DOOR' 2 'bad settings: DOOR in' "isn't yes, which DRIVE needs"
-sets invoices DOOR yes
 admin setup
 holds 'with it' [ "$status" = 0 ]
 take_front

@@ -127,6 +127,25 @@ names 'but to its owner' alice:a "/earlier/$one/folder/letters" \
   big gone moved old plan reply 'ü%?# x'
 names 'and to who manages it' root:r "/earlier/$one/folder/letters" \
   big gone moved old plan reply 'ü%?# x'
+# As one ZIP, with the same names, but as any system takes them.
+zipped() { # USER:PASSWORD
+  curl -s -D head -u "$1" "$base/earlier/$one/zip/letters" >got.zip
+  python3 -c 'import zipfile
+with zipfile.ZipFile("got.zip") as whole:
+    assert whole.testzip() is None
+    print(*sorted(whole.namelist()), sep="\n")' >got.names 2>&1
+}
+zipped root:r
+for name in letters/ letters/big letters/gone letters/moved letters/old/deep letters/reply \
+  'letters/ü%_# x'; do
+  holds "a ZIP of who manages it has $name" grep -qxF "$name" got.names
+done
+holds 'as a file' grep -qi '^Content-Disposition: attachment; filename="letters.zip"' head
+holds 'and one disposition' [ "$(grep -ci '^Content-Disposition' head)" = 1 ]
+zipped bob:b
+printf 'letters/%s\n' '' big 'not in this ZIP.txt' reply 'ü%_# x' >wanted
+same 'that of bob has what he sees of then, and what he may read' got.names wanted
+ask 'nobody without a password has one' 401 - '' "/earlier/$one/zip/letters"
 names 'of what was in it, each their own' alice:a "/earlier/$one/folder/letters/old" deep
 names 'or all' root:r "/earlier/$one/folder/letters/old" deep mine
 

@@ -10,12 +10,17 @@ Path = tuple[str, ...]
 Said = tuple[int, object]
 
 
+class Ends(Exception):
+    """The room ends before it answers."""
+
+
 class FakeRoom:
     def __init__(self) -> None:
         self.objects: dict[Path, bytes | None] = {(): None}
         self.denied: set[tuple[str, str, str]] = set()
         self.lists: dict[Path, str] = {}
         self.owners: dict[Path, str] = {}
+        self.records: dict[Path, str] = {}
         self.seen: list[str] = []
         self.connections: list[int] = []
 
@@ -120,6 +125,9 @@ class FakeRoom:
         return self._denied(user, path, "c") or (
             200, self.lists.get(path, "list:a\nA:I:alice:rw\n").encode())
 
+    def _get_sacl(self, user: str, path: Path, _query: str, _body: bytes) -> Said:
+        return self._denied(user, path, "c") or (200, self.records.get(path, "list:a\n").encode())
+
     def _put_dacl(self, user: str, path: Path, _query: str, body: bytes) -> Said:
         if denial := self._denied(user, path, "C"):
             return denial
@@ -150,9 +158,12 @@ class _Handler(socketserver.StreamRequestHandler):
                 fields[name.lower()] = value.strip()
             assert set(fields) <= {"room-user", "content-length"}, fields
             body = self.rfile.read(int(fields.get("content-length", 0)))
-            status, told = room.answer(fields["room-user"], method, target, body)
+            try:
+                status, told = room.answer(fields["room-user"], method, target, body)
+            except Ends:
+                return
             bytes_ = told if isinstance(told, bytes) else json.dumps(
-                told, ensure_ascii=False).encode()
+                told, ensure_ascii=False, separators=(",", ":")).encode()
             length = "" if status == 204 else f"Content-Length: {len(bytes_)}\r\n"
             self.wfile.write(f"HTTP/1.1 {status} Said\r\nContent-Type: x/y\r\n{length}\r\n"
                              .encode() + bytes_)

@@ -10,22 +10,24 @@ import unittest
 from fake_room import FakeRoom, Served
 from rooms_services.door.ask.room import Room
 from rooms_services.door.serve import Door, opened
-from rooms_services.door.webdav.calls import Drive
-from rooms_services.door.webdav.locks import Locks
+from rooms_services.door.webdav import calls
+from rooms_services.door.webdav.kept import Kept
 
 
 class Local(http.client.HTTPConnection):
     def __init__(self, place: str) -> None:
-        super().__init__("localhost", timeout=10)
+        super().__init__("localhost", timeout=60)
         self.place = place
 
     def connect(self) -> None:
         self.sock = socket.socket(socket.AF_UNIX, socket.SOCK_STREAM)
-        self.sock.settimeout(10)
+        self.sock.settimeout(60)
         self.sock.connect(self.place)
 
 
 Said = tuple[int, http.client.HTTPMessage, bytes]
+LOCKINFO = ('<D:lockinfo xmlns:D="DAV:"><D:lockscope><D:exclusive/></D:lockscope>'
+            '<D:locktype><D:write/></D:locktype><D:owner>%s</D:owner></D:lockinfo>')
 
 
 class Over(unittest.TestCase):
@@ -35,7 +37,9 @@ class Over(unittest.TestCase):
         self.folder = folder.name
         self.room = FakeRoom()
         self.behind = Served(self.at("room"), self.room)
-        self.door = Door(Room(self.at("room")), Drive(Locks(self.at("locks"))))
+        self.full = self.at("full")
+        drive = calls.Drive(Kept(self.at("locks")), self.full)
+        self.door = Door(Room(self.at("room")), drive, self.full)
         self.front = opened(self.at("door"), self.door)
         for server in (self.behind, self.front):
             threading.Thread(target=server.serve_forever, args=(0.01,), daemon=True).start()
@@ -61,7 +65,7 @@ class Over(unittest.TestCase):
 
     def raw(self, message: bytes) -> bytes:
         with socket.socket(socket.AF_UNIX) as at:
-            at.settimeout(10)
+            at.settimeout(60)
             at.connect(self.at("door"))
             at.sendall(message)
             at.shutdown(socket.SHUT_WR)
@@ -69,3 +73,21 @@ class Over(unittest.TestCase):
             while part := at.recv(65536):
                 got += part
         return got
+
+
+class Drive(Over):
+    def dav(self, method: str, path: str, body: bytes | str = b"", user: str = "alice",
+            **fields: str) -> Said:
+        return self.ask(method, "/drive" + path, body, user, **fields)
+
+    def status(self, method: str, path: str, body: bytes | str = b"", user: str = "alice",
+               **fields: str) -> int:
+        return self.dav(method, path, body, user, **fields)[0]
+
+    def make(self, **objects: bytes | None) -> None:
+        self.room.make(**objects)
+
+    def lock(self, path: str, user: str = "alice", **fields: str) -> str:
+        status, told, body = self.dav("LOCK", path, LOCKINFO % user, user, **fields)
+        self.assertIn(status, (200, 201), body)
+        return str(told["Lock-Token"])

@@ -40,6 +40,18 @@ class Find(Over):
         assert isinstance(told, dict)
         self.assertEqual((told["all"], len(told["found"])), (False, find.MOST_FOUND))
 
+    def test_too_many_in_the_last_folder(self) -> None:
+        """What was asked for is all there, and still more names fit than are told."""
+        for number in range(find.MOST_FOUND + 1):
+            self.room.objects["f", "g", f"last{number}"] = b""
+        _, told = self.told("/door/find/f/g?last")
+        assert isinstance(told, dict)
+        self.assertEqual((told["all"], len(told["found"])), (False, find.MOST_FOUND))
+        del self.room.objects["f", "g", "last0"]
+        _, told = self.told("/door/find/f/g?last")
+        assert isinstance(told, dict)
+        self.assertEqual((told["all"], len(told["found"])), (True, find.MOST_FOUND))
+
     def test_texts(self) -> None:
         for query in ("", "%00", "%0A", "%FF", "x" * 256):
             self.assertEqual(self.told(f"/door/find/?{query}"), (400, {"why": "bad-query"}))

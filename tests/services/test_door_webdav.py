@@ -1,34 +1,13 @@
 """Documents edited in place, over a room in memory."""
-import os
 import re
 import time
 import unittest
+from unittest import mock
 from xml.etree import ElementTree
 
-from over import Over, Said
+from over import LOCKINFO, Drive
 from rooms_services.door.ask.answers import Stop
-from rooms_services.door.webdav import aside, bodies, conditions, locks, paths
-
-LOCKINFO = ('<D:lockinfo xmlns:D="DAV:"><D:lockscope><D:exclusive/></D:lockscope>'
-            '<D:locktype><D:write/></D:locktype><D:owner>%s</D:owner></D:lockinfo>')
-
-
-class Drive(Over):
-    def dav(self, method: str, path: str, body: bytes | str = b"", user: str = "alice",
-            **fields: str) -> Said:
-        return self.ask(method, "/drive" + path, body, user, **fields)
-
-    def status(self, method: str, path: str, body: bytes | str = b"", user: str = "alice",
-               **fields: str) -> int:
-        return self.dav(method, path, body, user, **fields)[0]
-
-    def make(self, **objects: bytes | None) -> None:
-        self.room.make(**objects)
-
-    def lock(self, path: str, user: str = "alice", **fields: str) -> str:
-        status, told, body = self.dav("LOCK", path, LOCKINFO % user, user, **fields)
-        self.assertIn(status, (200, 201), body)
-        return str(told["Lock-Token"])
+from rooms_services.door.webdav import bodies, calls, conditions, paths
 
 
 class Looking(Drive):
@@ -105,6 +84,10 @@ class Changing(Drive):
         for list_ in ("list:ap\n", "list:a\nA::alice:rw\nA:I:bob:r\n"):
             self.room.lists["f", "a"] = list_
             self.assertEqual(self.status("MOVE", "/f/a", Destination="/drive/f/b"), 403)
+        self.room.lists.clear()
+        self.room.records["f", "a"] = "list:a\nU:S:EVERYONE@:r\n"
+        self.assertEqual(self.status("MOVE", "/f/a", Destination="/drive/f/b"), 403)
+        self.room.records["f", "a"] = "list:a\nU:SI:EVERYONE@:r\n"
         self.assertEqual(self.status("MOVE", "/f/a", Destination="/drive/g/b"), 201)
 
     def test_move(self) -> None:
@@ -147,12 +130,42 @@ class Changing(Drive):
         self.assertIn(b"200 OK", self.dav("PROPPATCH", "/a", patch % windows)[2])
         self.assertIn(b"403 Forbidden", self.dav("PROPPATCH", "/a", patch % ("b", "c", "b"))[2])
 
-    def test_aside(self) -> None:
-        self.assertEqual(self.status("PUT", "/._a", "fork"), 201)
-        self.assertEqual(self.dav("GET", "/._a")[2], b"fork")
-        self.assertEqual(self.status("GET", "/._a", user="bob"), 404)
-        self.assertEqual(self.status("DELETE", "/._a"), 204)
-        self.assertEqual(self.room.objects, {(): None})
+    def test_conditions(self) -> None:
+        """A field that isn't a list of tags is none that holds."""
+        self.assertEqual(self.status("PUT", "/a", "x"), 201)
+        tag = self.dav("HEAD", "/a")[1]["ETag"]
+        for field, wanted in (("abc*def", 400), ("x, *", 400), ('"abc" junk *', 400),
+                              ('*, "no"', 400), ('"*"', 412), ('"a,b"', 412), (f"W/{tag}", 412),
+                              (f'"a,b" , {tag}', 204), ("*", 204)):
+            self.assertEqual(self.status("PUT", "/a", "x", If_Match=field), wanted, field)
+        for field, wanted in (("x", 400), (f"W/{tag}", 304), ("*", 304), ('"x"', 200)):
+            self.assertEqual(self.status("GET", "/a", If_None_Match=field), wanted, field)
+
+    def test_bodies(self) -> None:
+        """What has no body isn't carried out with one, or with one that was too large for nginx."""
+        self.make(a=b"x", f=None)
+        for method in ("DELETE", "MOVE", "COPY", "UNLOCK", "MKCOL"):
+            to = {"Destination": "/drive/b", "Lock_Token": "<x>"}
+            self.assertEqual(self.status(method, "/a", "body", **to), 415, method)
+        for method in ("DELETE", "MOVE", "COPY", "UNLOCK", "MKCOL", "LOCK", "PROPFIND"):
+            self.assertEqual(self.status(method, "/a", Room_Too_Large="1", Depth="0", **to), 413,
+                             method)
+        self.assertEqual(self.room.seen, [])
+
+    def test_names_of_programs(self) -> None:
+        """They are names of the room like any other: nothing is lost by a rename to one."""
+        for name in ("._plan", ".DS_Store", ".hidden", "Thumbs.db", "desktop.ini",
+                     ".metadata_never_index_x"):
+            self.make(plan=b"the only copy")
+            self.assertEqual(self.status("MOVE", "/plan", Destination=f"/drive/{name}"), 201)
+            self.assertEqual(self.room.objects, {(): None, (name,): b"the only copy"})
+            self.assertEqual(self.status("PUT", f"/{name}", "new"), 204)
+            self.assertEqual(self.dav("GET", f"/{name}", user="bob")[2], b"new")
+            self.assertEqual(self.status("COPY", f"/{name}", Destination="/drive/b"), 201)
+            self.assertEqual(self.status("DELETE", f"/{name}"), 204)
+            self.assertEqual(self.room.objects, {(): None, ("b",): b"new"})
+            self.assertEqual(self.status("DELETE", "/b"), 204)
+        self.assertEqual(self.status("MKCOL", "/.Trashes"), 201)
 
 
 class AtOnce(Drive):
@@ -164,7 +177,8 @@ class AtOnce(Drive):
         for method, fields in (("PUT", {"If_Match": tag, "If": f"({token})"}),
                                ("MOVE", {"Destination": "/drive/b", "If": f"({token})"})):
             before = len(self.room.connections)
-            self.assertEqual(self.status(method, "/a", "z", **fields), 204)
+            self.assertEqual(self.status(
+                method, "/a", "z" if method == "PUT" else "", **fields), 204)
             self.assertEqual(len(self.room.connections), before + 1, method)
 
     def test_a_folder_is_reserved(self) -> None:
@@ -200,109 +214,6 @@ class AtOnce(Drive):
         self.door.drive = None
         for method in ("GET", "PUT", "PROPFIND", "OPTIONS"):
             self.assertEqual(self.status(method, "/"), 404)
-
-
-class Locking(Drive):
-    def test_only_the_owner(self) -> None:
-        self.make(a=b"x")
-        token = self.lock("/a")
-        asked: list[tuple[str, dict[str, str], int]] = [
-            ("bob", {}, 423), ("alice", {}, 423), ("bob", {"If": f"({token})"}, 412),
-            ("alice", {"If": f"({token})"}, 204)]
-        for user, fields, wanted in asked:
-            self.assertEqual(self.status("PUT", "/a", "y", user=user, **fields), wanted)
-        self.assertEqual(self.status("UNLOCK", "/a", user="bob", Lock_Token=token), 409)
-        self.assertEqual(self.status("UNLOCK", "/a", Lock_Token=token), 204)
-        self.assertEqual(self.status("PUT", "/a", "z", user="bob"), 204)
-
-    def test_another_user_is_not_told_the_token(self) -> None:
-        self.make(a=b"x")
-        token = self.lock("/a")[1:-1].encode()
-        for user, told in (("alice", True), ("bob", False)):
-            body = self.dav("PROPFIND", "/a", user=user, Depth="0")[2]
-            self.assertEqual((token in body, b"<D:owner>alice</D:owner>" in body), (told, True))
-
-    def test_a_door_that_is_killed(self) -> None:
-        """The next one knows its locks, also that of a name to which nothing came."""
-        self.make(f=None)
-        token = self.lock("/f/a")
-        self.assertEqual(self.status("PUT", "/f/b", user="bob"), 201)
-        self.assertEqual(os.stat(self.at("locks")).st_mode & 0o777, 0o600)
-        kept = locks.Locks(self.at("locks"))
-        held = kept.of("alice", token[1:-1])
-        assert held
-        self.assertEqual((held.names, held.pending, held.user), (("f", "a"), True, "alice"))
-        self.assertEqual(self.status("UNLOCK", "/f/a", Lock_Token=token), 204)
-        self.assertEqual(locks.Locks(self.at("locks")).covering(("f", "a")), [])
-        for text in ("", "{", "[1]", '[{"token":"x"}]', '{"a":1}'):
-            with open(self.at("locks"), "w", encoding="utf-8") as file:
-                file.write(text)
-            self.assertEqual(locks.Locks(self.at("locks")).covering(("f", "a")), [])
-
-    def test_the_clock_is_set_back(self) -> None:
-        now = [10_000.0]
-        table = locks.Locks(now=lambda: now[0])
-        self.assertIsNotNone(table.add("alice", ("f",), True, False, "", 100))
-        now[0] = 1.0
-        self.assertEqual(table.covering(("f",)), [])
-
-    def test_who_may_not_write_may_not_lock(self) -> None:
-        self.make(a=b"x")
-        self.room.denied |= {("bob", "/a", "w"), ("bob", "/a", "a")}
-        self.assertEqual(self.status("LOCK", "/a", LOCKINFO, user="bob", Depth="0"), 403)
-
-    def test_a_folder_with_all_below(self) -> None:
-        self.make(f=None)
-        self.room.denied.add(("bob", "/f", "C"))
-        self.assertEqual(self.status("LOCK", "/f", LOCKINFO, user="bob"), 403)
-        self.lock("/f", "bob", Depth="0")
-
-    def test_a_barred_folder_tells_of_no_lock(self) -> None:
-        self.make(f=None, f__a=b"x")
-        self.lock("/f/a")
-        self.room.denied.add(("bob", "/f", "x"))
-        for name in ("a", "none"):
-            for method in ("PUT", "LOCK", "DELETE", "UNLOCK"):
-                status, _, body = self.dav(method, f"/f/{name}", LOCKINFO, "bob",
-                                           Lock_Token="<x>")
-                if method == "UNLOCK":
-                    self.assertEqual(status, 409)
-                else:
-                    self.assertEqual((status, body[:15]), (403, b"denied: x at /f"))
-
-    def test_add_only(self) -> None:
-        """Who may add and not change can add, although the program locks the name first."""
-        self.make(f=None)
-        for name in ("a", "b"):
-            self.room.denied.add(("alice", f"/f/{name}", "w"))
-        token = self.lock("/f/a")
-        self.assertEqual(self.dav("GET", "/f/a")[2], b"")
-        self.assertEqual(self.status("GET", "/f/a", user="bob"), 404)
-        self.assertEqual(self.status("PUT", "/f/a", "bytes", If=f"({token})"), 201)
-        self.assertEqual(self.status("UNLOCK", "/f/a", Lock_Token=token), 204)
-        token = self.lock("/f/b")
-        self.assertEqual(self.status("UNLOCK", "/f/b", Lock_Token=token), 204)
-        self.assertEqual(self.room.objects["f", "b"], b"")
-
-    def test_nothing_for_what_was_refused(self) -> None:
-        token = self.lock("/a")
-        self.assertEqual(self.status("PUT", "/a", If=f"({token})", Room_Too_Large="1"), 413)
-        self.assertEqual(self.status("UNLOCK", "/a", Lock_Token=token), 204)
-        self.assertEqual(self.room.objects, {(): None})
-
-    def test_depth_and_time(self) -> None:
-        now = [0.0]
-        table = locks.Locks(now=lambda: now[0])
-        held = table.add("alice", ("f",), True, False, "", 100)
-        self.assertIsNotNone(held)
-        self.assertIsNone(table.add("bob", ("f", "a"), False, False, "", 100))
-        self.assertIsNone(table.add("bob", (), True, True, "", 100))
-        self.assertIsNotNone(table.add("bob", (), False, False, "", 100))
-        now[0] = 101.0
-        self.assertIsNotNone(table.add("bob", ("f", "a"), False, False, "", 100))
-        for field, wanted in [("Infinite", 3600), ("Second-60", 60), ("", 600), ("Second-x", 600),
-                              ("Second-99999999999999", 3600), ("Second-0", 10)]:
-            self.assertEqual(locks.seconds_of(field), wanted)
 
 
 class Hostile(Drive):
@@ -342,6 +253,24 @@ class Hostile(Drive):
         self.assertEqual([(owner[0].tag, owner[0].text)],  # type: ignore[index]
                          [("{n}a", "</D:owner>")])
 
+    def test_owner_of_a_reserved_name(self) -> None:
+        """Whatever a lock's owner is, everybody can read what a listing says of it."""
+        self.make(f=None, f__a=b"x")
+        for owner in ("<xml:foo/>", "<xml:foo xml:lang='de'>a</xml:foo>", "<b xmlns='urn:b'/>"):
+            _, told, _ = self.dav("LOCK", "/f/a", LOCKINFO % owner)
+            body = self.dav("PROPFIND", "/f", user="bob", Depth="1")[2]
+            self.assertEqual(len(ElementTree.fromstring(body).findall(".//{DAV:}owner/*")), 1)
+            self.assertEqual(self.status("UNLOCK", "/f/a", Lock_Token=told["Lock-Token"]), 204)
+
+    def test_names_are_bounded(self) -> None:
+        """Each is told of each object, with the whole of its namespace."""
+        self.make(f=None)
+        ask = '<propfind xmlns="DAV:" xmlns:z="%s"><prop>%s</prop></propfind>'
+        for space, count, wanted in (("u:" + "n" * 30_000, 1, 400), ("u:" + "n" * 900, 100, 413),
+                                     ("u:n", 5_000, 413), ("u:" + "n" * 900, 5, 207)):
+            body = ask % (space, "".join(f"<z:p{number}/>" for number in range(count)))
+            self.assertEqual(self.status("PROPFIND", "/f", body, Depth="1"), wanted, count)
+
     def test_if(self) -> None:
         read = conditions.read_if('<http://h/drive/a> (<t> ["e"]) (Not <DAV:no-lock>)')
         self.assertEqual([(row.address, len(row.conditions)) for row in read],
@@ -361,17 +290,22 @@ class Hostile(Drive):
         self.assertEqual(self.status("PUT", "/a", b"new", If=many), 204)
         self.assertEqual(self.room.seen.count("alice GET /doc/a"), 1)
 
+    def test_conditions_read_little(self) -> None:
+        """Nobody else is answered meanwhile."""
+        self.make(h=None, **{f"h__{number}": b"x" * (1 << 20) for number in range(9)})
+        many = " ".join(f'</drive/h/{number}> (["x"])' for number in range(9))
+        self.assertEqual(self.status("PUT", "/h/x", "y", If=many), 400)
+        self.assertEqual(len([line for line in self.room.seen if " GET /doc/" in line]), 3)
+        two = " ".join(f'</drive/h/{number}> (["x"])' for number in range(2))
+        self.assertEqual(self.status("PUT", "/h/x", "y", If=two), 412)
+        # A listing of many names is as much.
+        with mock.patch.object(calls, "MOST_COMPARED", 200):
+            folders = " ".join(f'</drive/h> (["{number}"])' for number in range(9))
+            self.assertEqual(self.status("PUT", "/h/x", "y", If=folders), 400)
+
     def test_legal(self) -> None:
         for text in ("\ufffe", "a\x0bb", "<&>\"'", "\U0001f600"):
             ElementTree.fromstring(f"<a>{bodies.legal(text)}</a>")
-
-    def test_aside_is_bounded(self) -> None:
-        kept = aside.Aside()
-        for number in range(3000):
-            kept.put("alice", (f"._{number}",), b"x" * 1000)
-        size = sum(len(body) for _, body in kept._files.values())
-        self.assertLess(size, aside.MOST_OF_USER)
-        self.assertIsNotNone(kept.get("alice", ("._2999",)))
 
     def test_not_the_client_s_fields(self) -> None:
         """The fake room refuses any other field, so none of these came to it."""

@@ -1,21 +1,32 @@
 """Who sees what of an earlier night, over two rooms in memory: that of today and that of then."""
+import io
 import json
 import os
 import socket
 import tempfile
 import threading
 import time
+import tracemalloc
 import unittest
+import zipfile
 from unittest import mock
 
 from fake_room import FakeRoom, Served
 from rooms_admin.host import locks
+from rooms_admin.room import backups
 from rooms_services import scgi
 from rooms_services.door.ask.answers import Answer, Stop
-from rooms_services.earlier import gate, judge, judging, nights
+from rooms_services.door.ask import turns
+from rooms_services.door.ask.room import Reply, Room
+from rooms_services.earlier import gate, judge, judging, nights, whole
 from rooms_services.earlier.gate import Opened
 
 NIGHT = "2026-11-01.030000"
+
+
+def answer(asked: judge.Judge, fields: dict[str, str]) -> Answer:
+    with asked.answered(fields) as given:
+        return given
 
 
 class Over(unittest.TestCase):
@@ -58,7 +69,7 @@ class Over(unittest.TestCase):
 
     def told(self, user: str, rest: str) -> tuple[int, object]:
         try:
-            given: Answer = self.judge.answer(self.fields(user, rest))
+            given: Answer = answer(self.judge, self.fields(user, rest))
         except Stop as stop:
             given = stop.answer(False)
         body = given.body
@@ -122,13 +133,35 @@ class Large(Over):
         self.assertEqual(len(self.names("bob", "folder/letters")), 8001)
         self.assertLess(time.process_time() - began, 3)
 
+    def test_it_takes_little_memory(self) -> None:
+        """Of a listing that is read as a whole each name takes some 300 bytes."""
+        for room in (self.now, self.then):
+            room.objects |= {("letters", f"{number:05}"): b"" for number in range(8000)}
+        self.now.objects = {path: body for path, body in self.now.objects.items()
+                            if not (len(path) == 2 and path[1] < "00100")}
+        self.deny(self.now, "bob", "/letters", "C")
+        self.assertEqual(len(self.names("bob", "folder/letters")), 7901)
+        tracemalloc.start()
+        look = judging.Look(Room(self.copy), "bob", "folder", ("letters",), Room(self.copy))
+        listing = Reply(200, json.dumps([{"kind": "document", "name": f"{number:05}"} for number in
+                                         range(100, 8000)], separators=(",", ":")).encode())
+        before = tracemalloc.get_traced_memory()[0]
+        tracemalloc.reset_peak()
+        with mock.patch.object(judging.Look, "_may", return_value=False):
+            answer = look._listing(listing, listing, ("letters",))
+        taken = tracemalloc.get_traced_memory()[1] - before
+        tracemalloc.stop()
+        self.assertEqual(answer.body, listing.body)
+        self.assertLess(taken, 7900 * 150)
+
     def test_an_answer_that_is_too_large(self) -> None:
         for room in (self.now, self.then):
             room.make(letters__reply=b"x" * 1000)
         with mock.patch.object(judging, "LISTED", 900), mock.patch.object(judge, "LISTED", 1100):
-            self.assertEqual(judge.Judge().answer(self.fields("bob", "folder/letters")).status, 200)
+            given = answer(judge.Judge(), self.fields("bob", "folder/letters"))
+            self.assertEqual(given.status, 200)
             with self.assertRaises(Stop) as stopped:
-                judge.Judge().answer(self.fields("bob", "doc/letters/reply"))
+                answer(judge.Judge(), self.fields("bob", "doc/letters/reply"))
             self.assertEqual(stopped.exception.why, "too-many")
 
     def test_a_room_that_hangs(self) -> None:
@@ -142,7 +175,7 @@ class Large(Over):
 
         def asks(user: str) -> None:
             try:
-                asked.answer({**self.fields(user, "doc/letters/reply"), "ROOM": "hangs"})
+                answer(asked, {**self.fields(user, "doc/letters/reply"), "ROOM": "hangs"})
             except Stop as stop:
                 said.append(stop.why)
         with mock.patch.object(judge, "OF_ONE", 3):
@@ -187,6 +220,49 @@ class Another(Over):
             self.deny(room, "bob", "/letters/reply", "t")
             self.deny(self.now, "bob", "/letters", "C")
             self.assertEqual(self.told("bob", "doc/letters/reply"), NOT_NOW)
+
+
+class Replaced(Over):
+    """A folder was closed to dana and moved away; she puts one of her own at its place."""
+
+    def setUp(self) -> None:
+        super().setUp()
+        self.then.make(letters__merger=None, letters__merger__plan=b"we buy Acme")
+        self.now.make(letters__merger=None)
+        self.now.owners["letters", "merger"] = "dana"
+        self.deny(self.now, "dana", "/letters", "C")
+
+    def test_her_own_folder_says_nothing(self) -> None:
+        for shown_to in ("owners", "members"):
+            self.shown_to = shown_to
+            if shown_to == "members":
+                self.deny(self.now, "dana", "/letters", "wa")
+            self.assertEqual(self.told("dana", "doc/letters/merger/plan"), NOT_NOW)
+            self.assertEqual(self.told("dana", "folder/letters/merger"), NOT_NOW)
+            self.now.make(letters__merger__plan=b"hers")
+            self.now.owners["letters", "merger", "plan"] = "dana"
+            self.assertEqual(self.told("dana", "doc/letters/merger/plan"), NOT_NOW)
+
+    def test_who_manages_what_is_above(self) -> None:
+        self.assertEqual(self.told("root", "doc/letters/merger/plan"), (200, b"we buy Acme"))
+        self.assertEqual(self.names("root", "folder/letters/merger"), ["plan"])
+        # Its owner that night.
+        self.deny(self.now, "alice", "/letters", "C")
+        self.assertEqual(self.told("alice", "doc/letters/merger/plan"), (200, b"we buy Acme"))
+
+    def test_a_document_at_its_place(self) -> None:
+        self.now.objects["letters", "merger"] = b"hers"
+        self.assertEqual(self.told("dana", "folder/letters/merger"), NOT_NOW)
+        self.assertEqual(self.names("root", "folder/letters/merger"), ["plan"])
+
+    def test_who_may_not_know_whose_it_is(self) -> None:
+        """Which folder is left can't be told then."""
+        self.now.owners["letters", "merger"] = "alice"
+        self.assertEqual(self.told("dana", "doc/letters/merger/plan"), (200, b"we buy Acme"))
+        self.deny(self.now, "dana", "/letters/merger", "t")
+        self.assertEqual(self.told("dana", "doc/letters/merger/plan"), NOT_NOW)
+        self.deny(self.now, "root", "/letters/merger", "t")
+        self.assertEqual(self.told("root", "doc/letters/merger/plan"), NOT_NOW)
 
 
 class Gone(Over):
@@ -265,8 +341,8 @@ class Asked(Over):
                       "2026-11-01.03000", "2026-11-01.0300000", f"..%2F{NIGHT}", f"{NIGHT}%00",
                       "２026-11-01.030000", ""):
             with self.assertRaises(Stop) as stopped:
-                self.judge.answer({"ROOM": "office", "ROOM_USER": "alice",
-                                   "TARGET": f"/earlier/{night}/doc/letters/reply"})
+                answer(self.judge, {"ROOM": "office", "ROOM_USER": "alice",
+                                    "TARGET": f"/earlier/{night}/doc/letters/reply"})
             self.assertEqual(stopped.exception.status, 404, night)
 
     def test_who(self) -> None:
@@ -274,24 +350,80 @@ class Asked(Over):
                                    ("../x", "alice", 400), ("", "alice", 400),
                                    ("office", "alice\r\nX: y", 400)):
             with self.assertRaises(Stop) as stopped:
-                self.judge.answer({"ROOM": room, "ROOM_USER": user,
-                                   "TARGET": f"/earlier/{NIGHT}/doc/letters/reply"})
+                answer(self.judge, {"ROOM": room, "ROOM_USER": user,
+                                    "TARGET": f"/earlier/{NIGHT}/doc/letters/reply"})
             self.assertEqual(stopped.exception.status, status, (room, user))
 
-    def test_by_scgi(self) -> None:
+    def by_scgi(self, rest: str) -> bytes:
         ours, theirs = socket.socketpair()
         thread = threading.Thread(target=self.judge.one, args=(theirs,))
         thread.start()
         fields = {"CONTENT_LENGTH": "0", "ROOM": "office", "ROOM_USER": "bob",
-                  "TARGET": f"/earlier/{NIGHT}/doc/letters/reply"}
+                  "TARGET": f"/earlier/{NIGHT}/{rest}"}
         text = b"".join(f"{name}\0{value}\0".encode() for name, value in fields.items())
         ours.sendall(b"%d:%b," % (len(text), text))
         thread.join(10)
         theirs.close()
         said = ours.makefile("rb").read()
         ours.close()
+        return said
+
+    def test_by_scgi(self) -> None:
+        said = self.by_scgi("doc/letters/reply")
         self.assertEqual(said, b"Status: 200 OK\r\nContent-Type: application/octet-stream\r\n"
                                b"Content-Length: 4\r\n\r\nthen")
+
+    def zipped(self, user: str, rest: str) -> dict[str, bytes]:
+        with self.judge.answered(self.fields(user, f"zip/{rest}")) as given:
+            assert given.status == 200 and given.parts is not None
+            body = b"".join(given.parts)
+        with zipfile.ZipFile(io.BytesIO(body)) as whole:
+            assert whole.testzip() is None
+            return {name: whole.read(name) for name in whole.namelist()}
+
+    def test_a_whole_folder(self) -> None:
+        """With what is gone, under names that any system takes; what is closed is left out."""
+        self.then.make(letters__g=None, letters__g__b=b"2", letters__x=b"3", letters__CON=b"4")
+        self.now.make(letters__x=b"5", letters__later=b"6")
+        self.then.objects["letters", "10:30"] = b"7"
+        for room in (self.now, self.then):
+            room.owners["letters", "x"] = "carol"
+        self.deny(self.now, "bob", "/letters/x", "r")
+        self.deny(self.now, "bob", "/letters", "C")
+        self.deny(self.now, "bob", "/letters/x", "t")
+        mine = {"letters/": b"", "letters/reply": b"then"}
+        self.assertEqual(self.zipped("bob", "letters"), {
+            **mine, "letters/not in this ZIP.txt": b"/letters/x\r\n"})
+        gone = {"letters/g/": b"", "letters/g/b": b"2", "letters/_CON": b"4",
+                "letters/10_30": b"7"}
+        self.assertEqual(self.zipped("alice", "letters"), {**mine, **gone, "letters/x": b"3"})
+        self.assertEqual(self.zipped("alice", "letters?x&none"),
+                         {"letters/": b"", "letters/x": b"3"})
+        for rest, status in (("zip/letters/reply", 409), ("zip/none", 404), ("zip/../x", 400),
+                             ("zip/letters?a/b", 400), ("folder/letters?x", 404)):
+            self.assertEqual(self.told("alice", rest)[0], status, rest)
+        with mock.patch.object(whole, "MOST", 3):
+            self.assertEqual(self.told("alice", "zip/letters"), (413, {"why": "too-many"}))
+
+    def test_a_zip_keeps_its_turn(self) -> None:
+        with self.judge.answered(self.fields("alice", "zip/letters")):
+            self.assertEqual(self.judge.under_way, 1)
+            with mock.patch.object(turns, "PATIENCE", 0.05):
+                self.assertEqual(self.told("alice", "zip/letters"), (503, {"why": "busy"}))
+                self.assertEqual(self.told("bob", "doc/letters/reply"), (200, b"then"))
+        self.assertEqual(self.judge.under_way, 0)
+        self.assertIn("letters/reply", self.zipped("alice", "letters"))
+
+    def test_a_zip_that_breaks_off(self) -> None:
+        """It has no end, and no second answer behind it."""
+        with mock.patch.object(whole, "SECONDS", -1.0):
+            said = self.by_scgi("zip/letters")
+        head, _, body = said.partition(b"\r\n\r\n")
+        self.assertTrue(head.startswith(b"Status: 200 OK\r\nContent-Type: application/zip\r\n"))
+        self.assertNotIn(b"Content-Length", head)
+        self.assertNotIn(b"Status", body)
+        self.assertNotIn(b"PK\5\6", body)
+        self.assertIn(b"PK\5\6", self.by_scgi("zip/letters"))
 
     def test_a_copy_that_is_killed_or_hangs_is_opened_anew(self) -> None:
         deaf = socket.socket(socket.AF_UNIX)
@@ -316,8 +448,8 @@ class Asked(Over):
 
     def test_today_is_away(self) -> None:
         with self.assertRaises(Stop) as stopped:
-            self.judge.answer({"ROOM": "other", "ROOM_USER": "alice",
-                               "TARGET": f"/earlier/{NIGHT}/doc/letters/reply"})
+            answer(self.judge, {"ROOM": "other", "ROOM_USER": "alice",
+                                "TARGET": f"/earlier/{NIGHT}/doc/letters/reply"})
         self.assertEqual(stopped.exception.why, "no-room")
         self.assertEqual(self.opened, [])
 
@@ -341,9 +473,25 @@ class Said(unittest.TestCase):
             self.assertEqual(stopped.exception.why, "no-earlier")
 
     def test_moments(self) -> None:
-        self.assertIsNotNone(nights.moment(NIGHT))
+        self.assertTrue(backups.moments(NIGHT))
         for night in ("9999-99-99.999999", "2026-02-30.000000", "2026-11-01.240000"):
-            self.assertIsNone(nights.moment(night))
+            self.assertEqual(backups.moments(night), [])
+
+    def test_the_newest_is_the_administrators(self) -> None:
+        """By the number of each run, where a clock was set back between them."""
+        with tempfile.TemporaryDirectory() as at:
+            names = [("2026-11-30.040000", 7), ("2026-11-28.040000", 8), ("2026-11-27.040000", 6)]
+            for name, number in names:
+                os.makedirs(f"{at}/office/{name}")
+                for file, text in (("F", "x"), ("run", f"number {number}\n")):
+                    with open(f"{at}/office/{name}/{file}", "w", encoding="ascii") as made:
+                        made.write(text)
+            room = nights.Nights("office", "F", at, "", "owners", "")
+            shown = [one.name for one in nights.all_of(room)]
+            self.assertEqual(shown, ["2026-11-28.040000", "2026-11-30.040000",
+                                     "2026-11-27.040000"])
+            known = backups.dated(at, "office", "F").backups
+            self.assertEqual(shown, [one.name for one in reversed(known)])
 
     def test_no_fields(self) -> None:
         with self.assertRaises(scgi.Answer):

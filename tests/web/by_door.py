@@ -1,11 +1,10 @@
 #!/usr/bin/env python3
-"""The page of a room that has a door: what it asks of the door, what it shows by that, and that it
-goes on where nobody answers at the door any more.
+"""What the page asks of the door, what it shows by that, and what it tells where nobody answers at
+the door.
 
-    by_door.py FOLDER FRONT-PORT ACCESS-LOG DOOR
+    by_door.py FOLDER FRONT-PORT ACCESS-LOG
 
-The root lets alice do all, and staff, in which bob and carol are, see what is in it. DOOR is the
-door's process."""
+The root lets alice do all, and staff, in which bob and carol are, see what is in it."""
 
 import base64
 import io
@@ -23,8 +22,8 @@ WORKS = (f'A:fd:alice:{ALL}', 'D:d:EVERYONE@:Dd', 'A:fdg:staff:rwaxtc', 'A:fi:OW
 
 
 class ByDoor:
-    def __init__(self, folder, front, log, door):
-        self.folder, self.log, self.door = folder, log, int(door)
+    def __init__(self, folder, front, log):
+        self.folder, self.log = folder, log
         self.base = f'http://127.0.0.1:{front}'
         self.alice = self.bob = None
 
@@ -72,14 +71,14 @@ class ByDoor:
         bob.press('board')
         bob.until(lambda: bob.script(shut) == ['minutes'], 'a document')
         self.alice.open('')
-        self.alice.until(lambda: self.alice.all('.find'), 'what the door says')
+        self.alice.lists('board', 'letters', 'personnel')
         assert self.alice.script(shut) == []
 
     def found(self):
         """By a word of the name, from where one stands, with the keys alone."""
         bob = self.bob
         bob.open('')
-        bob.until(lambda: bob.all('.find'), 'the button')
+        bob.lists('board', 'letters', 'personnel')
         bob.type('/')
         before = len(self.requests('door/find'))
         bob.type('LETTER 11', Keys.ENTER)
@@ -93,7 +92,7 @@ class ByDoor:
         bob.type(Keys.ARROW_DOWN, Keys.ENTER)
         bob.until(lambda: bob.texts('pre') == ['Dear all'], 'a document')
         bob.open('#/letters')
-        bob.until(lambda: bob.all('.find'), 'the button')
+        bob.lists('2026', 'plan.txt')
         bob.write('.tools input', 'nothing of this name')
         bob.press('Find further down')
         bob.until(lambda: 'Nothing in this folder' in bob.texts('.found-of')[0], 'none')
@@ -103,12 +102,29 @@ class ByDoor:
     def zipped(self):
         alice = self.alice
         alice.open('')
-        alice.until(lambda: alice.all('.find'), 'what the door says')
+        alice.lists('board', 'letters', 'personnel')
         alice.act('Download', 'letters')
         whole = zipfile.ZipFile(io.BytesIO(alice.downloaded('letters.zip')))
         assert whole.testzip() is None and len(whole.namelist()) == 123, whole.namelist()
         assert whole.read('letters/plan.txt') == b'one'
         assert len(self.requests('door/zip/')) == 1
+        # Several names of a folder, by one request too; and all that goes with one, before a
+        # question.
+        for name in ('board', 'letters'):
+            alice.click(alice.one(f'[aria-label="Select: {name}"]'))
+        alice.press('Download', '.chosen')
+        whole = zipfile.ZipFile(io.BytesIO(alice.downloaded('documents.zip')))
+        assert {name.split('/')[1] for name in whole.namelist()} == {'', 'board', 'letters'}
+        assert len(whole.namelist()) == 126 and whole.read('documents/board/minutes') == b'secret'
+        assert len(self.requests('door/zip/')) == 2
+        alice.open('#/letters')
+        alice.lists('2026', 'plan.txt')
+        before = len(self.requests())
+        alice.act('Remove', '2026')
+        alice.says('120 documents', css='dialog')
+        asked = [one.split('?')[0] for one in self.requests()[before:] if 'earlier' not in one]
+        assert asked == ['/door/goes/letters'], asked
+        alice.press('Cancel', 'dialog')
 
     def pick(self, *names):
         alice = self.alice
@@ -266,17 +282,55 @@ class ByDoor:
         bob.says('left as it was', css='.uploads .bad')
         assert 'plan' not in self.ask('GET', '/folder/letters')
 
+    def replaced_unseen(self):
+        """What bob never got isn't replaced either if somebody changes it while he is asked."""
+        bob = self.bob
+        bob.open('#/letters')
+        self.ask('PUT', '/doc/letters/draft.txt', b'one')
+        self.upload('draft.txt', b'his')
+        bob.until(lambda: bob.all('dialog'), 'the question')
+        self.ask('PUT', '/doc/letters/draft.txt', b'two')
+        bob.press('Replace it', 'dialog')
+        bob.says('Somebody else changed it meanwhile', css='dialog')
+        assert self.ask('GET', '/doc/letters/draft.txt') == 'two'
+        bob.press('Cancel', 'dialog')
+        bob.open('#/letters')
+        seen = len(self.requests('door/doc/letters/draft.txt'))
+        bob.act('Replace by a file', 'draft.txt')
+        bob.until(lambda: len(self.requests('door/doc/letters/draft.txt')) > seen, 'what he saw')
+        self.ask('PUT', '/doc/letters/draft.txt', b'three')
+        bob.script("document.querySelector('input.version').hidden = false")
+        bob.one('input.version').send_keys(f'{self.folder}/draft.txt')
+        bob.says('Somebody else changed it meanwhile', css='dialog')
+        bob.press('Replace theirs', 'dialog')
+        bob.until(lambda: self.ask('GET', '/doc/letters/draft.txt') == 'his', 'his')
+        self.ask('DELETE', '/object/letters/draft.txt')
+
     def deserted(self):
-        """The door ends: a share is looked at object by object, and there is no word of it."""
+        """The door is away: that is told, and nothing is said of what wasn't looked at."""
         alice = self.alice
-        os.kill(self.door, signal.SIGTERM)
+        away = 'What looks at whole folders for the room doesn’t answer'
+        place = f'{self.folder}/run/door/office/socket'
+        alice.open('#/letters')
+        alice.lists('2026')
+        os.rename(place, f'{place}.away')
+        before = len(self.requests())
+        alice.act('Download', '2026')
+        alice.says(away, css='.notice.bad')
         alice.open('#/letters?access')
         alice.until(lambda: alice.all('.holders'), 'the panel')
-        self.pick('xia')
-        assert 'xia can then read' in alice.texts('.said')[0]
-        assert len(self.requests('dacl/letters/2026/')) >= 120
-        assert not alice.texts('.notice.bad')
+        alice.write('.picker input', 'xia')
+        alice.press_choice('xia as a person')
+        alice.says(away, css='.adding .looking', patience=60)
+        told = alice.texts('.adding')[0]
+        assert 'xia can then read' in told and 'obody' not in told, told
+        asked = self.requests()[before:]
+        assert not [one for one in asked if one.startswith('/dacl/letters/')], asked
+        os.rename(f'{place}.away', place)
+        alice.press('Try again', '.adding')
+        alice.until(lambda: 'Nobody loses anything.' in alice.texts('.adding')[0], 'all of it')
         alice.press('Cancel', '.adding')
+        alice.errors()
 
 
 PLAY = [
@@ -289,7 +343,8 @@ PLAY = [
     ('a document that isn’t what was seen', ByDoor.not_what_was_seen),
     ('a document by another file', ByDoor.by_another_file),
     ('one that is gone', ByDoor.gone_meanwhile),
-    ('no door any more', ByDoor.deserted),
+    ('one that he never got', ByDoor.replaced_unseen),
+    ('a door that is away', ByDoor.deserted),
 ]
 
 

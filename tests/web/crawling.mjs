@@ -1,12 +1,13 @@
 // What web/net/crawl.js keeps of what lies further down, when a list was changed since it looked:
-// node crawling.mjs PAGE ROOMS [door]
-// Each of ROOMS rooms is that of model.mjs, with a door or without one. Nothing is asked for twice,
-// and all lists are as the room then has them. The last line is 'ROOMS tried, N faults'.
+// node crawling.mjs PAGE ROOMS
+// Each of ROOMS rooms is that of model.mjs, with a door. It is asked once, and all lists are as the
+// room then has them. A fault of the door is told, and then no list. The last line is
+// 'ROOMS tried, N faults'.
 import { resolve } from 'node:path';
 import { pathToFileURL } from 'node:url';
 import { Model, doorBelow } from './model.mjs';
 
-const [page, rooms, hasDoor] = process.argv.slice(2);
+const [page, rooms] = process.argv.slice(2);
 const module = (name) => import(`${pathToFileURL(resolve(page)).href}/${name}`);
 const [{ Looking }, lists] = await Promise.all(['crawl.js', 'entries.js'].map(module));
 
@@ -33,24 +34,13 @@ function treeAtRandom() {
     protect: path !== '/' && random(4) === 0, own: ownOf(kind) })));
 }
 
-let [model, asked] = [null, 0];
+let [model, asked, fails] = [null, 0, null];
 const textOf = ({ auto, protect, full }) => lists.printList({ auto, protect, entries: full });
-const NO_DOOR = () => new Response('<html>', { status: 404 });
 globalThis.fetch = async (target) => {
   asked += 1;
-  const [, word, rest] = /^(door\/\w+|\w+)(\/.*)$/.exec(decodeURIComponent(target));
-  if (word === 'door/below' && hasDoor) {
-    const [top, apart = ''] = rest.split('?');
-    return Response.json(doorBelow(model, top, apart, textOf));
-  }
-  if (word.startsWith('door/')) return NO_DOOR();
-  const one = model.objects.get(rest);
-  if (word === 'dacl') return new Response(textOf(one));
-  if (word === 'attr') return Response.json({ owner: one.owner, group: one.group });
-  const inside = [...model.objects.values()].filter(({ path }) => path !== '/'
-    && (path.slice(0, path.lastIndexOf('/')) || '/') === rest);
-  return Response.json(inside.map(({ path, kind }) => (
-    { kind, name: path.slice(path.lastIndexOf('/') + 1) })));
+  if (fails) return fails();
+  const [, top, apart = ''] = /^door\/below(\/[^?]*)\??(.*)$/.exec(decodeURIComponent(target));
+  return Response.json(doorBelow(model, top, apart, textOf));
 };
 
 const lookedBelow = async (looking, path) => {
@@ -86,7 +76,7 @@ const compare = (what, { nodes, all }) => {
 
 // The panel sends lists at the object that it is about, above it, and where something differs.
 const changeable = () => [...model.objects.values()].filter(({ path, own, protect, auto }) =>
-  path !== '/' && (!hasDoor || path === '/r' || own.length > 0 || protect || !auto));
+  path !== '/' && (path === '/r' || own.length > 0 || protect || !auto));
 
 for (let number = 0; number < Number(rooms); number += 1) {
   model = treeAtRandom();
@@ -102,6 +92,35 @@ for (let number = 0; number < Number(rooms); number += 1) {
     compare(`after ${one.path}`, await lookedBelow(looking, '/r'));
   }
   if (asked !== first) faults.push(`${asked - first} requests more`);
+}
+
+// What it says where the door can't: nothing was seen, and why.
+const room = (status, told) => () => Response.json(told, { status });
+const told = async (answers) => {
+  fails = answers;
+  const looking = new Looking('/r');
+  const { nodes, unread, all } = await lookedBelow(looking, '/r');
+  const { ended } = looking;
+  fails = null;
+  looking.goOn();
+  const again = await lookedBelow(looking, '/r');
+  return { seen: nodes.length, unread: unread.map(({ path }) => path), all,
+    why: ended?.fault.body?.why ?? ended?.fault.status ?? null, later: again.all };
+};
+for (const [name, answers, wanted] of [
+  ['too much', room(413, { why: 'too-many' }), { all: false, why: 'too-many' }],
+  ['too many requests', room(429, { why: 'too-many-requests' }),
+    { all: false, why: 'too-many-requests' }],
+  ['no such address', () => new Response('<html>', { status: 404 }), { all: false, why: 404 }],
+  ['a fault', () => new Response('a fault of the door', { status: 500 }), { all: false, why: 500 }],
+  ['what may not be listed', room(403, { at: '/r', bits: 'r', entry: null, text: null }),
+    { all: true, unread: ['/r'] }],
+  ['what is gone', room(404, { at: '/r', why: 'no-such' }), { all: true }],
+]) {
+  const is = JSON.stringify(await told(answers));
+  const want = JSON.stringify({ seen: 0, unread: [], why: null, later: true, ...wanted });
+  const sorted = (text) => JSON.stringify(Object.entries(JSON.parse(text)).sort());
+  if (sorted(is) !== sorted(want)) faults.push(`${name}: ${is}, not ${want}`);
 }
 for (const one of faults.slice(0, 3)) console.log(one);
 console.log(`${rooms} tried, ${faults.length} faults`);

@@ -23,9 +23,9 @@ class Nights:
         self.eve = start('eve', 'e')
         self.alice = start('alice', 'a')
 
-    def read(self, path):
+    def read(self, path, method='GET', body=None, word='doc'):
         """By today's room, without the page."""
-        asked = urllib.request.Request(f'{self.base}/doc/{path}')
+        asked = urllib.request.Request(f'{self.base}/{word}/{path}', body, method=method)
         asked.add_header('Authorization', 'Basic Ym9iOmI=')
         with urllib.request.urlopen(asked, timeout=30) as reply:
             return reply.read().decode()
@@ -137,6 +137,31 @@ class Nights:
         bob.says('It is the same now.', css='main [role=status]')
         assert self.read('letters/reply.txt') == 'Dear Sirs'
 
+    def made_meanwhile(self):
+        """What somebody makes or changes after the question isn't replaced without another one."""
+        bob = self.bob
+        self.read('letters/kept.txt', 'DELETE', word='object')
+        bob.open('#/letters?earlier')
+        bob.press('Put kept.txt back')
+        bob.until(lambda: bob.all('dialog'), 'the question')
+        self.read('letters/kept.txt', 'PUT', b'by somebody')
+        bob.press('Put back', 'dialog')
+        bob.says('There is a document kept.txt in this folder already', css='dialog')
+        bob.press('Cancel', 'dialog')
+        bob.says('Not put back: 1 object.')
+        assert self.read('letters/kept.txt') == 'by somebody'
+        bob.open('#/letters')
+        bob.act('Earlier', 'kept.txt')
+        bob.press('Put kept.txt back')
+        bob.until(lambda: bob.all('dialog'), 'the question')
+        self.read('letters/kept.txt', 'PUT', b'once more')
+        bob.press('Replace what is there', 'dialog')
+        bob.says('Somebody else changed it meanwhile', css='dialog')
+        assert self.read('letters/kept.txt') == 'once more'
+        bob.press('Replace theirs', 'dialog')
+        bob.says('1 object put back')
+        assert self.read('letters/kept.txt') == 'as ever'
+
     def another_night(self):
         bob = self.bob
         bob.open('#/letters/tender?earlier')
@@ -148,8 +173,9 @@ class Nights:
         assert bob.downloaded('offer.txt') == b'the first offer'
         bob.press('Get all of it')
         with zipfile.ZipFile(io.BytesIO(bob.downloaded(f'tender {ONE}.zip'))) as made:
-            assert made.read('offer.txt') == b'the first offer', made.namelist()
-            assert sorted(made.namelist()) == ['offer.txt', 'plans/', 'plans/roof.txt']
+            assert made.read('tender/offer.txt') == b'the first offer', made.namelist()
+            assert sorted(made.namelist()) == ['tender/', 'tender/offer.txt', 'tender/plans/',
+                                               'tender/plans/roof.txt']
         bob.press('Back to now')
         bob.lists('plans', 'offer.txt')
 
@@ -196,7 +222,9 @@ def main():
                     ('a folder is removed', play.removed), ('what was there', play.is_seen),
                     ('who sees it', play.is_not_seen), ('it comes back', play.comes_back),
                     ('a part of it', play.a_part_of_it),
-                    ('what was replaced', play.replaced), ('another night', play.another_night),
+                    ('what was replaced', play.replaced),
+                    ('what came after the question', play.made_meanwhile),
+                    ('another night', play.another_night),
                     ('no fault in the console', play.quiet)):
                 checks.step(f'{browser}: {name}', act)
     finally:

@@ -3,6 +3,7 @@
 
 . "$here/lib/earlier.sh"
 . "$here/lib/browsers.sh"
+. "$here/lib/door.sh"
 if [ -n "$lacking" ] || lacks_earlier; then
   skip 'earlier nights in the page' "missing: ${lacking:-setpriv, python3 or root}"
   return
@@ -37,6 +38,7 @@ begin() {
 }
 begin
 start_nights 'earlier nights in the page' || return
+start_door office
 play 'earlier nights in Chromium' earlier.py "$PWD" "$front" chromium
 if has firefox-esr || has firefox; then
   begin

@@ -4,6 +4,7 @@
 
 . "$here/lib/front.sh"
 . "$here/lib/browsers.sh"
+. "$here/lib/door.sh"
 has openssl || lacking="$lacking openssl"
 if [ -n "$lacking" ]; then
   skip 'how long the page takes' "missing: $lacking"
@@ -17,15 +18,12 @@ open_room F
 set_list F / dacl list:a "A:fd:alice:$ALL" A::AUTHENTICATED@:xt
 start_room F 1000000 || return
 start_front 'how long the page takes' tls || return
-mkdir -p run/door/office
-python3 -IB "$repo/services/rooms_services/door/__main__.py" --room "$PWD/run/rooms/office/socket" \
-  --listen "$PWD/run/door/office/socket" >door.out 2>door.err &
-others+=($!)
+start_door office
 [ -n "${ROOMS_FIGURES-}" ] && sizes=(1000 10000 30000) || sizes=(150 300 600)
 python3 -IB "$here/lib/delay.py" $((port + 7)) "$secure" 100 >line.out 2>line.err &
 line=$!
 others+=("$line")
-until [ -s line.out ] && [ -s door.err ]; do sleep 0.05; done
+until [ -s line.out ]; do sleep 0.05; done
 play 'how long the page takes' figures.py "$PWD" $((port + 7)) "$PWD/access.log" "$line" \
   "$PWD/run/rooms/office/socket" "${sizes[@]}" ${ROOMS_FIGURES:+"$ROOMS_FIGURES"}
 stop_server

@@ -150,8 +150,10 @@ class Handling:
         with zipfile.ZipFile(io.BytesIO(alice.downloaded('desk.zip'))) as zipped:
             assert zipped.testzip() is None
             assert sorted(zipped.namelist()) == [
-                'Café.txt', 'Note 1.txt', 'new/', 'new/deep/', 'new/in it.txt'], zipped.namelist()
-            assert zipped.read('new/in it.txt') == b'in it' and zipped.read('Café.txt') == b''
+                'desk/', 'desk/Café.txt', 'desk/Note 1.txt', 'desk/new/', 'desk/new/deep/',
+                'desk/new/in it.txt'], zipped.namelist()
+            assert zipped.read('desk/new/in it.txt') == b'in it'
+            assert zipped.read('desk/Café.txt') == b''
         self.pick('new')
         alice.press('Move', '.chosen')
         alice.press('old', 'dialog .chooser')

@@ -17,6 +17,7 @@ fi
 
 . "$here/lib/front.sh"
 . "$here/lib/browsers.sh"
+. "$here/lib/door.sh"
 if [ -n "$lacking" ]; then
   skip 'languages in Chromium' "missing: $lacking"
   return
@@ -29,11 +30,8 @@ set_list L / dacl list:a "A:fd:alice:$ALL" A::AUTHENTICATED@:xt
 start_room L 100000 || return
 mkdir -p root/var/lib/rooms-web/office/mine
 ln -s root/var/lib/rooms-web/office names
-# No door runs here, so the site has none.
-mkdir -p machine/etc/nginx
-admin setup
-sets office DOOR ''
 start_front L || return
+start_door office
 play 'languages in Chromium' languages.py "$PWD" "$front"
 stop_server
 stop_proxy

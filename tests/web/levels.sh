@@ -23,19 +23,50 @@ node_says() { # NAME LAST-LINE ARGUMENT ..
 
 node_says 'levels, over the lists of the page and at random' '0 told' "$here/web/node.mjs" \
   "$here/web/levels.js" page "$here/../docs/lists.md" 20000
+# Whether a last day is over is the machine's to say, wherever the browser is.
+for zone in UTC America/New_York Asia/Tokyo; do
+  TZ=$zone node "$here/web/clock.mjs" page >got 2>&1
+  same "the machine's day, in a browser at $zone" got /dev/null
+done
+# The night takes back what the page says it will, on the day that it says, and nothing else.
+if [ -x /usr/bin/python3 ]; then
+  for seed in 1 2; do
+    node "$here/web/ends.mjs" page 10000 "$seed" 2>"$work/err" |
+      PYTHONPATH=$repo/admin /usr/bin/python3 -B "$here/web/ends.py" >"$work/out" 2>>"$work/err"
+    holds "accesses that end: $(head -c 1500 "$work/out")$(head -c 600 "$work/err")" \
+      [ "$(tail -n 1 "$work/out")" = '10000 lists, some taken back, 0 differ' ]
+  done
+  # What the page marks in a name, root's terminal doesn't show as it is either.
+  node --input-type=module -e 'const { marked } = await import(process.argv[1]);
+    for (let code = 1; code < 0x110000; code += 1) {
+      if (code >= 0xd800 && code < 0xe000) continue;
+      const name = `a${String.fromCodePoint(code)}b`;
+      if (marked(name) !== name) console.log(code);
+    }' "$PWD/page/invisible.js" >codes 2>"$work/err"
+  PYTHONPATH=$repo/admin /usr/bin/python3 -B -c 'import sys
+from rooms_admin.cli import report
+codes = [int(line) for line in sys.stdin]
+print(len(codes) > 200, [hex(one) for one in codes if report.is_seen(chr(one))])' <codes >got \
+    2>>"$work/err"
+  echo 'True []' >wanted
+  same "signs that aren't seen$(head -c 600 "$work/err")" got wanted
+else
+  skip 'accesses that end' 'missing: /usr/bin/python3'
+fi
 node_says 'what somebody keeps further down, or owns on the way' '0 told' "$here/web/node.mjs" \
   "$here/web/keeping.js" page "$here/../docs/lists.md" 0
 node_says 'what is granted, where something is not known' '0 told' "$here/web/node.mjs" \
   "$here/web/deciding.js" page "$here/../docs/lists.md" 20000
 node_says 'what the panel says of one click, in rooms at random' '20000 tried, 0 faults' \
   "$here/web/unsaid.mjs" page 20000
-node_says 'the same by what a door says of it' '5000 tried, 0 faults' \
-  "$here/web/unsaid.mjs" page 5000 7 door
 node_says 'what was seen further down, after changes' '300 tried, 0 faults' \
   "$here/web/crawling.mjs" page 300
-node_says 'what can not be seen further down, by a door or not' '3000 tried, 0 faults' \
-  "$here/web/unseen.mjs" page 3000
-node_says 'the same, seen by a door' '300 tried, 0 faults' "$here/web/crawling.mjs" page 300 door
+same_folded() {
+  python3 -IB "$here/web/searched.py" page "$repo/services" >"$work/out" 2>"$work/err"
+  grep -qx '[0-9]* folded, 0 differ' "$work/out"
+}
+holds "which names fit a search, by the page and by the door: $(same_folded && echo yes ||
+  head -c 600 "$work/out" "$work/err")" grep -q ' 0 differ$' "$work/out"
 # More than 100,000 answers of the program.
 node_says 'rights, removals and lists, as the program has them' '0 differ' \
   "$here/web/compared.mjs" page "$rooms" "$PWD/compared" 6

@@ -1,29 +1,22 @@
-"""The play of a folder with more than 1,000 objects: all are looked at, a few at a time, until
-somebody stops that."""
-
-import time
+"""The play of a folder with more than 1,000 objects: all are looked at by one request to the door,
+until somebody stops that, or the door can't."""
 
 FOLDERS, DOCUMENTS = 20, 50
 LAST = '/big/f19/d49'
-STOPPED = 'Not all that is further down was looked at, since you stopped it:'
+AGAIN = 'Try again'
 
-# Requests that look, each after a pause: how many there were, and the most at a time.
+# Requests to the door that look: how many there were. Each waits until 'window.go()', or is
+# answered in the place of the door.
 COUNT = """
 window.realFetch ??= window.fetch;
-Object.assign(window, { now: 0, most: 0, looks: 0, pauseOf: arguments[0], refused: arguments[1] });
+Object.assign(window, { looks: 0, waits: arguments[0], refused: arguments[1] });
 window.fetch = async (target, words) => {
-  const looks = words?.method === 'GET' && /^(dacl|folder)[/]/.test(target);
-  if (!looks) return window.realFetch(target, words);
-  window.now += 1;
+  if (!/^door[/]below[/]/.test(target)) return window.realFetch(target, words);
   window.looks += 1;
-  window.most = Math.max(window.most, window.now);
-  try {
-    if (pauseOf > 0) await new Promise((resolve) => { setTimeout(resolve, pauseOf); });
-    const isRefused = refused !== null && target.endsWith(refused);
-    return isRefused ? new Response('', { status: 500 }) : await realFetch(target, words);
-  } finally {
-    window.now -= 1;
-  }
+  if (window.waits) await new Promise((resolve) => { window.go = resolve; });
+  if (window.refused === null) return window.realFetch(target, words);
+  const [status, told] = window.refused;
+  return new Response(told, { status });
 };
 """
 
@@ -41,10 +34,10 @@ class Looking:
         self.put_list(LAST, 'list:', 'A::zoe:rwaxtc')
         self.put_list('/big/f7', 'list:ap', 'A:fd:alice:rwanNxDtThHdcCoy', 'A:fd:lea:rxtc')
 
-    def counted(self, pause=0, refused=None):
+    def counted(self, waits=False, refused=None):
         self.big()
         self.panel('/big')
-        self.alice.script(COUNT, pause, refused)
+        self.alice.script(COUNT, waits, refused)
 
     def unfold(self):
         self.alice.click(self.alice.one('.sharing-view > details:last-child summary'))
@@ -52,58 +45,65 @@ class Looking:
     def found(self):
         return self.alice.texts('.exceptions a')
 
+    def all_found(self):
+        self.alice.until(lambda: self.found() == ['/big/f7', LAST], 'the exceptions', 60)
+        self.alice.says('Everything else further down follows this list.', css='.exceptions')
+        self.alice.until(lambda: not self.alice.all('.looking'), 'the end of the look')
+
     def thousand(self):
-        """All exceptions are named, however many objects there are, by four requests at a time,
-        with a count meanwhile."""
+        """All exceptions are named, however many objects there are, by one request."""
         alice = self.alice
-        self.counted(5)
+        self.counted(True)
         self.unfold()
-        alice.says('Looking at what is further down:', ' of ', css='.exceptions .looking .hint')
+        alice.says('Looking at what is further down.', css='.exceptions .looking .hint')
         # The page can be used meanwhile.
         alice.write('.picker input', 'kim')
         alice.until(lambda: alice.all('[role=option]'), 'the choices')
         alice.write('.picker input', '')
-        alice.until(lambda: self.found() == ['/big/f7', LAST], 'the exceptions', 60)
-        alice.says('Everything else further down follows this list.', css='.exceptions')
-        alice.until(lambda: not alice.all('.looking'), 'the end of the count')
-        most, looks = alice.script('return [window.most, window.looks]')
-        assert most == 4, most
-        # Each list once, and what is in each folder.
-        assert looks == FOLDERS * (DOCUMENTS + 1) + FOLDERS + 1, looks
+        alice.script('window.go()')
+        self.all_found()
+        assert alice.script('return window.looks') == 1
 
     def stopped_look(self):
-        """It is said that not all was looked at, and how much; the rest is looked at on demand."""
+        """It is said that it wasn't looked at; that is done on demand, and asked for once."""
         alice = self.alice
-        self.counted(20)
+        self.counted(True)
         self.unfold()
         alice.press('Stop', '.exceptions')
-        alice.says(STOPPED, 'or more', css='.exceptions [role=status]')
-        assert LAST not in self.found()
+        alice.says('wasn’t looked at, since you stopped it', css='.exceptions [role=status]')
+        assert not self.found()
         assert not any('follows this list' in text for text in alice.texts('.exceptions'))
-        before = alice.script('return window.looks')
-        alice.until(lambda: alice.script('return window.now') == 0, 'the last requests')
-        assert alice.script('return window.looks') <= before + 4
-        alice.script('window.pauseOf = 0')
-        alice.press('Look at the rest', '.exceptions')
-        alice.until(lambda: self.found() == ['/big/f7', LAST], 'the exceptions', 60)
-        alice.until(lambda: not alice.all('.looking'), 'the end of the count')
+        alice.press(AGAIN, '.exceptions')
+        alice.script('window.go()')
+        self.all_found()
+        assert alice.script('return window.looks') == 1
 
     def failed_look(self):
-        """What can't be read isn't passed over."""
+        """Why the door can't is told, and nothing that only a look could say."""
         alice = self.alice
-        self.counted(0, f'dacl{LAST}')
-        self.unfold()
-        alice.says('Not all that is further down was looked at, since the room couldn’t be read',
-                   css='.exceptions [role=status]', patience=60)
-        assert self.found() == ['/big/f7']
-        alice.script('window.refused = null')
-        alice.press('Look at the rest', '.exceptions')
-        alice.until(lambda: self.found() == ['/big/f7', LAST], 'the exceptions', 60)
+        for refused, words in (
+                ((413, '{"why":"too-many"}'), 'Too much lies below this folder.'),
+                ((429, '{"why":"too-many-requests"}'), 'You ask for too much at once.'),
+                ((500, 'a fault of the door'), 'What looks at whole folders for the room doesn’t')):
+            self.counted(False, refused)
+            self.unfold()
+            alice.says('What is further down wasn’t looked at.', words,
+                       css='.exceptions [role=status]')
+            assert not self.found() and 'follows' not in alice.texts('.exceptions')[0]
+            alice.write('.picker input', 'zoe')
+            alice.press_choice('person')
+            alice.says('What is further down wasn’t looked at.', words, css='.adding [role=status]')
+            told = alice.texts('.adding')[0]
+            assert 'obody' not in told, told
+            alice.script('window.refused = null')
+            alice.press(AGAIN, '.adding')
+            alice.until(lambda: 'Nobody loses anything.' in alice.texts('.adding')[0], 'all of it')
+            alice.press('Cancel', '.adding')
 
     def shared_above(self):
         """Nothing is sent before all was looked at, or somebody stopped that; then it is said."""
         alice = self.alice
-        self.counted(20)
+        self.counted(True)
         before = self.list_of('/big')
         alice.write('.picker input', 'zoe')
         alice.press_choice('person')
@@ -112,12 +112,11 @@ class Looking:
         assert 'zoe can then read “big” and what is in it.' in alice.texts('.adding .said')[0]
         assert alice.script(share)
         alice.press('Stop', '.adding')
-        alice.says(STOPPED, css='.adding [role=status]')
+        alice.says('wasn’t looked at, since you stopped it', css='.adding [role=status]')
         told = alice.texts('.adding')[0]
-        assert not alice.script(share) and 'd49' not in told, told
-        assert 'Nobody loses anything in what was looked at.' in told, told
-        alice.script('window.pauseOf = 0')
-        alice.press('Look at the rest', '.adding')
+        assert not alice.script(share) and 'd49' not in told and 'obody' not in told, told
+        alice.script('window.waits = false; window.go()')
+        alice.press(AGAIN, '.adding')
         alice.until(lambda: alice.all('.adding .outcome[aria-busy=false]')
                     and not alice.all('.adding .looking'), 'all of it', 60)
         told = alice.texts('.adding')[0]
@@ -132,31 +131,16 @@ class Looking:
         """The same in the dialog, which is there at once."""
         alice = self.alice
         self.panel('/big')
-        alice.script(COUNT, 20, None)
+        alice.script(COUNT, True, None)
         alice.script("""const menu = document.querySelector('.holders select');
             menu.value = 'gone';
             menu.dispatchEvent(new Event('change'));""")
         alice.until(lambda: alice.all('dialog .outcome[aria-busy=true]'), 'the question')
         assert alice.script("return document.querySelector('dialog .primary').disabled")
         assert alice.script('return document.activeElement.textContent') == 'Cancel'
-        alice.script('window.pauseOf = 0')
+        alice.script('window.waits = false; window.go()')
         alice.until(lambda: alice.all('dialog .outcome[aria-busy=false]'), 'all of it', 60)
         told = alice.texts('dialog')[0]
         assert 'Loses: zoe – no access any more (can read now)' in told, told
         self.confirm('Remove access')
         assert self.list_of('/big') == before
-
-    def unwanted_look(self):
-        """Once another place is open, nothing more is asked for."""
-        alice = self.alice
-        self.counted(20)
-        self.unfold()
-        alice.until(lambda: alice.script('return window.looks') > 20, 'some requests')
-        alice.script("location.hash = '#/letters?access'")
-        alice.until(lambda: alice.texts('h1') == ['letters'], 'another place')
-        # Those that were on their way come to their end.
-        time.sleep(1)
-        before, now = alice.script('return [window.looks, window.now]')
-        assert now == 0 and before < FOLDERS * DOCUMENTS, (now, before)
-        time.sleep(1.5)
-        assert alice.script('return window.looks') == before

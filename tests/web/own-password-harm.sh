@@ -141,7 +141,33 @@ sed 's/office/hr.../' asked >asked.bad
 service <asked.bad >got 2>/dev/null
 holds 'a room that is another file' grep -q '^Status: 4' got
 
-# What the account puts there is followed by nobody.
+# Whoever took the service over: no file is theirs, and one line at a time is put, of the cost that
+# rooms-admin writes. (A check of cost 31 takes hours, and nginx waits for each.)
+cp -p was "$kept/rooms.htpasswd"
+service sh -c "echo 'eve:x' >>'$kept/rooms.htpasswd'; : >'$kept/rooms-x.htpasswd'" <asked \
+  >got 2>&1
+holds 'the account writes no file' [ "$(md5sum <"$kept/rooms.htpasswd")" = "$before" ]
+holds 'and makes none' [ ! -e "$kept/rooms-x.htpasswd" ]
+read -r kind digest hash <<<"$(written 'line office alice')"
+holds "it is told a line: $kind" [ "$kind $hash" = "own $(sed -n s/^alice://p was)" ]
+costly=\$2y\$31\$$(printf 'a%.0s' {1..53})
+for line in "put office alice $digest $costly" "put office alice $digest ${costly/31/11}" \
+  "put office alice $digest {PLAIN}x" "put office alice $digest x" "put office alice x $hash" \
+  "put office alice $digest $hash:x" "put office alice $digest $hash"$'\nput' 'put office alice' \
+  "put ../x alice $digest $hash" "put office a:b $digest $hash" "line office alice $digest $hash" \
+  'line office' '' "$(printf 'x%.0s' {1..399})"; do
+  holds "'${line:0:30}' is refused" [ "$(written "$line")" = refused ]
+done
+holds 'of nobody' [ "$(written 'line office nobody')" = no-line ]
+holds 'of no room' [ "$(written 'line hr alice')" = none ]
+holds 'an older line' [ "$(written "put office alice ${digest//[0-9]/0} $hash")" = changed ]
+holds 'nothing of that is there' [ "$(md5sum <"$kept/rooms.htpasswd")" = "$before" ]
+holds 'a hash of the same cost' \
+  [ "$(written "put office alice $digest ${costly/31/10}")" = done ]
+holds 'is there' grep -qxF "alice:${costly/31/10}" "$kept/rooms.htpasswd"
+cp -p was "$kept/rooms.htpasswd"
+
+# What stands there is followed by nobody.
 echo 'root:x:colon' >secret
 chmod 600 secret
 for trick in "ln -s $PWD/secret" mkfifo; do

@@ -2,6 +2,7 @@
 
 . "$here/lib/own-password.sh"
 . "$here/lib/browsers.sh"
+. "$here/lib/door.sh"
 if [ -n "$lacking" ] || lacks_own; then
   skip 'own passwords in the page' "missing: ${lacking:-htpasswd, setpriv or root}"
   return
@@ -13,8 +14,6 @@ fi
 start_own 'own passwords in the page' A:fd:carol:rx || return
 admin add hr alice staff
 sets hr OWN_PASSWORDS no
-sets hr SOCKET ''
-sets hr PORT "$port"
 admin setup
 take_front
 sed -i -e "s|auth_basic_user_file $PWD/|auth_basic_user_file $kept/|" -e 's|10r/m|6000r/m|' \
@@ -31,6 +30,8 @@ begin() { # as at the beginning
   reload_front
 }
 begin
+start_door office
+start_door hr
 play 'own passwords in Chromium' own_password.py "$PWD" "$front" chromium
 if has firefox-esr || has firefox; then
   sleep 11

@@ -30,7 +30,7 @@ holds 'bcrypt of cost 10, and what stands behind it' \
 holds 'the others stay, in their places' \
   cmp -s <(grep -v ^alice: "$kept/rooms.htpasswd") <(grep -v ^alice: all)
 holds 'owner, group and mode stay' \
-  [ "$(stat -c '%u:%G:%a' "$kept/rooms.htpasswd")" = "$keeper:www-data:640" ]
+  [ "$(stat -c '%u:%G:%a' "$kept/rooms.htpasswd")" = 0:www-data:640 ]
 
 # Whose it is.
 ask 'nobody without a password' 401 - '' /password -X POST -H "$as_json" \
@@ -144,6 +144,18 @@ sed -i "s|auth_basic_user_file .*/|auth_basic_user_file $kept/|" sites-enabled/r
 cp "$kept/rooms.htpasswd" rooms-hr.htpasswd
 cp "$kept/rooms.htpasswd" "$kept/rooms-hr.htpasswd"
 reload_front
+# What asks the directory says that it is her.
+python3 -c 'import http.server, sys
+class Yes(http.server.BaseHTTPRequestHandler):
+    def do_GET(self):
+        self.send_response(200)
+        self.send_header("Room-User", "alice")
+        self.end_headers()
+    def log_message(self, *given):
+        pass
+http.server.HTTPServer(("127.0.0.1", int(sys.argv[1])), Yes).serve_forever()' "$apache" &
+others+=("$!")
+until (exec 3<>"/dev/tcp/127.0.0.1/$apache") 2>/dev/null; do sleep 0.05; done
 for method in GET POST; do
   ask "$method: root alone changes them" 404 '{"why":"file"}' "alice:$now" /hr/password \
     -X $method

@@ -2,6 +2,7 @@
 
 . "$here/lib/front.sh"
 . "$here/lib/browsers.sh"
+. "$here/lib/door.sh"
 if [ -n "$lacking" ]; then
   skip 'the page' "missing: $lacking"
   return
@@ -14,6 +15,8 @@ open_room F
 set_list F / dacl list:a "A:fd:alice:$ALL"
 start_room F 1000 || return
 start_front 'the page' || return
+# It asks the room of the moment, whichever that is.
+start_door office
 api() { curl -s -o "$work/body" -w '%{http_code}' -u alice:a "$@"; }
 holds 'a folder' [ "$(api -X POST "http://127.0.0.1:$front/folder/letters")" = 201 ]
 holds 'a document' \
@@ -46,14 +49,14 @@ stop_server
 stop_proxy
 gives 'sound after the office' 0 'sound\n' '' verify G
 
-# A server that ends and begins again, which the play starts at a port that was free.
+# A server that ends and begins again, which the play starts.
 open_room R
 set_list R / dacl list:a "A:fd:alice:$ALL"
-start_server R 1 || return
+start_room R 1 || return
 stop_server
 start_front 'a server that restarts' || return
 play 'a server that restarts' restarts.py "$PWD" "$front" "$PWD/access.log" "$rooms" "$PWD/R" \
-  "$port"
+  "$place"
 stop_proxy
 gives 'sound after restarts' 0 'sound\n' '' verify R
 
@@ -64,6 +67,7 @@ open_room H
 set_list H / dacl list:a "A:fd:carol:$ALL"
 start_room H 10000 || return
 ln -s office run/rooms/invoices
+start_door invoices
 printf 'carol:{PLAIN}c\n' >rooms-invoices.htpasswd
 start_front 'a room at a path' || return
 play 'a room at a path' several.py "$PWD" "$front"

@@ -1,9 +1,9 @@
 #!/usr/bin/env python3
 """A server that ends and begins again while the page is at work.
 
-    restarts.py FOLDER FRONT-PORT ACCESS-LOG PROGRAM ROOM PORT
+    restarts.py FOLDER FRONT-PORT ACCESS-LOG PROGRAM ROOM SOCKET
 
-ROOM is a room whose root lets alice do all. The server at PORT, behind the front end, is this
+ROOM is a room whose root lets alice do all. The server at SOCKET, behind the front end, is this
 play's.
 """
 
@@ -39,15 +39,18 @@ CHOOSE = "document.querySelector('input.files').hidden = false"
 
 
 class Restarts:
-    def __init__(self, folder, front, log, program, room, port):
-        self.folder, self.log, self.program, self.room, self.port = folder, log, program, room, port
+    def __init__(self, folder, front, log, program, room, place):
+        self.folder, self.log, self.program, self.room = folder, log, program, room
+        self.place = place
         self.base = f'http://127.0.0.1:{front}'
         self.alice = self.server = None
 
     def start(self):
+        if os.path.lexists(self.place):
+            os.unlink(self.place)
         with open(f'{self.folder}/served', 'wb') as out:
             self.server = subprocess.Popen(
-                [self.program, 'serve', self.room, '--port', self.port, '--count', '1000000'],
+                [self.program, 'serve', self.room, '--socket', self.place, '--count', '1000000'],
                 stdout=out, stdin=subprocess.DEVNULL)
         self.alice.until(lambda: os.path.getsize(f'{self.folder}/served') > 0, 'a server')
 
@@ -100,8 +103,9 @@ class Restarts:
         assert self.sent() < MANY, 'the upload was over before it could be interrupted'
 
     def lost_answers(self, since):
+        """nginx says it of the room, and the door of a request by it."""
         with open(self.log, encoding='utf-8') as log:
-            return [line for line in log.readlines()[since:] if line.startswith('502 ')]
+            return [line for line in log.readlines()[since:] if line.startswith(('502 ', '503 '))]
 
     def lines(self):
         with open(self.log, encoding='utf-8') as log:
@@ -308,7 +312,7 @@ class Restarts:
         """The front end refuses what adds, as long as the flag of a full room is there. That is
         said once, with what helps, and the rest isn't sent."""
         alice = self.alice
-        flag = f'{self.folder}/run/rooms-full/127.0.0.1:{self.port}'
+        flag = f'{self.folder}/run/rooms-full/office.full'
         os.makedirs(os.path.dirname(flag), exist_ok=True)
         with open(flag, 'w', encoding='utf-8'):
             pass

@@ -441,7 +441,6 @@ PLAY = [
     ('a look that is stopped', Sharing.stopped_look),
     ('a look that fails', Sharing.failed_look),
     ('shared above a thousand objects', Sharing.shared_above),
-    ('a look that nobody waits for', Sharing.unwanted_look),
     ('an access with a last day', Sharing.ends),
     ('half a date', Sharing.half_a_date),
     ('a last day in its line', Sharing.day_in_line),

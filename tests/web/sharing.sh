@@ -4,6 +4,7 @@
 
 . "$here/lib/front.sh"
 . "$here/lib/browsers.sh"
+. "$here/lib/door.sh"
 if [ -n "$lacking" ]; then
   skip 'sharing' "missing: $lacking"
   return
@@ -24,6 +25,7 @@ start_sharing() { # ROOM
   mkdir -p root/var/lib/rooms-web/office/mine
   ln -s root/var/lib/rooms-web/office names
   start_front "$1" || return
+  [ -n "${doors[*]}" ] || start_door office
 }
 end_sharing() { # ROOM
   stop_server

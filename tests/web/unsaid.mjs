@@ -1,6 +1,6 @@
 // What the panel of access says of one click, against what comes of it in a room at random:
-// node unsaid.mjs PAGE TREES [SEED [door]]
-// The room is the one of model.mjs; with 'door', what lies further down is what a door says of it.
+// node unsaid.mjs PAGE TREES [SEED]
+// The room is the one of model.mjs; what lies further down is what a door says of it.
 // Whoever gains or loses something has to be named, with words that say as much as the right, and
 // nothing may be said that isn't so. The last line is 'TREES tried, N faults'; the status is 1 if
 // there are any.
@@ -8,7 +8,7 @@ import { resolve } from 'node:path';
 import { pathToFileURL } from 'node:url';
 import { Model, doorBelow } from './model.mjs';
 
-const [page, trees, from, isByDoor] = process.argv.slice(2);
+const [page, trees, from] = process.argv.slice(2);
 const module = (name) => import(`${pathToFileURL(resolve(page)).href}/${name}`);
 const [lists, levels, consequences, words, { seenBelow }] = await Promise.all(
   ['entries.js', 'levels.js', 'consequences.js', 'access_words.js', 'seen_below.js'].map(module));
@@ -92,14 +92,9 @@ const fromTop = (one, other) => Number(other.kind === 'folder') - Number(one.kin
 function stateOf(model, one, known) {
   const names = one.path === '/' ? [] : one.path.split('/').slice(1);
   const folders = names.map((_, at) => model.objects.get(`/${names.slice(0, at).join('/')}`));
-  const nodeOf = (each) => ({ path: each.path, kind: each.kind, list: listOf(each),
-    object: objectOf(each) });
-  const seen = (path) => [...model.objects.values()]
-    .filter((each) => each.path !== '/' && (path === '/' || each.path.startsWith(`${path}/`)))
-    .map(nodeOf);
   const told = (path) => seenBelow(doorBelow(model, path, restOf(path, one.path),
     (each) => lists.printList(listOf(each)))).nodes.sort(fromTop);
-  const below = (path) => ({ unread: [], all: true, nodes: (isByDoor ? told : seen)(path) });
+  const below = (path) => ({ unread: [], all: true, nodes: told(path) });
   const list = listOf(one);
   return { path: one.path, kind: one.kind, list, text: lists.printList(list), object: objectOf(one),
     me: 'alice', known, looking: { below, isBusy: false }, changeable: new Map(),

@@ -38,7 +38,7 @@ function isOwner({ user, owns }, owner) {
 
 // Whether an entry means this caller: true, false, or what that depends on: 'g:' with a group's
 // name, OWNER@ or GROUP@. 'object' has owner and group, which are null where they can't be read.
-export function matchOf(entry, caller, object) {
+function matchOf(entry, caller, object) {
   if (entry.who === 'EVERYONE@' || entry.who === 'AUTHENTICATED@') return true;
   if (entry.who === 'ANONYMOUS@') return false;
   if (entry.who === 'OWNER@') return isOwner(caller, object.owner);

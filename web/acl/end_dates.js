@@ -4,8 +4,12 @@
 
 import { texts } from '../language/language.js';
 import { isInherited, isName } from './entries.js';
+import { LEVEL_FORMS } from '../tables/level_forms.js';
 
-const NAME = /^(until|ended)\.(\d{4}-\d\d-\d\d)\.([a-z]+)\.([ug])\.([^@]+)@([^@]+)$/;
+const LEVELS = Object.keys(LEVEL_FORMS.folder).join('|');
+const NAME = new RegExp(
+  `^(until|ended)\\.(\\d{4}-\\d\\d-\\d\\d)\\.(${LEVELS})\\.([ug])\\.([^@]+)@([^@]+)$`,
+);
 
 const hexOf = (sign) => sign.codePointAt(0).toString(16).toUpperCase().padStart(2, '0');
 // A second @ can't stand before the one that is there, and behind it only letters, digits, dots and
@@ -22,9 +26,10 @@ export function endEntry({ day, level, who, isGroup, asker, over = false }) {
   return isName(name) ? { type: 'A', flags: 'g', who: name, mask: '' } : null;
 }
 
+// A year 0 is none for the nightly run.
 const isDay = (day) => {
   const time = Date.parse(`${day}T00:00:00Z`);
-  return !Number.isNaN(time) && new Date(time).toISOString().startsWith(day);
+  return !Number.isNaN(time) && day >= '0001' && new Date(time).toISOString().startsWith(day);
 };
 
 // What an own entry says of an end: {day, level, who, isGroup, asker, over}, or null. What is
@@ -44,8 +49,3 @@ export function endingOf(entry) {
 }
 
 export const endWords = (day) => texts.lists.day(new Date(`${day}T00:00:00Z`), 'UTC');
-
-const dayOf = (time) => [time.getFullYear(), time.getMonth() + 1, time.getDate()]
-  .map((part) => String(part).padStart(2, '0')).join('-');
-// The last day has gone by. Days are those of this machine.
-export const isPast = (day) => day < dayOf(new Date());

@@ -9,7 +9,7 @@ const MOST_ENTRIES = 4096;
 const MOST_OWN = 64;
 
 export const isName = (text) => NAME.test(text);
-export const isWho = (text) => SPECIAL.includes(text) || isName(text);
+const isWho = (text) => SPECIAL.includes(text) || isName(text);
 export const isInherited = (entry) => entry.flags.includes('I');
 export const isGroup = (entry) => entry.flags.includes('g') && !SPECIAL.includes(entry.who);
 

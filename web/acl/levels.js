@@ -6,14 +6,13 @@
 // the entries of one person or group can be exchanged without touching what the others may do.
 
 import { endEntry, endingOf } from './end_dates.js';
-import { LETTERS, isGroup, isInherited, orderMask, printEntry, readEntry } from './entries.js';
+import { isGroup, isInherited, orderMask, printEntry, readEntry } from './entries.js';
+import { LEVEL_FORMS } from '../tables/level_forms.js';
 
 // Only those remove who stand above it.
 export const KEEP = 'D:d:EVERYONE@:Dd';
 // Whoever adds a document may also remove and rename it.
 export const OWN = 'A:fi:OWNER@:d';
-
-const [READ, CHANGE, REMOVE] = ['rxtc', 'rwaxtc', 'rwaxDtc'];
 
 // The levels, from the least to the most, and where a menu has them.
 export const LEVELS = {
@@ -22,33 +21,15 @@ export const LEVELS = {
 };
 export const RANKS = Object.keys(LEVELS);
 
-// The entries [flags, mask] that each level is.
-const FORMS = {
-  folder: {
-    pass: [['', 'x']], clear: [['fd', 'Dd']], drop: [['', 'wx']], see: [['', READ]],
-    read: [['fd', READ]],
-    add: [['fd', READ], ['d', 'wa']], change: [['fd', CHANGE]], remove: [['fd', REMOVE]],
-    manage: [['fd', LETTERS]],
-  },
-  document: {
-    read: [['', READ]], change: [['', CHANGE]], remove: [['', REMOVE]], manage: [['', LETTERS]],
-  },
-};
-// Other ways to write the same level, which are taken and never written.
-const ALSO = {
-  folder: [['pass', [['', 'xt']]], ['clear', [['fd', 'D']]]],
-  document: [['read', [['', 'rtc']]], ['change', [['', 'rwatc']]]],
-};
-
-// No request asks for these, so they make no difference between levels.
-const IDLE = 'nNThHy';
-const asked = (mask) => [...mask].filter((letter) => !IDLE.includes(letter)).join('');
+// No request asks for the idle letters, so they make no difference between levels.
+const asked = (mask) => [...mask].filter((one) => !LEVEL_FORMS.idle.includes(one)).join('');
 // What comes from above may say the same twice.
 const formOf = (pairs) => [...new Set(pairs.map(([flags, mask]) => `${flags}:${asked(mask)}`))]
   .sort().join(' ');
 
 const KNOWN = Object.fromEntries(['folder', 'document'].map((kind) => [kind, new Map(
-  [...Object.entries(FORMS[kind]), ...ALSO[kind]].map(([level, pairs]) => [formOf(pairs), level]),
+  Object.entries(LEVEL_FORMS[kind]).flatMap(([level, ways]) => ways.map(
+    (pairs) => [formOf(pairs), level])),
 )]));
 
 const without = (entry, letters) => (
@@ -133,9 +114,13 @@ export function readLevels(list, kind) {
     row.entries.push(entry);
     rows.set(key, row);
   }
+  // Of several the first day on which the nightly run takes the access away.
   const withEnd = (row) => {
-    const end = row.inherited ? null : ends.find(isEndOf({ ...row, isPass: row.level === 'pass' }));
-    return { ...row, until: end?.day ?? null, ends: end?.level === row.level };
+    const theirs = row.inherited ? []
+      : ends.filter(isEndOf({ ...row, isPass: row.level === 'pass' }));
+    const kept = theirs.filter(({ level }) => level === row.level)
+      .sort((one, other) => (one.day < other.day ? -1 : 1));
+    return { ...row, until: (kept[0] ?? theirs[0])?.day ?? null, ends: kept.length > 0 };
   };
   const leveled = [...rows.values()].map((row) => withEnd({ ...row,
     level: levelOf(row.entries, kind) }));
@@ -151,8 +136,9 @@ export function readLevels(list, kind) {
 }
 
 // The entries that a level is.
-export const entriesOf = (level, who, group, kind) => FORMS[kind][level].map(([flags, mask]) => (
-  { type: 'A', flags: `${flags}${group ? 'g' : ''}`, who, mask: orderMask(mask) }));
+export const entriesOf = (level, who, group, kind) => LEVEL_FORMS[kind][level][0].map(
+  ([flags, mask]) => (
+    { type: 'A', flags: `${flags}${group ? 'g' : ''}`, who, mask: orderMask(mask) }));
 
 const isHead = (level) => level === 'manage' || level === 'remove';
 // Who may put something in, and may not remove by that.

@@ -21,7 +21,7 @@ function changedLine({ sign, line }) {
     isEntry ? element('span', { class: 'hint' }, entryWords(line)) : null);
 }
 
-export function difference(before, after) {
+function difference(before, after) {
   const changes = changedLines(linesOf(before), linesOf(after)).filter(({ sign }) => sign !== ' ');
   return element('ul', { class: 'difference' }, changes.map(changedLine));
 }

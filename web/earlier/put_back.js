@@ -2,17 +2,18 @@
 // whoever does that, so today's rights decide, and it is theirs.
 
 import * as api from '../net/api.js';
-import { allThen, bytesThen, missingAbove, ownLists } from './then.js';
-import { documentThen } from '../net/nights.js';
+import { allThen, missingAbove, ownLists } from './then.js';
+import { documentThen, zipThen } from '../net/nights.js';
 import { inTurn } from '../folder/batch.js';
-import { save } from '../folder/download.js';
+import { save, saveWhole } from '../folder/download.js';
+import { askingInTurn } from '../folder/replacing.js';
+import { putSafely, tagNow } from '../folder/safe_put.js';
 import { element } from '../ui/dom.js';
 import { question, tell, tellFault, waitFor } from '../ui/messages.js';
 import { stoppable } from '../ui/panel.js';
 import { texts } from '../language/language.js';
 import { nightFault, timeOf } from '../text/night_words.js';
 import { isolated, placeWords } from '../text/words.js';
-import { zipOf } from '../ui/zip.js';
 
 export function tellNightFault(fault) {
   const said = nightFault(fault);
@@ -26,36 +27,12 @@ function tellUnseen(unseen) {
   if (unseen.length > 0) tell('bad', texts.earlier.leftOut(unseen.map(placeWords)));
 }
 
-export async function get(night, { path, kind }) {
-  if (kind === 'document') {
-    save(await waitFor(documentThen(night.night, path)), api.nameOf(path));
-    return;
+export async function get({ night }, { path, kind }) {
+  if (kind === 'document') save(await waitFor(documentThen(night, path)), api.nameOf(path));
+  else {
+    await saveWhole(`${path === '/' ? texts.folder.zip : api.nameOf(path)} ${night}.zip`,
+      (signal) => zipThen(night, path, signal));
   }
-  const unseen = [];
-  const all = await waitFor(allThen(night.night, { path, kind, now: null }, unseen));
-  const files = [];
-  const panel = stoppable(texts.earlier.get, all.length);
-  for (const [index, one] of all.entries()) {
-    panel.show(index, all.length);
-    if (panel.isStopped()) break;
-    const below = one.path.slice(path === '/' ? 1 : path.length + 1).replaceAll('\\', '_');
-    if (one.kind === 'folder') {
-      if (below) files.push({ path: `${below}/`, bytes: new Uint8Array() });
-    } else {
-      const bytes = await waitFor(bytesThen(night.night, one.path)).catch((fault) => {
-        if (fault.status !== 403) throw fault;
-        unseen.push(one.path);
-      });
-      if (bytes) files.push({ path: below, bytes });
-    }
-  }
-  panel.remove();
-  if (panel.isStopped()) return;
-  const zip = zipOf(files);
-  const name = path === '/' ? texts.folder.zip : api.nameOf(path);
-  if (zip) save(zip, `${name} ${night.night}.zip`);
-  else tell('bad', texts.folder.tooMany);
-  tellUnseen(unseen);
 }
 
 // {missing, there} say how many objects aren't there now and how many documents are, {closed,
@@ -68,17 +45,28 @@ function putBackWords({ missing, there, closed, unknown }, night) {
     ...unknown > 0 ? [texts.earlier.perhapsClosed(unknown)] : []].join(' ');
 }
 
+// What is there when somebody is asked whether it is to be replaced.
+async function seeThere(there, show, isStopped) {
+  for (const [index, one] of there.entries()) {
+    if (isStopped()) return;
+    show(index, there.length);
+    one.seen = await tagNow(one.path);
+  }
+}
+
 // What is chosen of it: 'missing', 'all' or null.
 async function asked(night, object, all) {
   const missing = all.filter(({ isThere }) => !isThere);
-  const there = all.filter(({ isThere, kind }) => isThere && kind === 'document').length;
+  const documents = all.filter(({ isThere, kind }) => isThere && kind === 'document');
+  const there = documents.length;
   if (missing.length === 0 && there === 0) {
     tell('good', texts.earlier.nothingMissing);
     return null;
   }
-  const panel = stoppable(texts.earlier.putBack, missing.length);
-  const lists = await waitFor(ownLists(night.night, missing, panel.show, panel.isStopped))
-    .finally(panel.remove);
+  const panel = stoppable(texts.earlier.putBack, missing.length + there);
+  const [lists] = await waitFor(Promise.all([
+    ownLists(night.night, missing, panel.show, panel.isStopped),
+    seeThere(documents, panel.show, panel.isStopped)])).finally(panel.remove);
   if (panel.isStopped()) return null;
   const look = lists.closed + lists.unknown > 0 ? 'danger' : 'primary';
   const answers = there === 0 ? [['missing', texts.earlier.putBack, look]] : [
@@ -88,13 +76,17 @@ async function asked(night, object, all) {
     putBackWords({ missing: missing.length, there, ...lists }, night), answers);
 }
 
-async function bringBack(night, { path, kind }) {
-  if (kind === 'document') await api.put(path, await documentThen(night, path));
-  else {
-    await api.makeFolder(path).catch((fault) => {
-      if (fault.body?.why !== 'exists') throw fault;
-    });
+// As an upload: what somebody made or changed since the question isn't replaced without another
+// one. Returns whether it is back.
+async function bringBack(night, { path, kind, isThere, seen }, ask) {
+  if (kind === 'document') {
+    const job = { name: api.nameOf(path), path, seen, file: await documentThen(night, path) };
+    return await putSafely(job, isThere, ask) !== null;
   }
+  await api.makeFolder(path).catch((fault) => {
+    if (fault.body?.why !== 'exists') throw fault;
+  });
+  return true;
 }
 
 // Puts back an object, and all that was below it. Returns whether anything changed.
@@ -107,13 +99,18 @@ export async function putBack(night, object) {
   if (answer === null) return false;
   const chosen = all.filter(({ isThere, kind }) =>
     !isThere || (answer === 'all' && kind === 'document'));
-  const { done, failed, left, stopped } = await inTurn(chosen,
-    (one) => bringBack(night.night, one),
+  const ask = askingInTurn(chosen.length);
+  let kept = 0;
+  const turn = await inTurn(chosen,
+    async (one) => { kept += await bringBack(night.night, one, ask) ? 0 : 1; },
     { title: texts.earlier.putting(nameShown(object.path)), told: texts.earlier.putSomeOf });
+  const { failed, left, stopped } = turn;
+  const done = turn.done - kept;
   if (done > 0) tell('good', texts.earlier.isBack(done, placeWords(api.parentOf(object.path))));
   if (failed.length > 0) tellNightFault(failed[0].fault);
-  const lacking = failed.length + left.length;
-  if (lacking > 0 && (stopped || lacking > 1)) tell('bad', texts.earlier.notBack(lacking));
+  const lacking = failed.length + left.length + kept;
+  const isTold = stopped || kept > 0 || lacking > 1;
+  if (lacking > 0 && isTold) tell('bad', texts.earlier.notBack(lacking));
   tellUnseen(unseen);
   return done > 0;
 }

@@ -4,7 +4,7 @@ import * as api from '../net/api.js';
 import { documentThen, folderThen, listThen } from '../net/nights.js';
 
 // {kind} of each name in a folder now, or null where that isn't known.
-export async function namesNow(path) {
+async function namesNow(path) {
   try {
     return new Map((await api.list(path)).map(({ name, kind }) => [name, kind]));
   } catch (fault) {

@@ -2,10 +2,10 @@
 // if something changed, and otherwise null.
 
 import * as api from '../net/api.js';
-import { allBelow, amount, barredIn, removalQuestion } from './subtree.js';
+import { amount, removalQuestion } from './subtree.js';
 import { element } from '../ui/dom.js';
-import { downloadAll, downloadOne, downloadWhole } from './download.js';
-import { hasDoor } from '../net/door.js';
+import { downloadOne, downloadWhole } from './download.js';
+import { whatGoes } from '../net/door.js';
 import { hasNights, nightsKept } from '../net/nights.js';
 import { wayBack } from '../text/night_words.js';
 import { inTurn } from './batch.js';
@@ -15,7 +15,6 @@ import { askedFor } from '../ui/ask_whom.js';
 import { accepted, askMove, askPlace } from './move.js';
 import { readersWords } from './moved.js';
 import { form, question, showDialog, tell, tellFault, waitFor } from '../ui/messages.js';
-import { stoppable } from '../ui/panel.js';
 import { openPdf, preview } from './preview.js';
 import { isolated, nameFault, placeWords, sentenceOf } from '../text/words.js';
 
@@ -78,26 +77,25 @@ export async function moveAll(objects) {
   return { name: null };
 }
 
-// Whether all of these may be removed, which are what is chosen and all below. Otherwise it is told
-// which one may not, and whom to ask.
-async function mayRemove(all, objects) {
-  const isChosen = ({ path }) => objects.some((one) => one.path === path);
-  const panel = stoppable(texts.folder.lookingAtRemoval, all.length);
-  const chosenFirst = [...all.filter(isChosen), ...all.filter((one) => !isChosen(one))];
-  const barred = await waitFor(barredIn(chosenFirst, panel)).finally(panel.remove);
-  if (panel.isStopped() || barred === null) return !panel.isStopped();
-  const why = element('a', { class: 'button small', href: linkTo(barred.path, 'rights') },
+// Which one may not be removed, and whom to ask.
+async function tellBarred({ path, at }) {
+  const why = element('a', { class: 'button small', href: linkTo(path, 'rights') },
     texts.acts.why);
-  tell('bad', `${texts.folder.mayNotRemove(placeWords(barred.path))} ${
-    await waitFor(askedFor(barred.at))}`, why);
-  return false;
+  tell('bad', `${texts.folder.mayNotRemove(placeWords(path))} ${await waitFor(askedFor(at))}`, why);
 }
 
 // What comes back does so one by one, so nothing is removed of what couldn't be removed as a whole.
 export async function remove(objects) {
-  const unseen = [];
-  const all = await waitFor(allBelow(objects, unseen));
-  if (!(await mayRemove(all, objects))) return null;
+  const { objects: all, unlisted: unseen, barred } = await waitFor(whatGoes(
+    api.parentOf(objects[0].path), objects.map(({ path }) => api.nameOf(path))));
+  if (barred !== null) {
+    await tellBarred(barred);
+    return null;
+  }
+  if (all.length === 0) {
+    tell('bad', texts.faults.nothingAt(placeWords(objects[0].path)));
+    return { name: null };
+  }
   const nights = hasNights() ? await waitFor(nightsKept()).catch(() => null) : null;
   const { title, text } = removalQuestion(objects, all, unseen, wayBack(nights));
   const words = objects.length === 1 ? texts.folder.removeIt : texts.folder.removeThem;
@@ -106,7 +104,7 @@ export async function remove(objects) {
   // What is in a folder comes before it, so nothing after a fault could be removed either. First
   // comes what may have something in it that I don't see: then it stays, and all else with it.
   const isUnseen = ({ path }) => unseen.includes(path);
-  const order = [...all.filter(isUnseen), ...all.filter((one) => !isUnseen(one))];
+  const order = [...all.filter(isUnseen), ...all.filter((one) => !isUnseen(one)).reverse()];
   const { done, failed, stopped } = await inTurn(order, ({ path }) => api.remove(path),
     { title: texts.folder.removing(what), told: texts.folder.removedSomeOf }, true);
   if (stopped) tell('bad', texts.folder.stoppedRemoval(done, all.length));
@@ -122,9 +120,9 @@ export async function remove(objects) {
 
 export async function download(objects, folder) {
   const [first] = objects;
-  if (objects.length === 1 && first.kind === 'document') await downloadOne(first.path);
-  else if (objects.length === 1 && hasDoor()) downloadWhole(first.path);
-  else await downloadAll(objects, folder);
+  if (objects.length > 1) await downloadWhole(folder, objects.map(({ path }) => api.nameOf(path)));
+  else if (first.kind === 'document') await downloadOne(first.path);
+  else await downloadWhole(first.path);
   return null;
 }
 

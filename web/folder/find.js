@@ -1,10 +1,9 @@
-// Names further down that contain what was typed, from the open folder on. The door looks for them;
-// without one the button isn't there, and the field filters the open folder alone.
+// Names further down that contain what was typed, from the open folder on: the door looks for them.
 
 import * as api from '../net/api.js';
 import { button, element, icon, nameText } from '../ui/dom.js';
 import { texts } from '../language/language.js';
-import { findBelow, hasDoor } from '../net/door.js';
+import { findBelow } from '../net/door.js';
 import { linkTo } from '../ui/links.js';
 import { tellFault, waitFor } from '../ui/messages.js';
 import { shortened } from '../ui/names.js';
@@ -53,7 +52,7 @@ function shown({ found, all, unlisted }, { text, top, field, isBusy }, back) {
 }
 
 // The field takes the focus by '/', where nothing is typed anywhere else.
-export function takeKey(field) {
+function takeKey(field) {
   const take = (event) => {
     if (!field.isConnected) document.removeEventListener('keydown', take);
     else if (event.key === '/' && !event.ctrlKey && !event.altKey && !event.metaKey
@@ -75,7 +74,7 @@ class Finder {
     this.here = here;
     this.redraw = redraw;
     this.looks = 0;
-    this.press = button(texts.find.find, () => this.start(), { class: 'small find', hidden: true });
+    this.press = button(texts.find.find, () => this.start(), { class: 'small find' });
   }
 
   back() {
@@ -88,7 +87,9 @@ class Finder {
     const { length } = new TextEncoder().encode(this.field.value.trim());
     this.field.setCustomValidity(length > LONGEST ? texts.find.tooLong : '');
     if (length === 0) this.field.focus();
-    else if (this.field.reportValidity()) this.find(this.field.value.trim()).catch(tellFault);
+    else if (this.field.reportValidity()) {
+      this.find(this.field.value.trim()).catch((fault) => tellFault(fault, () => this.start()));
+    }
   }
 
   // What fits in the open folder is there at once, all else comes later.
@@ -101,20 +102,15 @@ class Finder {
     draw({ found: this.here(), all: false, unlisted: [] }, true);
     try {
       const told = await waitFor(findBelow(this.top, text));
-      this.know();
-      if (isWanted() && told !== null) draw(told, false);
-      else if (isWanted()) this.redraw();
+      if (isWanted()) draw(told, false);
     } catch (fault) {
       if (isWanted()) this.redraw();
       throw fault;
     }
   }
 
-  // Whether there is a door is known once it was asked.
-  know() { this.press.hidden = !hasDoor(); }
-
   take(event) {
-    if (event.key === 'Enter' && !this.press.hidden) this.start();
+    if (event.key === 'Enter') this.start();
     else if (event.key === 'ArrowDown') this.place.querySelector('.found a.object')?.focus();
     else if (event.key === 'Escape' && this.field.value !== '') this.back();
     else return;

@@ -15,6 +15,7 @@ import { learnEditing } from './editing.js';
 import { finder } from './find.js';
 import { markAllClosed } from './closed_rows.js';
 import { chosenOf, drawRows, newLook, shownOf } from './rows.js';
+import { tagSeen } from './safe_put.js';
 import { treeOfFiles } from './tree.js';
 import { replaceBy, uploadAll } from './upload.js';
 
@@ -108,7 +109,7 @@ function tools(look, does, redraw, found) {
   const finding = finder(found.path, filter, { ...found, redraw });
   const shown = element('div', { class: 'tools' },
     element('div', { class: 'finding' }, filter, finding.press), chosen);
-  return { shown, tell, know: () => finding.know() };
+  return { shown, tell };
 }
 
 // Where the focus is in the rows: {name, act, index}, or null.
@@ -163,11 +164,20 @@ class FolderView {
       download: (children) => this.doing(() => acts.download(this.objects(children), this.path)),
       preview: (child) => this.doing(() => acts.look(path(child))),
       open: (child) => this.doing(() => acts.openInTab(path(child))),
-      replace: (child) => chooseFile((file) => replaceBy(file, path(child), shownAgain)),
+      replace: (child) => this.replace(path(child)),
       move: (child) => this.doing(() => acts.move(path(child), child.kind)),
       remove: (children) => this.doing(() => acts.remove(this.objects(children))),
       copy: (child) => this.doing(() => acts.copyLink(path(child))),
     };
+  }
+
+  // What was there when it was chosen is replaced, and nothing that comes meanwhile.
+  replace(path) {
+    const seen = tagSeen(path);
+    seen.catch(() => {});
+    chooseFile((file) => {
+      seen.then((tag) => replaceBy(file, path, tag, shownAgain)).catch(tellFault);
+    });
   }
 
   withChosen(what) {
@@ -183,7 +193,7 @@ class FolderView {
       const focus = await act();
       if (focus) await this.refresh({ ...place, ...focus });
     } catch (fault) {
-      tellFault(fault);
+      tellFault(fault, () => this.doing(act));
       if (fault.status === 0 || fault.status === 404) await this.refresh(place);
     }
   }
@@ -217,12 +227,11 @@ class FolderView {
     }
   }
 
-  // What can't be opened, and whether names can be looked for further down, is known a bit later.
+  // What can't be opened is known a bit later.
   async showShut() {
     this.look.closed = await closedIn(this.path);
     if (!this.isCurrent()) return;
     markAllClosed(this.body, this.look.closed, api.nameOf);
-    this.tools.know();
   }
 
   // What can't be seen from the top, below its list.

@@ -16,7 +16,7 @@ const MOST_NAMED = 3;
 // What a caller may do with an object {entries, object, kind}, and with what is in it: the letters
 // r, w, d and C. 'folders' are those above, from the top down, at least one. One whose list isn't
 // known hinders nobody here, and that it isn't known is told.
-export function rightsAt(target, folders, caller) {
+function rightsAt(target, folders, caller) {
   if (!mayPass(folders, caller)) return '';
   const inside = target.kind === 'folder'
     ? ['folder', 'document'].map((kind) => childOf(target, kind)) : [];

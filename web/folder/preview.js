@@ -4,7 +4,8 @@ import * as api from '../net/api.js';
 import { texts } from '../language/language.js';
 import { button, element, nameText } from '../ui/dom.js';
 import { save } from './download.js';
-import { noteTag, readWithTag } from '../net/given_out.js';
+import { readTagged } from '../net/door.js';
+import { noteTag } from '../net/given_out.js';
 import { showDialog, waitFor } from '../ui/messages.js';
 
 const IMAGES = {
@@ -67,11 +68,11 @@ function contentOf(bytes, name) {
 
 // A browser opens a tab only soon after a press. Later it asks for another one.
 export async function openPdf(path) {
-  const read = await waitFor(readWithTag(path));
+  const read = await waitFor(readTagged('doc', path));
   if (!showInTab(await read.blob.arrayBuffer(), api.nameOf(path))) await showPreview(path, read);
 }
 
-export const preview = async (path) => showPreview(path, await waitFor(readWithTag(path)));
+export const preview = async (path) => showPreview(path, await waitFor(readTagged('doc', path)));
 
 async function showPreview(path, { blob, tag }) {
   const name = api.nameOf(path);

@@ -1,21 +1,25 @@
 // Sends a document so that nothing is replaced unseen: the door takes it only if nothing is there,
-// or what this browser gave out. Without a door it is looked at before.
+// or what was seen.
 
 import * as api from '../net/api.js';
-import { putDocument } from '../net/door.js';
+import { putDocument, tagAt } from '../net/door.js';
 import { noteTag, tagGivenOut } from '../net/given_out.js';
+import { isUnanswered } from '../net/retry.js';
 import { freeBeside } from './replacing.js';
 
 const NEW = { 'If-None-Match': '*' };
-const only = (tag) => (tag === null ? null : { 'If-Match': tag });
+// Of what may not be read it is only known that it is there.
+const only = (tag) => ({ 'If-Match': tag ?? '*' });
 
-// Without a condition whatever is there is replaced.
-async function send({ path, file }, fields, onProgress) {
-  const sent = fields && await putDocument(path, file, fields, onProgress);
-  if (!sent) return api.put(path, file, onProgress);
-  await noteTag(path, sent.tag);
-  return sent.made;
-}
+// The tag of what is there now, or null.
+export const tagNow = (path) => tagAt(path).catch((fault) => {
+  if (isUnanswered(fault)) throw fault;
+  return null;
+});
+
+// The tag of what somebody who uploads a document saw of it: what this browser gave out last, or
+// else what is there when they are asked.
+export const tagSeen = async (path) => await tagGivenOut(path) ?? tagNow(path);
 
 // Whether the room has what was sent, as where the answer to it was lost.
 export async function hasSame({ path, file }) {
@@ -24,27 +28,29 @@ export async function hasSame({ path, file }) {
   return got.length === sent.length && got.every((byte, at) => byte === sent[at]);
 }
 
-// The condition after an answer, of what is there now.
-const agreed = ({ why, tag }) => (why === 'gone' ? NEW : only(tag ?? null));
-
-// Sends {name, path, file}. 'isThere' says that something is there which may be replaced. 'ask'
-// says what is to be done where it isn't what was seen; to keep both changes the path. Returns
-// whether it was made by that, or null if all was left as it was.
+// Sends {name, path, file, seen}. 'isThere' says that something is there which may be replaced, of
+// which the tag 'seen' was seen. 'ask' says what is to be done where it isn't that any more; to
+// keep both changes the path. Returns whether it was made by that, or null if all was left as it
+// was.
 export async function putSafely(job, isThere, ask, onProgress) {
-  let fields = isThere ? only(await tagGivenOut(job.path)) : NEW;
+  let fields = isThere ? only(job.seen) : NEW;
   for (;;) {
     try {
-      return await send(job, fields, onProgress);
+      const { made, tag } = await putDocument(job.path, job.file, fields, onProgress);
+      await noteTag(job.path, tag);
+      return made;
     } catch (fault) {
       if (fault.status !== 412) throw fault;
-      const { why, who } = fault.body;
+      const { why, who, tag } = fault.body;
       if (await hasSame(job).catch(() => false)) return why === 'exists';
+      // What is there while they are asked.
+      const seen = tag ?? (why === 'gone' ? null : await tagNow(job.path));
       const answer = await ask({ name: job.name, path: job.path, why, who });
       if (answer === 'leave') return null;
       if (answer === 'both') {
         job.path = await freeBeside(job.path);
         fields = NEW;
-      } else fields = agreed(fault.body);
+      } else fields = why === 'gone' ? NEW : only(seen);
     }
   }
 }

@@ -29,8 +29,12 @@ export function sorted(children, by = 'name', down = false) {
   return [...children].sort(order);
 }
 
-// Upper or lower case and accents don't matter.
-const plain = (text) => text.normalize('NFKD').replace(/\p{M}/gu, '').toLowerCase();
+// So that capitals and marks don't matter, nor how a letter is written. The door looks for names by
+// the same rule (services/rooms_services/door/folders/find.py).
+export const folded = (text) => text.normalize('NFKD').replace(/\p{M}/gu, '').toUpperCase()
+  .toLowerCase().replaceAll('ς', 'σ');
 
-export const filtered = (children, filter) =>
-  children.filter(({ name }) => plain(name).includes(plain(filter.trim())));
+export function filtered(children, filter) {
+  const wanted = folded(filter.trim());
+  return children.filter(({ name }) => folded(name).includes(wanted));
+}

@@ -8,7 +8,7 @@ import { documentLine, faultOf, normal, treeLine } from './jobs.js';
 import { tell, tellFault } from '../ui/messages.js';
 import { newPanel } from '../ui/panel.js';
 import { askingInTurn, freeBeside } from './replacing.js';
-import { hasSame, putSafely } from './safe_put.js';
+import { hasSame, putSafely, tagSeen } from './safe_put.js';
 import { nameFault, placeWords, sentenceOf } from '../text/words.js';
 
 // The room answers one request after the other, so more at once would not be quicker.
@@ -90,6 +90,7 @@ class Upload {
     const fault = faultOf(job);
     if (fault) return this.set(job, { state: 'bad', words: fault });
     if (!job.allowed && await api.isThere(job.path)) {
+      job.seen = await tagSeen(job.path);
       const answer = await this.ask({ name: job.name, path: job.path, why: 'exists' });
       if (answer === 'leave') return this.set(job, LEFT);
       if (answer === 'both') job.path = await freeBeside(job.path);
@@ -179,10 +180,11 @@ export async function uploadAll(files, trees, folder, onEnd) {
   await upload.run();
 }
 
-// Sends a file, whatever its name is, in the place of a document, which was chosen for that.
-export async function replaceBy(file, path, onEnd) {
+// Sends a file, whatever its name is, in the place of a document, which was chosen for that and of
+// which the tag 'seen' was seen.
+export async function replaceBy(file, path, seen, onEnd) {
   const upload = new Upload([new File([file], api.nameOf(path))], [], api.parentOf(path));
-  Object.assign(upload.jobs[0], { path, allowed: true, isThere: true });
+  Object.assign(upload.jobs[0], { path, seen, allowed: true, isThere: true });
   upload.onEnd = onEnd;
   await upload.run();
 }

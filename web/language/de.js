@@ -110,6 +110,7 @@ const ACTS = {
   why: 'Warum',
   loadAgain: 'Neu laden',
   tryAgain: 'Fehlgeschlagenes erneut versuchen',
+  anew: 'Erneut versuchen',
   mindThis: 'Bitte beachten',
 };
 
@@ -121,15 +122,9 @@ const MESSAGES = {
   fold: 'Zuklappen',
   progress: (done, whole) => `${number(done)} von ${number(whole)}`,
   lookingAtAll: 'Was weiter unten liegt, wird angesehen.',
-  looking: (looked, known) => 'Was weiter unten liegt, wird angesehen: bisher '
-    + `${number(looked)} von ${number(known)}.`,
-  stopped: (looked, known) => 'Nicht alles weiter unten wurde angesehen, da Sie es angehalten '
-    + `haben: ${number(looked)} von ${number(known)} oder mehr. Ausnahmen dort fehlen hier `
-    + 'vielleicht.',
-  failed: (looked, known) => 'Nicht alles weiter unten wurde angesehen, da der Raum nicht gelesen '
-    + `werden konnte: ${number(looked)} von ${number(known)} oder mehr. Ausnahmen dort fehlen hier `
-    + 'vielleicht.',
-  lookAtRest: 'Den Rest ansehen',
+  stopped: 'Was weiter unten liegt, wurde nicht angesehen, da Sie es angehalten haben. Ausnahmen '
+    + 'dort fehlen hier vielleicht.',
+  failed: 'Was weiter unten liegt, wurde nicht angesehen. Ausnahmen dort fehlen hier vielleicht.',
 };
 
 const PICKER = {

@@ -225,10 +225,8 @@ export const DE_OUTCOME = {
     : `${number(places)} weitere Stellen weiter unten ändern sich`),
   nobody: 'Niemand erhält oder verliert etwas',
   nobodyNow: 'dadurch, nach jetzigem Stand.',
-  nobodySeen: 'dadurch in dem, was angesehen wurde, nach jetzigem Stand.',
   nobodyLoses: 'Niemand verliert',
   anything: 'etwas.',
-  anythingSeen: 'etwas in dem, was angesehen wurde.',
   notOwned: 'Sie dürfen nicht sehen, wem es gehört, daher ist nicht bekannt, wer das ist und was '
     + 'diese Person sonst hat.',
   gettingOwn: (name, objects) => (objects === 1

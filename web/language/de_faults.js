@@ -93,6 +93,8 @@ export const DE_FAULTS = {
   ofLists: OF_LISTS,
   ofList: (code) => `Der Raum nimmt das nicht an (${code}).`,
   ofDoor: OF_DOOR,
+  doorAway: 'Was für den Raum ganze Ordner ansieht, antwortet im Moment nicht. Versuchen Sie es '
+    + 'erneut; wenn das nicht hilft, benachrichtigen Sie den Administrator.',
   conflicts: CONFLICTS,
   conflict: 'Was dort liegt, passt nicht dazu. Laden Sie den Ordner neu.',
   targets: {

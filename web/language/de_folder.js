@@ -52,7 +52,6 @@ export const DE_FOLDER = {
   renameOrMove: 'Umbenennen oder verschieben',
   taken: 'Es gibt schon etwas dieses Namens. Wählen Sie einen anderen.',
   amount: amountOf,
-  lookingAtRemoval: 'Es wird geprüft, was entfernt werden darf',
   mayNotRemove: (place) => `Sie dürfen ${place} nicht entfernen, also wurde nichts entfernt.`,
   removeFolder: 'Den Ordner entfernen?',
   removeDocument: 'Das Dokument entfernen?',
@@ -81,7 +80,6 @@ export const DE_FOLDER = {
   copyFromHere: 'Kopieren Sie ihn von hier.',
   tooMany: 'Das ist zu viel für ein einziges Herunterladen. Wählen Sie weniger aus.',
   zip: 'Dokumente',
-  leftOut: (many) => `Ausgelassen, da Sie es nicht sehen dürfen: ${objects(many)}.`,
   openAddress: 'Eine Adresse öffnen',
   addressHint: 'Ein Link auf diese Seite oder ein Pfad wie /Briefe/2026.',
   open: 'Öffnen',
@@ -188,8 +186,8 @@ export const DE_UPLOAD = {
     },
     changed: {
       title: 'Jemand anders hat es inzwischen geändert',
-      text: (name) => `${name} ist nicht mehr das, was Sie zuletzt herunter- oder hochgeladen `
-        + 'haben. Wenn es ersetzt wird, geht verloren, was jemand anders geschrieben hat.',
+      text: (name) => `${name} ist nicht mehr das, was Sie zuletzt davon gesehen haben. `
+        + 'Wenn es ersetzt wird, geht verloren, was jemand anders geschrieben hat.',
       replace: 'Das andere ersetzen',
     },
     gone: {

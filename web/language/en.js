@@ -109,6 +109,7 @@ const ACTS = {
   why: 'Why',
   loadAgain: 'Load again',
   tryAgain: 'Try the failed ones again',
+  anew: 'Try again',
   mindThis: 'Mind this',
 };
 
@@ -120,14 +121,9 @@ const MESSAGES = {
   fold: 'Fold',
   progress: (done, whole) => `${number(done)} of ${number(whole)}`,
   lookingAtAll: 'Looking at what is further down.',
-  looking: (looked, known) =>
-    `Looking at what is further down: ${number(looked)} of ${number(known)} so far.`,
-  stopped: (looked, known) => 'Not all that is further down was looked at, since you stopped it: '
-    + `${number(looked)} of ${number(known)} or more. Exceptions there may be missing here.`,
-  failed: (looked, known) => 'Not all that is further down was looked at, since the room couldn’t '
-    + `be read: ${number(looked)} of ${number(known)} or more. Exceptions there may be missing `
-    + 'here.',
-  lookAtRest: 'Look at the rest',
+  stopped: 'What is further down wasn’t looked at, since you stopped it. Exceptions there may be '
+    + 'missing here.',
+  failed: 'What is further down wasn’t looked at. Exceptions there may be missing here.',
 };
 
 const PICKER = {

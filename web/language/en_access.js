@@ -203,10 +203,8 @@ export const EN_OUTCOME = {
   changesMore: (places) => `${count(places, 'more place', 'more places')} further down change`,
   nobody: 'Nobody gains or loses anything',
   nobodyNow: 'by this now.',
-  nobodySeen: 'by this now in what was looked at.',
   nobodyLoses: 'Nobody loses',
   anything: 'anything.',
-  anythingSeen: 'anything in what was looked at.',
   notOwned: 'You may not see who owns it, so it isn’t known who that is, and what else they have.',
   gettingOwn: (name, objects) => `${name} then gets at ${count(objects, 'object', 'objects')} of `
     + `their own, and may remove ${objects === 1 ? 'it' : 'them'}.`,

@@ -81,6 +81,8 @@ export const EN_FAULTS = {
   ofLists: OF_LISTS,
   ofList: (code) => `The room doesn’t accept this (${code}).`,
   ofDoor: OF_DOOR,
+  doorAway: 'What looks at whole folders for the room doesn’t answer at the moment. Try again; if '
+    + 'that doesn’t help, tell the administrator.',
   conflicts: CONFLICTS,
   conflict: 'What is there doesn’t fit. Load the folder again.',
   targets: {

@@ -48,7 +48,6 @@ export const EN_FOLDER = {
   renameOrMove: 'Rename or move',
   taken: 'There is already something of this name. Choose another one.',
   amount: amountOf,
-  lookingAtRemoval: 'Looking at what may be removed',
   mayNotRemove: (place) => `You may not remove ${place}, so nothing was removed.`,
   removeFolder: 'Remove the folder?',
   removeDocument: 'Remove the document?',
@@ -79,7 +78,6 @@ export const EN_FOLDER = {
   copyFromHere: 'Copy it from here.',
   tooMany: 'These are too many for one download. Select fewer.',
   zip: 'documents',
-  leftOut: (many) => `Left out, since you may not see it: ${objects(many)}.`,
   openAddress: 'Open an address',
   addressHint: 'A link to this page, or a path such as /letters/2026.',
   open: 'Open',
@@ -182,7 +180,7 @@ export const EN_UPLOAD = {
     },
     changed: {
       title: 'Somebody else changed it meanwhile',
-      text: (name) => `${name} isn’t any more what you downloaded or uploaded last. If it is `
+      text: (name) => `${name} isn’t any more what you saw of it last. If it is `
         + 'replaced, what somebody else wrote is lost.',
       replace: 'Replace theirs',
     },

@@ -105,6 +105,7 @@ const ACTS = {
   why: 'Pourquoi',
   loadAgain: 'Recharger',
   tryAgain: 'Réessayer ce qui a échoué',
+  anew: 'Réessayer',
   mindThis: 'À noter',
 };
 
@@ -116,15 +117,10 @@ const MESSAGES = {
   fold: 'Replier',
   progress: (done, whole) => `${number(done)} sur ${number(whole)}`,
   lookingAtAll: 'Examen de ce qui se trouve plus bas.',
-  looking: (looked, known) => 'Examen de ce qui se trouve plus bas : '
-    + `${number(looked)} sur ${number(known)} pour l’instant.`,
-  stopped: (looked, known) => 'Ce qui se trouve plus bas n’a pas été examiné en entier, car vous '
-    + `l’avez arrêté : ${number(looked)} sur ${number(known)} ou plus. Des exceptions qui s’y `
-    + 'trouvent peuvent manquer ici.',
-  failed: (looked, known) => 'Ce qui se trouve plus bas n’a pas été examiné en entier, car la '
-    + `salle n’a pas pu être lue : ${number(looked)} sur ${number(known)} ou plus. Des exceptions `
+  stopped: 'Ce qui se trouve plus bas n’a pas été examiné, car vous l’avez arrêté. Des exceptions '
     + 'qui s’y trouvent peuvent manquer ici.',
-  lookAtRest: 'Examiner le reste',
+  failed: 'Ce qui se trouve plus bas n’a pas été examiné. Des exceptions qui s’y trouvent peuvent '
+    + 'manquer ici.',
 };
 
 const PICKER = {

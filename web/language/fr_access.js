@@ -222,10 +222,8 @@ export const FR_OUTCOME = {
     : `${number(places)} autres endroits plus bas changent`),
   nobody: 'Personne ne gagne ni ne perd rien',
   nobodyNow: 'par cela pour le moment.',
-  nobodySeen: 'par cela pour le moment, dans ce qui a été examiné.',
   nobodyLoses: 'Personne ne perd',
   anything: 'rien.',
-  anythingSeen: 'rien dans ce qui a été examiné.',
   notOwned: 'Vous ne pouvez pas voir à qui cela appartient, donc on ne sait pas qui c’est, ni ce '
     + 'que cette personne a d’autre.',
   gettingOwn: (name, objects) => (objects === 1

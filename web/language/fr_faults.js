@@ -89,6 +89,8 @@ export const FR_FAULTS = {
   ofLists: OF_LISTS,
   ofList: (code) => `La salle n’accepte pas cela (${code}).`,
   ofDoor: OF_DOOR,
+  doorAway: 'Ce qui examine des dossiers entiers pour la salle ne répond pas pour le moment. '
+    + 'Réessayez ; si cela ne suffit pas, prévenez l’administrateur.',
   conflicts: CONFLICTS,
   conflict: 'Ce qui se trouve là ne convient pas. Rechargez le dossier.',
   targets: {

@@ -51,7 +51,6 @@ export const FR_FOLDER = {
   renameOrMove: 'Renommer ou déplacer',
   taken: 'Il y a déjà quelque chose de ce nom. Choisissez-en un autre.',
   amount: amountOf,
-  lookingAtRemoval: 'Vérification de ce qui peut être supprimé',
   mayNotRemove: (place) =>
     `Vous ne pouvez pas supprimer ${place}, donc rien n’a été supprimé.`,
   removeFolder: 'Supprimer le dossier ?',
@@ -82,7 +81,6 @@ export const FR_FOLDER = {
   copyFromHere: 'Copiez-le d’ici.',
   tooMany: 'C’est trop pour un seul téléchargement. Sélectionnez-en moins.',
   zip: 'documents',
-  leftOut: (many) => `Laissé de côté, car vous ne pouvez pas le voir : ${objects(many)}.`,
   openAddress: 'Ouvrir une adresse',
   addressHint: 'Un lien vers cette page, ou un chemin comme /lettres/2026.',
   open: 'Ouvrir',
@@ -192,7 +190,7 @@ export const FR_UPLOAD = {
     },
     changed: {
       title: 'Quelqu’un d’autre l’a modifié entre-temps',
-      text: (name) => `${name} n’est plus ce que vous avez téléchargé ou envoyé en dernier. S’il `
+      text: (name) => `${name} n’est plus ce que vous en avez vu en dernier. S’il `
         + 'est remplacé, ce que quelqu’un d’autre a écrit est perdu.',
       replace: 'Remplacer l’autre',
     },

@@ -1,6 +1,8 @@
 // The lists around an object, as far as they may be read.
 
 import * as api from './api.js';
+import { differsBelow } from './door.js';
+import { seenBelow } from './seen_below.js';
 import { readListText } from '../acl/entries.js';
 
 const UNKNOWN = { owner: null, group: null };
@@ -24,28 +26,20 @@ export async function foldersAbove(path, whole) {
   }));
 }
 
-// More than these aren't looked at, since each takes a request.
-const MOST_FOLDERS = 100;
+// Those that aren't in another one of them.
+const outermost = (folders) => folders.filter(({ path }) =>
+  !folders.some((one) => path.startsWith(`${one.path}/`)));
 
-// The protected folders below this one: {found: [{path, list}], all}. 'all' is false where there
-// may be more. What lies in a protected folder has its list, so nothing is looked for there.
+// The protected folders below this one, as it is said by the door: {found: [{path, list}], all,
+// fault}. 'all' is false where there may be more, and 'fault' says why none could be looked for.
+// What lies in a protected folder has its list, so nothing is looked for there.
 export async function protectedBelow(path) {
-  const [found, waiting] = [[], [path]];
-  let [all, looked] = [true, 0];
-  while (waiting.length > 0) {
-    const folder = waiting.shift();
-    const children = await api.list(folder).catch(() => null);
-    all = all && children !== null;
-    for (const child of children ?? []) {
-      if (child.kind !== 'folder') continue;
-      looked += 1;
-      if (looked > MOST_FOLDERS) return { found, all: false };
-      const below = api.join(folder, child.name);
-      const list = await listAt(below);
-      all = all && list !== null;
-      if (list?.protect) found.push({ path: below, list });
-      else waiting.push(below);
-    }
+  try {
+    const told = await differsBelow(path);
+    const folders = seenBelow(told).nodes.filter(({ kind }) => kind === 'folder');
+    const all = told.unlisted.length === 0 && folders.every(({ list }) => list !== null);
+    return { all, fault: null, found: outermost(folders.filter(({ list }) => list?.protect)) };
+  } catch (fault) {
+    return { all: false, fault, found: [] };
   }
-  return { found, all };
 }

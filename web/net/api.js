@@ -1,5 +1,6 @@
 // The requests of docs/http.md and their replies, as promises. Nothing here draws the page.
 
+import { heard } from './clock.js';
 import { untilAnswered } from './retry.js';
 
 export const GREATEST_DOCUMENT = 1048576;
@@ -73,13 +74,13 @@ export const take = (form, word, path, query) => untilAnswered(async () => {
 // The name, and whether its password is a first one, which opens nothing until it is changed.
 export async function me() {
   const { headers } = await ask('GET', 'me', '/');
+  heard(headers.get('Room-Time'));
   return { user: headers.get('Room-User') ?? '', isFirst: headers.has('Room-First') };
 }
 
 export const whoAmI = async () => (await me()).user;
 
 export const read = (path) => take('blob', 'doc', path);
-export const append = (path, bytes) => ask('POST', 'doc', path, bytes);
 export const list = (path) => take('json', 'folder', path);
 
 // What was sent several times may have been done by the first. 'isDone' looks at what the last one
@@ -100,7 +101,6 @@ export const remove = (path) => onceDone(ask('DELETE', 'object', path), isGone(p
 export const move = (path, to) => onceDone(ask('POST', 'move', path, JSON.stringify({ to })),
   async (fault) => isGone(path)(fault) && isThere(to));
 export const readList = (which, path) => take('text', which, path);
-export const setList = (which, path, text) => ask('PUT', which, path, text);
 export const readAttributes = (path) => take('json', 'attr', path);
 export const setOwners = (path, owner, group) =>
   ask('PUT', 'attr', path, JSON.stringify({ group, owner }));
@@ -150,7 +150,3 @@ export function putOnce(word, path, bytes, fields, onProgress) {
     asking.send(bytes);
   });
 }
-
-// A document gets these bytes. Returns whether it was made by that, as far as it is known.
-export const put = (path, bytes, onProgress = () => {}) =>
-  untilAnswered(() => putOnce('doc', path, bytes, {}, onProgress)).then(({ made }) => made);

@@ -1,108 +1,105 @@
-// The door beside a room, which answers in one request what would take thousands (docs/door.md). A
-// site may have none: that is found out once in a visit, and then the page goes without it.
+// The door beside the room, which answers in one request what would take thousands (docs/door.md).
 
 import { Refusal, jsonOrNull, namesOf, putOnce, target } from './api.js';
-import { isUnanswered, untilAnswered } from './retry.js';
-
-// Whether there is one: null as long as none has answered.
-let isThere = null;
-export const hasDoor = () => isThere === true;
+import { untilAnswered } from './retry.js';
 
 // What the room would be asked for, so that a refusal is told in the same words.
-const WORDS = { below: 'folder', closed: 'folder', find: 'folder', zip: 'folder' };
+const WORDS = { below: 'folder', closed: 'folder', find: 'folder', goes: 'folder', zip: 'folder' };
 
-// nginx says that there is nothing at this address, and no more; the room says what isn't there.
-const saysNone = (fault) => fault.status === 404 && !fault.body?.at;
-// nginx says that nobody answers, and not why.
-const isDeserted = (fault) => isUnanswered(fault) && fault.status !== 0 && fault.body === null;
-
-function note(fault) {
-  if (saysNone(fault)) isThere = false;
-  else if (fault.body !== null) isThere = true;
+// The door says that the room is away where nginx would say that there is no answer. A fault says
+// that it is the door's.
+/** @returns {never} */
+function fromDoor(fault) {
+  if (fault.asked) fault.asked.isOfDoor = true;
+  const isAway = fault.status === 503 && Boolean(fault.body?.why);
+  throw isAway ? Object.assign(fault, { status: 502 }) : fault;
 }
 
-// The reply, or null where there is no door.
-async function ask(method, word, path, { query = '', body = undefined, fields = {} } = {}) {
-  if (isThere === false) return null;
+// Sends until there is an answer, for half a minute.
+const insisting = (send) => untilAnswered(() => send().catch(fromDoor));
+
+// The reply in a form that fetch has, with its tag. 'given' is what fetch takes.
+async function ask(method, word, path, form, query = '', given = {}) {
   const asked = { method, word: WORDS[word] ?? word, path };
-  let reply;
-  try {
-    reply = await fetch(target(`door/${word}`, path) + query,
-      { method, body, headers: fields, cache: 'no-store' });
-  } catch {
-    throw new Refusal(0, null, asked);
+  const lost = () => { throw new Refusal(0, null, asked); };
+  const reply = await fetch(target(`door/${word}`, path) + query,
+    { method, cache: 'no-store', ...given }).catch(lost);
+  if (!reply.ok) {
+    throw new Refusal(reply.status, jsonOrNull(await reply.text().catch(() => '')), asked);
   }
-  if (reply.ok) {
-    isThere = true;
-    return reply;
-  }
-  const fault = new Refusal(reply.status, jsonOrNull(await reply.text().catch(() => '')), asked);
-  note(fault);
-  if (saysNone(fault)) return null;
-  throw fault;
+  return { told: await reply[form]().catch(lost), tag: reply.headers.get('ETag') };
 }
 
-async function read(word, path, query = '') {
-  const reply = await ask('GET', word, path, { query });
-  return reply === null ? null
-    : reply.json().catch(() => { throw new Refusal(0, null, { method: 'GET', word, path }); });
-}
+const read = (word, path, query = '') => insisting(() => ask('GET', word, path, 'json', query))
+  .then(({ told }) => told);
 
 // What differs below a folder. 'apart' is a path below it: what lies on the way there is told by
-// itself. Null where the door can't say it: then the room is asked object by object.
-export function differsBelow(path, apart) {
+// itself.
+export function differsBelow(path, apart = path) {
   const isApart = apart !== path && apart.startsWith(path === '/' ? '/' : `${path}/`);
   const rest = isApart ? namesOf(apart).slice(namesOf(path).length) : [];
-  const query = rest.length === 0 ? '' : `?${rest.map(encodeURIComponent).join('/')}`;
-  return read('below', path, query).catch(() => null);
+  return read('below', path,
+    rest.length === 0 ? '' : `?${rest.map(encodeURIComponent).join('/')}`);
 }
 
-// The names in a folder that can't be opened, as a set; an empty one where that isn't known.
-export const closedIn = (path) =>
-  read('closed', path).then((told) => new Set(told?.closed ?? []), () => new Set());
+// The names in a folder that can't be opened, as a set; an empty one where that isn't known. It is
+// asked once: nothing waits for it.
+export const closedIn = (path) => ask('GET', 'closed', path, 'json')
+  .then(({ told }) => new Set(told.closed), () => new Set());
 
 // The names below a folder that contain a text: {all, found: [{path, kind}], unlisted: [path]}.
 export const findBelow = (path, text) => read('find', path, `?${encodeURIComponent(text)}`);
 
-// The address at which a folder with all in it is one ZIP.
-export const zipAddress = (path) => target('door/zip', path);
+// nginx takes a line of 16 kB, in which the room's own place stands too.
+const LONGEST = 16000;
 
-// Sends until there is an answer, for half a minute, if a door has answered before. Null where
-// there is none, also where nobody answers in its place: then the room is asked without it.
-async function insisting(send) {
-  // The door says that the room is away where nginx would say that there is no answer.
-  const once = () => send().catch((fault) => {
-    const isAway = fault.status === 503 && Boolean(fault.body?.why);
-    throw isAway ? Object.assign(fault, { status: 502 }) : fault;
-  });
-  if (isThere === false) return null;
-  const isKnown = isThere === true;
-  try {
-    return await (isKnown ? untilAnswered(once) : once());
-  } catch (fault) {
-    note(fault);
-    if (!isDeserted(fault) && !saysNone(fault)) throw fault;
-    if (isKnown) isThere = false;
-    return null;
+// Names in a folder, as the door takes them: in several queries if they are too long for one.
+function queriesOf(folder, names) {
+  const most = LONGEST - target('door/goes', folder).length;
+  const found = [];
+  for (const name of names.map(encodeURIComponent)) {
+    const longer = `${found.at(-1)}&${name}`;
+    if (found.length > 0 && longer.length <= most) found.splice(-1, 1, longer);
+    else found.push(`?${name}`);
   }
+  return found;
+}
+
+// What goes with these names of a folder, each after the folder that it is in: {objects: [{path,
+// kind}], unlisted: [path], barred}. 'barred' is what the caller may not remove, as {path, at} with
+// the path of the list that says so, or null.
+export async function whatGoes(folder, names) {
+  const whole = { objects: [], unlisted: [], barred: null };
+  for (const query of queriesOf(folder, names)) {
+    const { objects, unlisted, barred } = await read('goes', folder, query);
+    whole.objects.push(...objects);
+    whole.unlisted.push(...unlisted);
+    whole.barred ??= barred;
+  }
+  return whole;
+}
+
+// A folder with all in it as one ZIP, or with these names alone. It isn't asked for again by
+// itself. Null if the names are too many for one request.
+export async function zipped(folder, names, signal) {
+  const queries = names === null ? [''] : queriesOf(folder, names);
+  if (queries.length > 1) return null;
+  const { told } = await ask('GET', 'zip', folder, 'blob', queries[0], { signal })
+    .catch(fromDoor);
+  return told;
 }
 
 // A document or a list with the tag that says which bytes it has: {blob, tag}.
-export const readTagged = (word, path) => insisting(async () => {
-  const reply = await ask('GET', word, path);
-  const asked = { method: 'GET', word, path };
-  return reply && { tag: reply.headers.get('ETag'),
-    blob: await reply.blob().catch(() => { throw new Refusal(0, null, asked); }) };
-});
+export const readTagged = (word, path) => insisting(() => ask('GET', word, path, 'blob'))
+  .then(({ told, tag }) => ({ blob: told, tag }));
+
+// The tag of a document alone.
+export const tagAt = (path) => insisting(() => ask('HEAD', 'doc', path, 'text'))
+  .then(({ tag }) => tag);
 
 // Sent only if 'fields', a condition, hold; otherwise it is refused with 412. Returns {made, tag}.
-export const putDocument = (path, bytes, fields, onProgress) => insisting(async () => {
-  const done = await putOnce('door/doc', path, bytes, fields, onProgress);
-  isThere = true;
-  return done;
-});
+export const putDocument = (path, bytes, fields, onProgress = () => {}) =>
+  insisting(() => putOnce('door/doc', path, bytes, fields, onProgress));
 
-export const putList = (which, path, text, fields) => insisting(async () => {
-  const reply = await ask('PUT', which, path, { body: text, fields });
-  return reply && { made: false, tag: reply.headers.get('ETag') };
-});
+export const putList = (which, path, text, fields) =>
+  insisting(() => ask('PUT', which, path, 'text', '', { body: text, headers: fields }));

@@ -1,8 +1,7 @@
 // Which bytes this browser got of a document, by the door's tags: so an upload of it can say that
 // somebody changed it since.
 
-import { read, whoAmI } from './api.js';
-import { readTagged } from './door.js';
+import { whoAmI } from './api.js';
 
 const MOST = 200;
 // Several rooms may have the same origin, and several users the same browser.
@@ -23,7 +22,6 @@ function stored(user) {
 const seen = new Map();
 
 export async function noteTag(path, tag) {
-  if (tag === null) return;
   seen.set(path, tag);
   const user = await mine();
   const all = stored(user);
@@ -46,7 +44,3 @@ export function forgetTags(user) {
     // There is nothing.
   }
 }
-
-// A document's bytes, and its tag where there is a door: {blob, tag}.
-export const readWithTag = async (path) =>
-  await readTagged('doc', path) ?? { blob: await read(path), tag: null };

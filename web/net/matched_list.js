@@ -1,16 +1,14 @@
 // A list that is sent only if it is still the one that was judged: by the door, which lets nobody
-// come between. Without one it is looked at just before.
+// come between.
 
-import * as api from './api.js';
 import { putList, readTagged } from './door.js';
 import { isGroup, isInherited, printList, readListText } from '../acl/entries.js';
 import { inForce } from '../acl/decide.js';
 
 // A list as it is now: {text, tag}.
 export async function seeList(which, path) {
-  const found = await readTagged(which, path);
-  return found === null ? { text: await api.readList(which, path), tag: null }
-    : { text: await found.blob.text(), tag: found.tag };
+  const { blob, tag } = await readTagged(which, path);
+  return { text: await blob.text(), tag };
 }
 
 export function ownText(text) {
@@ -21,9 +19,7 @@ export function ownText(text) {
 // Sets a list in the place of the one that was 'seen'. Returns whether it was.
 export async function setIfSame(which, path, text, seen) {
   try {
-    const fields = { 'If-Match': seen.tag };
-    const done = seen.tag === null ? null : await putList(which, path, text, fields);
-    if (done === null) await api.setList(which, path, text);
+    await putList(which, path, text, { 'If-Match': seen.tag });
     return true;
   } catch (fault) {
     if (fault.status !== 412) throw fault;

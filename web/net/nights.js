@@ -1,7 +1,7 @@
 // Earlier nights of the room (docs/earlier.md): what was there, as far as that night's list and
 // today's let the caller see it.
 
-import { Refusal, jsonOrNull, take } from './api.js';
+import { Refusal, jsonOrNull, take, target } from './api.js';
 
 // Whether the room shows any: null as long as nobody asked.
 let isShown = null;
@@ -33,3 +33,21 @@ export async function nightsKept() {
 export const folderThen = (night, path) => then('json', night, 'folder', path);
 export const documentThen = (night, path) => then('blob', night, 'doc', path);
 export const listThen = (night, path) => then('text', night, 'dacl', path);
+
+// How the last part of a ZIP begins, of so many bytes.
+const [END, LENGTH] = ['PK\u0005\u0006', 22];
+
+// A folder with all that was in it as one ZIP. It isn't asked for again by itself; one that was
+// broken off has no end.
+export async function zipThen(night, path, signal) {
+  const asked = { method: 'GET', word: 'folder', path };
+  const lost = () => { throw new Refusal(0, null, asked); };
+  const reply = await fetch(target(`earlier/${night}/zip`, path), { cache: 'no-store', signal })
+    .catch(lost);
+  if (!reply.ok) {
+    throw new Refusal(reply.status, jsonOrNull(await reply.text().catch(() => '')), asked);
+  }
+  const blob = await reply.blob().catch(lost);
+  const end = await blob.slice(-LENGTH).text();
+  return end.startsWith(END) ? blob : lost();
+}

@@ -2,12 +2,13 @@
 
 import { texts } from '../language/language.js';
 import { nameOf } from '../net/api.js';
+import { today } from '../net/clock.js';
 import { offered, select } from './add_person.js';
 import { button, element, icon, nameText } from '../ui/dom.js';
 import { confirm, deliver } from './confirm.js';
 import { RANKS, keyOf, withLevel } from '../acl/levels.js';
 import { linkTo } from '../ui/links.js';
-import { endWords, isPast } from '../acl/end_dates.js';
+import { endWords } from '../acl/end_dates.js';
 import { isInherited } from '../acl/entries.js';
 import { tell, tellFault } from '../ui/messages.js';
 import { levelWords, placeName } from './access_words.js';
@@ -112,7 +113,7 @@ const customWords = (row, kind) => row.entries.map((entry) =>
 function untilWords({ until, ends }) {
   const day = endWords(until);
   if (!ends) return texts.access.doesntEnd(day);
-  return (isPast(until) ? texts.access.wasToEnd : texts.access.untilDay)(day);
+  return (until < today() ? texts.access.wasToEnd : texts.access.untilDay)(day);
 }
 
 function nameIn({ known }, { who, isGroup }) {
@@ -124,7 +125,7 @@ function nameIn({ known }, { who, isGroup }) {
 async function setEnd(state, row, input, again) {
   const day = input.value;
   const until = day === '' ? null : { day, asker: state.me };
-  const next = input.validity.badInput || (day !== '' && isPast(day)) ? null
+  const next = input.validity.badInput || (day !== '' && day < today()) ? null
     : withLevel(state.list, state.kind, row, row.level, false, until);
   if (next === null) {
     tell('bad', input.validity.badInput ? texts.access.partOfDate : texts.access.noDate);

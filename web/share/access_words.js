@@ -104,10 +104,9 @@ export function saidLines({ known, kind }, outcome, subject) {
       texts.outcome.keepsMore(moreKept)),
     more > 0 && plain('loss', texts.outcome.heads.also, texts.outcome.changesMore(more)),
     // Of what wasn't looked at nothing is said.
-    isNone && plain('same', texts.outcome.nobody,
-      isAll ? texts.outcome.nobodyNow : texts.outcome.nobodySeen),
-    !isNone && isHarmless && plain('same', texts.outcome.nobodyLoses,
-      isAll ? texts.outcome.anything : texts.outcome.anythingSeen),
+    isAll && isNone && plain('same', texts.outcome.nobody, texts.outcome.nobodyNow),
+    isAll && !isNone && isHarmless && plain('same', texts.outcome.nobodyLoses,
+      texts.outcome.anything),
   ].filter(Boolean);
 }
 

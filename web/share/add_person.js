@@ -8,6 +8,7 @@ import { LEVELS, RANKS, readLevels, withLevel } from '../acl/levels.js';
 import { texts } from '../language/language.js';
 import { copyLink } from '../folder/actions.js';
 import { nameOf } from '../net/api.js';
+import { today } from '../net/clock.js';
 import { linkTo } from '../ui/links.js';
 import { tell, tellFault } from '../ui/messages.js';
 import { followOutcome } from './consequences.js';
@@ -150,7 +151,7 @@ class Picked {
     this.share.disabled = true;
     const day = this.until.value;
     const next = this.next(day === '' ? null : { day, asker: state.me });
-    if (next === null || (day !== '' && Date.parse(`${day}T23:59:59`) < Date.now())) {
+    if (next === null || (day !== '' && day < today())) {
       this.said.textContent = day === '' ? texts.access.notByLevels : texts.access.noDate;
       return;
     }

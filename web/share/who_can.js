@@ -65,7 +65,7 @@ function reachedInDocument(target, folder, caller) {
 
 // The most that somebody may do with an object: a level, or 'none'. For a folder it is also about
 // the documents in it that others made.
-export function reached(target, folder, caller) {
+function reached(target, folder, caller) {
   if (target.kind === 'document') return reachedInDocument(target, folder, caller);
   const here = decide(target.entries, caller, target.object);
   const may = (letter) => (surely(here) & bit(letter)) !== 0;

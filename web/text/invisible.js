@@ -2,14 +2,15 @@
 // like another one, so they are shown.
 
 import { texts } from '../language/language.js';
+import { INVISIBLE_SIGNS } from '../tables/invisible_signs.js';
 
 // Controls, formatting signs, blanks other than a space, and letters without a shape. A joiner is
 // left alone where it belongs: after signs such as emojis, and in scripts that need it.
 const JOINS = '\\p{Extended_Pictographic}\\p{Emoji_Modifier}\\p{M}\\p{Script=Arabic}';
 const JOINERS = `(?<![${JOINS}])[\\u200c\\u200d]`;
 const FORMAT = '(?![\\u200c\\u200d])[\\p{Cc}\\p{Cf}\\p{Zl}\\p{Zp}]';
-const UNSEEN = '[\\u034f\\u115f\\u1160\\u17b4\\u17b5\\u180b-\\u180d\\u2800\\u3164\\uffa0]';
-const BLANKS = '[\\u00a0\\u1680\\u2000-\\u200a\\u202f\\u205f]|^ +| +$';
+const UNSEEN = `[${INVISIBLE_SIGNS.unseen}]`;
+const BLANKS = `[${INVISIBLE_SIGNS.blanks}]|^ +| +$`;
 const SIGNS = new RegExp([JOINERS, FORMAT, UNSEEN, BLANKS].join('|'), 'gu');
 
 const codeOf = (sign) => (sign.startsWith(' ') ? texts.lists.space

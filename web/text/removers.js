@@ -7,7 +7,7 @@ import { childOf, ofOthers } from '../acl/inherit.js';
 import { protectedBelow } from '../net/ancestors.js';
 import { parentOf } from '../net/api.js';
 import { texts } from '../language/language.js';
-import { callerWords, placeWords } from './words.js';
+import { callerWords, placeWords, sentenceOf } from './words.js';
 
 const MOST_NAMED = 3;
 
@@ -40,12 +40,12 @@ const gaining = (before, after, holds) => callersIn(after.entries, after.object)
 const isManager = (folder, caller) => isGranted(folder, 'C', caller);
 
 // Who may then remove what others made in a folder, whose protected folders are 'below': {callers,
-// isSaid, shut: paths, all}, or null.
+// isSaid, shut: paths, all, fault}, or null.
 export function insideOf(before, after, below) {
   const callers = gaining(before, after, mayRemoveIn);
   const shut = below.found.filter((one) => callers.some((caller) => mayMove(one, after, caller)));
   const told = shut.length > 0 ? callers : callers.filter((caller) => !isManager(after, caller));
-  return told.length === 0 ? null : { callers: told, all: below.all,
+  return told.length === 0 ? null : { callers: told, all: below.all, fault: below.fault,
     isSaid: told.some((caller) => isSaid(after, caller)), shut: shut.map(({ path }) => path) };
 }
 
@@ -83,6 +83,9 @@ export function insideWords({ callers, isSaid: said, shut }, call = PROTECTED, k
     ...said ? [] : [texts.warnings.remedy(KEEP)]].join(' ');
 }
 
+const unseenWords = ({ fault }) => (fault ? `${texts.warnings.unseen} ${sentenceOf(fault)}`
+  : texts.warnings.unseen);
+
 // All the sentences, for somebody who edits the list itself: [{kind, text}].
 export function removalWords(kind, { inside, itself, opens }, known = null) {
   const unsure = (text) => ({ kind: 'unsure', text });
@@ -91,7 +94,7 @@ export function removalWords(kind, { inside, itself, opens }, known = null) {
   return [
     ...inside === null ? [] : [{ kind: inside.shut.length > 0 ? 'bad' : 'unsure',
       text: insideWords(inside, PROTECTED, known) }],
-    ...inside === null || inside.all ? [] : [unsure(texts.warnings.unseen)],
+    ...inside === null || inside.all ? [] : [unsure(unseenWords(inside))],
     ...itself.length === 0 ? [] : [unsure(ofItself(named(itself, known)))],
     ...opens ? [unsure(texts.warnings.opens)] : [],
   ];

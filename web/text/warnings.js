@@ -31,7 +31,7 @@ function dependsWords(depends) {
 }
 
 // Which list I may lose is said in the words of these two.
-export const THIS_LIST = [texts.warnings.losesList, texts.warnings.perhapsLosesList];
+const THIS_LIST = [texts.warnings.losesList, texts.warnings.perhapsLosesList];
 export const WHO_HAS_ACCESS = [texts.warnings.losesAccess, texts.warnings.perhapsLosesAccess];
 
 // The same in words: {title, text}. 'call' says how the list is called there.
@@ -50,7 +50,7 @@ export function lossWords({ letter, answer, depends, entry, isNobody }, call = T
 const EVERYBODY = withOthers(ANYBODY);
 
 // A sentence about one who can't get here, or perhaps not: {kind: 'bad' or 'unsure', text}.
-export function passageWords(caller, found, known = null) {
+function passageWords(caller, found, known = null) {
   const who = callerWords(caller, known);
   const place = found.path === null ? null : placeWords(found.path);
   if (found.answer === 'no' || (caller === EVERYBODY && found.answer === 'perhaps')) {

@@ -36,15 +36,26 @@ function nameManagers(said, fault) {
   askedFor(fault.body.at).then((ask) => { said.textContent = sentenceOf(fault, ask); }, () => {});
 }
 
-export function tellFault(fault) {
+// What the door couldn't do is done 'again' by a press.
+function remedyOf({ status, asked }, again) {
+  if (status === 401) return [texts.messages.signInAgain, () => location.reload()];
+  return again && asked?.isOfDoor && status !== 403 && status !== 404
+    ? [texts.acts.anew, again] : null;
+}
+
+export function tellFault(fault, again = null) {
   if (fault.status === undefined) console.error(fault);
-  const again = fault.status === 401
-    ? [button(texts.messages.signInAgain, () => location.reload(), { class: 'small' })] : [];
+  const remedy = remedyOf(fault, again);
   const text = sentenceOf(fault);
   for (const old of place().querySelectorAll('.notice.bad')) {
     if (old.getAttribute('data-text') === text) old.remove();
   }
-  nameManagers(tell('bad', text, ...again, ...reasonOf(fault)), fault);
+  const press = remedy === null ? [] : [button(remedy[0], () => {
+    said.closest('.notice').remove();
+    remedy[1]();
+  }, { class: 'small' })];
+  const said = tell('bad', text, ...press, ...reasonOf(fault));
+  nameManagers(said, fault);
 }
 
 export function clearNotices() {

@@ -9,7 +9,7 @@ import { mark, membersOf } from './names.js';
 const MOST = 8;
 
 // All who are known, with what a search looks at: [{who, isGroup, sure, text}].
-export function knownNames(known) {
+function knownNames(known) {
   const users = (known?.users ?? []).map((who) => (
     { who, isGroup: false, sure: true, text: `${who}\n${fullName(known, who)}`.toLowerCase() }));
   const groups = Object.keys(known?.groups ?? {}).map((who) => (
@@ -21,7 +21,7 @@ const isSame = (one, other) => one.who === other.who && one.isGroup === other.is
 
 // What may be chosen for what was typed: [{who, isGroup, sure}]. Whose name begins so comes first.
 // 'isKnown' says that names can be looked up: then another one is taken only if none of them fits.
-export function choicesFor(typed, all, isKnown, taken) {
+function choicesFor(typed, all, isKnown, taken) {
   const small = typed.toLowerCase();
   const isFree = (choice) => !taken.some((one) => isSame(one, choice));
   const [begins, others] = [[], []];

@@ -5,7 +5,7 @@ import textwrap
 from importlib import import_module
 from types import ModuleType
 
-from . import words as reading
+from . import table, words as reading
 from .table import OLD, VERBS
 
 _ABOUT = "rooms-admin: what an administrator does with rooms beside the program"
@@ -13,23 +13,33 @@ _STATUS = "0 done, 1 something failed or was left out, 2 refused, and nothing wa
 
 
 def module_of(verb: str) -> ModuleType:
-    return import_module(f"rooms_admin.verbs.{VERBS[verb][0]}")
+    return import_module(f"rooms_admin.verbs.{table.module_of(verb)}")
 
 
 def _about(one: argparse.Action) -> str:
     return (one.help or "").replace("%%", "%")
 
 
-def explain(verb: str) -> str:
+def explain(verb: str, parser: reading.Parser) -> str:
+    """All of a verb, or of a part of one."""
     module = module_of(verb)
-    parser = reading.of(verb, module)
     text = "".join(_filled(usage) for usage in parser.usages()) + "\n"
-    text += "\n".join(textwrap.fill(part, 99) + "\n" for part in _paragraphs(module)) + "\n"
-    for one in parser.shown():
+    about = f"{parser.about[:1].upper()}{parser.about[1:]}."
+    told = [about] if parser.is_part else _paragraphs(module)
+    text += "\n".join(textwrap.fill(part, 99) + "\n" for part in told) + "\n" + _shown(parser)
+    for name, part in parser.parts.items():
+        text += textwrap.fill(f"{name}: {part.about}", 99) + "\n" + _shown(part)
+    return text + f"\nStatus: {getattr(module, 'STATUS', _STATUS)}.\n"
+
+
+def _shown(parser: reading.Parser) -> str:
+    """Its words and options, a paragraph each."""
+    text = ""
+    for one in [] if parser.parts else parser.shown():
         shown = f"  {reading.name_of(one)} {reading.value_of(one)}".rstrip().replace("   ", "  ")
         text += textwrap.fill(_about(one), 99, initial_indent=shown.ljust(19) + " ",
                               subsequent_indent=" " * 20) + "\n"
-    return text + f"\nStatus: {getattr(module, 'STATUS', _STATUS)}.\n"
+    return text
 
 
 def _filled(usage: str) -> str:
@@ -45,20 +55,22 @@ def _paragraphs(module: ModuleType) -> list[str]:
 
 def overview() -> str:
     text = f"{_ABOUT}.\n\nUsage: rooms-admin VERB [OPTIONS] [WORDS]\n\n"
-    text += "".join(f"  {verb:12} {about}\n" for verb, (_, about) in VERBS.items())
+    text += "".join(f"  {verb:12} {about}\n" for verb, about in VERBS.items())
     return (text + "\nrooms-admin VERB --help says all of a verb, --version the program's version. "
             "A room is named by\n--room, as office, or by its settings, as ./FILE; without it, it "
             f"is office.\nStatus: {_STATUS}.\n")
 
 
 def words(given: list[str]) -> list[str]:
-    """For a shell that completes: the verbs, or the options of one."""
+    """For a shell that completes: the verbs, or the parts and the options of one."""
     if not given:
         return [*VERBS, "--help", "--version"]
     if given[0] not in VERBS:
         return ["--help"]
     parser = reading.of(given[0], module_of(given[0]))
-    return [reading.name_of(one) for one in parser.shown() if one.option_strings] + ["--help"]
+    parser = parser.parts.get("".join(given[1:2]), parser)
+    return [*parser.parts, *(reading.name_of(one) for one in parser.shown() if one.option_strings),
+            "--help"]
 
 
 def _roff(text: str) -> str:
@@ -78,12 +90,20 @@ def _usage_roff(usage: str) -> str:
 def _verb_roff(verb: str) -> list[str]:
     module = module_of(verb)
     parser = reading.of(verb, module)
-    out = [f".SS {_roff(verb)}: {_roff(VERBS[verb][1])}"]
+    out = [f".SS {_roff(verb)}: {_roff(VERBS[verb])}"]
     for usage in parser.usages():
         out += [".br", _usage_roff(usage)]
-    for part in _paragraphs(module):
-        out += [".PP", *_roff(part.replace(". ", ".\n")).split("\n")]
-    for one in parser.shown():
+    for text in _paragraphs(module):
+        out += [".PP", *_roff(text.replace(". ", ".\n")).split("\n")]
+    out += _shown_roff(parser)
+    for name, part in parser.parts.items():
+        out += [".PP", f"\\fB{name}\\fR: {_roff(part.about)}", *_shown_roff(part)]
+    return out
+
+
+def _shown_roff(parser: reading.Parser) -> list[str]:
+    out = []
+    for one in [] if parser.parts else parser.shown():
         name, value = _roff(reading.name_of(one)), reading.value_of(one)
         shown = (f"\\fB{name}\\fR " if name else "") + (f"\\fI{value}\\fR" if value else "")
         out += [".TP", shown.rstrip(), _roff(_about(one))]
@@ -96,10 +116,10 @@ def page() -> str:
            "rooms\\-admin \\- what an administrator does with rooms beside the program",
            ".SH SYNOPSIS", ".B rooms\\-admin", "\\fIVERB\\fR [\\fIOPTIONS\\fR] [\\fIWORDS\\fR]",
            ".SH DESCRIPTION",
-           "Options may stand anywhere; behind \\fB\\-\\-\\fR there are none. \\fIROOM\\fR is the "
-           "name of a room, or its", "file of settings, and office if it isn't given. \\fB\\-r\\fR "
-           "is short for \\fB\\-\\-room\\fR.", "A room that is a word of its own, or that "
-           "\\fB\\-\\-conf\\fR names, was understood before: for this version, it still is."]
+           "Options may stand anywhere behind the verb, and behind add, remove or list of user;",
+           "behind \\fB\\-\\-\\fR there are none. \\fIROOM\\fR is the name of a room, or its file",
+           "of settings, and office if it isn't given. \\fB\\-r\\fR is short for "
+           "\\fB\\-\\-room\\fR."]
     for verb in VERBS:
         out += _verb_roff(verb)
     names = ", ".join(_roff(f"{one} is {verb}") for one, verb in OLD.items())

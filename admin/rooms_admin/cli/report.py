@@ -1,11 +1,14 @@
 """What is printed, and how a verb ends."""
 import json
 import os
+import re
 import signal
 import sys
 import types
 from collections.abc import Iterator, Mapping, Sequence
 from contextlib import contextmanager
+
+from . import shared
 
 prog = "rooms-admin"
 
@@ -24,12 +27,19 @@ class Interrupted(Stop):
     """A signal came."""
 
 
+_UNSEEN = re.compile(f"[{shared.table('invisible_signs')['unseen']}]")
+
+
+def is_seen(text: str) -> bool:
+    """Whether each sign of it is one that a terminal shows, and doesn't obey."""
+    return text.isprintable() and _UNSEEN.search(text) is None
+
+
 def plain(text: str) -> str:
-    """What others wrote, as a terminal shows it and doesn't obey it. Ends of lines stay."""
-    if text.isprintable():
+    """What others wrote, so that all of it is seen. Ends of lines stay."""
+    if is_seen(text):
         return text
-    return "".join(one if one.isprintable() or one in "\n\t" else ascii(one)[1:-1]
-                   for one in text)
+    return "".join(one if is_seen(one) or one in "\n\t" else ascii(one)[1:-1] for one in text)
 
 
 def line(text: str) -> str:
@@ -84,8 +94,7 @@ def progress(text: str) -> None:
     if not os.isatty(2):
         return
     _shown = True
-    plain = "".join(c if c.isprintable() else "?" for c in text)
-    print(f"\r\033[K{plain}", end="", file=sys.stderr, flush=True)
+    print(f"\r\033[K{line(text)}", end="", file=sys.stderr, flush=True)
 
 
 def end_progress() -> None:

@@ -1,36 +1,42 @@
-"""The verbs: the module of each, and what it is for. Its arguments, and all that help says of it,
-stand in that module."""
-VERBS: dict[str, tuple[str, str]] = {
-    "export": ("export", "a folder of a room, or of a backup, as files"),
-    "import": ("imports", "files into a room"),
-    "handover": ("handover", "all that belongs to one user to another one"),
-    "get": ("get", "one document out of a backup"),
-    "backup": ("backup", "copy, verify, keep; the nightly run"),
-    "backups": ("listed", "which backups there are, from the oldest to the newest"),
-    "latest": ("latest", "the folder of the newest backup"),
-    "lists": ("lists", "lists of last night, what names a user or a group"),
-    "who": ("who", "who could do what at a place last night, and by which entries"),
-    "records": ("records", "records of last night, of a user or a place"),
-    "restore": ("restore", "a backup put back, or what a machine has beside its rooms"),
-    "standby": ("standby", "a copy for another machine"),
-    "groups": ("groups", "groups of the directory into a room"),
-    "people": ("people", "the names that the web interface offers"),
-    "mine": ("places", "what each user was given further down, for the web interface"),
-    "until": ("expire", "accesses whose end date is over, taken back"),
-    "full": ("quota", "how much of a room is in use, for nginx"),
-    "setup": ("setup", "the machine and nginx's site, as the settings say"),
-    "add": ("add", "a further room, or the place of one on another machine"),
-    "remove": ("remove", "a room is not served any more, and stays"),
-    "rooms": ("rooms", "the rooms of this machine, and whether each is served"),
-    "user": ("user", "somebody joins, leaves, gets a new password; who is there"),
-    "certificate": ("certificate", "a certificate by an authority of the office's own"),
-    "doctor": ("doctor", "why a room can't be opened"),
-    "check": ("check", "whether all is well, for monitoring: 0, 1 or 2 in one line"),
-    "await": ("await_server", "wait until a room's server answers; its unit calls it"),
-    "tell": ("mail_failure", "mail what a unit said last; units call it when they fail"),
+"""The verbs, and what each is for. Its arguments, and all that help says of it, stand in the module
+that is called as the verb, with '_' behind a word of Python."""
+import keyword
+
+VERBS: dict[str, str] = {
+    "export": "a folder of a room, or of a backup, as files",
+    "import": "files into a room",
+    "handover": "all that belongs to one user to another one",
+    "get": "one document out of a backup",
+    "backup": "copy, verify, keep; the nightly run",
+    "backups": "which backups there are, from the oldest to the newest",
+    "latest": "the folder of the newest backup",
+    "lists": "lists of last night, what names a user or a group",
+    "who": "who could do what at a place last night, and by which entries",
+    "records": "records of last night, of a user or a place",
+    "restore": "a backup put back, or what a machine has beside its rooms",
+    "standby": "a copy for another machine",
+    "groups": "groups of the directory into a room",
+    "people": "the names that the web interface offers",
+    "mine": "what each user was given further down, for the web interface",
+    "until": "accesses whose end date is over, taken back",
+    "full": "how much of a room is in use, for nginx",
+    "setup": "the machine and nginx's site, as the settings say",
+    "add": "a further room, or the place of one on another machine",
+    "remove": "a room is not served any more, and stays",
+    "rooms": "the rooms of this machine, and whether each is served",
+    "user": "somebody joins, leaves, gets a new password; who is there",
+    "certificate": "a certificate by an authority of the office's own",
+    "doctor": "why a room can't be opened",
+    "check": "whether all is well, for monitoring: 0, 1 or 2 in one line",
+    "await": "wait until a room's server answers; its unit calls it",
+    "tell": "mail what a unit said last; units call it when they fail",
 }
 # What these verbs were called before.
 OLD = {"rooms-export": "export", "rooms-import": "import", "rooms-handover": "handover",
        "rooms-get": "get", "rooms-nightly": "backup", "rooms-restore": "restore",
        "rooms-standby": "standby", "rooms-directory": "groups", "rooms-full": "full",
        "rooms-setup": "setup", "rooms-add": "add", "rooms-doctor": "doctor"}
+
+
+def module_of(verb: str) -> str:
+    return f"{verb}_" if keyword.iskeyword(verb) else verb

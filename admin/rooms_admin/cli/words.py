@@ -1,51 +1,105 @@
-"""How the words of a verb are read. argparse says what is wrong and what is missing; beyond it,
-options stand anywhere, and a name that begins with a dash is a name once a word has come before."""
+"""How the words of a verb are read, by argparse: its options first, wherever they stand, and then
+the words that are left. So a name may begin with a dash, once a word has come before."""
 import argparse
+import os
 from collections.abc import Sequence
 from types import ModuleType
-from typing import NoReturn
+from typing import Any, NoReturn
 
-from .report import Refused, say
+from .report import Refused
 
-_MANY = 1 << 20
+
+class Asked(Exception):
+    """--help: nothing is done, and the parser explains itself."""
+
+    def __init__(self, parser: "Parser") -> None:
+        super().__init__(parser.prog)
+        self.parser = parser
+
+
+class _Help(argparse.Action):
+    def __call__(self, parser: argparse.ArgumentParser, *_given: object) -> None:
+        assert isinstance(parser, Parser)
+        raise Asked(parser)
+
+
+class _Words(argparse.ArgumentParser):
+    """Which word is which. What is wrong with them is told as of their verb."""
+
+    def __init__(self, verb: "Parser") -> None:
+        super().__init__(prog=verb.prog, add_help=False)
+        self.verb = verb
+
+    def error(self, message: str) -> NoReturn:
+        self.verb.error(message)
 
 
 class Parser(argparse.ArgumentParser):
-    """Of one verb. `forms` are its usages, where one can't say all. `former` says which word was
-    the room in an earlier version: the first, the last, or all of them. `bare` is an option that
-    had no value then, but the first word."""
+    """Of one verb; or of a part of one, such as user add. `forms` are its usages, where one can't
+    say all."""
 
-    def __init__(self, verb: str) -> None:
-        super().__init__(prog=f"rooms-admin {verb}", allow_abbrev=False, add_help=False)
+    def __init__(self, prog: str, about: str = "", is_part: bool = False) -> None:
+        super().__init__(prog=prog, allow_abbrev=False, add_help=False)
+        self.about = about
+        self.is_part = is_part
         self.forms: list[str] = []
-        self.former = ""
-        self.bare = ""
-        self.set_defaults(room="", rooms=[], conf="")
-        self.add_argument("--help", "-h", action="store_true", help=argparse.SUPPRESS)
+        self.parts: dict[str, Parser] = {}
+        self.words = _Words(self)
+        if not is_part:
+            self.set_defaults(room="", rooms=[])
+        self.add_argument("--help", "-h", action=_Help, nargs=0, help=argparse.SUPPRESS)
+
+    def has_parts(self, dest: str, parts: dict[str, str]) -> list["Parser"]:
+        """What is done is a word of its own, here with what each is for."""
+        made = self.add_subparsers(dest=dest, metavar=dest.upper(), prog=self.prog, required=True,
+                                   parser_class=Parser)
+        self.parts = {name: made.add_parser(name, about=about, is_part=True)
+                      for name, about in parts.items()}
+        return list(self.parts.values())
 
     def error(self, message: str) -> NoReturn:
         raise Refused(f"bad arguments: {message}; {', or '.join(self.usages())}")
 
+    def parse_known_args(self, args: Any = None, namespace: Any = None) -> Any:
+        """Nothing is left over. Options of a part stand behind its word."""
+        if self.parts:
+            namespace, more = super().parse_known_args(args, namespace)
+            if more:
+                self.error(f"no such option: {more[0]}")
+            return namespace, more
+        at = args.index("--") if "--" in args else len(args)
+        namespace, words = super().parse_known_args(args[:at], namespace)
+        for one in words:
+            if one.startswith("--"):
+                self.error(f"no such option: {one}")
+        if words and words[0][0] == "-" and len(words[0]) > 1 and not self.is_part:
+            self.error(f"no such option: {words[0]}")
+        words += args[at + 1:]
+        namespace, more = self.words.parse_known_args(["--", *words] if words else [], namespace)
+        if left := [one for one in more if one != "--"]:
+            self.error(f"a word too many: '{left[0]}'")
+        return namespace, left
+
     def shown(self) -> list[argparse.Action]:
         """What help names: words first, then options."""
-        found = [one for one in self._actions if one.help != argparse.SUPPRESS]
-        return sorted(found, key=lambda one: bool(one.option_strings))
+        return [one for one in self.words._actions + self._actions
+                if one.help != argparse.SUPPRESS and not isinstance(one.choices, dict)]
 
     def usages(self) -> list[str]:
+        if self.parts:
+            return [usage for part in self.parts.values() for usage in part.usages()]
         if self.forms:
             return [f"{self.prog} {one}" for one in self.forms]
         words = [named(one) for one in self.shown() if not one.option_strings]
-        options = [f"[{named(one)}]" for one in self.shown() if one.option_strings]
-        return [" ".join([self.prog, *options, *words])]
+        return [" ".join([self.prog, *self._options(), *words])]
 
-    def values(self) -> dict[str, int | str]:
-        """How many values each option takes, as argparse writes that."""
-        return {name: 1 if one.nargs is None else one.nargs
-                for name, one in self._option_string_actions.items()}
-
-    def most_words(self) -> int:
-        return sum(_MANY if one.nargs in ("*", "+") else 1 for one in self._actions
-                   if not one.option_strings)
+    def _options(self) -> list[str]:
+        """Those of which only one may be given stand together."""
+        alone = {id(one): group._group_actions for group in self._mutually_exclusive_groups
+                 for one in group._group_actions}
+        found = [" | ".join(named(it) for it in alone.get(id(one), [one])) for one in self.shown()
+                 if one.option_strings]
+        return [f"[{one}]" for one in dict.fromkeys(found)]
 
 
 def name_of(one: argparse.Action) -> str:
@@ -72,29 +126,35 @@ def named(one: argparse.Action) -> str:
 _ROOM = "the room, by its name, or by its settings, as ./FILE"
 
 
-def room(parser: Parser, former: str = "last", about: str = f"{_ROOM}; office without it") -> None:
-    """The room of a verb: there is one way to name it."""
-    parser.former = former
-    parser.add_argument("-r", "--room", metavar="ROOM", default="", help=about)
-    parser.add_argument("--conf", default="", help=argparse.SUPPRESS)
+def _from_here(word: str) -> str:
+    """A file of settings is named from where the caller stands, which a verb may leave."""
+    if "/" not in word or "://" in word:
+        return word
+    return os.path.join(os.getcwd(), word.removeprefix("./"))
+
+
+def room(parser: Parser, about: str = f"{_ROOM}; office without it") -> None:
+    """The room of a verb: there is one way to name it. Before a part's word it counts too."""
+    parser.add_argument("-r", "--room", metavar="ROOM", help=about, type=_from_here,
+                        default=argparse.SUPPRESS if parser.is_part else "")
 
 
 def rooms(parser: Parser, without: str) -> None:
     """Several of them."""
-    parser.former = "all"
     parser.add_argument("-r", "--room", dest="rooms", metavar="ROOM", action="append", default=[],
-                        help=f"{_ROOM}; may stand several times; {without} without it")
+                        help=f"{_ROOM}; may stand several times; {without} without it",
+                        type=_from_here)
 
 
 def word(parser: Parser, name: str, shown: str, about: str) -> None:
     """One that is no option: NAME, [NAME] if it may lack, or NAME .. for one or several."""
     value = shown.strip("[]. ")
     if shown.startswith("["):
-        parser.add_argument(name, metavar=value, nargs="?", default="", help=about)
+        parser.words.add_argument(name, metavar=value, nargs="?", default="", help=about)
     elif shown.endswith(" .."):
-        parser.add_argument(name, metavar=value, nargs="+", help=about)
+        parser.words.add_argument(name, metavar=value, nargs="+", help=about)
     else:
-        parser.add_argument(name, metavar=value, help=about)
+        parser.words.add_argument(name, metavar=value, help=about)
 
 
 def flag(parser: argparse._ActionsContainer, name: str, about: str) -> None:
@@ -117,88 +177,20 @@ def rows(parser: Parser) -> None:
 
 
 def of(verb: str, module: ModuleType) -> Parser:
-    parser = Parser(verb)
+    parser = Parser(f"rooms-admin {verb}")
     module.arguments(parser)
     return parser
 
 
-def read(verb: str, module: ModuleType, words: Sequence[str]) -> argparse.Namespace | None:
-    """What a verb is given; nothing if it is to explain itself."""
+def read(verb: str, module: ModuleType, words: Sequence[str]) -> argparse.Namespace:
+    """What a verb is given."""
     parser = of(verb, module)
-    options, rest = _apart(parser, words)
-    if {"--help", "-h"} & set(options):
-        return None
-    before = _former(parser, rest)
-    given, more = parser.parse_known_args(options + (["--", *rest] if rest else []))
-    if left := [one for one in more if one != "--"]:
-        parser.error(f"a word too many: '{left[0]}'")
-    _take_former(parser, given, before)
-    return given
-
-
-def _apart(parser: Parser, words: Sequence[str]) -> tuple[list[str], list[str]]:
-    """Options, wherever they stand, with their values, and the other words. Behind '--' there is no
-    option; and a word with one dash is a word once one has begun, as a name may be."""
-    takes = parser.values()
-    if "" in words:
-        # As of a variable that isn't set: what it was to name would be something else.
-        parser.error("a word is empty")
-    found: list[str] = []
-    rest: list[str] = []
-    left = list(words)
-    while left:
-        one = left.pop(0)
-        if one == "--":
-            if "--" in left:
-                parser.error("'--' stands twice")
-            return found, rest + left
-        if one in takes:
-            most = takes[one]
-            if most == "?":
-                most = int(left != [] and not left[0].startswith("-"))
-            found += [one, *left[:int(most)]]
-            del left[:int(most)]
-        elif one.startswith("--") or (one.startswith("-") and one != "-" and not rest):
-            name, equals, value = one.partition("=")
-            if (name if one.startswith("--") else one[:2]) not in takes:
-                parser.error(f"no such option: {one}")
-            if equals and not value:
-                parser.error(f"the value of {name} is empty")
-            found.append(one)
-        else:
-            rest.append(one)
-    return found, rest
-
-
-def _former(parser: Parser, rest: list[str]) -> list[str]:
-    """The rooms that are named as before; they aren't among the words any more."""
-    over = len(rest) - parser.most_words()
-    if parser.former == "all":
-        found, rest[:] = list(rest), []
-        return found
-    if not parser.former or over != 1:
-        return []
-    at = 0 if parser.former == "first" else -1
-    # A name may begin with a dash, a room can't.
-    return [] if rest[at].startswith("-") else [rest.pop(at)]
-
-
-def _take_former(parser: Parser, given: argparse.Namespace, before: list[str]) -> None:
-    """A word says what to type in the place of what the next version doesn't understand."""
-    typed = []
-    if parser.bare and getattr(given, parser.bare) is None:
-        if not before:
-            parser.error(f"argument --{parser.bare}: expected one argument")
-        setattr(given, parser.bare, before[0])
-        typed.append(f"--{parser.bare} {before.pop()}")
-    if before and (given.room or given.rooms or given.conf):
-        parser.error(f"a word too many: '{before[0]}'")
-    before = [given.conf] if given.conf else before
-    if before:
-        given.room, given.rooms = before[0], before
-    tell_former([*typed, *(f"--room {one}" for one in before)])
-
-
-def tell_former(typed: list[str]) -> None:
-    if typed:
-        say(f"type {' '.join(typed)}: this is the last version that understands what you typed")
+    for one in words:
+        if not one:
+            # As of a variable that isn't set: what it was to name would be something else.
+            parser.error("a word is empty")
+        if one.startswith("--") and one.endswith("="):
+            parser.error(f"the value of {one[:-1]} is empty")
+    if words.count("--") > 1:
+        parser.error("'--' stands twice")
+    return parser.parse_args(words)

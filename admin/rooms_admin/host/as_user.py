@@ -5,16 +5,19 @@ import json
 import os
 import pwd
 import shutil
+import sqlite3
 import sys
 import tempfile
 from collections.abc import Callable, Iterator
-from contextlib import contextmanager
+from contextlib import closing, contextmanager
 
 from . import commands, tempdirs
 
 Work = Callable[[], list[list[str]]]
 # Bytes: twice the largest document, and as much for the log.
 TRIAL = 4194304
+# Of what differs from a room's tables, as much is named.
+MOST_NAMED = 5
 
 
 def as_user(user: pwd.struct_passwd, work: Work) -> list[list[str]]:
@@ -121,18 +124,63 @@ def verify(program: str, file: str, place: str) -> list[list[str]]:
         return _records(program, copy)
     if said == "refused: not a rooms file":
         return [["not a room", f"{file} is a database of another program"]]
-    if said == "refused: not the tables of a room":
-        return [["not a room", f"somebody added a table, an index, a view or a trigger to {file}, "
-                 "or changed a table: remove what was added, or restore the last good backup"]]
+    if said == "fault: database" and (differs := _differing(program, copy, place)):
+        return [["not a room", f"another program changed the tables of {file}: "
+                 f"{', '.join(differs)}. Remove what was added, or restore the last good backup"]]
     if said == "fault ? V8 no-numbers":
-        return [["no numbers", "each request that a list wants a record of is answered 500: set "
-                 "the counter of records back (docs/messages.md)"]]
+        return [["no numbers", "each request that a list wants a record of is answered 500, or "
+                 "each that makes an object (docs/messages.md)"]]
     if said.startswith("refused: schema"):
         return [["not a room", f"{file} is of another version: {said} (docs/messages.md)"]]
     if said == "fault: memory":
         return [["unknown", "whether it is sound, since the memory is too small"]]
     return [["damaged", f"verify gives status {status}: {said}: restore the last good backup "
              "(rooms-admin restore)"]]
+
+
+def _differing(program: str, copy: str, place: str) -> list[str]:
+    """What its tables, indexes, views and triggers have beside those of a new room, and what they
+    lack."""
+    fresh = os.path.join(place, "fresh")
+    if _run(program, "init", fresh, "root", "staff")[0] != 0:
+        return []
+    try:
+        wanted, found = _made_by(fresh), _made_by(copy)
+    except sqlite3.Error:
+        return []
+    differs = [f"{kind} {name} isn't a room's"
+               for kind, name in found if (kind, name) not in wanted]
+    for (kind, name), made in wanted.items():
+        if (kind, name) not in found:
+            differs.append(f"{kind} {name} is missing")
+        elif found[kind, name] != made:
+            differs.append(_differing_columns(f"{kind} {name}", made[1], found[kind, name][1]))
+    return differs[:MOST_NAMED]
+
+
+def _differing_columns(of: str, wanted: list[str], found: list[str]) -> str:
+    for column in wanted:
+        if column not in found:
+            return f"{of} lacks the column {column}"
+    for column in found:
+        if column not in wanted:
+            return f"{of} has a column {column}"
+    return f"{of} has other rules"
+
+
+def _made_by(file: str) -> dict[tuple[str, str], tuple[str, list[str]]]:
+    """Each table, index, view and trigger, with what made it and a table's columns."""
+    with closing(sqlite3.connect(file)) as room:
+        room.execute("PRAGMA trusted_schema = OFF")
+        rows = room.execute("SELECT type, name, sql FROM sqlite_master LIMIT 100").fetchall()
+        return {(str(kind), str(name)): (str(sql), _columns(room, kind, name))
+                for kind, name, sql in rows}
+
+
+def _columns(room: sqlite3.Connection, kind: str, name: str) -> list[str]:
+    if kind != "table":
+        return []
+    return [str(row[0]) for row in room.execute("SELECT name FROM pragma_table_info(?)", (name,))]
 
 
 def _records(program: str, copy: str) -> list[list[str]]:
@@ -146,10 +194,10 @@ def _records(program: str, copy: str) -> list[list[str]]:
              "of the last good backup"]]
 
 
-def _run(program: str, word: str, file: str, quiet: bool = False) -> tuple[int, str]:
+def _run(program: str, *words: str, quiet: bool = False) -> tuple[int, str]:
     """A large room takes its time."""
     try:
-        done = (commands.faults if quiet else commands.together)([program, word, file], None)
+        done = (commands.faults if quiet else commands.together)([program, *words], None)
     except OSError as fault:
         return 1, fault.strerror or str(fault)
     return done.status, (done.out + done.said)[:400]

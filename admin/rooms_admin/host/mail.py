@@ -7,6 +7,10 @@ from ..cli import report
 from ..cli.report import plain, say
 
 
+# What stands before the name of a unit that goes on.
+WARNING = "warning:"
+
+
 def deliver(to: str, subject: str, lines: list[str]) -> bool:
     """What is sent may come from a log that anybody writes: to some mail programs a line that
     begins with ~ is a command."""
@@ -20,7 +24,8 @@ def notify(to: str, subject: str, lines: list[str], level: str = "err") -> None:
     the log of a unit: one that fails has it sent by OnFailure=, and a warning by the same unit."""
     if unit := os.environ.get("ROOMS_UNIT"):
         if level != "err" and to:
-            _hand(["systemctl", "start", "--no-block", f"rooms-tell@{unit}.service"], "")
+            # By a name of its own: the run may still fail, and then that is told too.
+            _hand(["systemctl", "start", "--no-block", f"rooms-tell@{WARNING}{unit}.service"], "")
         return
     if to and shutil.which("mail"):
         if deliver(to, subject, lines):

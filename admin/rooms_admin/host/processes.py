@@ -3,6 +3,8 @@ import ctypes
 import os
 import signal
 
+from ..cli import report
+
 # Loaded before any child begins, which then only calls it.
 _LIBC = ctypes.CDLL(None)
 _ENDS_WITH_PARENT, _GETS_ORPHANS, _AMBIENT, _CLEAR_ALL = 1, 36, 47, 4
@@ -23,24 +25,47 @@ def adopt_orphans() -> None:
     _LIBC.prctl(_GETS_ORPHANS, 1)
 
 
-def _fields(place: str) -> list[str]:
-    """What the system says of a process after its name."""
+def _user_of(process: int) -> int | None:
+    """Nobody where this process may not see it, as others' where its unit hides them."""
     try:
-        with open(place, encoding="utf-8", errors="replace") as source:
-            return source.read().rpartition(") ")[2].split()
+        with open(f"/proc/{process}/status", encoding="utf-8", errors="replace") as source:
+            return next(int(line.split()[1]) for line in source if line.startswith("Uid:"))
     except OSError:
-        return []
+        return None
+
+
+def end(process: int, user: int) -> bool:
+    """A child of this one's, if it runs as that user: by their right, since a unit need have none
+    over the processes of others. Nobody who is that user can hold this one meanwhile."""
+    if _user_of(process) not in (user, None):
+        return False
+    own = os.geteuid()
+    with report.signals_wait():
+        os.seteuid(user)
+        try:
+            os.kill(process, signal.SIGKILL)
+            return True
+        except (PermissionError, ProcessLookupError):
+            return False
+        finally:
+            os.seteuid(own)
+
+
+def keep_files(*wanted: int) -> None:
+    """For a child that need not have what its parent has open: so it keeps no lock, whatever
+    becomes of it."""
+    at = 3
+    for number in sorted(wanted):
+        os.closerange(at, number)
+        at = number + 1
+    os.closerange(at, 1024)
 
 
 def began(process: int) -> str:
     """In ticks since the machine did: it tells a process from a later one of the same number."""
-    fields = _fields(f"/proc/{process}/stat")
-    return fields[19] if len(fields) > 19 else ""
-
-
-def is_held(process: int) -> bool:
     try:
-        threads = os.listdir(f"/proc/{process}/task")
+        with open(f"/proc/{process}/stat", encoding="utf-8", errors="replace") as source:
+            fields = source.read().rpartition(") ")[2].split()
     except OSError:
-        return False
-    return all(_fields(f"/proc/{process}/task/{one}/stat")[:1] == ["T"] for one in threads)
+        return ""
+    return fields[19] if len(fields) > 19 else ""

@@ -7,6 +7,7 @@ the name of one is told, and as long as it is there no backup is removed."""
 import errno
 import os
 import re
+import time
 from collections.abc import Iterable
 from dataclasses import dataclass, field
 
@@ -40,10 +41,27 @@ class Found:
     wrong: list[str]
 
 
-def name_of(conf: str) -> str:
-    """The name of a room, by its settings."""
-    name = os.path.basename(conf).removesuffix(".conf")
-    return name if name.strip(".") else "room"
+def moments(name: str) -> list[int]:
+    """When a backup of this name can have been made, in seconds since 1970: names have the
+    machine's own time. An hour of an autumn night is there twice, one of spring never."""
+    try:
+        said = time.strptime(name, "%Y-%m-%d.%H%M%S")
+        found = {int(time.mktime((*said[:8], summer))) for summer in (0, 1)}
+        return sorted(at for at in found if time.localtime(at)[:6] == said[:6])
+    except (ValueError, OverflowError):
+        return []
+
+
+def made(copy: Backup) -> int | None:
+    """When this one was made: of two moments the one after which its number was written."""
+    found = moments(copy.name)
+    if len(found) < 2:
+        return found[0] if found else None
+    try:
+        written = os.stat(os.path.join(copy.place, RUN)).st_mtime
+    except OSError:  # Of a version that wrote none.
+        return found[0]
+    return found[written >= found[1]]
 
 
 def below(backups: str, name: str) -> str:
@@ -53,7 +71,7 @@ def below(backups: str, name: str) -> str:
 
 
 def folder(room: Room) -> str:
-    return below(room.backups, name_of(room.conf))
+    return below(room.backups, room.name)
 
 
 def make_folder(room: Room) -> str:
@@ -176,7 +194,7 @@ def jump(found: Found) -> str:
 
 def look(room: Room) -> Found:
     """All of a room's backups, by whoever may wait for a disk that hangs."""
-    return dated(room.backups, name_of(room.conf), room.base)
+    return dated(room.backups, room.name, room.base)
 
 
 def _patiently(backups: str, name: str, file: str) -> Found:
@@ -191,7 +209,7 @@ def _patiently(backups: str, name: str, file: str) -> Found:
 
 def known(room: Room) -> Found:
     """The same, by whoever doesn't wait for it."""
-    return _patiently(room.backups, name_of(room.conf), room.base)
+    return _patiently(room.backups, room.name, room.base)
 
 
 def with_file(backups: str, name: str, file: str) -> list[Backup]:
@@ -218,7 +236,7 @@ def find(room: Room, backup: str) -> str:
         return found[-1].place
     places = [backup] if "/" in backup else [
         os.path.join(above, backup) for above in (
-            folder(room), room.backups, hours_below(room.backups, name_of(room.conf)))]
+            folder(room), room.backups, hours_below(room.backups, room.name))]
 
     def asked() -> object:
         there = [one for one in places if os.path.isdir(one)]

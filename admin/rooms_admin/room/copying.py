@@ -1,27 +1,37 @@
-"""How a room that is served is copied. Its server is held while another process copies its files:
-so neither its own disk nor that of backups can hold it for longer than HOLD seconds. They are
-copied to the room's own disk if that has space for it, under no name, and otherwise to the disk of
-backups at once."""
+"""How a room that is served is copied. This process holds the room by a connection to its server,
+and another one copies both files: so neither the room's own disk nor that of backups can hold the
+server for longer than it was given. They are copied to the room's own disk if that has space for
+it, under no name, and otherwise to the disk of backups at once."""
 import errno
+import mmap
 import os
 import select
 import signal
+import struct
 import time
+from collections.abc import Callable
 from dataclasses import dataclass, field
 
 from ..host import processes, safe
-from . import server
-from ..cli.report import Refused, Stop, say
+from . import server, waits
+from ..cli.report import Interrupted, Refused, Stop, say
+from .held import NotHeld, held
 from .settings import Room
 
-HOLD = 30.0
 _CHUNK = 16 << 20
 # What stays free for other rooms on the disk while a copy lies beside the room.
 _SPARE = 256 << 20
+# Of a copy that didn't come to its end, what has to be there so that it is slow, and doesn't hang.
+_SLOW = 10
 
 
-class NotHeld(Exception):
-    """The server can't be held, and is stopped instead."""
+class TooLong(NotHeld):
+    """Its copy would hold the server for longer than anybody waits for a room."""
+
+
+class TooSlow(TooLong):
+    """It has done so."""
+    is_fault = True
 
 
 @dataclass
@@ -32,10 +42,13 @@ class Copy:
     far: dict[str, int] = field(default_factory=dict)
     where: dict[str, str] = field(default_factory=dict)
 
+    @property
+    def numbers(self) -> list[int]:
+        return [one for one in [*self.near.values(), *self.far.values()] if one is not None]
+
     def close(self) -> None:
-        for number in [*self.near.values(), *self.far.values()]:
-            if number is not None:
-                os.close(number)
+        for number in self.numbers:
+            os.close(number)
         self.near, self.far = {}, {}
 
 
@@ -69,101 +82,212 @@ def _open(room: Room, part: str) -> Copy:
         raise Stop(_failed(room, fault, part)) from fault
 
 
-def _copy_near(source: int, target: int) -> bool:
-    """A reflink takes no time and no space. Otherwise there has to be space for it, and for what
-    others write meanwhile."""
-    if safe.clone(source, target):
-        return True
-    disk = os.fstatvfs(target)
-    if disk.f_bavail * disk.f_frsize < os.fstat(source).st_size + _SPARE:
+def _free(number: int) -> int:
+    disk = os.fstatvfs(number)
+    return disk.f_bavail * disk.f_frsize
+
+
+def _clones(targets: Copy) -> bool:
+    """Whether the room's own disk gives a file the blocks of another one, which takes no time."""
+    one, other = targets.near.values()
+    if one is None or other is None:
         return False
     try:
-        while os.copy_file_range(source, target, _CHUNK):
-            pass
-        return True
-    except OSError as fault:
-        if fault.errno not in (errno.ENOSPC, errno.EDQUOT, errno.EXDEV, errno.EOPNOTSUPP):
-            raise
-        os.ftruncate(target, 0)
-        return False
-
-
-def _copy_files(room: Room, targets: Copy) -> str:
-    """What the other process does. It says where each file is, or what failed."""
-    said = []
-    with safe.opened(safe.folder(room.folder)) as within:
-        for name, far in targets.far.items():
-            try:
-                source = safe.file_below(within, name)
-            except FileNotFoundError:
-                if name == room.base:
-                    return f"no room: {room.file} isn't there"
-                continue
-            with safe.opened(source):
-                near = targets.near[name]
-                if near is not None and _copy_near(source, near):
-                    said.append(f"near {name}")
-                    continue
-                os.lseek(source, 0, os.SEEK_SET)
-                while os.sendfile(far, source, None, _CHUNK):
-                    pass
-                said.append(f"far {name}")
-    return "\n".join(["copied", *said])
-
-
-def _child(room: Room, targets: Copy, writer: int, part: str) -> None:
-    """It never gets back to what called it."""
-    try:
-        for one in (signal.SIGTERM, signal.SIGINT, signal.SIGHUP):
-            signal.signal(one, signal.SIG_DFL)
-        processes.end_with_parent()
-        try:
-            text = _copy_files(room, targets)
-        except OSError as fault:
-            text = _failed(room, fault, part)
-        except safe.NoFile as what:
-            text = f"copy of {room.file} failed: it is {what}"
-        os.write(writer, os.fsencode(text))
+        os.pwrite(one, bytes(4096), 0)
+        return safe.clone(one, other)
     finally:
-        os._exit(0)
+        os.ftruncate(one, 0)
+        os.ftruncate(other, 0)
 
 
-def _both(room: Room, targets: Copy, part: str) -> None:
-    """Both files, by another process, whose disk may hang: nobody waits for that."""
-    reader, writer = os.pipe()
-    child = os.fork()
-    if child == 0:
-        _child(room, targets, writer, part)
-    os.close(writer)
-    ready: list[int] = []
-    try:
-        ready, _, _ = select.select([reader], [], [], HOLD)
-        text = os.fsdecode(os.read(reader, 4096)) if ready else ""
-    finally:
-        os.kill(child, signal.SIGKILL)
-        os.close(reader)
+class _Copier:
+    """The process that copies. It begins before the server is held, so it hasn't that connection:
+    one whose disk hangs is left alone, and holds nobody."""
+
+    def __init__(self, room: Room, targets: Copy, part: str) -> None:
+        self._room = room
+        self._targets = targets
+        self._part = part
+        # How many bytes it has copied.
+        self._done = mmap.mmap(-1, 8)
+        self._is_done = False
+        begins, self._begin = os.pipe()
+        self._says, says = os.pipe()
+        self._process = os.fork()
+        if self._process == 0:
+            self._run(begins, says)
+        os.close(begins)
+        os.close(says)
+
+    def __enter__(self) -> "_Copier":
+        return self
+
+    def __exit__(self, *_: object) -> None:
+        for number in (self._begin, self._says):
+            os.close(number)
+        os.kill(self._process, signal.SIGKILL)
         # One whose disk hangs is still there, and ends when it can.
-        os.waitpid(child, 0 if ready else os.WNOHANG)
-    if not ready:
-        raise Stop(f"the server was held for {HOLD:.0f} s, and goes on: the disk of {room.file} or "
-                   f"of {part} hangs, or is too slow")
-    first, _, rest = text.partition("\n")
-    if first != "copied":
-        raise Stop(text or f"copy of {room.file} failed: it was cut off")
-    for line in rest.split("\n"):
-        where, _, name = line.partition(" ")
-        targets.where[name] = where
+        os.waitpid(self._process, 0 if self._is_done else os.WNOHANG)
+
+    def copy(self, seconds: float) -> None:
+        """All of it, or a Stop; TooSlow if it needs more than these seconds."""
+        os.write(self._begin, b"x")
+        if not select.select([self._says], [], [], seconds)[0]:
+            done, size = self._copied(), server.size_of(self._room.file)
+            text = (f"the copy of {self._room.file} took more than {seconds:.0f} s for "
+                    f"{done >> 20} of {size >> 20} MB")
+            if done * _SLOW < size:
+                raise Stop(f"{text}, and is given up: its disk or that of {self._part} hangs, or "
+                           "is too slow")
+            raise TooSlow(text)
+        self._is_done = True
+        first, _, rest = os.fsdecode(os.read(self._says, 4096)).partition("\n")
+        if first != "copied":
+            raise Stop(first or f"copy of {self._room.file} failed: it was cut off")
+        for line in rest.split("\n"):
+            where, _, name = line.partition(" ")
+            self._targets.where[name] = where
+
+    def _copied(self) -> int:
+        return int(struct.unpack("=Q", self._done[:])[0])
+
+    def _run(self, begins: int, says: int) -> None:
+        """It never gets back to what called it."""
+        try:
+            for one in (signal.SIGTERM, signal.SIGINT, signal.SIGHUP):
+                signal.signal(one, signal.SIG_DFL)
+            processes.end_with_parent()
+            processes.keep_files(begins, says, *self._targets.numbers)
+            if os.read(begins, 1) != b"x":
+                return
+            try:
+                text = self._files()
+            except OSError as fault:
+                text = _failed(self._room, fault, self._part)
+            except safe.NoFile as what:
+                text = f"copy of {self._room.file} failed: it is {what}"
+            os.write(says, os.fsencode(text))
+        finally:
+            os._exit(0)
+
+    def _files(self) -> str:
+        """Where each file is, or what failed."""
+        said = []
+        with safe.opened(safe.folder(self._room.folder)) as within:
+            for name, far in self._targets.far.items():
+                try:
+                    source = safe.file_below(within, name)
+                except FileNotFoundError:
+                    if name == self._room.base:
+                        return f"no room: {self._room.file} isn't there"
+                    continue
+                with safe.opened(source):
+                    said.append(f"{self._file(source, self._targets.near[name], far)} {name}")
+        return "\n".join(["copied", *said])
+
+    def _file(self, source: int, near: int | None, far: int) -> str:
+        """A clone takes no time and no space. Beside the room there has to be space for a copy, and
+        for what others write meanwhile."""
+        if near is not None and safe.clone(source, near):
+            return "near"
+        before = self._copied()
+        if near is not None and _free(near) >= os.fstat(source).st_size + _SPARE:
+            try:
+                while count := os.copy_file_range(source, near, _CHUNK):
+                    self._add(count)
+                return "near"
+            except OSError as fault:
+                if fault.errno not in (errno.ENOSPC, errno.EDQUOT, errno.EXDEV, errno.EOPNOTSUPP):
+                    raise
+                os.ftruncate(near, 0)
+        self._done[:] = struct.pack("=Q", before)
+        os.lseek(source, 0, os.SEEK_SET)
+        while count := os.sendfile(far, source, None, _CHUNK):
+            self._add(count)
+        return "far"
+
+    def _add(self, count: int) -> None:
+        self._done[:] = struct.pack("=Q", self._copied() + count)
 
 
-def copy_stopped(room: Room, part: str) -> Copy:
-    """Of a room whose server doesn't run."""
+def _held_once(room: Room, part: str, targets: Copy) -> bool:
+    """Whether the server was held until it was copied: not if it ended meanwhile."""
+    size = server.size_of(room.file)
+    seconds = waits.of_copy(size)
+    if seconds > waits.LONGEST and not _clones(targets):
+        raise TooLong(f"{room.file} has {size >> 20} MB, which may take more than "
+                      f"{waits.LONGEST:.0f} s to copy")
+    seconds = min(seconds, waits.LONGEST)
+    with _Copier(room, targets, part) as copier:
+        say(f"requests wait while {size >> 20} MB are copied, for {seconds:.0f} s at most")
+        with held(room) as line:
+            copier.copy(seconds)
+            return line.still()
+
+
+def _fill(room: Room, part: str, targets: Copy) -> None:
+    """Of a room whose server doesn't run. One that is slow has its time."""
+    seconds = min(10 * waits.of_copy(server.size_of(room.file)), waits.STOPPED)
+    with _Copier(room, targets, part) as copier:
+        try:
+            copier.copy(seconds)
+        except TooSlow as slow:
+            raise Stop(f"the copy is given up: {slow}") from slow
+
+
+def _rested_once(room: Room, part: str, targets: Copy) -> bool:
+    """Whether no server ran until it was copied."""
+    _fill(room, part, targets)
+    return server.state(room) == "inactive"
+
+
+def copy(room: Room, part: str) -> Copy:
+    """Copies the room into the folder `part` while its server is held, or while none runs. NotHeld
+    says why that can't be."""
+    for _ in range(2):
+        targets = _open(room, part)
+        try:
+            state = server.settled(room)
+            if state not in ("active", "inactive"):
+                raise NotHeld(f"{room.unit} is '{state}'")
+            if (_held_once if state == "active" else _rested_once)(room, part, targets):
+                return targets
+        except BaseException:
+            targets.close()
+            raise
+        targets.close()
+        say(f"{room.unit} was started or stopped meanwhile, so the room is copied again")
+        time.sleep(1)
+    raise NotHeld(f"{room.unit} is started or stopped again and again")
+
+
+def copy_stopped(room: Room, part: str, tell: Callable[[str], object]) -> Copy:
+    """While the server is stopped, whatever it did before. Why it doesn't start again is told: that
+    is no fault of the copy."""
     targets = _open(room, part)
+    is_stopped, ended = False, None
     try:
-        _both(room, targets, part)
+        size, free = server.size_of(room.file), _free(targets.far[room.base])
+        if size > free:
+            raise Stop(f"copy of {room.file} failed: it has {size >> 20} MB, and the disk of "
+                       f"{part} has {free >> 20} MB free")
+        try:
+            with server.stopped(room):
+                is_stopped = True
+                try:
+                    _fill(room, part, targets)
+                except Stop as stop:
+                    ended = stop
+        except Stop as stop:
+            if not is_stopped or isinstance(stop, Interrupted):
+                raise
+            tell(str(stop))
+        if ended is not None:
+            raise ended
+        return targets
     except BaseException:
         targets.close()
         raise
-    return targets
 
 
 def keep(room: Room, copied: Copy, part: str) -> None:
@@ -178,46 +302,13 @@ def keep(room: Room, copied: Copy, part: str) -> None:
                 source = copied.near[name]
                 if where == "near" and source is not None:
                     os.lseek(source, 0, os.SEEK_SET)
-                    while data := os.read(source, 1 << 20):
-                        safe.write_all(target, data)
+                    safe.copy_all(source, target)
                 os.fsync(target)
             os.fsync(within)
     except OSError as fault:
         raise Stop(_failed(room, fault, part)) from fault
     finally:
         copied.close()
-
-
-def _once(room: Room, mark: server.Mark, part: str, targets: Copy) -> bool:
-    """Whether it was copied: not if the server was started or stopped meanwhile."""
-    state = server.settled(room)
-    if state == "inactive":
-        _both(room, targets, part)
-        return server.state(room) == "inactive"
-    if state != "active":
-        raise NotHeld
-    with server.guarded(mark.let_go, HOLD + 15):
-        process = server.hold(room, mark, part)
-        if process is None:
-            return False
-        _both(room, targets, part)
-        return process.still()
-
-
-def held(room: Room, mark: server.Mark, part: str) -> Copy:
-    """Copies the room into the folder `part` while its server is held, or while none runs."""
-    for _ in range(3):
-        targets = _open(room, part)
-        try:
-            if _once(room, mark, part, targets):
-                return targets
-        except BaseException:
-            targets.close()
-            raise
-        targets.close()
-        say(f"{room.unit} was started or stopped meanwhile, so the room is copied again")
-        time.sleep(1)
-    raise NotHeld
 
 
 def find_backups(room: Room) -> None:

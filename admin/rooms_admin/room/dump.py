@@ -4,7 +4,8 @@ from collections.abc import Iterable, Iterator
 from dataclasses import dataclass, field
 
 from ..host import safe
-from ..cli.report import Stop, line as as_line
+from . import names
+from ..cli.report import Stop, is_seen, line as as_line
 
 Pair = tuple[str, str]
 LISTS = ("dacl", "sacl")
@@ -25,7 +26,10 @@ class Object:
         return self.dacl if which == "dacl" else self.sacl
 
     def line(self) -> str:
-        words = [self.kind, self.owner, self.group, self.size, as_text(self.path)]
+        """As the program prints it, but for a path with signs that aren't seen."""
+        path = self.path.decode("utf-8", "surrogateescape")
+        words = [self.kind, self.owner, self.group, self.size,
+                 path if is_seen(path) else names.shown(self.path)]
         return " ".join(word for word in words if word)
 
 
@@ -34,13 +38,8 @@ def as_text(said: bytes) -> str:
     return as_line(said.decode("utf-8", "surrogateescape"))
 
 
-def is_inherited(entry: bytes) -> bool:
-    """By its flags: it came from the folder above."""
-    return b"I" in b"".join(entry.split(b":", 2)[1:2])
-
-
-def _word(said: bytes) -> str:
-    return said.decode("ascii", "backslashreplace")
+def _name(said: bytes) -> str:
+    return names.user_in(said.decode("ascii", "backslashreplace"), "no lists")
 
 
 def _object(line: bytes) -> Object:
@@ -49,8 +48,12 @@ def _object(line: bytes) -> Object:
     words = line.split(b" ", 3 if is_folder else 4)
     if len(words) != (4 if is_folder else 5):
         raise Stop(f"no lists: '{as_text(line)}' is no line of what rooms dump prints")
-    return Object(_word(words[0]), _word(words[1]), _word(words[2]), words[-1],
-                  "" if is_folder else _word(words[3]))
+    size = "" if is_folder else words[3].decode("ascii", "backslashreplace")
+    if not is_folder and not size.isdecimal():
+        raise Stop(f"no lists: '{as_text(line)}' is no line of what rooms dump prints")
+    path = names.path_in(words[-1].decode("utf-8", "surrogateescape"), "no lists")
+    return Object(words[0].decode(), _name(words[1]), _name(words[2]),
+                  path.encode("utf-8", "surrogateescape"), size)
 
 
 def rows(lines: Iterable[bytes]) -> Iterator[Object | Pair]:
@@ -71,7 +74,7 @@ def rows(lines: Iterable[bytes]) -> Iterator[Object | Pair]:
             if line.startswith(b"member "):
                 words = line.split(b" ")
                 if len(words) == 3:
-                    yield _word(words[1]), _word(words[2])
+                    yield _name(words[1]), _name(words[2])
             else:
                 at = _object(line)
         elif line:
@@ -84,15 +87,9 @@ def parsed(lines: Iterable[bytes]) -> Iterator[Object]:
     return (one for one in rows(lines) if isinstance(one, Object))
 
 
-def objects(path: str) -> Iterator[Object]:
-    with safe.own_file(path) as source:
-        yield from parsed(source)
-
-
-def members(path: str) -> set[Pair]:
-    with safe.own_file(path) as source:
-        return {one for one in rows(line for line in source if line.startswith(b"member "))
-                if isinstance(one, tuple)}
+def members(lines: Iterable[bytes]) -> set[Pair]:
+    return {one for one in rows(line for line in lines if line.startswith(b"member "))
+            if isinstance(one, tuple)}
 
 
 def has(path: str, wanted: bytes) -> bool:
@@ -117,7 +114,7 @@ def whole(lines: Iterable[bytes], what: str) -> Iterator[Object | Pair]:
             break
         if isinstance(one, Object) and not all(
                 b"".join(one.list_of(which)[:1]).startswith(b"list:") for which in LISTS):
-            raise Stop(f"no lists: {what} hasn't both lists of '{as_text(one.path)}'")
+            raise Stop(f"no lists: {what} hasn't both lists of {names.shown(one.path)}")
         before = one
         yield one
     if before is None:

@@ -12,6 +12,7 @@ import urllib.error
 import urllib.parse
 import urllib.request
 from dataclasses import dataclass
+from typing import Any
 
 from ..cli import report, words
 from ..host.at_socket import AtSocket
@@ -46,7 +47,8 @@ class _SocketHandler(urllib.request.HTTPHandler):
     def http_open(self, req: urllib.request.Request) -> http.client.HTTPResponse:
         def connected(_host: str, timeout: float = 60, **_given: object) -> AtSocket:
             return AtSocket(self.path, timeout)
-        return self.do_open(connected, req)  # type: ignore[arg-type]
+        as_urllib_has_it: Any = connected
+        return self.do_open(as_urllib_has_it, req)
 
 
 class _AsIs(urllib.request.HTTPErrorProcessor):
@@ -70,8 +72,8 @@ class Caller:
 
 def caller_arguments(parser: words.Parser) -> None:
     """Of verbs that ask a room as its users do."""
-    words.room(parser, "first", "the room, by its name or its settings on its own machine, or by "
-               "its address, as https://rooms.example; office without it")
+    words.room(parser, "the room, by its name or its settings on its own machine, or by its "
+               "address, as https://rooms.example; office without it")
     words.option(parser, "--user", "NAME", "ask for the password of this user")
     words.option(parser, "--as", "NAME", "ask in the name of this user, as root on the room's own "
                  "machine", dest="as_user")
@@ -213,16 +215,19 @@ class Client:
             raise Refused(f"no log: {self.log} can't be written: {fault.strerror}") from fault
 
 
+def is_here(word: str) -> bool:
+    """Whether a room of this machine is meant, by its name or its settings, and not an address."""
+    return "://" not in word and os.path.isfile(settings.file_of(word))
+
+
 def client(word: str, caller: Caller, next_step: str, ends_by_500: bool) -> Client:
     """Of a room by its address; or, on its own machine, by its name or its settings."""
-    if "://" in word or not os.path.isfile(settings.file_of(word)):
+    if not is_here(word):
         return Client(word or "office", caller, next_step, ends_by_500)
     if caller.user or caller.config:
         raise Refused(f"bad arguments: nobody asks for a password at the room {word} itself: --as "
                       "says who asks, or take its address")
     room = settings.room(word)
-    if not room.address:
-        raise Refused(f"bad settings: PORT in {room.conf} is empty, and the room can't be asked")
     return Client(room.address, caller, next_step, ends_by_500, room.listens)
 
 
@@ -266,4 +271,4 @@ def argument(text: str) -> bytes:
 
 
 __all__ = ["Caller", "Client", "Reply", "argument", "caller_arguments", "caller_of", "client",
-           "raise_limits"]
+           "is_here", "raise_limits"]

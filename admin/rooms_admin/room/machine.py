@@ -23,6 +23,8 @@ OWN = re.compile(
     rf"|etc/nginx/({passwords.NAME}|sites-available/rooms(-tls)?"
     r"|sites-enabled/rooms|snippets/rooms-[a-z]+\.conf|rooms\.d/[^/]+|conf\.d/rooms[^/]*\.conf)"
     r"|etc/systemd/system/rooms[^/]*\.d/[^/]+\.conf|etc/letsencrypt/.+", re.ASCII | re.DOTALL)
+# Units that may be enabled again.
+ENABLED = re.compile(r"rooms[A-Za-z0-9:_.@-]*\.(service|socket|timer|path|target)", re.ASCII)
 # What an editor, dpkg, an install or a restore leaves beside them.
 LEFT = re.compile(r"(\.(old|new|swp|dpkg-[a-z]+|rooms-restore)|~)$", re.ASCII)
 
@@ -140,7 +142,7 @@ def _about(version: str) -> str:
 def _enabled() -> list[str]:
     return sorted({name for at, folders, names in os.walk(f"{ROOT}/etc/systemd/system")
                    if at.endswith(".wants") for name in names + folders
-                   if name.startswith("rooms")})
+                   if ENABLED.fullmatch(name)})
 
 
 def save(target: str, version: str, added: list[str] | None = None,

@@ -1,30 +1,31 @@
 """Members of a room's groups: how they are written, and how the program reads and changes them
 while no server runs."""
 import os
-import re
 
 from ..cli.report import Stop
-from . import program
+from . import names, program
 from .dump import Pair
 from .settings import Room
+
+
+_BAD = "the groups can't be read"
 
 
 def of_text(text: str) -> set[Pair]:
     """Of lines group,user below a line with these words."""
     rows = (line.split(",") for line in text.splitlines()[1:])
-    return {(row[0], row[1]) for row in rows if len(row) == 2}
+    return {(names.user_in(row[0], _BAD), names.user_in(row[1], _BAD)) for row in rows
+            if len(row) == 2}
 
 
-def as_text(members: set[Pair], after: int | None = None) -> str:
-    """After which backup they were known may stand in the first line."""
-    known = "" if after is None else f" after {after}"
-    return f"group,user{known}\n" + "".join(f"{group},{user}\n"
+def as_text(members: set[Pair], about: str = "") -> str:
+    """What is known about them may stand in the first line."""
+    return f"group,user{about}\n" + "".join(f"{group},{user}\n"
                                             for group, user in sorted(members))
 
 
-def after(text: str) -> int | None:
-    found = re.match(r"group,user after (\d{1,9})\n", text, re.ASCII)
-    return int(found[1]) if found else None
+def about(text: str) -> str:
+    return text.partition("\n")[0].removeprefix("group,user")
 
 
 def _done(what: str, done: tuple[int, bytes, str]) -> bytes:

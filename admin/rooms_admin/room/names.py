@@ -2,15 +2,34 @@
 import re
 import urllib.parse
 
+from ..cli.report import Stop, is_seen
+
 _USER = re.compile(r"[A-Za-z0-9._+$\\-]{1,64}(@[A-Za-z0-9.-]{1,64})?", re.ASCII)
 _ROOM = re.compile(r"[a-z0-9]([a-z0-9-]{0,30}[a-z0-9])?", re.ASCII)
 _HOST = re.compile(r"([a-z0-9]([a-z0-9-]*[a-z0-9])?\.)*[a-z0-9]([a-z0-9-]*[a-z0-9])?", re.ASCII)
 _PLAIN = re.compile(r"[\w@%+=:,./-]+")
+# The letters of rights.
+RIGHTS = frozenset("rwanNxDtThHdcCoy")
 
 
 def is_user(text: str) -> bool:
     """A user's or a group's name."""
     return _USER.fullmatch(text) is not None
+
+
+def user_in(text: str, what: str) -> str:
+    """A user's or a group's name, as the program prints it. A copy of a room may be anybody's, and
+    have it print anything: what is no name gets no further."""
+    if not is_user(text):
+        raise Stop(f"{what}: {text[:80]!a} can't be a user or a group of a room")
+    return text
+
+
+def path_in(text: str, what: str) -> str:
+    """The same of a path. What a request refuses in it may come of moves."""
+    if not is_path(text.encode("utf-8", "surrogateescape")):
+        raise Stop(f"{what}: {text[:80]!a} can't be a path of a room")
+    return text
 
 
 def is_room(text: str) -> bool:
@@ -58,7 +77,7 @@ def shown(name: bytes) -> str:
         text = name.decode("utf-8")
     except UnicodeDecodeError:
         text = "\0"
-    if text and text.isprintable():
+    if text and is_seen(text):
         return text if _PLAIN.fullmatch(text) else re.sub(r"([^\w@%+=:,./-])", r"\\\1", text)
     return "$'" + "".join(_SIGNS.get(b, chr(b) if 32 <= b < 127 else f"\\{b:03o}")
                           for b in name) + "'"

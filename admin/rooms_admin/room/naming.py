@@ -7,7 +7,8 @@ from collections.abc import Iterable, Iterator
 from dataclasses import dataclass, field
 
 from . import end_dates
-from .dump import LISTS, Object, Pair, as_text, is_inherited
+from .dump import LISTS, Object, Pair, as_text
+from .entries import entry, is_inherited
 
 
 def above(path: bytes) -> bytes:
@@ -71,7 +72,7 @@ class _User:
         if not self.forms.search(line):
             return False
         text = line.decode("ascii", "replace")
-        found = end_dates.entry(text)
+        found = entry(text)
         if found is None or found.of(self.name, self.is_group):
             return found is not None
         date = end_dates.ending(text)

@@ -1,29 +1,25 @@
 """nginx's files of passwords of a room: bcrypt, by htpasswd, which gets a password on standard
-input alone. They are root's in /etc/nginx; or, where users change their own, those of the user
-rooms-keeper in a folder of its own, and then nothing there is trusted: no link is followed, and
-what is written has this owner and this mode again. They have a lock of their own, which nobody
-holds for longer than it takes to write them: so whatever else is at work, somebody can be shut
-out."""
+input alone. They are root's: in /etc/nginx; or, where users change their own, in a folder of their
+own, where no link is followed, and what is written has this owner and this mode again. They have a
+lock of their own, which nobody holds for longer than it takes to write them: so whatever else is at
+work, somebody can be shut out."""
 import getpass
 import os
-import pwd
 import re
 import secrets
 import stat
 import sys
 from collections.abc import Iterator
-from contextlib import contextmanager
+from contextlib import AbstractContextManager, contextmanager
 from dataclasses import dataclass
 
 from ..cli.report import Refused, Stop
 from ..host import commands, locks, safe
-from . import published
+from . import password_rules, published
 
 COST = "10"
 # Of those that are made here; none of these letters looks like another one.
 _LETTERS, _LONG = "abcdefghijkmnpqrstuvwxyz23456789", 16
-# What bcrypt looks at; the rest would not count.
-LONGEST = 72
 # A line that no password fits, of the same cost.
 NOBODYS = b"$2y$10$" + b"." * 53
 KEPT = "/var/lib/rooms-passwords"
@@ -59,8 +55,9 @@ def ask(user: str) -> str:
         again = getpass.getpass("The same password again: ")
     if given != again:
         raise Refused("bad password: the two differ")
-    if not given or len(given.encode()) > LONGEST or not given.isprintable():
-        raise Refused(f"bad password: it has 1 to {LONGEST} bytes, and no control characters")
+    if not password_rules.can_be_given(given):
+        raise Refused(f"bad password: it has 1 to {password_rules.LONGEST} bytes, no control "
+                      "characters, and no letter in two parts")
     return given
 
 
@@ -78,6 +75,11 @@ def hashed(password: str) -> bytes:
 
 def _base(name: str) -> str:
     return "rooms" if name == "office" else f"rooms-{name}"
+
+
+def room_of(file: str) -> str:
+    """The name of the room whose file it is."""
+    return os.path.basename(file).removesuffix(".htpasswd").removeprefix("rooms")[1:] or "office"
 
 
 def kept_of(name: str) -> str:
@@ -115,6 +117,14 @@ def password_files(name: str) -> list[str]:
     named = f"{published.ROOT}/etc/nginx/rooms-{name}.htpasswd"
     others = [named] if name == "office" and os.path.lexists(named) else []
     return [published.ROOT + file_of(published.ROOT, name), *others]
+
+
+def _other_of(name: str) -> str:
+    """While `setup` moves a room's file there are two, and which one stays is seen when nginx has
+    taken its site. Whoever is shut out meanwhile is in neither."""
+    both = {kept_of(name), old_of(name)} - {file_of(published.ROOT, name)}
+    place = published.ROOT + both.pop()
+    return place if os.path.lexists(place) and not os.path.islink(place) else ""
 
 
 def first_of(file: str) -> str:
@@ -222,18 +232,8 @@ def _put(file: str, data: bytes) -> None:
 
 
 def put_kept(file: str, data: bytes) -> None:
-    """The keeper makes files of its own, and of its folder's group, which is nginx's."""
-    safe.put_file(file, data, 0o640, published.reader(), keeper())
-
-
-def keeper() -> int:
-    """Its number, or -1 where no file can be given to it."""
-    if os.geteuid() != 0:
-        return -1
-    try:
-        return pwd.getpwnam(KEEPER).pw_uid
-    except KeyError:
-        return -1
+    """Root's, which nginx reads."""
+    safe.put_file(file, data, 0o640, published.reader(), 0 if os.geteuid() == 0 else -1)
 
 
 def change(room: str, lines: dict[str, bytes | None], keeps: bool = False,
@@ -241,15 +241,45 @@ def change(room: str, lines: dict[str, bytes | None], keeps: bool = False,
     """Gives each of these users of the room of this name what htpasswd made, or takes a password
     away. Whoever has one keeps it if `keeps`. Returns who had one."""
     had: set[str] = set()
-    with locks.lock(f"{room}.passwords", 10):
+    with moving(room):
         for file in password_files(room):
-            if not is_kept(file):
-                # Root alone writes there.
-                had |= _change(file, lines, keeps)
-                continue
-            with held(file, 10):
-                had |= _change_kept(file, lines, keeps, is_first)
+            had |= _change_one(file, lines, keeps, is_first)
+        if other := _other_of(room):
+            _change_one(other, lines, keeps, is_first and is_kept(other))
     return had
+
+
+def moving(room: str) -> AbstractContextManager[None]:
+    """One change of the files of a room at a time, and none while they are copied."""
+    return locks.lock(f"{room}.passwords", 10)
+
+
+def carry(source: str, target: str, before: bytes) -> None:
+    """What was changed of a file since it was copied, such as by a user, gets to the copy."""
+    then, now = _by_user(before), _by_user(read(source) or b"")
+    changed = {user: now.get(user) for user in then.keys() | now.keys()
+               if then.get(user) != now.get(user)}
+    if changed:
+        put_lines(target, changed)
+
+
+def _by_user(data: bytes) -> dict[str, bytes]:
+    """Of two lines of one name nginx takes the first."""
+    found: dict[str, bytes] = {}
+    for row in data.splitlines():
+        name, colon, text = row.partition(b":")
+        if colon:
+            found.setdefault(os.fsdecode(name), text)
+    return found
+
+
+def _change_one(file: str, lines: dict[str, bytes | None], keeps: bool, is_first: bool
+                ) -> set[str]:
+    if not is_kept(file):
+        # Root alone writes there.
+        return _change(file, lines, keeps)
+    with held(file, 10):
+        return _change_kept(file, lines, keeps, is_first)
 
 
 def _change(file: str, lines: dict[str, bytes | None], keeps: bool) -> set[str]:

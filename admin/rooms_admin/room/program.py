@@ -4,7 +4,6 @@ import os
 import pwd
 import resource
 import select
-import signal
 import tempfile
 from collections.abc import Callable, Iterator
 from contextlib import contextmanager
@@ -112,13 +111,38 @@ def run(room: Room, words: list[str | bytes], stdin: bytes = b"", as_owner: bool
         try:
             out, err = child.communicate(stdin)
         except BaseException:
-            child.kill()
+            _end(child, who)
             raise
     return child.returncode, out or b"", err.decode(errors="backslashreplace").strip()
 
 
+def _end(child: commands.Child, who: commands.Who | None) -> None:
+    """It is waited for by whoever has it."""
+    if child.poll() is None:
+        processes.end(child.pid, who.user if who else os.geteuid())
+
+
 # What a pipe may hold when its writer ends.
 _PIPE = 1 << 20
+# Bytes that the program may write of a copy, beside as much as some times the copy: a room has far
+# less to say, and what a copy may have it say ends before a disk or this process's memory does.
+MOST = 1 << 30
+
+
+class _TooMuch(Exception):
+    """It writes without end."""
+
+
+def _bounded(take: Callable[[bytes], object], most: int) -> Callable[[bytes], None]:
+    left = most
+
+    def taking(part: bytes) -> None:
+        nonlocal left
+        left -= len(part)
+        if left < 0:
+            raise _TooMuch
+        take(part)
+    return taking
 
 
 def _pump(child: commands.Child, take: Callable[[bytes], object]) -> bytes:
@@ -156,8 +180,7 @@ def _end_left(user: int) -> None:
         with open(f"/proc/self/task/{os.getpid()}/children", encoding="ascii") as source:
             children = [int(number) for number in source.read().split()]
         for process in children:
-            if os.stat(f"/proc/{process}").st_uid == user:
-                os.kill(process, signal.SIGKILL)
+            if processes.end(process, user):
                 os.waitpid(process, 0)
                 # What it had begun itself is a child now.
                 left = True
@@ -168,15 +191,18 @@ def on_copy(room: Room, copied: str, words: list[str | bytes], megabytes: int = 
     """A subcommand on a private copy, as the user of copies: its first word, the copy, the others.
     The copy's folder is entered before. What is written goes to a file, or is returned."""
     user, _ = user_of_copies(room)
+    who = as_user_of_copies(room)
     processes.adopt_orphans()
     parts: list[bytes] = []
+    most = MOST + 8 * os.path.getsize(copied)
     take: Callable[[bytes], object] = parts.append
     if into is not None:
         take = functools.partial(safe.write_all, into)
+    take = _bounded(take, most)
     with _first_to_go():
         child = commands.started(
             [room.program, words[0], f"./{os.path.basename(copied)}", *words[1:]],
-            limits(megabytes), as_user_of_copies(room), cwd=os.path.dirname(copied))
+            limits(megabytes), who, cwd=os.path.dirname(copied))
     with child:
         try:
             assert child.stdin
@@ -186,8 +212,11 @@ def on_copy(room: Room, copied: str, words: list[str | bytes], megabytes: int = 
             except BrokenPipeError:
                 pass
             said = _pump(child, take)
+        except _TooMuch:
+            _end(child, who)
+            parts, said = [], f"it wrote more than {most >> 20} MB".encode()
         except BaseException:
-            child.kill()
+            _end(child, who)
             raise
     _end_left(user)
     return child.returncode, b"".join(parts), said.decode(errors="backslashreplace").strip()

@@ -20,19 +20,13 @@ _EXCHANGE = 2
 
 def has_name(room: Room) -> bool:
     """Whether nginx can know the room, which it does by a name."""
-    return names.is_room(os.path.basename(room.conf).removesuffix(".conf"))
+    return names.is_room(room.name)
 
 
 def name_of(room: Room) -> str:
-    name = os.path.basename(room.conf).removesuffix(".conf")
     if not has_name(room):
-        raise Refused(f"bad name: '{name}', of {room.conf}, can't be the name of a room")
-    return name
-
-
-def beside(room: Room, end: str) -> str:
-    """A file of root's beside the room's settings, such as office.names."""
-    return room.conf.removesuffix(".conf") + end
+        raise Refused(f"bad name: '{room.name}', of {room.conf}, can't be the name of a room")
+    return room.name
 
 
 def reader() -> int:
@@ -110,6 +104,8 @@ def put_folder(room: Room, name: str, files: dict[str, bytes]) -> None:
 
 
 def _new_file(at: int, name: str, data: bytes) -> None:
+    if "/" in name:
+        raise ValueError(f"'{name}' isn't the name of a file")
     number = os.open(name, os.O_WRONLY | os.O_CREAT | os.O_EXCL | os.O_NOFOLLOW | os.O_CLOEXEC,
                      0o600, dir_fd=at)
     with safe.opened(number):

@@ -3,12 +3,10 @@ only finds the entry for it, as docs/access-lists.md says how a list decides."""
 from collections.abc import Iterable
 from dataclasses import dataclass
 
-from . import end_dates
 from .dump import Object, as_text
+from .entries import Entry, entry
 from .naming import above
 from .review import ANONYMOUS
-
-_SPECIAL = ("OWNER@", "GROUP@", "EVERYONE@", ANONYMOUS, "AUTHENTICATED@")
 
 
 @dataclass(frozen=True)
@@ -25,7 +23,7 @@ class Reasons:
     def __init__(self, objects: dict[bytes, Object], groups: dict[str, set[str]]) -> None:
         self.objects = objects
         self.groups = groups
-        self._read: dict[bytes, list[tuple[end_dates.Entry, Reason]]] = {}
+        self._read: dict[bytes, list[tuple[Entry, Reason]]] = {}
 
     def of(self, path: bytes, user: str, letters: Iterable[str], remove: bool) -> list[Reason]:
         """Each once. Two lists say whether somebody may remove an object, one after the other."""
@@ -43,36 +41,36 @@ class Reasons:
     def _allowing(self, path: bytes, user: str, left: set[str]) -> dict[str, Reason]:
         """The first entry with a letter rules it."""
         found: dict[str, Reason] = {}
-        for entry, reason in self._entries(path):
-            ruled = left.intersection(entry.mask)
-            if ruled and self._matches(entry, reason, user):
+        for it, reason in self._entries(path):
+            ruled = left.intersection(it.mask)
+            if ruled and self._matches(it, reason, user):
                 left = left - ruled
-                if entry.type == "A":
+                if it.type == "A":
                     found.update(dict.fromkeys(ruled, reason))
                 if not left:
                     break
         return found
 
-    def _entries(self, path: bytes) -> list[tuple[end_dates.Entry, Reason]]:
+    def _entries(self, path: bytes) -> list[tuple[Entry, Reason]]:
         """Those of its dacl that are in force."""
         if path not in self._read:
             one = self.objects.get(path)
             lines = [as_text(line) for line in one.dacl[1:]] if one else []
-            parts = [(end_dates.entry(line), line) for line in lines]
+            parts = [(entry(line), line) for line in lines]
             self._read[path] = [(it, Reason(path, line, self._group_of(it, one)))
                                 for it, line in parts if it and one and "i" not in it.flags]
         return self._read[path]
 
     @staticmethod
-    def _group_of(entry: end_dates.Entry, one: Object) -> str:
-        if entry.who == "GROUP@":
+    def _group_of(it: Entry, one: Object) -> str:
+        if it.who == "GROUP@":
             return one.group
-        return entry.who if "g" in entry.flags and entry.who not in _SPECIAL else ""
+        return it.group
 
-    def _matches(self, entry: end_dates.Entry, reason: Reason, user: str) -> bool:
+    def _matches(self, it: Entry, reason: Reason, user: str) -> bool:
         if reason.group:
             return user in self.groups.get(reason.group, ())
-        if entry.who in ("EVERYONE@", ANONYMOUS, "AUTHENTICATED@"):
-            return entry.who == "EVERYONE@" or (user == ANONYMOUS) == (entry.who == ANONYMOUS)
+        if it.who in ("EVERYONE@", ANONYMOUS, "AUTHENTICATED@"):
+            return it.who == "EVERYONE@" or (user == ANONYMOUS) == (it.who == ANONYMOUS)
         owner = self.objects[reason.path].owner
-        return user == (owner if entry.who == "OWNER@" else entry.who)
+        return user == (owner if it.who == "OWNER@" else it.who)

@@ -5,10 +5,11 @@ from dataclasses import dataclass, field
 from typing import NamedTuple
 
 from ..cli.report import Stop
-from . import texts
+from . import names, texts
 
 OTHERS, ANONYMOUS = "*", "ANONYMOUS@"
 _HEADER = "path,kind,user,rights,remove"
+_BAD = "the review can't be read"
 
 
 class Row(NamedTuple):
@@ -22,9 +23,13 @@ class Row(NamedTuple):
 def rows(lines: Iterable[str]) -> Iterator[Row]:
     """A folder's come before those of what is in it."""
     for path, kind, user, rights, remove in texts.fields(lines, _HEADER, "the review"):
-        if kind not in ("folder", "document") or remove not in ("yes", "no"):
-            raise Stop(f"the review can't be read: it says '{kind}' and '{remove}' of {user}")
-        yield Row(path, kind, user, rights, remove == "yes")
+        if (kind not in ("folder", "document") or remove not in ("yes", "no")
+                or not set(rights) <= names.RIGHTS):
+            raise Stop(f"the review can't be read: it says {kind[:80]!a}, {rights[:80]!a} and "
+                       f"{remove[:80]!a}")
+        if user not in (OTHERS, ANONYMOUS):
+            names.user_in(user, _BAD)
+        yield Row(names.path_in(path, _BAD), kind, user, rights, remove == "yes")
 
 
 def above(path: str) -> str:

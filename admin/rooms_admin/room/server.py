@@ -1,6 +1,5 @@
-"""A room's server: its state, holding it, letting it go, and what has to be undone after a kill."""
+"""A room's server: its state, stopping it for a while, and what has to be done after a kill."""
 import os
-import select
 import signal
 import time
 from collections.abc import Callable, Iterator
@@ -8,7 +7,7 @@ from contextlib import contextmanager
 
 from ..cli import report
 from ..cli.report import Stop, say
-from ..host import commands, locks, processes
+from ..host import commands, locks
 from .settings import Room
 
 
@@ -64,123 +63,27 @@ def size_of(file: str) -> int:
     return sum(os.path.getsize(one) for one in (file, file + "-wal") if os.path.exists(one))
 
 
-def limit_of(room: Room) -> int | None:
-    """How many megabytes of its file a room may have in use. A server that starts needs what is in
-    use, 128 MB of pages and some more; twice that and 256 MB is what its unit should allow."""
-    if room.limit == "none":
-        return None
-    if room.limit:
-        return int(room.limit)
-    status, most = systemctl("show", "-p", "MemoryMax", "--value", room.unit)
-    if status != 0:
-        raise Stop(f"systemctl doesn't say what MemoryMax of {room.unit} is")
-    return max(1, ((int(most) >> 20) - 256) // 2) if most.isascii() and most.isdigit() else None
-
-
-class Mark:
-    """A file in /run: the folder of the copy, and what has to be undone if the verb is killed, such
-    as 'held PROCESS BEGAN'. A restart of the machine removes it, and starts the server too."""
-
-    def __init__(self, place: str) -> None:
-        self.place = place
-
-    def write(self, part: str, owed: str) -> None:
-        try:
-            with open(self.place, "w", encoding="utf-8", errors="surrogateescape") as mark:
-                mark.write(f"{part}\n{owed}\n")
-        except OSError as fault:
-            raise Stop(f"no mark: {self.place} can't be written: {fault.strerror}") from fault
-
-    def read(self) -> tuple[str, str] | None:
-        try:
-            with open(self.place, encoding="utf-8", errors="surrogateescape") as mark:
-                part, _, owed = mark.read().partition("\n")
-        except OSError:
-            return None
-        return part, owed.rstrip("\n")
-
-    def let_go(self) -> bool:
-        """Whether a server was held, by this run or by one that was killed. It goes on."""
-        how, process, since = ((self.read() or ("", ""))[1] + "  ").split(" ")[:3]
-        if how != "held":
-            return False
-        if process.isdigit():
-            send(int(process), since, signal.SIGCONT)
-        return True
-
-
-def send(process: int, since: str, number: signal.Signals) -> bool:
-    """A signal to this process, and to no later one of its number."""
-    try:
-        handle = os.pidfd_open(process)
-    except OSError:
-        return False
-    try:
-        if processes.began(process) != since:
-            return False
-        signal.pidfd_send_signal(handle, number)
-        return True
-    except ProcessLookupError:
-        return False
-    finally:
-        os.close(handle)
-
-
-class Held:
-    """A server's process that is held (SIGSTOP): requests wait, and nobody is turned away. It is
-    between two calls of the system, so its files are what a kill at that moment would leave."""
-
-    def __init__(self, process: int, since: str) -> None:
-        self.process = process
-        self.since = since
-
-    def still(self) -> bool:
-        """One that was let go, or another one in its place, may have written."""
-        return processes.began(self.process) == self.since and processes.is_held(self.process)
-
-
-def hold(room: Room, mark: Mark, part: str) -> Held | None:
-    """None if there is no process that has the room open, as while it starts."""
-    _, text = systemctl("show", "-p", "MainPID", "--value", room.unit)
-    process = int(text) if text.isascii() and text.isdigit() else 0
-    found = Held(process, processes.began(process))
-    if not found.since or not has_open(process, room.file):
-        return None
-    mark.write(part, f"held {process} {found.since}")
-    if not send(process, found.since, signal.SIGSTOP):
-        return None
-    for _ in range(600):
-        # A call of the system that it is in ends first.
-        if processes.is_held(process):
-            return found
-        if processes.began(process) != found.since:
-            return None
-        time.sleep(0.02)
-    return None
-
-
 class Guard:
-    """Another process, for as long as a server is held or stopped: if this one is killed, or takes
-    more than `seconds`, it does the work in its place. Until then it has this one's locks too, so
-    nobody else begins. A terminal's keys don't reach it."""
+    """Another process, for as long as a server is stopped: if this one is killed, it does the work
+    in its place. Until then it has this one's locks too, so nobody else begins. A terminal's keys
+    don't reach it."""
 
-    def __init__(self, work: Callable[[], object], seconds: float | None = None) -> None:
+    def __init__(self, work: Callable[[], object]) -> None:
         reader, self.writer = os.pipe()
         with report.signals_wait():
             self.process = os.fork()
             if self.process == 0:
-                self._wait(reader, work, seconds)
+                self._wait(reader, work)
         os.close(reader)
 
-    def _wait(self, reader: int, work: Callable[[], object], seconds: float | None) -> None:
+    def _wait(self, reader: int, work: Callable[[], object]) -> None:
         """It never gets back to what called it."""
         try:
             os.setsid()
             report.ignore_signals()
             with report.signals_wait(signal.SIG_UNBLOCK):
                 os.close(self.writer)
-                ready, _, _ = select.select([reader], [], [], seconds)
-                if not ready or os.read(reader, 1) == b"":
+                if os.read(reader, 1) == b"":
                     work()
         except (Stop, OSError) as fault:
             say(str(fault))
@@ -197,11 +100,11 @@ class Guard:
 
 
 @contextmanager
-def guarded(work: Callable[[], object], seconds: float | None = None) -> Iterator[None]:
+def guarded(work: Callable[[], object]) -> Iterator[None]:
     """The work is done at the end, whatever happens meanwhile. Until then Ctrl-Z puts nothing
     aside, neither this process nor what it has begun."""
     before = signal.pthread_sigmask(signal.SIG_BLOCK, [signal.SIGTSTP])
-    guard = Guard(work, seconds)
+    guard = Guard(work)
     try:
         yield
     finally:
@@ -214,18 +117,30 @@ def guarded(work: Callable[[], object], seconds: float | None = None) -> Iterato
 
 
 def left_at_rest(room: Room) -> str:
-    """The mark of a server that was stopped while groups are changed. It stays where all processes
-    of a run are killed, and whoever changes groups next starts the server."""
+    """The mark of a server that was stopped for a while. It stays where all processes of a run are
+    killed, and whoever changes groups or copies the room next starts the server."""
     return os.path.join(locks.RUN, f"rooms-directory.{room.unit}")
+
+
+def was_left(room: Room) -> bool:
+    """Whether whoever stopped it was killed. Only for whoever has the room's lock."""
+    return os.path.exists(left_at_rest(room))
 
 
 @contextmanager
 def at_rest(room: Room) -> Iterator[None]:
     """The server is stopped if it runs, and started again whatever happens."""
-    mark = left_at_rest(room)
-    if settled(room) != "active" and not os.path.exists(mark):
+    if settled(room) != "active" and not was_left(room):
         yield
         return
+    with stopped(room):
+        yield
+
+
+@contextmanager
+def stopped(room: Room) -> Iterator[None]:
+    """The same of one that needs not run, as while it is started over and over."""
+    mark = left_at_rest(room)
     try:
         with open(mark, "w", encoding="ascii"):
             pass

@@ -44,11 +44,25 @@ def lines(path: str) -> list[tuple[int, str]]:
     return [(number, line) for number, line in found if line and not line.startswith("#")]
 
 
-def values(path: str, known: dict[str, str]) -> dict[str, str]:
-    """The last value of each name; `known` has the names, and the values of those that lack."""
+def _look_at_units(path: str) -> None:
+    """systemd reads a room's file for its units by rules of its own: a quote goes on to the next
+    one, and a backslash at the end joins the next line."""
+    for number, line in lines(path):
+        value = line.partition("=")[2]
+        quote = value[:1]
+        if line.endswith("\\") or (quote in ("'", '"') and value.find(quote, 1) < 0):
+            raise Refused(f"bad settings: {path}, line {number} goes on in the next one for "
+                          "systemd: no backslash at the end, and no quote at the beginning alone")
+
+
+def values(path: str, known: dict[str, str], gone: Iterable[str] = ()) -> dict[str, str]:
+    """The last value of each name; `known` has the names, and the values of those that lack. Those
+    of `gone` say nothing any more."""
     found = dict(known)
     for number, line in lines(path):
         name, equals, value = line.partition("=")
+        if equals and name in gone:
+            continue
         if not equals or name not in known:
             raise Refused(f"bad settings: {path}, line {number} has none of "
                           + " ".join(f"{one}=" for one in known))
@@ -118,6 +132,15 @@ def _is_absolute(text: str) -> bool:
     return text.startswith("/")
 
 
+def _is_of_units(text: str) -> bool:
+    """One of the same bytes for systemd, which takes blanks at the end off, and backslashes."""
+    return _is_absolute(text) and text == text.rstrip() and "\\" not in text
+
+
+def is_port(text: str) -> bool:
+    return matches(r"[1-9][0-9]{0,4}", text) and int(text) <= 65535
+
+
 def _is_folder_of_room(text: str) -> bool:
     return text in ("", "/") or text.startswith("/") and not text.endswith("/")
 
@@ -125,14 +148,12 @@ def _is_folder_of_room(text: str) -> bool:
 @dataclass(kw_only=True)
 class Reached:
     """How a room is reached: what nginx's file has to know of it."""
-    port: str = setting("PORT", r"([1-9][0-9]{0,4})?", "a port")
+    port: str = setting("PORT", lambda text: not text or is_port(text), "a port")
     title: str = setting("TITLE")
     passwords: str = setting("PASSWORDS", r"(file|directory|session)?",
                              "file, directory or session", reads=lambda text: text or "file")
     host: str = setting("HOST", lambda text: not text or is_host(text), "a host's name")
     behind: bool = yes("BEHIND")
-    socket: bool = yes("SOCKET")
-    door: bool = yes("DOOR")
     drive: bool = yes("DRIVE")
     own_passwords: bool = setting("OWN_PASSWORDS", r"yes|no", "yes or no", "yes",
                                   lambda text: text == "yes")
@@ -142,17 +163,43 @@ class Reached:
 
     @property
     def shows_nights(self) -> bool:
-        """Whether its users see earlier nights. Who judges that asks at a socket alone."""
-        return self.socket and self.earlier != "no"
+        """Whether its users see earlier nights."""
+        return self.earlier != "no"
+
+
+def name_of(path: str) -> str:
+    """A room's name is that of its settings, NAME.conf or NAME.on: its units, its folder of
+    backups, what nginx shows of it go by that."""
+    base = os.path.basename(path)
+    name = base.removesuffix(".conf").removesuffix(".on")
+    return name if name.strip(".") else "room"
+
+
+def nightly_unit(name: str) -> str:
+    """What makes a backup of a room now."""
+    return f"rooms-nightly@{name}"
 
 
 @dataclass(kw_only=True)
 class Kept(Reached):
     """What whoever doesn't get to a room itself knows of it and its backups."""
     conf: str
-    file: str = setting("FILE", _is_absolute, "an absolute path")
+    file: str = setting("FILE", _is_of_units, "an absolute path, with no blank at the end and no "
+                        "backslash")
     backups: str = setting("BACKUPS", _is_absolute, "an absolute path")
     program: str = setting("PROGRAM", _is_absolute, "an absolute path", PROGRAM)
+
+    @property
+    def name(self) -> str:
+        return name_of(self.conf)
+
+    @property
+    def nightly(self) -> str:
+        return nightly_unit(self.name)
+
+    def beside(self, end: str) -> str:
+        """A file of root's beside the room's settings, such as office.names."""
+        return os.path.join(os.path.dirname(self.conf), self.name + end)
 
 
 @dataclass(kw_only=True)
@@ -178,27 +225,22 @@ class Room(Kept):
         self.folder, self.base = os.path.split(self.file)
 
     @property
-    def name(self) -> str:
-        return self.unit.partition("@")[2] or self.unit
-
-    @property
     def listens(self) -> str:
-        """The path of its server's socket, where it has one in the place of a port: by SOCKET=yes,
-        or by a unit of somebody's own. Its folder is made anew at each start, so none of before is
-        there."""
-        place = os.path.join(locks.RUN, "rooms", self.name, "socket")
-        return place if self.socket or os.path.exists(place) else ""
+        """The path of its server's socket; nothing where the server of a unit of somebody's own
+        has a port in its place. It is in a folder of the unit's, which is made anew at each start,
+        so none of before is there."""
+        instance = self.unit.partition("@")[2] or self.unit
+        place = os.path.join(locks.RUN, "rooms", instance, "socket")
+        return place if not self.port or os.path.exists(place) else ""
 
     @property
     def address(self) -> str:
-        """For requests to its own server, at its socket or its port; nothing if it has neither."""
-        if self.listens:
-            return "http://localhost"
-        return f"http://127.0.0.1:{self.port}" if self.port else ""
+        """For requests to its own server."""
+        return "http://localhost" if self.listens else f"http://127.0.0.1:{self.port}"
 
     @property
     def flag(self) -> str:
-        return flag(self.name, self.socket, self.port)
+        return flag(self.name)
 
 
 @dataclass(kw_only=True)
@@ -209,7 +251,6 @@ class Place(Reached):
     on: str = setting("ON", is_host, "a host's name")
 
     def __post_init__(self) -> None:
-        self.door, self.drive = self.door and self.socket, self.drive and self.socket
         self.keeps = self.own_passwords and not self.behind
 
     @property
@@ -218,8 +259,12 @@ class Place(Reached):
         return self.keeps and self.passwords == "file"
 
     @property
+    def shows_nights(self) -> bool:
+        return not self.on and super().shows_nights
+
+    @property
     def flag(self) -> str:
-        return flag(self.name, self.socket, self.port)
+        return flag(self.name)
 
 
 # The lines of a file NAME.on.
@@ -227,11 +272,24 @@ ELSEWHERE = {one.name: one.default for one in of_kind(Place).values()
              if one.name in ("TITLE", "ON", "PORT", "PASSWORDS", "OWN_PASSWORDS")}
 ELSEWHERE["PORT"] = "8443"
 
+# Lines that say nothing any more, with what each room has in their place.
+GONE = {"DOOR": "its door", "SOCKET": "its socket"}
 
-def flag(name: str, socket: bool, port: str) -> str:
-    """The file that is there while a room is full. A room with a port may have a watch of an
-    earlier version, which knows it by that."""
-    return f"{name}.full" if socket else f"127.0.0.1:{port}"
+
+def _of_room(path: str) -> dict[str, str]:
+    got = values(path, known(Room), GONE)
+    got["PORT"] = port(path)
+    return got
+
+
+def port(path: str) -> str:
+    """Where the room is reached beside its socket. A port beside SOCKET=yes was in reserve."""
+    return "" if value(path, "SOCKET") == "yes" else value(path, "PORT")
+
+
+def flag(name: str) -> str:
+    """The file that is there while a room is full."""
+    return f"{name}.full"
 
 
 def file_of(word: str) -> str:
@@ -243,14 +301,13 @@ def file_of(word: str) -> str:
 
 def room(word: str = "") -> Room:
     path = file_of(word)
-    got = values(path, known(Room))
-    got["UNIT"] = got["UNIT"] or "rooms@" + os.path.basename(path).removesuffix(".conf")
+    _look_at_units(path)
+    got = _of_room(path)
+    got["UNIT"] = got["UNIT"] or f"rooms@{name_of(path)}"
     read = given(Room, path, got)
-    _look_at_door(path, got)
     if got["REVIEW"] or got["REVIEWER"]:
         need(got["REVIEW"], path, "REVIEW", "a folder of the room", "")
         need(got["REVIEWER"], path, "REVIEWER", "a user's name", "")
-        need(got["PORT"] or got["SOCKET"], path, "PORT", "set, which REVIEW needs", "")
     if not (os.path.isfile(got["PROGRAM"]) and os.access(got["PROGRAM"], os.X_OK)):
         raise Refused(f"no program: {got['PROGRAM']}, of {path}, isn't there or can't be run")
     folder = os.path.dirname(got["FILE"])
@@ -264,26 +321,15 @@ def room(word: str = "") -> Room:
 
 
 def kept(path: str) -> Kept:
-    return Kept(conf=path, **given(Kept, path, values(path, known(Room))))
-
-
-def is_port(text: str) -> bool:
-    return matches(r"[1-9][0-9]{0,4}", text) and int(text) <= 65535
-
-
-def _look_at_door(path: str, got: dict[str, str]) -> None:
-    need(got["DOOR"] or not got["DRIVE"], path, "DOOR", "yes, which DRIVE needs", "")
+    return Kept(conf=path, **given(Kept, path, _of_room(path)))
 
 
 def place(path: str) -> Place:
-    name, kind = os.path.splitext(os.path.basename(path))
-    got = values(path, ELSEWHERE if kind == ".on" else known(Room))
-    read = given(Place, path, got)
-    if kind != ".on":
-        _look_at_door(path, got)
-    need(is_port(got["PORT"]) or (got.get("SOCKET") == "yes" and not got["PORT"]), path, "PORT",
-         "a port", got["PORT"])
-    return Place(name=name, **read)
+    is_elsewhere = path.endswith(".on")
+    _look_at_units(path)
+    got = values(path, ELSEWHERE) if is_elsewhere else _of_room(path)
+    need(got["PORT"] or not is_elsewhere, path, "PORT", "a port", "")
+    return Place(name=name_of(path), **given(Place, path, got))
 
 
 def last(rows: Iterable[str], name: str) -> str | None:
@@ -298,6 +344,30 @@ def value(path: str, name: str) -> str:
         return last((line for _, line in lines(path)), name) or ""
     except Refused:
         return ""
+
+
+def changed(text: str, wanted: dict[str, str]) -> str:
+    """Each value in the place of its last line, or at the end. All other lines stay."""
+    rows = text.split("\n")
+    for name, new in wanted.items():
+        at = [n for n, row in enumerate(rows) if row.startswith(f"{name}=")]
+        if at:
+            rows[at[-1]] = f"{name}={new}"
+        else:
+            rows[-1:] = [f"{name}={new}", ""]
+    return "\n".join(rows)
+
+
+def gone(text: str) -> tuple[str, list[str]]:
+    """The lines that say nothing any more as comments that tell it, and their names."""
+    rows = text.split("\n")
+    found = []
+    for at, row in enumerate(rows):
+        name = row.partition("=")[0]
+        if name in GONE and name != row:
+            rows[at] = f"# {row} says nothing any more: each room has {GONE[name]}."
+            found.append(name)
+    return "\n".join(rows), sorted(set(found))
 
 
 _SAFE = r"(/[-A-Za-z0-9._/+@,=:]+)?"

@@ -1,10 +1,14 @@
 """How many bytes of a room's file are in use: its pages without the free ones. The log counts. The
 forms are those of SQLite. Nothing is locked or changed; what was read of the log is remembered."""
 import os
+import signal
+import socket
 import stat
 import struct
 from dataclasses import dataclass
 
+from ..cli.report import Stop
+from .settings import Room
 
 # Of a page.
 _SIZES = {1 << one for one in range(9, 17)}
@@ -77,3 +81,52 @@ def _open(file: str) -> int | None:
         return number
     os.close(number)
     return None
+
+
+class Reader:
+    """Looks at a room as its user. Where this process is root's, another one does that, for as long
+    as this one lives."""
+
+    def __init__(self, room: Room) -> None:
+        self.file = room.file
+        self.used = Used()
+        self.asked: socket.socket | None = None
+        if os.geteuid() == room.owner:
+            return
+        self.asked, asking = socket.socketpair()
+        if os.fork():
+            asking.close()
+            return
+        try:
+            self.asked.close()
+            for one in (signal.SIGTERM, signal.SIGINT, signal.SIGHUP):
+                signal.signal(one, signal.SIG_DFL)
+            os.closerange(3, asking.fileno())
+            os.closerange(asking.fileno() + 1, 1024)
+            os.setgroups([])
+            os.setgid(room.group)
+            os.setuid(room.owner)
+            self._answer(asking)
+        finally:
+            os._exit(0)
+
+    def _answer(self, asking: socket.socket) -> None:
+        while asking.recv(1):
+            try:
+                asking.send(str(self.used.look(self.file)).encode())
+            except NoRoom:
+                asking.send(b"none")
+
+    def look(self) -> int:
+        if self.asked is None:
+            return self.used.look(self.file)
+        try:
+            self.asked.send(b"?")
+            got = self.asked.recv(100)
+        except OSError:
+            got = b""
+        if not got:
+            raise Stop("the process that looks at the room has ended")
+        if got == b"none":
+            raise NoRoom
+        return int(got)

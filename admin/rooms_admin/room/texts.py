@@ -10,7 +10,7 @@ from typing import IO
 
 from ..cli.report import Stop, say
 from ..host import safe, tempdirs
-from . import private_server, program
+from . import backups, private_server, program
 from .settings import Room
 
 LISTS, REVIEW, RECORDS = "lists.txt", "review.csv", "records.csv"
@@ -32,6 +32,13 @@ def beside(room: Room, folder: str, name: str) -> Iterator[IO[bytes]]:
         except FileNotFoundError:
             say(f"{place} isn't there, so it is made now")
             source = owned.enter_context(_made(room, folder, PRINTED[name]))
+        yield source
+
+
+@contextmanager
+def of_last(room: Room, name: str) -> Iterator[IO[bytes]]:
+    """That of the newest backup, whoever asks what was there last night."""
+    with beside(room, backups.find(room, "latest"), name) as source:
         yield source
 
 

@@ -1,11 +1,10 @@
 """What goes from the folders of backups: those beyond KEEP, and what a run has left that was cut
 off. Only what a run made there is removed."""
-import glob
 import os
 import shutil
 
-from ..host import locks, safe
-from . import backups, server
+from ..host import safe
+from . import backups
 from .backups import Backup
 from .settings import Room
 
@@ -41,18 +40,10 @@ def beyond(before: list[Backup], keep: int, date: str) -> list[Backup]:
     return [one for one in before[:count] if one.name < first]
 
 
-def _busy(own: tuple[str, ...]) -> set[str]:
-    """What runs for other rooms are at."""
-    return {(server.Mark(one).read() or ("", ""))[0]
-            for one in glob.glob(f"{glob.escape(locks.RUN)}/rooms-nightly.*") if one not in own}
-
-
-def left(room: Room, at: str, *marks: str) -> list[str]:
-    """What runs have left that were cut off with their machine, or after which nobody looked. One
-    of this room isn't at work: this one has the lock. Others may have theirs in BACKUPS itself, as
-    all had of an earlier version. `at` is what this one has."""
+def left(room: Room, at: str) -> list[str]:
+    """What runs have left that were cut off; those of an earlier version had all in BACKUPS itself.
+    No other one of this room is at work: this one has the lock. `at` is what it has itself."""
     told: list[str] = []
-    busy = _busy(marks) | {at}
     for above in dict.fromkeys((backups.folder(room), room.backups)):
         try:
             names = sorted(os.listdir(above))
@@ -60,7 +51,7 @@ def left(room: Room, at: str, *marks: str) -> list[str]:
             continue  # That is told where it is looked for backups.
         for name in names:
             place = os.path.join(above, name)
-            if backups.DATED.fullmatch(name.removesuffix(".part")) and place not in busy:
+            if backups.DATED.fullmatch(name.removesuffix(".part")) and place != at:
                 try:
                     told += _left_at(room, place, above == backups.folder(room))
                 except (OSError, safe.NoFile):

@@ -1,5 +1,6 @@
 """The Apache that checks passwords against the directory, for nginx: what it is told."""
 import os
+import re
 import secrets
 
 from ..room import settings
@@ -35,9 +36,10 @@ def text(root: str, source: str, of: settings.Directory, key: str) -> str:
 
 def key(changes: Changes) -> str:
     """What nginx says to each Apache, and no other process of the machine can. It is made once."""
-    found = template.read(changes.root + template.KEY)
-    if found.startswith("proxy_set_header Rooms-Key "):
-        return found.split()[2].rstrip(";")
+    found = re.fullmatch(r"proxy_set_header Rooms-Key ([0-9a-f]+);\n",
+                         template.read(changes.root + template.KEY), re.ASCII)
+    if found:
+        return found[1]
     made = secrets.token_hex(24)
     changes.file(template.KEY, f"proxy_set_header Rooms-Key {made};\n".encode(), 0o600)
     return made

@@ -3,21 +3,21 @@ import os
 
 from ..host import changes
 from ..room import names, settings
-from . import connections, legacy, password_files, template
+from . import connections, password_files, ports, template, values
 from ..host.changes import Changes
 from ..cli.report import Refused, Stop
 
 _LINK = "/etc/nginx/sites-enabled/rooms"
 _TARGET = "../sites-available/rooms"
-_OURS = {_TARGET, template.FILE, f"{_TARGET}-tls", f"{template.FILE}-tls"}
+_OURS = {_TARGET, template.FILE}
 _DEFAULT = "/etc/nginx/sites-enabled/default"
 FOLDERS = ("/etc/rooms/nginx/http.d", "/etc/rooms/nginx/server.d")
 
 
 def edited(root: str) -> bool:
-    """Whether somebody has edited the file; one of a version before goes another way."""
+    """Whether somebody has edited the file."""
     old = template.read(root + template.FILE)
-    return bool(old) and template.is_edited(old) and not legacy.is_there(root)
+    return bool(old) and template.is_edited(old)
 
 
 def refuse_edited(root: str) -> None:
@@ -44,9 +44,14 @@ def folders(made: Changes) -> None:
 def show(made: Changes) -> bool:
     """Whether nginx has the site of the settings now. If it refuses that, all is as before."""
     root = made.root
-    legacy.refuse_lines(root)
+    # Settings that can't be are refused before anything is changed.
     wanted = template.gather(root)
     _look_at_files(root, wanted)
+    # Also where the site is edited, and stays.
+    values.tell_gone(made)
+    ports.put(made)
+    _start_doors(made, wanted)
+    made.forget()
     is_edited = edited(root)
     if is_edited:
         password_files.leave(root, wanted)
@@ -60,9 +65,6 @@ def show(made: Changes) -> bool:
         return template.read(root + template.FILE) == text
     made.forget()
     count = made.count
-    if legacy.is_there(root):
-        legacy.keep_old_site(made)
-        legacy.clear(made)
     gone = password_files.move(made, wanted)
     text = template.render(template.template("site.conf.in"), wanted)
     made.file(template.FILE, text.encode(errors="surrogateescape"))
@@ -73,7 +75,6 @@ def show(made: Changes) -> bool:
             made.put_back()
             raise Stop(f"nginx refuses its files, and they are as before: {refusal}")
     made.forget()
-    legacy.finish(made)
     made.file(template.START, start)
     if changed:
         made.systemctl("reload", "nginx")
@@ -83,13 +84,26 @@ def show(made: Changes) -> bool:
     return True
 
 
+def _start_doors(made: Changes, wanted: template.Site) -> None:
+    """Before nginx asks there. Otherwise a door comes and goes with its room's server, and one from
+    a version before may have none."""
+    if made.root or not os.path.isdir("/run/systemd/system"):
+        return
+    lacking = [f"rooms-door@{one.name}" for one in wanted.rooms if not one.on
+               and ports.runs(f"rooms@{one.name}") and not ports.runs(f"rooms-door@{one.name}")]
+    if lacking:
+        made.systemctl("daemon-reload")
+        made.systemctl("start", *lacking, check=False)
+
+
 def serve(made: Changes, wanted: template.Site) -> None:
     """A service waits at its socket where there is a room for it."""
     if made.root:
         return
     own = any(one.own for one in wanted.shown)
     earlier = any(one.shows_nights for one in wanted.rooms)
-    for name, is_wanted in (("own-password", own), ("nights", earlier), ("earlier", earlier)):
+    for name, is_wanted in (("password-file", own), ("own-password", own), ("nights", earlier),
+                            ("earlier", earlier)):
         unit = f"rooms-{name}.socket"
         is_on = os.path.islink(f"/etc/systemd/system/sockets.target.wants/{unit}")
         if is_wanted != is_on:

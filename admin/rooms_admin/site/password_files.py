@@ -1,9 +1,11 @@
-"""Where the file of a room's passwords is: root's in /etc/nginx, or the keeper's, where users
+"""Where the file of a room's passwords is: in /etc/nginx, or in a folder of its own, where users
 change their own. It is moved when the settings change: first there is a copy, then nginx's site
 names it, and then the old one goes. So a run that is cut off leaves a site whose files are
 there."""
 import os
 import time
+from contextlib import ExitStack
+from dataclasses import dataclass
 from grp import getgrnam
 
 from ..cli.report import Stop
@@ -16,7 +18,13 @@ from .template import Site
 
 
 def folder(made: Changes) -> None:
-    made.folder(passwords.KEPT, 0o2710, passwords.KEEPER, changes.NGINX)
+    """A version before gave it to who changes own passwords."""
+    if not made.root and os.path.isdir(passwords.KEPT) and os.stat(passwords.KEPT).st_uid != 0:
+        if made.does(f"{passwords.KEPT} belongs to root"):
+            with safe.opened(safe.folder(passwords.KEPT)) as number:
+                os.fchown(number, 0, getgrnam(changes.NGINX).gr_gid)
+                os.fchmod(number, 0o710)
+    made.folder(passwords.KEPT, 0o710, group=changes.NGINX)
 
 
 def of(root: str, name: str) -> str:
@@ -50,8 +58,10 @@ def put(made: Changes, name: str, keeps: bool) -> None:
 def _write(made: Changes, path: str, data: bytes, what: str) -> None:
     if not made.does(what):
         return
-    made.remember(path)
     place = made.root + path
+    if not os.path.lexists(place):
+        # What is there isn't put back: somebody may have been shut out of it meanwhile.
+        made.remember(path)
     os.makedirs(os.path.dirname(place), 0o755, exist_ok=True)
     if made.root:
         safe.put_file(place, data, 0o600)
@@ -67,71 +77,95 @@ def leave(root: str, wanted: Site) -> None:
         one.keeps = one.keeps and os.path.exists(root + passwords.kept_of(one.name))
 
 
-def move(made: Changes, wanted: Site) -> list[str]:
-    """Copies, and what has to go once nginx knows them."""
-    gone: list[str] = []
+@dataclass
+class Moved:
+    """A file that has to go once nginx knows its copy, and what was in it then."""
+    source: str
+    target: str
+    data: bytes
+
+
+def move(made: Changes, wanted: Site) -> list[Moved]:
+    """Copies, each made while nobody changes what is copied."""
+    gone: list[Moved] = []
     for one in wanted.shown:
         kept, old = passwords.kept_of(one.name), passwords.old_of(one.name)
         if one.keeps and os.path.islink(made.root + old):
             print(f"kept {old}, which is a link: users of {one.name} can't change their passwords")
             one.keeps = False
         source, target = (old, kept) if one.keeps else (kept, old)
-        if os.path.exists(made.root + source) and _copy(made, one, source, target):
-            gone.append(source)
+        with ExitStack() as owned:
+            if os.path.exists(made.root + source):
+                _hold(made, one.name, owned)
+                gone += _copy(made, one, source, target)
         if one.own or one.keeps and os.path.lexists(made.root + kept):
-            _keep(made, kept, old in gone)
+            _keep(made, kept, old in [it.source for it in gone])
         elif passwords.read(made.root + passwords.first_of(kept)):
             print(f"kept {passwords.first_of(kept)}: whoever has a first password there can't sign "
                   "in")
     return gone
 
 
-def _copy(made: Changes, one: Place, source: str, target: str) -> bool:
-    """Whether the source has to go. Of two files that one counts which nginx's site names."""
+def _hold(made: Changes, name: str, owned: ExitStack) -> None:
+    if made.root or made.dry:
+        return
+    owned.enter_context(passwords.moving(name))
+    kept = passwords.kept_of(name)
+    if os.path.exists(os.path.dirname(kept)):
+        owned.enter_context(passwords.held(kept, 10))
+
+
+def _copy(made: Changes, one: Place, source: str, target: str) -> list[Moved]:
+    """What has to go. Of two files that one counts which nginx's site names."""
     data = passwords.read(made.root + source)
     if data is None:
-        return False
+        return []
+    found = Moved(source, target, data)
     if os.path.exists(made.root + target):
         if (of(made.root, one.name) == target
                 and passwords.read(made.root + target) != data):
             print(f"kept {source}, which counts no more: {target} does")
-            return False
+            return []
         if of(made.root, one.name) == target:
-            return made.does(f"{source} is removed, which is as {target}") or made.dry
+            goes = made.does(f"{source} is removed, which is as {target}") or made.dry
+            return [found] * goes
     _write(made, target, data, f"{source} is now {target}")
-    return True
+    return [found]
 
 
 def _keep(made: Changes, kept: str, is_copied: bool) -> None:
-    """The keeper's files are its own, and there is one for first passwords. nginx lets nobody try
-    a password where a file isn't there."""
+    """They are root's, and there is one for first passwords. nginx lets nobody try a password where
+    a file isn't there."""
     first = passwords.first_of(kept)
     for path in (first,) if is_copied else (kept, first):
         if not os.path.lexists(made.root + path):
             _write(made, path, b"", f"file {path}, without a password")
-    keeper = passwords.keeper()
-    if made.root or made.dry or keeper == -1:
+    if made.root or made.dry:
         return
     for path in (kept, first):
         seen = os.lstat(path)
         if (seen.st_uid, seen.st_gid, seen.st_mode & 0o777) != (
-                keeper, getgrnam(changes.NGINX).gr_gid, 0o640):
-            if made.does(f"{path} belongs to {passwords.KEEPER}"):
+                0, getgrnam(changes.NGINX).gr_gid, 0o640):
+            if made.does(f"{path} belongs to root"):
                 passwords.put_kept(path, passwords.read(path) or b"")
 
 
-def finish(made: Changes, gone: list[str]) -> None:
-    """nginx's processes of before still read the old ones for a moment."""
+def finish(made: Changes, gone: list[Moved]) -> None:
+    """nginx's processes of before still read the old ones for a moment, and users may still change
+    theirs there."""
     if made.dry or not gone:
         return
     if not made.root:
         time.sleep(1)
-    for path in gone:
-        try:
-            os.unlink(made.root + path)
-        except OSError as fault:
-            raise Stop(f"{path} can't be removed: {fault.strerror}") from fault
-    _tell_jobs(gone)
+    for one in gone:
+        with ExitStack() as owned:
+            _hold(made, passwords.room_of(one.source), owned)
+            passwords.carry(made.root + one.source, made.root + one.target, one.data)
+            try:
+                os.unlink(made.root + one.source)
+            except OSError as fault:
+                raise Stop(f"{one.source} can't be removed: {fault.strerror}") from fault
+    _tell_jobs([one.source for one in gone])
 
 
 def _tell_jobs(gone: list[str]) -> None:

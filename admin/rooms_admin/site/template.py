@@ -7,7 +7,7 @@ import re
 from dataclasses import dataclass
 
 from ..host import commands, safe
-from ..room import names, settings
+from ..room import names, settings, waits
 from ..cli.report import Refused, say
 from ..room.settings import Front, Place
 
@@ -19,6 +19,8 @@ MACHINES = "/etc/rooms/machines"
 KEY = "/etc/rooms/passwords.key"
 # What stands in a file of its own.
 _PART = re.compile(r"^@part ([a-z.-]+)@\n", re.M)
+# A line for each field that nginx doesn't pass on, of what it asks by this protocol.
+_HIDE = re.compile(r"^@hide ([a-z]+)@\n", re.M)
 _SUM = re.compile(r"checksum\n# ([0-9a-f]{64}|@SUM@)\.\n", re.ASCII)
 # What the site itself has at '/': the routes of office, its page, the start page, the check of
 # passwords. No room has such a name.
@@ -66,7 +68,7 @@ def gather(root: str) -> Site:
     folder = root + "/etc/rooms"
     rooms = []
     for name in sorted(os.listdir(folder)):
-        word, kind = os.path.splitext(name)
+        word, kind = settings.name_of(name), os.path.splitext(name)[1]
         path = os.path.join(folder, name)
         if kind not in (".conf", ".on") or not names.is_room(word):
             continue
@@ -127,6 +129,7 @@ def render(text: str, site: Site) -> str:
              for how in ("directory", "session", "own")}
     while "\n@part " in text:
         text = _PART.sub(lambda found: template(found[1]), text)
+    text = _HIDE.sub(lambda found: _hidden(found[1]), text)
     text = _sections(text, {
         "TLS": bool(front.certificate), "PLAIN": not front.certificate,
         "DIRECTORY": bool(files["directory"]), "SESSION": bool(files["session"]),
@@ -142,9 +145,18 @@ def render(text: str, site: Site) -> str:
             ("CERTIFICATE", front.certificate), ("KEY", front.key), ("PAGE", site.page),
             ("ERRORS", os.path.join(os.path.dirname(site.page), "errors")),
             ("DIRECTORY_FILES", files["directory"]), ("SESSION_FILES", files["session"]),
-            ("OWN_FILES", files["own"]), ("HTTP2", " http2" if site.http2 == "listen" else "")):
+            ("OWN_FILES", files["own"]), ("HTTP2", " http2" if site.http2 == "listen" else ""),
+            ("ANSWER", f"{waits.ANSWER:.0f}"), ("NIGHT", f"{waits.NIGHT:.0f}"),
+            ("NIGHT_THERE", f"{waits.NIGHT + 10:.0f}")):
         text = text.replace(f"@{name}@", value)
     return text.replace("@SUM@", _sum(text), 1)
+
+
+def _hidden(protocol: str) -> str:
+    """Of rooms, doors and services alike."""
+    rows = template("hidden-fields.txt").split("\n")
+    return "".join(f"    {protocol}_hide_header {row};\n" for row in rows
+                   if row and not row.startswith("#"))
 
 
 def _changes(room: Place) -> str:
@@ -157,20 +169,20 @@ def _sections(text: str, wanted: dict[str, bool]) -> str:
     between '@keep NAME@' and '@end@'."""
     out: list[str] = []
     kept: dict[str, list[str]] = {}
-    into = [out]
+    into = [[out]]
     for row in text.split("\n"):
         word, _, name = row.strip("@").partition(" ")
         if row.startswith("@if "):
-            into = [out] if wanted[name] else []
+            into.append(into[-1] if wanted[name] else [])
         elif row.startswith("@keep "):
-            into = [out, kept.setdefault(name, [])]
+            into.append([*into[-1], kept.setdefault(name, [])])
         elif row == "@end@":
-            into = [out]
+            into.pop()
         elif row.startswith("@again "):
-            for one in into:
+            for one in into[-1]:
                 one += kept[name]
         else:
-            for one in into:
+            for one in into[-1]:
                 one.append(row)
     return "\n".join(out)
 
@@ -187,37 +199,26 @@ def _maps(site: Site) -> dict[str, list[str]]:
         "SCHEMES": [f"{one.name} https" for one in site.shown if one.on],
         "THERE": [f"{one.name} {one.on}" for one in site.shown if one.on],
         "FLAGS": [f"{one.name} {one.flag}" for one in site.shown if not one.on],
-        # On another machine the same address leads to both: that one knows which it is.
-        "DOORS": [f"{one.name} {'room' if one.on else 'door'}_{one.name}" for one in site.shown
-                  if one.on or one.door],
-        "DRIVES": [f"{one.name} {'room' if one.on else 'door'}_{one.name}" for one in site.shown
-                   if one.on or one.drive],
+        "DRIVES": [f"{one.name} yes" for one in site.shown if one.on or one.drive],
         "EARLIER": [f"{one.name} yes" for one in site.shown if one.on or one.shows_nights],
         "SESSIONS": [f"{one.name} 1" for one in site.shown if one.passwords == "session"],
         "CHANGES": [f'"{one.name} {f"/{one.name}" if one.on else ""}/password" {_changes(one)}'
                     for one in site.shown],
         "BEHIND": [f'"~^/{one.name}(/|$)" {one.name}' for one in site.behind],
         "BEHIND_FLAGS": [f"{one.name} {one.flag}" for one in site.behind],
-        "BEHIND_DOORS": [f"{one.name} door_{one.name}" for one in site.behind if one.door],
-        "BEHIND_DRIVES": [f"{one.name} door_{one.name}" for one in site.behind if one.drive],
+        "BEHIND_DRIVES": [f"{one.name} yes" for one in site.behind if one.drive],
         "BEHIND_EARLIER": [f"{one.name} yes" for one in site.behind if one.shows_nights],
     }
 
 
 def _upstreams(room: Place) -> list[str]:
-    """Of its server, and of its door if that is here."""
+    """Of its server and of its door. On another machine the same address leads to both: that one
+    knows which it is."""
     if room.on:
         # One that couldn't be reached is asked again by the next request.
-        where = f"{room.on}:{room.port} max_fails=0"
-    elif room.socket:
-        where = f"unix:/run/rooms/{room.name}/socket"
-    else:
-        where = f"127.0.0.1:{room.port}"
-    rows = [f"upstream room_{room.name} {{ server {where}; }}"]
-    if room.door:
-        rows.append(f"upstream door_{room.name} {{ server unix:/run/rooms-door/{room.name}/socket; "
-                    "}")
-    return rows
+        return [f"upstream room_{room.name} {{ server {room.on}:{room.port} max_fails=0; }}"]
+    return [f"upstream {what}_{room.name} {{ server unix:/run/{folder}/{room.name}/socket; }}"
+            for what, folder in (("room", "rooms"), ("door", "rooms-door"))]
 
 
 def _sum(text: str) -> str:

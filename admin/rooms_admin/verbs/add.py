@@ -9,7 +9,7 @@ import time
 from ..cli import words
 from ..host import changes, locks
 from ..room import names, published, settings
-from ..site import apply, legacy, password_files, template
+from ..site import apply, password_files, template
 from . import setup
 from ..host.changes import Changes
 from ..cli.report import Refused, Stop
@@ -26,8 +26,8 @@ def arguments(parser: words.Parser) -> None:
     words.word(parser, "group", "[GROUP]", "and the group of its root")
     setup.image(parser)
     words.option(parser, "--host", "HOST", "at '/' of this host, and not behind its name")
-    words.option(parser, "--port", "PORT", "listen at this port of 127.0.0.1, and not at a "
-                 "socket; or with --on the port of the other machine")
+    words.option(parser, "--port", "PORT", "listen at this port of 127.0.0.1 too; or with --on "
+                 "the port of the other machine")
     words.option(parser, "--title", "TITLE", "what the start page calls it")
     where = parser.add_mutually_exclusive_group()
     words.flag(where, "--behind", "for the front end on another machine alone")
@@ -76,7 +76,6 @@ def look_at_name(name: str) -> None:
 def look_at_machine(made: Changes) -> None:
     if not os.path.isdir(made.root + "/etc/rooms"):
         raise Refused(f"not installed: {made.root}/etc/rooms isn't there")
-    legacy.refuse_lines(made.root)
     if not os.path.exists(made.root + template.SETTINGS):
         raise Refused("no nginx: apt-get install nginx apache2-utils, and then run rooms-admin "
                       "setup")
@@ -109,9 +108,7 @@ class _Room:
         _look_at_name_here(made, name)
         self._look_at_file()
         self.backups = self._look_at_backups()
-        # Whoever names a port wants that, and otherwise nobody but nginx and root gets there.
-        self.socket = not given.port
-        self.port = self._look_at_port(given.port)
+        self.port = self._look_at_port(given.port) if given.port else ""
         _look_at_title(self.title)
         if given.host:
             self._look_at_host()
@@ -147,10 +144,6 @@ class _Room:
 
     def _look_at_port(self, wanted: str) -> str:
         owners = _ports(self.made.root)
-        if not wanted:
-            # In reserve, for the day on which its settings want one.
-            return next((port for port in map(str, range(8781, 8999))
-                         if port not in owners and not _listens(port)), "")
         if not settings.is_port(wanted):
             raise Refused(f"bad port: '{wanted}'")
         if wanted in owners:
@@ -184,7 +177,7 @@ class _Room:
     def add(self) -> int:
         made = self.made
         text = setup.room_text(made.root, self.name, self.port, self.title, self.backups,
-                               self.socket, self.host, self.behind)
+                               self.host, self.behind)
         fresh = password_files.missing(made.root, self.name)
         try:
             # What the web interface was told of another room of this name.
@@ -238,7 +231,7 @@ class _Room:
 
     def _start(self) -> None:
         """From here on nothing is taken back: the same steps can be done by hand."""
-        unit, timer = f"rooms@{self.name}", f"rooms-nightly@{self.name}.timer"
+        unit, timer = f"rooms@{self.name}", f"{settings.nightly_unit(self.name)}.timer"
         if not self.made.does(f"systemctl enable --now {unit} {timer}"):
             return
         # A room of this name may have failed too often to be started by hand.
@@ -273,7 +266,7 @@ def _ports(root: str) -> dict[str, str]:
     for one in sorted(os.listdir(root + "/etc/rooms")):
         if one.endswith(".conf"):
             path = f"{root}/etc/rooms/{one}"
-            found[settings.value(path, "PORT")] = path
+            found[settings.port(path)] = path
     return found
 
 

@@ -13,7 +13,7 @@ PATH = "a folder or a document of the room"
 def arguments(parser: words.Parser) -> None:
     words.option(parser, "--backup", "BACKUP", "read this backup: a folder, the name of one, or "
                  "latest; latest without it")
-    words.room(parser, former="")
+    words.room(parser)
     words.rows(parser)
 
 

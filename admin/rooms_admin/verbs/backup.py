@@ -1,7 +1,7 @@
-"""The nightly run: holds the server while it copies the room, for 30 s at most, and lets it go on
-whatever happened. Then it verifies the copy, and lists and reviews what is in it, while the server
-runs. A server that can't be held is stopped for the copy, and started again; one that doesn't run
-isn't started.
+"""The nightly run: copies the room between two requests, while others wait, and says before for how
+long at most. Then it verifies the copy, and lists and reviews what is in it, while the server runs.
+A server that can't be held so, or whose room is too large for that, is stopped for the copy, and
+started again; one that doesn't run isn't started.
 
 BACKUPS/NAME/DATE gets the room's two files; run, with the number of the run, by which the newest
 backup is known; records.csv, lists.txt, review.csv and, if root runs it, machine.tar. One of these
@@ -23,8 +23,9 @@ from ..cli import report, words
 from ..host import locks, mail, safe
 from ..room import (backups, copying, health, machine, names, private_server, program, server,
                     settings, texts, tidying)
-from . import expire, people, places
+from . import mine, people, until
 from ..room.backups import Found
+from ..room.held import NotHeld
 from ..room.http_client import Caller, Client
 from ..cli.report import Interrupted, Refused, Stop, say
 from ..room.settings import Room
@@ -34,9 +35,6 @@ class Night:
     def __init__(self, room: Room) -> None:
         self.room = room
         self.failures: list[str] = []
-        self.mark = server.Mark(os.path.join(locks.RUN, f"rooms-nightly.{room.unit}"))
-        # No unit's name ends so.
-        self.note = server.Mark(self.mark.place + "~")
         self.above = backups.folder(room)
         self.date = self.part = self.kept = ""
         # The private copy that the program works on, and how much memory it may have for that.
@@ -61,10 +59,8 @@ class Night:
                 raise
             except (Stop, OSError) as fault:
                 self.failed(str(fault))
-            # Once more, if that failed.
-            self.bring_back_later()
             # Nothing that is left of before keeps a copy from being made.
-            for text in tidying.left(self.room, self.part, self.mark.place, self.note.place):
+            for text in tidying.left(self.room, self.part):
                 self.failed(text)
             self.look()
             self.for_users()
@@ -92,10 +88,6 @@ class Night:
         self.part = os.path.join(self.above, self.date + ".part")
 
     def back_up(self, owned: ExitStack) -> None:
-        try:
-            self.note.write(self.part, "")
-        except Stop:
-            pass  # Without a note, only a copy that is cut off stays.
         try:
             backups.make_closed(self.part)
         except OSError as fault:
@@ -128,54 +120,33 @@ class Night:
         copying.keep(self.room, copied, self.part)
 
     def copy_alone(self) -> copying.Copy:
-        stopped = False
-        if self.mark.read():
-            # A run that was killed has left it, and nothing has looked after it.
-            stopped = not self.mark.let_go()
-        elif server.state(self.room) == "inactive":
-            say(f"{self.room.unit} isn't running, and is not started")
-        copied = None
-        if not stopped:
+        rests = server.state(self.room) == "inactive"
+        # A run that was killed may have left it so.
+        if not rests or not server.was_left(self.room):
+            if rests:
+                say(f"{self.room.unit} isn't running, and is not started")
             try:
-                copied = copying.held(self.room, self.mark, self.part)
-                self.bring_back()
-            except copying.NotHeld:
-                pass
-        if copied is None:
-            # One that is being restarted over and over, or whose unit runs something else.
-            self.mark.write(self.part, "stopped")
-            with server.guarded(self.bring_back):
-                server.stop(self.room)
-                copied = copying.copy_stopped(self.room, self.part)
-        return copied
+                return copying.copy(self.room, self.part)
+            except NotHeld as why:
+                self.tell_stop(why)
+        return copying.copy_stopped(self.room, self.part, self.not_started)
 
-    def bring_back_later(self) -> None:
-        """Whoever else is at work with the room by now may have stopped its server."""
-        if not self.mark.read():
-            return
-        self.mark.let_go()
-        try:
-            with locks.lock(self.room.unit, 60):
-                self.bring_back()
-        except locks.Busy as busy:
-            self.failed(str(busy))
+    def not_started(self, why: str) -> None:
+        self.failed(why)
+        self.starts = False
 
-    def bring_back(self) -> None:
-        """Starts the server that was stopped, or lets it go."""
-        if not self.mark.read():
+    def tell_stop(self, why: NotHeld) -> None:
+        """Before the server is stopped. What goes by itself is only said."""
+        if server.state(self.room) == "inactive":
+            raise Stop(f"there is no copy: {why}") from why
+        text = f"{why}: {self.room.unit} is stopped for the copy, and started again"
+        if why.is_fault:
+            self.failed(text)
             return
-        if not self.mark.let_go():
-            try:
-                server.start(self.room)
-            except Stop as stop:
-                self.failed(str(stop))
-                self.starts = False
-                return
-            try:
-                server.look_whether_it_stays(self.room)
-            except Stop as stop:
-                self.failed(str(stop))
-        os.rename(self.mark.place, self.note.place)
+        say(text)
+        if isinstance(why, copying.TooLong):
+            mail.notify(self.room.mail, f"{self.room.unit} on {os.uname().nodename} is stopped for "
+                        "its copies", [text], "warning")
 
     def on_copy(self, word: str, rest: list[str], into: int | None = None
                 ) -> tuple[int, bytes, str]:
@@ -268,7 +239,6 @@ class Night:
         self.failed(health.patiently(self.room, health.disk))
         if self.starts:
             self.failed(health.patiently(self.room, health.answer))
-            self.failed(health.patiently(self.room, health.port))
         self.failed(health.patiently(self.room, health.size))
         text, over = health.certificate(self.room)
         if over:
@@ -311,8 +281,8 @@ class Night:
 
     def for_users(self) -> None:
         """What the web interface shows beside the room, and accesses that have an end."""
-        for name, write in ((texts.LISTS, people.nightly), (texts.REVIEW, places.nightly),
-                            (texts.LISTS, expire.nightly)):
+        for name, write in ((texts.LISTS, people.nightly), (texts.REVIEW, mine.nightly),
+                            (texts.LISTS, until.nightly)):
             source = f"{self.kept}/{name}"
             if not self.kept or not os.path.exists(source):
                 continue
@@ -328,7 +298,6 @@ class Night:
     def finish(self) -> int:
         """Somebody is told before the disk of backups is asked for anything, which may hang."""
         report.ignore_signals()
-        self.bring_back_later()
         before = len(self.failures)
         if before:
             tell(self.room, self.failures)
@@ -345,24 +314,6 @@ class Night:
             self.kept = self.part.removesuffix(".part")
         if self.kept:
             tidying.remove_unfinished(self.kept)
-        if os.path.exists(self.note.place):
-            os.unlink(self.note.place)
-
-    def after(self) -> int:
-        """After a run that was cut off. What a run owes that is at work is its own: it has the
-        lock."""
-        owed, noted = self.mark.read(), self.note.read()
-        if owed:
-            self.part = owed[0]
-            self.failed(f"interrupted: a run that had held or stopped {self.room.unit} was cut "
-                        f"off; {self.room.unit} goes on")
-        elif noted:
-            self.part = noted[0]
-            self.failed("interrupted: a run was cut off, and left no backup or one that may lack a "
-                        "part of what is written beside it")
-        else:
-            return 0
-        return self.finish()
 
 
 def tell(room: Room | None, failures: list[str]) -> None:
@@ -373,8 +324,6 @@ def tell(room: Room | None, failures: list[str]) -> None:
 
 def arguments(parser: words.Parser) -> None:
     words.room(parser)
-    words.flag(parser, "--after", "only do what a run that was cut off still owes; the unit calls "
-               "it")
 
 
 def run(given: argparse.Namespace) -> int:
@@ -383,9 +332,9 @@ def run(given: argparse.Namespace) -> int:
     room = None
     try:
         room = settings.room(given.room)
-        # One run at a time. What a run owes waits for whoever is at work, which is root.
-        with locks.lock(f"{room.unit}.nightly", 600 if given.after else 10):
-            return Night(room).after() if given.after else Night(room).run()
+        # One run at a time.
+        with locks.lock(f"{room.unit}.nightly", 10):
+            return Night(room).run()
     except Refused as stop:
         # A run that can't begin is reported like one that fails.
         tell(room, [str(stop)])

@@ -1,9 +1,9 @@
-"""A certificate for nginx by an authority of the office's own, which can certify names of its
-domain alone, and no addresses; or, with --machine, those by which machines with rooms know one
-another. The same command renews. Keys that are there stay, and no key leaves its folder."""
+"""A certificate for nginx by an authority of the office's own, which can certify these hosts and
+names below them alone, or those of --domain, and no addresses; or, with --machine, those by which
+machines with rooms know one another. The same command renews. Keys that are there stay, no key
+leaves its folder, and a certificate of another authority stays."""
 import argparse
 import os
-import re
 import shlex
 import tempfile
 
@@ -16,6 +16,7 @@ from ..cli.report import Refused, Stop, say
 AUTHORITY = "/root/authority"
 MACHINES = "/etc/rooms/machines"
 SITE, SITE_KEY = "/etc/ssl/rooms.pem", "/etc/ssl/private/rooms.key"
+_OFFICE = "Authority of the office"
 _CURVE = ["-newkey", "ec", "-pkeyopt", "ec_paramgen_curve:P-256", "-noenc"]
 _ENDING = ["basicConstraints=critical,CA:false", "keyUsage=critical,digitalSignature",
            "subjectKeyIdentifier=hash", "authorityKeyIdentifier=keyid"]
@@ -41,23 +42,14 @@ def _private_folder(folder: str) -> None:
     os.makedirs(ROOT + folder, 0o700, exist_ok=True)
 
 
-def domain_of(hosts: list[str]) -> str:
-    """What an authority that is made for these hosts may certify, with all below it: the domain of
-    the first one, such as office.example for rooms.office.example. Where nothing is above it but
-    what belongs to everybody, as above acme.de or acme.co.uk, it is that host alone. That is known
-    by its form: a list of all would have to be kept up to date."""
-    first, _, above = hosts[0].partition(".")
-    is_public = "." not in above or re.fullmatch(
-        r"(ac|co|com|edu|gob|gov|go|ne|net|nom|or|org)\.[a-z]{2}", above) is not None
-    return hosts[0] if is_public else above
-
-
-def _rules(domain: str) -> str:
-    """What an authority is: one that certifies no other authority, and only names of hosts in its
-    domain. Of mail it may certify what nobody has: a kind of names that isn't mentioned is free."""
-    limits = ["nameConstraints=critical,@limits", "[limits]", f"permitted;DNS.0={domain}",
+def _rules(names_below: list[str]) -> str:
+    """What an authority is: one that certifies no other authority, and only these hosts and those
+    below them. Of mail it may certify what nobody has: a kind of names that isn't mentioned is
+    free."""
+    limits = ["nameConstraints=critical,@limits", "[limits]",
+              *(f"permitted;DNS.{at}={one}" for at, one in enumerate(names_below)),
               "permitted;email.0=invalid", "excluded;IP.0=0.0.0.0/0.0.0.0",
-              "excluded;IP.1=0:0:0:0:0:0:0:0/0:0:0:0:0:0:0:0"] if domain else []
+              "excluded;IP.1=0:0:0:0:0:0:0:0/0:0:0:0:0:0:0:0"] if names_below else []
     lines = ["[req]", "distinguished_name=about", "x509_extensions=rules", "prompt=no", "[about]",
              "CN=authority", "[rules]", "basicConstraints=critical,CA:true,pathlen:0",
              "keyUsage=critical,keyCertSign", "subjectKeyIdentifier=hash",
@@ -66,7 +58,7 @@ def _rules(domain: str) -> str:
 
 
 class Authority:
-    def __init__(self, folder: str, about: str, domain: str, private: str) -> None:
+    def __init__(self, folder: str, about: str, names_below: list[str], private: str) -> None:
         self.folder = folder
         self.private = private
         self.pem, self.key = f"{folder}/authority.pem", f"{folder}/authority.key"
@@ -76,19 +68,20 @@ class Authority:
         if has == [False, True]:
             raise Refused(f"no certificate: bring authority.pem back to {folder}")
         if has == [False, False]:
-            self._make(about, domain)
+            self._make(about, names_below)
 
-    def _make(self, about: str, domain: str) -> None:
+    def _make(self, about: str, names_below: list[str]) -> None:
         _private_folder(self.folder)
         rules = f"{self.private}/authority"
         with open(rules, "w", encoding="ascii") as file:
-            file.write(_rules(domain))
+            file.write(_rules(names_below))
         _openssl(["req", "-x509", *_CURVE, "-days", "3650", "-subj", f"/CN={about}", "-config",
                   rules, "-keyout", f"{self.private}/key", "-out", f"{self.private}/pem"])
         # The key comes first: an authority without one is no use, and says so.
         _put(f"{self.private}/key", self.key, 0o600)
         _put(f"{self.private}/pem", self.pem, 0o644)
-        print(f"authority {self.pem}" + (f", for names in {domain}" if domain else ""))
+        of = ", for these names and those below them: " + ", ".join(names_below)
+        print(f"authority {self.pem}{of if names_below else ''}")
 
     def certify(self, hosts: list[str], use: str, days: int, key: str, pem: str) -> None:
         """A certificate by this authority, which has to hold for each host before it is used."""
@@ -121,9 +114,38 @@ class Authority:
         print(f"certificate {pem} for {', '.join(hosts)}, until {ends}; its key is {key}")
 
 
-def _for_site(hosts: list[str], private: str) -> None:
-    authority = Authority(AUTHORITY, "Authority of the office", domain_of(hosts), private)
-    if "Excluded" not in _openssl(["x509", "-in", ROOT + authority.pem, "-noout", "-text"]):
+def _look_at_issuer() -> None:
+    """What somebody bought, or certbot got, isn't replaced."""
+    if not os.path.lexists(ROOT + SITE):
+        return
+    try:
+        issuer = _openssl(["x509", "-in", ROOT + SITE, "-noout", "-issuer", "-nameopt", "RFC2253"])
+    except Stop as stop:
+        raise Refused(f"another certificate: {SITE} can't be read, and isn't replaced: {stop}"
+                      ) from stop
+    if issuer != f"issuer=CN={_OFFICE}":
+        raise Refused(f"another certificate: {SITE} is of another authority, and isn't replaced "
+                      f"({issuer}): move it and {SITE_KEY} away")
+
+
+def _look_at_domain(domain: str, hosts: list[str]) -> None:
+    """Whoever has the authority's key can certify all of it, so it is typed and never guessed."""
+    if not names.is_host(domain) or "." not in domain:
+        raise Refused(f"bad arguments: '{domain}' isn't the name of a domain such as "
+                      "office.example")
+    for host in hosts:
+        if not f".{host}".endswith(f".{domain}"):
+            raise Refused(f"bad arguments: {host} isn't in the domain {domain}")
+
+
+def _for_site(hosts: list[str], domain: str, private: str) -> None:
+    _look_at_issuer()
+    authority = Authority(AUTHORITY, _OFFICE, [domain] if domain else hosts, private)
+    said = _openssl(["x509", "-in", ROOT + authority.pem, "-noout", "-text"])
+    if domain and f"DNS:{domain}" not in said.split():
+        raise Refused(f"not for {domain}: {authority.pem} is for other names: move {AUTHORITY} "
+                      "away, and have browsers trust a new one")
+    if "Excluded" not in said:
         say(f"{authority.pem}, of an earlier version, can certify any address of a network and of "
             f"mail too: move {AUTHORITY} away, and have browsers trust a new one instead")
     authority.certify(hosts, "serverAuth", 365, SITE_KEY, SITE)
@@ -136,7 +158,7 @@ def _for_site(hosts: list[str], private: str) -> None:
 
 
 def _for_machine(host: str, private: str) -> None:
-    authority = Authority(MACHINES, "Authority of the machines with rooms", "", private)
+    authority = Authority(MACHINES, "Authority of the machines with rooms", [], private)
     front = f"{MACHINES}/front"
     if not os.path.exists(f"{ROOT}{front}.pem") or machine.see_certificate(f"{front}.pem")[0]:
         authority.certify(["rooms-front"], "clientAuth", 3650, f"{front}.key", f"{front}.pem")
@@ -148,6 +170,8 @@ def _for_machine(host: str, private: str) -> None:
 
 def arguments(parser: words.Parser) -> None:
     words.word(parser, "hosts", "HOST ..", "a name of the site, or of the other machine")
+    words.option(parser, "--domain", "DOMAIN", "let an authority that is made certify all names of "
+                 "this domain")
     words.flag(parser, "--machine", "for a machine with rooms behind this one's front end")
 
 
@@ -155,9 +179,13 @@ def run(given: argparse.Namespace) -> int:
     hosts = list(given.hosts)
     if given.machine and len(hosts) != 1:
         raise Refused("bad arguments: --machine is for one HOST")
+    if given.machine and (given.domain or hosts[0] in ("authority", "front", "machine")):
+        raise Refused("bad arguments: --machine takes no --domain, and no file's name as HOST")
     for host in hosts:
         if not names.is_host(host) or host.replace(".", "").isdigit():
             raise Refused(f"bad arguments: '{host}' isn't the name of a machine in a network")
+    if given.domain:
+        _look_at_domain(given.domain, hosts)
     if os.geteuid() != 0 and not ROOT:
         raise Refused("not root: the keys are root's")
     os.umask(0o077)
@@ -166,5 +194,5 @@ def run(given: argparse.Namespace) -> int:
         if given.machine:
             _for_machine(hosts[0], private)
         else:
-            _for_site(hosts, private)
+            _for_site(hosts, given.domain, private)
     return 0

@@ -5,7 +5,6 @@ With --json it is a list of objects with the names 'room', 'level' and 'text', o
 that was seen: 'level' is 'ok', 'warning' or 'critical', and 'room' is empty for the machine."""
 import argparse
 import glob
-import os
 
 from ..cli import report, words
 from ..room import settings
@@ -48,12 +47,11 @@ def _line(found: list[Finding]) -> str:
     worst = max(level for level, _ in found)
     told = [text for level, text in sorted(found, key=lambda one: -one[0])
             if text and (worst == OK or level > OK)]
-    line = f"rooms {_WORDS[worst]} - {'; '.join(told)}"
-    return "".join(one if one.isprintable() else "?" for one in line)
+    return report.line(f"rooms {_WORDS[worst]} - {'; '.join(told)}")
 
 
 def run(given: argparse.Namespace) -> int:
-    rooms = [(os.path.basename(settings.file_of(conf)).removesuffix(".conf"), _of_room(conf))
+    rooms = [(settings.name_of(settings.file_of(conf)), _of_room(conf))
              for conf in _rooms(given.rooms)]
     directory = watched.within(watched.PATIENCE, watched.see_directory, "what asks the directory")
     machine = [*watched.see_units(), *directory, *watched.see_connections(),

@@ -29,7 +29,7 @@ class Doctor:
     def cause(self, what: str, text: str) -> None:
         self.causes.append({"cause": what, "text": text})
         if self.prints:
-            print("".join(c if c.isprintable() else "?" for c in f"{what}: {text}"), flush=True)
+            print(report.line(f"{what}: {text}"), flush=True)
 
     def as_user(self, work: as_user.Work) -> list[list[str]]:
         return as_user.as_user(self.user, work)
@@ -203,7 +203,7 @@ def _user(given: str, folder: str) -> pwd.struct_passwd:
 
 def arguments(parser: words.Parser) -> None:
     words.word(parser, "file", "[FILE]", "the room's file; that of --room without it")
-    words.room(parser, former="")
+    words.room(parser)
     words.option(parser, "--user", "USER", "the room's user, rooms without it")
     words.option(parser, "--program", "FILE", "the program that verifies a copy")
     words.rows(parser)

@@ -11,7 +11,7 @@ import os
 
 from ..cli import report, words
 from ..host import safe
-from ..room import backups, names, private_server, program, settings
+from ..room import backups, dump, entries, names, private_server, program, settings
 from ..room.http_client import (Caller, Client, argument, caller_arguments, caller_of, client,
                                 raise_limits)
 from . import asked
@@ -112,10 +112,8 @@ class Export:
 def arguments(parser: words.Parser) -> None:
     words.word(parser, "path", "PATH", "a folder or a document of the room")
     words.word(parser, "into", "DIR", "the folder that is made of it")
-    parser.bare = "backup"
-    parser.add_argument("--backup", metavar="BACKUP", nargs="?", default="",
-                        help="read this backup and not the room: a folder, the name of a "
-                        "backup, or latest")
+    words.option(parser, "--backup", "BACKUP", "read this backup and not the room: a folder, the "
+                 "name of a backup, or latest")
     words.flag(parser, "--no-lists", "write no lists")
     words.option(parser, "--umask", "UMASK", "what others may not do with what is written, such "
                  "as 022 where all may read it; 077 without it", default="077")
@@ -157,32 +155,21 @@ def open_all(room: settings.Room, copied: str, path: bytes
         raise Stop(f"dump of the copy failed: {text or out[:300].decode(errors='replace')}")
     acls: dict[bytes, bytes] = {}
     own = []
-    at = b""
-    for line in out.split(b"\n"):
-        words = line.split(b" ", 4)
-        if words[0] in (b"folder", b"document", b"member"):
-            at = line.split(b" ", 3 if words[0] == b"folder" else 4)[-1]
-            if words[0] == b"member":
-                break
-            acls[at] = b" ".join(words[:3]) + b"\n"
-            which = b""
-        elif line:
-            acls[at] += line + b"\n"
-            which = line if line in (b"dacl", b"sacl") else which
-            fields = line.split(b":")
-            if which == b"dacl" and at != b"/" and (
-                    line.startswith(b"list:") and line != b"list:a"
-                    or fields[0] in (b"A", b"D") and b"I" not in fields[1]):
-                own.append(at)
+    for one in dump.parsed(out.split(b"\n")):
+        about = f"{one.kind} {one.owner} {one.group}\n".encode()
+        acls[one.path] = about + b"".join(
+            b"%s\n" % line for line in [b"dacl", *one.dacl, b"sacl", *one.sacl])
+        if one.path != b"/" and (one.dacl[:1] != [b"list:a"] or entries.is_own(one.dacl)):
+            own.append(one.path)
     opens = f"list:a\nA:fd:{private_server.USER}:rx\n".encode()
     if why := private_server.set_list(room, copied, b"/", opens):
         raise Stop(f"failed: the lists of the copy: {why}")
     base = path.rstrip(b"/") + b"/"
     closed = []
-    for one in dict.fromkeys(own):
-        if one == path or one.startswith(base) or base.startswith(one + b"/"):
-            if why := private_server.set_list(room, copied, one, b"list:a\n"):
-                closed.append((one, why))
+    for at in own:
+        if at == path or at.startswith(base) or base.startswith(at + b"/"):
+            if why := private_server.set_list(room, copied, at, b"list:a\n"):
+                closed.append((at, why))
     return acls, closed
 
 

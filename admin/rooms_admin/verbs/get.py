@@ -12,7 +12,7 @@ from ..cli.report import Refused, Stop
 def arguments(parser: words.Parser) -> None:
     words.word(parser, "backup", "BACKUP", "a folder, the name of a backup, or latest")
     words.word(parser, "path", "PATH", "the document's, in the room")
-    words.room(parser, former="")
+    words.room(parser)
 
 
 def run(given: argparse.Namespace) -> int:

@@ -6,18 +6,18 @@ named, with status 1; the others are brought into line. The server is stopped on
 something to change, or if the room's file isn't the one of the last run, and is started again
 whatever happened."""
 import argparse
+import contextlib
 import os
 from contextlib import ExitStack
 
 from ..cli import report, words
-from ..host import commands, locks, mail, safe
-from ..room import backups, dump, members, names, server, settings
+from ..host import locks, mail
+from ..room import backups, dump, entries, known, members, names, server, settings, texts
 from . import people
 from ..site.directory import GROUPS, Directory, NoSuchEntry
 from ..cli.report import Refused, Stop, say
 from ..room.settings import Room
 
-LISTS = "lists.txt"
 # The program takes no more from a file.
 LIMIT = 20000
 # A directory that always names another one would never end.
@@ -116,7 +116,6 @@ class Run:
         self.owned = owned
         self.locked = False
         self.mark = server.left_at_rest(room)
-        self.state = os.path.join(backups.folder(room), ".directory.csv")
         self.failures: list[str] = []
 
     def lock(self) -> None:
@@ -128,7 +127,7 @@ class Run:
     def ask(self, groups: dict[str, str]) -> set[Pair]:
         """Takes those out of `groups` that the directory hasn't: one may have been renamed there,
         which keeps nobody from leaving another one."""
-        asked = Asked(Directory(settings.directory(_beside(self.room, "directory"))))
+        asked = Asked(Directory(_directory(self.room)))
         wanted: set[Pair] = set()
         for name, what in list(groups.items()):
             pairs = set()
@@ -150,45 +149,22 @@ class Run:
             wanted |= pairs
         return wanted
 
-    def last_lists(self) -> str:
-        return backups.newest(self.room, LISTS)
-
-    def which_file(self) -> str:
-        """A restore puts another file into the room's place, with other members."""
-        return commands.run(["stat", "-c", "file %i of %W", "--", self.room.file]).out
-
-    def known_after(self) -> str:
-        """The file, and the last backup when it was looked at: a clock may have been set back."""
-        last = self.last_lists()
-        return f"{self.which_file()} after {os.path.basename(os.path.dirname(last))}"
+    def last(self) -> backups.Backup | None:
+        found = backups.known(self.room).backups
+        return found[-1] if found else None
 
     def known(self) -> set[Pair] | None:
         """What was read or applied last, or the members in the last backup if that is newer. Both
         count only for the file of which they are known."""
-        last = self.last_lists()
-        try:
-            with open(self.state, encoding="utf-8") as source:
-                first, _, kept = source.read().partition("\n")
-        except OSError:
-            first = kept = ""
-        file = first.partition(" after ")[0]
-        if file != self.which_file() or not file:
+        last, kept = self.last(), known.kept(self.room)
+        if kept is None or kept.file != known.which_file(self.room) or not kept.file:
             if not (self.dry and last):
                 return None
-            say(f"compared with the backup {os.path.basename(os.path.dirname(last))}: this file of "
-                "the room is new, as after a restore, and a run without --dry-run looks into it")
-        elif not last or first == self.known_after():
-            return members.of_text(kept)
-        return dump.members(last)
-
-    def keep_known(self, pairs: set[Pair]) -> None:
-        try:
-            backups.make_folder(self.room)
-            with open(self.state + ".new", "w", encoding="utf-8") as target:
-                target.write(f"{self.known_after()}\n{members.as_text(pairs)}")
-            os.rename(self.state + ".new", self.state)
-        except OSError:
-            say(f"{self.state} can't be written: the next run looks into the room again")
+            say(f"compared with the backup {last.name}: this file of the room is new, as after a "
+                "restore, and a run without --dry-run looks into it")
+        elif not last or known.is_newer(kept, last):
+            return kept.members
+        return known.in_backup(self.room, last).members
 
     def guard(self, going: set[Pair], all_of_them: int, most: int) -> None:
         if all_of_them > LIMIT:
@@ -198,7 +174,7 @@ class Run:
                           "them by --dry-run, and --force if that is meant")
 
     def bring(self) -> None:
-        groups, most = settings.groups(_beside(self.room, None))
+        groups, most = settings.groups(self.room.beside(".groups"))
         wanted = self.ask(groups)
         now = self.known()
         if now is None and self.dry:
@@ -214,10 +190,13 @@ class Run:
                 return
             self.guard(going, len(others | wanted), most)
         self.lock()
+        with contextlib.suppress(OSError):
+            # Where an earlier version kept what was known.
+            os.unlink(os.path.join(backups.folder(self.room), ".directory.csv"))
         with server.at_rest(self.room):
             now = members.read(self.room)
             # What is refused now is refused without a stop the next time.
-            self.keep_known(now)
+            known.try_to_keep(self.room, known.here(self.room, now))
             coming, going, others = compare(now, wanted, groups)
             self.guard(going, len(others | wanted), most)
             show(coming, going)
@@ -225,44 +204,35 @@ class Run:
                 self.replace(others | wanted)
 
     def replace(self, pairs: set[Pair]) -> None:
-        """What was known goes first: a run that is cut off leaves nothing known, and the next one
-        looks."""
-        if os.path.exists(self.state):
-            os.unlink(self.state)
-        say(members.write(self.room, pairs))
-        self.keep_known(pairs)
-        for failure in people.write(self.room, pairs):
+        say(known.replace(self.room, pairs))
+        for failure in people.write(self.room, known.here(self.room, pairs)):
             say(failure)
 
     def names(self) -> None:
         """Users of the room, as the last backup has them in lists and groups, whom the directory
         writes in other capitals: they would be somebody else."""
-        last = self.last_lists()
-        if not last:
-            raise Refused("no backup yet, where names are looked for: systemctl start rooms-nightly"
-                          + self.room.unit.removeprefix("rooms"))
-        asked = Asked(Directory(settings.directory(_beside(self.room, "directory"))))
+        if not self.last():
+            raise Refused("no backup yet, where names are looked for: systemctl start "
+                          f"{self.room.nightly}")
+        asked = Asked(Directory(_directory(self.room)))
         theirs = {one.lower(): one for one in asked.users.values()}
         same = set(asked.users.values())
         ours = set()
-        with safe.own_file(last) as source:
-            for line in source:
-                words = line.decode(errors="replace").rstrip("\n").replace(":", " ").split(" ")
-                if words[0] in ("folder", "document"):
-                    ours.add(words[1])
-                elif words[0] == "member":
-                    ours.add(words[2])
-                elif len(words) > 3 and "g" not in words[1] and not words[2].endswith("@"):
-                    ours.add(words[2])
+        with texts.of_last(self.room, texts.LISTS) as source:
+            for row in dump.rows(source):
+                if not isinstance(row, dump.Object):
+                    ours.add(row[1])
+                    continue
+                named = [entries.entry(line.decode("ascii", "replace"))
+                         for line in row.dacl[1:] + row.sacl[1:]]
+                ours |= {row.owner, *(one.user for one in named if one and one.user)}
         for one in sorted(ours - same):
             if one.lower() in theirs:
                 print(f"{one}: the directory has {report.line(theirs[one.lower()])}")
 
 
-def _beside(room: Room, name: str | None) -> str:
-    if name is None:
-        return room.conf.removesuffix(".conf") + ".groups"
-    return os.path.join(os.path.dirname(room.conf), name)
+def _directory(room: Room) -> settings.Directory:
+    return settings.directory(os.path.join(os.path.dirname(room.conf), "directory"))
 
 
 def compare(now: set[Pair], wanted: set[Pair], groups: dict[str, str]

@@ -8,27 +8,20 @@ import os
 from collections.abc import Iterator
 
 from ..cli import report, words
-from ..room import names
+from ..room import dump, names
 from ..room.http_client import Caller, caller_arguments, caller_of, client
 from ..cli.report import Refused, say
 
 
-def objects(path: str) -> Iterator[tuple[str, bytes]]:
-    """The owner and the path of each object, by what `rooms dump` prints: folder OWNER GROUP PATH,
-    or document OWNER GROUP SIZE PATH. The path is all that stands behind, blanks too."""
+def rows(path: str) -> Iterator[dump.Object | dump.Pair]:
+    """Of what `rooms dump` has printed, by whomever."""
     with open(path, "rb") as source:
-        for line in source:
-            kind, _, rest = line.rstrip(b"\n").partition(b" ")
-            if kind in (b"folder", b"document"):
-                words = rest.split(b" ", 2 if kind == b"folder" else 3)
-                if len(words) == (3 if kind == b"folder" else 4):
-                    yield words[0].decode(errors="replace"), words[-1]
+        yield from dump.rows(source)
 
 
 def knows(path: str, user: str) -> bool:
-    with open(path, "rb") as source:
-        return any(line.split()[:1] == [b"member"] and line.split()[2:3] == [user.encode()]
-                   for line in source) or any(owner == user for owner, _ in objects(path))
+    return any(user == (one.owner if isinstance(one, dump.Object) else one[1])
+               for one in rows(path))
 
 
 def arguments(parser: words.Parser) -> None:
@@ -48,8 +41,8 @@ def _look_at(lists: str, giver: str, taker: str) -> None:
         raise Refused(f"bad arguments: {giver} would give to {taker}")
     if not os.path.isfile(lists) or not os.access(lists, os.R_OK):
         raise Refused(f"no lists: {lists} isn't a file that can be read")
-    first = next(objects(lists), None)
-    if first is None or first[1] != b"/":
+    first = next(rows(lists), None)
+    if not isinstance(first, dump.Object) or first.path != b"/":
         raise Refused(f"no lists: {lists} doesn't begin as what rooms dump prints")
 
 
@@ -62,7 +55,7 @@ def give(room: str, caller: Caller, lists: str, giver: str, taker: str, dry: boo
     asked = client(room, caller, "the same command goes on where this one stopped", True)
     if not knows(lists, taker):
         say(f"{taker} owns nothing and is in no group, as {lists} says: is the name right?")
-    mine = [path for owner, path in objects(lists) if owner == giver]
+    mine = [one.path for one in rows(lists) if isinstance(one, dump.Object) and one.owner == giver]
     handed = others = 0
     for number, path in enumerate(mine, 1):
         report.progress(f"{number} of {len(mine)}: {os.fsdecode(path)}")

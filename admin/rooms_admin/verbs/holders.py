@@ -9,7 +9,7 @@ from dataclasses import dataclass
 from ..host import locks
 from ..host.commands import printed
 from ..room import settings
-from . import await_server
+from . import await_
 
 
 @dataclass
@@ -55,18 +55,16 @@ def rooms_of(file: str) -> list[str]:
     found = []
     for conf in sorted(glob.glob(f"{glob.escape(settings.HOME)}/*.conf")):
         if settings.value(conf, "FILE") == file:
-            found.append(os.path.basename(conf).removesuffix(".conf"))
+            found.append(settings.name_of(conf))
     return found
 
 
 def answers(name: str) -> bool:
     """Whether the server of a room does, wherever its settings say that it listens."""
     conf = f"{settings.HOME}/{name}.conf"
-    port = settings.value(conf, "PORT")
-    if not settings.is_port(port) or settings.value(conf, "SOCKET") == "yes":
-        # Whatever listens at the port isn't this server.
-        port = ""
-    return await_server.is_well(port, os.path.join(locks.RUN, "rooms", name, "socket"))
+    port = settings.port(conf)
+    return await_.is_well(port if settings.is_port(port) else "",
+                          os.path.join(locks.RUN, "rooms", name, "socket"))
 
 
 def shown(unit: str, what: str) -> str:

@@ -16,27 +16,21 @@ SPARE = 256 << 20
 
 
 def found(room: Room) -> backups.Found:
-    return backups.hourly(room.backups, backups.name_of(room.conf), room.base)
+    return backups.hourly(room.backups, room.name, room.base)
 
 
 def place(room: Room) -> str:
-    return backups.hours_below(room.backups, backups.name_of(room.conf))
+    return backups.hours_below(room.backups, room.name)
 
 
-def moment(copy: backups.Backup) -> float:
-    """When it was made. Its name is local time, and an autumn night has one hour twice."""
-    try:
-        return os.stat(os.path.join(copy.place, backups.RUN)).st_mtime
-    except FileNotFoundError:  # Somebody else has put it there.
-        return os.stat(copy.place).st_mtime
+def age(copy: backups.Backup, now: float) -> float:
+    """Seconds since it was made. Of a name that no clock has shown it was long ago."""
+    return now - (backups.made(copy) or 0)
 
 
 def is_due(kept: list[backups.Backup], now: float) -> bool:
     """An hour after the last one. One from a time to come was made before a clock was set back."""
-    if not kept:
-        return True
-    age = now - moment(kept[-1])
-    return age >= HOUR or age < -60
+    return not kept or age(kept[-1], now) >= HOUR or age(kept[-1], now) < -60
 
 
 def wants(room: Room, kept: list[backups.Backup]) -> int:

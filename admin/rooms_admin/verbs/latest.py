@@ -10,7 +10,7 @@ from ..cli.report import Refused
 
 def arguments(parser: words.Parser) -> None:
     words.word(parser, "file", "[FILE]", "a name such as lists.txt")
-    words.room(parser, former="")
+    words.room(parser)
 
 
 def run(given: argparse.Namespace) -> int:

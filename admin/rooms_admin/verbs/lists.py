@@ -15,7 +15,7 @@ import argparse
 from collections.abc import Iterable, Iterator
 
 from ..cli import report, words
-from ..room import dump, naming, texts
+from ..room import dump, entries, naming, texts
 from ..room.dump import LISTS, Object, Pair, as_text
 from . import asked
 from ..cli.report import Refused, say
@@ -35,7 +35,7 @@ def at(rows: Rows, path: bytes, below: str) -> Iterator[Object]:
             if not below:
                 break
         elif below and one.path.startswith(base) and not (
-                linked and all(map(dump.is_inherited, one.list_of(below)[1:]))):
+                linked and all(map(entries.is_inherited, one.list_of(below)[1:]))):
             yield one
 
 

@@ -4,51 +4,48 @@ import argparse
 import csv
 import json
 import os
-import time
+import re
 import unicodedata
 
-from ..cli import words
-from ..host import locks, safe, waiting
-from ..room import backups, dump, names, passwords, program, published, server, settings
-from ..room.dump import Pair
-from ..room.members import after, as_text, of_text, read
-from ..cli.report import Refused, say
+from ..cli import shared, words
+from ..host import locks, safe
+from ..room import dump, known, names, passwords, published, settings
+from ..room.known import Known
+from ..cli.report import say
 from ..room.settings import Room
 
 FILE = "people.json"
-# What was known last of the groups, for root alone.
-MEMBERS = "members.csv"
 _LONGEST = 200
 # They would turn the rest of a sentence round.
-_TURNING = set("\u202a\u202b\u202c\u202d\u202e\u2066\u2067\u2068\u2069")
+_TURNING = re.compile(f"[{shared.table('invisible_signs')['turning']}]")
 
 
-def write(room: Room, members: set[Pair], at: float | None = None) -> list[str]:
-    """The file of a room whose groups had these members at that moment, or have them now. Returns
-    what is wrong with it, a line each: nobody's work stops for it."""
+def write(room: Room, what: Known | None) -> list[str]:
+    """The file of a room whose groups had these members. Returns what is wrong with it, a line
+    each: nobody's work stops for it."""
     failures: list[str] = []
     if not published.has_name(room):
         return failures
-    made = time.time() if at is None else at
     try:
+        if what:
+            known.keep(room, what)
         if room.people == "no":
             published.remove(room, FILE)
-        else:
-            _keep(room, members, made)
-            published.put(room, FILE, _text(room, members, made, failures))
+        elif what:
+            published.put(room, FILE, _text(room, what, failures))
     except OSError as fault:
         failures.append(f"{FILE} isn't written, and users see the last one: {fault}")
     return failures
 
 
-def _text(room: Room, members: set[Pair], made: float, failures: list[str]) -> bytes:
-    users = {user for _, user in members}.union(
+def _text(room: Room, what: Known, failures: list[str]) -> bytes:
+    users = {user for _, user in what.members}.union(
         *(with_password(file) for file in passwords.password_files(published.name_of(room))))
     groups: dict[str, list[str]] = {}
-    for group, user in sorted(members):
+    for group, user in sorted(what.members):
         groups.setdefault(group, []).extend([user] if room.people == "full" else [])
-    full = full_names(published.beside(room, ".names"), users, failures)
-    text = json.dumps({"made": published.moment(made), "members": room.people == "full",
+    full = full_names(room.beside(".names"), users, failures)
+    text = json.dumps({"made": published.moment(what.at), "members": room.people == "full",
                        "users": sorted(users), "groups": groups, "names": full},
                       separators=(",", ":"))
     return text.encode() + b"\n"
@@ -56,7 +53,9 @@ def _text(room: Room, members: set[Pair], made: float, failures: list[str]) -> b
 
 def nightly(room: Room, lists: str) -> list[str]:
     """From what the nightly run has just written beside its backup."""
-    return write(room, dump.members(lists), os.stat(lists).st_mtime)
+    with safe.own_file(lists) as source:
+        return write(room, known.here(room, dump.members(source),
+                                      os.fstat(source.fileno()).st_mtime))
 
 
 def with_password(path: str) -> set[str]:
@@ -99,54 +98,10 @@ def _why_not(row: list[str], found: dict[str, str]) -> str:
         return f"is a second one of {row[0]}"
     if len(row[1]) > _LONGEST:
         return f"has a name of more than {_LONGEST} characters"
-    if any(unicodedata.category(one) in ("Cc", "Cs", "Zl", "Zp") or one in _TURNING
-           for one in row[1]):
+    if _TURNING.search(row[1]) or any(
+            unicodedata.category(one) in ("Cc", "Cs", "Zl", "Zp") for one in row[1]):
         return "has a sign in its name that can't be shown"
     return ""
-
-
-def _keep(room: Room, members: set[Pair], made: float) -> None:
-    """So that a run which only has other passwords knows the groups. After which backup they were
-    known stands in the first line: a clock may be set back. Nobody waits for a disk that hangs."""
-    try:
-        number = _last_number(room)
-    except waiting.Hangs:
-        number = None
-    safe.put_file(f"{published.folder(room)}/{MEMBERS}", as_text(members, number).encode(), 0o600,
-                  at=made)
-
-
-def _last_number(room: Room) -> int:
-    return max((one.number for one in backups.known(room).backups), default=0)
-
-
-def _kept(room: Room) -> tuple[str, float]:
-    """What was known last, and since when; nothing if nothing was."""
-    try:
-        with safe.own_file(f"{published.FOLDER}/{published.name_of(room)}/{MEMBERS}") as source:
-            return (source.read().decode("ascii", "replace"), os.fstat(source.fileno()).st_mtime)
-    except FileNotFoundError:
-        return "", 0.0
-
-
-def known(room: Room) -> tuple[set[Pair], float]:
-    """The members of groups, and since when they are known. A room that nobody serves is asked;
-    of another one the last backup tells it, or what was known last if that is newer."""
-    if server.state(room) == "inactive":
-        return read(room, program.enough(room, room.file)), time.time()
-    last = backups.newest(room, "lists.txt")
-    text, kept_at = _kept(room)
-    if not text and not last:
-        raise Refused("no backup yet, whose groups are shown: systemctl start rooms-nightly"
-                      + room.unit.removeprefix("rooms"))
-    if not last:
-        return of_text(text), kept_at
-    last_at = os.stat(last).st_mtime
-    # By the time where an earlier version has written it.
-    number = after(text)
-    if text and (kept_at >= last_at if number is None else number >= _last_number(room)):
-        return of_text(text), kept_at
-    return dump.members(last), last_at
 
 
 def arguments(parser: words.Parser) -> None:
@@ -159,8 +114,7 @@ def run(given: argparse.Namespace) -> int:
     room = settings.room(given.room)
     published.name_of(room)
     with locks.lock(room.unit, 60):
-        members, at = known(room) if room.people != "no" else (set(), 0.0)
-        failures = write(room, members, at)
+        failures = write(room, known.newest(room) if room.people != "no" else None)
     for failure in failures:
         say(failure)
     return 1 if failures else 0

@@ -15,6 +15,7 @@ from . import asked
 from ..cli.report import Stop, say
 
 _HEADER = "at,user,path,bits,granted,entry,kind"
+_BAD = "the records can't be read"
 
 
 @dataclass
@@ -43,9 +44,13 @@ class Record:
 def records(lines: Iterable[str]) -> Iterator[Record]:
     for at, user, path, bits, granted, entry, kind in texts.fields(lines, _HEADER, "the records"):
         try:
-            if granted not in ("yes", "no") or kind not in ("audit", "alarm"):
-                raise ValueError(f"'{granted}' and '{kind}'")
-            yield Record(int(at), user, path, bits, granted == "yes", int(entry), kind)
+            if (granted not in ("yes", "no") or kind not in ("audit", "alarm")
+                    or not set(bits) <= names.RIGHTS):
+                raise ValueError(f"{granted[:80]!a}, {kind[:80]!a} and {bits[:80]!a}")
+            if user:
+                names.user_in(user, _BAD)
+            yield Record(int(at), user, names.path_in(path, _BAD), bits, granted == "yes",
+                         int(entry), kind)
         except ValueError as fault:
             raise Stop(f"the records can't be read: one says {fault}") from fault
 

@@ -56,7 +56,7 @@ def _remove(made: Changes, name: str) -> None:
             owned.enter_context(locks.lock(f"rooms@{name}.nightly", 2))
             owned.enter_context(locks.lock(f"rooms@{name}", 2))
         if not made.root:
-            made.systemctl("disable", "--now", f"rooms-nightly@{name}.timer",
+            made.systemctl("disable", "--now", f"{settings.nightly_unit(name)}.timer",
                            f"rooms-standby@{name}.timer", f"rooms-directory@{name}.timer",
                            f"rooms@{name}")
         _say_kept(made, kept)

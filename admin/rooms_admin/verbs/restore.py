@@ -10,9 +10,10 @@ moment, and started whatever happened.
 With --machine it touches no room that is there. It brings back what the machine had beside its
 rooms, from machine.tar in BACKUP, or from a tar that is named in its place, and prints each file.
 What is replaced is kept before, in /var/backups/rooms/before-machine.DATE.tar; to name that one
-goes back. Trust a tar as you trust root: what is in it says what runs as root."""
+goes back. Trust a tar as you trust root in what the verb names: that may say what runs as root."""
 import argparse
 import os
+import shlex
 import time
 from contextlib import ExitStack
 
@@ -20,7 +21,7 @@ from ..cli import report, words
 from ..host import commands, locks, safe
 from ..room import (backups, health, machine, passwords, private_server, program, server,
                     settings)
-from . import restore_machine
+from . import machine_tar, restore_machine
 from ..cli.report import Interrupted, Refused, Stop, say
 from ..room.settings import Room
 
@@ -265,13 +266,11 @@ def restore_room(conf: str, backup: str, start: bool) -> None:
             task.start_server()
 
 
-def _start_all(tar: restore_machine.Tar) -> int:
+def _start_all(tar: machine_tar.Tar) -> int:
     """What is left on a new machine. What is done already is done again, or changes nothing."""
     failed = 0
     server.systemctl("daemon-reload")
-    for name in sorted(tar.files):
-        if not name.startswith("etc/rooms/") or not name.endswith(".conf"):
-            continue
+    for name in tar.rooms():
         conf = f"{machine.ROOT}/{name}"
         try:
             room = settings.room(conf)
@@ -282,8 +281,7 @@ def _start_all(tar: restore_machine.Tar) -> int:
             failed += 1
     words = [["reload-or-restart", "nginx"]] if commands.shown(["nginx", "-t"]) else []
     failed += not words
-    words += [["enable", "--now", one] for one in tar.lines("machine/enabled")
-              if settings.matches(settings.UNIT, one)]
+    words += [["enable", "--now", one] for one in tar.lines("machine/enabled")]
     for one in words:
         print("systemctl " + " ".join(one))
         if server.systemctl(*one)[0] != 0:
@@ -299,14 +297,10 @@ def _tell_rest(task: restore_machine.Machine) -> None:
         return
     if any(passwords.is_old(f"/{name}") or passwords.is_kept(f"{machine.ROOT}/{name}")
            for name in task.added + task.changed):
-        date = [one.removeprefix("date ") for one in tar.lines("machine/about")
-                if one.startswith("date ")]
-        print(f"Passwords are those of {''.join(date[:1])}: take away again what was taken away "
-              "since")
+        print(f"Passwords are those of {tar.date()}: take away again what was taken away since")
     print("What is left, where this is a new machine (docs/backup.md), which --start does:")
-    for name in sorted(tar.files):
-        if name.startswith("etc/rooms/") and name.endswith(".conf"):
-            print(f"  rooms-admin restore --room /{name} latest")
+    for name in tar.rooms():
+        print(f"  rooms-admin restore --room {shlex.quote('/' + name)} latest")
     print("  rooms-admin setup; systemctl daemon-reload; nginx -t && "
           "systemctl reload-or-restart nginx")
     # One after the other, since systemctl refuses all of them where one isn't there.
@@ -318,7 +312,7 @@ def bring_back_machine(given: argparse.Namespace) -> int:
     if not machine.ROOT and os.geteuid() != 0:
         raise Refused("not root")
     conf = settings.file_of(given.room)
-    tar = restore_machine.read(restore_machine.find(conf, given.backup))
+    tar = machine_tar.read(machine_tar.find(conf, given.backup))
     with ExitStack() as owned:
         task = restore_machine.Machine(tar, owned)
         task.lock()
@@ -345,7 +339,7 @@ def arguments(parser: words.Parser) -> None:
     parser.forms = ["[--room ROOM] [--start] BACKUP", "[--room ROOM] [--start] --undo",
                     "[--room ROOM] --machine [--dry-run] [--start] BACKUP"]
     words.word(parser, "backup", "[BACKUP]", "a folder, the name of a backup, or latest")
-    words.room(parser, former="")
+    words.room(parser)
     what = parser.add_mutually_exclusive_group()
     words.flag(what, "--undo", "put the old room back after a restore that was cut off")
     words.flag(what, "--machine", "bring back what the machine had beside its rooms")
@@ -367,7 +361,7 @@ def run(given: argparse.Namespace) -> int:
     backup = given.backup
     if "/" in backup:
         backup = os.path.abspath(backup)
-    conf = given.room and os.path.abspath(settings.file_of(given.room))
+    conf = given.room and settings.file_of(given.room)
     os.chdir("/")
     restore_room(conf, backup, given.start)
     return 0

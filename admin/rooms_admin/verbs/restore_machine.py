@@ -1,214 +1,35 @@
 """What a machine had beside its rooms, brought back from machine.tar. Whoever wrote the tar is
-trusted as root is, since drop-ins of units and certbot's hooks run as root. What is cheap is looked
-at even so, before anything is written: each name, link and file; and no program that it names is
-run."""
+trusted as root is in what is named as such, since drop-ins of units and certbot's hooks run as
+root, and in nothing else."""
 import glob
 import os
 import re
 import shutil
-import tarfile
 import time
-from collections import Counter
 from collections.abc import Iterator
 from contextlib import ExitStack, contextmanager, suppress
-from dataclasses import dataclass, field
 
 from ..host import locks, safe
-from ..room import backups, machine, passwords, program, settings
+from ..room import machine, passwords, program, settings
 from ..room.machine import ROOT
-from ..site import template
+from . import machine_tar
+from .machine_tar import File, Tar, folders, setting_of
 from ..cli.report import Refused, Stop, say
-
-_MOST = 64 << 20
-_OWN_WORDS = ("machine/about", "machine/certificates", "machine/enabled", "machine/added")
-_PLACE = re.compile(r"(/[-A-Za-z0-9._+@,=:]+)+", re.ASCII)
-# Lines of a certificate or key: in a block, and beside one, as openssl writes them.
-_PEM = re.compile(r"-----(BEGIN|END) [A-Z0-9 ]+-----|[A-Za-z0-9+/=]{1,76}"
-                  r"|(Proc-Type|DEK-Info): [A-Za-z0-9,-]+", re.ASCII)
-_BESIDE = re.compile(r"|#.*|(subject|issuer) ?=.*|(Bag|Key) Attributes.*|    [A-Za-z0-9]+: .*",
-                     re.ASCII)
-
-
-@dataclass
-class File:
-    data: bytes = b""
-    mode: int = 0
-    link: str = ""
-
-
-@dataclass
-class Tar:
-    place: str
-    words: dict[str, str] = field(default_factory=dict)
-    files: dict[str, File] = field(default_factory=dict)
-
-    def lines(self, word: str) -> list[str]:
-        return [one for one in self.words.get(word, "").split("\n") if one]
-
-
-def find(conf: str, backup: str) -> str:
-    """A machine that is new may have no settings that can be read."""
-    folder = "/var/backups/rooms"
-    try:
-        with open(conf, encoding="utf-8", errors="surrogateescape") as source:
-            folder = settings.last(source.read().split("\n"), "BACKUPS") or folder
-    except OSError:
-        pass
-    folder = ROOT + folder
-    if backup == "latest":
-        found = backups.with_file(folder, backups.name_of(conf), "machine.tar")
-        if not found:
-            raise Refused(f"no machine: no backup in {folder} has a machine.tar")
-        backup = found[-1].place
-    for above in (backups.below(folder, backups.name_of(conf)), folder):
-        if "/" not in backup and os.path.isdir(os.path.join(above, backup)):
-            backup = os.path.join(above, backup)
-    if os.path.isdir(backup):
-        backup = os.path.join(backup, "machine.tar")
-    return os.path.abspath(backup)
-
-
-def _is_pem(data: bytes) -> bool:
-    """All of its lines, since a file of another kind may have one such line."""
-    inside, found = False, False
-    for line in data.decode("utf-8", "replace").replace("\r\n", "\n").split("\n"):
-        if line.startswith("-----BEGIN "):
-            inside = found = True
-        if not (_PEM if inside else _BESIDE).fullmatch(line) and not (inside and not line):
-            return False
-        if line.startswith("-----END "):
-            inside = False
-    return found
-
-
-def _is_own_name(name: str, certificates: list[str]) -> bool:
-    parts = name.split("/")
-    return (not {"", ".", ".."} & set(parts) and "\\" not in name and name.isprintable()
-            and (machine.OWN.fullmatch(name) is not None or "/" + name in certificates))
-
-
-def _opened(place: str) -> int:
-    """What it has runs as root, so nobody else may have written it. Links on the way are those of
-    whoever has named it; what is looked at is what is read, whatever gets its name meanwhile."""
-    above, name = os.path.split(place)
-    try:
-        with safe.opened(safe.folder(above)) as within:
-            number = safe.file_below(within, name)
-    except safe.NoFile:
-        raise Refused(f"no machine: {place} isn't a file") from None
-    except OSError:
-        raise Refused(f"no machine: {place} isn't there or can't be read") from None
-    seen = os.fstat(number)
-    fault = ""
-    if seen.st_uid not in (0, os.geteuid()) or seen.st_mode & 0o022:
-        fault = (f"not safe: {place} is one that others can write, and what it has runs as root: "
-                 "copy it to where only root does, once you know that it is yours")
-    elif seen.st_size > _MOST:
-        fault = f"no machine: {place} has more than {_MOST >> 20} MB"
-    if fault:
-        os.close(number)
-        raise Refused(fault)
-    return number
-
-
-def _members(place: str) -> list[tuple[tarfile.TarInfo, bytes]]:
-    found = []
-    try:
-        with open(_opened(place), "rb") as opened, \
-                tarfile.open(fileobj=opened, mode="r:") as tar:
-            for member in tar:
-                # One with holes may be far larger than the tar.
-                plain = member.type == tarfile.REGTYPE and not member.issparse()
-                source = tar.extractfile(member) if plain else None
-                data = source.read() if source else b""
-                if source and len(data) != member.size:
-                    raise tarfile.ReadError("unexpected end of data")
-                found.append((member, data))
-    except (tarfile.TarError, OSError, EOFError, ValueError) as fault:
-        raise Refused(f"no machine: {place} isn't a whole tar: {fault}") from fault
-    return found
-
-
-def read(place: str) -> Tar:
-    """Nothing is written before every name, link and file was looked at."""
-    members = _members(place)
-    tar = Tar(place)
-    for member, data in members:
-        if member.name in _OWN_WORDS and member.type == tarfile.REGTYPE:
-            tar.words[member.name] = data.decode("utf-8", "surrogateescape")
-    for word in _OWN_WORDS[:2]:
-        if word not in tar.words:
-            raise Refused(f"no machine: {place} has no {word}")
-    certificates = tar.lines("machine/certificates")
-    for one in certificates:
-        if not _PLACE.fullmatch(one) or {".", ".."} & set(one.split("/")):
-            raise Refused(f"not ours: {place} names the certificate '{one}'")
-    links = {member.name for member, _ in members if member.type != tarfile.REGTYPE}
-    for name, times in Counter(member.name for member, _ in members).items():
-        if times > 1:
-            raise Refused(f"not ours: {place} has '{name}' twice")
-        if name not in _OWN_WORDS and not _is_own_name(name, certificates):
-            raise Refused(f"not ours: {place} has '{name}'")
-        if any(above in links for above in _folders(name)):
-            raise Refused(f"not ours: {place} has '{name}' below a link")
-    for member, data in members:
-        if member.name not in tar.words:
-            tar.files[member.name] = _look_at(place, member, data)
-    _look_at_places(tar, certificates)
-    return tar
-
-
-def _folders(name: str) -> list[str]:
-    """Those on the way to a file, from the top."""
-    parts = name.split("/")
-    return ["/".join(parts[:number]) for number in range(1, len(parts))]
-
-
-def _look_at(place: str, member: tarfile.TarInfo, data: bytes) -> File:
-    if member.type == tarfile.SYMTYPE:
-        if not machine.is_own_link(member.name, member.linkname):
-            raise Refused(f"not ours: {place} has '{member.name}', a link to '{member.linkname}'")
-        return File(link=member.linkname)
-    if member.type != tarfile.REGTYPE or member.issparse() or member.mode & 0o7000:
-        raise Refused(f"not ours: {place} has '{member.name}', which is no ordinary file")
-    return File(data, member.mode & 0o777)
-
-
-def _look_at_places(tar: Tar, certificates: list[str]) -> None:
-    for one in certificates:
-        file = tar.files.get(one[1:])
-        if file is None or file.link:
-            continue
-        if not _is_pem(file.data):
-            raise Refused(f"not ours: '{one}' in {tar.place} is no certificate and no key")
-        if os.path.exists(ROOT + one):
-            with open(ROOT + one, "rb") as source:
-                if not _is_pem(source.read(_MOST)):
-                    raise Refused(f"another file: {one} is here, and is no certificate and no key")
-    for one in tar.lines("machine/added"):
-        if not _is_own_name(one, certificates):
-            raise Refused(f"not ours: {tar.place} would remove '{one}'")
-
-
-def _settings_of(data: bytes, name: str) -> str:
-    return settings.last(data.decode("utf-8", "replace").split("\n"), name) or ""
 
 
 def look_at_version(tar: Tar, conf: str) -> str:
     """An older version's files on a newer one are what an upgrade leaves that keeps what was
     changed. A newer version's files may need what is missing here. The program that is asked is the
     one of this machine."""
-    confs = [one for name, one in tar.files.items()
-             if name.startswith("etc/rooms/") and name.endswith(".conf")]
-    for one in confs:
-        named = _settings_of(one.data, "PROGRAM")
+    for name in tar.rooms():
+        named = setting_of(tar.files[name].data, "PROGRAM")
         if named and not (os.path.isfile(named) and os.access(named, os.X_OK)):
             raise Refused(f"no program: {named}, of a room in {tar.place}, isn't here; install "
                           "rooms as that machine had it, by the package or by deploy/install")
-    saved = re.match(r"rooms (\S+)\n", tar.words["machine/about"])
+    saved = re.match(r"rooms ([0-9A-Za-z.+~-]{1,60})\n", tar.words["machine/about"])
     if saved is None:
         raise Refused(f"no machine: {tar.place} doesn't say which version it is of")
-    if not confs:
+    if not tar.rooms():
         raise Refused(f"no machine: {tar.place} has no settings of a room")
     here = _version_here(conf)
     if saved[1] != here:
@@ -223,7 +44,7 @@ def look_at_version(tar: Tar, conf: str) -> str:
 def _version_here(conf: str) -> str:
     try:
         with open(conf, "rb") as source:
-            named = _settings_of(source.read(), "PROGRAM")
+            named = setting_of(source.read(), "PROGRAM")
     except OSError:
         named = ""
     return program.version_of(named or settings.PROGRAM)
@@ -256,8 +77,8 @@ class Machine:
         units = set()
         for conf in glob.glob(f"{glob.escape(ROOT)}/etc/rooms/*.conf"):
             with open(conf, "rb") as source:
-                named = _settings_of(source.read(), "UNIT")
-            units.add(named or "rooms@" + os.path.basename(conf).removesuffix(".conf"))
+                named = setting_of(source.read(), "UNIT")
+            units.add(named or f"rooms@{settings.name_of(conf)}")
         for one in sorted(units):
             if settings.matches(settings.UNIT, one):
                 self.owned.enter_context(locks.lock(f"{one}.nightly", 0))
@@ -273,7 +94,7 @@ class Machine:
         self.going = [name for name in self.tar.lines("machine/added")
                       if os.path.lexists(f"{ROOT}/{name}")]
         for above in sorted({one for name in [*self.tar.files, *self.going]
-                             for one in _folders(name)}):
+                             for one in folders(name)}):
             if os.path.islink(f"{ROOT}/{above}"):
                 raise Refused(f"a link on the way: /{above} leads elsewhere, and nothing is made "
                               "below a link: put what the tar has there in place by hand")
@@ -299,7 +120,7 @@ class Machine:
         fresh = f"{self.private}/tar"
         try:
             for lack in machine.save(fresh, version, self.added,
-                                     self.tar.lines("machine/certificates")):
+                                     [f"/{one}" for one in self.tar.certificates]):
                 say(f"of {self.before}: {lack}")
             os.rename(fresh, self.before)
         except OSError as fault:
@@ -336,9 +157,11 @@ class Machine:
     def tell_trusted(self) -> None:
         """What of it runs as root."""
         for name in sorted(self.added + self.changed):
-            if _runs_as_root(name, self.tar.files[name]):
+            if not machine_tar.is_plain(self.tar, name):
                 say(f"/{name} may say what runs as root: read it, unless you trust whoever wrote "
                     f"{self.tar.place} as you trust root")
+            if self.tar.files[name].ran:
+                say(f"/{name} is no program any more: read it, and then chmod +x /{name}")
 
     def remove_unfinished(self) -> None:
         """What a run that was cut off has left."""
@@ -369,19 +192,6 @@ def _is_same(place: str, file: File) -> bool:
             return source.read() == file.data
     except (OSError, Stop):
         return False
-
-
-def _runs_as_root(name: str, file: File) -> bool:
-    """What systemd, certbot, nginx and Apache begin as root, and settings with another program."""
-    if name.startswith("etc/rooms/") and name.endswith((".conf", ".on")) and name.count("/") == 2:
-        return _settings_of(file.data, "PROGRAM") not in ("", settings.PROGRAM)
-    if name == "etc/nginx/sites-available/rooms" and not file.link:
-        # One that nobody has edited is written anew from the settings.
-        return template.is_edited(file.data.decode("utf-8", "surrogateescape"))
-    return (name.startswith(("etc/systemd/", "etc/letsencrypt/renewal", "etc/rooms/nginx/"))
-            or name.endswith(".apache")
-            or (name.startswith("etc/nginx/") and not passwords.is_old(f"/{name}")
-                and name != "etc/nginx/sites-enabled/rooms"))
 
 
 def _unfinished(name: str) -> str:

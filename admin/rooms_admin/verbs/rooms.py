@@ -4,7 +4,6 @@ on another machine has no file here.
 With --json it is a list of objects with the names 'name', 'title', 'state', 'at' and 'file'."""
 import argparse
 import glob
-import os
 
 from ..cli import report, words
 from ..room import server, settings
@@ -15,9 +14,7 @@ def _place(conf: str, name: str) -> str:
     on = settings.value(conf, "ON")
     if on:
         return f"on {on}"
-    if settings.value(conf, "SOCKET") == "yes":
-        return f"/run/rooms/{name}/socket"
-    return f"127.0.0.1:{settings.value(conf, 'PORT')}".rstrip(":")
+    return f"/run/rooms/{name}/socket"
 
 
 def _state(conf: str, name: str) -> str:
@@ -34,7 +31,7 @@ def run(given: argparse.Namespace) -> int:
     found = []
     for conf in sorted(glob.glob(f"{glob.escape(settings.HOME)}/*.conf")
                        + glob.glob(f"{glob.escape(settings.HOME)}/*.on")):
-        name = os.path.basename(conf).rpartition(".")[0]
+        name = settings.name_of(conf)
         found.append({"name": name, "title": settings.value(conf, "TITLE"),
                       "state": _state(conf, name), "at": _place(conf, name),
                       "file": settings.value(conf, "FILE")})
@@ -42,6 +39,5 @@ def run(given: argparse.Namespace) -> int:
         report.put_rows(found)
         return 0
     for one in found:
-        line = "  ".join(word for word in one.values() if word)
-        print("".join(sign if sign.isprintable() else "?" for sign in line))
+        print(report.line("  ".join(word for word in one.values() if word)))
     return 0

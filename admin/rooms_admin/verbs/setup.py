@@ -12,7 +12,7 @@ from pwd import getpwnam
 from ..cli import words
 from ..host import changes, commands, locks
 from ..room import passwords, program as runs, settings
-from ..site import apache, apply, directory, legacy, password_files, template
+from ..site import apache, apply, directory, password_files, template, values
 from ..host.changes import Changes
 from ..cli.report import Refused, Stop
 
@@ -57,28 +57,22 @@ def _set_up(made: Changes, pair: tuple[str, str] | None, chosen: str,
     made.folder("/var/backups/rooms", 0o700, "root")
     made.folder("/etc/rooms", 0o755)
     if not os.path.exists(made.root + _OFFICE):
-        text = room_text(made.root, "office", "8780", "office", "/var/backups/rooms", True)
+        text = room_text(made.root, "office", "", "office", "/var/backups/rooms")
         made.file(_OFFICE, text.encode())
     if not made.root and not os.path.isdir("/etc/nginx"):
         print("no nginx here: apt-get install nginx apache2-utils, and then run this again")
         return _end(made, True)
     apply.folders(made)
-    legacy.refuse_lines(made.root)
     password_files.folder(made)
-    if legacy.is_there(made.root):
-        legacy.take(made)
-    else:
-        legacy.put_site(made, "rooms.example", "", "")
+    values.put_site(made)
     if pair:
-        legacy.set_values(made, template.SETTINGS, {"CERTIFICATE": pair[0], "KEY": pair[1]})
+        values.set_values(made, template.SETTINGS, {"CERTIFICATE": pair[0], "KEY": pair[1]})
     if chosen:
         _switch(made, chosen, where)
     _keep_directory(made, not chosen)
     password_files.put(made, "office", settings.place(made.root + _OFFICE).keeps)
     if made.dry and not os.path.exists(made.root + template.SETTINGS):
         # Nothing can be rendered from settings that aren't there.
-        legacy.keep_old_site(made)
-        legacy.clear(made)
         made.does(f"file {template.FILE}")
         return _end(made, True)
     apply.disable_default(made, default_is_packaged(made.root))
@@ -103,11 +97,11 @@ def _end(made: Changes, good: bool) -> int:
 
 def _user(made: Changes) -> None:
     """For the servers, mail about them, the check of passwords, users' own changes of theirs,
-    copies, the doors, and earlier nights."""
+    copies, the doors, earlier nights, and ports."""
     if made.root:
         return
     for name in ("rooms", "rooms-mail", changes.CHECKER, passwords.KEEPER, runs.COPIES,
-                 "rooms-door", "rooms-night", "rooms-earlier"):
+                 "rooms-door", "rooms-night", "rooms-earlier", "rooms-port"):
         try:
             getpwnam(name)
         except KeyError:
@@ -115,13 +109,12 @@ def _user(made: Changes) -> None:
                 changes.run("systemd-sysusers", "rooms.conf")
 
 
-def room_text(root: str, name: str, port: str, title: str, backups: str, socket: bool,
-              host: str = "", behind: bool = False) -> str:
-    """The settings of a new room. One with a socket has a port in reserve."""
+def room_text(root: str, name: str, port: str, title: str, backups: str, host: str = "",
+              behind: bool = False) -> str:
+    """The settings of a new room."""
     text = template.template("room.conf.in")
     for word, value in (("NAME", name), ("PORT", port), ("TITLE", title), ("BACKUPS", backups),
                         ("HOST", host), ("BEHIND", "yes" if behind else ""), ("PASSWORDS", ""),
-                        ("SOCKET", "yes" if socket else ""), ("DOOR", "yes" if socket else ""),
                         ("PROGRAM", program(root))):
         text = text.replace(f"@{word}@", value)
     return text
@@ -239,12 +232,12 @@ def _switch(made: Changes, chosen: str, where: settings.Directory | None) -> Non
             path = f"/etc/rooms/{name}"
             if name.endswith((".conf", ".on")) and settings.value(
                     made.root + path, "PASSWORDS") == "directory":
-                legacy.set_values(made, path, {"PASSWORDS": ""})
+                values.set_values(made, path, {"PASSWORDS": ""})
         return
     with open(chosen, "rb") as source:
         made.file("/etc/rooms/directory", source.read())
     apache.put(made, where)
-    legacy.set_values(made, _OFFICE, {"PASSWORDS": "directory"})
+    values.set_values(made, _OFFICE, {"PASSWORDS": "directory"})
     for one in template.gather(made.root).rooms:
         if one.name != "office" and one.passwords == "file" and not one.behind:
             print(f"{one.name} keeps its own passwords; docs/directory.md says how it asks the "
@@ -312,12 +305,11 @@ def _tell_disabled(made: Changes) -> None:
     if made.dry or made.root:
         return
     for name in sorted(os.listdir("/etc/rooms")):
-        room = name.removesuffix(".conf")
-        path = f"/etc/rooms/{name}"
-        if room == name or settings.value(path, "UNIT") not in ("", f"rooms@{room}"):
+        room, path = settings.name_of(name), f"/etc/rooms/{name}"
+        if not name.endswith(".conf") or settings.value(path, "UNIT") not in ("", f"rooms@{room}"):
             continue
         wants = [f"/etc/systemd/system/multi-user.target.wants/rooms@{room}.service",
-                 f"/etc/systemd/system/timers.target.wants/rooms-nightly@{room}.timer"]
+                 f"/etc/systemd/system/timers.target.wants/{settings.nightly_unit(room)}.timer"]
         if os.path.exists(settings.value(path, "FILE")) and not all(map(os.path.islink, wants)):
             print(f"the room {room} isn't served, or has no backups, until: systemctl enable --now "
-                  f"rooms@{room} rooms-nightly@{room}.timer")
+                  f"rooms@{room} {settings.nightly_unit(room)}.timer")

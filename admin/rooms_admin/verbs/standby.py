@@ -1,8 +1,9 @@
 """Copies a room while it is served, for another machine that can take over; a timer runs it every
-five minutes. The server is held for the copy, as by the nightly run. The copy is verified, which
-also puts its log into its file: one file is the whole copy. It takes the place of the last one in
-BACKUPS/NAME/standby, and STANDBY gets it by rsync when it is whole. With HOURS in the settings one
-copy each hour stays in BACKUPS/NAME/hours, and as many as HOURS says."""
+five minutes. Requests wait for the copy, as for that of the nightly run; a room that is too large
+for that is refused. The copy is verified, which also puts its log into its file: one file is the
+whole copy. It takes the place of the last one in BACKUPS/NAME/standby, and STANDBY gets it by rsync
+when it is whole. With HOURS in the settings one copy each hour stays in BACKUPS/NAME/hours, and as
+many as HOURS says."""
 import argparse
 import os
 import shutil
@@ -13,12 +14,13 @@ from ..host import commands, locks, safe
 from ..room import backups, copying, private_server, program, server, settings
 from . import hours
 from ..cli.report import Refused, Stop, say
+from ..room.held import NotHeld
 from ..room.settings import Room
 
 LAST = "the last copy stays"
 
 
-def copy(room: Room, mark: server.Mark, own: str) -> copying.Copy | None:
+def copy(room: Room, own: str) -> copying.Copy | None:
     """Into a folder of this run's own. The lock of the nightly run is held for the copy alone: to
     keep, to verify and to send it may take long."""
     try:
@@ -26,9 +28,11 @@ def copy(room: Room, mark: server.Mark, own: str) -> copying.Copy | None:
             if server.state(room) == "inactive":
                 say(f"{room.unit} isn't running: {LAST}")
                 return None
-            return copying.held(room, mark, own)
-    except copying.NotHeld:
-        raise Stop(f"{room.unit} can't be held: systemctl status {room.unit}") from None
+            return copying.copy(room, own)
+    except copying.TooLong as long:
+        raise Stop(f"copied at night alone, while its server is stopped: {long}; {LAST}") from long
+    except NotHeld as why:
+        raise Stop(f"{why}; {LAST}") from why
     except locks.Busy:
         say(f"another verb is at work: {LAST}")
         return None
@@ -106,18 +110,12 @@ def send(room: Room) -> None:
 
 def arguments(parser: words.Parser) -> None:
     words.room(parser)
-    words.flag(parser, "--after", "only do what a run that was cut off still owes; the unit calls "
-               "it")
 
 
 def run(given: argparse.Namespace) -> int:
     os.umask(0o077)
     os.chdir("/")
     room = settings.room(given.room)
-    mark = server.Mark(os.path.join(locks.RUN, f"rooms-standby.{room.unit}"))
-    if given.after:
-        # Before all that may be refused. A run that is still at work would notice, and copy again.
-        mark.let_go()
     copying.find_backups(room)
     if room.standby and not shutil.which("rsync"):
         raise Refused(f"no rsync: STANDBY in {room.conf} needs it: apt-get install rsync")
@@ -125,26 +123,21 @@ def run(given: argparse.Namespace) -> int:
     with locks.lock(f"{room.unit}.standby", 10), ExitStack() as owned:
         try:
             # What a killed run has left.
-            mark.let_go()
             shutil.rmtree(part, ignore_errors=True)
             hours.remove_left(room)
-            if not given.after:
-                own = owned.enter_context(private_server.own_folder(room))
-                copied = copy(room, mark, own)
-                if copied is not None:
-                    keep(room, copied, own, part)
-                    _remove_former(room)
-                    try:
-                        send(room)
-                    finally:
-                        # Whether or not the other machine has it.
-                        if room.hours:
-                            hours.keep(room, os.path.join(backups.folder(room), "standby"))
+            own = owned.enter_context(private_server.own_folder(room))
+            copied = copy(room, own)
+            if copied is not None:
+                keep(room, copied, own, part)
+                _remove_former(room)
+                try:
+                    send(room)
+                finally:
+                    # Whether or not the other machine has it.
+                    if room.hours:
+                        hours.keep(room, os.path.join(backups.folder(room), "standby"))
         finally:
             report.ignore_signals()
-            mark.let_go()
             shutil.rmtree(part, ignore_errors=True)
             hours.remove_left(room)
-            if os.path.exists(mark.place):
-                os.unlink(mark.place)
     return 0

@@ -19,22 +19,21 @@ from dataclasses import dataclass
 
 from ..cli import report, words
 from ..host import locks
-from ..room import dump, members, names, naming, passwords, published, server, settings
+from ..room import dump, known, members, names, naming, passwords, published, server, settings
 from . import handover, people
 from ..room.dump import Pair
+from ..room.known import Known
 from ..room.http_client import Caller
 from ..cli.report import Interrupted, Refused, Stop, say
 from ..room.settings import Room
 
-_OPTIONS = {"add": ("--groups", "--file", "--first", "--random"), "remove": ("--to", "--password"),
-            "list": ("--json",)}
 _SHOWN = {"yes": "password", "first": "first password", "no": "no password",
           "elsewhere": "password elsewhere"}
 
 
 @dataclass
 class Words:
-    verb: str
+    what: str
     name: str
     conf: str
     groups: list[str]
@@ -47,57 +46,49 @@ class Words:
 
 
 def arguments(parser: words.Parser) -> None:
-    parser.forms = ["add NAME [--groups GROUPS] [--first] [--random] [--room ROOM]",
-                    "add --file FILE [--first] [--room ROOM]",
-                    "remove NAME [--to HEIR | --password] [--room ROOM]",
-                    "list [--room ROOM] [--json]"]
-    parser.add_argument("verb", metavar="WHAT", choices=list(_OPTIONS), help="add, remove or list")
+    words.room(parser)
+    parser.set_defaults(name="", groups="", file="", first=False, random=False, to="",
+                        password=False, json=False)
+    add, remove, listed = parser.has_parts("what", {
+        "add": "somebody joins, or gets a new password", "remove": "somebody leaves",
+        "list": "who has a password or is in a group"})
+    _arguments_of_add(add)
+    words.word(remove, "name", "NAME", "the user")
+    words.room(remove)
+    how = remove.add_mutually_exclusive_group()
+    words.option(how, "--to", "HEIR", "give all that belongs to the user to HEIR, who asks for it")
+    words.flag(how, "--password", "take the password away, and nothing else; the server isn't "
+               "stopped")
+    words.room(listed)
+    words.rows(listed)
+
+
+def _arguments_of_add(parser: words.Parser) -> None:
+    parser.forms = ["[--groups GROUPS] [--first] [--random] [--room ROOM] NAME",
+                    "[--first] [--room ROOM] --file FILE"]
     words.word(parser, "name", "[NAME]", "the user")
     words.room(parser)
-    words.option(parser, "--groups", "GROUPS", "add the user to these groups, with commas between "
+    who = parser.add_mutually_exclusive_group()
+    words.option(who, "--groups", "GROUPS", "add the user to these groups, with commas between "
                  "them")
-    words.option(parser, "--file", "FILE", "add all users of this file, and stop the server once")
+    words.option(who, "--file", "FILE", "add all users of this file, and stop the server once")
     words.flag(parser, "--first", "a password that opens nothing until the user has changed it")
     words.flag(parser, "--random", "choose the password, and print it")
-    words.option(parser, "--to", "HEIR", "give all that belongs to the user to HEIR, who asks for "
-                 "it")
-    words.flag(parser, "--password", "take the password away, and nothing else; the server isn't "
-               "stopped")
-    words.rows(parser)
-
-
-def _refuse_mixed(given: argparse.Namespace) -> None:
-    """Options of the other form, or two that each say all."""
-    found = [option for options in _OPTIONS.values() for option in options
-             if getattr(given, option[2:])]
-    for one in found:
-        if one not in _OPTIONS[given.verb]:
-            raise Refused(f"bad arguments: {one} isn't for {given.verb}")
-    if len(set(found) - {"--first", "--random"}) > 1 or {"--file", "--random"} <= set(found):
-        raise Refused(f"bad arguments: {' and '.join(found)} don't go together")
 
 
 def read_words(given: argparse.Namespace) -> Words:
-    _refuse_mixed(given)
-    name, room = given.name, given.room
-    if given.file and name:
-        # Where a name would be, an earlier version had the room.
-        if room:
-            raise Refused(f"bad arguments: a word too many: '{name}'")
-        name, room = "", name
-        words.tell_former([f"--room {room}"])
-    if given.verb == "list":
-        if name:
-            raise Refused(f"bad arguments: a word too many: '{name}'")
-    elif not name and not given.file:
-        raise Refused("bad arguments: NAME is missing" + (", or --file FILE" if given.verb == "add"
-                                                          else ""))
+    name = given.name
+    if given.what == "add" and bool(name) == bool(given.file):
+        raise Refused("bad arguments: NAME and --file FILE don't go together" if name else
+                      "bad arguments: NAME is missing, or --file FILE")
+    if given.file and given.random:
+        raise Refused("bad arguments: --file and --random don't go together")
     groups = given.groups.split(",") if given.groups else []
     for one in [*([name] if name else []), *groups, *([given.to] if given.to else [])]:
         if not names.is_user(one):
             raise Refused(f"bad arguments: '{one}' can't be the name of a user or a group")
-    return Words(given.verb, name, room or "office", groups, given.file, given.to, given.first,
-                 given.password, given.random, given.json)
+    return Words(given.what, name, given.room or "office", groups, given.file, given.to,
+                 given.first, given.password, given.random, given.json)
 
 
 def rows(path: str) -> dict[str, set[str]]:
@@ -143,7 +134,7 @@ def _join(room: Room, pairs: set[Pair], done: str) -> None:
     with _locked(room, done):
         with server.at_rest(room):
             now = members.read(room) | pairs
-            print(members.write(room, now), flush=True)
+            print(known.replace(room, now), flush=True)
         _show(room, now)
 
 
@@ -201,7 +192,7 @@ def _remove(place: str, room: Room | None, asked: Words) -> int:
             now = members.read(room)
             rest = {pair for pair in now if pair[1] != name}
             if rest != now:
-                print(members.write(room, rest), flush=True)
+                print(known.replace(room, rest), flush=True)
             lists = members.listed(room)
         _show(room, rest)
     for one in naming.of_user(dump.rows(lists.split(b"\n")), name):
@@ -209,12 +200,12 @@ def _remove(place: str, room: Room | None, asked: Words) -> int:
     return _hand_over(room, lists, name, heir) if heir else 0
 
 
-def _known(room: Room) -> tuple[set[Pair], float]:
+def _known(room: Room) -> Known:
     """What a room that nobody serves has is read from it, which no other process may do then."""
     if server.state(room) != "inactive":
-        return people.known(room)
+        return known.newest(room)
     with locks.lock(room.unit, 60):
-        return people.known(room)
+        return known.newest(room)
 
 
 def _groups_known(room: Room | None) -> set[Pair]:
@@ -222,12 +213,12 @@ def _groups_known(room: Room | None) -> set[Pair]:
     if room is None:
         return set()
     try:
-        pairs, at = _known(room)
+        found = _known(room)
     except Refused as refused:
         say(str(refused))
         return set()
-    say(f"groups as they were known at {published.moment(at)}")
-    return pairs
+    say(f"groups as they were known at {published.moment(found.at)}")
+    return found.members
 
 
 def _list(place: str, room: Room | None, is_json: bool) -> int:
@@ -264,8 +255,8 @@ def _show(room: Room, now: set[Pair] | None) -> None:
     """The names that the web interface offers, with these members of groups, or with those that are
     known. What has been done stays done if that fails; before the first night there are none."""
     try:
-        pairs, at = (now, None) if now is not None else people.known(room)
-        for failure in people.write(room, pairs, at):
+        what = known.here(room, now) if now is not None else known.newest(room)
+        for failure in people.write(room, what):
             say(failure)
     except Refused:
         pass
@@ -298,8 +289,6 @@ def _room(asked: Words) -> tuple[str, Room | None]:
     room = settings.room(asked.conf)
     if asked.heir == asked.name and asked.heir:
         raise Refused(f"bad arguments: {asked.name} would give to {asked.heir}")
-    if asked.heir and not room.address:
-        raise Refused(f"bad settings: PORT in {room.conf} is empty, and --to asks the room")
     return published.name_of(room), room
 
 
@@ -310,9 +299,9 @@ def run(given: argparse.Namespace) -> int:
     os.umask(0o077)
     os.chdir("/")
     place, room = _room(asked)
-    if asked.verb == "list":
+    if asked.what == "list":
         return _list(place, room, asked.is_json)
-    if asked.verb == "remove":
+    if asked.what == "remove":
         return _remove(place, room, asked)
     if asked.is_first and not passwords.is_kept(passwords.password_files(place)[0]):
         raise Refused(f"no own passwords: nobody could change a first one of {place}: "

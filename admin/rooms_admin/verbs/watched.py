@@ -14,9 +14,9 @@ from collections.abc import Callable
 
 from ..host import waiting
 from ..host.commands import printed
-from ..room import backups, health, machine, server, settings
-from ..site import apache, connections, legacy, template
-from . import await_server, hours
+from ..room import backups, growth, limit, machine, server, settings
+from ..site import apache, connections, template
+from . import await_, hours
 from ..cli.report import Refused, Stop
 from ..room.settings import Room
 from ..room.size import NoRoom, Used
@@ -32,6 +32,8 @@ FULL = 16 << 20
 CONNECTIONS = 768
 # The clocks of a disk and of the machine may differ by so much.
 AHEAD = 120
+# Full in fewer weeks than this: it takes some to get a larger machine.
+SOON = 8
 # Where rooms-nights.service may not look.
 UNSEEN = ("/dev", "/etc", "/home", "/proc", "/root", "/run", "/sys", "/tmp", "/var/lib", "/var/log",
           "/var/mail", "/var/spool", "/var/tmp")
@@ -68,16 +70,23 @@ def see_owner(room: Room) -> list[Finding]:
 
 
 def see_answer(room: Room) -> list[Finding]:
-    """By itself: at its socket, or at its port."""
-    if not room.address:
-        return []
-    if await_server.is_well("" if room.listens else room.port, room.listens):
+    """By itself."""
+    if await_.is_well("" if room.listens else room.port, room.listens):
         return [(OK, "answers")]
     state = server.state(room) or "no unit"
     if state == "inactive" and os.path.exists(server.left_at_rest(room)):
-        return [(CRITICAL, f"{room.unit} was stopped while groups were changed, and that was cut "
-                 f"off: rooms-admin groups --after --room {room.name}")]
+        return [(CRITICAL, f"{room.unit} was stopped while groups were changed or it was copied, "
+                 f"and that was cut off: rooms-admin groups --after --room {room.name}")]
     return [(CRITICAL, f"{room.unit} doesn't answer ({state}): systemctl status {room.unit}")]
+
+
+def see_door(room: Room) -> list[Finding]:
+    """The web interface needs it. It comes and goes with the room's own unit."""
+    unit = f"rooms-door@{room.name}"
+    if room.unit != f"rooms@{room.name}" or server.state(room) != "active" or printed(
+            ["systemctl", "is-active", unit]) == "active":
+        return []
+    return [(CRITICAL, f"its door doesn't run: systemctl restart {unit}")]
 
 
 def _place(room: Room) -> tuple[str, str] | None:
@@ -120,11 +129,8 @@ def see_front(room: Room) -> list[Finding]:
     place = _place(room)
     if place is None:
         return []
-    if legacy.is_there(machine.ROOT):
-        return [(WARNING, "nginx has its files of before: rooms-admin setup")]
     if not _passes_on(room):
-        where = "its socket" if room.socket else f"port {room.port}"
-        return [(CRITICAL, f"nginx passes nothing on to {where}")]
+        return [(CRITICAL, "nginx passes nothing on to its socket")]
     for asked in (http.client.HTTPConnection(FRONT, timeout=20), _Named(place[0])):
         try:
             asked.request("GET", place[1] + "can/?", headers={
@@ -147,8 +153,7 @@ def see_front(room: Room) -> list[Finding]:
 
 
 def _passes_on(room: Room) -> bool:
-    where = (re.escape(f"unix:/run/rooms/{room.name}/socket") if room.socket
-             else rf"127\.0\.0\.1:{room.port}")
+    where = re.escape(f"unix:/run/rooms/{room.name}/socket")
     try:
         with open(f"{machine.ROOT}/etc/nginx/sites-enabled/rooms", encoding="utf-8",
                   errors="replace") as source:
@@ -157,25 +162,37 @@ def _passes_on(room: Room) -> bool:
         return False
 
 
-def see_port(room: Room) -> list[Finding]:
-    text = health.port(room)
-    return [(CRITICAL, text)] if text else []
-
-
 def see_disk(room: Room) -> list[Finding]:
     """What the room's user gets of the room's disk, and how much of LIMIT is in use."""
     found = [_space(room.folder, "the room's disk", server.size_of(room.file))]
     try:
-        used, limit = Used().look(room.file), server.limit_of(room)
+        used, most, starts = Used().look(room.file), limit.of(room), limit.that_starts(room)
     except NoRoom:
         return [*found, (CRITICAL, f"{room.file} can't be read")]
     except Stop as stop:
         return [*found, (WARNING, str(stop))]
-    if limit is None:
+    if starts is not None and starts < used >> 20 and (most is None or starts < most):
+        found.append((CRITICAL, f"with {used >> 20} MB in use {room.unit} may not start again: "
+                      f"its MemoryMax is enough for {starts} MB"))
+    if most is None:
         return [*found, (OK, f"{used >> 20} MB in use")]
-    level = (CRITICAL if used > limit << 20 else
-             WARNING if used * 10 >= (limit << 20) * 9 else OK)
-    return [*found, (level, f"{used >> 20} of {limit} MB in use")]
+    level = (CRITICAL if used > most << 20 else
+             WARNING if used * 10 >= (most << 20) * 9 else OK)
+    return [*found, (level, f"{used >> 20} of {most} MB in use")]
+
+
+def see_pace(room: Room) -> list[Finding]:
+    """When the room is full, if it goes on growing as it did in the last month's backups."""
+    try:
+        used, most = Used().look(room.file), limit.of(room)
+    except (NoRoom, Stop):
+        return []
+    grows = growth.of_a_day(room, time.time()) if most else 0
+    if not most or grows <= 0 or used > most << 20:
+        return []
+    weeks = int(((most << 20) - used) / grows) // 7
+    when = f"in {weeks} weeks" if weeks > 1 else "within two weeks"
+    return [(WARNING, f"at this month's pace it is full {when}")] if weeks < SOON else []
 
 
 def _space(folder: str, what: str, wanted: int) -> Finding:
@@ -202,7 +219,7 @@ def see_backups(room: Room) -> list[Finding]:
     for backup in seen.backups:
         try:
             at = os.stat(os.path.join(backup.place, room.base)).st_mtime
-            times.append((max(at, _dated(backup.name)), backup.name))
+            times.append((max(at, backups.made(backup) or 0), backup.name))
         except (OSError, ValueError):
             continue
     now = time.time()
@@ -233,7 +250,7 @@ def see_hours(room: Room) -> list[Finding]:
     if not seen.backups:
         return [*said, (WARNING, f"no hourly copy: systemctl enable --now {timer}")]
     last = seen.backups[-1]
-    age = time.time() - hours.moment(last)
+    age = hours.age(last, time.time())
     if age < -AHEAD:
         return [*said, (WARNING, f"the backup {last.name} is dated in the future: was the clock "
                         "set back?")]
@@ -245,8 +262,6 @@ def see_nights(room: Room) -> list[Finding]:
     """Why users see no earlier night, where the settings let them see some."""
     if room.earlier == "no":
         return []
-    if not room.socket:
-        return [(OK, "no earlier nights, since it has a port")]
     there = os.path.realpath(room.backups)
     hidden = [one for one in UNSEEN if os.path.commonpath((one, there)) == one]
     return [(OK, f"no earlier nights, since BACKUPS is below {hidden[0]}")] if hidden else []
@@ -261,7 +276,7 @@ def see_namespaces(room: Room) -> list[Finding]:
     except OSError:
         return []
     units = [room.unit, f"rooms-full@{room.name}",
-             *([f"rooms-door@{room.name}"] if room.door else []),
+             f"rooms-door@{room.name}",
              *(["rooms-earlier"] if room.shows_nights else [])]
     want = [one for one in units if printed(
         ["systemctl", "show", "-p", "PrivateUsers", "--value", one]) not in ("", "no")]
@@ -269,15 +284,10 @@ def see_namespaces(room: Room) -> list[Finding]:
              f"{' '.join(want)}: sysctl user.max_user_namespaces")] if want else []
 
 
-def _dated(name: str) -> float:
-    """By its name, which is local time: the hour that an autumn night has twice isn't known."""
-    return time.mktime(time.strptime(name, "%Y-%m-%d.%H%M%S")) - HOUR
-
-
 def _none_yet(room: Room, now: float) -> Finding:
     said = printed(["stat", "-c", "%W", "--", room.file])
     if said.isdigit() and now - int(said) < 26 * HOUR:
-        return WARNING, f"no backup yet: systemctl start rooms-nightly@{room.name}"
+        return WARNING, f"no backup yet: systemctl start {room.nightly}"
     return CRITICAL, "no good backup"
 
 
@@ -295,7 +305,7 @@ def see_groups(room: Room) -> list[Finding]:
 
 
 def see_timer(room: Room) -> list[Finding]:
-    timer = f"rooms-nightly@{room.name}.timer"
+    timer = f"{room.nightly}.timer"
     if printed(["systemctl", "is-active", timer]) == "active":
         return []
     return [(WARNING, f"no nightly run is due: systemctl enable --now {timer}")]
@@ -416,10 +426,10 @@ def see_certificates() -> list[Finding]:
 
 def of_room(conf: str) -> list[Finding]:
     room = settings.room(conf)
-    looks = [see_owner, see_namespaces, see_answer, see_port, see_front, see_groups, see_timer,
+    looks = [see_owner, see_namespaces, see_answer, see_door, see_front, see_groups, see_timer,
              see_mail]
     return [*(found for look in looks
               for found in within(PATIENCE, lambda: look(room), f"{room.unit} or nginx")),
             *within(20, lambda: see_disk(room), f"{room.folder}"),
-            *within(20, lambda: [*see_backups(room), *see_hours(room), *see_nights(room)],
-                    f"{room.backups}")]
+            *(found for look in (see_backups, see_pace, see_hours, see_nights)
+              for found in within(20, lambda: look(room), f"{room.backups}"))]

@@ -11,8 +11,10 @@ from typing import NoReturn
 
 sys.dont_write_bytecode = True
 if not __package__:
-    sys.path.insert(0, os.path.dirname(os.path.dirname(os.path.dirname(
-        os.path.realpath(__file__)))))
+    # Installed, both packages are in one folder; in the repository they are in two.
+    above = os.path.dirname(os.path.dirname(os.path.dirname(os.path.realpath(__file__))))
+    sys.path[:0] = [above] if os.path.isdir(f"{above}/rooms_admin") else [
+        above, os.path.join(os.path.dirname(above), "admin")]
 
 from rooms_services.door.serve import serve  # noqa: E402
 
@@ -30,9 +32,11 @@ def main() -> int:
                        help="the socket at which nginx asks; whoever reaches it can be any user")
     words.add_argument("--drive", choices=("yes", ""), default="",
                        help="yes: documents are edited in place, by WebDAV below /drive/")
+    words.add_argument("--full", default="",
+                       help="a file that is there while the room takes nothing more")
     given = words.parse_args()
     try:
-        serve(given.room, given.listen, given.drive == "yes")
+        serve(given.room, given.listen, given.drive == "yes", given.full)
     except KeyboardInterrupt:
         pass
     except OSError as fault:

@@ -7,13 +7,16 @@ from .folders.archive import archive
 from .folders.below import below
 from .folders.closed import closed
 from .folders.find import find
-from .folders.matched import condition_of, read, replace
-from .ask.paths import Names, names_in
+from .folders.goes import goes
+from .folders.matched import condition_of, read, replace, tag
+from .ask.paths import Names, chosen_in, names_in
 from .ask.room import Room
 
 PREFIX = "/door/"
 # What may take long, each with its kind.
-LONG_ROUTES = {"below": "walk", "closed": "walk", "find": "walk", "zip": "zip"}
+LONG_ROUTES = {"below": "walk", "closed": "walk", "find": "walk", "goes": "walk", "zip": "zip"}
+# Behind what a query may stand.
+_ASKING = ("below", "find", "goes", "zip")
 
 
 @dataclass(frozen=True)
@@ -45,12 +48,21 @@ def _find(asked: Asked) -> Answer:
     return find(asked.room, asked.user, asked.names, asked.query)
 
 
+def _goes(asked: Asked) -> Answer:
+    return goes(asked.room, asked.user, asked.names, chosen_in(asked.query))
+
+
 def _zip(asked: Asked) -> Answer:
-    return archive(asked.room, asked.user, asked.names)
+    return archive(asked.room, asked.user, asked.names,
+                   chosen_in(asked.query) if asked.query else None)
 
 
 def _read(asked: Asked) -> Answer:
     return read(asked.room, asked.user, asked.route, asked.names)
+
+
+def _tag(asked: Asked) -> Answer:
+    return tag(asked.room, asked.user, asked.route, asked.names)
 
 
 def _replace(asked: Asked) -> Answer:
@@ -58,10 +70,10 @@ def _replace(asked: Asked) -> Answer:
                    condition_of(asked.field("If-Match"), asked.field("If-None-Match")))
 
 
-_MATCHED: dict[str, Route] = {"GET": _read, "PUT": _replace}
+_MATCHED: dict[str, Route] = {"GET": _read, "HEAD": _tag, "PUT": _replace}
 ROUTES: dict[str, dict[str, Route]] = {
     "below": {"GET": _below}, "closed": {"GET": _closed}, "find": {"GET": _find},
-    "zip": {"GET": _zip},
+    "goes": {"GET": _goes}, "zip": {"GET": _zip},
     "doc": _MATCHED, "dacl": _MATCHED, "sacl": _MATCHED}
 
 
@@ -73,7 +85,7 @@ def place_of(target: str) -> tuple[str, str, str]:
     route, slash, rest = whole[len(PREFIX):].partition("/")
     if route not in ROUTES or not slash:
         raise Stop(404, "no-route")
-    if mark and route not in ("below", "find"):
+    if mark and route not in _ASKING:
         raise Stop(400, "bad-query", "no query may stand here")
     return route, rest, query
 

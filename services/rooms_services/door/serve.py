@@ -16,7 +16,7 @@ from .ask.room import LARGEST, USER, Room
 from .routes import LONG_ROUTES, PREFIX, Asked, route_of
 from .ask.turns import Users
 from .webdav.calls import Drive
-from .webdav.locks import Locks
+from .webdav.kept import Kept
 from .webdav.methods import LONG_METHODS, answer
 
 # Connections, most of which wait for their turn; and how long nginx may keep one waiting.
@@ -29,15 +29,27 @@ _ABOVE = re.compile(r"(/[a-z0-9-]{1,32})?")
 
 
 class Door:
-    """A door may have no drive."""
+    """A door may have no drive. `full` is the path of a file that is there while the room takes no
+    more."""
 
-    def __init__(self, room: Room, drive: Drive | None = None) -> None:
+    def __init__(self, room: Room, drive: Drive | None = None, full: str = "") -> None:
         self.room = room
         self.drive = drive
         self.users = Users()
+        self._full = full
 
     def is_drive(self, target: str) -> bool:
         return self.drive is not None and target.startswith("/drive") and target[6:7] in ("", "/")
+
+    def adds(self, method: str, target: str) -> bool:
+        """Whether a full room doesn't take it, as nginx says too (deploy/nginx/site.conf.in)."""
+        if self.is_drive(target):
+            return method in ("PUT", "MKCOL", "COPY", "LOCK")
+        return method == "PUT" and target.startswith(f"{PREFIX}doc/")
+
+    def refuse_full(self, method: str, target: str) -> None:
+        if self._full and self.adds(method, target) and os.path.lexists(self._full):
+            raise Stop(507, "full", "the room is full")
 
 
 class Handler(http.server.BaseHTTPRequestHandler):
@@ -103,13 +115,15 @@ class Handler(http.server.BaseHTTPRequestHandler):
             user = self._user()
             self._refuse_others()
             with self.door.users.turn(user, self._kind()):
+                # nginx looked when it came, which may be minutes ago.
+                self.door.refuse_full(self.command, self.path)
                 self._send(self._done(user, length))
         except Stop as stop:
             # nginx sends all of it before it reads an answer.
             while length > 0 and (part := self.rfile.read(min(length, 65_536))):
                 length -= len(part)
             self.close_connection = True
-            self._send(stop.answer(False))
+            self._send(stop.answer(self.door.is_drive(self.path)))
 
     def _kind(self) -> str:
         """Of what may take long."""
@@ -216,8 +230,9 @@ def opened(place: str, door: Door) -> Server:
     return Server(place, type("Opened", (Handler,), {"door": door}))
 
 
-def serve(room: str, listen: str, has_drive: bool) -> None:
-    drive = Drive(Locks(os.path.join(os.path.dirname(listen), "locks"))) if has_drive else None
-    with opened(listen, Door(Room(room), drive)) as server:
+def serve(room: str, listen: str, has_drive: bool, full: str) -> None:
+    kept = os.path.join(os.path.dirname(listen), "locks")
+    drive = Drive(Kept(kept), full) if has_drive else None
+    with opened(listen, Door(Room(room), drive, full)) as server:
         print(f"listening {listen}", file=sys.stderr, flush=True)
         server.serve_forever()

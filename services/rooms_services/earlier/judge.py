@@ -16,19 +16,21 @@ from rooms_admin.room import names
 
 from .. import listening, scgi
 from ..door.ask.answers import Answer, Stop, reason, told
-from ..door.ask.paths import Names, names_in
+from ..door.ask.paths import Names, chosen_in, names_in
 from ..door.ask.room import Room
 from ..door.ask.turns import Users
 from . import gate
 from .judging import LISTED, Look
+from .whole import archive
 
 # Connections at once, and of them about one room: so a room that hangs keeps nobody waiting who
-# asks for another one. Seconds until it ends if nobody asks.
-MOST, OF_ONE, IDLE = 64, 24, 600.0
+# asks for another one. ZIPs at once, which may be taken slowly. Seconds until it ends if nobody
+# asks.
+MOST, OF_ONE, ZIPS, IDLE = 64, 24, 8, 600.0
 # How long a copy may take for an answer. (A server reads nothing of the disk for one.)
 PATIENCE = float(os.environ.get("ROOMS_NIGHTS_PATIENCE", "20"))
-_TARGET = re.compile(r"/earlier/(?:(nights)|(\d{4}-\d\d-\d\d\.\d{6})/(doc|folder|dacl)/([^?]*))",
-                     re.ASCII)
+_TARGET = re.compile(r"/earlier/(?:(nights)|(\d{4}-\d\d-\d\d\.\d{6})/(?:(doc|folder|dacl)/([^?]*)|"
+                     r"zip/([^?]*)(?:\?(.+))?))", re.ASCII)
 
 
 class Today:
@@ -44,7 +46,7 @@ class Today:
         if not self.free.acquire(blocking=False):
             raise Stop(503, "busy", fields={"Retry-After": "10"})
         try:
-            with self.users.turn(user, "folder" if word == "folder" else ""):
+            with self.users.turn(user, word if word in ("folder", "zip") else ""):
                 yield
         finally:
             self.free.release()
@@ -54,12 +56,17 @@ class Judge:
     def __init__(self) -> None:
         self._lock = threading.Lock()
         self._rooms: dict[str, Today] = {}
+        self._zips = threading.BoundedSemaphore(ZIPS)
+        # How many of these there are.
+        self.under_way = 0
 
     def _today(self, name: str) -> Today:
         with self._lock:
             return self._rooms.setdefault(name, Today(name))
 
-    def answer(self, fields: dict[str, str]) -> Answer:
+    @contextmanager
+    def answered(self, fields: dict[str, str]) -> Iterator[Answer]:
+        """Until it is sent, it is the caller's turn."""
         name, user = fields.get("ROOM", ""), fields.get("ROOM_USER", "")
         found = _TARGET.fullmatch(fields.get("TARGET", ""))
         if not names.is_room(name):
@@ -69,12 +76,30 @@ class Judge:
             raise Stop(403, "first") if not user else Stop(400, "bad-user")
         if not found:
             raise Stop(404, "no-route")
-        listed, night, word, rest = found.groups()
+        listed, night, word, rest, folder, query = found.groups()
         today = self._today(name)
+        if folder is not None:
+            with self._zip(today, user):
+                yield archive(lambda word, path: self._looked(today, name, user, night, word, path),
+                              names_in(folder), chosen_in(query) if query else None)
+            return
         with today.turn(user, word):
-            if listed:
-                return told(gate.nights(name))
-            return self._looked(today, name, user, night, word, names_in(rest))
+            yield told(gate.nights(name)) if listed else self._looked(
+                today, name, user, night, word, names_in(rest))
+
+    @contextmanager
+    def _zip(self, today: Today, user: str) -> Iterator[None]:
+        if not self._zips.acquire(blocking=False):
+            raise Stop(503, "busy", fields={"Retry-After": "10"})
+        try:
+            with self._lock:
+                self.under_way += 1
+            with today.turn(user, "zip"):
+                yield
+        finally:
+            with self._lock:
+                self.under_way -= 1
+            self._zips.release()
 
     def _looked(self, today: Today, name: str, user: str, night: str, word: str, path: Names
                 ) -> Answer:
@@ -91,8 +116,15 @@ class Judge:
 
     def one(self, connection: socket.socket) -> None:
         connection.settimeout(10)
+        is_begun = False
         try:
-            given = _as_scgi(self.answer(scgi.asked(connection.recv, 0)[0]))
+            with self.answered(scgi.asked(connection.recv, 0)[0]) as answer:
+                connection.settimeout(65)
+                is_begun = True
+                connection.sendall(_as_scgi(answer).text())
+                for part in answer.parts or ():
+                    connection.sendall(part)
+            return
         except scgi.Answer as refused:
             given = refused
         except Stop as stop:
@@ -103,18 +135,23 @@ class Judge:
             say(f"failed: {type(fault).__name__}: {fault}")
             traceback.print_exc()
             given = scgi.Answer("500 Internal Server Error", "store")
+        if is_begun:
+            # A ZIP without its end is none.
+            say(f"a download was broken off: {given.why or given.status}")
+            return
         connection.settimeout(65)
         connection.sendall(given.text())
 
 
 def _as_scgi(answer: Answer) -> scgi.Answer:
     return scgi.Answer(f"{answer.status} {reason(answer.status)}", body=answer.body,
-                       kind=answer.kind,
+                       kind=answer.kind, has_length=answer.parts is None,
                        fields=tuple(f"{name}: {text}" for name, text in answer.fields.items()))
 
 
 def run() -> int:
     os.umask(0o077)
     os.chdir("/")
-    listening.serve(listening.handed(), MOST, IDLE, Judge().one)
+    judge = Judge()
+    listening.serve(listening.handed(), MOST, IDLE, judge.one, lambda: judge.under_way > 0)
     return 0

@@ -6,14 +6,14 @@ Another object may be at the path by now. It is the same one if it has the same 
 owner; otherwise, and where nothing is there any more, the caller's rights to what is there now say
 nothing about what was. Then whoever owned it that night sees it, and whoever has the right C on the
 nearest folder that is left; or, where the room's settings say so, whoever may list that folder and
-add to it."""
-import json
-from collections.abc import Callable
+add to it. A folder is left if it is the same one, by the same rule: else whoever puts one of their
+own there would be asked for."""
+from collections.abc import Callable, Iterator
 from dataclasses import dataclass
 
 from ..door.ask.answers import JSON, TEXT, Answer, Stop, written
 from ..door.ask.paths import Names, is_below
-from ..door.ask.room import Reply, Room, about
+from ..door.ask.room import Reply, Room, about, listed
 from .gate import Opened
 
 # Bytes of a listing, which is of 100,000 names and more: this process serves all rooms.
@@ -45,7 +45,7 @@ class Look:
         # Nobody has a night opened who may not read what is there.
         night = opened()
         self.then, self.shown_to = Room(night.place, patience, LISTED), night.shown_to
-        is_here = now.status == 200 and (not self.names or self._is_same())
+        is_here = now.status == 200 and self._is_same(self.names) is True
         left = self.names if is_here else self._left(now)
         if not is_here and not self._may_see_gone(left):
             raise denied()
@@ -54,7 +54,7 @@ class Look:
             return reply.answer()
         if self.word != "folder":
             return Answer(200, reply.body, KINDS[self.word])
-        return self._listing(reply, json.loads(now.body) if is_here else [], left, is_here)
+        return self._listing(reply, now if is_here else None, left)
 
     def _ask(self, room: Room, word: str, names: Names, query: str = "") -> Reply:
         return room.ask(self.user, about("GET", word, names, query))
@@ -64,65 +64,90 @@ class Look:
         ruled = self._ask(self.today, "can", names, letters).rulings()
         return bool(ruled) and all(ruled.values())
 
-    def _attributes(self, room: Room) -> tuple[str, str] | None:
-        """Kind and owner, if the caller may know them."""
-        reply = self._ask(room, "attr", self.names)
+    def _attributes(self, room: Room, names: Names) -> tuple[str, str] | None:
+        """Kind and owner, if the caller may know them; two that are empty of what isn't there."""
+        reply = self._ask(room, "attr", names)
+        if reply.status in (404, 409):
+            return "", ""
         told = reply.told if reply.status == 200 else {}
         return (str(told["kind"]), str(told["owner"])) if told else None
 
-    def _is_same(self) -> bool:
+    def _is_same(self, names: Names) -> bool | None:
+        """Whether today's object is that night's; None if the caller may not know it."""
         assert self.then
-        if not self._may(self.names, "t"):
-            return False
-        found = self._attributes(self.today)
-        return found is not None and found == self._attributes(self.then)
+        if not names:
+            return True
+        if not self._may(names, "t"):
+            return None
+        now, then = self._attributes(self.today, names), self._attributes(self.then, names)
+        return None if now is None or then is None else now == then
 
-    def _left(self, now: Reply) -> Names:
+    def _left(self, now: Reply) -> Names | None:
         """The nearest folder that is left: above what today's room says isn't there, or isn't what
-        it was."""
+        it was, and the same one as that night. None if the caller may not know which it is."""
         if now.status == 200:
-            return self.names[:-1]
-        at = tuple(now.at.split("/")[1:])
-        if at in ((), ("",)) or not (at == self.names or is_below(self.names, at)):
-            raise Stop(502, "away")
-        return at[:-1]
+            left = self.names[:-1]
+        else:
+            at = tuple(now.at.split("/")[1:])
+            if at in ((), ("",)) or not (at == self.names or is_below(self.names, at)):
+                raise Stop(502, "away")
+            left = at[:-1]
+        while (same := self._is_same(left)) is False:
+            left = left[:-1]
+        return left if same else None
 
-    def _may_see_gone(self, left: Names) -> bool:
+    def _may_see_gone(self, left: Names | None) -> bool:
         """What is at the path of the look and isn't there any more."""
         assert self.then
         if self.shown_to == "members":
             # Asked for as such, so that today's lists have it recorded.
-            return (self._ask(self.today, "folder", left).status == 200
+            return (left is not None and self._ask(self.today, "folder", left).status == 200
                     and self._may(left, "wa"))
-        if self._may(left, "C"):
+        if left is not None and self._may(left, "C"):
             return True
-        found = self._attributes(self.then)
+        found = self._attributes(self.then, self.names)
         return found is not None and found[1] == self.user
 
-    def _listing(self, reply: Reply, here: list[dict[str, str]], left: Names, is_here: bool
-                 ) -> Answer:
-        """Names of what isn't there any more are shown to whoever sees that itself."""
-        then: list[dict[str, str]] = json.loads(reply.body)
-        # There may be tens of thousands.
-        left_here = {(one["kind"], one["name"]) for one in here}
-        gone = [one["name"] for one in then if (one["kind"], one["name"]) not in left_here]
-        if gone and not self._sees_all_gone(left, is_here):
-            hidden = set(gone) - self._owned(gone)
-            then = [one for one in then if one["name"] not in hidden]
-        return Answer(200, written(then), JSON)
+    def _listing(self, then: Reply, now: Reply | None, left: Names | None) -> Answer:
+        """Names of what isn't there any more are shown to whoever sees that itself. There may be
+        100,000: so a name is bytes here, and no listing is read as a whole."""
+        here = set(_children(now)) if now else set()
+        gone = [one for one in _children(then) if one not in here]
+        if not gone or self._sees_all_gone(left, now is not None):
+            return Answer(200, then.body, JSON)
+        hidden = set(gone) - self._owned(gone)
+        del here, gone
+        rows = bytearray(b"[")
+        for one in _children(then):
+            if one not in hidden:
+                rows += b"," if len(rows) > 1 else b""
+                rows += written({"kind": "folder" if one.endswith(b"/") else "document",
+                                 "name": _name(one)})
+        return Answer(200, bytes(rows + b"]"), JSON)
 
-    def _sees_all_gone(self, left: Names, is_here: bool) -> bool:
+    def _sees_all_gone(self, left: Names | None, is_here: bool) -> bool:
+        if left is None:
+            return False
         if self.shown_to == "members":
             # Otherwise that was asked already, of the same folder.
             return not is_here or self._may(left, "wa")
         return self._may(left, "C")
 
-    def _owned(self, children: list[str]) -> set[str]:
+    def _owned(self, children: list[bytes]) -> set[bytes]:
         """Those that the caller owned that night."""
         assert self.then
         if self.shown_to == "members":
             return set()
-        asks = [about("GET", "attr", (*self.names, one)) for one in children]
+        asks = (about("GET", "attr", (*self.names, _name(one))) for one in children)
         replies = self.then.ask_each(self.user, asks)
-        return {name for name, one in zip(children, replies)
-                if one.status == 200 and one.told.get("owner") == self.user}
+        return {one for one, reply in zip(children, replies)
+                if reply.status == 200 and reply.told.get("owner") == self.user}
+
+
+def _children(reply: Reply) -> Iterator[bytes]:
+    """The name of each, with a slash behind that of a folder."""
+    return (name + b"/" if is_folder else name for name, is_folder in listed(reply.body, LISTED))
+
+
+def _name(child: bytes) -> str:
+    return child.rstrip(b"/").decode()

@@ -1,6 +1,5 @@
 """Which earlier nights a room has, by its settings and its backups."""
 import os
-import time
 from dataclasses import dataclass
 
 from rooms_admin.cli.report import Refused
@@ -24,8 +23,6 @@ class Night:
     name: str
     # Seconds since 1970, since its name has the machine's own time.
     at: int
-    # Its folder.
-    place: str
 
 
 def of(word: str) -> Nights | None:
@@ -40,34 +37,30 @@ def of(word: str) -> Nights | None:
                   found.first_night) if found.shows_nights else None
 
 
-def moment(night: str) -> int | None:
-    """None if no clock has shown that."""
-    try:
-        return int(time.mktime(time.strptime(night, "%Y-%m-%d.%H%M%S")))
-    except (ValueError, OverflowError):
-        return None
-
-
 def all_of(room: Nights) -> list[Night]:
-    """From the newest to the oldest, hourly copies among them."""
-    found = {}
+    """From the newest to the oldest, hourly copies among them. As for an administrator that goes by
+    the number of each run: where a clock was set back, a later one has an earlier date."""
+    found: dict[str, tuple[int, int, Night]] = {}
     for kept in (backups.hourly, backups.dated):
+        last = 0
         for one in kept(room.backups, room.name, room.base).backups:
-            at = moment(one.name)
+            at = backups.made(one)
             if at is not None and one.name >= room.first:
-                found[one.name] = Night(one.name, at, one.place)
-    return sorted(found.values(), key=lambda one: one.at, reverse=True)
+                last = max(last, at)
+                found[one.name] = (last, one.number, Night(one.name, at))
+    return [night for _, _, night in sorted(found.values(), key=lambda it: it[:2], reverse=True)]
 
 
 def place_of(room: Nights, night: str) -> str:
     """Its folder, or nothing: one that was removed isn't shown any more, nor is one from before the
     first night that counts."""
-    if night < room.first or moment(night) is None:
+    if night < room.first or not backups.moments(night):
         return ""
     return backups.of_night(room.backups, room.name, night, room.base)
 
 
 def megabytes(room: Nights, place: str) -> int:
-    """What a server of it may need: its rows, and pages of its file."""
+    """What a server of it needs at its start: its rows, pages of its file, and the program."""
     files = (os.path.join(place, room.base + end) for end in ("", "-wal"))
-    return 32 + (2 * sum(os.path.getsize(one) for one in files if os.path.exists(one)) >> 20)
+    size = sum(os.path.getsize(one) for one in files if os.path.exists(one)) >> 20
+    return size + min(size, 128) + 16 + size // 16

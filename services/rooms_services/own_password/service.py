@@ -1,6 +1,6 @@
 """One change of a password: one request of nginx's, by SCGI on standard input, and its answer.
-systemd starts this for each connection, as the user who owns the files of passwords and nothing
-else, so one that hangs or is taken over is gone with its request. The caller has passed nginx's
+systemd starts this for each connection, as a user who has nothing but the count of wrong tries, so
+one that hangs or is taken over is gone with its request. The caller has passed nginx's
 check; the present password is asked for again, and its line is replaced only if it is still the
 one that this was checked against."""
 import json
@@ -9,15 +9,13 @@ import time
 
 from rooms_admin.cli.report import Refused, Stop, say
 from rooms_admin.host import commands, safe
-from rooms_admin.room import names, passwords, published
+from rooms_admin.room import names, password_rules, passwords
 
 from ..scgi import Answer, asked, not_understood
-from . import rules, tries
+from . import lines, tries
 
 # The body has two passwords with escapes.
 BODY = 2048
-# How long root's own change may take, which holds the folder for some milliseconds.
-PATIENCE = 5.0
 
 
 def words_of(body: bytes) -> tuple[str, str]:
@@ -48,45 +46,29 @@ def is_right(hashed: bytes, password: str) -> bool:
     return done.status == 0
 
 
-def _file(room: str) -> str:
-    if not names.is_room(room):
-        raise not_understood()
-    file = published.ROOT + passwords.kept_of(room)
-    if not os.path.lexists(file):
-        # Its passwords are a directory's, or root's alone.
-        raise Answer("404 Not Found", "not-here")
-    return file
-
-
 def change(room: str, user: str, old: str, new: str) -> None:
-    file = _file(room)
-    if not names.is_user(user):
+    if not names.is_room(room) or not names.is_user(user):
         raise not_understood()
-    found = passwords.line_of(file, user)
-    line = found.text if found else passwords.NOBODYS
-    with tries.counted(room, user, line) as wrong:
+    with lines.asked() as files:
+        _change(files, room, user, old, new)
+
+
+def _change(files: lines.Lines, room: str, user: str, old: str, new: str) -> None:
+    found = files.of(room, user)
+    with tries.counted(room, user, found.digest if found else passwords.NOBODYS) as wrong:
         # Whoever has no line takes as long.
-        right = (rules.can_be(old) and is_right(line.partition(b":")[0], old)
+        right = (password_rules.can_be(old)
+                 and is_right(found.hashed if found else passwords.NOBODYS, old)
                  and found is not None)
         if not right:
             wrong.append(time.time())
         else:
             wrong.clear()
-    if not right:
+    if not right or found is None:
         raise Answer("403 Forbidden", "old")
-    if why := rules.fault_of(user, old, new):
+    if why := password_rules.fault_of(user, old, new):
         raise Answer("422 Unprocessable Entity", why)
-    # What stands behind the password is the administrator's.
-    made = b":".join([passwords.hashed(new), *line.split(b":")[1:]])
-    try:
-        with passwords.held(file, PATIENCE):
-            # Root may have taken the name away, or given another password, while this was made.
-            if passwords.line_of(file, user) != found:
-                raise Answer("409 Conflict", "changed")
-            passwords.put_lines(file, {user: made})
-            passwords.put_lines(passwords.first_of(file), {user: None})
-    except passwords.Held:
-        raise Answer("503 Service Unavailable", "busy") from None
+    files.put(room, user, found, passwords.hashed(new))
 
 
 def answer(source: int) -> Answer:

@@ -1,6 +1,7 @@
 """What the door answers: a status, fields and a body."""
 import json
-from collections.abc import Iterator
+import time
+from collections.abc import Iterable, Iterator
 from dataclasses import dataclass, field
 from http import HTTPStatus
 
@@ -26,6 +27,54 @@ class Answer:
     fields: dict[str, str] = field(default_factory=dict)
     # In the place of a body: its parts, of which nobody knows how many there are.
     parts: Iterator[bytes] | None = None
+
+
+# How many bytes are sent at once of what is written as it comes, and how long it is sent: whoever
+# takes it slowly has the turn of somebody else.
+PIECE = 65_536
+SENDING = 45.0
+
+
+def in_pieces(parts: Iterable[bytes]) -> Iterator[bytes]:
+    got: list[bytes] = []
+    size = 0
+    for part in parts:
+        got.append(part)
+        size += len(part)
+        if size >= PIECE:
+            yield b"".join(got)
+            got, size = [], 0
+    yield b"".join(got)
+
+
+def rows_of(what: dict[str, object]) -> Iterator[bytes]:
+    """JSON as `written` has it, of a dictionary whose rows are made as they are sent."""
+    mark = b"{"
+    for name in sorted(what):
+        value = what[name]
+        yield mark + written(name) + b":"
+        mark = b","
+        if not isinstance(value, Iterator):
+            yield written(value)
+            continue
+        before = b"["
+        for row in value:
+            yield before + written(row)
+            before = b","
+        yield b"[]" if before == b"[" else b"]"
+    yield b"}"
+
+
+def in_time(parts: Iterator[bytes]) -> Iterator[bytes]:
+    until = time.monotonic() + SENDING
+    for part in parts:
+        if time.monotonic() > until:
+            raise Stop(413, "too-long")
+        yield part
+
+
+def told_as_it_comes(what: dict[str, object]) -> Answer:
+    return Answer(200, kind=JSON, parts=in_time(in_pieces(rows_of(what))))
 
 
 def told(what: object, status: int = 200) -> Answer:

@@ -39,6 +39,14 @@ def names_in(rest: str) -> Names:
     return names
 
 
+def chosen_in(query: str) -> frozenset[str]:
+    """Names in a folder, each escaped, with & between them."""
+    found = [names_in(part) for part in query.split("&")]
+    if any(len(names) != 1 for names in found):
+        raise Stop(400, "bad-query", "names in the folder, each escaped, with & between them")
+    return frozenset(name for name, in found)
+
+
 @lru_cache(maxsize=1000)
 def _escaped(text: str) -> str:
     return quote(text, safe="")

@@ -12,6 +12,8 @@ from contextlib import contextmanager
 from functools import lru_cache
 from typing import NamedTuple
 
+from rooms_admin.room import waits
+
 from .answers import JSON, Answer, Stop
 from .paths import Names, escaped
 from .turns import PATIENCE, InTurn
@@ -21,13 +23,19 @@ LARGEST = 1_048_576
 # they have to fit into a socket's buffer: else the room could wait with an answer for a door that
 # waits with a question.
 ROW, ROW_BYTES = 64, 60_000
-# What the answers to a row, or one answer, may have, so that no folder fills the memory.
-MOST_ANSWERED = 67_108_864
+# Of how many questions of a row a listing takes the place: one of a thousand names takes the room
+# as long as a hundred others.
+LISTING = 16
+# What the answers to a row, or one answer, may have, so that no folder fills the memory: some
+# 80,000 names, or 64 lists of 4,096 entries.
+MOST_ANSWERED = 12_582_912
+# How much of what one request asks may be denied: each denial may leave a record.
+MOST_DENIED = 1000
 CONNECT_SECONDS = 10.0
-ANSWER_SECONDS = 60.0
 USER = re.compile(r"[A-Za-z0-9._+$\\-]{1,64}(@[A-Za-z0-9.-]{1,64})?")
 _HEAD = re.compile(rb"HTTP/1\.1 ([0-9]{3})[^\r\n]*\r\n(?:(?!Content-Length:)[^\r\n]+\r\n)*"
                    rb"(?:Content-Length: ([0-9]{1,10})\r\n)?(?:[^\r\n]+\r\n)*\r\n")
+_CHILD = re.compile(rb'[\[,]\{"kind":"(folder|document)","name":"((?:[^"\\]|\\.)*)"\}(?=[,\]])')
 
 
 class Ask(NamedTuple):
@@ -37,6 +45,8 @@ class Ask(NamedTuple):
     path: str
     query: str = ""
     body: bytes = b""
+    # Whether only the status of what is done counts: then no memory is taken by the rest.
+    is_bare: bool = False
 
     def message(self, user: str) -> bytes:
         query = f"?{self.query}" if self.query else ""
@@ -92,17 +102,65 @@ def _rulings(body: bytes) -> dict[str, bool]:
     return {bit: str(said).startswith("allowed") for bit, said in json.loads(body).items()}
 
 
-def size_of(ask: Ask, user: str) -> int:
-    """Of its message, at most."""
-    return len(ask.path) + len(ask.query) + len(user) + 100
+def listed(body: bytes, most: int) -> Iterator[tuple[bytes, bool]]:
+    """What is in a folder, by its listing: each name, and whether it is a folder. (JSON that is
+    read as a whole takes many times its length.)"""
+    if len(body) < 2 or not body.endswith(b"]"):
+        raise ended()
+    place = 0 if body != b"[]" else 1
+    while place < len(body) - 1:
+        found = _CHILD.match(body, place)
+        if found is None:
+            raise ended()
+        if most == 0:
+            raise too_many()
+        most -= 1
+        place = found.end()
+        name = found[2]
+        if b"\\" in name:
+            name = json.loads(b'"%b"' % name).encode()
+        yield name, found[1] == b"folder"
+
+
+class Filling:
+    """A row, as long as one more question has a place in it."""
+
+    def __init__(self, user: str) -> None:
+        self.asks: list[Ask] = []
+        self._user = user
+        self._size = self._cost = 0
+
+    def takes(self, ask: Ask) -> bool:
+        # (its message has no more bytes than that)
+        self._size += len(ask.path) + len(ask.query) + len(self._user) + 100
+        self._cost += LISTING if ask.route == "folder" else 1
+        if self.asks and (self._size > ROW_BYTES or self._cost > ROW):
+            return False
+        self.asks.append(ask)
+        return True
 
 
 def too_many() -> Stop:
     return Stop(413, "too-many", "too much is below it: ask further down")
 
 
+class Denials:
+    """Of one request of a user, which is no flood of records."""
+
+    def __init__(self) -> None:
+        self._count = 0
+
+    def note(self, reply: Reply) -> Reply:
+        if reply.status == 403:
+            self._count += 1
+            if self._count > MOST_DENIED:
+                raise Stop(413, "too-many", "too much of it is denied: ask further down")
+        return reply
+
+
 def hangs() -> Stop:
-    return Stop(504, "room-hangs", "no answer of the room for a minute. Look whether it was done")
+    return Stop(504, "room-hangs", f"no answer of the room for {waits.ANSWER:.0f} s. Look whether "
+                "it was done")
 
 
 def ended() -> Stop:
@@ -117,6 +175,8 @@ class Talk:
         self._user = user
         self._most = most
         self._lines = at.makefile("rb")
+        # How many bytes the room has answered.
+        self.taken = 0
 
     def ask(self, ask: Ask) -> Reply:
         self._at.sendall(ask.message(self._user))
@@ -128,13 +188,24 @@ class Talk:
             name, _, value = field.partition(b":")
             if name.lower() == b"content-length":
                 length = int(value)
+        self.taken += length
+        status = int(line[9:12])
+        return Reply(status, self._body(length, ask.is_bare and status == 200))
+
+    def _body(self, length: int, is_bare: bool) -> bytes:
+        left = length
+        while is_bare and left:
+            part = self._lines.read(min(left, 65_536))
+            if not part:
+                raise ConnectionError
+            left -= len(part)
         # A room that was taken over would fill the memory.
-        if length > self._most:
+        if left > self._most:
             raise too_many()
-        body = self._lines.read(length)
-        if len(body) != length:
+        body = self._lines.read(left)
+        if len(body) != left:
             raise ConnectionError
-        return Reply(int(line[9:12]), body)
+        return body
 
 
 class Row:
@@ -165,33 +236,32 @@ class Row:
             self._is_held = False
             self._room.give()
 
-    def answered(self) -> bytes:
+    def answered(self) -> bytearray:
         """All of the answers. From here on the next row may be sent."""
-        got: list[bytes] = []
-        size = 0
+        got = bytearray()
         try:
             with at_fault():
                 while self._at and (part := self._at.recv(262_144)):
-                    got.append(part)
-                    size += len(part)
-                    if size > MOST_ANSWERED:
+                    got += part
+                    if len(got) > MOST_ANSWERED:
                         raise too_many()
         finally:
             self.drop()
-        return b"".join(got)
+        return got
 
-    def replies(self, whole: bytes) -> list[Reply]:
-        found: list[Reply] = []
+    def replies(self, whole: bytearray) -> Iterator[Reply]:
+        """One after the other, so that none is twice in memory."""
+        view = memoryview(whole)
         place = 0
-        while len(found) < self._count:
+        for _ in range(self._count):
             head = _HEAD.match(whole, place)
             if head is None:
                 raise ended()
-            place = head.end() + int(head[2] or 0)
+            begin = head.end()
+            place = begin + int(head[2] or 0)
             if place > len(whole):
                 raise ended()
-            found.append(Reply(int(head[1]), whole[head.end():place]))
-        return found
+            yield Reply(int(head[1]), bytes(view[begin:place]))
 
 
 @contextmanager
@@ -205,7 +275,7 @@ def at_fault() -> Iterator[None]:
 
 
 class Room:
-    def __init__(self, place: str, seconds: float = ANSWER_SECONDS,
+    def __init__(self, place: str, seconds: float = waits.ANSWER,
                  most: int = MOST_ANSWERED) -> None:
         """The path of a socket, how long an answer may take, and how many bytes it may have."""
         self.place = place
@@ -258,8 +328,10 @@ class Room:
 
     def row(self, user: str, asks: list[Ask]) -> list[Reply]:
         """Only of what changes nothing: all are sent before the first answer is read."""
+        if not asks:
+            return []
         under_way = Row(self, user, asks)
-        return under_way.replies(under_way.answered())
+        return list(under_way.replies(under_way.answered()))
 
     def ask_each(self, user: str, asks: Iterable[Ask]) -> Iterator[Reply]:
         for asked in rows(user, asks):
@@ -267,14 +339,11 @@ class Room:
 
 
 def rows(user: str, asks: Iterable[Ask]) -> Iterator[list[Ask]]:
-    row: list[Ask] = []
-    size = 0
+    row = Filling(user)
     for ask in asks:
-        length = size_of(ask, user)
-        if row and (len(row) == ROW or size + length > ROW_BYTES):
-            yield row
-            row, size = [], 0
-        row.append(ask)
-        size += length
-    if row:
-        yield row
+        if not row.takes(ask):
+            yield row.asks
+            row = Filling(user)
+            row.takes(ask)
+    if row.asks:
+        yield row.asks

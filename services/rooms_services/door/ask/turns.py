@@ -5,13 +5,15 @@ from collections import Counter, defaultdict, deque
 from collections.abc import Iterator
 from contextlib import contextmanager
 
+from rooms_admin.room import waits
+
 from .answers import Stop
 
 # Of one user, of all users, and how many of one user's may wait.
 RUNNING, RUNNING_ALL, WAITING = 2, 16, 14
 # Of those who go through folders, which takes memory, and of ZIPs, which may be taken slowly.
 LONG, LONG_ALL = 1, 4
-PATIENCE = 60.0
+PATIENCE = waits.ANSWER
 
 
 class InTurn:

@@ -1,26 +1,25 @@
 """A folder with all in it that the caller may read, as one ZIP. Nothing is compressed, since most
 of what an office has is compressed already, and nothing is kept: each document is sent on as soon
 as it is read. So a fault in the middle breaks the download off, and no half ZIP looks whole."""
-import io
 import re
 import time
 import unicodedata
-import zipfile
-from collections import defaultdict
-from collections.abc import Iterator
+from collections.abc import Iterable, Iterator
 from urllib.parse import quote
 
-from ..ask.answers import Answer
+from ..ask.answers import Answer, in_pieces
 from ..ask.paths import Names
-from ..ask.room import Ask, Reply, Room, ended, too_many
-from .walk import Node, Walk, too_late, top_of
+from ..ask.room import Ask, Reply, Room, ended
+from .walk import Node, Step, Walk, refuse_long, top_of
+from .zipped import Writer
 
 # Documents of up to 1 MiB each, which are in memory at once.
 ROW_OF_DOCUMENTS = 4
 SECONDS = 3600.0
 LEFT_OUT = "not in this ZIP.txt"
-# What some system takes for the end of a folder's name, for a device or a command, or doesn't show.
-_UNSAFE = re.compile('[\\\\/:*?"<>|\x00-\x1f\x7f-\x9f\u200e\u200f\u202a-\u202e\u2066-\u2069]')
+# What some system takes for the end of a folder's name, for a device, a command or the end of a
+# name, or doesn't show.
+_UNSAFE = re.compile('[\\\\/:;*?"<>|\x00-\x1f\x7f-\x9f\u200e\u200f\u202a-\u202e\u2066-\u2069]')
 _DEVICE = re.compile(r"(con|prn|aux|nul|com[0-9]|lpt[0-9])(\..*)?", re.IGNORECASE)
 
 
@@ -32,146 +31,159 @@ def safe_name(name: str) -> str:
     return "_" + name if _DEVICE.fullmatch(name) else name
 
 
-class _Stream:
-    """What zipfile writes, until it is taken. It goes back within one entry, to write its sum."""
+def headed(name: str, parts: Iterator[bytes]) -> Answer:
+    """A ZIP of this name, without the end."""
+    plain = re.sub(r"[^ !#-\[\]-~]", "_", f"{name}.zip")
+    return Answer(200, kind="application/zip", parts=parts, fields={
+        "Content-Disposition": f"attachment; filename=\"{plain}\"; "
+                               f"filename*=UTF-8''{quote(name, safe='')}.zip",
+        "Cache-Control": "private, no-store"})
+
+
+class Taken:
+    """The names in one folder of a ZIP. Two names may differ by capitals alone, or become the
+    same."""
 
     def __init__(self) -> None:
-        self._before = 0
-        self._entry = io.BytesIO()
+        # With the number that the last one got.
+        self._names: dict[str, int] = {}
 
-    def write(self, data: bytes) -> int:
-        return self._entry.write(data)
+    def free(self, name: str) -> str:
+        stem, dot, end = name.rpartition(".")
+        if not stem:
+            stem, dot, end = name, "", ""
+        key, free = _key(name), name
+        turn = self._names.get(key, 0)
+        while _key(free) in self._names:
+            turn += 1
+            free = f"{stem} ({turn + 1}){dot}{end}"
+        self._names[key] = turn
+        self._names.setdefault(_key(free), 0)
+        return free
 
-    def tell(self) -> int:
-        return self._before + self._entry.tell()
 
-    def seek(self, place: int, _whence: int = 0) -> int:
-        return self._entry.seek(place - self._before)
-
-    def flush(self) -> None:
-        """All of it is in memory."""
-
-    def take(self) -> bytes:
-        data = self._entry.getvalue()
-        self._before += len(data)
-        self._entry = io.BytesIO()
-        return data
+def _key(name: str) -> str:
+    return unicodedata.normalize("NFC", name).casefold()
 
 
 class Archive:
     def __init__(self, room: Room, user: str) -> None:
         self.room = room
         self.walk = Walk(room, user)
-        self.objects: list[Node] = []
-        self.left_out: list[str] = []
-        self.places: dict[Node, str] = {}
-        # Two names may differ by capitals alone, or become the same.
-        self.taken: defaultdict[str, set[str]] = defaultdict(set)
+        self.folders: list[Node] = []
+        self.documents: list[Node] = []
+        self.left_out: list[Node] = []
+        # Names in the ZIP, of what can't keep its own.
+        self.renamed: dict[Node, str] = {}
+        self.list_of_rest = LEFT_OUT
+        # Whether it may be read is asked first: no record says of somebody who wanted a folder that
+        # they tried to read what is closed to them.
+        self.can = Step("can", "rx", self._may)
+        self.list = Step("folder", "", self._children)
 
-    def look(self, names: Names) -> Answer:
-        top, listed, _ = top_of(self.walk, names, "x")
-        if listed.status != 200:
-            return listed.answer()
-        self.objects.append(top)
-        self.places[top] = safe_name(names[-1] if names else "documents") + "/"
-        self._children(top, listed)
-        self.walk.run(lambda: not self.walk.is_late())
-        if self.walk.asked:
-            raise too_late()
-        name = self.places[top][:-1] + ".zip"
-        plain = re.sub(r"[^ !#-\[\]-~]", "_", name)
-        return Answer(200, kind="application/zip", parts=self._parts(), fields={
-            "Content-Disposition":
-                f"attachment; filename=\"{plain}\"; filename*=UTF-8''{quote(name, safe='')}",
-            "Cache-Control": "private, no-store"})
+    def look(self, names: Names, chosen: frozenset[str] | None) -> Answer:
+        top, listing, _ = top_of(self.walk, names, "x")
+        if listing.status != 200:
+            return listing.answer()
+        name = self.renamed[top] = safe_name(names[-1] if names else "documents")
+        self.folders.append(top)
+        self.list_of_rest = self._named(top, listing, chosen).free(LEFT_OUT)
+        self.walk.all()
+        refuse_long(self.left_out)
+        return headed(name, in_pieces(self._parts()))
 
     def _children(self, node: Node, reply: Reply) -> None:
-        children = self.walk.children(node, reply)
-        if self.walk.is_too_much():
-            raise too_many()
-        for child in children:
+        self._named(node, reply)
+
+    def _named(self, node: Node, reply: Reply, chosen: frozenset[str] | None = None) -> Taken:
+        taken = Taken()
+        gone = set(chosen or ())
+        for child in self.walk.every_child(node, reply):
+            own = child.name.decode()
+            if chosen is not None and own not in chosen:
+                continue
+            gone.discard(own)
+            free = taken.free(safe_name(own))
+            if free != own:
+                self.renamed[child] = free
             if node.is_open:
-                self._object(child)
+                self.walk.ask(self.can, child)
             else:
-                self.left_out.append(child.path)
+                self.left_out.append(child)
+        self.left_out += [Node(name.encode(), False, node) for name in sorted(gone)]
+        return taken
 
-    def _object(self, node: Node) -> None:
-        """Whether it may be read is asked first: no record says of somebody who wanted a folder
-        that they tried to read what is closed to them."""
-        def then(reply: Reply) -> None:
-            may = reply.rulings()
-            node.is_open = may.get("x", False)
-            if not may.get("r"):
-                self.left_out.append(node.path)
-                return
-            self.objects.append(node)
-            if node.is_folder:
-                self.walk.ask("folder", node, lambda reply: self._children(node, reply))
-        self.walk.ask("can", node, then, "rx")
+    def _may(self, node: Node, reply: Reply) -> None:
+        may = reply.rulings()
+        node.is_open = may.get("x", False)
+        if not may.get("r"):
+            self.left_out.append(node)
+        elif node.is_folder:
+            self.folders.append(node)
+            self.walk.ask(self.list, node)
+        else:
+            self.documents.append(node)
 
-    def _place(self, node: Node) -> str:
-        """Its path in the ZIP, which nothing else has."""
-        known = self.places.get(node)
-        if known is None:
-            above = self._place(node.above) if node.above else ""
-            known = self.places[node] = above + self._free(
-                above, safe_name(node.path.rpartition("/")[2])) + ("/" if node.is_folder else "")
-        return known
+    def _places(self, nodes: Iterable[Node]) -> Iterator[str]:
+        """The paths in the ZIP, of nodes many of which are in the same folder."""
+        above: Node | None = None
+        before = ""
+        for node in nodes:
+            if node.above and node.above is not above:
+                above, before = node.above, self._place(node.above)
+            own = self.renamed.get(node) or node.name.decode()
+            yield (before if node.above else "") + own + ("/" if node.is_folder else "")
 
-    def _free(self, above: str, name: str) -> str:
-        stem, dot, end = name.rpartition(".")
-        if not stem:
-            stem, dot, end = name, "", ""
-        turn, free = 1, name
-        while (key := unicodedata.normalize("NFC", free).casefold()) in self.taken[above]:
-            turn += 1
-            free = f"{stem} ({turn}){dot}{end}"
-        self.taken[above].add(key)
-        return free
+    def _place(self, folder: Node) -> str:
+        way: list[str] = []
+        node: Node | None = folder
+        while node:
+            way.append((self.renamed.get(node) or node.name.decode()) + "/")
+            node = node.above
+        return "".join(reversed(way))
 
-    def _documents(self) -> Iterator[tuple[Node, bytes]]:
-        until = time.monotonic() + SECONDS
-        row: list[Node] = []
-        for node in [*(one for one in self.objects if not one.is_folder), None]:
-            if node:
-                row.append(node)
-            if row and (len(row) == ROW_OF_DOCUMENTS or node is None):
-                replies = self.room.row(self.walk.user, [
-                    Ask("GET", "doc", one.target) for one in row])
-                for one, reply in zip(row, replies, strict=True):
-                    if reply.status == 200:
-                        yield one, reply.body
-                    elif reply.status in (403, 404, 409):
-                        self.left_out.append(one.path)
-                    else:
-                        raise ended()
-                row = []
+    def _read(self, until: float) -> Iterator[tuple[Node, bytes]]:
+        for place in range(0, len(self.documents), ROW_OF_DOCUMENTS):
+            row = self.documents[place:place + ROW_OF_DOCUMENTS]
+            replies = self.room.row(self.walk.user, [
+                Ask("GET", "doc", self.walk.target(one)) for one in row])
+            for one, reply in zip(row, replies, strict=True):
+                if reply.status == 200:
+                    yield one, reply.body
+                elif self.walk.denials.note(reply).status in (403, 404, 409):
+                    self.left_out.append(one)
+                else:
+                    raise ended()
             if time.monotonic() > until:
                 raise ended()
 
     def _parts(self) -> Iterator[bytes]:
-        out = _Stream()
-        with zipfile.ZipFile(out, "w", zipfile.ZIP_STORED) as whole:  # type: ignore[call-overload]
-            for node in self.objects:
-                if node.is_folder:
-                    whole.writestr(_entry(self._place(node)), b"")
-            for node, data in self._documents():
-                whole.writestr(_entry(self._place(node)), data)
-                yield out.take()
-            if self.left_out:
-                top = self.places[self.objects[0]]
-                whole.writestr(_entry(top + self._free(top, LEFT_OUT)), "".join(
-                    f"{path}\r\n" for path in sorted(self.left_out)).encode())
-        yield out.take()
+        out = Writer()
+        for name in self._places(self.folders):
+            yield from out.entry(name, ())
+        # (those of which a row was read, so that they can be told once more)
+        sent: list[Node] = []
+        for node, data in self._read(time.monotonic() + SECONDS):
+            sent.append(node)
+            yield from out.entry(next(self._places([node])), [data])
+        names = [self._places(self.folders), self._places(sent)]
+        if self.left_out:
+            name = self._place(self.folders[0]) + self.list_of_rest
+            yield from out.entry(name, _Lines(self.left_out))
+            names.append(iter([name]))
+        yield from out.end(one for some in names for one in some)
 
 
-def _entry(path: str) -> zipfile.ZipInfo:
-    """On the first day that the format knows, as a room keeps no dates."""
-    entry = zipfile.ZipInfo(path)
-    entry.create_system = 3
-    entry.external_attr = 0o40755 << 16 | 0x10 if path.endswith("/") else 0o100644 << 16
-    return entry
+class _Lines:
+    """The paths of what was left out."""
+
+    def __init__(self, nodes: list[Node]) -> None:
+        self._nodes = nodes
+
+    def __iter__(self) -> Iterator[bytes]:
+        return (f"{node.path}\r\n".encode() for node in self._nodes)
 
 
-def archive(room: Room, user: str, names: Names) -> Answer:
-    return Archive(room, user).look(names)
+def archive(room: Room, user: str, names: Names, chosen: frozenset[str] | None = None) -> Answer:
+    """All that is in the folder, or what has one of the chosen names."""
+    return Archive(room, user).look(names, chosen)

@@ -2,14 +2,16 @@
 the rest are, as far as the caller may see."""
 import json
 from collections import Counter
+from collections.abc import Iterator
 from typing import NamedTuple
 
-from ..ask.answers import Answer, told
-from ..ask.paths import Names, shown
+from ..ask import lists
+from ..ask.answers import Answer, told_as_it_comes
+from ..ask.paths import Names
 from ..ask.room import Reply, Room, too_many
-from .walk import Node, Walk, too_late, top_of
+from .walk import Node, Step, Walk, refuse_long, top_of
 
-Rest = tuple[str, str, int, str | None, str | None]
+Rest = tuple[Node, bool, int, str | None, str | None]
 _OWNERS = ("OWNER@", "GROUP@")
 
 
@@ -40,57 +42,52 @@ class _Texts:
             self._size += len(text)
             if self._size > MOST_BYTES:
                 raise too_many()
-            head, *lines = text.decode().splitlines()
-            flags = head.removeprefix("list:")
-            entries = [line.split(":", 3) for line in lines]
+            said = lists.read(text.decode())
             known = self._known[text] = _Said(
-                text, "p" in flags or any("I" not in entry[1] for entry in entries), "a" in flags,
-                any(entry[2] in _OWNERS and "i" not in entry[1] for entry in entries))
+                text, said.is_own, "a" in said.flags,
+                any(one.who in _OWNERS and "i" not in one.flags for one in said.entries))
         return known
 
 
 class Below:
-    def __init__(self, room: Room, user: str, apart: frozenset[str]) -> None:
+    def __init__(self, room: Room, user: str, apart: tuple[bytes, ...]) -> None:
         self.walk = Walk(room, user)
         self.apart = apart
+        # What lies on that way.
+        self.way: set[Node] = set()
         self.nodes: list[Node] = []
-        self.unlisted: list[str] = []
+        self.unlisted: list[Node] = []
         self.texts = _Texts()
         self.owners: dict[bytes, tuple[str, str]] = {}
+        # Whether something may be read is asked first: no record says of somebody who looked at a
+        # folder that they tried to read lists in it.
+        self.can = {True: Step("can", "rxct", self._may), False: Step("can", "ct", self._may)}
+        self.dacl = Step("dacl", "", self._list)
+        self.attr = Step("attr", "", self._owner)
+        self.list = Step("folder", "", self._children)
 
     def look(self, names: Names) -> Answer:
-        top, listed, may = top_of(self.walk, names, "cx")
-        if listed.status != 200:
-            return listed.answer()
+        top, listing, may = top_of(self.walk, names, "cx")
+        if listing.status != 200:
+            return listing.answer()
         if may.get("c"):
-            self.walk.ask("dacl", top, lambda reply: self._list(top, reply))
-        self._children(top, listed)
-        self.walk.run(lambda: not self.walk.is_late())
-        if self.walk.asked:
-            raise too_late()
-        return told(self._answer(top))
-
-    def _object(self, node: Node) -> None:
-        """Whether something may be read is asked first: no record says of somebody who looked at a
-        folder that they tried to read lists in it."""
-        self.nodes.append(node)
-        if node.above and node.above.is_open:
-            bits = "rxct" if node.is_folder else "ct"
-            self.walk.ask("can", node, lambda reply: self._may(node, reply), bits)
-        elif node.is_folder:
-            self.unlisted.append(node.path)
+            self.walk.ask(self.dacl, top)
+        self.way.add(top)
+        self._children(top, listing)
+        self.walk.all()
+        return self._answer(top)
 
     def _may(self, node: Node, reply: Reply) -> None:
         may = reply.rulings()
         node.is_open = may.get("x", False)
         if may.get("c"):
-            self.walk.ask("dacl", node, lambda reply: self._list(node, reply))
+            self.walk.ask(self.dacl, node)
         if may.get("t"):
-            self.walk.ask("attr", node, lambda reply: self._owner(node, reply))
+            self.walk.ask(self.attr, node)
         if may.get("r"):
-            self.walk.ask("folder", node, lambda reply: self._children(node, reply))
+            self.walk.ask(self.list, node)
         elif node.is_folder:
-            self.unlisted.append(node.path)
+            self.unlisted.append(node)
 
     def _list(self, node: Node, reply: Reply) -> None:
         if reply.status == 200:
@@ -106,59 +103,70 @@ class Below:
         node.owner, node.group = known
 
     def _children(self, node: Node, reply: Reply) -> None:
-        children = self.walk.children(node, reply)
-        if self.walk.is_too_much():
-            raise too_many()
-        for child in children:
-            self._object(child)
+        depth = len(node.names()) - 1 if node in self.way else len(self.apart)
+        for child in self.walk.every_child(node, reply):
+            self.nodes.append(child)
+            if depth < len(self.apart) and child.name == self.apart[depth]:
+                self.way.add(child)
+            if node.is_open:
+                self.walk.ask(self.can[child.is_folder], child)
+            elif child.is_folder:
+                self.unlisted.append(child)
 
     def _follows(self, node: Node) -> bool:
         """Whether its list is what its folder's list passes down, and passes down itself. What a
         folder's list says to the folder's own owner isn't the same in another folder."""
-        if node.list is None or node.above is None or node.above.list is None \
-                or node.path in self.apart:
+        if node.list is None or node.above is None or node.above.list is None or node in self.way:
             return False
         said = self.texts.of(node.list)
         follows = not node.is_folder or said.passes and not said.names_owners
         return follows and not said.is_own and self.texts.of(node.above.list).passes
 
-    def _answer(self, top: Node) -> dict[str, object]:
+    def _answer(self, top: Node) -> Answer:
+        # The folder whose list a folder follows, and how far above it that is.
         near: dict[Node, tuple[Node, int]] = {top: (top, 0)}
         rest: Counter[Rest] = Counter()
-        unread: Counter[tuple[str, str]] = Counter()
-        found = []
+        unread: Counter[Node] = Counter()
+        found: list[Node] = []
         size = 0
         # (each stands behind the folder that it is in)
         for node in self.nodes:
-            kind = "folder" if node.is_folder else "document"
-            if node.list is not None and self._follows(node):
-                assert node.above
+            assert node.above
+            if self._follows(node):
                 folder, depth = near[node.above]
-                near[node] = folder, min(depth + 1, 2)
-                rest[folder.path, kind, near[node][1], node.owner, node.group] += 1
+                rest[folder, node.is_folder, min(depth + 1, 2), node.owner, node.group] += 1
+                if node.is_folder:
+                    near[node] = folder, min(depth + 1, 2)
                 continue
-            near[node] = node, 0
+            if node.is_folder:
+                near[node] = node, 0
             if node.list is None and not node.is_folder:
-                unread[node.above.path if node.above else "/", kind] += 1
-            else:
-                text = None if node.list is None else node.list.decode()
-                size += len(text or "")
-                if size > MOST_BYTES:
-                    raise too_many()
-                found.append({"group": node.group, "kind": kind, "list": text,
-                              "owner": node.owner, "path": node.path})
-        return {"at": top.path, "list": None if top.list is None else top.list.decode(),
-                "objects": found,
-                "rest": _rows(("below", "kind", "depth", "owner", "group"), rest),
-                "unlisted": self.unlisted, "unread": _rows(("in", "kind"), unread)}
+                unread[node.above] += 1
+                continue
+            size += len(node.list or b"")
+            if size > MOST_BYTES:
+                raise too_many()
+            found.append(node)
+        refuse_long([*found, *self.unlisted, *(row[0] for row in rest), *unread])
+        return told_as_it_comes({
+            "at": top.path, "list": None if top.list is None else top.list.decode(),
+            "objects": map(_object, found), "rest": _rest(rest),
+            "unlisted": (node.path for node in self.unlisted),
+            "unread": ({"count": count, "in": node.path, "kind": "document"}
+                       for node, count in unread.items())})
 
 
-def _rows(names: tuple[str, ...], counted: "Counter[Rest] | Counter[tuple[str, str]]"
-          ) -> list[dict[str, object]]:
-    return [dict(zip(names, key), count=count) for key, count in counted.items()]
+def _object(node: Node) -> dict[str, object]:
+    return {"group": node.group, "kind": node.kind, "owner": node.owner, "path": node.path,
+            "list": None if node.list is None else node.list.decode()}
+
+
+def _rest(counted: Counter[Rest]) -> Iterator[dict[str, object]]:
+    for (node, is_folder, depth, owner, group), count in counted.items():
+        yield {"below": node.path, "kind": "folder" if is_folder else "document", "depth": depth,
+               "owner": owner, "group": group, "count": count}
 
 
 def below(room: Room, user: str, names: Names, apart: Names) -> Answer:
     """`apart` leads on from the folder: each object on that way is told of by itself."""
-    ways = (shown(names + apart[:depth]) for depth in range(1, len(apart) + 1))
-    return Below(room, user, frozenset(ways)).look(names)
+    return Below(room, user, tuple(name.encode() for name in apart)).look(names)

@@ -2,10 +2,10 @@
 import unicodedata
 from urllib.parse import unquote_to_bytes
 
-from ..ask.answers import Answer, Stop, told
+from ..ask.answers import Answer, Stop, told_as_it_comes
 from ..ask.paths import Names
 from ..ask.room import Reply, Room
-from .walk import Node, Walk, top_of
+from .walk import Node, Step, Walk, refuse_long, top_of
 
 LONGEST = 255
 MOST_FOUND = 1000
@@ -24,26 +24,34 @@ def text_of(query: str) -> str:
 
 
 def folded(text: str) -> str:
-    """So that capitals don't matter, nor how a letter with a mark is written."""
-    return unicodedata.normalize("NFKC", unicodedata.normalize("NFKC", text).casefold())
+    """So that capitals and marks don't matter, nor how a letter is written. The page filters an
+    open folder by the same rule (web/folder/sorting.js)."""
+    plain = "".join(letter for letter in unicodedata.normalize("NFKD", text)
+                    if not unicodedata.category(letter).startswith("M"))
+    return plain.upper().lower().replace("ς", "σ")
 
 
 class Find:
     def __init__(self, room: Room, user: str, text: str) -> None:
         self.walk = Walk(room, user)
         self.text = folded(text)
-        self.found: list[dict[str, str]] = []
-        self.unlisted: list[str] = []
+        self.found: list[Node] = []
+        self.unlisted: list[Node] = []
+        self.can = Step("can", "rx", self._may)
+        self.list = Step("folder", "", self._children)
 
     def look(self, names: Names) -> Answer:
-        top, listed, _ = top_of(self.walk, names, "x")
-        if listed.status != 200:
-            return listed.answer()
-        self._children(top, listed)
+        top, listing, _ = top_of(self.walk, names, "x")
+        if listing.status != 200:
+            return listing.answer()
+        self._children(top, listing)
         self.walk.run(lambda: not self._is_enough())
-        is_all = not self.walk.asked and len(self.found) <= MOST_FOUND
-        return told({"all": is_all, "at": top.path, "found": self.found[:MOST_FOUND],
-                     "unlisted": self.unlisted})
+        refuse_long(self.found + self.unlisted)
+        is_all = not self.walk.asked and not self.walk.is_too_much() \
+            and len(self.found) <= MOST_FOUND
+        return told_as_it_comes({
+            "all": is_all, "at": top.path, "unlisted": (node.path for node in self.unlisted),
+            "found": ({"kind": node.kind, "path": node.path} for node in self.found[:MOST_FOUND])})
 
     def _is_enough(self) -> bool:
         return (len(self.found) > MOST_FOUND or self.walk.is_late()
@@ -51,26 +59,25 @@ class Find:
 
     def _children(self, node: Node, reply: Reply) -> None:
         for child in self.walk.children(node, reply):
-            name = child.path.rpartition("/")[2]
-            if self.text in folded(name):
-                self.found.append({"kind": "folder" if child.is_folder else "document",
-                                   "path": child.path})
+            if self.text in folded(child.name.decode()):
+                self.found.append(child)
             if child.is_folder:
                 self._folder(child)
 
     def _folder(self, node: Node) -> None:
         """No record says that somebody who searched tried to open a folder that is closed."""
-        def then(reply: Reply) -> None:
-            may = reply.rulings()
-            node.is_open = may.get("x", False)
-            if may.get("r"):
-                self.walk.ask("folder", node, lambda reply: self._children(node, reply))
-            else:
-                self.unlisted.append(node.path)
         if node.above and node.above.is_open:
-            self.walk.ask("can", node, then, "rx")
+            self.walk.ask(self.can, node)
         else:
-            self.unlisted.append(node.path)
+            self.unlisted.append(node)
+
+    def _may(self, node: Node, reply: Reply) -> None:
+        may = reply.rulings()
+        node.is_open = may.get("x", False)
+        if may.get("r"):
+            self.walk.ask(self.list, node)
+        else:
+            self.unlisted.append(node)
 
 
 def find(room: Room, user: str, names: Names, query: str) -> Answer:

@@ -1,4 +1,5 @@
 """Whom a list grants a right, by the list alone: who is in which group isn't known here."""
+from ..ask import lists
 
 # These two are everybody who could be meant.
 EVERYBODY = ("EVERYONE@", "AUTHENTICATED@")
@@ -10,8 +11,7 @@ def holders(text: str, bits: str, owner: object, group: object) -> list[str]:
     found: list[str] = []
     for bit in bits:
         denied: set[str] = set()
-        for line in text.splitlines()[1:]:
-            kind, flags, who, mask = line.split(":", 3)
+        for kind, flags, who, mask in lists.read(text).entries:
             if "i" in flags or bit not in mask:
                 continue
             name = _name(flags, who, owner, group)

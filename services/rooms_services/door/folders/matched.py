@@ -2,19 +2,20 @@
 change are sent over one connection, and the room answers nobody else in between: so whatever comes
 from elsewhere comes before the look or after the change."""
 import hashlib
-import re
 from dataclasses import dataclass
 
 from ..ask.answers import Answer, Stop
 from .holders import holders
 from ..ask.paths import Names, shown
 from ..ask.room import Reply, Room, Talk, about
+from ..ask.tags import tags_in
 
-_TAG = re.compile(r'\s*(W/)?("[^"]*")\s*')
 # Nothing of it is shown as a page of this site, nor kept where somebody else could find it.
 SAFE = {"Content-Disposition": "attachment", "Cache-Control": "private, no-store"}
 # Whoever has one of these rights could have changed it.
 CHANGES = {"doc": "wa", "dacl": "C", "sacl": "C"}
+# What it takes to read it.
+READING = {"doc": "r", "dacl": "c", "sacl": "c"}
 
 
 def tag_of(body: bytes) -> str:
@@ -37,14 +38,11 @@ def condition_of(match: str, none: str) -> Condition:
         return Condition(True, frozenset())
     if not match:
         raise Stop(428, "no-condition", "neither If-Match nor If-None-Match")
-    if match == "*":
+    named = tags_in(match)
+    if named is None:
         return Condition(False, frozenset())
-    found = [_TAG.fullmatch(part) for part in match.split(",")]
-    if None in found:
-        raise Stop(400, "bad-condition", "If-Match isn't a list of entity tags")
     # A weak one is never the same.
-    return Condition(False, frozenset(one[2] for one in found if one and not one[1]) or
-                     frozenset([""]))
+    return Condition(False, frozenset(tag for weak, tag in named if not weak) or frozenset([""]))
 
 
 def read(room: Room, user: str, route: str, names: Names) -> Answer:
@@ -53,6 +51,15 @@ def read(room: Room, user: str, route: str, names: Names) -> Answer:
         return reply.answer()
     kind = "application/octet-stream" if route == "doc" else "text/plain; charset=utf-8"
     return Answer(200, reply.body, kind, {"ETag": tag_of(reply.body), **SAFE})
+
+
+def tag(room: Room, user: str, route: str, names: Names) -> Answer:
+    """The same without the bytes, for whoever is about to replace it: it is empty where they may
+    not read it, and no record says that they tried."""
+    may = room.ask(user, about("GET", "can", names, READING[route]))
+    if may.status != 200:
+        return may.answer()
+    return read(room, user, route, names) if all(may.rulings().values()) else Answer(204)
 
 
 def replace(room: Room, user: str, route: str, names: Names, body: bytes,
@@ -74,17 +81,21 @@ def replace(room: Room, user: str, route: str, names: Names, body: bytes,
 
 def _look(talk: Talk, route: str, names: Names, condition: Condition) -> Answer | None:
     """What stands against the change, as far as it is the condition's."""
-    if condition.is_new:
+    if condition.is_new or not condition.tags:
+        # Whoever may write there needn't be allowed to read.
         there = talk.ask(about("GET", "can", names))
-        if there.status == 200:
-            raise _changed(talk, route, names, "exists", None)
-        return None if there.status == 404 else there.answer()
+        is_there = there.status == 200
+        if not is_there and (there.status != 404 or there.at != shown(names)):
+            return there.answer()
+        if is_there == condition.is_new:
+            raise _changed(talk, route, names, "exists" if is_there else "gone", None)
+        return None
     seen = talk.ask(about("GET", route, names))
     if seen.status == 404 and seen.at == shown(names):
         raise _changed(talk, route, names, "gone", None)
     if seen.status != 200:
         return seen.answer()
-    if condition.tags and tag_of(seen.body) not in condition.tags:
+    if tag_of(seen.body) not in condition.tags:
         raise _changed(talk, route, names, "changed", seen)
     return None
 

@@ -1,26 +1,30 @@
 """Goes through a folder and all below it by rows of questions. While the room answers one row, the
 answers to the one before are looked at."""
-import json
 import time
 from collections import deque
-from collections.abc import Callable
+from collections.abc import Callable, Iterable, Iterator
 from dataclasses import dataclass
+from typing import NamedTuple
 
 from ..ask.answers import Stop
 from ..ask.paths import Names, escaped, escaped_name, shown
-from ..ask.room import ROW, ROW_BYTES, Ask, Reply, Room, Row, size_of
+from ..ask.room import Ask, Denials, Filling, Reply, Room, Row, listed, too_many
 
-# No request looks at more, or for longer.
+# No request looks at more, or at longer names together, or for longer.
 MOST = 80_000
+MOST_NAMED = 8_388_608
 SECONDS = 45.0
-Then = Callable[[Reply], None]
+# How many bytes the paths in one answer have, which may be many times those of their names.
+MOST_TOLD = 33_554_432
+# How many folders' addresses are remembered.
+REMEMBERED = 256
 
 
 @dataclass(slots=True, eq=False)
 class Node:
-    """An object: its path as it is shown, and escaped."""
-    path: str
-    target: str
+    """An object below the folder from which a walk begins. It has its name and what it is in, and
+    not its path: there may be tens of thousands of long ones."""
+    name: bytes
     is_folder: bool
     above: "Node | None" = None
     # Whether the caller passes through it: else nothing in it is asked about.
@@ -30,9 +34,30 @@ class Node:
     owner: str | None = None
     group: str | None = None
 
-    def child(self, name: str, is_folder: bool) -> "Node":
-        return Node(f"{self.path.rstrip('/')}/{name}", f"{self.target}/{escaped_name(name)}"
-                    .removeprefix("/"), is_folder, self)
+    @property
+    def kind(self) -> str:
+        return "folder" if self.is_folder else "document"
+
+    def names(self) -> tuple[bytes, ...]:
+        """From the folder where the walk began, whose own is its whole path."""
+        found = [self.name]
+        node = self.above
+        while node:
+            found.append(node.name)
+            node = node.above
+        return tuple(reversed(found))
+
+    @property
+    def path(self) -> str:
+        top, *rest = self.names()
+        return b"/".join([top.rstrip(b"/"), *rest]).decode() if rest else top.decode()
+
+
+class Step(NamedTuple):
+    """What is asked about a node, and what is done then."""
+    route: str
+    query: str
+    then: Callable[[Node, Reply], None]
 
 
 class Walk:
@@ -40,65 +65,125 @@ class Walk:
         self.room = room
         self.user = user
         self.seen = 0
-        self.asked: deque[tuple[Ask, Then]] = deque()
+        self.named = 0
+        self.asked: deque[tuple[Step, Node]] = deque()
         self.until = time.monotonic() + SECONDS
+        self.denials = Denials()
+        # Addresses of the folders that were asked about last.
+        self._targets: dict[Node | None, str] = {}
 
-    def ask(self, route: str, node: Node, then: Then, query: str = "") -> None:
-        self.asked.append((Ask("GET", route, node.target, query), then))
+    def ask(self, step: Step, node: Node) -> None:
+        self.asked.append((step, node))
 
-    def _next(self) -> list[tuple[Ask, Then]]:
-        row: list[tuple[Ask, Then]] = []
-        size = 0
-        while self.asked and len(row) < ROW:
-            size += size_of(self.asked[0][0], self.user)
-            if row and size > ROW_BYTES:
+    def target(self, node: Node) -> str:
+        """Its address, escaped."""
+        # (most are documents, each asked about a few times)
+        if not node.is_folder and (known := self._targets.get(node.above)) is not None:
+            return f"{known}/{escaped_name(node.name.decode())}"
+        way: list[Node] = []
+        above: Node | None = node
+        while above and above.above and above not in self._targets:
+            way.append(above)
+            above = above.above
+        assert above
+        found = self._targets[above] if above.above else escaped(_names_of(above))
+        for one in reversed(way):
+            found = f"{found}/{escaped_name(one.name.decode())}".removeprefix("/")
+            if one.is_folder:
+                self._targets[one] = found
+                if len(self._targets) > REMEMBERED:
+                    del self._targets[next(iter(self._targets))]
+        return found
+
+    def _next(self) -> tuple[list[Ask], list[tuple[Step, Node]]]:
+        row = Filling(self.user)
+        its: list[tuple[Step, Node]] = []
+        while self.asked:
+            step, node = self.asked[0]
+            if not row.takes(Ask("GET", step.route, self.target(node), step.query)):
                 break
-            row.append(self.asked.popleft())
-        return row
+            its.append(self.asked.popleft())
+        return row.asks, its
 
     def is_late(self) -> bool:
         return time.monotonic() > self.until
 
     def is_too_much(self) -> bool:
-        return self.seen > MOST
+        return self.seen > MOST or self.named > MOST_NAMED
 
     def run(self, goes_on: Callable[[], bool] = lambda: True) -> None:
         """Until nothing is left to be asked, or it needn't go on."""
         under_way: Row | None = None
-        asked: list[tuple[Ask, Then]] = []
+        its: list[tuple[Step, Node]] = []
         try:
             while (self.asked or under_way) and goes_on():
-                whole = under_way.answered() if under_way else b""
-                before, its = under_way, asked
-                asked = self._next()
-                under_way = Row(self.room, self.user, [ask for ask, _ in asked]) if asked else None
+                whole = under_way.answered() if under_way else bytearray()
+                before, its_before = under_way, its
+                row, its = self._next()
+                under_way = Row(self.room, self.user, row) if row else None
                 if before:
-                    for (_, then), reply in zip(its, before.replies(whole), strict=True):
-                        then(reply)
+                    for (step, node), reply in zip(its_before, before.replies(whole), strict=True):
+                        step.then(node, self.denials.note(reply))
         finally:
             if under_way:
                 under_way.drop()
 
-    def children(self, node: Node, reply: Reply) -> list[Node]:
+    def all(self) -> None:
+        """Until nothing is left."""
+        self.run(lambda: not self.is_late())
+        if self.asked:
+            raise too_late()
+
+    def children(self, node: Node, reply: Reply) -> Iterator[Node]:
         """Of a listing. What is gone by now, or can't be listed, has none."""
         if reply.status != 200:
-            return []
-        rows = json.loads(reply.body)
-        self.seen += len(rows)
-        return [node.child(row["name"], row["kind"] == "folder") for row in rows]
+            return
+        for name, is_folder in listed(reply.body, MOST + 1):
+            self.seen += 1
+            self.named += len(name)
+            yield Node(name, is_folder, node)
+            if self.is_too_much():
+                return
+
+    def every_child(self, node: Node, reply: Reply) -> Iterator[Node]:
+        """The same, where nothing may be left out."""
+        for child in self.children(node, reply):
+            if self.is_too_much():
+                raise too_many()
+            yield child
+
+
+def _names_of(top: Node) -> Names:
+    return tuple(top.name.decode().split("/")[1:]) if top.name != b"/" else ()
 
 
 def top_of(walk: Walk, names: Names, bits: str) -> tuple[Node, Reply, dict[str, bool]]:
     """The folder from which a walk begins, its listing, and which of these rights the caller has
     there. The room says itself why not."""
-    top = Node(shown(names), escaped(names), True)
+    top = Node(shown(names).encode(), True)
     got: list[Reply] = []
-    walk.ask("can", top, got.append, bits)
-    walk.ask("folder", top, got.append)
+
+    def then(_node: Node, reply: Reply) -> None:
+        got.append(reply)
+    walk.ask(Step("can", bits, then), top)
+    walk.ask(Step("folder", "", then), top)
     walk.run()
     may = got[0].rulings()
     top.is_open = may.get("x", False)
     return top, got[1], may
+
+
+def refuse_long(told: Iterable[Node]) -> None:
+    """Of so many paths an answer isn't begun."""
+    size = before = 0
+    above: Node | None = None
+    for node in told:
+        if node.above is not above:
+            above = node.above
+            before = len(above.path.encode()) if above else 0
+        size += before + len(node.name) + 1
+        if size > MOST_TOLD:
+            raise too_many()
 
 
 def too_late() -> Stop:

@@ -7,7 +7,10 @@ from ..ask.answers import Stop
 
 LARGEST = 65_536
 DEEPEST = 32
+LONGEST_SPACE = 1000
 DAV = "DAV:"
+# No other prefix may mean it.
+XML = "http://www.w3.org/XML/1998/namespace"
 Tag = tuple[str, str]
 
 
@@ -35,7 +38,11 @@ class _Builder:
     def start(self, name: str, attributes: dict[str, str]) -> None:
         if len(self.open) > DEEPEST:
             raise Stop(400, "bad-xml", "XML that is nested too deeply")
-        node = Node(_tag(name), attributes)
+        tag = _tag(name)
+        # Expat gives each element a copy of it, and each answer repeats it.
+        if len(tag[0]) > LONGEST_SPACE:
+            raise Stop(400, "bad-xml", "XML with a namespace that is too long")
+        node = Node(tag, attributes)
         self.open[-1].children.append(node)
         self.open.append(node)
 
@@ -77,8 +84,8 @@ def legal(text: str) -> str:
 
 def element(tag: Tag, content: str = "") -> str:
     space, local = tag
-    name = f"D:{local}" if space == DAV else f"{local}"
-    where = "" if space == DAV else f" xmlns={quoteattr(space)}"
+    name = f"D:{local}" if space == DAV else f"xml:{local}" if space == XML else local
+    where = "" if space in (DAV, XML) else f" xmlns={quoteattr(space)}"
     return f"<{name}{where}>{content}</{name}>" if content else f"<{name}{where}/>"
 
 

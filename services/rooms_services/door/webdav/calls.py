@@ -1,17 +1,27 @@
 """A request by WebDAV, and what stands before each change: conditions and locks."""
+import os
 from collections.abc import Callable, Iterable, Iterator
 from contextlib import contextmanager
 
-from . import objects
+from . import objects, trees
 from ..ask.answers import Stop
 from ..ask.paths import Names, shown
-from ..ask.room import Ask, Reply, Room, Talk, about, rows
-from .aside import Aside, is_aside
-from .conditions import Condition, Listed, names_tag, read_if
+from ..ask.room import LARGEST, Ask, Denials, Reply, Room, Talk, about, rows
+from ..ask.tags import names_tag
+from .conditions import Condition, Listed, read_if
 from .dates import Dates
+from .kept import Kept
 from .locks import Lock, Locks
 from .objects import Document, Folder, stop_of, tag_of
 from .paths import other_names
+from .tasks import Tasks
+from .trees import Spend
+
+# How many bytes the room may answer for the conditions of one request, while it answers nobody
+# else: enough for two documents.
+MOST_COMPARED = 2 * LARGEST + 65_536
+# How many bytes one request copies.
+MOST_COPIED = 134_217_728
 
 
 class Call:
@@ -30,6 +40,7 @@ class Call:
         # What the field If names, of the caller's own locks.
         self.tokens: frozenset[str] = frozenset()
         self._talk: Talk | None = None
+        self._denials = Denials()
 
     @contextmanager
     def alone(self) -> Iterator[None]:
@@ -40,34 +51,44 @@ class Call:
             finally:
                 self._talk = None
 
+    @property
+    def taken(self) -> int:
+        """How many bytes the room has answered while nobody came between."""
+        return self._talk.taken if self._talk else 0
+
     def ask(self, ask: Ask) -> Reply:
-        return self._talk.ask(ask) if self._talk else self.room.ask(self.user, ask)
+        return self._denials.note(
+            self._talk.ask(ask) if self._talk else self.room.ask(self.user, ask))
 
     def row(self, asks: list[Ask]) -> list[Reply]:
         """Only of what changes nothing."""
         if self._talk:
-            return [self._talk.ask(ask) for ask in asks]
-        return self.room.row(self.user, asks)
+            return [self.ask(ask) for ask in asks]
+        return [self._denials.note(reply) for reply in self.room.row(self.user, asks)]
 
     def each(self, asks: Iterable[Ask]) -> Iterator[Reply]:
         for row in rows(self.user, asks):
             yield from self.row(row)
 
 
-class Drive:
-    """What only this door knows: locks, and files that aren't for the room."""
+def asks_for(room: Room, user: str) -> Call:
+    """Somebody who asks in a user's name, without a request of theirs."""
+    return Call(room, user, "", ("", (), False), lambda name: "", b"")
 
-    def __init__(self, locks: Locks) -> None:
-        self.locks = locks
-        self.aside = Aside()
+
+class Drive:
+    """What only this door knows: locks, and when it saw which bytes."""
+
+    def __init__(self, kept: Kept, full: str = "") -> None:
+        """`full` is the path of a file that is there while the room takes no more."""
+        self.locks = Locks(kept)
+        self.tasks = Tasks(kept)
+        self._full = full
         self.dates = Dates()
 
-    def look(self, call: Call, names: Names, with_bytes: bool = False) -> Folder | Document | None:
-        if is_aside(names):
-            kept = self.aside.get(call.user, names)
-            if kept is not None:
-                return Document(kept)
-        found = objects.look(call, names, with_bytes)
+    def look(self, call: Call, names: Names, with_bytes: bool = False,
+             with_children: bool = False) -> Folder | Document | None:
+        found = objects.look(call, names, with_bytes, with_children)
         if found is None and self.pending(call.user, names):
             return Document(b"")
         return found
@@ -89,7 +110,24 @@ class Drive:
             if reply.status not in (201, 204):
                 raise stop_of(reply, {404: 409})
         lock.pending = False
-        self.locks.keep()
+        self.locks.keep(lock)
+
+    def refuse_full(self) -> None:
+        if self._full and os.path.lexists(self._full):
+            raise Stop(507, "full", "the room is full")
+
+    def spending(self) -> Spend:
+        """A copy is many documents in one request, and the room may be full after a few."""
+        left = MOST_COPIED
+
+        def spend(body: bytes) -> None:
+            nonlocal left
+            left -= len(body)
+            if left < 0:
+                raise Stop(413, "too-large",
+                           f"more than {MOST_COPIED >> 20} MiB: copy it in parts")
+            self.refuse_full()
+        return spend
 
     def destination(self, call: Call) -> Names:
         address = call.field("Destination")
@@ -119,6 +157,8 @@ class Drive:
     def _tag(self, call: Call, names: Names) -> str:
         """Empty if nothing is there; of what can't be read, no tag that anybody can name."""
         found = self.look(call, names, True)
+        if call.taken > MOST_COMPARED:
+            raise Stop(400, "bad-condition", "conditions of too much at once")
         if found is None:
             return ""
         if isinstance(found, Document) and found.body is not None:
@@ -158,7 +198,26 @@ class Drive:
                     other.token in call.tokens for other in there if other.names == lock.names):
                 continue
             self._passes(call, names)
-            raise Stop(423, "locked", f"locked by {lock.user}: {shown(lock.names)}")
+            raise Stop(423, "locked", self._told(call, names, lock))
+
+    def _told(self, call: Call, names: Names, lock: Lock) -> str:
+        """A lock is named where the way to it is open. Of another one nobody is told who may not
+        move or remove what it is in."""
+        if call.ask(about("GET", "can", lock.names)).status != 403:
+            return f"locked by {lock.user}: {lock.path}"
+        if trees.kept(call, [(names, True)]):
+            raise Stop(403, "denied", f"it may not be removed: {shown(names)}")
+        return f"something in it is locked: {shown(names)}"
+
+    def told_in(self, call: Call, names: Names) -> dict[str, list[Lock]]:
+        """The locks of what is in a folder, by its names. Whoever sees names in a folder and comes
+        no further isn't told of them."""
+        found: dict[str, list[Lock]] = {}
+        if call.ask(about("GET", "can", names, "x")).rulings().get("x"):
+            for lock in self.locks.below(names):
+                if len(lock.names) == len(names) + 1:
+                    found.setdefault(lock.names[-1], []).append(lock)
+        return found
 
     def _passes(self, call: Call, names: Names) -> None:
         """Nobody learns of a lock behind a folder that denies them the way."""

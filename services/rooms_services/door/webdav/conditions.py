@@ -1,4 +1,4 @@
-"""The fields If, If-Match and If-None-Match (RFC 4918 section 10.4, RFC 9110 section 13.1)."""
+"""The field If (RFC 4918 section 10.4)."""
 import re
 from dataclasses import dataclass, field
 
@@ -69,11 +69,3 @@ def read_if(text: str) -> list[Listed]:
     if not lists or len(lists) > MOST:
         raise Stop(400, "bad-condition", "a field If that can't be read")
     return lists
-
-
-def names_tag(text: str, tag: str, weak: bool) -> bool:
-    """Whether a list of entity tags has this one, or is '*'."""
-    parts = re.findall(r'\*|(?:W/)?"[^"]*"', text)
-    if weak:
-        parts = [part.removeprefix("W/") for part in parts]
-    return "*" in parts or tag in parts

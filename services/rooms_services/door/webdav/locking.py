@@ -1,10 +1,9 @@
 """LOCK and UNLOCK."""
 from . import bodies, objects, properties
 from ..ask.answers import Answer, Stop
-from .aside import is_aside
 from .bodies import Node
 from .calls import Call, Drive
-from .locks import Full, Lock, seconds_of
+from .locks import Lock, seconds_of
 from .looking import active
 from .objects import Folder, Document
 
@@ -31,27 +30,19 @@ def _new(drive: Drive, call: Call, root: Node, deep: bool, seconds: int) -> Answ
         # It would also hold what is in it and closed to this user. Who may change the folder's list
         # could keep others out anyway.
         objects.may(call, call.names, "C")
-    try:
-        held = drive.locks.add(call.user, call.names, deep, scope.first("shared") is not None,
-                               _owner(call, root), seconds)
-    except Full:
-        raise Stop(503, "busy", "too many locks") from None
+    held = drive.locks.add(call.user, call.names, deep, scope.first("shared") is not None,
+                           _owner(call, root), seconds)
     if held is None:
         raise Stop(423, "locked", "it is locked already", xml=properties.HEAD
                    + '<D:error xmlns:D="DAV:"><D:no-conflicting-lock/></D:error>\n')
-    if found is None and is_aside(call.names):
-        drive.aside.put(call.user, call.names, b"")
-    elif found is None:
+    if found is None:
         held.pending = True
-        drive.locks.keep()
+        drive.locks.keep(held)
     return _locked(drive, call, held, 201 if found is None else 200)
 
 
 def _lockable(drive: Drive, call: Call) -> Folder | Document | None:
     """Whoever may not change something may not keep others from it, nor learn that it is locked."""
-    if is_aside(call.names):
-        objects.may(call, call.names[:-1], "wa")
-        return drive.look(call, call.names)
     found = drive.look(call, call.names)
     if found is None:
         if call.slash:
@@ -76,9 +67,19 @@ def _refresh(drive: Drive, call: Call, seconds: int) -> Answer:
     for token in call.tokens:
         held = drive.locks.of(call.user, token)
         if held and held.covers(call.names):
+            _may_keep(drive, call, held)
             drive.locks.refresh(held, seconds)
             return _locked(drive, call, held, 200)
     raise Stop(412, "changed", "no lock of yours that could be kept")
+
+
+def _may_keep(drive: Drive, call: Call, held: Lock) -> None:
+    """As for a new one: whoever lost the right keeps it for the rest of its time."""
+    found = drive.look(call, held.names)
+    if held.pending or found is None:
+        objects.may(call, held.names[:-1], "w")
+    else:
+        objects.may(call, held.names, "C" if held.deep and isinstance(found, Folder) else "wa")
 
 
 def _locked(drive: Drive, call: Call, held: Lock, status: int) -> Answer:

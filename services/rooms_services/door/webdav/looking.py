@@ -1,24 +1,28 @@
 """The methods that look: OPTIONS, GET, HEAD, PROPFIND."""
 import re
 import time
+from collections.abc import Iterator
+from itertools import chain
 
 from . import bodies, objects, properties
 from ..ask.answers import TEXT, Answer, Stop
 from ..folders.matched import SAFE
 from ..ask.paths import Names
 from ..ask.room import about
-from .aside import is_aside
+from ..ask.tags import names_tag
 from .calls import Call, Drive
-from .conditions import names_tag
 from .locks import Lock
-from .objects import Document, Folder, Measure, stop_of, tag_of
+from .objects import Child, Document, Folder, Measure, stop_of, tag_of
 from .paths import href
 from .properties import Wanted
 
 ALLOWED = "OPTIONS, GET, HEAD, PUT, DELETE, MKCOL, COPY, MOVE, PROPFIND, PROPPATCH, LOCK, UNLOCK"
 _RANGE = re.compile(r"bytes=(\d{0,15})-(\d{0,15})", re.ASCII)
-# How long a listing may read documents for their lengths.
+# How long a listing may read documents for their lengths; what it has at most of names, and of
+# bytes, by the length of the folder's own.
 SECONDS = 45.0
+MOST = 80_000
+LARGEST = 67_108_864
 # A browser that opens a document saves it, and runs nothing in it as a page of this site.
 _SAFE = {**SAFE, "Content-Security-Policy": "sandbox", "Accept-Ranges": "bytes",
          "Cross-Origin-Resource-Policy": "same-origin"}
@@ -45,11 +49,9 @@ def _range(text: str, size: int) -> tuple[int, int] | None:
 
 
 def get(drive: Drive, call: Call) -> Answer:
-    kept = drive.aside.get(call.user, call.names) if is_aside(call.names) else None
+    kept = _read(drive, call)
     if kept is None:
-        kept = _read(drive, call)
-        if kept is None:
-            return Answer(200, b"A folder: open a document in it by its own address.\n", TEXT)
+        return Answer(200, b"A folder: open a document in it by its own address.\n", TEXT)
     tag = tag_of(kept)
     fields = {"ETag": tag, "Last-Modified": drive.dates.of(call.names, tag), **_SAFE}
     match, none = call.field("If-Match"), call.field("If-None-Match")
@@ -86,40 +88,52 @@ def propfind(drive: Drive, call: Call) -> Answer:
         raise Stop(403, "one-folder", "one folder at a time", xml=properties.HEAD
                    + '<D:error xmlns:D="DAV:"><D:propfind-finite-depth/></D:error>\n')
     asked = properties.wanted(root)
-    sized = asked.everything or not properties.OF_BYTES.isdisjoint(asked.tags)
-    found = drive.look(call, call.names, sized)
+    found = drive.look(call, call.names, asked.is_sized, depth == "1")
     if found is None:
         raise Stop(404, "no-such", "nothing is here")
     size = None
     if isinstance(found, Document) and found.body is not None:
         size = objects.measure(found.body, properties.SUMS in asked.tags)
-    folder = isinstance(found, Folder)
-    rows = [] if rest == "noroot" else [
-        _response(drive, call, asked, call.names, folder, size)]
+    own = _response(drive, call, asked, call.names, isinstance(found, Folder), size,
+                    drive.locks.covering(call.names))
+    below: Iterator[str] = iter(())
     if isinstance(found, Folder) and depth == "1":
-        rows += _below(drive, call, asked, found, sized)
-    return properties.several(rows)
+        below = _below(drive, call, asked, found, len(own))
+    return properties.as_it_comes(chain([] if rest == "noroot" else [own], below))
 
 
-def _below(drive: Drive, call: Call, asked: Wanted, found: Folder, sized: bool) -> list[str]:
-    if found.children is None:
+def _below(drive: Drive, call: Call, asked: Wanted, found: Folder, one: int) -> Iterator[str]:
+    """One after the other, with `one` as the length of the folder's own. What is too much is
+    refused before something is sent."""
+    if found.reply.status != 200:
         raise stop_of(found.reply)
-    until = time.monotonic() + SECONDS
+    children = objects.children_of(found.reply, MOST)
+    if one * len(children) > LARGEST:
+        raise Stop(507, "too-large", "an answer that is too long: ask for less")
+    above = [lock for lock in drive.locks.covering(call.names) if lock.deep]
+    here = drive.told_in(call, call.names)
+    sized = objects.measured(call, call.names, children, properties.SUMS in asked.tags) \
+        if asked.is_sized else ((child, None) for child in children)
+    return _each(drive, call, asked, sized, above, here)
 
-    def goes_on() -> None:
-        if time.monotonic() > until:
+
+def _each(drive: Drive, call: Call, asked: Wanted, sized: Iterator[tuple[Child, Measure | None]],
+          above: list[Lock], here: dict[str, list[Lock]]) -> Iterator[str]:
+    until = time.monotonic() + SECONDS
+    length = 0
+    for child, size in sized:
+        row = _response(drive, call, asked, (*call.names, child.name), child.folder, size,
+                        above + here.get(child.name, []))
+        length += len(row)
+        if length > 2 * LARGEST or time.monotonic() > until:
             raise Stop(507, "too-long", "a folder with too much in it")
-    sizes = objects.measured(call, (
-        call.names + (child.name,) for child in found.children if not child.folder),
-        properties.SUMS in asked.tags, goes_on) if sized else {}
-    return [_response(drive, call, asked, names, child.folder, sizes.get(names))
-            for child in found.children for names in [call.names + (child.name,)]]
+        yield row
 
 
 def _response(drive: Drive, call: Call, asked: Wanted, names: Names, folder: bool,
-              size: Measure | None) -> str:
-    locks = "".join(active(drive, call, lock) for lock in drive.locks.covering(names))
-    found = properties.values(names, folder, locks)
+              size: Measure | None, locks: list[Lock]) -> str:
+    found = properties.values(names, folder, "".join(
+        active(drive, call, lock) for lock in locks))
     if size is not None:
         found |= properties.of_bytes(size, drive.dates.of(names, size.tag))
     return properties.response(href(call.prefix, names, folder), asked, found)

@@ -4,11 +4,15 @@ from collections.abc import Callable
 from ..ask.answers import Answer, Stop
 from ..ask.room import Room
 from . import locking, looking, moving, saving
-from .calls import Call, Drive
+from .calls import Call, Drive, asks_for
+from .kept import NotKept
+from .objects import too_large
 from .paths import ROUTE, names_of
 
 # What may be about all of a folder.
 LONG_METHODS = ("PROPFIND", "DELETE", "MOVE", "COPY")
+# Whose body would say something that isn't done.
+BODILESS = ("DELETE", "MOVE", "COPY", "MKCOL", "UNLOCK")
 Method = Callable[[Drive, Call], Answer]
 METHODS: dict[str, Method] = {
     "OPTIONS": looking.options, "GET": looking.get, "HEAD": looking.get,
@@ -23,6 +27,15 @@ def answer(drive: Drive, room: Room, user: str, method: str, target: str, above:
     without it, and what a client names or is told has it."""
     if method not in METHODS:
         raise Stop(405, "no-method", "no such method", fields={"Allow": looking.ALLOWED})
+    if method != "PUT" and field("Room-Too-Large"):
+        # nginx hasn't taken the body: without it the request would say something else.
+        raise too_large()
+    if method in BODILESS and body:
+        raise Stop(415, "bad-body", f"{method} has no body")
     names, slash = names_of(target, ROUTE)
     call = Call(room, user, method, (above + ROUTE, names, slash), field, body)
-    return METHODS[method](drive, call)
+    try:
+        drive.tasks.end_those_left(lambda one: asks_for(room, one))
+        return METHODS[method](drive, call)
+    except NotKept as fault:
+        raise Stop(503, "busy", str(fault)) from None

@@ -1,16 +1,15 @@
 """DELETE, MOVE and COPY. What is one object is done over one connection; a folder with things in it
 takes many requests, between which the room answers others, and is reserved meanwhile."""
-import json
+from collections.abc import Callable
 
-from . import objects, properties, trees
+from . import objects, properties, tasks, trees
 from ..ask.answers import Answer, Stop
 from ..ask.paths import Names, is_below, shown
-from ..ask.room import Ask, Reply, about
-from .aside import is_aside
+from ..ask.room import Reply, about
 from .calls import Call, Drive
 from .objects import Document, Folder, stop_of
-from .saving import put_aside
-from .trees import Failure
+from .tasks import moving
+from .trees import Failure, Found
 
 # What is at a place.
 There = Folder | Document | None
@@ -19,18 +18,12 @@ There = Folder | Document | None
 def delete(drive: Drive, call: Call) -> Answer:
     with call.alone():
         drive.heed(call)
-        if is_aside(call.names) and drive.aside.remove(call.user, call.names):
-            return Answer(204)
         drive.guard(call, call.names, member=True, tree=True)
         reply = call.ask(about("DELETE", "object", call.names))
         if reply.status == 404 and (pending := drive.pending(call.user, call.names)):
             drive.locks.end(pending)
             return Answer(204)
-    return _after(drive, call, _removed(drive, call, call.names, reply), Answer(204))
-
-
-def _after(_drive: Drive, call: Call, failures: list[Failure], well: Answer) -> Answer:
-    return properties.failed(call.prefix, failures) if failures else well
+    return _answer(call, _removed(drive, call, call.names, reply), Answer(204))
 
 
 def _removed(drive: Drive, call: Call, names: Names, reply: Reply) -> list[Failure]:
@@ -38,21 +31,16 @@ def _removed(drive: Drive, call: Call, names: Names, reply: Reply) -> list[Failu
     failures: list[Failure] = []
     if reply.why == "not-empty":
         with drive.reserved(call, names):
-            failures = trees.remove(call, names)
+            failures = trees.remove(call, trees.removable(call, names, True))
     elif reply.status != 204:
         raise stop_of(reply, {409: 403 if reply.why == "root" else 404})
     if not failures:
-        _left(drive, names)
+        drive.locks.gone(names)
     return failures
 
 
-def _remove(drive: Drive, call: Call, names: Names) -> list[Failure]:
-    return _removed(drive, call, names, call.ask(about("DELETE", "object", names)))
-
-
-def _left(drive: Drive, names: Names) -> None:
-    drive.locks.gone(names)
-    drive.aside.gone(names)
+def _answer(call: Call, failures: list[Failure], well: Answer) -> Answer:
+    return properties.failed(call.prefix, failures) if failures else well
 
 
 def _other_place(drive: Drive, call: Call) -> Names:
@@ -69,17 +57,13 @@ def _refuse_replacing(call: Call) -> None:
 
 def move(drive: Drive, call: Call) -> Answer:
     to = _other_place(drive, call)
-    asked = about("POST", "move", call.names, body=json.dumps(
-        {"to": shown(to)}, ensure_ascii=False).encode())
     with call.alone():
         drive.heed(call)
         drive.guard(call, call.names, member=True, tree=True)
         drive.guard(call, to, member=True, tree=True)
-        if is_aside(call.names) or is_aside(to):
-            return _move_aside(drive, call, to)
         drive.settle(call, call.names)
         _keep_own_list(drive, call, to)
-        reply = call.ask(asked)
+        reply = call.ask(moving(call.names, to))
         if reply.why != "exists":
             return _moved(drive, call, to, reply, Answer(201))
         _refuse_replacing(call)
@@ -87,15 +71,18 @@ def move(drive: Drive, call: Call) -> Answer:
         if isinstance(source, Document) and isinstance(target, Document):
             return _move_over(drive, call, to, source)
         _may_move(call, to, source)
-    return _move_in_place_of(drive, call, to, asked)
+    return _move_in_place_of(drive, call, to, isinstance(target, Folder))
 
 
-def _move_in_place_of(drive: Drive, call: Call, to: Names, asked: Ask) -> Answer:
-    """What is there has to go first: a folder, or what a folder takes the place of."""
+def _move_in_place_of(drive: Drive, call: Call, to: Names, is_folder: bool) -> Answer:
+    """What is there goes: a folder, or what a folder takes the place of."""
     with drive.reserved(call, to, call.names):
-        if failures := _remove(drive, call, to):
+        if failures := trees.removable(call, to, is_folder).failures:
             return properties.failed(call.prefix, failures)
-        return _moved(drive, call, to, call.ask(asked), Answer(204))
+        reply, failures = tasks.replace(drive.tasks, call, call.user, to, call.names)
+        if reply.status == 204:
+            drive.locks.gone(to)
+        return _answer(call, failures, _moved(drive, call, to, reply, Answer(204)))
 
 
 def _keep_own_list(drive: Drive, call: Call, to: Names) -> None:
@@ -110,7 +97,7 @@ def _keep_own_list(drive: Drive, call: Call, to: Names) -> None:
 def _moved(drive: Drive, call: Call, to: Names, reply: Reply, well: Answer) -> Answer:
     if reply.status != 204:
         raise stop_of(reply, _moved_status(reply, call.names))
-    _left(drive, call.names)
+    drive.locks.gone(call.names)
     drive.dates.moved(call.names, to)
     return well
 
@@ -134,7 +121,8 @@ def _move_over(drive: Drive, call: Call, to: Names, source: Document) -> Answer:
     reply = call.ask(about("PUT", "doc", to, body=source.body))
     if reply.status not in (201, 204):
         raise stop_of(reply)
-    return _after(drive, call, _remove(drive, call, call.names), Answer(204))
+    reply = call.ask(about("DELETE", "object", call.names))
+    return _answer(call, _removed(drive, call, call.names, reply), Answer(204))
 
 
 def _may_move(call: Call, to: Names, source: There) -> None:
@@ -146,29 +134,6 @@ def _may_move(call: Call, to: Names, source: There) -> None:
     objects.may(call, to[:-1], "a" if isinstance(source, Folder) else "w")
 
 
-def _move_aside(drive: Drive, call: Call, to: Names) -> Answer:
-    answer = _copy_aside(drive, call, to)
-    if is_aside(call.names) and drive.aside.remove(call.user, call.names):
-        return answer
-    return _after(drive, call, _remove(drive, call, call.names), answer)
-
-
-def _copy_aside(drive: Drive, call: Call, to: Names) -> Answer:
-    """One of both places isn't in the room."""
-    source, target = drive.look(call, call.names, True), drive.look(call, to)
-    if not isinstance(source, Document) or source.body is None:
-        raise Stop(404 if source is None else 403, "no-such", "no document that can be read")
-    if target is not None:
-        _refuse_replacing(call)
-    if is_aside(to):
-        put_aside(drive, call, to, source.body)
-    else:
-        reply = call.ask(about("PUT", "doc", to, body=source.body))
-        if reply.status not in (201, 204):
-            raise stop_of(reply, {404: 409})
-    return Answer(201 if target is None else 204)
-
-
 def copy(drive: Drive, call: Call) -> Answer:
     to = _other_place(drive, call)
     depth = call.field("Depth") or "infinity"
@@ -177,8 +142,6 @@ def copy(drive: Drive, call: Call) -> Answer:
     with call.alone():
         drive.heed(call)
         drive.guard(call, to, member=True, tree=True)
-        if is_aside(call.names) or is_aside(to):
-            return _copy_aside(drive, call, to)
         drive.settle(call, call.names)
         source, target = drive.look(call, call.names, True), drive.look(call, to)
         if source is None:
@@ -191,7 +154,7 @@ def copy(drive: Drive, call: Call) -> Answer:
             _copied(call.ask(about("PUT", "doc", to, body=source.body or b"")))
             return well
     with drive.reserved(call, to):
-        return _after(drive, call, _copy_folder(drive, call, to, source, target, depth), well)
+        return _answer(call, _copy_folder(drive, call, to, source, target, depth), well)
 
 
 def _may_copy(call: Call, to: Names, source: There, target: There) -> None:
@@ -208,27 +171,53 @@ def _copied(reply: Reply) -> None:
         raise stop_of(reply, {404: 409})
 
 
-class _InTheWay(Exception):
-    """What can't be removed from where a copy should be."""
-
-    def __init__(self, failures: list[Failure]) -> None:
-        super().__init__()
-        self.failures = failures
-
-
 def _copy_folder(drive: Drive, call: Call, to: Names, source: There, target: There,
                  depth: str) -> list[Failure]:
-    def make_place() -> None:
-        if target is not None and (failures := _remove(drive, call, to)):
-            raise _InTheWay(failures)
-    try:
-        if isinstance(source, Folder) and depth != "0":
-            return trees.copy(call, call.names, to, make_place)
-        make_place()
-    except _InTheWay as way:
-        return way.failures
+    """Under a name of its own first, which then takes its place: what is there stays until all of
+    the copy is. (Who may only add couldn't take that name away, and replaces nothing.)"""
+    found = None
+    if isinstance(source, Folder) and depth != "0":
+        found = trees.readable(call, call.names)
+        if found.failures:
+            return found.failures
+    if target is not None:
+        kept = trees.removable(call, to, isinstance(target, Folder)).failures
+        if kept:
+            return kept
+    elif not trees.lets_go(call, to[:-1]):
+        return _filled(drive, call, to, source, found, lambda: None)
+    made = tasks.beside(to, "copy")
+
+    def fill() -> list[Failure]:
+        failures = _filled(drive, call, made, source, found, lambda: _refuse_stuck(call, made))
+        if failures:
+            return [((*to, *names[len(to):]), folder, status, text)
+                    for names, folder, status, text in failures]
+        if target is None:
+            reply = call.ask(moving(made, to))
+        else:
+            reply, failures = tasks.replace(drive.tasks, call, call.user, to, made)
+        if reply.status != 204:
+            raise stop_of(reply)
+        if target is not None:
+            drive.locks.gone(to)
+        return failures
+    return tasks.away(drive.tasks, call, call.user, made, fill)
+
+
+def _filled(drive: Drive, call: Call, to: Names, source: There, found: Found | None,
+            begun: Callable[[], None]) -> list[Failure]:
+    spend = drive.spending()
+    if found:
+        return trees.copy(call, found, to, begun, spend)
     if isinstance(source, Document):
         _copied(call.ask(about("PUT", "doc", to, body=source.body or b"")))
     else:
         _copied(call.ask(about("POST", "folder", to)))
+    begun()
     return []
+
+
+def _refuse_stuck(call: Call, made: Names) -> None:
+    if trees.kept(call, [(made, True)]):
+        raise Stop(403, "denied", f"what is made there may not be moved: {shown(made)}")

@@ -1,14 +1,14 @@
 """What is at a path, by the requests of the room. Nothing is remembered: the room doesn't say when
 something changes, and somebody else may change it at any moment."""
 import hashlib
-import json
-from collections.abc import Callable, Iterable, Iterator
+from collections.abc import Iterable, Iterator
 from dataclasses import dataclass
-from typing import Protocol
+from typing import NamedTuple, Protocol
 
+from ..ask import lists
 from ..ask.answers import Stop
 from ..ask.paths import Names, shown
-from ..ask.room import LARGEST, Ask, Reply, about
+from ..ask.room import LARGEST, ROW, Ask, Reply, about, listed
 
 # Documents, of up to 1 MiB each, that are in memory at once.
 ROW_OF_DOCUMENTS = 8
@@ -24,16 +24,14 @@ class Asks(Protocol):
     def each(self, asks: Iterable[Ask]) -> Iterator[Reply]: ...
 
 
-@dataclass(frozen=True)
-class Child:
+class Child(NamedTuple):
     name: str
     folder: bool
 
 
 @dataclass(frozen=True)
 class Folder:
-    """None if the caller may not list it."""
-    children: tuple[Child, ...] | None
+    """With its listing, if somebody asked for that and may have it."""
     reply: Reply
 
 
@@ -79,43 +77,52 @@ def too_large() -> Stop:
     return Stop(413, "too-large", f"a document has at most {LARGEST} bytes")
 
 
-def children_of(reply: Reply) -> tuple[Child, ...]:
-    return tuple(Child(row["name"], row["kind"] == "folder") for row in json.loads(reply.body))
+def children_of(reply: Reply, most: int) -> list[Child]:
+    return [Child(name.decode(), folder) for name, folder in listed(reply.body, most)]
 
 
-def look(by: Asks, names: Names, with_bytes: bool) -> Folder | Document | None:
+def look(by: Asks, names: Names, with_bytes: bool, with_children: bool = False
+         ) -> Folder | Document | None:
     """A denial of the way to it ends the request. Whether a document may be read is asked before it
     is read, so that no record says of somebody who only looked at a folder that they tried to."""
-    listed, can = by.row([about("GET", "folder", names), about("GET", "can", names, "r")])
-    if listed.status == 409 and listed.why == "wrong-kind":
+    folder, can = by.row([about("GET", "folder", names)._replace(is_bare=not with_children),
+                          about("GET", "can", names, "r")])
+    if folder.status == 409 and folder.why == "wrong-kind":
         if not with_bytes or not can.rulings().get("r"):
             return Document(None)
         read = by.ask(about("GET", "doc", names))
         return Document(read.body) if read.status == 200 else Document(None)
-    if listed.status == 200:
-        return Folder(children_of(listed), listed)
-    if listed.status == 403 and is_about(listed, names) and can.status == 200:
-        return Folder(None, listed)
-    if listed.status == 404 or listed.why == "not-folder":
+    if folder.status == 200:
+        return Folder(folder)
+    if folder.status == 403 and is_about(folder, names) and can.status == 200:
+        return Folder(folder)
+    if folder.status == 404 or folder.why == "not-folder":
         return None
-    raise stop_of(listed)
+    raise stop_of(folder)
 
 
-def measured(by: Asks, documents: Iterable[Names], with_sums: bool,
-             goes_on: Callable[[], None]) -> dict[Names, Measure]:
-    """Of each that the caller may read. The room has no other way to tell a length than all of the
-    bytes."""
-    asked = list(documents)
+def measured(by: Asks, above: Names, children: list[Child], with_sums: bool
+             ) -> Iterator[tuple[Child, Measure | None]]:
+    """Each, with the measure of a document that the caller may read. The room has no other way to
+    tell a length than all of the bytes."""
+    for place in range(0, len(children), ROW):
+        row = children[place:place + ROW]
+        found = _measures(by, [(*above, child.name) for child in row if not child.folder],
+                          with_sums)
+        for child in row:
+            yield child, found.get(child.name)
+
+
+def _measures(by: Asks, asked: list[Names], with_sums: bool) -> dict[str, Measure]:
     cans = by.each(about("GET", "can", names, "r") for names in asked)
     readable = [names for names, can in zip(asked, cans, strict=True) if can.rulings().get("r")]
-    found: dict[Names, Measure] = {}
+    found: dict[str, Measure] = {}
     for place in range(0, len(readable), ROW_OF_DOCUMENTS):
-        goes_on()
         row = readable[place:place + ROW_OF_DOCUMENTS]
-        for names, reply in zip(row, by.row([about("GET", "doc", one) for one in row]),
+        for names, reply in zip(row, by.each(about("GET", "doc", one) for one in row),
                                 strict=True):
             if reply.status == 200:
-                found[names] = measure(reply.body, with_sums)
+                found[names[-1]] = measure(reply.body, with_sums)
     return found
 
 
@@ -129,13 +136,9 @@ def may(by: Asks, names: Names, bits: str) -> None:
 
 
 def has_own_list(by: Asks, names: Names) -> bool:
-    """Whether a list was set at the object itself, as far as the caller may read it: it is closed
-    to what is passed down (`p`), or has an entry that wasn't (`I`)."""
+    """Whether a list of rights or of records was set at the object itself, as far as the caller may
+    read it."""
     if not by.ask(about("GET", "can", names, "c")).rulings().get("c"):
         return False
-    reply = by.ask(about("GET", "dacl", names))
-    if reply.status != 200:
-        return False
-    head, *entries = reply.body.decode().splitlines()
-    return "p" in head.removeprefix("list:") or any(
-        "I" not in entry.split(":", 2)[1] for entry in entries)
+    return any(reply.status == 200 and lists.read(reply.body.decode()).is_own for reply in by.row(
+        [about("GET", which, names) for which in ("dacl", "sacl")]))

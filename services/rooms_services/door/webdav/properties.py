@@ -1,9 +1,9 @@
 """Properties, and the XML of several answers in one."""
 import mimetypes
-from collections.abc import Iterable, Sequence
+from collections.abc import Iterable, Iterator, Sequence
 from dataclasses import dataclass
 
-from ..ask.answers import Answer, reason
+from ..ask.answers import Answer, Stop, in_pieces, reason
 from .bodies import DAV, Node, Tag, element, legal
 from .locks import Lock
 from .objects import Measure
@@ -11,6 +11,7 @@ from ..ask.paths import Names
 from .paths import href
 from .trees import Failure
 
+XML_TYPE = "application/xml; charset=utf-8"
 HEAD = '<?xml version="1.0" encoding="utf-8"?>\n'
 # The types of this file alone, not those of the machine: they are the same everywhere.
 _TYPES = mimetypes.MimeTypes()
@@ -23,6 +24,7 @@ FORGOTTEN = "urn:schemas-microsoft-com:"
 # As ownCloud and Nextcloud tell them: rclone asks for them if it is told that it speaks to one.
 OWNCLOUD = "http://owncloud.org/ns"
 SUMS = OWNCLOUD, "checksums"
+MOST_ASKED = 16_384
 # For these the door has to read the whole document.
 OF_BYTES = {SUMS, (DAV, "getcontentlength"), (DAV, "getetag"), (DAV, "getlastmodified")}
 
@@ -34,6 +36,11 @@ class Wanted:
     everything: bool
     tags: tuple[Tag, ...]
 
+    @property
+    def is_sized(self) -> bool:
+        """Whether documents have to be read for it."""
+        return self.everything or not OF_BYTES.isdisjoint(self.tags)
+
 
 def wanted(root: Node | None) -> Wanted:
     if root is None or root.first("allprop"):
@@ -41,8 +48,11 @@ def wanted(root: Node | None) -> Wanted:
     if root.first("propname"):
         return Wanted(True, True, ())
     prop = root.first("prop")
-    return Wanted(False, False, tuple(dict.fromkeys(
-        child.tag for child in prop.children)) if prop else ())
+    tags = tuple(dict.fromkeys(child.tag for child in prop.children)) if prop else ()
+    # Each is written with its whole namespace, for each object.
+    if sum(len(space) + len(local) for space, local in tags) > MOST_ASKED:
+        raise Stop(413, "too-large", "too many properties at once")
+    return Wanted(False, False, tags)
 
 
 def active_lock(prefix: str, lock: Lock, left: int, is_mine: bool) -> str:
@@ -108,8 +118,19 @@ def patched(where: str, tags: Sequence[Tag]) -> str:
 
 
 def several(responses: Iterable[str]) -> Answer:
-    text = f'{HEAD}<D:multistatus xmlns:D="DAV:">{"".join(responses)}</D:multistatus>\n'
-    return Answer(207, text.encode(), "application/xml; charset=utf-8")
+    return Answer(207, b"".join(_parts(responses)), XML_TYPE)
+
+
+def as_it_comes(responses: Iterable[str]) -> Answer:
+    """Of a folder: there may be tens of thousands."""
+    return Answer(207, kind=XML_TYPE, parts=in_pieces(_parts(responses)))
+
+
+def _parts(responses: Iterable[str]) -> Iterator[bytes]:
+    yield f'{HEAD}<D:multistatus xmlns:D="DAV:">'.encode()
+    for one in responses:
+        yield one.encode()
+    yield b"</D:multistatus>\n"
 
 
 def failed(prefix: str, failures: Iterable[Failure]) -> Answer:

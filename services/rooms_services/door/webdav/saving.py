@@ -1,9 +1,7 @@
 """PUT, MKCOL and PROPPATCH."""
 from . import bodies, properties
 from ..ask.answers import Answer, Stop
-from ..ask.paths import Names
 from ..ask.room import about
-from .aside import is_aside
 from .bodies import DAV
 from .calls import Call, Drive
 from .objects import Folder, stop_of, tag_of, too_large
@@ -19,11 +17,11 @@ def put(drive: Drive, call: Call) -> Answer:
     except Stop:
         if lock := drive.pending(call.user, call.names):
             lock.refused = True
-            drive.locks.keep()
+            drive.locks.keep(lock)
         raise
     if lock := drive.pending(call.user, call.names):
         lock.pending = False
-        drive.locks.keep()
+        drive.locks.keep(lock)
     return answer
 
 
@@ -35,9 +33,6 @@ def _put(drive: Drive, call: Call) -> Answer:
         raise Stop(405, "wrong-kind", "a document has no slash at its end")
     if call.field("Content-Range"):
         raise Stop(400, "bad-field", "a part can't be written, only the whole document")
-    if is_aside(call.names):
-        new = put_aside(drive, call, call.names, call.body)
-        return Answer(201 if new else 204, fields={"ETag": tag_of(call.body)})
     drive.guard(call, call.names)
     if any(lock.names == call.names[:-1] for lock in drive.locks.covering(call.names[:-1])) \
             and drive.look(call, call.names) is None:
@@ -48,19 +43,7 @@ def _put(drive: Drive, call: Call) -> Answer:
     return Answer(reply.status, fields={"ETag": tag_of(call.body)})
 
 
-def put_aside(drive: Drive, call: Call, names: Names, body: bytes) -> bool:
-    """Only where the caller gets to, so that the door tells no more than the room."""
-    reply = call.ask(about("GET", "can", names[:-1]))
-    if reply.status != 200:
-        raise stop_of(reply, {404: 409})
-    return drive.aside.put(call.user, names, body)
-
-
 def mkcol(drive: Drive, call: Call) -> Answer:
-    if call.body:
-        raise Stop(415, "bad-body", "a folder is made without a body")
-    if is_aside(call.names):
-        raise Stop(403, "aside", "such a folder isn't for an office")
     with call.alone():
         drive.heed(call)
         drive.guard(call, call.names, member=True)

@@ -7,10 +7,13 @@ from dataclasses import dataclass
 from ..ask.answers import Stop
 from ..ask.paths import Names
 from ..ask.room import Reply, about
+from ..folders.goes import barrier
 from .objects import Asks, children_of, stop_of
 
 MOST = 10_000
 Failure = tuple[Names, bool, int, str]
+# What is called with the bytes of each document before it is written.
+Spend = Callable[[bytes], None]
 
 
 @dataclass
@@ -30,24 +33,15 @@ def walk(by: Asks, top: Names) -> Found:
             if reply.status != 200:
                 found.failures.append((names, True, reply.status, reply.text()))
                 continue
-            for child in children_of(reply):
+            for child in children_of(reply, MOST):
                 found.objects.append((names + (child.name,), child.folder))
                 if child.folder:
                     below.append(names + (child.name,))
-        if len(found.objects) > MOST:
-            raise Stop(403, "too-many", f"more than {MOST} documents and folders: do it in parts")
+            if len(found.objects) > MOST:
+                raise Stop(403, "too-many",
+                           f"more than {MOST} documents and folders: do it in parts")
         level = below
     return found
-
-
-def _may_go(target: Reply, parent: Reply) -> bool:
-    """The deletion rule (docs/access-lists.md)."""
-    own, above = target.told, parent.told
-    if str(own.get("d")).startswith("allowed") or str(above.get("D")).startswith("allowed"):
-        return True
-    if str(own.get("d")).startswith("denied") or str(above.get("D")).startswith("denied"):
-        return False
-    return str(above.get("w")).startswith("allowed")
 
 
 def kept(by: Asks, objects: list[tuple[Names, bool]]) -> list[Failure]:
@@ -56,15 +50,25 @@ def kept(by: Asks, objects: list[tuple[Names, bool]]) -> list[Failure]:
     said = dict(zip(places, by.each(about("GET", "can", names, "dDw") for names in places),
                     strict=True))
     return [(names, folder, 403, "it may not be removed") for names, folder in objects
-            if not _may_go(said[names], said[names[:-1]])]
+            if barrier(said[names].told, said[names[:-1]].told)]
 
 
-def remove(by: Asks, top: Names) -> list[Failure]:
+def lets_go(by: Asks, folder: Names) -> bool:
+    """Whether the caller may remove what they make in a folder, unless what it passes down says
+    otherwise."""
+    return not barrier({}, by.ask(about("GET", "can", folder, "dDw")).told)
+
+
+def removable(by: Asks, top: Names, is_folder: bool) -> Found:
+    """What is there, and what of it may not go."""
+    found = walk(by, top) if is_folder else Found([(top, False)], [])
+    return Found(found.objects, found.failures or kept(by, found.objects))
+
+
+def remove(by: Asks, found: Found) -> list[Failure]:
     """What is in the way. If there is something, all is as before, except if that came between."""
-    found = walk(by, top)
-    failures = found.failures or kept(by, found.objects)
-    if failures:
-        return failures
+    if found.failures:
+        return found.failures
     for names, folder in reversed(found.objects):
         reply = by.ask(about("DELETE", "object", names))
         if reply.status not in (204, 404):
@@ -72,32 +76,36 @@ def remove(by: Asks, top: Names) -> list[Failure]:
     return []
 
 
-def unreadable(by: Asks, objects: list[tuple[Names, bool]]) -> list[Failure]:
-    documents = [names for names, folder in objects if not folder]
-    return [(names, False, 403, "it may not be read") for names, can in zip(
-        documents, by.each(about("GET", "can", names, "r") for names in documents), strict=True)
-        if not can.rulings().get("r")]
-
-
-def copy(by: Asks, top: Names, to: Names, before: Callable[[], None]) -> list[Failure]:
-    """What can't be read is told before anything is made; `before` is called in between."""
+def readable(by: Asks, top: Names) -> Found:
+    """What is there, and what of it can't be read."""
     found = walk(by, top)
-    failures = found.failures or unreadable(by, found.objects)
-    if failures:
-        return failures
-    before()
+    documents = [names for names, folder in found.objects if not folder]
+    return Found(found.objects, found.failures or [
+        (names, False, 403, "it may not be read") for names, can in zip(documents, by.each(
+            about("GET", "can", names, "r") for names in documents), strict=True)
+        if not can.rulings().get("r")])
+
+
+def copy(by: Asks, found: Found, to: Names, begun: Callable[[], None], spend: Spend
+         ) -> list[Failure]:
+    """`begun` is called once the folder itself is there."""
+    top = found.objects[0][0]
     for names, folder in found.objects:
         place = to + names[len(top):]
-        reply = by.ask(about("POST", "folder", place)) if folder else copy_one(by, names, place)
-        if reply.status not in (201, 204):
-            if names == top:
+        reply = by.ask(about("POST", "folder", place)) if folder else \
+            copy_one(by, names, place, spend)
+        if names == top:
+            if reply.status != 201:
                 raise stop_of(reply, {404: 409})
+            begun()
+        elif reply.status not in (201, 204):
             return [(place, folder, reply.status, reply.text())]
     return []
 
 
-def copy_one(by: Asks, names: Names, to: Names) -> Reply:
+def copy_one(by: Asks, names: Names, to: Names, spend: Spend) -> Reply:
     reply = by.ask(about("GET", "doc", names))
     if reply.status != 200:
         return reply
+    spend(reply.body)
     return by.ask(about("PUT", "doc", to, body=reply.body))

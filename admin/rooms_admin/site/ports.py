@@ -1,0 +1,77 @@
+"""Rooms that have a port beside their socket: a unit of its own listens there, and passes on what
+is sent. No unit takes its port from a file of settings, so it is told which one it is."""
+import glob
+import os
+
+from ..host import changes
+from ..host.changes import Changes
+from ..room import names, settings
+
+_UNITS = "/etc/systemd/system"
+
+
+def _unit(name: str) -> str:
+    return f"rooms-port@{name}.socket"
+
+
+def _line(name: str) -> str:
+    return f"{_UNITS}/{_unit(name)}.d/port.conf"
+
+
+def _is_on(root: str, name: str) -> bool:
+    return os.path.islink(f"{root}{_UNITS}/rooms@{name}.service.wants/{_unit(name)}")
+
+
+def runs(unit: str) -> bool:
+    return changes.run("systemctl", "is-active", "-q", unit, check=False)[0] == 0
+
+
+def _there(root: str) -> set[str]:
+    begins = f"{root}{_UNITS}/rooms-port@"
+    return {one.removeprefix(begins).partition(".socket.d/")[0]
+            for one in glob.glob(f"{glob.escape(begins)}*.socket.d/port.conf")}
+
+
+def _wanted(root: str) -> dict[str, str]:
+    """The ports of rooms, by their names."""
+    folder = f"{root}/etc/rooms"
+    found = {}
+    for file in sorted(os.listdir(folder)) if os.path.isdir(folder) else []:
+        name, kind = os.path.splitext(file)
+        path = f"{folder}/{file}"
+        if kind != ".conf" or not names.is_room(name) or settings.value(path, "UNIT") not in (
+                "", f"rooms@{name}"):
+            continue
+        port = settings.port(path)
+        if settings.is_port(port):
+            found[name] = port
+    return found
+
+
+def put(made: Changes) -> None:
+    """Brings the units into line with the settings. A server of a version before, which has the
+    port itself, gets a socket by a restart, before nginx asks there."""
+    ports = _wanted(made.root)
+    changed = set()
+    for name in sorted(_there(made.root) - set(ports)):
+        made.systemctl("disable", "--now", _unit(name))
+        changed.add(name)
+        if made.remove(_line(name)) and not made.dry:
+            os.rmdir(os.path.dirname(made.root + _line(name)))
+    for name, port in sorted(ports.items()):
+        text = f"[Socket]\nListenStream=\nListenStream=127.0.0.1:{port}\n"
+        if made.file(_line(name), text.encode()) or not _is_on(made.root, name):
+            changed.add(name)
+    if changed:
+        made.systemctl("daemon-reload")
+    for name in sorted(changed & set(ports)):
+        _listen(made, name)
+
+
+def _listen(made: Changes, name: str) -> None:
+    is_on = not made.root and os.path.isdir("/run/systemd/system") and runs(f"rooms@{name}")
+    if is_on and not os.path.exists(f"/run/rooms/{name}/socket"):
+        made.systemctl("try-restart", f"rooms@{name}", check=False)
+    made.systemctl("enable", _unit(name))
+    if is_on and not made.systemctl("restart", _unit(name), check=False):
+        print(f"nothing listens at the port of {name}: systemctl status {_unit(name)}")

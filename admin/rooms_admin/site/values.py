@@ -1,0 +1,56 @@
+"""Settings that a verb writes: the site's where there are none, and those that it changes."""
+import os
+import stat
+
+from ..host.changes import Changes
+from ..room import names, settings
+from . import template
+
+
+def set_values(made: Changes, path: str, wanted: dict[str, str]) -> None:
+    """Settings that differ."""
+    wanted = {name: value for name, value in wanted.items()
+              if settings.value(made.root + path, name) != value}
+    if wanted:
+        text = settings.changed(template.read(made.root + path), wanted)
+        said = ", ".join(f"{name}={value}" for name, value in wanted.items())
+        made.file(path, text.encode(errors="surrogateescape"), what=f", with {said}")
+
+
+def tell_gone(made: Changes) -> None:
+    """In the files of rooms, once: what says nothing any more is a comment from then on. A port
+    that was in reserve goes, and is passed on once somebody sets it."""
+    folder = made.root + "/etc/rooms"
+    for file in sorted(os.listdir(folder)):
+        path = f"{folder}/{file}"
+        if not (file.endswith(".conf") and names.is_room(settings.name_of(file))):
+            continue
+        text, found = settings.gone(template.read(path))
+        if found:
+            text = settings.changed(text, {"PORT": settings.port(path)})
+            made.file(f"/etc/rooms/{file}", text.encode(errors="surrogateescape"),
+                      stat.S_IMODE(os.stat(path).st_mode),
+                      what=f", where {' and '.join(found)} said what each room has now")
+
+
+def put_site(made: Changes) -> None:
+    """The settings of the site, where there are none."""
+    if os.path.exists(made.root + template.SETTINGS):
+        return
+    text = """\
+# Settings of the site of all rooms: NAME=value, without quotes. After a change: rooms-admin setup
+
+# Its names, with spaces between them. They tell it from other sites on the same ports; where there
+# is none, it answers for every name.
+HOSTS=rooms.example
+
+# The files of its certificate and key. Without them, passwords and documents travel unencrypted.
+# 'rooms-admin setup --tls CERTIFICATE KEY' looks at both, and writes them here.
+CERTIFICATE=
+KEY=
+
+# How many connections to nginx one address, or network of IPv6, may have at once. If this is empty,
+# it is half of what nginx holds; 'none' sets no limit, as behind a proxy through which all come.
+CONNECTIONS=
+"""
+    made.file(template.SETTINGS, text.encode())

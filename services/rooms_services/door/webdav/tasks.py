@@ -1,0 +1,156 @@
+"""What takes several requests of the room, and leaves something out of its place in between. It is
+written down before the first of them, so that it is ended at the next look if the door is killed or
+the room goes away meanwhile: in the name of the same user, who may do it or not."""
+import json
+import secrets
+import threading
+import time
+from collections.abc import Callable, Iterator
+from contextlib import contextmanager
+from dataclasses import dataclass
+
+from ..ask.answers import Stop
+from ..ask.paths import Names, shown
+from ..ask.room import Ask, Reply, about
+from . import trees
+from .kept import Kept, Row
+from .objects import Asks
+
+# What is older isn't ended any more: nobody expects it.
+SECONDS = 600.0
+# Of a room that went away, or hangs.
+AWAY = (502, 503, 504)
+
+
+def beside(place: Names, word: str) -> Names:
+    """A name in the same folder that nobody else has."""
+    return (*place[:-1], f"~{word}-{secrets.token_hex(6)}")
+
+
+def moving(names: Names, to: Names) -> Ask:
+    return about("POST", "move", names, body=json.dumps(
+        {"to": shown(to)}, ensure_ascii=False).encode())
+
+
+@dataclass(frozen=True)
+class Task:
+    """`made` is a copy that isn't in its place. Or `made` takes the place of what is there, which
+    stands aside as `old` meanwhile."""
+    user: str
+    made: Names
+    place: Names | None = None
+    old: Names | None = None
+
+
+class Tasks:
+    def __init__(self, kept: Kept, now: Callable[[], float] = time.time) -> None:
+        self._kept = kept
+        self._now = now
+        # Those of this process.
+        self._under_way: set[object] = set()
+        # (not that of what is kept, which others want while they have the room for themselves)
+        self._ending = threading.Lock()
+
+    @contextmanager
+    def noted(self, task: Task) -> Iterator[None]:
+        with self._kept.alone():
+            number = self._kept.rows(
+                "insert into task (user, told, since) values (?, ?, ?) returning number",
+                (task.user, json.dumps([task.made, task.place, task.old]), self._now()))[0][0]
+            self._under_way.add(number)
+        try:
+            yield
+        except Stop as stop:
+            if stop.status not in AWAY:
+                self._end(number)
+            raise
+        else:
+            self._end(number)
+        finally:
+            self._under_way.discard(number)
+
+    def _end(self, number: object) -> None:
+        self._kept.rows("delete from task where number = ?", (number,))
+
+    def end_those_left(self, asks: Callable[[str], Asks]) -> None:
+        """`asks` makes somebody who asks the room in a user's name. Who comes meanwhile waits."""
+        if not self._left():
+            return
+        with self._ending:
+            for number, user, told, since in self._left():
+                assert isinstance(told, str) and isinstance(since, float)
+                if 0 <= self._now() - since < SECONDS:
+                    made, place, old = (one and tuple(one) for one in json.loads(told))
+                    self._end_one(asks(str(user)), Task(str(user), made, place, old))
+                self._end(number)
+
+    def _left(self) -> list[Row]:
+        with self._kept.alone():
+            return [row for row in self._kept.rows("select number, user, told, since from task")
+                    if row[0] not in self._under_way]
+
+    def _end_one(self, by: Asks, task: Task) -> None:
+        try:
+            _ended(by, task)
+        except Stop as stop:
+            if stop.status in AWAY:
+                raise
+
+
+def _is_there(by: Asks, names: Names) -> bool:
+    return by.ask(about("GET", "can", names)).status != 404
+
+
+def _gone(by: Asks, names: Names) -> list[trees.Failure]:
+    reply = by.ask(about("DELETE", "object", names))
+    if reply.why == "not-empty":
+        return trees.remove(by, trees.removable(by, names, True))
+    return [] if reply.status in (204, 404) else [(names, True, reply.status, reply.text())]
+
+
+def _ended(by: Asks, task: Task) -> None:
+    if task.place is None or task.old is None:
+        _gone(by, task.made)
+        return
+    if not _is_there(by, task.old):
+        # Nothing was begun, or all is done.
+        return
+    if not _is_there(by, task.place):
+        if by.ask(moving(task.made, task.place)).status != 204:
+            by.ask(moving(task.old, task.place))
+            return
+    elif _is_there(by, task.made):
+        # Somebody else has taken the place: so nothing goes.
+        return
+    _gone(by, task.old)
+
+
+def replace(tasks: Tasks, by: Asks, user: str, place: Names, made: Names) -> tuple[
+        Reply, list[trees.Failure]]:
+    """`made` takes the place of what is there, which goes: whether it may was asked before. Returns
+    what the room said to the last move, and what couldn't be removed."""
+    old = beside(place, "old")
+    with tasks.noted(Task(user, made, place, old)):
+        reply = by.ask(moving(place, old))
+        if reply.status != 204:
+            return reply, []
+        reply = by.ask(moving(made, place))
+        if reply.status != 204:
+            by.ask(moving(old, place))
+            return reply, []
+        return reply, _gone(by, old)
+
+
+def away(tasks: Tasks, by: Asks, user: str, made: Names,
+         fill: Callable[[], list[trees.Failure]]) -> list[trees.Failure]:
+    """Fills a place of its own, and takes it away again if that fails."""
+    with tasks.noted(Task(user, made)):
+        try:
+            failures = fill()
+        except Stop as stop:
+            if stop.status not in AWAY:
+                _gone(by, made)
+            raise
+        if failures:
+            _gone(by, made)
+        return failures

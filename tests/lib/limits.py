@@ -1,0 +1,127 @@
+"""For tests: somebody who has nginx do as much as they can.
+
+    limits.py log PORT SECONDS [TYPED]      requests of 45 kB, without a password, or with one that
+                                            is typed; prints how many bytes were sent
+    limits.py names PORT SECONDS            the same by HTTP/2, where a field that was sent once is
+                                            named by one byte; prints how many requests there were
+    limits.py goes PORT WHO TARGET NUMBER   so many requests, whose senders are gone at once
+    limits.py holds PORT WHO TARGET NUMBER  as many that nobody reads, until standard input ends;
+                                            prints how many were answered with each status
+"""
+import base64
+import contextlib
+import selectors
+import socket
+import ssl
+import sys
+import threading
+import time
+from collections import Counter
+
+import http2
+
+
+def request(target, who="", more=b""):
+    sent = b"GET %b HTTP/1.1\r\nHost: rooms.example\r\n" % target.encode() + more
+    if who:
+        sent += b"Authorization: Basic %b\r\n" % base64.b64encode(who.encode())
+    return sent + b"\r\n"
+
+
+def connected(port, kept=0):
+    one = socket.socket()
+    if kept:
+        one.setsockopt(socket.SOL_SOCKET, socket.SO_RCVBUF, kept)
+    one.settimeout(10)
+    one.connect(("127.0.0.1", int(port)))
+    return one
+
+
+def drain(one):
+    with contextlib.suppress(OSError):
+        while one.recv(1 << 16):
+            pass
+
+
+def log(port, seconds, typed=""):
+    fields = b"Referer: http://x/%b\r\nUser-Agent: %b\r\n" % (b"b" * 15000, b"c" * 15000)
+    line = request("/" + "a" * 15000, typed, fields)
+    ends, sent = time.monotonic() + float(seconds), [0] * 4
+
+    def go(number):
+        while time.monotonic() < ends:
+            with contextlib.suppress(OSError), connected(port) as one:
+                threading.Thread(target=drain, args=(one,), daemon=True).start()
+                for _ in range(500):
+                    if time.monotonic() > ends:
+                        break
+                    one.sendall(line)
+                    sent[number] += len(line)
+                one.shutdown(socket.SHUT_WR)
+
+    threads = [threading.Thread(target=go, args=(n,), daemon=True) for n in range(4)]
+    for one in threads:
+        one.start()
+    for one in threads:
+        one.join(float(seconds) + 20)
+    print(sum(sent))
+
+
+def names(port, seconds):
+    """http2.py sends fields in full, and one request at a time."""
+    context = ssl.create_default_context()
+    context.check_hostname = False
+    context.verify_mode = ssl.CERT_NONE
+    context.set_alpn_protocols(["h2"])
+    host, agent = b"rooms.example", b"x" * 3900
+    # GET, https, /, and two fields that go into the table; then each of them by its number there.
+    first = b"\x82\x87\x84\x41" + number(len(host)) + host + b"\x7a" + number(len(agent)) + agent
+    later = b"\x82\x87\x84\xbf\xbe"
+    ends, asked = time.monotonic() + float(seconds), 0
+    while time.monotonic() < ends:
+        with contextlib.suppress(OSError), connected(port) as plain, \
+                context.wrap_socket(plain, server_hostname="rooms.example") as one:
+            one.sendall(http2.PREFACE)
+            threading.Thread(target=drain, args=(one,), daemon=True).start()
+            for turn in range(450):
+                if time.monotonic() > ends:
+                    break
+                one.sendall(http2.frame(http2.HEADERS, http2.END | http2.WHOLE, 2 * turn + 1,
+                                        later if turn else first))
+                asked += 1
+            time.sleep(0.2)
+    print(asked)
+
+
+def number(size):
+    """The length of a text, as HPACK has it."""
+    return http2.text_of("x" * size)[:-size]
+
+
+def goes(port, who, target, number):
+    for _ in range(int(number)):
+        with contextlib.suppress(OSError), connected(port) as one:
+            one.sendall(request(target, who))
+
+
+def holds(port, who, target, number):
+    held, met = selectors.DefaultSelector(), Counter()
+    for _ in range(int(number)):
+        one = connected(port, 4096)
+        one.sendall(request(target, who))
+        held.register(one, selectors.EVENT_READ)
+    kept = [key.fileobj for key in held.get_map().values()]
+    # Until nobody else is answered for some seconds.
+    ends = time.monotonic() + 60
+    while kept and time.monotonic() < ends:
+        answered = held.select(8)
+        if not answered and met:
+            break
+        for key, _ in answered:
+            held.unregister(key.fileobj)
+            met[key.fileobj.recv(12)[9:].decode()] += 1
+    print(*(f"{status}: {count}" for status, count in sorted(met.items())), flush=True)
+    sys.stdin.read()
+
+
+{"log": log, "names": names, "goes": goes, "holds": holds}[sys.argv[1]](*sys.argv[2:])

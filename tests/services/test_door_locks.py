@@ -1,0 +1,176 @@
+"""Locks of documents that are edited in place, over a room in memory."""
+import os
+import time
+import unittest
+
+from over import LOCKINFO, Drive
+from rooms_services.door.webdav import locks
+from rooms_services.door.webdav.kept import Kept, NotKept
+
+
+class Locking(Drive):
+    def test_only_the_owner(self) -> None:
+        self.make(a=b"x")
+        token = self.lock("/a")
+        asked: list[tuple[str, dict[str, str], int]] = [
+            ("bob", {}, 423), ("alice", {}, 423), ("bob", {"If": f"({token})"}, 412),
+            ("alice", {"If": f"({token})"}, 204)]
+        for user, fields, wanted in asked:
+            self.assertEqual(self.status("PUT", "/a", "y", user=user, **fields), wanted)
+        self.assertEqual(self.status("UNLOCK", "/a", user="bob", Lock_Token=token), 409)
+        self.assertEqual(self.status("UNLOCK", "/a", Lock_Token=token), 204)
+        self.assertEqual(self.status("PUT", "/a", "z", user="bob"), 204)
+
+    def test_another_user_is_not_told_the_token(self) -> None:
+        self.make(a=b"x")
+        token = self.lock("/a")[1:-1].encode()
+        for user, told in (("alice", True), ("bob", False)):
+            body = self.dav("PROPFIND", "/a", user=user, Depth="0")[2]
+            self.assertEqual((token in body, b"<D:owner>alice</D:owner>" in body), (told, True))
+
+    def test_a_door_that_is_killed(self) -> None:
+        """The next one knows its locks, also that of a name to which nothing came."""
+        self.make(f=None)
+        token = self.lock("/f/a")
+        self.assertEqual(self.status("PUT", "/f/b", user="bob"), 201)
+        self.assertEqual(os.stat(self.at("locks")).st_mode & 0o777, 0o600)
+        held = locks.Locks(Kept(self.at("locks"))).of("alice", token[1:-1])
+        assert held
+        self.assertEqual((held.names, held.pending, held.user), (("f", "a"), True, "alice"))
+        self.assertEqual(self.status("UNLOCK", "/f/a", Lock_Token=token), 204)
+        self.assertEqual(locks.Locks(Kept(self.at("locks"))).covering(("f", "a")), [])
+        for text in ("", "{", "[1]", '[{"token":"x"}]', '{"a":1}'):
+            with open(self.at("locks"), "w", encoding="utf-8") as file:
+                file.write(text)
+            self.assertEqual(locks.Locks(Kept(self.at("locks"))).covering(("f", "a")), [])
+
+    def test_the_clock_is_set_back(self) -> None:
+        now = [10_000.0]
+        table = locks.Locks(now=lambda: now[0])
+        self.assertIsNotNone(table.add("alice", ("f",), True, False, "", 100))
+        now[0] = 1.0
+        self.assertEqual(table.covering(("f",)), [])
+
+    def test_who_may_not_write_may_not_lock(self) -> None:
+        self.make(a=b"x")
+        self.room.denied |= {("bob", "/a", "w"), ("bob", "/a", "a")}
+        self.assertEqual(self.status("LOCK", "/a", LOCKINFO, user="bob", Depth="0"), 403)
+
+    def test_a_folder_with_all_below(self) -> None:
+        self.make(f=None)
+        self.room.denied.add(("bob", "/f", "C"))
+        self.assertEqual(self.status("LOCK", "/f", LOCKINFO, user="bob"), 403)
+        self.lock("/f", "bob", Depth="0")
+
+    def test_a_barred_folder_tells_of_no_lock(self) -> None:
+        self.make(f=None, f__a=b"x")
+        self.lock("/f/a")
+        self.room.denied.add(("bob", "/f", "x"))
+        for name in ("a", "none"):
+            for method in ("PUT", "LOCK", "DELETE", "UNLOCK"):
+                status, _, body = self.dav(
+                    method, f"/f/{name}", LOCKINFO if method == "LOCK" else "", "bob",
+                    Lock_Token="<x>")
+                if method == "UNLOCK":
+                    self.assertEqual(status, 409)
+                else:
+                    self.assertEqual((status, body[:15]), (403, b"denied: x at /f"))
+
+    def test_a_lock_is_told_where_the_way_is_open(self) -> None:
+        self.make(board=None, board__plan=None, board__plan__secret=b"x", f=None)
+        self.lock("/board/plan/secret")
+        self.room.denied.add(("bob", "/board", "x"))
+        asked: list[tuple[str, str, dict[str, str]]] = [
+            ("DELETE", "/board", {}), ("MOVE", "/board", {"Destination": "/drive/b"}),
+            ("MOVE", "/f", {"Destination": "/drive/board"}),
+            ("COPY", "/f", {"Destination": "/drive/board"})]
+        for method, path, fields in asked:
+            self.assertEqual(self.dav(method, path, "", "bob", **fields)[::2],
+                             (423, b"something in it is locked: /board\n"), (method, path))
+            self.assertEqual(self.dav(method, path, "", "eve", **fields)[::2],
+                             (423, b"locked by alice: /board/plan/secret\n"), (method, path))
+        # Who may not remove it learns of no lock.
+        self.room.denied |= {("bob", "/board", "d"), ("bob", "/", "D")}
+        for method, path, fields in asked:
+            self.assertEqual(self.status(method, path, "", "bob", **fields), 403, (method, path))
+
+    def test_a_listing_tells_locks_where_the_way_is_open(self) -> None:
+        self.make(board=None, board__secret=b"x")
+        self.lock("/board/secret")
+        self.room.denied.add(("bob", "/board", "x"))
+        for user, told in (("bob", False), ("eve", True)):
+            status, _, body = self.dav("PROPFIND", "/board", user=user, Depth="1")
+            self.assertEqual((status, b"/drive/board/secret" in body, b"activelock" in body),
+                             (207, True, told))
+
+    def test_a_lock_ends_with_the_right(self) -> None:
+        """It isn't renewed by who may not take it any more."""
+        self.make(a=b"x", f=None)
+        held = [("/a", self.lock("/a"), "/a", "wa"), ("/f", self.lock("/f"), "/f", "C"),
+                ("/n", self.lock("/n", Depth="0"), "/", "w")]
+        for path, token, at, bits in held:
+            self.assertEqual(self.status("LOCK", path, If=f"({token})"), 200)
+            denied = {("alice", at, bit) for bit in bits}
+            self.room.denied |= denied
+            self.assertEqual(self.status("LOCK", path, If=f"({token})"), 403, path)
+            self.room.denied -= denied
+            self.assertEqual(self.status("LOCK", path, If=f"({token})"), 200)
+
+    def test_many_locks(self) -> None:
+        """The room answers nobody else while one is made, so that takes little beside many."""
+        table = locks.Locks(Kept(self.at("many")))
+        for user in range(10):
+            for number in range(200):
+                path = ("f" * 200, f"{user}-{number}", "x" * 200)
+                self.assertIsNotNone(table.add(f"u{user}", path, False, False, "o" * 2000, 600))
+        with self.assertRaises(NotKept):
+            table.add("u10", ("a",), False, False, "", 600)
+        table.gone(("f" * 200, "0-0"))
+        began = time.process_time()
+        for number in range(100):
+            held = table.add("u0", ("n",), False, False, "o" * 2000, 600)
+            assert held
+            self.assertEqual(len(table.covering(("f" * 200, "1-1", "x" * 200))), 1)
+            table.end(held)
+        self.assertLess((time.process_time() - began) / 100, 0.02)
+        self.assertEqual(len(table.below(("f" * 200,))), 1999)
+        table.gone(())
+        self.assertLess(os.path.getsize(self.at("many")), 20_000_000)
+
+    def test_add_only(self) -> None:
+        """Who may add and not change can add, although the program locks the name first."""
+        self.make(f=None)
+        for name in ("a", "b"):
+            self.room.denied.add(("alice", f"/f/{name}", "w"))
+        token = self.lock("/f/a")
+        self.assertEqual(self.dav("GET", "/f/a")[2], b"")
+        self.assertEqual(self.status("GET", "/f/a", user="bob"), 404)
+        self.assertEqual(self.status("PUT", "/f/a", "bytes", If=f"({token})"), 201)
+        self.assertEqual(self.status("UNLOCK", "/f/a", Lock_Token=token), 204)
+        token = self.lock("/f/b")
+        self.assertEqual(self.status("UNLOCK", "/f/b", Lock_Token=token), 204)
+        self.assertEqual(self.room.objects["f", "b"], b"")
+
+    def test_nothing_for_what_was_refused(self) -> None:
+        token = self.lock("/a")
+        self.assertEqual(self.status("PUT", "/a", If=f"({token})", Room_Too_Large="1"), 413)
+        self.assertEqual(self.status("UNLOCK", "/a", Lock_Token=token), 204)
+        self.assertEqual(self.room.objects, {(): None})
+
+    def test_depth_and_time(self) -> None:
+        now = [0.0]
+        table = locks.Locks(now=lambda: now[0])
+        held = table.add("alice", ("f",), True, False, "", 100)
+        self.assertIsNotNone(held)
+        self.assertIsNone(table.add("bob", ("f", "a"), False, False, "", 100))
+        self.assertIsNone(table.add("bob", (), True, True, "", 100))
+        self.assertIsNotNone(table.add("bob", (), False, False, "", 100))
+        now[0] = 101.0
+        self.assertIsNotNone(table.add("bob", ("f", "a"), False, False, "", 100))
+        for field, wanted in [("Infinite", 3600), ("Second-60", 60), ("", 600), ("Second-x", 600),
+                              ("Second-99999999999999", 3600), ("Second-0", 10)]:
+            self.assertEqual(locks.seconds_of(field), wanted)
+
+
+if __name__ == "__main__":
+    unittest.main()
